@@ -1,0 +1,129 @@
+-- The command line `labels [options] [FILE]`: which words it takes, and what they ask for.
+use Rattle.std.specs.Prelude.{◌≡◌, ◌≤◌, ◌⊎◌, ℕ, Bool, true, false, List, [], ◌∷◌, Option, Some, None, pos, codes, if◌then◌else◌, option_map, option_and_then, unwrap_or, IfSome}
+use Rattle.std.specs.Option.{option_map_or}
+use Rattle.std.specs.Str.{bytes_eq}
+use Rattle.std.specs.Str.Parse.{IsNumeral, digits_value, without_leading_plus}
+use Rattle.clap.specs.Words.{App, Kinds, Row, Rule, Text, fault_of, first_of, matches_of, new_rule, one_of, one_text}
+use Rattle.clap.specs.Simple.{new_shape}
+use Rattle.clap.specs.declared.builder.action.ArgAction.TheVariants.{SetTrue}
+use Rattle.clap.specs.declared.builder.value_parser.ValueParser.TheVariants as parser
+use Rattle.clap.specs.declared.error.kind.ErrorKind.{ErrorKind}
+use Rattle.clap.specs.declared.error.kind.ErrorKind.TheVariants as kind
+use Rattle.clap.specs.declared.parser.matches.Found.{Found}
+use Rattle.labelcore.specs.declared.options.Format.{Format}
+use Rattle.labelcore.specs.declared.options.Format.TheVariants.{Pbm, Ascii}
+use Rattle.labelcore.specs.declared.options.Level.{Level}
+use Rattle.labelcore.specs.OptionValues.{OptionValues, level_named}
+
+-- ---- the command
+
+-- `--name TEXT`
+abbrev pub text_option : Text → Rule
+text_option name = record (new_rule name) { long = Some name }
+
+-- `--name NUMBER`, a whole number from low to high
+abbrev pub number_option : Text → ℕ → ℕ → Rule
+number_option name low high =
+    record (text_option name) { parser = Some (parser.Signed (pos low) (pos high)) }
+
+-- `--name`, with no value
+abbrev pub switch : Text → Rule
+switch name = record (new_rule name) { long = Some name; action = Some SetTrue }
+
+-- the command reads words with no program's name before them
+abbrev pub command_line : App
+command_line = record {
+  top = record (new_shape (codes "labels")) {
+    rules = text_option (codes "format")
+        ∷ number_option (codes "scale") 1 8
+        ∷ number_option (codes "height") 1 500
+        ∷ text_option (codes "level")
+        ∷ number_option (codes "min-version") 1 10
+        ∷ number_option (codes "mask") 0 7
+        ∷ switch (codes "escapes")
+        ∷ new_rule (codes "file")
+        ∷ [];
+    no_binary_name = true;
+  };
+  subs = [];
+}
+
+-- ---- what the matches name
+
+-- the whole number that a text writes in decimal digits, after a plus or not
+abbrev pub number_of : Text → ℕ
+number_of text = digits_value 10 (without_leading_plus text)
+
+abbrev pub number_named : Text → List Row → Option ℕ
+number_named id rows = option_map number_of (one_of id rows)
+
+abbrev pub is_on : Text → List Row → Bool
+is_on id rows = option_map_or (λ text. bytes_eq text (codes "true")) (one_of id rows) false
+
+abbrev pub format_of : Text → Option Format
+format_of text = if bytes_eq text (codes "pbm") then Some Pbm
+    else (if bytes_eq text (codes "ascii") then Some Ascii else None)
+
+abbrev pub format_in : List Row → Option Format
+format_in rows = format_of (unwrap_or (first_of (codes "format") rows) (codes "pbm"))
+
+abbrev pub level_in : List Row → Option Level
+level_in rows = level_named (unwrap_or (first_of (codes "level") rows) (codes "M"))
+
+abbrev pub options_with : List Row → Format → Level → OptionValues
+options_with rows format level = record {
+  format = format;
+  scale = unwrap_or (number_named (codes "scale") rows) 1;
+  height = unwrap_or (number_named (codes "height") rows) 50;
+  level = level;
+  min_version = unwrap_or (number_named (codes "min-version") rows) 1;
+  mask = number_named (codes "mask") rows;
+  escapes = is_on (codes "escapes") rows;
+}
+
+-- the settings that the matches name, each of the others at its default; none where the format or
+-- the level is not listed
+abbrev pub options_named : List Row → Option OptionValues
+options_named rows = option_and_then (λ format.
+    option_map (λ level. options_with rows format level) (level_in rows)) (format_in rows)
+
+-- ---- what the words ask for
+
+-- a run with settings over a file or standard input, the help text, or nothing that the command
+-- takes
+pub data Invocation : Type 0 where
+  run : OptionValues → Option Text → Invocation
+  help : Invocation
+  bad : Invocation
+
+abbrev pub invocation_refused : ErrorKind → Invocation
+invocation_refused kind.DisplayHelp = help
+invocation_refused _ = bad
+
+abbrev pub run_of : List Row → Invocation
+run_of rows = option_map_or (λ s. run s (first_of (codes "file") rows)) (options_named rows) bad
+
+abbrev pub invocation_by : Kinds → List Row → Invocation
+invocation_by [] rows = run_of rows
+invocation_by (k ∷ ks) rows = invocation_refused k
+
+abbrev pub invocation_of : List Text → Invocation
+invocation_of words = invocation_by (fault_of command_line words) (matches_of command_line words)
+
+-- ---- what a parse that succeeds has checked
+
+-- a numeral from low to high
+abbrev pub IsNumberIn : ℕ → ℕ → Text → Type 0
+IsNumberIn low high text = IsNumeral 10 (without_leading_plus text) × (low ≤ number_of text)
+    × (number_of text ≤ high)
+
+abbrev pub HoldsNumber : ℕ → ℕ → Text → Found → Type 0
+HoldsNumber low high id f = IfSome (one_text f id) (IsNumberIn low high)
+
+-- each number is in its range, and the switch is on or off
+pub record HoldsValues (f : Found) : Type 0 where
+  pub scale : HoldsNumber 1 8 (codes "scale") f
+  pub height : HoldsNumber 1 500 (codes "height") f
+  pub min_version : HoldsNumber 1 10 (codes "min-version") f
+  pub mask : HoldsNumber 0 7 (codes "mask") f
+  pub escapes : IfSome (one_text f (codes "escapes")) (λ t. (t ≡ codes "true") ⊎ (t ≡ codes "false"))

@@ -1,0 +1,33 @@
+-- How the program ends: its status, and its line on the standard error.
+use Rattle.std.specs.Prelude.{ℕ, List, [], ◌∷◌, ◌++◌, Ok, Err, codes}
+use Rattle.labels.specs.declared.end.End.{End}
+use Rattle.labels.specs.declared.end.End.TheVariants.{Ran, Helped, BadWords, NoFile, NoMemory}
+use Rattle.labels.specs.declared.status.RunFault.TheVariants.{Read, WriteOut, WriteMessages, Spent}
+use Rattle.labels.specs.declared.status.Status.TheVariants.{Clean, Refused}
+
+-- the status: 0 for a clean run or help, 1 for a run with refused lines, 2 for bad words, 3 for
+-- what failed
+abbrev pub status_of : End → ℕ
+status_of (Ran (Ok Clean)) = 0
+status_of (Ran (Ok Refused)) = 1
+status_of (Ran (Err fault)) = 3
+status_of Helped = 0
+status_of BadWords = 2
+status_of NoFile = 3
+status_of NoMemory = 3
+
+-- a line of the program's own; 10 is the line feed
+abbrev pub program_line : List ℕ → List ℕ
+program_line text = codes "labels: " ++ text ++ 10 ∷ []
+
+-- the line, or nothing
+abbrev pub line_of : End → List ℕ
+line_of (Ran (Ok status)) = []
+line_of (Ran (Err Read)) = program_line (codes "read failed")
+line_of (Ran (Err WriteOut)) = program_line (codes "write failed")
+line_of (Ran (Err WriteMessages)) = program_line (codes "write failed")
+line_of (Ran (Err Spent)) = program_line (codes "write failed")
+line_of Helped = []
+line_of BadWords = program_line (codes "bad words")
+line_of NoFile = program_line (codes "cannot open file")
+line_of NoMemory = program_line (codes "no memory")

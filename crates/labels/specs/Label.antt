@@ -1,0 +1,60 @@
+-- What is drawn of a line's data: ISO/IEC 15420, 15417 and 18004.
+use Rattle.std.specs.Prelude.{ℕ, Bool, List, Option, Some, None, Result, Ok, Err}
+use Rattle.labelcore.specs.declared.symbology.Symbology.{Symbology}
+use Rattle.labelcore.specs.declared.symbology.Symbology.TheVariants.{Ean13, Ean8, UpcA, Code128, Qr}
+use Rattle.labelcore.specs.declared.fault.Fault.{Fault}
+use Rattle.labelcore.specs.declared.fault.Fault.TheVariants.{DoesNotFit}
+use Rattle.labelcore.specs.OptionValues.{OptionValues}
+use Rattle.linear.specs.Digits.{full_digits}
+use Rattle.linear.specs.Ean.{ean13_bars, ean8_bars, upca_bars}
+use Rattle.linear.specs.Code128.{full_code128, code128_bars}
+use Rattle.qrdata.specs.Codewords.{symbol_codewords}
+use Rattle.qrdata.specs.Fewest.{least_version, whole}
+use Rattle.qrmatrix.specs.Functions.{side}
+use Rattle.qrmatrix.specs.Placement.{module_at, chosen_mask}
+use Rattle.picture.specs.Picture.{Picture, Zone, bars}
+
+-- a symbol: its symbology, its full data, which has the check digit, and its modules
+pub record Label : Type 0 where
+  pub symbology : Symbology
+  pub full : List ℕ
+  pub modules : Picture
+
+-- the quiet zone of a symbology
+abbrev pub quiet_zone : Symbology → Zone
+quiet_zone Ean13 = record { left = 11; right = 7; top = 0; bottom = 0 }
+quiet_zone Ean8 = record { left = 7; right = 7; top = 0; bottom = 0 }
+quiet_zone UpcA = record { left = 9; right = 9; top = 0; bottom = 0 }
+quiet_zone Code128 = record { left = 10; right = 10; top = 0; bottom = 0 }
+quiet_zone Qr = record { left = 4; right = 4; top = 4; bottom = 4 }
+
+-- the bars of full data, as high as the options say
+abbrev pub linear_label : Symbology → (List ℕ → List Bool) → OptionValues → Result (List ℕ) Fault → Result Label Fault
+linear_label symbology row options (Ok full) = Ok (record { symbology = symbology; full = full; modules = bars (row full) options.height })
+linear_label symbology row options (Err fault) = Err fault
+
+-- the codewords of the data in a version
+unfoldable pub qr_codewords : OptionValues → List ℕ → ℕ → List ℕ
+qr_codewords options bytes version = symbol_codewords version options.level (whole bytes) bytes
+
+-- the modules of codewords, under the mask of the options, or else the first of the least penalty
+unfoldable pub qr_modules : OptionValues → ℕ → List ℕ → Picture
+qr_modules options version words = record {
+  width = side version;
+  height = side version;
+  dark = module_at version options.level (chosen_mask version options.level options.mask words) words;
+}
+
+-- the QR symbol of the data in a version, if there is one that holds it
+abbrev pub qr_label : OptionValues → List ℕ → Option ℕ → Result Label Fault
+qr_label options bytes None = Err (DoesNotFit options.level)
+qr_label options bytes (Some version) =
+    Ok (record { symbology = Qr; full = bytes; modules = qr_modules options version (qr_codewords options bytes version) })
+
+-- the symbol of the data, or why there is none
+unfoldable pub label_of : OptionValues → Symbology → List ℕ → Result Label Fault
+label_of options Ean13 bytes = linear_label Ean13 ean13_bars options (full_digits 12 bytes)
+label_of options Ean8 bytes = linear_label Ean8 ean8_bars options (full_digits 7 bytes)
+label_of options UpcA bytes = linear_label UpcA upca_bars options (full_digits 11 bytes)
+label_of options Code128 bytes = linear_label Code128 code128_bars options (full_code128 bytes)
+label_of options Qr bytes = qr_label options bytes (least_version options.min_version options.level (λ version. whole bytes))

@@ -1,0 +1,9 @@
+pub mod Answers
+pub mod CommandLine
+pub mod End
+pub mod Filter
+pub mod Label
+pub mod Line
+pub mod Output
+pub mod Readback
+pub mod Run

@@ -1,0 +1,40 @@
+//! A run over a whole input.
+ghost use Rattle.std.specs.Prelude.{◌≡◌, ℕ, true, List, OnOk, IfOk, IfErr};
+ghost use Rattle.labels.specs.Run.{RunsWhole, RunStops, RunRaises, GaveTooMuch};
+
+use crate::filter::Filter;
+use crate::status::{RunFault, Status};
+use labelcore::{Options, Sink, Source};
+
+/// Reads the source to its end, and writes what its lines come to.
+pub fn run<S: Source, O: Sink, E: Sink>(
+    options: Options,
+    source: &mut S,
+    out: &mut O,
+    err: &mut E,
+) -> Result<Status, RunFault>
+    ensures whole { IfOk result (RunsWhole options (S.gave source.old source.new) (O.took out.old out.new) (E.took err.old err.new)) }
+    ensures ended { OnOk result (S.at_end source.new ≡ true) }
+    ensures flushed { OnOk result ((O.is_flushed out.new ≡ true) × (E.is_flushed err.new ≡ true)) }
+    ensures no_failure { OnOk result ((S.failures source.new ≡ S.failures source.old)
+        × (O.failures out.new ≡ O.failures out.old) × (E.failures err.new ≡ E.failures err.old)) }
+    ensures stops { IfErr result (λ fault. (text : List ℕ) × S.gave source.old source.new text
+        × RunStops options (O.took out.old out.new) (E.took err.old err.new) text fault) }
+    ensures failure { IfErr result (RunRaises (GaveTooMuch (S.gave source.old source.new))
+        (S.failures source.old) (S.failures source.new) (O.failures out.old) (O.failures out.new)
+        (E.failures err.old) (E.failures err.new)) }
+{
+    options.ranges();
+    let mut filter = Filter::new(options);
+    let mut buffer = [0u8; 4096];
+    for _turn in 0..u64::MAX {
+        let Ok(count) = source.read(&mut buffer) else {
+            return Err(RunFault::Read);
+        };
+        if count == 0 {
+            return filter.finish(out, err);
+        }
+        filter.feed(&buffer[..count], out, err)?;
+    }
+    Err(RunFault::Read)
+}

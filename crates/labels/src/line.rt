@@ -1,0 +1,90 @@
+//! What the end of a line does.
+ghost use Rattle.std.specs.Prelude.{◌≡◌, ◌≢◌, ℕ, true, List, [], IfOk, IfErr, OnOk, MatchResult};
+ghost use Rattle.labelcore.specs.Device.{Rises};
+ghost use Rattle.labelcore.specs.ItemView.{item_seen};
+ghost use Rattle.labelcore.specs.LineItem.{HasData, KeepsRun};
+ghost use Rattle.labelcore.specs.Lines.{held};
+ghost use Rattle.labelcore.specs.Message.{message};
+ghost use Rattle.labels.specs.Label.{label_of};
+ghost use Rattle.labels.specs.Output.{outcome, outcome_of_item, outcome_of_label};
+ghost use Rattle.labels.specs.Line.{Begins, EndsLine, FailsInLine, CountsFault};
+
+use crate::status::RunFault;
+use crate::draw::draw;
+use labelcore::{Fault, Item, LineBuf, Options, Scratch, Sink, Symbology, parse, write_fault};
+
+/// Writes the line's image or its message, and says whether it is refused.
+pub fn finish_line<O: Sink, E: Sink>(
+    options: &Options,
+    line: &LineBuf,
+    number: u64,
+    out: &mut O,
+    err: &mut E,
+) -> Result<bool, RunFault>
+    ensures ends { (text : List ℕ) → line.now ≡ held text → IfOk result
+        (EndsLine options.now (O.took out.old out.new) (E.took err.old err.new) number (outcome options.now text)) }
+    ensures fails { (text : List ℕ) → line.now ≡ held text → IfErr result
+        (FailsInLine options.now (O.took out.old out.new) (E.took err.old err.new) number (outcome options.now text)) }
+    ensures counts { CountsFault (O.failures out.old) (O.failures out.new) (E.failures err.old) (E.failures err.new) result }
+{
+    let mut scratch = Scratch::new();
+    let item = parse(options, line, &mut scratch);
+    finish_item(options, item, number, out, err)
+}
+
+// Writes the image or the message of what a line asks for.
+fn finish_item<O: Sink, E: Sink>(
+    options: &Options,
+    item: Item,
+    number: u64,
+    out: &mut O,
+    err: &mut E,
+) -> Result<bool, RunFault>
+    requires some_data { HasData (item_seen item) }
+    requires form { KeepsRun options.now (item_seen item) }
+    ensures ends { IfOk result (EndsLine options.now (O.took out.old out.new) (E.took err.old err.new) number (outcome_of_item (item_seen item.entry))) }
+    ensures fails { IfErr result (FailsInLine options.now (O.took out.old out.new) (E.took err.old err.new) number (outcome_of_item (item_seen item.entry))) }
+    ensures counts { CountsFault (O.failures out.old) (O.failures out.new) (E.failures err.old) (E.failures err.new) result }
+{
+    match item {
+        Item::Skip => Ok(false),
+        Item::Refuse(fault) => refuse(number, &fault, err),
+        Item::Draw(symbology, own, content) => {
+            draw_or_refuse(&own, symbology, content, number, out, err)
+        }
+    }
+}
+
+// Writes the image of data, or the message of its refusal.
+fn draw_or_refuse<O: Sink, E: Sink>(
+    options: &Options,
+    symbology: Symbology,
+    content: &[u8],
+    number: u64,
+    out: &mut O,
+    err: &mut E,
+) -> Result<bool, RunFault>
+    requires { content.now ≢ [] }
+    ensures ends { IfOk result (EndsLine options.now (O.took out.old out.new) (E.took err.old err.new) number (outcome_of_label (label_of options.now symbology content.now))) }
+    ensures fails { IfErr result (FailsInLine options.now (O.took out.old out.new) (E.took err.old err.new) number (outcome_of_label (label_of options.now symbology content.now))) }
+    ensures counts { CountsFault (O.failures out.old) (O.failures out.new) (E.failures err.old) (E.failures err.new) result }
+{
+    match draw(options, symbology, content, out) {
+        Ok(None) => Ok(false),
+        Ok(Some(fault)) => refuse(number, &fault, err),
+        Err(_) => Err(RunFault::WriteOut),
+    }
+}
+
+// Writes the message of a refused line.
+fn refuse<E: Sink>(number: u64, fault: &Fault, err: &mut E) -> Result<bool, RunFault>
+    ensures refused { IfOk result (λ r. r ≡ true) }
+    ensures message { OnOk result (E.took err.old err.new (message number fault.now)) }
+    ensures fails { IfErr result (λ f. (f ≡ RunFault.WriteMessages) × Begins (E.took err.old err.new) (message number fault.now)) }
+    ensures counts { MatchResult result (λ _. E.failures err.new ≡ E.failures err.old) (λ _. Rises (E.failures err.old) (E.failures err.new)) }
+{
+    match write_fault(number, fault, err) {
+        Ok(()) => Ok(true),
+        Err(_) => Err(RunFault::WriteMessages),
+    }
+}

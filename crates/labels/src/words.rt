@@ -1,0 +1,196 @@
+//! What the words of the command line ask for.
+ghost use Rattle.std.specs.Prelude.{◌≡◌, IfOk, map, string_bytes, codes};
+ghost use Rattle.clap.specs.Words.{app_of, first_value, found_of, kind_of, one_text, rows_of};
+ghost use Rattle.labels.specs.CommandLine.{HoldsNumber, HoldsValues, command_line, format_of};
+ghost use Rattle.labels.specs.CommandLine.{number_of, invocation_refused, invocation_of, run_of};
+ghost use Rattle.labels.specs.CommandLine.{options_named, text_option};
+ghost use Rattle.clap.specs.Words.{built, rule_of};
+ghost use Rattle.labels.specs.Answers.{Answers, Refuses};
+ghost use Rattle.std.specs.Prelude.{Some, false, option_map};
+
+use clap::builder::ValueParser;
+use clap::error::ErrorKind;
+use clap::{Arg, ArgAction, ArgMatches, Command, value_parser};
+use labelcore::{Format, Level, Options};
+use std::alloc::{AllocError, Global};
+
+/// What the words of a run choose.
+#[derive(Debug, Drop)]
+pub struct Choice {
+    pub options: Options,
+    /// The file to read; standard input, where there is none.
+    pub file: Option<String>,
+}
+
+/// Why the words choose no run.
+#[derive(Debug, Drop)]
+pub enum WordsFault {
+    /// Help was asked for, and this is its text.
+    Help(String),
+    /// The command does not take the words.
+    Bad,
+    /// Memory ran out.
+    Memory,
+}
+
+// `--name TEXT`
+fn text_option<'a>(alloc: Global, name: &'a str, help: &'a str) -> Arg<'a>
+    ensures rule { rule_of result ≡ text_option name.entry.now }
+    ensures local { result.global ≡ false }
+{
+    Arg::new(alloc, name).long(name).help(help)
+}
+
+// `--name NUMBER`
+fn number_option<'a>(
+    alloc: Global,
+    name: &'a str,
+    parser: ValueParser<'a>,
+    help: &'a str,
+) -> Arg<'a>
+    ensures rule { rule_of result ≡ record (text_option name.entry.now) { parser = Some parser.entry } }
+    ensures local { result.global ≡ false }
+{
+    text_option(alloc, name, help).value_parser(parser)
+}
+
+/// The command line, built.
+fn built_command<'a>(alloc: Global) -> Result<Command<'a>, AllocError>
+    ensures { IfOk result (λ c. app_of c ≡ built command_line) }
+{
+    let mut command = command(alloc)?;
+    command.build()?;
+    Ok(command)
+}
+
+/// The command line.
+fn command<'a>(alloc: Global) -> Result<Command<'a>, AllocError>
+    ensures { IfOk result (λ c. app_of c ≡ command_line) }
+{
+    let format = text_option(alloc, "format", "The picture format: pbm or ascii");
+    let scale = number_option(
+        alloc,
+        "scale",
+        value_parser!(u8).range(1..=8),
+        "The pixels of a module's side, 1 to 8",
+    );
+    let height = number_option(
+        alloc,
+        "height",
+        value_parser!(u16).range(1..=500),
+        "The height of linear symbols in modules, 1 to 500",
+    );
+    let level = text_option(alloc, "level", "The error correction level: L, M, Q or H");
+    let min_version = number_option(
+        alloc,
+        "min-version",
+        value_parser!(u8).range(1..=10),
+        "The least version of a QR symbol, 1 to 10",
+    );
+    let mask = number_option(
+        alloc,
+        "mask",
+        value_parser!(u8).range(0..=7),
+        "The mask of a QR symbol, 0 to 7",
+    );
+    let escapes = text_option(alloc, "escapes", "Read escapes in the data").action(
+        ArgAction::SetTrue,
+    );
+    let file = Arg::new(alloc, "file").help("The file to read");
+    Command::new(alloc, "labels")
+        .no_binary_name(true)
+        .arg(format)?
+        .arg(scale)?
+        .arg(height)?
+        .arg(level)?
+        .arg(min_version)?
+        .arg(mask)?
+        .arg(escapes)?
+        .arg(file)
+}
+
+fn format_of(text: &str) -> Option<Format>
+    ensures { result ≡ format_of text.now }
+{
+    match text {
+        "pbm" => Some(Format::Pbm),
+        "ascii" => Some(Format::Ascii),
+        _ => None,
+    }
+}
+
+fn number(matches: &ArgMatches<'_>, id: &str) -> Option<u16>
+    requires { HoldsNumber 0 65535 id.now (found_of matches.now) }
+    ensures { result ≡ option_map number_of (one_text (found_of matches.now) id.now) }
+{
+    matches.get_one(id)
+}
+
+fn small_number(matches: &ArgMatches<'_>, id: &str) -> Option<u8>
+    requires { HoldsNumber 0 255 id.now (found_of matches.now) }
+    ensures { result ≡ option_map number_of (one_text (found_of matches.now) id.now) }
+{
+    matches.get_one(id)
+}
+
+/// The settings that the matches name, where format and level are listed.
+fn options_named(matches: &ArgMatches<'_>) -> Option<Options>
+    requires { HoldsValues (found_of matches.now) }
+    ensures { result ≡ options_named (rows_of (found_of matches.now)) }
+{
+    let format = format_of(matches.get_str("format").unwrap_or("pbm"))?;
+    let level = Level::named(matches.get_str("level").unwrap_or("M").as_bytes())?;
+    let scale = small_number(matches, "scale").unwrap_or(1);
+    let height = number(matches, "height").unwrap_or(50);
+    let min_version = small_number(matches, "min-version").unwrap_or(1);
+    let mask = small_number(matches, "mask");
+    let escapes = matches.get_flag("escapes");
+    Options::new(format, scale, height, level, min_version, mask, escapes)
+}
+
+/// The run that the matches ask for.
+fn choice_of(alloc: Global, matches: &ArgMatches<'_>) -> Result<Choice, WordsFault>
+    requires { HoldsValues (found_of matches.now) }
+    ensures { Answers (run_of (rows_of (found_of matches.now))) result }
+{
+    let Some(options) = options_named(matches) else {
+        return Err(WordsFault::Bad);
+    };
+    let file = match matches.get_str("file") {
+        Some(name) => match String::from_str(alloc, name) {
+            Ok(name) => Some(name),
+            Err(_) => return Err(WordsFault::Memory),
+        },
+        None => None,
+    };
+    Ok(Choice { options, file })
+}
+
+/// What a refused parse comes to.
+fn fault_of(alloc: Global, error: &clap::Error) -> WordsFault
+    ensures memory { kind_of error.now ≡ ErrorKind.OutOfMemory → result ≡ WordsFault.Memory }
+    ensures other { Refuses (invocation_refused (kind_of error.now)) result }
+{
+    match error.kind() {
+        ErrorKind::OutOfMemory => WordsFault::Memory,
+        ErrorKind::DisplayHelp => match format!(in alloc; "{error}") {
+            Ok(text) => WordsFault::Help(text),
+            Err(_) => WordsFault::Memory,
+        },
+        _ => WordsFault::Bad,
+    }
+}
+
+/// What the words ask for.
+pub fn options_of(alloc: Global, words: &[String]) -> Result<Choice, WordsFault>
+    ensures { Answers (invocation_of (map string_bytes words.now)) result }
+{
+    let Ok(mut command) = built_command(alloc) else {
+        return Err(WordsFault::Memory);
+    };
+    match command.try_get_matches_from_mut(words) {
+        Ok(matches) => choice_of(alloc, &matches),
+        Err(error) => Err(fault_of(alloc, &error)),
+    }
+}
+
