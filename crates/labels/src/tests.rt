@@ -1,3 +1,8 @@
-//! The product as a whole.
-mod filter;
+//! The product as a whole: worked labels, devices, hostile use, the words.
+mod device_rows;
+mod hostile;
+mod linear_rows;
+mod qr_rows;
+mod streams;
+mod support;
 mod words;

@@ -1,0 +1,155 @@
+//! Worked labels of QR.
+use crate::tests::support::{assert_came_to, assert_row, choice_of, joined, letters, repeated, run_by};
+use labelcore::{Level, Options};
+use qrdata::{Version, Words};
+use qrmatrix::matrix::Matrix;
+use std::alloc::{AllocError, Global};
+use std::process::Abort;
+use std::test::Fail;
+
+/// The symbol of `01234567` at level M under mask 2, in its quiet zone.
+const EXAMPLE: [&[u8]; 29] = [
+    b"00000000000000000000000000000",
+    b"00000000000000000000000000000",
+    b"00000000000000000000000000000",
+    b"00000000000000000000000000000",
+    b"00001111111001011011111110000",
+    b"00001000001001111010000010000",
+    b"00001011101010000010111010000",
+    b"00001011101011000010111010000",
+    b"00001011101010111010111010000",
+    b"00001000001010001010000010000",
+    b"00001111111010101011111110000",
+    b"00000000000010011000000000000",
+    b"00001011111001001011111000000",
+    b"00000001010110101001011000000",
+    b"00000010001101010100111110000",
+    b"00000000100001000001111000000",
+    b"00000001111110010100100000000",
+    b"00000000000010111110011000000",
+    b"00001111111001101011000000000",
+    b"00001000001010111110001010000",
+    b"00001011101010001001011000000",
+    b"00001011101011001001000000000",
+    b"00001011101010110100101000000",
+    b"00001000001000000001101100000",
+    b"00001111111011110100101000000",
+    b"00000000000000000000000000000",
+    b"00000000000000000000000000000",
+    b"00000000000000000000000000000",
+    b"00000000000000000000000000000",
+];
+
+/// The plain PBM of the worked symbol.
+fn example(alloc: Global) -> Result<Vec<u8>, AllocError> {
+    let mut text = joined(alloc, &[b"P1\n29 29\n"])?;
+    for row in EXAMPLE {
+        text.extend_from_slice(row)?;
+        text.push(b'\n')?;
+    }
+    Ok(text)
+}
+
+/// The options of these words.
+fn options_of(alloc: Global, words: &[&str]) -> Result<Options, Fail> {
+    Ok(choice_of(alloc, words)?.options)
+}
+
+/// A line is drawn with this header, and nothing is refused.
+fn assert_header(rt: &impl Abort, alloc: Global, words: &[&str], line: &[u8], header: &[u8]) -> Result<(), Fail> {
+    let options = options_of(alloc, words)?;
+    let came = run_by(alloc, options, line, 4096);
+    assert!(rt; came.out.starts_with(header));
+    assert_row(rt, alloc, options, line, came.out.as_slice(), b"");
+    Ok(())
+}
+
+/// A line of a name and so many equal bytes is drawn with this header.
+fn assert_long(rt: &impl Abort, alloc: Global, words: &[&str], byte: &[u8], times: usize, header: &[u8]) -> Result<(), Fail> {
+    let data = repeated(alloc, byte, times)?;
+    let line = joined(alloc, &[b"qr ", data.as_slice()])?;
+    let came = run_by(alloc, options_of(alloc, words)?, line.as_slice(), 4096);
+    assert!(rt; came.out.starts_with(header));
+    assert!(rt; came.err.is_empty());
+    Ok(())
+}
+
+/// A line of a name and so many equal bytes does not fit.
+fn assert_does_not_fit(rt: &impl Abort, alloc: Global, words: &[&str], front: &[u8], byte: &[u8], times: usize) -> Result<(), Fail> {
+    let data = repeated(alloc, byte, times)?;
+    let line = joined(alloc, &[front, data.as_slice()])?;
+    let came = run_by(alloc, options_of(alloc, words)?, line.as_slice(), 4096);
+    assert_came_to(rt, &came, b"", b"line 1: data does not fit version 10-L\n");
+    Ok(())
+}
+
+#[test]
+fn standard_example(rt: HostRuntime) -> Result<(), Fail> {
+    let alloc = rt.alloc();
+    let want = example(alloc)?;
+    assert_eq!(rt; want.len(), 879);
+    let options = options_of(alloc, &["--mask", "2"])?;
+    assert_row(&rt, alloc, options, b"qr 01234567\n", want.as_slice(), b"");
+    let options = options_of(alloc, &["--level", "H", "--height", "1"])?;
+    assert_row(&rt, alloc, options, b"qr,level=M,mask=2 01234567\n", want.as_slice(), b"");
+    let options = options_of(alloc, &["--mask", "2", "--format", "ascii"])?;
+    let want = letters(alloc, EXAMPLE.as_slice())?;
+    assert_eq!(rt; want.len(), 1712);
+    assert_row(&rt, alloc, options, b"qr 01234567\n", want.as_slice(), b"");
+    Ok(())
+}
+
+/// The codewords of `HELLO WORLD` at level Q, and their parity.
+const HELLO: [u8; 26] = [
+    32, 91, 11, 120, 209, 114, 220, 77, 67, 64, 236, 17, 236, 168, 72, 22, 82, 217, 54, 156, 0, 46,
+    15, 180, 122, 16,
+];
+
+#[test]
+fn hello_world(rt: HostRuntime) -> Result<(), Fail> {
+    let alloc = rt.alloc();
+    let Some(version) = Version::new(1) else {
+        panic!(rt; "version 1");
+    };
+    let mut words = Words::new();
+    for word in HELLO {
+        words.push(word);
+    }
+    let matrix = Matrix::draw(version, Level::Q, None, &words);
+    let mut want = joined(alloc, &[b"P1\n29 29\n"])?;
+    for y in 0..29 {
+        for x in 0..29 {
+            let inside = 4 <= x && x < 25 && 4 <= y && y < 25;
+            let dark = inside && matrix.dark(x - 4, y - 4);
+            want.push(if dark { b'1' } else { b'0' })?;
+        }
+        want.push(b'\n')?;
+    }
+    let options = options_of(alloc, &["--level", "Q"])?;
+    assert_row(&rt, alloc, options, b"qr HELLO WORLD\n", want.as_slice(), b"");
+    Ok(())
+}
+
+#[test]
+fn least_versions(rt: HostRuntime) -> Result<(), Fail> {
+    let alloc = rt.alloc();
+    let low = ["--level", "L"];
+    assert_long(&rt, alloc, &low, b"1", 41, b"P1\n29 29\n")?;
+    assert_long(&rt, alloc, &low, b"1", 42, b"P1\n33 33\n")?;
+    assert_long(&rt, alloc, &low, b"a", 17, b"P1\n29 29\n")?;
+    assert_long(&rt, alloc, &low, b"a", 18, b"P1\n33 33\n")?;
+    assert_long(&rt, alloc, &low, b"a", 271, b"P1\n65 65\n")?;
+    assert_does_not_fit(&rt, alloc, &low, b"qr ", b"a", 272)?;
+    assert_long(&rt, alloc, &low, b"1", 652, b"P1\n65 65\n")?;
+    assert_does_not_fit(&rt, alloc, &low, b"qr ", b"1", 653)?;
+    assert_does_not_fit(&rt, alloc, &low, b"qr a", b"1", 645)?;
+    assert_long(&rt, alloc, &["--level", "Q", "--min-version", "5"], b"a", 30, b"P1\n45 45\n")
+}
+
+#[test]
+fn mixed_segments(rt: HostRuntime) -> Result<(), Fail> {
+    let alloc = rt.alloc();
+    assert_header(&rt, alloc, &["--level", "H"], b"qr a123456789\n", b"P1\n29 29\n")?;
+    assert_header(&rt, alloc, &["--level", "Q"], b"qr ab1234567890cd\n", b"P1\n29 29\n")?;
+    assert_header(&rt, alloc, &[], b"qr a123\n", b"P1\n29 29\n")
+}

@@ -1,0 +1,145 @@
+//! What the tests share: runs over memory, and the texts that they compare with.
+ghost use Rattle.std.specs.Prelude.{◌<◌};
+
+use crate::{Choice, Filter, RunFault, Status, WordsFault, options_of, run};
+use labelcore::{MemSource, Options, StdSink};
+use std::alloc::{AllocError, Global};
+use std::process::Abort;
+use std::test::Fail;
+
+/// The image of `ean8 7351353`, one module high.
+pub const EAN8: &[u8] = b"P1\n81 1\n0000000101011101101111010110001001100101010100001010011101000010100010\n01010000000\n";
+
+/// What a run came to.
+#[derive(Drop)]
+pub struct RunResult {
+    pub answer: Result<Status, RunFault>,
+    pub out: Vec<u8>,
+    pub err: Vec<u8>,
+}
+
+/// The words of a command line.
+pub fn words_of(alloc: Global, texts: &[&str]) -> Result<Vec<String>, AllocError> {
+    let mut words = Vec::new(alloc);
+    for text in texts {
+        words.push(String::from_str(alloc, text)?)?;
+    }
+    Ok(words)
+}
+
+/// What words choose.
+pub fn choice_of(alloc: Global, texts: &[&str]) -> Result<Choice, Fail> {
+    let words = words_of(alloc, texts)?;
+    Ok(options_of(alloc, words.as_slice())?)
+}
+
+/// Whether words are refused as bad.
+pub fn are_bad(alloc: Global, texts: &[&str]) -> Result<bool, AllocError> {
+    let words = words_of(alloc, texts)?;
+    Ok(matches!(&options_of(alloc, words.as_slice()), Err(WordsFault::Bad)))
+}
+
+/// Runs over the input, `piece` bytes a read.
+pub fn run_by(alloc: Global, options: Options, input: &[u8], piece: usize) -> RunResult
+    requires { 0 < piece }
+{
+    let mut out = Vec::new(alloc);
+    let mut err = Vec::new(alloc);
+    let mut source = MemSource::new(input, piece, false);
+    let answer = run(
+        options,
+        &mut source,
+        &mut StdSink::new(&mut out),
+        &mut StdSink::new(&mut err),
+    );
+    RunResult { answer, out, err }
+}
+
+/// Feeds the input in two pieces.
+pub fn fed(alloc: Global, options: Options, first: &[u8], second: &[u8]) -> RunResult {
+    let mut out = Vec::new(alloc);
+    let mut err = Vec::new(alloc);
+    let answer = fed_into(
+        options,
+        first,
+        second,
+        &mut StdSink::new(&mut out),
+        &mut StdSink::new(&mut err),
+    );
+    RunResult { answer, out, err }
+}
+
+/// Feeds the input in two pieces to a filter over these sinks.
+fn fed_into(
+    options: Options,
+    first: &[u8],
+    second: &[u8],
+    out: &mut StdSink<&mut Vec<u8>>,
+    err: &mut StdSink<&mut Vec<u8>>,
+) -> Result<Status, RunFault> {
+    let mut filter = Filter::new(options);
+    filter.feed(first, out, err)?;
+    filter.feed(second, out, err)?;
+    filter.finish(out, err)
+}
+
+/// Text that stands so many times.
+pub fn repeated(alloc: Global, text: &[u8], times: usize) -> Result<Vec<u8>, AllocError> {
+    let mut all = Vec::new(alloc);
+    for _ in 0..times {
+        all.extend_from_slice(text)?;
+    }
+    Ok(all)
+}
+
+/// Texts, joined.
+pub fn joined(alloc: Global, texts: &[&[u8]]) -> Result<Vec<u8>, AllocError> {
+    let mut all = Vec::new(alloc);
+    for text in texts {
+        all.extend_from_slice(text)?;
+    }
+    Ok(all)
+}
+
+/// A header, and then the text of one row of pixels for each of the rows.
+pub fn bars(alloc: Global, header: &[u8], row: &[u8], rows: usize) -> Result<Vec<u8>, AllocError> {
+    let pixels = repeated(alloc, row, rows)?;
+    joined(alloc, &[header, pixels.as_slice()])
+}
+
+/// The text picture of rows of pixels, each written as `0` and `1`.
+pub fn letters(alloc: Global, rows: &[&[u8]]) -> Result<Vec<u8>, AllocError> {
+    let mut text = Vec::new(alloc);
+    for row in rows {
+        for pixel in *row {
+            text.extend_from_slice(if *pixel == b'1' { b"##" } else { b"  " })?;
+        }
+        text.push(b'\n')?;
+    }
+    text.push(b'\n')?;
+    Ok(text)
+}
+
+/// The run came to these images and messages, and nothing failed.
+pub fn assert_came_to(rt: &impl Abort, came: &RunResult, out: &[u8], err: &[u8]) {
+    let status = if err.is_empty() {
+        Status::Clean
+    } else {
+        Status::Refused
+    };
+    assert!(rt; came.out.as_slice() == out);
+    assert!(rt; came.err.as_slice() == err);
+    assert_eq!(rt; came.answer, Ok(status));
+}
+
+/// Over the input, read in pieces of several sizes and fed in two at each cut, a run comes to these images and messages.
+pub fn assert_row(rt: &impl Abort, alloc: Global, options: Options, input: &[u8], out: &[u8], err: &[u8]) {
+    assert_came_to(rt, &run_by(alloc, options, input, 1), out, err);
+    assert_came_to(rt, &run_by(alloc, options, input, 2), out, err);
+    assert_came_to(rt, &run_by(alloc, options, input, 7), out, err);
+    assert_came_to(rt, &run_by(alloc, options, input, 4096), out, err);
+    for at in 0..input.len() {
+        let (first, second) = input.split_at(at);
+        assert_came_to(rt, &fed(alloc, options, first, second), out, err);
+    }
+}
