@@ -10,18 +10,15 @@ ghost use Rattle.std.specs.List.{list_all};
 ghost use Rattle.std.specs.Prelude.{IsTrue, length, ◌≡◌, ◌+◌, ◌≤◌, ◌<◌, ◌++◌, take, drop, ◌*◌, ◌/◌};
 
 use crate::blocks::Words;
-use crate::mode::{Mode, Segment, count_bits, indicator, value_of};
+use crate::mode::{Mode, Segment, value_of};
 use crate::version::Version;
 use arrayvec::ArrayVec;
 
-/// The most data bits of a symbol.
-pub const MAX_BITS: usize = 2192;
-
-/// The bits of the segments.
-pub type Bits = ArrayVec<bool, 2192>;
+/// The bits of a symbol's data, at most those of version 10 at level L.
+pub(crate) type Bits = ArrayVec<bool, 2192>;
 
 /// Writes a number in so many bits at the end.
-pub fn push_number(bits: &mut Bits, number: u32, width: usize)
+pub(crate) fn push_number(bits: &mut Bits, number: u32, width: usize)
     requires narrow { width ≤ 32 }
     requires room { array_vec_len bits.old + width ≤ 2192 }
     ensures { bits.new.items ≡ bits.old.items ++ bits_of width number }
@@ -34,7 +31,7 @@ pub fn push_number(bits: &mut Bits, number: u32, width: usize)
 }
 
 /// Writes digits: three in ten bits, two that are left in seven, one in four.
-pub fn push_digits(bits: &mut Bits, digits: &[u8])
+pub(crate) fn push_digits(bits: &mut Bits, digits: &[u8])
     requires digits { IsTrue (list_all is_ascii_digit digits.now) }
     requires room { array_vec_len bits.old + payload_length Numeric (length digits.now) ≤ 2192 }
     ensures { bits.new.items ≡ bits.old.items ++ numeric_bits digits.now }
@@ -74,7 +71,7 @@ pub(crate) fn codeword_at(bits: &[bool], place: usize) -> u8
 }
 
 /// Writes characters: two in eleven bits, one that is left in six.
-pub fn push_characters(bits: &mut Bits, characters: &[u8])
+pub(crate) fn push_characters(bits: &mut Bits, characters: &[u8])
     requires room { array_vec_len bits.old + payload_length Alphanumeric (length characters.now) ≤ 2192 }
     ensures { bits.new.items ≡ bits.old.items ++ alphanumeric_bits characters.now }
 {
@@ -93,7 +90,7 @@ pub fn push_characters(bits: &mut Bits, characters: &[u8])
 }
 
 /// Writes each byte in eight bits.
-pub fn push_bytes(bits: &mut Bits, bytes: &[u8])
+pub(crate) fn push_bytes(bits: &mut Bits, bytes: &[u8])
     requires room { array_vec_len bits.old + 8 * length bytes.now ≤ 2192 }
     ensures { bits.new.items ≡ bits.old.items ++ byte_bits bytes.now }
 {
@@ -121,8 +118,8 @@ pub(crate) fn push_segment(bits: &mut Bits, version: Version, mode: Mode, bytes:
     requires room { array_vec_len bits.old + (4 + count_width version.number mode + payload_length mode (length bytes.now)) ≤ 2192 }
     ensures { bits.new.items ≡ bits.old.items ++ segment_bits version.number mode bytes.now }
 {
-    push_number(bits, u32::from(indicator(mode)), 4);
-    push_number(bits, bytes.len() as u32, count_bits(version, mode));
+    push_number(bits, u32::from(mode.indicator()), 4);
+    push_number(bits, bytes.len() as u32, mode.count_bits(version));
     push_payload(bits, mode, bytes);
 }
 

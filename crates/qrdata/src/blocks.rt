@@ -13,7 +13,7 @@ use gf256::Generator;
 pub type Words = ArrayVec<u8, 346>;
 
 /// Writes the words at one place of the blocks, block by block. The blocks have these lengths, one after another.
-pub fn push_place(lengths: &[usize], words: &[u8], place: usize, out: &mut Words)
+pub(crate) fn push_place(lengths: &[usize], words: &[u8], place: usize, out: &mut Words)
     requires whole { sum lengths.now ≡ length words.now }
     requires room { array_vec_len out.old + length (words_at (split_by lengths.now words.now) place) ≤ 346 }
     ensures { out.new.items ≡ out.old.items ++ words_at (split_by lengths.now words.now) place }
@@ -41,7 +41,7 @@ pub(crate) fn greatest(lengths: &[usize]) -> usize
 }
 
 /// Writes the words of the blocks in the order of their places, and at one place in the order of the blocks.
-pub fn interleave(lengths: &[usize], words: &[u8], out: &mut Words)
+pub(crate) fn interleave(lengths: &[usize], words: &[u8], out: &mut Words)
     requires whole { sum lengths.now ≡ length words.now }
     requires room { array_vec_len out.old + length words.now ≤ 346 }
     ensures { out.new.items ≡ out.old.items ++ interleaved (split_by lengths.now words.now) }
@@ -53,7 +53,7 @@ pub fn interleave(lengths: &[usize], words: &[u8], out: &mut Words)
 }
 
 /// The lengths of some blocks.
-pub type Lengths = ArrayVec<usize, 8>;
+pub(crate) type Lengths = ArrayVec<usize, 8>;
 
 /// Writes a length so many times.
 pub(crate) fn push_lengths(lengths: &mut Lengths, count: usize, size: usize)

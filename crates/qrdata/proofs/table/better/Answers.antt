@@ -6,12 +6,12 @@ use Rattle.qrdata.proofs.table.better.Goals.{else-len-run-via-then-len-run+else-
 
 pub returns-then-bits-from : goal.returns-then-bits-from
 returns-then-bits-from c =
-    let total : 4 + c.count_bits.result + c.payload_size.result + c.from.result ≡ segment_length c.args.version.number (segment_of c.args.mode c.args.len) + c.args.after = omega (arith, c.count_bits.ensures, c.payload_size.ensures, c.from.ensures) in
+    let total : 4 + c.count_bits.result + c.payload_bits.result + c.from.result ≡ segment_length c.args.version.number (segment_of c.args.mode c.args.len) + c.args.after = omega (arith, c.count_bits.ensures, c.payload_bits.ensures, c.from.ensures) in
     rw total (sym (next_choice-takes c.args.version.number c.args.mode c.args.len c.args.run c.args.after c.args.so_far (omega arith) (omega (arith, c.if-len-count_limit.true, c.count_limit.ensures)) (omega (arith, total, c.if-bits-from.true, c.from-then-len-count_limit.ensures))))
 
 pub returns-else-bits-from : goal.returns-else-bits-from
 returns-else-bits-from c =
-    sym (next_choice-keeps c.args.version.number c.args.mode c.args.len c.args.run c.args.after c.args.so_far (omega (arith, c.count_bits.ensures, c.payload_size.ensures, c.from.ensures, c.from-then-len-count_limit.ensures, c.if-bits-from.false)))
+    sym (next_choice-keeps c.args.version.number c.args.mode c.args.len c.args.run c.args.after c.args.so_far (omega (arith, c.count_bits.ensures, c.payload_bits.ensures, c.from.ensures, c.from-then-len-count_limit.ensures, c.if-bits-from.false)))
 
 pub returns-else-len-run : goal.returns-else-len-run
 returns-else-len-run c = elim c.else-len-run.branch [
