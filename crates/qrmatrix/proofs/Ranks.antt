@@ -8,7 +8,7 @@ use Rattle.qrdata.specs.Versions.{side_of}
 use Rattle.qrmatrix.specs.Functions.{is_free}
 use Rattle.qrmatrix.specs.Placement.{key, free_below}
 use Rattle.qrmatrix.proofs.Sums.{all_below_at, sum_below_same, sum_below_one, sum_below_zero}
-use Rattle.qrmatrix.proofs.Versions.{Computed, is_found, is_below, is_outside, place_column, place_row}
+use Rattle.qrmatrix.proofs.EachVersion.{Computed, is_found, is_below, is_outside, place_column, place_row}
 
 cell_same : (b : Bool) (j k : ℕ) → (b ≡ true → j ≢ k) → one_if (b && nat_lt j (suc k)) ≡ one_if (b && nat_lt j k)
 cell_same false j k h = refl

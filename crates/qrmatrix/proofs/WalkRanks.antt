@@ -6,9 +6,9 @@ use Rattle.std.proofs.lemmas.Bool.{and_parts, ltb-true, eqb-false, not-true}
 use Rattle.qrmatrix.specs.Counting.{one_if}
 use Rattle.qrdata.specs.Versions.{side_of, total_codewords}
 use Rattle.qrmatrix.specs.Functions.{is_free}
-use Rattle.qrmatrix.specs.Placement.{key, free_below, rank}
-use Rattle.qrmatrix.specs.Reading.{walk, remainder_bits}
-use Rattle.qrmatrix.proofs.Versions.{Computed, is_walked}
+use Rattle.qrmatrix.specs.Placement.{key, free_below, rank, remainder_bits}
+use Rattle.qrmatrix.specs.Reading.{walk}
+use Rattle.qrmatrix.proofs.EachVersion.{Computed, is_walked}
 use Rattle.qrmatrix.proofs.Ranks.{free_below_more, free_below_none}
 
 step : (b : Bool) (p : ℕ × ℕ) (ps : List (ℕ × ℕ)) (r : ℕ × ℕ → ℕ) (i j : ℕ) → r p ≡ i → j ≡ i + one_if b → map r ps ≡ range_with_len j (length ps) → map r (cond b (p ∷ ps) ps) ≡ range_with_len i (length (cond b (p ∷ ps) ps))

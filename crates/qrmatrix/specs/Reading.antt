@@ -6,12 +6,9 @@ use Rattle.labelcore.specs.declared.options.Level.{Level}
 use Rattle.labelcore.specs.declared.options.Level.TheVariants.{L, M, Q, H}
 use Rattle.qrdata.specs.Versions.{total_codewords, side_of}
 use Rattle.qrmatrix.specs.Counting.{all_below, one_if}
-use Rattle.qrmatrix.specs.Functions.{remainder, fixed, is_free}
-use Rattle.qrmatrix.specs.Placement.{is_flipped, flip_if}
-
--- the modules that are left after the last word (Table 1)
-unfoldable pub remainder_bits : ℕ → ℕ
-remainder_bits v = slice_index (0 ∷ 0 ∷ 7 ∷ 7 ∷ 7 ∷ 7 ∷ 7 ∷ 0 ∷ 0 ∷ 0 ∷ 0 ∷ []) v
+use Rattle.qrmatrix.specs.Information.{remainder}
+use Rattle.qrmatrix.specs.Functions.{fixed, is_free}
+use Rattle.qrmatrix.specs.Masks.{is_flipped, flip_if}
 
 -- the number of bits that are listed lowest first
 abbrev pub low_first : List Bool → ℕ

@@ -1,23 +1,22 @@
-// A drawn symbol.
-ghost use Rattle.std.specs.Prelude.{◌≡◌, ℕ, ◌+◌, ◌*◌, ◌<◌, ◌≤◌, IfSome, length, List, Bool, Some, Option, All, slice_index, ◌&&◌};
+//! A drawn symbol.
+ghost use Rattle.std.specs.Prelude.{◌≡◌, ℕ, ◌+◌, ◌*◌, ◌<◌, ◌≤◌, ◌&&◌, All, Bool, false, IfSome, length, List, Some, slice_index};
 ghost use Rattle.qrdata.specs.Versions.{side_of, total_codewords};
-ghost use Rattle.qrmatrix.specs.Functions.{bit};
-ghost use Rattle.qrmatrix.specs.Placement.{module_at, chosen_mask, penalties, least_place, is_inside};
+ghost use Rattle.qrmatrix.specs.Bits.{bit};
+ghost use Rattle.qrmatrix.specs.MaskChoice.{chosen_mask};
+ghost use Rattle.qrmatrix.specs.Modules.{is_inside, module_at};
 ghost use Rattle.qrmatrix.specs.Penalty;
+ghost use Rattle.qrmatrix.specs.Placement.{free_count, remainder_bits};
 ghost use Rattle.qrmatrix.specs.Reading.{read_matrix};
-ghost use Rattle.qrmatrix.specs.Square.{value_at};
 ghost use Rattle.qrmatrix.specs.Symbol.{Symbol, is_dark, IsWithin};
-ghost use Rattle.qrmatrix.specs.Drawing.{IsUnmasked};
-ghost use Rattle.qrmatrix.specs.Choosing.{Least};
 
-use crate::draw::{Unmasked, draw_unmasked, under_mask};
 use crate::penalty::penalty;
 use crate::square::Square;
+use crate::unmasked::Unmasked;
 use labelcore::Level;
 use qrdata::{Version, Words};
 use std::marker::Model;
 
-/// The modules of a symbol.
+/// The modules of a QR Code symbol.
 #[derive(Drop)]
 pub struct Matrix {
     side: usize,
@@ -33,67 +32,36 @@ impl Model for Matrix {
     ghost invariant = { λ m. record { least : 21 ≤ m.side; most : m.side ≤ 57; within : IsWithin m.side m.modules } };
 }
 
-/// The penalty of the symbol under a mask.
-#[tactic(auto, using(crate::proofs::Chosen::penalty_drawn))]
-fn penalty_under(
-    version: Version,
-    level: Level,
-    mask: u8,
-    words: &Words,
-    unmasked: &Unmasked,
-) -> u32
-    requires mask { mask < 8 }
-    requires unmasked { IsUnmasked version.number level words.now.items unmasked.now.function unmasked.now.modules }
-    ensures { result ≡ Penalty.penalty (side_of version.number) (module_at version.number level mask words.now.items) }
-{
-    let modules = under_mask(version, level, mask, words, unmasked);
-    penalty(&modules, version.side())
-}
-
-/// The first mask of the least penalty.
-fn least_mask(version: Version, level: Level, words: &Words, unmasked: &Unmasked) -> u8
-    requires { IsUnmasked version.number level words.now.items unmasked.now.function unmasked.now.modules }
-    ensures value { result ≡ least_place (penalties version.number level words.now.items) }
-    ensures bound { result < 8 }
-{
-    let mut best = 0;
-    let mut least = penalty_under(version, level, 0, words, unmasked);
-    for mask in 1..8 {
-        let next = penalty_under(version, level, mask, words, unmasked);
-        if next < least {
-            least = next;
-            best = mask;
-        }
-    }
-    best
-}
-
-/// What the type says of each of its items.
+/// What the type of bytes says of each of them.
 fn are_bytes(bytes: &[u8])
     ensures { All (λ b. b < 256) bytes.now }
 {}
 
 impl Matrix {
-    /// Draws the words under the given mask, or else under the first mask of the least penalty.
-    #[tactic(auto, unfolding(crate::specs::Placement::chosen_mask))]
+    /// Draws the codewords of a symbol under the given mask, 0 to 7, or else under the mask of the least penalty, the
+    /// first of several (ISO/IEC 18004, 7.7 to 7.10). The modules read back as the version, the level and the codewords.
     pub fn draw(version: Version, level: Level, mask: Option<u8>, words: &Words) -> Matrix
         requires count { length words.now.items ≡ total_codewords version.number }
         requires mask { IfSome mask (λ k. k < 8) }
         ensures side { result.side ≡ side_of version.number }
         ensures mask { result.mask ≡ chosen_mask version.number level mask words.now.items }
         ensures modules { (x y : ℕ) → is_dark result x y ≡ module_at version.number level result.mask words.now.items x y }
+        ensures outside { (x y : ℕ) → is_inside result.side x y ≡ false → is_dark result x y ≡ false }
         ensures reads { read_matrix result.side (is_dark result) ≡ Some (record { version = version.number; level = level; words = words.now.items }) }
+
+        // No codeword is left out, and only the remainder bits hold none.
+        ensures room { free_count version.number ≡ 8 * length words.now.items + remainder_bits version.number }
     {
         are_bytes(words);
-        let unmasked = draw_unmasked(version, level, words);
+        let unmasked = Unmasked::draw(version, level, words);
         let mask = match mask {
             Some(mask) => mask,
-            None => least_mask(version, level, words, &unmasked),
+            None => unmasked.least_mask(),
         };
         Matrix {
             side: version.side(),
             mask,
-            modules: under_mask(version, level, mask, words, &unmasked),
+            modules: unmasked.under(mask),
         }
     }
 
@@ -103,7 +71,7 @@ impl Matrix {
         requires row { y < self.now.side }
         ensures { result ≡ is_dark self.now x y }
     {
-        (self.rows()[y] >> x) & 1 == 1
+        self.modules.get(x, y)
     }
 
     /// The rows as words: bit x of word y is the module at column x and row y, and the bits from the side on are 0.
@@ -122,14 +90,14 @@ impl Matrix {
         self.side
     }
 
-    /// The mask.
+    /// The mask, 0 to 7.
     pub fn mask(&self) -> u8
         ensures { result ≡ self.now.mask }
     {
         self.mask
     }
 
-    /// The penalty.
+    /// The penalty of the modules (in the manner of ISO/IEC 18004, 7.8.3).
     pub fn penalty(&self) -> u32
         ensures { result ≡ Penalty.penalty self.now.side (is_dark self.now) }
     {

@@ -1,7 +1,7 @@
-// A square of truth values, one word a row.
+//! A square of truth values, one word a row.
 ghost use Rattle.std.specs.Prelude.{◌≡◌, ℕ, ◌^◌, ◌<◌, Bool, ◌&&◌, ◌==◌, if◌then◌else◌, List, [], false, map, slice_index, All};
-ghost use Rattle.qrmatrix.specs.Functions.{bit};
-ghost use Rattle.qrmatrix.specs.Placement.{flip_if};
+ghost use Rattle.qrmatrix.specs.Bits.{bit};
+ghost use Rattle.qrmatrix.specs.Masks.{flip_if};
 ghost use Rattle.qrmatrix.specs.RowWords.{bits_of, AreRows};
 ghost use Rattle.qrmatrix.specs.Square.{value_at, WritesAt};
 

@@ -1,13 +1,39 @@
-use Rattle.std.proofs.Common.{◌≡◌, ℕ, arith, rules, sym, ap, ◌∙◌, ◌<◌, ◌≤◌}
+use Rattle.std.proofs.Common.{◌≡◌, ℕ, arith, rules, sym, ap, subst, ◌∙◌, ◌<◌, false}
 use mathlib.Core.Path.{fun_ext}
-use Rattle.std.specs.Prelude.{All, nat_lt, Option}
-use Rattle.std.proofs.lemmas.Bool.{and_left, and_right, le-ltb}
+use Rattle.std.specs.Prelude.{All, Option}
 use Rattle.qrdata.specs.Versions.{side_of}
-use Rattle.qrmatrix.specs.Placement.{module_at, chosen_mask}
+use Rattle.qrmatrix.specs.MaskChoice.{chosen_mask}
+use Rattle.qrmatrix.specs.Modules.{is_inside, module_at}
 use Rattle.qrmatrix.specs.Square.{value_at}
-use Rattle.qrmatrix.proofs.Inverse.{reads_back, module_outside}
+use Rattle.qrmatrix.proofs.EachVersion.{computed}
+use Rattle.qrmatrix.proofs.ReadBack.{module_outside, reads_back}
 use Rattle.qrmatrix.proofs.matrix.Matrix.draw.Goals as goal
 use Rattle.qrmatrix.proofs.matrix.Matrix.draw.Goals.{in-Some, in-None}
+
+-- the modules that are drawn
+shown : (c : goal.After-under) (x y : ℕ) → value_at c.under.result x y ≡ module_at c.args.version.number c.args.level c.match-mask.mask c.args.words.now.items x y
+shown c = (rw (c.draw-unmasked.ensures.version, c.draw-unmasked.ensures.level) at c.under.ensures) c.args.words.now.items c.draw-unmasked.ensures.drawn
+
+-- the modules outside of the side
+light : (c : goal.After-under) (x y : ℕ) → is_inside c.side.result x y ≡ false → value_at c.under.result x y ≡ false
+light c x y out =
+    shown c x y ∙ module_outside c.args.version.number c.args.level c.match-mask.mask c.args.words.now.items x y (subst (λ n. is_inside n x y ≡ false) c.side.ensures out)
+
+pub returns-clause-mask : goal.returns-clause-mask
+unfolding chosen_mask
+returns-clause-mask c =
+    let chosen = λ (z : Option ℕ). chosen_mask c.args.version.number c.args.level z c.args.words.now.items in
+    elim c.match-mask.branch [
+      | in-Some w ↦ w.mask-is ∙ sym (ap chosen w.in-Some.is)
+      | in-None w ↦
+          w.mask-is ∙ (rw (c.draw-unmasked.ensures.version, c.draw-unmasked.ensures.level) at w.least_mask-mask.ensures.value) c.args.words.now.items c.draw-unmasked.ensures.drawn ∙ sym (ap chosen w.in-None.is)
+    ]
+
+pub returns-clause-modules : goal.returns-clause-modules
+returns-clause-modules c = shown c
+
+pub returns-clause-outside : goal.returns-clause-outside
+returns-clause-outside c = light c
 
 pub returns-clause-reads : goal.returns-clause-reads
 returns-clause-reads c =
@@ -16,28 +42,17 @@ returns-clause-reads c =
     let mask = c.match-mask.mask in
     let below : mask < 8 = elim c.match-mask.branch [ in-Some w ↦ search rules | in-None w ↦ search rules ] in
     let bytes : All (λ w. w < 256) words = rw c.deref.ensures.0 at c.are_bytes.ensures in
-    let same : value_at c.under_mask.result ≡ module_at v c.args.level mask words = fun_ext (λ x. fun_ext (λ y. c.under_mask.ensures x y)) in
+    let same : value_at c.under.result ≡ module_at v c.args.level mask words = fun_ext (λ x. fun_ext (λ y. shown c x y)) in
     rw (same, c.side.ensures) (reads_back v c.args.level mask words c.args.version.from c.args.version.to below c.requires.count bytes)
+
+pub returns-clause-room : goal.returns-clause-room
+returns-clause-room c =
+    rw c.requires.count (computed c.args.version.number c.args.version.from c.args.version.to).count
 
 pub invariant_of-result : goal.invariant_of-result
 invariant_of-result c =
-    let v = c.args.version.number in
-    let words = c.args.words.now.items in
-    let mask = c.match-mask.mask in
     record {
       least = let a = c.args.version.from in omega arith;
       most = let a = c.args.version.to in omega arith;
-      within = record {
-        columns = λ x y l. c.under_mask.ensures x y ∙ module_outside v c.args.level mask words x y (let h : side_of v ≤ x = omega arith in and_left (nat_lt x (side_of v)) (nat_lt y (side_of v)) (le-ltb x (side_of v) h));
-        rows_below = λ x y l. c.under_mask.ensures x y ∙ module_outside v c.args.level mask words x y (let h : side_of v ≤ y = omega arith in and_right (nat_lt x (side_of v)) (nat_lt y (side_of v)) (le-ltb y (side_of v) h));
-      };
+      within = light c;
     }
-
-pub returns-clause-mask : goal.returns-clause-mask
-unfolding chosen_mask
-returns-clause-mask c =
-    let chosen = λ (z : Option ℕ). chosen_mask c.args.version.number c.args.level z c.args.words.now.items in
-    elim c.match-mask.branch [
-      | in-Some w ↦ w.mask-is ∙ sym (ap chosen w.in-Some.is)
-      | in-None w ↦ w.mask-is ∙ w.least_mask-mask.ensures.value ∙ sym (ap chosen w.in-None.is)
-    ]
