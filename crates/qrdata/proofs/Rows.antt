@@ -1,0 +1,1 @@
+-- Worked symbols, computed from the definitions.

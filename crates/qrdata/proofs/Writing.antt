@@ -1,0 +1,181 @@
+-- What the writers have written, step by step.
+use Rattle.std.proofs.Common.{◌≡◌, ℕ, zero, suc, ◌+◌, ◌-◌, ◌*◌, ◌/◌, ◌%◌, ◌^◌, ◌<◌, ◌≤◌, List, [], ◌∷◌, ◌++◌, map, take, drop, length, replicate, get_or, refl, sym, ap, ◌∙◌, length-append, arith, Bool, false, sum}
+use Rattle.std.specs.Prelude.{◌==◌}
+use Rattle.std.specs.List.{AllByRecursion, flat_map}
+use Rattle.std.proofs.lemmas.List.{drop_more, drop_all, drop-drop, length-take-le}
+use Rattle.std.proofs.lemmas.List.Elements.{All-from_get_or, recursion_from_All}
+use Rattle.std.proofs.lemmas.List.Sums.{sum_by-cons}
+use Rattle.std.proofs.Math.Nat.{div-eq_of_lt}
+use Rattle.std.proofs.lemmas.Nat.{pow_pos}
+use Rattle.labelcore.specs.declared.options.Level.{Level}
+use Rattle.qrdata.specs.declared.mode.Mode.{Mode}
+use Rattle.qrdata.specs.declared.mode.Segment.{Segment}
+use Rattle.qrdata.specs.Bits.{bits_of, codewords_of, number_of}
+use Rattle.qrdata.specs.Codewords.{longest, split_by}
+use Rattle.qrdata.specs.Reading.{largest}
+use Rattle.qrdata.specs.Segments.{IsSegmentation, alphanumeric_bits, alphanumeric_value, byte_bits, cost, count_width, segment_bits, segment_length, segments_bits}
+use Rattle.qrdata.specs.Versions.{block_count, block_lengths, data_codewords, parity_length}
+use Rattle.qrdata.proofs.BlockLaws.{split_lengths}
+use Rattle.qrdata.proofs.BitStrings.{drop_front, take_front}
+use Rattle.qrdata.proofs.Dealing.{Blocks, largest-lengths}
+use Rattle.qrdata.proofs.PayloadSteps.{drop_next, drop_none}
+use Rattle.qrdata.proofs.Payloads.{AreBytes}
+use Rattle.gf256.specs.Parity.{parity_of, ParityIsRemainder, RemaindersAreCodewords}
+use Rattle.qrdata.specs.Codewords.{aligned, blocks_of, data_of, terminated}
+use Rattle.qrdata.specs.Versions.{capacity}
+use Rattle.qrdata.specs.Segments.{payload_length}
+use Rattle.qrdata.proofs.Lengths.{length-segment_bits, length-segments_bits}
+use Rattle.qrdata.proofs.Padding.{aligned_is, length-padded}
+use Rattle.qrdata.proofs.BlockLaws.{length-split_by}
+use Rattle.qrdata.proofs.RoundTrip.{AreBytes-split, HasParity-from_law, lengths_hold}
+use Rattle.qrdata.proofs.VersionTable.{HasSoundBlocks-of, total_is}
+
+-- characters
+pub alphanumeric_bits-two_left : (xs : List ℕ) (i : ℕ) → 2 ≤ length xs - i → alphanumeric_bits (drop i xs)
+    ≡ bits_of 11 (45 * alphanumeric_value (get_or xs i 0) + alphanumeric_value (get_or xs (i + 1) 0)) ++ alphanumeric_bits (drop (i + 2) xs)
+unfolding alphanumeric_bits
+alphanumeric_bits-two_left xs i h =
+    let first = drop_next xs i (i + 1) (omega arith) (omega arith) in
+    let second = drop_next xs (i + 1) (i + 2) (omega arith) (omega arith) in
+    rw (first, second) refl
+
+pub alphanumeric_bits-one_left : (xs : List ℕ) (i : ℕ) → length xs - i ≡ 1 → alphanumeric_bits (drop i xs) ≡ bits_of 6 (alphanumeric_value (get_or xs i 0))
+unfolding alphanumeric_bits
+alphanumeric_bits-one_left xs i h = rw (drop_next xs i (i + 1) (omega arith) (omega arith), drop_none xs (i + 1) (omega arith)) refl
+
+pub alphanumeric_bits-none_left : (xs : List ℕ) (i : ℕ) → length xs ≤ i → alphanumeric_bits (drop i xs) ≡ []
+unfolding alphanumeric_bits
+alphanumeric_bits-none_left xs i h = rw (drop_none xs i h) refl
+
+-- bytes
+pub byte_bits-next : (xs : List ℕ) (i : ℕ) → i < length xs → byte_bits (drop i xs) ≡ bits_of 8 (get_or xs i 0) ++ byte_bits (drop (i + 1) xs)
+unfolding byte_bits
+byte_bits-next xs i h = rw (drop_more xs i 0 h) refl
+
+pub byte_bits-none_left : (xs : List ℕ) (i : ℕ) → length xs ≤ i → byte_bits (drop i xs) ≡ []
+unfolding byte_bits
+byte_bits-none_left xs i h = rw (drop_none xs i h) refl
+
+-- segments: the next one, and those after it
+pub segments_bits-next : (version : ℕ) (segments : List Segment) (d : Segment) (bytes : List ℕ) (i place : ℕ) → i < length segments
+    → segments_bits version (drop i segments) (drop place bytes)
+    ≡ segment_bits version (get_or segments i d).mode (take (get_or segments i d).len (drop place bytes)) ++ segments_bits version (drop (i + 1) segments) (drop (place + (get_or segments i d).len) bytes)
+unfolding segments_bits
+segments_bits-next version segments d bytes i place h = rw (drop_more segments i d h, ← drop-drop (get_or segments i d).len place bytes) refl
+
+pub segments_bits-none_left : (version : ℕ) (segments : List Segment) (bytes : List ℕ) (i : ℕ) → length segments ≤ i → segments_bits version (drop i segments) bytes ≡ []
+unfolding segments_bits
+segments_bits-none_left version segments bytes i h = rw (drop_all i segments h) refl
+
+pub IsSegmentation-next : (version : ℕ) (segments : List Segment) (d : Segment) (bytes : List ℕ) (i place : ℕ) → i < length segments → IsSegmentation version (drop i segments) (drop place bytes)
+    → IsSegmentation version (get_or segments i d ∷ drop (i + 1) segments) (drop place bytes)
+IsSegmentation-next version segments d bytes i place h held = rw (drop_more segments i d h) at held
+
+pub cost-next : (version : ℕ) (segments : List Segment) (d : Segment) (i : ℕ) → i < length segments
+    → cost version (drop i segments) ≡ segment_length version (get_or segments i d) + cost version (drop (i + 1) segments)
+cost-next version segments d i h = rw (drop_more segments i d h) (sum_by-cons (segment_length version) (get_or segments i d) (drop (i + 1) segments))
+
+-- zeros
+bit_zero : (width : ℕ) → (0 / 2 ^ width % 2 == 1) ≡ false
+bit_zero width = let none : 0 / 2 ^ width ≡ 0 = div-eq_of_lt (pow_pos width) in rw none refl
+
+pub bits_of-zero : (width : ℕ) → bits_of width 0 ≡ replicate width false
+unfolding bits_of
+bits_of-zero zero = refl
+bits_of-zero (suc width) = rw (bit_zero width, bits_of-zero width) refl
+
+-- codewords: the next one, and those after it
+pub codewords_of-next : (n place : ℕ) (bits : List Bool) → place < n → codewords_of (n - place) (drop (8 * place) bits)
+    ≡ number_of (take 8 (drop (8 * place) bits)) ∷ codewords_of (n - (place + 1)) (drop (8 * (place + 1)) bits)
+unfolding codewords_of
+codewords_of-next n place bits h =
+    let more : n - place ≡ suc (n - (place + 1)) = omega arith in
+    let further : 8 * place + 8 ≡ 8 * (place + 1) = omega arith in
+    rw (more, drop-drop 8 (8 * place) bits, further) refl
+
+pub codewords_of-none_left : (n place : ℕ) (bits : List Bool) → n ≤ place → codewords_of (n - place) bits ≡ []
+unfolding codewords_of
+codewords_of-none_left n place bits h = let none : n - place ≡ 0 = omega arith in rw none refl
+
+-- the longest of the blocks that the words are cut into has the greatest of the lengths
+pub longest-split_by : (lengths words : List ℕ) → sum lengths ≡ length words → longest (split_by lengths words) ≡ largest lengths
+longest-split_by lengths words whole = sym (largest-lengths (split_by lengths words)) ∙ ap largest (split_lengths lengths words (omega arith))
+
+-- the blocks that are left are the next one and the others
+pub split_by-next : (lengths words : List ℕ) (i start : ℕ) → i < length lengths
+    → split_by (drop i lengths) (drop start words) ≡ take (get_or lengths i 0) (drop start words) ∷ split_by (drop (i + 1) lengths) (drop (start + get_or lengths i 0) words)
+unfolding split_by
+split_by-next lengths words i start h = rw (drop_more lengths i 0 h, ← drop-drop (get_or lengths i 0) start words) refl
+
+pub split_by-none_left : (lengths words : List ℕ) (i : ℕ) → length lengths ≤ i → split_by (drop i lengths) words ≡ []
+unfolding split_by
+split_by-none_left lengths words i h = rw (drop_all i lengths h) refl
+
+-- what is made of each block in the same length is cut apart again
+pub split_by-flat_map : (f : List ℕ → List ℕ) (k : ℕ) (P : List ℕ → Type 0) (blocks : Blocks) → ((block : List ℕ) → P block → length (f block) ≡ k) → AllByRecursion P blocks
+    → split_by (replicate (length blocks) k) (flat_map f blocks) ≡ map f blocks
+unfolding split_by
+split_by-flat_map f k P [] each w = refl
+split_by-flat_map f k P (block ∷ blocks) each w =
+    let first : take k (f block ++ flat_map f blocks) ≡ f block = take_front k (f block) (flat_map f blocks) (each block w.0) in
+    let rest : drop k (f block ++ flat_map f blocks) ≡ flat_map f blocks = drop_front k (f block) (flat_map f blocks) (each block w.0) in
+    rw (first, rest, split_by-flat_map f k P blocks each w.1) refl
+
+pub length-flat_map : (f : List ℕ → List ℕ) (k : ℕ) (P : List ℕ → Type 0) (blocks : Blocks) → ((block : List ℕ) → P block → length (f block) ≡ k) → AllByRecursion P blocks
+    → length (flat_map f blocks) ≡ length blocks * k
+length-flat_map f k P [] each w = omega arith
+length-flat_map f k P (block ∷ blocks) each w = omega (arith, length-append (f block) (flat_map f blocks), each block w.0, length-flat_map f k P blocks each w.1)
+
+-- a slice of bytes
+pub AreBytes-slice : (bytes : List ℕ) → ((i : ℕ) → get_or bytes i 0 < 256) → AreBytes bytes
+AreBytes-slice bytes each = recursion_from_All (λ b. b < 256) bytes (All-from_get_or (λ b. b < 256) bytes 0 (λ i h. each i))
+
+-- the parity of the blocks of a symbol
+pub record HasBlocks (version : ℕ) (level : Level) (message : List ℕ) : Type 0 where
+  pub count : length (block_lengths version level) ≡ block_count version level
+  pub whole : sum (block_lengths version level) ≡ length message
+  pub parities : length (flat_map (parity_of (parity_length version level)) (blocks_of version level message)) ≡ block_count version level * parity_length version level
+  pub cut : split_by (replicate (length (block_lengths version level)) (parity_length version level)) (flat_map (parity_of (parity_length version level)) (blocks_of version level message))
+      ≡ map (parity_of (parity_length version level)) (blocks_of version level message)
+  pub few : block_count version level ≤ 8
+  pub some_parity : 1 ≤ parity_length version level
+  pub few_parity : parity_length version level ≤ 30
+  pub total : length message + block_count version level * parity_length version level ≤ 346
+
+pub HasBlocks-message : (version : ℕ) (level : Level) (message : List ℕ) → 1 ≤ version → version ≤ 10 → ParityIsRemainder → RemaindersAreCodewords → AreBytes message
+    → length message ≡ data_codewords version level → HasBlocks version level message
+HasBlocks-message version level message low high remainder codeword w whole =
+    let k = parity_length version level in
+    let lengths = block_lengths version level in
+    let blocks = blocks_of version level message in
+    let sound = HasSoundBlocks-of version level low high in
+    let shapes = lengths_hold version level sound.some_blocks in
+    let law = HasParity-from_law remainder codeword k sound.some_parity in
+    let bytes : AllByRecursion AreBytes blocks = AreBytes-split lengths message w in
+    let same : length blocks ≡ length lengths = length-split_by lengths message in
+    record {
+      count = shapes.1;
+      whole = shapes.0 ∙ sym whole;
+      parities = length-flat_map (parity_of k) k AreBytes blocks law.count bytes ∙ ap (λ n. n * k) (same ∙ shapes.1);
+      cut = rw (← same) (split_by-flat_map (parity_of k) k AreBytes blocks law.count bytes);
+      few = sound.few_blocks;
+      some_parity = sound.some_parity;
+      few_parity = sound.few_parity;
+      total = omega (arith, total_is version level sound, sound.few_words);
+    }
+
+-- the bits of a segment of the first bytes
+pub length-segment_bits_front : (version : ℕ) (mode : Mode) (n : ℕ) (bytes : List ℕ) → n ≤ length bytes
+    → length (segment_bits version mode (take n bytes)) ≡ 4 + count_width version mode + payload_length mode n
+length-segment_bits_front version mode n bytes h = length-segment_bits version mode (take n bytes) ∙ ap (λ k. 4 + count_width version mode + payload_length mode k) (length-take-le n bytes h)
+
+pub aligned-fits : (size : ℕ) (bits : List Bool) → length bits ≤ 8 * size → length (aligned (terminated (8 * size) bits)) ≤ 8 * size
+aligned-fits size bits h =
+    let a = aligned_is size bits h in
+    omega (arith, ap length a.2, length-append bits a.1, a.3, a.4)
+
+pub length-data_of : (version : ℕ) (level : Level) (segments : List Segment) (bytes : List ℕ) → IsSegmentation version segments bytes → cost version segments ≤ capacity version level
+    → length (data_of version level segments bytes) ≡ data_codewords version level
+unfolding data_of
+length-data_of version level segments bytes held fits =
+    length-padded (data_codewords version level) (segments_bits version segments bytes) (omega (arith, length-segments_bits version segments bytes held))

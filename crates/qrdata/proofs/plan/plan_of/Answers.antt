@@ -1,0 +1,42 @@
+use Rattle.std.proofs.Common.{◌≡◌, ◌≤◌, ◌++◌, ℕ, List, drop, length, append_assoc, append-nil, arith, ap, refl, length-append, lit<}
+use Rattle.std.proofs.lemmas.List.{drop_all}
+use Rattle.qrdata.specs.declared.mode.Segment.{Segment}
+use Rattle.qrdata.specs.Fewest.{chosen_segments}
+use Rattle.qrdata.proofs.BestLaw.{chosen_segments-nil}
+use Rattle.qrdata.proofs.TableSteps.{IsNamed-first}
+use Rattle.qrdata.proofs.plan.plan_of.Goals as goal
+
+pub loop-place-init : goal.loop-place-init
+loop-place-init c = (rw c.new-segments.ensures refl, omega arith)
+
+pub push-requires : goal.push-requires
+push-requires c =
+    let named = IsNamed-first c.args.version.number c.args.data.now c.args.firsts.now c.loop-place.place c.loop-place-test.true (omega (arith, c.requires.few, c.requires.size)) c.requires.firsts in
+    let all = rw named.next at c.loop-place.invariant.0 in
+    (lit< tt, omega (arith, ap length all, length-append {A = Segment}, c.requires.short))
+
+pub overflow_add-place : goal.overflow_add-place
+overflow_add-place c =
+    let named = IsNamed-first c.args.version.number c.args.data.now c.args.firsts.now c.loop-place.place c.loop-place-test.true (omega (arith, c.requires.few, c.requires.size)) c.requires.firsts in
+    omega (arith, named.inside, c.requires.few, c.from-place.ensures)
+
+pub loop-place-smaller : goal.loop-place-smaller
+loop-place-smaller c =
+    let named = IsNamed-first c.args.version.number c.args.data.now c.args.firsts.now c.loop-place.place c.loop-place-test.true (omega (arith, c.requires.few, c.requires.size)) c.requires.firsts in
+    omega (arith, named.some, named.inside, c.from-place.ensures)
+
+pub loop-place-preserved : goal.loop-place-preserved
+loop-place-preserved c =
+    let named = IsNamed-first c.args.version.number c.args.data.now c.args.firsts.now c.loop-place.place c.loop-place-test.true (omega (arith, c.requires.few, c.requires.size)) c.requires.firsts in
+    (rw (c.push.ensures.items, c.from-place.ensures, append_assoc) (rw named.next at c.loop-place.invariant.0), omega (arith, named.inside, c.from-place.ensures))
+
+whole : (version : ℕ) (bytes : List ℕ) (place : ℕ) (segments : List Segment) → segments ++ chosen_segments version (drop place bytes) ≡ chosen_segments version bytes → length bytes ≤ place → segments ≡ chosen_segments version bytes
+whole version bytes place segments e past = rw (drop_all place bytes past, chosen_segments-nil version, append-nil) at e
+
+pub invariant_of-result : goal.invariant_of-result
+invariant_of-result c =
+    rw (whole c.args.version.number c.args.data.now c.loop-place.place c.loop-place.segments.items c.loop-place.invariant.0 c.loop-place-test.false) c.requires.bits
+
+pub returns : goal.returns
+returns c =
+    rw (whole c.args.version.number c.args.data.now c.loop-place.place c.loop-place.segments.items c.loop-place.invariant.0 c.loop-place-test.false) refl

@@ -1,0 +1,17 @@
+use Rattle.std.proofs.Common.{◌≤◌, ◌*◌, arith, refl}
+use Rattle.qrdata.specs.Versions.{data_codewords}
+use Rattle.qrdata.proofs.VersionTable.{HasSoundBlocks-of}
+use Rattle.qrdata.proofs.version.Version.data_words.Goals as goal
+
+pub overflow_sub-result : goal.overflow_sub-result
+overflow_sub-result c = rw (c.total_words.ensures, c.blocks-2.ensures, c.parity.ensures) (HasSoundBlocks-of c.args.self.number c.args.level c.args.self.at_least c.args.self.at_most).room
+
+pub overflow_mul-result : goal.overflow_mul-result
+overflow_mul-result c =
+    let within : c.blocks-2.result * c.parity.result ≤ c.total_words.result =
+    rw (c.total_words.ensures, c.blocks-2.ensures, c.parity.ensures) (HasSoundBlocks-of c.args.self.number c.args.level c.args.self.at_least c.args.self.at_most).room in
+    omega (arith, within, c.total_words.type_inv)
+
+pub returns : goal.returns
+unfolding data_codewords
+returns c = rw (c.total_words.ensures, c.blocks-2.ensures, c.parity.ensures) refl

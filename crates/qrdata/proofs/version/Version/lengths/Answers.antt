@@ -1,0 +1,51 @@
+use Rattle.std.proofs.Common.{◌-◌, ◌/◌, ◌%◌, ◌<◌, length, replicate, arith, ap, refl, length-append}
+use Rattle.std.proofs.Math.Nat.{mod-lt, div-le_self}
+use Rattle.qrdata.specs.Versions.{block_lengths}
+use Rattle.std.proofs.lemmas.List.{length-replicate}
+use Rattle.qrdata.proofs.VersionTable.{capacity-le, HasSoundBlocks-of}
+use Rattle.qrdata.proofs.version.Version.lengths.Goals as goal
+
+pub nonzero_rem-words : goal.nonzero_rem-words
+nonzero_rem-words c = omega (arith, c.blocks-blocks.ensures, (HasSoundBlocks-of c.args.self.number c.args.level c.args.self.at_least c.args.self.at_most).some_blocks)
+
+pub overflow_sub-blocks : goal.overflow_sub-blocks
+overflow_sub-blocks c =
+    let some : 0 < c.blocks-blocks.result = nonzero_rem-words c in
+    omega (arith, mod-lt c.data_words-words.result some)
+
+pub push_lengths-requires : goal.push_lengths-requires
+push_lengths-requires c = record { room = omega (arith, ap length c.new-lengths.ensures, c.blocks-blocks.ensures, (HasSoundBlocks-of c.args.self.number c.args.level c.args.self.at_least c.args.self.at_most).few_blocks) }
+
+pub overflow_add-words : goal.overflow_add-words
+overflow_add-words c =
+    omega (arith, div-le_self c.data_words-words.result c.blocks-blocks.result, c.data_words-words.ensures, capacity-le c.args.level c.args.self.number c.args.self.at_least c.args.self.at_most)
+
+pub push_lengths-requires-2 : goal.push_lengths-requires-2
+push_lengths-requires-2 c =
+    let some : 0 < c.blocks-blocks.result = omega (arith, c.blocks-blocks.ensures, (HasSoundBlocks-of c.args.self.number c.args.level c.args.self.at_least c.args.self.at_most).some_blocks) in
+    let short = c.blocks-blocks.result - c.data_words-words.result % c.blocks-blocks.result in
+    record {
+      room = omega (
+        arith,
+        ap length c.push_lengths.ensures,
+        ap length c.new-lengths.ensures,
+        length-append c.new-lengths.result.items (replicate short (c.data_words-words.result / c.blocks-blocks.result)),
+        length-replicate short (c.data_words-words.result / c.blocks-blocks.result),
+        mod-lt c.data_words-words.result some,
+        c.blocks-blocks.ensures,
+        (HasSoundBlocks-of c.args.self.number c.args.level c.args.self.at_least c.args.self.at_most).few_blocks,
+      );
+    }
+
+pub returns : goal.returns
+unfolding block_lengths
+returns c = rw (c.push_lengths-2.ensures, c.push_lengths.ensures, c.new-lengths.ensures, c.blocks-blocks.ensures, c.data_words-words.ensures) refl
+
+pub nonzero_div-words : goal.nonzero_div-words
+nonzero_div-words c = omega (arith, c.blocks-blocks.ensures, (HasSoundBlocks-of c.args.self.number c.args.level c.args.self.at_least c.args.self.at_most).some_blocks)
+
+pub nonzero_rem-words-2 : goal.nonzero_rem-words-2
+nonzero_rem-words-2 c = omega (arith, c.blocks-blocks.ensures, (HasSoundBlocks-of c.args.self.number c.args.level c.args.self.at_least c.args.self.at_most).some_blocks)
+
+pub nonzero_div-words-2 : goal.nonzero_div-words-2
+nonzero_div-words-2 c = omega (arith, c.blocks-blocks.ensures, (HasSoundBlocks-of c.args.self.number c.args.level c.args.self.at_least c.args.self.at_most).some_blocks)

@@ -1,0 +1,63 @@
+-- From segments to the codewords of a symbol (ISO/IEC 18004, 7.4.9, 7.4.10, 7.5 and 7.6).
+use Rattle.std.specs.Prelude.{ℕ, zero, suc, ◌-◌, ◌*◌, ◌/◌, ◌%◌, List, [], ◌∷◌, ◌++◌, map, length, take, drop, replicate, slice_get, Bool, false, max, min}
+use Rattle.std.specs.List.{filter_map, flat_map, range_with_len}
+use Rattle.gf256.specs.Parity.{parity_of}
+use Rattle.labelcore.specs.declared.options.Level.{Level}
+use Rattle.qrdata.specs.declared.mode.Segment.{Segment}
+use Rattle.qrdata.specs.Bits.{codewords_of}
+use Rattle.qrdata.specs.Segments.{segments_bits}
+use Rattle.qrdata.specs.Versions.{data_codewords, block_lengths, parity_length}
+
+-- the bits followed by the terminator, four zeros or as many as are left
+unfoldable pub terminated : ℕ → List Bool → List Bool
+terminated capacity bits = bits ++ replicate (min 4 (capacity - length bits)) false
+
+-- zeros to the end of a codeword
+unfoldable pub aligned : List Bool → List Bool
+aligned bits = bits ++ replicate ((8 - length bits % 8) % 8) false
+
+-- the padding: 236 and 17 in turn
+abbrev pub pad_codewords : ℕ → List ℕ
+pad_codewords zero = []
+pad_codewords (suc zero) = 236 ∷ []
+pad_codewords (suc (suc n)) = 236 ∷ 17 ∷ pad_codewords n
+
+-- so many codewords: those of the bits, and the padding
+unfoldable pub filled : ℕ → List Bool → List ℕ
+filled size bits = codewords_of (length bits / 8) bits ++ pad_codewords (size - length bits / 8)
+
+-- so many data codewords: the bits, the terminator, zeros to the end of a codeword, and the padding
+unfoldable pub padded : ℕ → List Bool → List ℕ
+padded size bits = filled size (aligned (terminated (8 * size) bits))
+
+-- the data codewords of the segments
+unfoldable pub data_of : ℕ → Level → List Segment → List ℕ → List ℕ
+data_of version level segments bytes = padded (data_codewords version level) (segments_bits version segments bytes)
+
+-- words cut into blocks of these lengths
+unfoldable pub split_by : List ℕ → List ℕ → List (List ℕ)
+split_by [] words = []
+split_by (n ∷ lengths) words = take n words ∷ split_by lengths (drop n words)
+
+-- the words at a place of the blocks that have one, block by block
+abbrev pub words_at : {A : Type 0} → List (List A) → ℕ → List A
+words_at blocks place = filter_map (λ block. slice_get block place) blocks
+
+-- the length of the longest block
+abbrev pub longest : {A : Type 0} → List (List A) → ℕ
+longest [] = 0
+longest (block ∷ blocks) = max (length block) (longest blocks)
+
+-- the words of the blocks in the order of their places, and at one place in the order of the blocks
+unfoldable pub interleaved : {A : Type 0} → List (List A) → List A
+interleaved blocks = flat_map (words_at blocks) (range_with_len 0 (longest blocks))
+
+-- the blocks of the data codewords
+abbrev pub blocks_of : ℕ → Level → List ℕ → List (List ℕ)
+blocks_of version level words = split_by (block_lengths version level) words
+
+-- the codewords of a symbol: those of the blocks interleaved, then their parity codewords interleaved
+unfoldable pub symbol_codewords : ℕ → Level → List Segment → List ℕ → List ℕ
+symbol_codewords version level segments bytes =
+    let blocks = blocks_of version level (data_of version level segments bytes) in
+    interleaved blocks ++ interleaved (map (parity_of (parity_length version level)) blocks)

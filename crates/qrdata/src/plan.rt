@@ -1,0 +1,162 @@
+//! The choice of a version and of segments.
+ghost use Rattle.labelcore.specs.declared.fault.Fault.TheVariants.{DoesNotFit};
+ghost use Rattle.qrdata.specs.Fewest.{chosen_segments, chosen_version, NoneFits};
+ghost use Rattle.qrdata.specs.Segments.{IsSegmentation, cost};
+ghost use Rattle.qrdata.specs.Table.{HasFirsts, IsLeastPlan, NoPlan, SameWidths};
+ghost use Rattle.qrdata.specs.Versions.{capacity};
+ghost use Rattle.qrdata.specs.declared.mode.Segment.{Segment};
+ghost use Rattle.std.specs.Prelude.{Some, None, length, ◌≡◌, ◌≤◌, ◌<◌, IfErr, IfNone, IfOk, IfSome, ℕ, List};
+
+use crate::mode::{Mode, Segment};
+use crate::table::{MAX_BYTES, fill};
+use crate::version::Version;
+use arrayvec::ArrayVec;
+use labelcore::{Fault, Level, Options};
+use std::marker::Model;
+
+/// What is chosen for a symbol: its version, its level and the segments of its data.
+#[derive(Drop)]
+pub struct Plan {
+    version: Version,
+    level: Level,
+    segments: ArrayVec<Segment, 109>,
+    bits: u32,
+}
+
+impl Model for Plan {
+    ghost use Rattle.std.specs.Prelude.{◌≡◌};
+    ghost use Rattle.qrdata.specs.PlanView.{PlanView};
+    ghost use Rattle.qrdata.specs.Segments.{cost};
+
+    ghost Value = { PlanView };
+
+    ghost view = { λ p. record { version = p.version.number; level = p.level; segments = p.segments.items } };
+
+    ghost invariant = { λ p. p.bits ≡ cost p.version.number p.segments.items };
+}
+
+impl Plan {
+    /// The version of the symbol.
+    pub fn version(&self) -> Version
+        ensures { result.number ≡ self.now.version }
+    {
+        self.version
+    }
+
+    /// The error correction level of the symbol.
+    pub fn level(&self) -> Level
+        ensures { result ≡ self.now.level }
+    {
+        self.level
+    }
+
+    /// The segments, from the front of the data.
+    pub fn segments(&self) -> &[Segment]
+        ensures { result.now ≡ self.now.segments }
+    {
+        self.segments.as_slice()
+    }
+
+    /// The bits of the segments, with their modes and character counts.
+    pub fn bits(&self) -> u32
+        ensures { result ≡ cost self.now.version self.now.segments }
+    {
+        self.bits
+    }
+}
+
+/// Chooses the least version, from that of the options to 10, in which some segments of the data fit, and of all lists
+/// of segments that of the fewest bits in it. The level is that of the options. Empty data has no segments.
+///
+/// Data that fits in none of these versions is the fault [`Fault::DoesNotFit`] with the level.
+pub fn choose(options: &Options, data: &[u8]) -> Result<Plan, Fault>
+    ensures version { IfOk result (λ plan. chosen_version options.now.min_version options.now.level «data».now ≡ Some plan.version) }
+    ensures level { IfOk result (λ plan. plan.level ≡ options.now.level) }
+    ensures segments { IfOk result (λ plan. plan.segments ≡ chosen_segments plan.version «data».now) }
+    ensures fault { IfErr result (λ fault. fault ≡ DoesNotFit options.now.level) }
+    ensures no_version { IfErr result (λ fault. chosen_version options.now.min_version options.now.level «data».now ≡ None) }
+
+    // The segments are segments of the data and fit, and no others cost less.
+    ensures cut { IfOk result (λ plan. IsSegmentation plan.version plan.segments «data».now) }
+    ensures fits { IfOk result (λ plan. cost plan.version plan.segments ≤ capacity plan.version plan.level) }
+    ensures fewest { IfOk result (λ plan. (segments : List Segment) → IsSegmentation plan.version segments «data».now → cost plan.version plan.segments ≤ cost plan.version segments) }
+
+    // No segments of the data fit in a lower version, and after a refusal in none.
+    ensures least { IfOk result (λ plan. (v : ℕ) → options.now.min_version ≤ v → v < plan.version → NoneFits v plan.level «data».now) }
+    ensures nowhere { IfErr result (λ fault. (v : ℕ) → options.now.min_version ≤ v → v ≤ 10 → NoneFits v options.now.level «data».now) }
+{
+    let level = options.level();
+    match plan_from(options.min_version(), level, data) {
+        Some(plan) => Ok(plan),
+        None => Err(Fault::DoesNotFit(level)),
+    }
+}
+
+/// The plan of the least version from the lowest one to 10. One table of best segments serves all versions up to 9, and
+/// a second one version 10.
+fn plan_from(lowest: u8, level: Level, data: &[u8]) -> Option<Plan>
+    requires low { 1 ≤ lowest }
+    requires high { lowest ≤ 10 }
+    ensures some { IfSome result (IsLeastPlan lowest 10 level «data».now) }
+    ensures none { IfNone result (NoPlan lowest 10 level «data».now) }
+{
+    if data.len() > MAX_BYTES {
+        return None;
+    }
+    if lowest < 10 {
+        if let Some(plan) = plan_between(lowest, 9, level, data) {
+            return Some(plan);
+        }
+    }
+    plan_between(10, 10, level, data)
+}
+
+/// The plan of the least version from the lowest one to the highest one. In all of these a character count has the same
+/// bits, so that the best segments are the same.
+fn plan_between(lowest: u8, highest: u8, level: Level, data: &[u8]) -> Option<Plan>
+    requires few { length «data».now ≤ 652 }
+    requires low { 1 ≤ lowest }
+    requires some { lowest ≤ highest }
+    requires high { highest ≤ 10 }
+    requires same { (v : ℕ) → lowest ≤ v → v ≤ highest → SameWidths v highest }
+    ensures some { IfSome result (IsLeastPlan lowest highest level «data».now) }
+    ensures none { IfNone result (NoPlan lowest highest level «data».now) }
+{
+    let mut bits = [0; 653];
+    let mut firsts = [Segment {
+        mode: Mode::Byte,
+        len: 0,
+    }; 653];
+    fill(Version { number: highest }, data, &mut bits, &mut firsts);
+    for number in lowest..highest + 1 {
+        let version = Version { number };
+        if usize::from(bits[0]) <= 8 * version.data_words(level) {
+            return Some(plan_of(version, level, data, &firsts, u32::from(bits[0])));
+        }
+    }
+    None
+}
+
+/// The plan of the segments that a table names, from the front of the data. They have this many bits.
+fn plan_of(version: Version, level: Level, data: &[u8], firsts: &[Segment], bits: u32) -> Plan
+    requires few { length «data».now ≤ 652 }
+    requires size { length firsts.now ≡ 653 }
+    requires firsts { HasFirsts version.number «data».now 0 firsts.now }
+    requires short { length (chosen_segments version.number «data».now) ≤ 109 }
+    requires bits { bits ≡ cost version.number (chosen_segments version.number «data».now) }
+    ensures { result ≡ record { version = version.number; level = level; segments = chosen_segments version.number «data».now } }
+{
+    let mut segments = ArrayVec::new();
+    let mut place = 0;
+    while place < data.len() {
+        let first = firsts[place];
+        segments.push(first);
+        place += usize::from(first.len);
+    }
+    Plan {
+        version,
+        level,
+        segments,
+        bits,
+    }
+}

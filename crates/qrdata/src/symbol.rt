@@ -1,0 +1,71 @@
+//! The codewords of a symbol.
+ghost use Rattle.arrayvec.specs.ArrayVec.{array_vec_len};
+ghost use Rattle.gf256.specs.Parity.{parity_of};
+ghost use Rattle.qrdata.specs.Codewords.{interleaved, blocks_of, data_of, symbol_codewords};
+ghost use Rattle.qrdata.specs.Versions.{capacity};
+ghost use Rattle.qrdata.specs.Reading.{data_in};
+ghost use Rattle.qrdata.specs.Segments.{IsSegmentation, cost};
+ghost use Rattle.qrdata.specs.Versions.{data_codewords, parity_length, total_codewords};
+ghost use Rattle.qrdata.specs.declared.mode.Segment.{Segment};
+ghost use Rattle.std.specs.Prelude.{Some, length, ◌≡◌, ◌+◌, ◌≤◌, ◌++◌, ◌/◌, [], map};
+
+use crate::bits::{Bits, end_bits, push_codewords, push_padding, push_segments};
+use crate::blocks::{Lengths, Words, interleave, push_lengths, push_parity};
+use crate::mode::Segment;
+use crate::plan::Plan;
+use crate::version::Version;
+use labelcore::Level;
+
+/// The codewords of the symbol of a plan that holds the bytes.
+pub fn codewords(plan: &Plan, bytes: &[u8], words: &mut Words)
+    requires cut { IsSegmentation plan.now.version plan.now.segments bytes.now }
+    requires fits { cost plan.now.version plan.now.segments ≤ capacity plan.now.version plan.now.level }
+    ensures words { words.new.items ≡ symbol_codewords plan.now.version plan.now.level plan.now.segments bytes.now }
+    ensures len { array_vec_len words.new ≡ total_codewords plan.now.version }
+    ensures read { data_in plan.now.version plan.now.level words.new.items ≡ Some bytes.now }
+{
+    let version = plan.version();
+    let level = plan.level();
+    let mut message = Words::new();
+    push_data(version, level, plan.segments(), bytes, &mut message);
+    write_symbol(version, level, message.as_slice(), words);
+    gf256::parity_is_sound();
+}
+
+/// Writes the data codewords of the segments.
+pub(crate) fn push_data(
+    version: Version,
+    level: Level,
+    segments: &[Segment],
+    bytes: &[u8],
+    message: &mut Words,
+)
+    requires empty { message.old.items ≡ [] }
+    requires cut { IsSegmentation version.number segments.now bytes.now }
+    requires fits { cost version.number segments.now ≤ capacity version.number level }
+    ensures { message.new.items ≡ data_of version.number level segments.now bytes.now }
+{
+    let size = version.data_words(level);
+    let mut bits = Bits::new();
+    push_segments(&mut bits, version, segments, bytes);
+    end_bits(&mut bits, size);
+    push_codewords(bits.as_slice(), message);
+    push_padding(size - bits.len() / 8, message);
+}
+
+/// Writes the blocks of data interleaved, and then their parity codewords interleaved.
+pub(crate) fn write_symbol(version: Version, level: Level, message: &[u8], words: &mut Words)
+    requires whole { length message.now ≡ data_codewords version.number level }
+    ensures { words.new.items ≡ interleaved (blocks_of version.number level message.now) ++ interleaved (map (parity_of (parity_length version.number level)) (blocks_of version.number level message.now)) }
+{
+    gf256::parity_is_sound();
+    let count = version.parity(level);
+    let lengths = version.lengths(level);
+    let mut parity_lengths = Lengths::new();
+    push_lengths(&mut parity_lengths, lengths.len(), count);
+    let mut parity = Words::new();
+    push_parity(count, lengths.as_slice(), message, &mut parity);
+    words.clear();
+    interleave(lengths.as_slice(), message, words);
+    interleave(parity_lengths.as_slice(), parity.as_slice(), words);
+}
