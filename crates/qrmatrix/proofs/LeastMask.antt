@@ -9,7 +9,6 @@ use Rattle.std.proofs.lemmas.List.FromFn.{get_or-map-range_with_len}
 use Rattle.qrmatrix.specs.MaskChoice.{least_place}
 use Rattle.qrmatrix.specs.Penalty.{penalty}
 
-
 -- among the first n numbers, f is least at k, and is greater before it
 pub record Least (f : ℕ → ℕ) (n k : ℕ) : Type 0 where
   pub among : k < n

@@ -5,7 +5,7 @@ use Rattle.std.specs.Prelude.{slice_index, slice_set}
 use Rattle.std.specs.List.{range_with_len}
 use Rattle.labelcore.specs.declared.options.Level.TheVariants.{M}
 use Rattle.qrmatrix.specs.Bits.{bit}
-use Rattle.qrmatrix.specs.MaskChoice.{chosen_mask, penalties}
+use Rattle.qrmatrix.specs.MaskChoice.{penalties}
 use Rattle.qrmatrix.specs.Modules.{module_at}
 use Rattle.qrmatrix.specs.Penalty.{penalty}
 use Rattle.qrmatrix.specs.Reading.{Reading, low_first, read_matrix}

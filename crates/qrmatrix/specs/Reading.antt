@@ -1,5 +1,5 @@
 -- The reading of a symbol's modules, m x y being the module at column x and row y of n by n (ISO/IEC 18004, 12).
-use Rattle.std.specs.Prelude.{ℕ, zero, suc, ◌+◌, ◌-◌, ◌*◌, ◌/◌, ◌%◌, ◌^◌, Bool, true, cond, not, ◌&&◌, ◌||◌, ◌==◌, nat_le, if◌then◌else◌, List, [], ◌∷◌, ◌++◌, map, reverse, take, drop, Option, None, Some, bit_xor, slice_index}
+use Rattle.std.specs.Prelude.{ℕ, zero, suc, ◌+◌, ◌-◌, ◌*◌, ◌/◌, ◌%◌, ◌^◌, Bool, true, cond, not, ◌&&◌, ◌||◌, ◌==◌, nat_le, if◌then◌else◌, List, [], ◌∷◌, ◌++◌, map, reverse, take, drop, Option, None, Some, bit_xor}
 use Rattle.std.specs.Bool.{beq}
 use Rattle.std.specs.List.{range_with_len, filter}
 use Rattle.labelcore.specs.declared.options.Level.{Level}

@@ -167,13 +167,7 @@ fn alignment_in(n: usize, a: usize, rows: &[usize], x: usize, y: usize) -> Optio
 }
 
 /// The first alignment pattern that has the module.
-fn alignment_over(
-    n: usize,
-    columns: &[usize],
-    rows: &[usize],
-    x: usize,
-    y: usize,
-) -> Option<bool>
+fn alignment_over(n: usize, columns: &[usize], rows: &[usize], x: usize, y: usize) -> Option<bool>
     requires { 21 ≤ n }
     ensures { result ≡ Functions.alignment_over n columns.now rows.now x y }
 {

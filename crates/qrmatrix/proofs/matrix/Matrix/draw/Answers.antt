@@ -1,7 +1,6 @@
 use Rattle.std.proofs.Common.{◌≡◌, ℕ, arith, rules, sym, ap, subst, ◌∙◌, ◌<◌, false}
 use mathlib.Core.Path.{fun_ext}
 use Rattle.std.specs.Prelude.{All, Option}
-use Rattle.qrdata.specs.Versions.{side_of}
 use Rattle.qrmatrix.specs.MaskChoice.{chosen_mask}
 use Rattle.qrmatrix.specs.Modules.{is_inside, module_at}
 use Rattle.qrmatrix.specs.Square.{value_at}
@@ -43,16 +42,16 @@ returns-clause-reads c =
     let below : mask < 8 = elim c.match-mask.branch [ in-Some w ↦ search rules | in-None w ↦ search rules ] in
     let bytes : All (λ w. w < 256) words = rw c.deref.ensures.0 at c.are_bytes.ensures in
     let same : value_at c.under.result ≡ module_at v c.args.level mask words = fun_ext (λ x. fun_ext (λ y. shown c x y)) in
-    rw (same, c.side.ensures) (reads_back v c.args.level mask words c.args.version.from c.args.version.to below c.requires.count bytes)
+    rw (same, c.side.ensures) (reads_back v c.args.level mask words c.args.version.at_least c.args.version.at_most below c.requires.count bytes)
 
 pub returns-clause-room : goal.returns-clause-room
 returns-clause-room c =
-    rw c.requires.count (computed c.args.version.number c.args.version.from c.args.version.to).count
+    rw c.requires.count (computed c.args.version.number c.args.version.at_least c.args.version.at_most).count
 
 pub invariant_of-result : goal.invariant_of-result
 invariant_of-result c =
     record {
-      least = let a = c.args.version.from in omega arith;
-      most = let a = c.args.version.to in omega arith;
+      least = let a = c.args.version.at_least in omega arith;
+      most = let a = c.args.version.at_most in omega arith;
       within = light c;
     }
