@@ -2,6 +2,7 @@
 use Rattle.std.proofs.Common.{◌≡◌, ℕ, zero, suc, ◌<◌, ◌≤◌, refl, arith, Bool, true, Some}
 use Rattle.std.specs.Prelude.{map, nat_le}
 use Rattle.std.specs.List.{range_with_len, list_all}
+use Rattle.gf256.specs.BinaryPolynomial.{binary_remainder}
 use Rattle.labelcore.specs.declared.options.Level.{Level}
 use Rattle.qrmatrix.specs.declared.function.Role.TheVariants.{Format, Version}
 use Rattle.labelcore.specs.declared.options.Level.TheVariants.{L, M, Q, H}
@@ -31,7 +32,7 @@ pub record FormatRead (level : Level) (mask : ℕ) : Type 0 where
   pub decoded : read_format_word (format_word level mask) ≡ Some (level, mask)
 
 pub format_read : (level : Level) (mask : ℕ) → mask < 8 → FormatRead level mask
-unfolding format_word
+unfolding format_word binary_remainder
 format_read L = by_mask (FormatRead L) (record { from_bits = refl; decoded = refl }) (record { from_bits = refl; decoded = refl }) (record { from_bits = refl; decoded = refl }) (record { from_bits = refl; decoded = refl }) (record { from_bits = refl; decoded = refl }) (record { from_bits = refl; decoded = refl }) (record { from_bits = refl; decoded = refl }) (record { from_bits = refl; decoded = refl })
 format_read M = by_mask (FormatRead M) (record { from_bits = refl; decoded = refl }) (record { from_bits = refl; decoded = refl }) (record { from_bits = refl; decoded = refl }) (record { from_bits = refl; decoded = refl }) (record { from_bits = refl; decoded = refl }) (record { from_bits = refl; decoded = refl }) (record { from_bits = refl; decoded = refl }) (record { from_bits = refl; decoded = refl })
 format_read Q = by_mask (FormatRead Q) (record { from_bits = refl; decoded = refl }) (record { from_bits = refl; decoded = refl }) (record { from_bits = refl; decoded = refl }) (record { from_bits = refl; decoded = refl }) (record { from_bits = refl; decoded = refl }) (record { from_bits = refl; decoded = refl }) (record { from_bits = refl; decoded = refl }) (record { from_bits = refl; decoded = refl })

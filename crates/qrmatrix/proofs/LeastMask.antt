@@ -20,41 +20,6 @@ pub record Found (f : ℕ → ℕ) (n k value : ℕ) : Type 0 where
   pub least : Least f n k
   pub at : value ≡ f k
 
-pub found_first : (f : ℕ → ℕ) (value : ℕ) → value ≡ f 0 → Found f 1 0 value
-found_first f value e =
-    record { least = record { among = omega arith; least = λ j l. (let z : j ≡ 0 = omega arith in subst (λ j. f 0 ≤ f j) (sym z) (omega arith)); first = λ j l. absurd (omega arith) }; at = e }
-
--- the next value is less
-pub found_next : (f : ℕ → ℕ) (n k value next : ℕ) → Found f n k value → next ≡ f n → next < value → Found f (n + 1) n next
-found_next f n k value next h e less =
-    let below : f n < f k = let a = h.at in omega arith in
-    let all = λ (j : ℕ) (l : j < n). let b = h.least.least j l in let c : f n < f j = omega arith in c in
-    record {
-      least = record {
-        among = omega arith;
-        least = λ j l. elim (cases_eq j n) [ inl same ↦ subst (λ j. f n ≤ f j) (sym same) (omega arith) | inr ne ↦ (let c = all j (omega arith) in omega arith) ];
-        first = all;
-      };
-      at = e;
-    }
-
--- the next value is not less
-pub found_still : (f : ℕ → ℕ) (n k value next : ℕ) → Found f n k value → next ≡ f n → value ≤ next → Found f (n + 1) k value
-found_still f n k value next h e more =
-    let last : f k ≤ f n = let a = h.at in omega arith in
-    record {
-      least = record {
-        among = let a = h.least.among in omega arith;
-        least = λ j l. elim (cases_eq j n) [ inl same ↦ subst (λ j. f k ≤ f j) (sym same) last | inr ne ↦ h.least.least j (omega arith) ];
-        first = h.least.first;
-      };
-      at = h.at;
-    }
-
--- two symbols of the same modules have the same penalty
-pub penalty_drawn : (n : ℕ) (m d : ℕ → ℕ → Bool) → ((x y : ℕ) → m x y ≡ d x y) → penalty n m ≡ penalty n d
-penalty_drawn n m d h = ap (penalty n) (fun_ext (λ x. fun_ext (λ y. h x y)))
-
 -- a test of each of the numbers f 0, f 1, ..
 all_mapped : (f : ℕ → ℕ) (p : ℕ → Bool) (a n : ℕ) → ((j : ℕ) → a ≤ j → j < a + n → p (f j) ≡ true) → list_all p (map f (range_with_len a n)) ≡ true
 all_mapped f p a zero h = refl

@@ -2,11 +2,11 @@
 use Rattle.std.specs.Prelude.{ℕ, zero, suc, ◌+◌, ◌-◌, ◌*◌, ◌/◌, ◌%◌, ◌^◌, Bool, true, cond, not, ◌&&◌, ◌||◌, ◌==◌, nat_le, if◌then◌else◌, List, [], ◌∷◌, ◌++◌, map, reverse, take, drop, Option, None, Some, bit_xor}
 use Rattle.std.specs.Bool.{beq}
 use Rattle.std.specs.List.{range_with_len, filter}
+use Rattle.gf256.specs.BinaryPolynomial.{binary_remainder}
 use Rattle.labelcore.specs.declared.options.Level.{Level}
 use Rattle.labelcore.specs.declared.options.Level.TheVariants.{L, M, Q, H}
 use Rattle.qrdata.specs.Versions.{total_codewords, side_of}
 use Rattle.qrmatrix.specs.Counting.{all_below, one_if}
-use Rattle.qrmatrix.specs.Information.{remainder}
 use Rattle.qrmatrix.specs.Functions.{fixed, is_free}
 use Rattle.qrmatrix.specs.Masks.{is_flipped, flip_if}
 
@@ -45,19 +45,21 @@ level_of indicator = if indicator == 0 then M else (if indicator == 1 then L els
 abbrev pub read_format_word : ℕ → Option (Level × ℕ)
 read_format_word word =
     let codeword = bit_xor word 0x5412 in
-    if remainder 0x537 10 5 codeword == 0 then Some (level_of (codeword / 2 ^ 13), codeword / 2 ^ 10 % 8) else None
+    if binary_remainder 10 0x537 5 codeword == 0 then Some (level_of (codeword / 2 ^ 13), codeword / 2 ^ 10 % 8) else None
 
 -- the level and the mask, where both copies of the format information agree
 unfoldable pub read_format : ℕ → (ℕ → ℕ → Bool) → Option (Level × ℕ)
+unfolding binary_remainder
 read_format n m =
     cond (word_at m format_copy_1 == word_at m (format_copy_2 n)) (read_format_word (word_at m format_copy_1)) None
 
 -- whether both copies of the version information, where the version has it, are its codeword
 unfoldable pub shows_version : ℕ → ℕ → (ℕ → ℕ → Bool) → Bool
+unfolding binary_remainder
 shows_version v n m =
     let first = word_at m (version_copy_1 n) in
     let second = word_at m (version_copy_2 n) in
-    not (nat_le 7 v) || ((first == second) && ((remainder 0x1F25 12 6 first == 0) && (first / 2 ^ 12 == v)))
+    not (nat_le 7 v) || ((first == second) && ((binary_remainder 12 0x1F25 6 first == 0) && (first / 2 ^ 12 == v)))
 
 -- whether a module is the one that is fixed there, if any
 abbrev pub agrees : Option Bool → Bool → Bool

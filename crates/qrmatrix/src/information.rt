@@ -1,25 +1,26 @@
 //! The format information and the version information as numbers.
 ghost use Rattle.std.specs.Prelude.{◌≡◌, ◌+◌, ◌*◌, ◌^◌, ◌<◌, ◌≤◌};
+ghost use Rattle.gf256.specs.BinaryPolynomial.{binary_remainder};
 ghost use Rattle.qrmatrix.specs.Information;
 
 use labelcore::Level;
 use qrdata::Version;
 
-/// The remainder of `message`, of degree below `m + k`, by `g`, of degree `m`, as polynomials over two elements.
-fn remainder(g: u32, m: u32, k: u32, message: u32) -> u32
-    requires generator { g < 2 ^ 13 }
-    requires degree { m + k ≤ 18 }
-    requires steps { k ≤ 6 }
+/// The remainder of `message`, of degree below `degree + count`, by `modulus`, of that degree, as polynomials over two
+/// elements: bit i of a number is the coefficient of x^i.
+fn remainder(degree: u32, modulus: u32, count: u32, message: u32) -> u32
+    requires modulus { modulus < 2 ^ 13 }
+    requires degree { degree + count ≤ 18 }
+    requires count { count ≤ 6 }
     requires message { message < 2 ^ 18 }
-    ensures value { result ≡ Information.remainder g m k message }
+    ensures value { result ≡ binary_remainder degree modulus count message }
     ensures bound { result < 2 ^ 20 }
 {
     let mut rest = message;
-    let mut step = k;
-    while step > 0 {
-        step -= 1;
-        if (rest >> (m + step)) & 1 == 1 {
-            rest ^= g << step;
+    for i in 0..count {
+        let step = count - 1 - i;
+        if (rest >> (degree + step)) & 1 == 1 {
+            rest ^= modulus << step;
         }
     }
     rest
@@ -46,7 +47,7 @@ pub fn format_word(level: Level, mask: u8) -> u32
     ensures { result ≡ Information.format_word level mask }
 {
     let message = (level_indicator(level) * 8 + u32::from(mask)) << 10;
-    0x5412 ^ (message + remainder(0x537, 10, 5, message))
+    0x5412 ^ (message + remainder(10, 0x537, 5, message))
 }
 
 /// The version information of 18 bits: the version with its check bits (ISO/IEC 18004, 7.10).
@@ -55,5 +56,5 @@ pub fn version_word(version: Version) -> u32
     ensures { result ≡ Information.version_word version.number }
 {
     let message = u32::from(version.number()) << 12;
-    message + remainder(0x1F25, 12, 6, message)
+    message + remainder(12, 0x1F25, 6, message)
 }

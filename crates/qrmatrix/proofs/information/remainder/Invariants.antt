@@ -1,9 +1,9 @@
-use Rattle.std.proofs.Common.{◌≡◌, ◌^◌, ◌<◌, ◌≤◌}
-use Rattle.qrmatrix.specs.Information
+use Rattle.std.proofs.Common.{◌≡◌, ◌-◌, ◌^◌, ◌<◌}
+use Rattle.gf256.specs.BinaryPolynomial.{binary_remainder}
 use Rattle.qrmatrix.proofs.information.remainder.Given as goal
 
-abbrev pub invariant-loop-step : goal.invariant-loop-step
-invariant-loop-step l = record { same : Information.remainder l.g l.m l.step l.rest ≡ Information.remainder l.g l.m l.fn.k l.fn.message; within : l.step ≤ l.fn.k; bound : l.rest < 2 ^ 20 }
-
-abbrev pub decreases-loop-step : goal.decreases-loop-step
-decreases-loop-step l = l.step
+abbrev pub invariant-loop-i : goal.invariant-loop-i
+invariant-loop-i l = record {
+  same : binary_remainder l.degree l.modulus (l.count - l.i) l.rest ≡ binary_remainder l.degree l.modulus l.count l.fn.message;
+  bound : l.rest < 2 ^ 20;
+}
