@@ -5,7 +5,7 @@ ghost use Rattle.qrmatrix.specs.Drawing.{masked};
 ghost use Rattle.qrmatrix.specs.Masks;
 ghost use Rattle.qrmatrix.specs.Square.{value_at, SameOutside};
 
-use crate::row::low;
+use crate::row::low_ones;
 use crate::square::Square;
 
 /// Of each mask, the first six modules that it flips in each of the first twelve rows. They repeat after six columns and twelve rows.
@@ -64,7 +64,7 @@ pub fn apply_mask(n: usize, mask: u8, function: &Square, modules: &mut Square)
     ensures outside { SameOutside n modules.old modules.new }
 {
     for y in 0..n {
-        let free = low(n) & !function.row(y);
+        let free = low_ones(n) & !function.row(y);
         modules.flip(y, mask_word(mask, y) & free);
     }
 }

@@ -1,4 +1,4 @@
-//! The placement of the words: a cursor goes along the strips and counts the free modules.
+//! The placement of the codewords: a cursor goes along the strips and counts the free modules.
 ghost use Rattle.std.specs.Prelude.{◌≡◌, ℕ, ◌+◌, ◌-◌, ◌*◌, ◌/◌, ◌%◌, ◌^◌, ◌<◌, ◌≤◌, Bool, true, false, not, ◌&&◌, ◌==◌, if◌then◌else◌, IsTrue, IsFalse, nat_lt};
 ghost use Rattle.qrdata.specs.Versions.{side_of};
 ghost use Rattle.qrmatrix.specs.Functions.{is_free};
@@ -9,7 +9,7 @@ ghost use Rattle.qrmatrix.specs.Drawing.{MarksFunctions};
 use crate::square::Square;
 use qrdata::{Version, Words};
 
-/// Bit `i` of the words, the high bit of each word first, and light past their end.
+/// Bit `i` of the codewords, the high bit of each first, and light past their end.
 fn bit_of(words: &Words, i: usize) -> bool
     ensures { result ≡ data_bit words.now.items i }
 {
@@ -42,7 +42,8 @@ fn place_module(
     }
 }
 
-/// Places the words on the free modules, strip after strip from the right, upwards and downwards in turn.
+/// Places the codewords on the free modules, strip after strip from the right, upwards and downwards in turn (ISO/IEC
+/// 18004, 7.7.3).
 pub fn place(version: Version, words: &Words, function: &Square, modules: &mut Square)
     requires { MarksFunctions version.number function.now }
     ensures placed { (x y : ℕ) → x < side_of version.number → y < side_of version.number → is_free version.number x y ≡ true → value_at modules.new x y ≡ data_bit words.now.items (rank version.number x y) }

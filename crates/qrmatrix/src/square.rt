@@ -7,9 +7,6 @@ ghost use Rattle.qrmatrix.specs.Square.{value_at, WritesAt};
 
 use std::marker::Model;
 
-/// The longest side.
-pub const LONGEST: usize = 57;
-
 /// A truth value for each column and row: bit x of word y is that at column x and row y.
 #[derive(Drop)]
 pub struct Square {
