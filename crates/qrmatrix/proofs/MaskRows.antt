@@ -1,0 +1,86 @@
+-- The rows of the masks as words.
+use Rattle.std.proofs.Common.{◌≡◌, ℕ, ◌+◌, ◌*◌, ◌%◌, ◌<◌, ◌≤◌, ◌^◌, refl, sym, ap, ◌∙◌, arith, Bool, true, false, not, cond, ◌&&◌, List, [], inl, inr}
+use Rattle.std.specs.Prelude.{slice_index_or, ◌==◌, bit_and}
+use Rattle.std.specs.Bool.{beq}
+use Rattle.std.specs.Int.{bit_not, w64}
+use Rattle.std.proofs.lemmas.Bool.{cases_eq, eq-eqb, ne_eqb}
+use Rattle.qrmatrix.specs.declared.mask.TheConstants.{PATTERNS, EVERY_SIXTH}
+use Rattle.qrmatrix.specs.Counting.{all_below}
+use Rattle.qrmatrix.specs.Bits.{bit}
+use Rattle.qrmatrix.specs.Masks.{is_flipped, flip_if}
+use Rattle.qrmatrix.specs.Square.{value_at}
+use Rattle.qrmatrix.specs.Drawing.{masked}
+use Rattle.qrmatrix.proofs.Passes.{Mapped}
+use Rattle.qrmatrix.proofs.Sums.{all_below_at}
+use Rattle.qrmatrix.proofs.RowBits.{and_bit, not_bit, same_beq}
+
+-- the word that the table of patterns gives for a row
+abbrev pub mask_word : ℕ → ℕ → ℕ
+mask_word mask y = slice_index_or (slice_index_or {A = List ℕ} PATTERNS mask []) (y % 12) 0 * EVERY_SIXTH
+
+right_word : ℕ → ℕ → ℕ → Bool
+right_word mask y x = beq (bit (mask_word mask y) x) (is_flipped mask x y)
+
+-- computed for each mask, row and column
+right_words : all_below 8 (λ mask. all_below 57 (λ y. all_below 57 (right_word mask y))) ≡ true
+unfolding is_flipped right_word
+right_words = refl
+
+pub mask_word_is : (mask y x : ℕ) → mask < 8 → y < 57 → x < 57 → bit (mask_word mask y) x ≡ is_flipped mask x y
+unfolding right_word
+mask_word_is mask y x lm ly lx =
+    same_beq _ _ (all_below_at 57 (right_word mask y) (all_below_at 57 (λ y. all_below 57 (right_word mask y)) (all_below_at 8 (λ mask. all_below 57 (λ y. all_below 57 (right_word mask y))) right_words mask lm) y ly) x lx)
+
+free_flip : (f t b : Bool) → flip_if (not f && t) b ≡ cond f b (flip_if t b)
+free_flip true true b = refl
+free_flip true false b = refl
+free_flip false true b = refl
+free_flip false false b = refl
+
+-- one more row is masked
+pub masked_row : (n mask row w : ℕ) (old m r function : List (List Bool)) → Mapped n old m (masked mask function old) row 0
+    → ((a b : ℕ) → value_at r a b ≡ flip_if ((b == row) && bit w a) (value_at m a b))
+    → ((a : ℕ) → a < n → bit w a ≡ (not (value_at function a row) && is_flipped mask a row))
+    → ((a : ℕ) → n ≤ a → bit w a ≡ false)
+    → Mapped n old r (masked mask function old) (row + 1) 0
+masked_row n mask row w old m r function p flipped inside beyond =
+    record {
+      above = λ x y lx ly. elim (cases_eq y row) [
+        | inl e ↦ ap (λ z. value_at r x z) e ∙ here x ∙ at_inside x lx ∙ ap (λ z. masked mask function old x z) (sym e)
+        | inr ne ↦ others x y ne ∙ p.above x y lx (omega arith)
+      ];
+      left = λ x l. absurd (omega arith);
+      right = λ x l. others x (row + 1) (λ e. omega arith) ∙ p.below x (row + 1) (omega arith);
+      below = λ x y l. others x y (λ e. omega arith) ∙ p.below x y (omega arith);
+      beyond = λ x y l. elim (cases_eq y row) [
+        | inl e ↦ ap (λ z. value_at r x z) e ∙ here x ∙ ap (λ z. flip_if z (value_at old x row)) (beyond x l) ∙ ap (λ z. value_at old x z) (sym e)
+        | inr ne ↦ others x y ne ∙ p.beyond x y l
+      ];
+    }
+  where
+    others : (x y : ℕ) → (y ≡ row → ⊥) → value_at r x y ≡ value_at m x y
+    others x y ne = flipped x y ∙ rw (ne_eqb y row ne) refl
+
+    here : (x : ℕ) → value_at r x row ≡ flip_if (bit w x) (value_at old x row)
+    here x = let z : 0 ≤ x = omega arith in flipped x row ∙ rw (eq-eqb row row refl, p.right x z) refl
+
+    at_inside : (x : ℕ) → x < n → flip_if (bit w x) (value_at old x row) ≡ masked mask function old x row
+    at_inside x l = rw (inside x l) (free_flip (value_at function x row) (is_flipped mask x row) (value_at old x row))
+
+pub and_turned : (a b : Bool) → (a && (true && b)) ≡ (b && a)
+and_turned true true = refl
+and_turned true false = refl
+and_turned false true = refl
+and_turned false false = refl
+
+and_none : (a b : Bool) → (a && (false && b)) ≡ false
+and_none true b = refl
+and_none false b = refl
+
+pub and_three : (w l r a : ℕ) → a < 64 → r < 2 ^ 57 → bit (bit_and w (bit_and l (bit_not w64 r))) a ≡ (bit w a && (bit l a && not (bit r a)))
+and_three w l r a h k =
+    and_bit w (bit_and l (bit_not w64 r)) a ∙ ap (λ z. bit w a && z) (and_bit l (bit_not w64 r) a ∙ ap (λ z. bit l a && z) (not_bit r a (omega arith) h))
+
+pub and_beyond : (w l r a : ℕ) → bit l a ≡ false → bit (bit_and w (bit_and l r)) a ≡ false
+and_beyond w l r a h =
+    and_bit w (bit_and l r) a ∙ ap (λ z. bit w a && z) (and_bit l r a ∙ ap (λ z. z && bit r a) h) ∙ and_none (bit w a) (bit r a)

@@ -1,0 +1,134 @@
+-- Reading inverts drawing.
+use Rattle.std.proofs.Common.{◌≡◌, ℕ, ◌+◌, ◌-◌, ◌*◌, ◌/◌, ◌<◌, ◌≤◌, refl, ap, ◌∙◌, arith, Bool, true, false, cond, List, [], ◌∷◌, length, Option, Some, None, eq-eqb}
+use Rattle.std.specs.Prelude.{map, nat_lt, All}
+use Rattle.std.specs.List.{range_with_len, filter, list_all}
+use Rattle.std.proofs.lemmas.Bool.{and_from, and_parts, lt-ltb, le-leb}
+use Rattle.labelcore.specs.declared.options.Level.{Level}
+use Rattle.qrmatrix.specs.declared.function.Role.{Role}
+use Rattle.qrmatrix.specs.declared.function.Role.TheVariants.{Function, Format, Version, Free}
+use Rattle.qrmatrix.specs.Counting.{all_below}
+use Rattle.qrdata.specs.Versions.{side_of, total_codewords}
+use Rattle.qrmatrix.specs.Functions.{is_free, is_free_role, role, fixed, fixed_by}
+use Rattle.qrmatrix.specs.Bits.{bit}
+use Rattle.qrmatrix.specs.Information.{format_word, version_word}
+use Rattle.qrmatrix.specs.Modules.{module_at, is_inside, fixed_or}
+use Rattle.qrmatrix.specs.Masks.{flip_if, is_flipped}
+use Rattle.qrmatrix.specs.Placement.{data_bit, rank, remainder_bits}
+use Rattle.qrmatrix.specs.Reading.{walk, read_bits, read_matrix, by_eights, format_copy_1, format_copy_2, version_copy_1, version_copy_2, word_at, low_first, read_format, shows_version, shows_functions, agrees}
+use Rattle.qrmatrix.proofs.Sums.{all_below_from}
+use Rattle.qrmatrix.proofs.EachVersion.{Computed, computed}
+use Rattle.qrmatrix.proofs.WalkRanks.{walk_ranks}
+use Rattle.qrmatrix.proofs.CodewordBits.{words_of_bits}
+use Rattle.qrmatrix.proofs.InformationRead.{format_read, copies, version_shown}
+
+-- ---- the data bits
+
+map_filter_step : {X Y : Type 0} (b : Bool) (f g : X → Y) (x : X) (ys : List X) → (b ≡ true → f x ≡ g x) → map f ys ≡ map g ys → map f (cond b (x ∷ ys) ys) ≡ map g (cond b (x ∷ ys) ys)
+map_filter_step true f g x ys h e = let k = h refl in cc
+map_filter_step false f g x ys h e = e
+
+map_filter : {X Y : Type 0} (test inside : X → Bool) (f g : X → Y) → ((x : X) → inside x ≡ true → test x ≡ true → f x ≡ g x) → (xs : List X) → list_all inside xs ≡ true → map f (filter test xs) ≡ map g (filter test xs)
+map_filter test inside f g h [] i = refl
+map_filter test inside f g h (x ∷ xs) i =
+    let parts = and_parts (inside x) (list_all inside xs) i in
+    map_filter_step (test x) f g x (filter test xs) (h x parts.0) (map_filter test inside f g h xs parts.1)
+
+map_map : {X Y Z : Type 0} (f : Y → Z) (g : X → Y) (xs : List X) → map (λ x. f (g x)) xs ≡ map f (map g xs)
+map_map f g [] = refl
+map_map f g (x ∷ xs) = ap (λ ys. f (g x) ∷ ys) (map_map f g xs)
+
+flip_twice : (b d : Bool) → flip_if b (flip_if b d) ≡ d
+flip_twice true true = refl
+flip_twice true false = refl
+flip_twice false d = refl
+
+pub free_is_data : (v : ℕ) (level : Level) (mask : ℕ) (r : Role) (d : Bool) → is_free_role r ≡ true → fixed_or (fixed_by v level mask r) d ≡ d
+free_is_data v level mask Free d h = refl
+free_is_data v level mask (Function b) d h = cc
+free_is_data v level mask (Format i) d h = cc
+free_is_data v level mask (Version i) d h = cc
+
+pub inside_from : (n x y : ℕ) → x < n → y < n → is_inside n x y ≡ true
+inside_from n x y lx ly = and_from (nat_lt x n) (nat_lt y n) (lt-ltb x n lx) (lt-ltb y n ly)
+
+module _ (v : ℕ) (level : Level) (mask : ℕ) (words : List ℕ) where
+  -- a module in the square
+  pub module_inside : (x y : ℕ) → is_inside (side_of v) x y ≡ true → module_at v level mask words x y ≡ fixed_or (fixed v level mask x y) (flip_if (is_flipped mask x y) (data_bit words (rank v x y)))
+  unfolding module_at
+  module_inside x y h = rw h
+
+  -- a place outside the square
+  pub module_outside : (x y : ℕ) → is_inside (side_of v) x y ≡ false → module_at v level mask words x y ≡ false
+  unfolding module_at
+  module_outside x y h = rw h
+
+  unmasked : (p : ℕ × ℕ) → is_inside (side_of v) p.0 p.1 ≡ true → is_free v p.0 p.1 ≡ true → flip_if (is_flipped mask p.0 p.1) (module_at v level mask words p.0 p.1) ≡ data_bit words (rank v p.0 p.1)
+  unfolding is_free fixed
+  unmasked p i h =
+      rw (module_inside p.0 p.1 i, free_is_data v level mask (role v p.0 p.1) (flip_if (is_flipped mask p.0 p.1) (data_bit words (rank v p.0 p.1))) h) (flip_twice (is_flipped mask p.0 p.1) (data_bit words (rank v p.0 p.1)))
+
+  pub bits_read : Computed v → read_bits v mask (module_at v level mask words) ≡ map (data_bit words) (range_with_len 0 (8 * total_codewords v + remainder_bits v))
+  unfolding read_bits
+  bits_read c =
+      map_filter (λ (p : ℕ × ℕ). is_free v p.0 p.1) (λ (p : ℕ × ℕ). is_inside (side_of v) p.0 p.1) (λ (p : ℕ × ℕ). flip_if (is_flipped mask p.0 p.1) (module_at v level mask words p.0 p.1)) (λ (p : ℕ × ℕ). data_bit words (rank v p.0 p.1)) unmasked (walk (side_of v)) c.inside
+      ∙ map_map (data_bit words) (λ (p : ℕ × ℕ). rank v p.0 p.1) (filter (λ (p : ℕ × ℕ). is_free v p.0 p.1) (walk (side_of v)))
+      ∙ ap (map (data_bit words)) (walk_ranks v c)
+
+  pub words_read : Computed v → length words ≡ total_codewords v → All (λ w. w < 256) words → by_eights (total_codewords v) (read_bits v mask (module_at v level mask words)) ≡ words
+  words_read c n h =
+      rw (bits_read c, ← n) (words_of_bits words (remainder_bits v) h)
+
+  -- ---- the function patterns
+
+  agrees_itself : (o : Option Bool) (d : Bool) → agrees o (fixed_or o d) ≡ true
+  agrees_itself None d = refl
+  agrees_itself (Some true) d = refl
+  agrees_itself (Some false) d = refl
+
+  pub functions_shown : shows_functions v level mask (module_at v level mask words) ≡ true
+  unfolding shows_functions
+  functions_shown =
+      all_below_from (side_of v) (λ y. all_below (side_of v) (λ x. agrees (fixed v level mask x y) (module_at v level mask words x y)))
+      (λ y ly. all_below_from (side_of v) (λ x. agrees (fixed v level mask x y) (module_at v level mask words x y))
+      (λ x lx. rw (module_inside x y (inside_from (side_of v) x y lx ly)) (agrees_itself (fixed v level mask x y) (flip_if (is_flipped mask x y) (data_bit words (rank v x y))))))
+
+  -- the modules at the places of a word's bits
+  modules_at_role : (places : List (ℕ × ℕ)) (kind : ℕ → Role) (word : ℕ) (is_ : List ℕ) → ((i : ℕ) → fixed_by v level mask (kind i) ≡ Some (bit word i)) → list_all (λ (p : ℕ × ℕ). is_inside (side_of v) p.0 p.1) places ≡ true → map (λ (p : ℕ × ℕ). role v p.0 p.1) places ≡ map kind is_ → map (λ (p : ℕ × ℕ). module_at v level mask words p.0 p.1) places ≡ map (bit word) is_
+  unfolding fixed
+  modules_at_role [] kind word [] h z e = refl
+  modules_at_role [] kind word (i ∷ is_) h z e = cc
+  modules_at_role (p ∷ ps) kind word [] h z e = cc
+  modules_at_role (p ∷ ps) kind word (i ∷ is_) h z e =
+      let here : role v p.0 p.1 ≡ kind i = cc in
+      let there : map (λ (p : ℕ × ℕ). role v p.0 p.1) ps ≡ map kind is_ = cc in
+      let parts = and_parts (is_inside (side_of v) p.0 p.1) (list_all (λ (p : ℕ × ℕ). is_inside (side_of v) p.0 p.1) ps) z in
+      let m : fixed_or (fixed_by v level mask (role v p.0 p.1)) (flip_if (is_flipped mask p.0 p.1) (data_bit words (rank v p.0 p.1))) ≡ bit word i = rw (here, h i) in
+      let at = module_inside p.0 p.1 parts.0 ∙ m in
+      let rest = modules_at_role ps kind word is_ h parts.1 there in
+      cc
+
+  module _ (at_least : 1 ≤ v) (at_most : v ≤ 10) (mask_below : mask < 8) where
+    pub format_shown : read_format (side_of v) (module_at v level mask words) ≡ Some (level, mask)
+    unfolding read_format
+    format_shown =
+        let c = copies v at_least at_most in
+        let f = format_read level mask mask_below in
+        let by = λ (i : ℕ). let e : fixed_by v level mask (Format i) ≡ Some (bit (format_word level mask) i) = refl in e in
+        let one : word_at (module_at v level mask words) format_copy_1 ≡ format_word level mask = ap low_first (modules_at_role format_copy_1 Format (format_word level mask) (range_with_len 0 15) by c.inside_1 c.format_1) ∙ f.from_bits in
+        let two : word_at (module_at v level mask words) (format_copy_2 (side_of v)) ≡ format_word level mask = ap low_first (modules_at_role (format_copy_2 (side_of v)) Format (format_word level mask) (range_with_len 0 15) by c.inside_2 c.format_2) ∙ f.from_bits in
+        rw (one, two, eq-eqb (format_word level mask) (format_word level mask) refl) f.decoded
+
+    pub version_is_shown : shows_version v (side_of v) (module_at v level mask words) ≡ true
+    version_is_shown =
+        let c = copies v at_least at_most in
+        let by = λ (i : ℕ). let e : fixed_by v level mask (Version i) ≡ Some (bit (version_word v) i) = refl in e in
+        version_shown v at_least at_most (module_at v level mask words) (λ h. (
+          ap low_first (modules_at_role (version_copy_1 (side_of v)) Version (version_word v) (range_with_len 0 18) by (c.version_inside_1 h) (c.version_1 h)),
+          ap low_first (modules_at_role (version_copy_2 (side_of v)) Version (version_word v) (range_with_len 0 18) by (c.version_inside_2 h) (c.version_2 h)),
+        ))
+
+    pub reads_back : length words ≡ total_codewords v → All (λ w. w < 256) words → read_matrix (side_of v) (module_at v level mask words) ≡ Some (record { version = v; level = level; words = words })
+    unfolding read_matrix
+    reads_back n h =
+        let same : (17 + 4 * v - 17) / 4 ≡ v = omega arith in
+        rw (same, eq-eqb (side_of v) (side_of v) refl, le-leb 1 v at_least, le-leb v 10 at_most, format_shown, version_is_shown, functions_shown, words_read (computed v at_least at_most) n h)

@@ -1,0 +1,57 @@
+use Rattle.std.proofs.Common.{◌≡◌, ℕ, arith, rules, sym, ap, subst, ◌∙◌, ◌<◌, false}
+use mathlib.Core.Path.{fun_ext}
+use Rattle.std.specs.Prelude.{All, Option}
+use Rattle.qrmatrix.specs.MaskChoice.{chosen_mask}
+use Rattle.qrmatrix.specs.Modules.{is_inside, module_at}
+use Rattle.qrmatrix.specs.Square.{value_at}
+use Rattle.qrmatrix.proofs.EachVersion.{computed}
+use Rattle.qrmatrix.proofs.ReadBack.{module_outside, reads_back}
+use Rattle.qrmatrix.proofs.matrix.Matrix.draw.Goals as goal
+use Rattle.qrmatrix.proofs.matrix.Matrix.draw.Goals.{in-Some, in-None}
+
+-- the modules that are drawn
+shown : (c : goal.After-under) (x y : ℕ) → value_at c.under.result x y ≡ module_at c.args.version.number c.args.level c.match-mask.mask c.args.words.now.items x y
+shown c = (rw (c.draw-unmasked.ensures.version, c.draw-unmasked.ensures.level) at c.under.ensures) c.args.words.now.items c.draw-unmasked.ensures.drawn
+
+-- the modules outside of the side
+light : (c : goal.After-under) (x y : ℕ) → is_inside c.side.result x y ≡ false → value_at c.under.result x y ≡ false
+light c x y out =
+    shown c x y ∙ module_outside c.args.version.number c.args.level c.match-mask.mask c.args.words.now.items x y (subst (λ n. is_inside n x y ≡ false) c.side.ensures out)
+
+pub returns-clause-mask : goal.returns-clause-mask
+unfolding chosen_mask
+returns-clause-mask c =
+    let chosen = λ (z : Option ℕ). chosen_mask c.args.version.number c.args.level z c.args.words.now.items in
+    elim c.match-mask.branch [
+      | in-Some w ↦ w.mask-is ∙ sym (ap chosen w.in-Some.is)
+      | in-None w ↦
+          w.mask-is ∙ (rw (c.draw-unmasked.ensures.version, c.draw-unmasked.ensures.level) at w.least_mask-mask.ensures.value) c.args.words.now.items c.draw-unmasked.ensures.drawn ∙ sym (ap chosen w.in-None.is)
+    ]
+
+pub returns-clause-modules : goal.returns-clause-modules
+returns-clause-modules c = shown c
+
+pub returns-clause-outside : goal.returns-clause-outside
+returns-clause-outside c = light c
+
+pub returns-clause-reads : goal.returns-clause-reads
+returns-clause-reads c =
+    let v = c.args.version.number in
+    let words = c.args.words.now.items in
+    let mask = c.match-mask.mask in
+    let below : mask < 8 = elim c.match-mask.branch [ in-Some w ↦ search rules | in-None w ↦ search rules ] in
+    let bytes : All (λ w. w < 256) words = rw c.deref.ensures.0 at c.are_bytes.ensures in
+    let same : value_at c.under.result ≡ module_at v c.args.level mask words = fun_ext (λ x. fun_ext (λ y. shown c x y)) in
+    rw (same, c.side.ensures) (reads_back v c.args.level mask words c.args.version.at_least c.args.version.at_most below c.requires.count bytes)
+
+pub returns-clause-room : goal.returns-clause-room
+returns-clause-room c =
+    rw c.requires.count (computed c.args.version.number c.args.version.at_least c.args.version.at_most).count
+
+pub invariant_of-result : goal.invariant_of-result
+invariant_of-result c =
+    record {
+      least = let a = c.args.version.at_least in omega arith;
+      most = let a = c.args.version.at_most in omega arith;
+      within = light c;
+    }

@@ -1,0 +1,10 @@
+use Rattle.std.proofs.Common.{◌≡◌, ◌+◌, ◌-◌, ◌*◌, ◌/◌, ◌<◌}
+use Rattle.qrdata.specs.Versions.{side_of}
+use Rattle.qrmatrix.proofs.CursorSteps.{Placed, right_column}
+use Rattle.qrmatrix.proofs.placement.place.Given as goal
+
+abbrev pub invariant-loop-t : goal.invariant-loop-t
+invariant-loop-t l = record { placed : Placed l.fn.version.number l.words.items l.fn.modules l.modules l.i (2 * side_of l.fn.version.number * l.strip + 2 * l.t); width : l.n ≡ side_of l.fn.version.number; right : l.right ≡ right_column (side_of l.fn.version.number) l.strip; inside : l.strip < (side_of l.fn.version.number - 1) / 2 }
+
+abbrev pub invariant-loop-strip : goal.invariant-loop-strip
+invariant-loop-strip l = record { placed : Placed l.fn.version.number l.words.items l.fn.modules l.modules l.i (2 * side_of l.fn.version.number * l.strip); width : l.n ≡ side_of l.fn.version.number }

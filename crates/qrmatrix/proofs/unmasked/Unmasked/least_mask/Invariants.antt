@@ -1,0 +1,13 @@
+use Rattle.std.proofs.Common.{ℕ, ◌<◌, List}
+use Rattle.qrdata.specs.Versions.{side_of}
+use Rattle.qrmatrix.specs.Drawing.{IsUnmasked}
+use Rattle.qrmatrix.specs.Modules.{module_at}
+use Rattle.qrmatrix.specs.Penalty.{penalty}
+use Rattle.qrmatrix.proofs.LeastMask.{Found}
+use Rattle.qrmatrix.proofs.unmasked.Unmasked.least_mask.Given as goal
+
+abbrev pub invariant-loop-mask : goal.invariant-loop-mask
+invariant-loop-mask l = record {
+  found : (words : List ℕ) → IsUnmasked l.self.version.number l.self.level words l.self.function l.self.modules → Found (λ k. penalty (side_of l.self.version.number) (module_at l.self.version.number l.self.level k words)) l.mask l.best l.least;
+  below : l.best < l.mask;
+}

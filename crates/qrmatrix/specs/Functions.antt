@@ -1,0 +1,135 @@
+-- What each module of a QR symbol is there for (ISO/IEC 18004, 6.3, 7.9, 7.10 and Annex E).
+-- A pattern is `Some true` where it has a dark module, `Some false` where it has a light one, and `None` where it has none.
+use Rattle.std.specs.Prelude.{ℕ, ◌+◌, ◌-◌, ◌*◌, ◌%◌, ◌<◌, max, Bool, true, false, cond, not, ◌&&◌, ◌==◌, nat_lt, nat_le, if◌then◌else◌, List, [], ◌∷◌, Option, None, Some, is_none, slice_index_or}
+use Rattle.labelcore.specs.declared.options.Level.{Level}
+use Rattle.qrdata.specs.Versions.{side_of}
+use Rattle.qrmatrix.specs.Bits.{bit}
+use Rattle.qrmatrix.specs.Information.{format_word, version_word}
+use Rattle.qrmatrix.specs.declared.function.Role.{Role}
+use Rattle.qrmatrix.specs.declared.function.Role.TheVariants.{Function, Format, Version, Free}
+
+-- the first of two patterns that has a module
+abbrev pub or_else : Option Bool → Option Bool → Option Bool
+or_else (Some b) other = Some b
+or_else None other = other
+
+abbrev pub distance : ℕ → ℕ → ℕ
+distance a b = (a - b) + (b - a)
+
+-- the square ring round the centre (a, b) on which the place (x, y) lies; ring 0 is the centre itself
+abbrev pub ring : ℕ → ℕ → ℕ → ℕ → ℕ
+ring a b x y = max (distance a x) (distance b y)
+
+-- a finder pattern of 7x7 modules with its separator, dark but for the rings 2 and 4
+abbrev pub finder_at : ℕ → ℕ → ℕ → ℕ → Option Bool
+finder_at a b x y =
+    let r = ring a b x y in if nat_le r 4 then Some (not (r == 2) && not (r == 4)) else None
+
+-- the three finder patterns of a symbol of n by n modules
+unfoldable pub finder : ℕ → ℕ → ℕ → Option Bool
+finder n x y = or_else (finder_at 3 3 x y) (or_else (finder_at (n - 4) 3 x y) (finder_at 3 (n - 4) x y))
+
+-- an alignment pattern of 5x5 modules, dark but for the ring 1
+abbrev pub alignment_at : ℕ → ℕ → ℕ → ℕ → Option Bool
+alignment_at a b x y = let r = ring a b x y in if nat_le r 2 then Some (not (r == 1)) else None
+
+-- the row and column coordinates of the centres of the alignment patterns (Table E.1)
+unfoldable pub alignment_coordinates : ℕ → List ℕ
+alignment_coordinates v =
+    slice_index_or
+    ([] ∷ [] ∷ (6 ∷ 18 ∷ []) ∷ (6 ∷ 22 ∷ []) ∷ (6 ∷ 26 ∷ []) ∷ (6 ∷ 30 ∷ []) ∷ (6 ∷ 34 ∷ [])
+    ∷ (6 ∷ 22 ∷ 38 ∷ []) ∷ (6 ∷ 24 ∷ 42 ∷ []) ∷ (6 ∷ 26 ∷ 46 ∷ []) ∷ (6 ∷ 28 ∷ 50 ∷ []) ∷ [])
+    v []
+
+-- the first alignment pattern with its centre in column a, and on no finder pattern, that has the module
+abbrev pub alignment_in : ℕ → ℕ → List ℕ → ℕ → ℕ → Option Bool
+alignment_in n a [] x y = None
+alignment_in n a (b ∷ rows) x y =
+    or_else (cond (is_none (finder n a b)) (alignment_at a b x y) None) (alignment_in n a rows x y)
+
+-- the first alignment pattern that has the module, column by column of centres
+abbrev pub alignment_over : ℕ → List ℕ → List ℕ → ℕ → ℕ → Option Bool
+alignment_over n [] rows x y = None
+alignment_over n (a ∷ columns) rows x y = or_else (alignment_in n a rows x y) (alignment_over n columns rows x y)
+
+-- the alignment patterns of a version
+unfoldable pub alignment : ℕ → ℕ → ℕ → Option Bool
+unfolding alignment_coordinates finder
+alignment v x y = alignment_over (side_of v) (alignment_coordinates v) (alignment_coordinates v) x y
+
+-- the timing patterns in column 6 and row 6, dark at even places
+unfoldable pub timing : ℕ → ℕ → Option Bool
+timing x y = if x == 6 then Some (y % 2 == 0) else (if y == 6 then Some (x % 2 == 0) else None)
+
+-- which bit of the format word stands at a place, in either of its two copies
+unfoldable pub format_bit : ℕ → ℕ → ℕ → Option ℕ
+format_bit n x y =
+    if x == 8 then
+    (if nat_lt y 6 then Some y
+    else (if y == 7 then Some 6
+    else (if y == 8 then Some 7
+    else (if nat_le (n - 7) y then Some (y + 15 - n)
+    else None))))
+    else (if y == 8 then
+    (if nat_lt x 6 then Some (14 - x)
+    else (if x == 7 then Some 8
+    else (if nat_le (n - 8) x then Some (n - 1 - x)
+    else None)))
+    else None)
+
+-- which bit of the version word stands at a place, in either of its two copies
+unfoldable pub version_bit : ℕ → ℕ → ℕ → Option ℕ
+version_bit n x y =
+    if nat_lt x 6 && (nat_le (n - 11) y && nat_lt y (n - 8)) then Some (3 * x + (y - (n - 11)))
+    else (if nat_lt y 6 && (nat_le (n - 11) x && nat_lt x (n - 8)) then Some (3 * y + (x - (n - 11)))
+    else None)
+
+-- the module beside the lower left finder pattern that is always dark
+unfoldable pub is_dark_module : ℕ → ℕ → ℕ → Bool
+is_dark_module n x y = (x == 8) && (y == n - 8)
+
+-- the role that a pattern gives, where it has the module, else another
+abbrev pub role_or : {A : Type 0} → (A → Role) → Option A → Role → Role
+role_or kind None other = other
+role_or kind (Some a) other = kind a
+
+-- the role of the module at column x and row y in version v
+unfoldable pub role : ℕ → ℕ → ℕ → Role
+unfolding finder alignment timing format_bit version_bit is_dark_module
+role v x y =
+    role_or Function (finder (side_of v) x y)
+    (role_or Function (alignment v x y)
+    (role_or Function (timing x y)
+    (role_or Format (format_bit (side_of v) x y)
+    (cond (is_dark_module (side_of v) x y) (Function true)
+    (cond (nat_le 7 v) (role_or Version (version_bit (side_of v) x y) Free) Free)))))
+
+-- a bit of the format word is below 15, one of the version word below 18
+abbrev pub IsInRange : Role → Type 0
+IsInRange (Function b) = Unit {0}
+IsInRange (Format i) = i < 15
+IsInRange (Version i) = i < 18
+IsInRange Free = Unit {0}
+
+-- the module that a role fixes for a version, a level and a mask
+abbrev pub fixed_by : ℕ → Level → ℕ → Role → Option Bool
+fixed_by v level mask (Function b) = Some b
+fixed_by v level mask (Format i) = Some (bit (format_word level mask) i)
+fixed_by v level mask (Version i) = Some (bit (version_word v) i)
+fixed_by v level mask Free = None
+
+-- the module at column x and row y, where the codewords do not choose it
+unfoldable pub fixed : ℕ → Level → ℕ → ℕ → ℕ → Option Bool
+unfolding role format_word version_word
+fixed v level mask x y = fixed_by v level mask (role v x y)
+
+abbrev pub is_free_role : Role → Bool
+is_free_role (Function b) = false
+is_free_role (Format i) = false
+is_free_role (Version i) = false
+is_free_role Free = true
+
+-- whether the codewords choose the module
+unfoldable pub is_free : ℕ → ℕ → ℕ → Bool
+unfolding role
+is_free v x y = is_free_role (role v x y)

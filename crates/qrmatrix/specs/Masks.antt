@@ -1,0 +1,23 @@
+-- The eight mask patterns (ISO/IEC 18004, 7.8.2 and Table 10).
+use Rattle.std.specs.Prelude.{ℕ, ◌+◌, ◌*◌, ◌/◌, ◌%◌, Bool, true, false, not, ◌==◌, if◌then◌else◌}
+
+-- the value of a mask's formula at row i and column j
+abbrev pub mask_value : ℕ → ℕ → ℕ → ℕ
+mask_value mask i j =
+    if mask == 0 then (i + j) % 2
+    else (if mask == 1 then i % 2
+    else (if mask == 2 then j % 3
+    else (if mask == 3 then (i + j) % 3
+    else (if mask == 4 then (i / 2 + j / 3) % 2
+    else (if mask == 5 then (i * j) % 2 + (i * j) % 3
+    else (if mask == 6 then ((i * j) % 2 + (i * j) % 3) % 2
+    else ((i + j) % 2 + (i * j) % 3) % 2))))))
+
+-- whether a mask flips a free module at column x and row y
+unfoldable pub is_flipped : ℕ → ℕ → ℕ → Bool
+is_flipped mask x y = mask_value mask y x == 0
+
+-- the module on the other side of the mask
+abbrev pub flip_if : Bool → Bool → Bool
+flip_if true b = not b
+flip_if false b = b

@@ -1,0 +1,23 @@
+-- The modules of a symbol by their coordinates (ISO/IEC 18004, 7.7 to 7.10).
+use Rattle.std.specs.Prelude.{ℕ, Bool, ◌&&◌, nat_lt, List, Option, None, Some}
+use Rattle.labelcore.specs.declared.options.Level.{Level}
+use Rattle.qrdata.specs.Versions.{side_of}
+use Rattle.qrmatrix.specs.Functions.{fixed}
+use Rattle.qrmatrix.specs.Masks.{is_flipped, flip_if}
+use Rattle.qrmatrix.specs.Placement.{data_bit, rank}
+
+-- the fixed module, else another
+abbrev pub fixed_or : Option Bool → Bool → Bool
+fixed_or (Some b) other = b
+fixed_or None other = other
+
+-- whether column x and row y are in a square of n by n
+abbrev pub is_inside : ℕ → ℕ → ℕ → Bool
+is_inside n x y = nat_lt x n && nat_lt y n
+
+-- whether the module at column x and row y of the symbol is dark: a fixed module, else a bit of the codewords under the
+-- mask; light outside of the symbol
+unfoldable pub module_at : ℕ → Level → ℕ → List ℕ → ℕ → ℕ → Bool
+unfolding fixed rank is_flipped
+module_at v level mask words x y =
+    is_inside (side_of v) x y && fixed_or (fixed v level mask x y) (flip_if (is_flipped mask x y) (data_bit words (rank v x y)))

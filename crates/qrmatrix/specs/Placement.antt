@@ -1,0 +1,41 @@
+-- The order in which the codewords are placed on the free modules (ISO/IEC 18004, 7.7.3 and Table 1).
+use Rattle.std.specs.Prelude.{ℕ, ◌+◌, ◌-◌, ◌*◌, ◌/◌, ◌%◌, Bool, ◌&&◌, ◌==◌, nat_lt, if◌then◌else◌, List, [], ◌∷◌, slice_index}
+use Rattle.qrdata.specs.Versions.{side_of}
+use Rattle.qrmatrix.specs.Bits.{bit}
+use Rattle.qrmatrix.specs.Counting.{sum_below, count_below}
+use Rattle.qrmatrix.specs.Functions.{is_free}
+
+-- how many columns stand to the right of column x, the timing column 6 not counted
+abbrev pub columns_right : ℕ → ℕ → ℕ
+columns_right n x = if nat_lt 6 x then n - 1 - x else n - 2 - x
+
+-- the place of a module in the order of placement: strips of two columns from the right, upwards and downwards in turn,
+-- in each row the right module first
+unfoldable pub key : ℕ → ℕ → ℕ → ℕ
+key n x y =
+    let d = columns_right n x in
+    let row = if (d / 2) % 2 == 0 then n - 1 - y else y in
+    2 * n * (d / 2) + 2 * row + d % 2
+
+-- how many free modules have a key below k
+unfoldable pub free_below : ℕ → ℕ → ℕ
+unfolding is_free key
+free_below v k = sum_below (side_of v) (λ y. count_below (side_of v) (λ x. is_free v x y && nat_lt (key (side_of v) x y) k))
+
+-- how many free modules are placed before the module
+unfoldable pub rank : ℕ → ℕ → ℕ → ℕ
+unfolding free_below key
+rank v x y = free_below v (key (side_of v) x y)
+
+-- bit i of the codewords, the high bit of each codeword first, and 0 past their end
+abbrev pub data_bit : List ℕ → ℕ → Bool
+data_bit words i = bit (slice_index words (i / 8)) (7 - i % 8)
+
+-- how many modules of a version are free
+unfoldable pub free_count : ℕ → ℕ
+unfolding is_free
+free_count v = sum_below (side_of v) (λ y. count_below (side_of v) (λ x. is_free v x y))
+
+-- the free modules that are left after the last codeword (Table 1, remainder bits)
+unfoldable pub remainder_bits : ℕ → ℕ
+remainder_bits v = slice_index (0 ∷ 0 ∷ 7 ∷ 7 ∷ 7 ∷ 7 ∷ 7 ∷ 0 ∷ 0 ∷ 0 ∷ 0 ∷ []) v

@@ -1,0 +1,122 @@
+-- The reading of a symbol's modules, m x y being the module at column x and row y of n by n (ISO/IEC 18004, 12).
+use Rattle.std.specs.Prelude.{ℕ, zero, suc, ◌+◌, ◌-◌, ◌*◌, ◌/◌, ◌%◌, ◌^◌, Bool, true, cond, not, ◌&&◌, ◌||◌, ◌==◌, nat_le, if◌then◌else◌, List, [], ◌∷◌, ◌++◌, map, reverse, take, drop, Option, None, Some, bit_xor}
+use Rattle.std.specs.Bool.{beq}
+use Rattle.std.specs.List.{range_with_len, filter}
+use Rattle.gf256.specs.BinaryPolynomial.{binary_remainder}
+use Rattle.labelcore.specs.declared.options.Level.{Level}
+use Rattle.labelcore.specs.declared.options.Level.TheVariants.{L, M, Q, H}
+use Rattle.qrdata.specs.Versions.{total_codewords, side_of}
+use Rattle.qrmatrix.specs.Counting.{all_below, one_if}
+use Rattle.qrmatrix.specs.Functions.{fixed, is_free}
+use Rattle.qrmatrix.specs.Masks.{is_flipped, flip_if}
+
+-- the number of bits that are listed lowest first
+abbrev pub low_first : List Bool → ℕ
+low_first [] = 0
+low_first (b ∷ bs) = one_if b + 2 * low_first bs
+
+-- the number of bits that are listed highest first
+abbrev pub high_first : List Bool → ℕ
+high_first bits = low_first (reverse bits)
+
+-- the places of a word's bits, bit 0 first, in each of its two copies
+abbrev pub format_copy_1 : List (ℕ × ℕ)
+format_copy_1 =
+    map (λ i. (8, i)) (range_with_len 0 6) ++ ((8, 7) ∷ (8, 8) ∷ (7, 8) ∷ map (λ i. (14 - i, 8)) (range_with_len 9 6))
+
+abbrev pub format_copy_2 : ℕ → List (ℕ × ℕ)
+format_copy_2 n =
+    map (λ i. (n - 1 - i, 8)) (range_with_len 0 8) ++ map (λ i. (8, n - 15 + i)) (range_with_len 8 7)
+
+abbrev pub version_copy_1 : ℕ → List (ℕ × ℕ)
+version_copy_1 n = map (λ i. (n - 11 + i % 3, i / 3)) (range_with_len 0 18)
+
+abbrev pub version_copy_2 : ℕ → List (ℕ × ℕ)
+version_copy_2 n = map (λ i. (i / 3, n - 11 + i % 3)) (range_with_len 0 18)
+
+-- the word that stands at a list of places
+abbrev pub word_at : (ℕ → ℕ → Bool) → List (ℕ × ℕ) → ℕ
+word_at m places = low_first (map (λ (p : ℕ × ℕ). m p.0 p.1) places)
+
+abbrev pub level_of : ℕ → Level
+level_of indicator = if indicator == 0 then M else (if indicator == 1 then L else (if indicator == 2 then H else Q))
+
+-- the level and the mask of a word that is a codeword of the format information
+abbrev pub read_format_word : ℕ → Option (Level × ℕ)
+read_format_word word =
+    let codeword = bit_xor word 0x5412 in
+    if binary_remainder 10 0x537 5 codeword == 0 then Some (level_of (codeword / 2 ^ 13), codeword / 2 ^ 10 % 8) else None
+
+-- the level and the mask, where both copies of the format information agree
+unfoldable pub read_format : ℕ → (ℕ → ℕ → Bool) → Option (Level × ℕ)
+unfolding binary_remainder
+read_format n m =
+    cond (word_at m format_copy_1 == word_at m (format_copy_2 n)) (read_format_word (word_at m format_copy_1)) None
+
+-- whether both copies of the version information, where the version has it, are its codeword
+unfoldable pub shows_version : ℕ → ℕ → (ℕ → ℕ → Bool) → Bool
+unfolding binary_remainder
+shows_version v n m =
+    let first = word_at m (version_copy_1 n) in
+    let second = word_at m (version_copy_2 n) in
+    not (nat_le 7 v) || ((first == second) && ((binary_remainder 12 0x1F25 6 first == 0) && (first / 2 ^ 12 == v)))
+
+-- whether a module is the one that is fixed there, if any
+abbrev pub agrees : Option Bool → Bool → Bool
+agrees None b = true
+agrees (Some a) b = beq a b
+
+-- whether every module that the data does not choose is right
+unfoldable pub shows_functions : ℕ → Level → ℕ → (ℕ → ℕ → Bool) → Bool
+unfolding fixed
+shows_functions v level mask m =
+    all_below (side_of v) (λ y. all_below (side_of v) (λ x. agrees (fixed v level mask x y) (m x y)))
+
+-- a strip of two columns: in each of its rows the right module, then the left one
+abbrev pub strip : ℕ → List ℕ → List (ℕ × ℕ)
+strip right [] = []
+strip right (y ∷ ys) = (right, y) ∷ (right - 1, y) ∷ strip right ys
+
+-- strips one after another, their rows in one order and the other in turn
+abbrev pub strips : List ℕ → List ℕ → List ℕ → List (ℕ × ℕ)
+strips [] rows other_rows = []
+strips (right ∷ rights) rows other_rows = strip right rows ++ strips rights other_rows rows
+
+-- the right columns of the strips, from the right; column 6 is in none
+abbrev pub right_columns : ℕ → List ℕ
+right_columns n = map (λ s. n - 1 - 2 * s) (range_with_len 0 ((n - 7) / 2)) ++ (5 ∷ 3 ∷ 1 ∷ [])
+
+-- the modules in the order of reading, the first strip upwards
+unfoldable pub walk : ℕ → List (ℕ × ℕ)
+walk n = strips (right_columns n) (reverse (range_with_len 0 n)) (range_with_len 0 n)
+
+-- the data bits: the free modules in the order of reading, with the mask taken off
+unfoldable pub read_bits : ℕ → ℕ → (ℕ → ℕ → Bool) → List Bool
+unfolding is_free walk is_flipped
+read_bits v mask m =
+    map (λ (p : ℕ × ℕ). flip_if (is_flipped mask p.0 p.1) (m p.0 p.1)) (filter (λ (p : ℕ × ℕ). is_free v p.0 p.1) (walk (side_of v)))
+
+-- the first k groups of eight bits as words
+abbrev pub by_eights : ℕ → List Bool → List ℕ
+by_eights zero bits = []
+by_eights (suc k) bits = high_first (take 8 bits) ∷ by_eights k (drop 8 bits)
+
+-- what the modules say
+pub record Reading : Type 0 where
+  pub version : ℕ
+  pub level : Level
+  pub words : List ℕ
+
+abbrev pub read_with : ℕ → (ℕ → ℕ → Bool) → Option (Level × ℕ) → Option Reading
+read_with v m None = None
+read_with v m (Some format) =
+    if shows_version v (side_of v) m && shows_functions v format.0 format.1 m
+    then Some (record { version = v; level = format.0; words = by_eights (total_codewords v) (read_bits v format.1 m) })
+    else None
+
+-- the version, the level and the words of a symbol; there is no reading where any check fails
+unfoldable pub read_matrix : ℕ → (ℕ → ℕ → Bool) → Option Reading
+unfolding total_codewords read_format shows_version shows_functions read_bits
+read_matrix n m =
+    let v = (n - 17) / 4 in
+    if (n == side_of v) && (nat_le 1 v && nat_le v 10) then read_with v m (read_format n m) else None

@@ -1,0 +1,70 @@
+//! The eight masks, one word a row.
+ghost use Rattle.std.specs.Prelude.{◌≡◌, ℕ, ◌*◌, ◌<◌, ◌≤◌};
+ghost use Rattle.qrmatrix.specs.Bits.{bit};
+ghost use Rattle.qrmatrix.specs.Drawing.{masked};
+ghost use Rattle.qrmatrix.specs.Masks;
+ghost use Rattle.qrmatrix.specs.Square.{value_at, SameOutside};
+
+use crate::row::low_ones;
+use crate::square::Square;
+
+/// Of each mask, the first six modules that it flips in each of the first twelve rows. They repeat after six columns and twelve rows.
+const PATTERNS: [[u64; 12]; 8] = [
+    [
+        0b010101, 0b101010, 0b010101, 0b101010, 0b010101, 0b101010, 0b010101, 0b101010, 0b010101,
+        0b101010, 0b010101, 0b101010,
+    ],
+    [
+        0b111111, 0b000000, 0b111111, 0b000000, 0b111111, 0b000000, 0b111111, 0b000000, 0b111111,
+        0b000000, 0b111111, 0b000000,
+    ],
+    [
+        0b001001, 0b001001, 0b001001, 0b001001, 0b001001, 0b001001, 0b001001, 0b001001, 0b001001,
+        0b001001, 0b001001, 0b001001,
+    ],
+    [
+        0b001001, 0b100100, 0b010010, 0b001001, 0b100100, 0b010010, 0b001001, 0b100100, 0b010010,
+        0b001001, 0b100100, 0b010010,
+    ],
+    [
+        0b000111, 0b000111, 0b111000, 0b111000, 0b000111, 0b000111, 0b111000, 0b111000, 0b000111,
+        0b000111, 0b111000, 0b111000,
+    ],
+    [
+        0b111111, 0b000001, 0b001001, 0b010101, 0b001001, 0b000001, 0b111111, 0b000001, 0b001001,
+        0b010101, 0b001001, 0b000001,
+    ],
+    [
+        0b111111, 0b000111, 0b011011, 0b010101, 0b101101, 0b110001, 0b111111, 0b000111, 0b011011,
+        0b010101, 0b101101, 0b110001,
+    ],
+    [
+        0b010101, 0b111000, 0b110001, 0b101010, 0b000111, 0b001110, 0b010101, 0b111000, 0b110001,
+        0b101010, 0b000111, 0b001110,
+    ],
+];
+
+/// A one in every sixth place.
+const EVERY_SIXTH: u64 = 0x0041041041041041;
+
+/// The modules of row `y` that a mask flips.
+fn mask_word(mask: u8, y: usize) -> u64
+    requires mask { mask < 8 }
+    requires row { y < 57 }
+    ensures { (x : ℕ) → x < 57 → bit result x ≡ Masks.is_flipped mask x y }
+{
+    PATTERNS[usize::from(mask)][y % 12] * EVERY_SIXTH
+}
+
+/// Flips the free modules by the mask.
+pub fn apply_mask(n: usize, mask: u8, function: &Square, modules: &mut Square)
+    requires side { n ≤ 57 }
+    requires mask { mask < 8 }
+    ensures masked { (x y : ℕ) → x < n → y < n → value_at modules.new x y ≡ masked mask function.now modules.old x y }
+    ensures outside { SameOutside n modules.old modules.new }
+{
+    for y in 0..n {
+        let free = low_ones(n) & !function.row(y);
+        modules.flip(y, mask_word(mask, y) & free);
+    }
+}

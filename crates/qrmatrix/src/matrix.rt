@@ -1,0 +1,106 @@
+//! A drawn symbol.
+ghost use Rattle.std.specs.Prelude.{◌≡◌, ℕ, ◌+◌, ◌*◌, ◌<◌, ◌≤◌, ◌&&◌, All, Bool, false, IfSome, length, List, Some, slice_index};
+ghost use Rattle.qrdata.specs.Versions.{side_of, total_codewords};
+ghost use Rattle.qrmatrix.specs.Bits.{bit};
+ghost use Rattle.qrmatrix.specs.MaskChoice.{chosen_mask};
+ghost use Rattle.qrmatrix.specs.Modules.{is_inside, module_at};
+ghost use Rattle.qrmatrix.specs.Penalty;
+ghost use Rattle.qrmatrix.specs.Placement.{free_count, remainder_bits};
+ghost use Rattle.qrmatrix.specs.Reading.{read_matrix};
+ghost use Rattle.qrmatrix.specs.Symbol.{Symbol, is_dark, IsWithin};
+
+use crate::penalty::penalty;
+use crate::square::Square;
+use crate::unmasked::Unmasked;
+use labelcore::Level;
+use qrdata::{Version, Words};
+use std::marker::Model;
+
+/// The modules of a QR Code symbol.
+#[derive(Drop)]
+pub struct Matrix {
+    side: usize,
+    mask: u8,
+    modules: Square,
+}
+
+impl Model for Matrix {
+    ghost Value = { Symbol };
+
+    ghost view = { λ m. record { side = m.side; mask = m.mask; rows = m.modules } };
+
+    ghost invariant = { λ m. record { least : 21 ≤ m.side; most : m.side ≤ 57; within : IsWithin m.side m.modules } };
+}
+
+/// What the type of bytes says of each of them.
+fn are_bytes(bytes: &[u8])
+    ensures { All (λ b. b < 256) bytes.now }
+{}
+
+impl Matrix {
+    /// Draws the codewords of a symbol under the given mask, 0 to 7, or else under the mask of the least penalty, the
+    /// first of several (ISO/IEC 18004, 7.7 to 7.10). The modules read back as the version, the level and the codewords.
+    pub fn draw(version: Version, level: Level, mask: Option<u8>, words: &Words) -> Matrix
+        requires count { length words.now.items ≡ total_codewords version.number }
+        requires mask { IfSome mask (λ k. k < 8) }
+        ensures side { result.side ≡ side_of version.number }
+        ensures mask { result.mask ≡ chosen_mask version.number level mask words.now.items }
+        ensures modules { (x y : ℕ) → is_dark result x y ≡ module_at version.number level result.mask words.now.items x y }
+        ensures outside { (x y : ℕ) → is_inside result.side x y ≡ false → is_dark result x y ≡ false }
+        ensures reads { read_matrix result.side (is_dark result) ≡ Some (record { version = version.number; level = level; words = words.now.items }) }
+
+        // No codeword is left out, and only the remainder bits hold none.
+        ensures room { free_count version.number ≡ 8 * length words.now.items + remainder_bits version.number }
+    {
+        are_bytes(words);
+        let unmasked = Unmasked::draw(version, level, words);
+        let mask = match mask {
+            Some(mask) => mask,
+            None => unmasked.least_mask(),
+        };
+        Matrix {
+            side: version.side(),
+            mask,
+            modules: unmasked.under(mask),
+        }
+    }
+
+    /// Whether the module at column `x` and row `y` is dark.
+    pub fn dark(&self, x: usize, y: usize) -> bool
+        requires column { x < self.now.side }
+        requires row { y < self.now.side }
+        ensures { result ≡ is_dark self.now x y }
+    {
+        self.modules.get(x, y)
+    }
+
+    /// The rows as words: bit x of word y is the module at column x and row y, and the bits from the side on are 0.
+    pub fn rows(&self) -> &[u64; 57]
+        ensures bits { (x y : ℕ) → bit (slice_index result.now y) x ≡ (is_inside self.now.side x y && is_dark self.now x y) }
+        ensures fits { self.now.side ≤ 57 }
+    {
+        self.modules.rows()
+    }
+
+    /// The number of modules on a side.
+    pub fn side(&self) -> usize
+        ensures value { result ≡ self.now.side }
+        ensures bound { result ≤ 57 }
+    {
+        self.side
+    }
+
+    /// The mask, 0 to 7.
+    pub fn mask(&self) -> u8
+        ensures { result ≡ self.now.mask }
+    {
+        self.mask
+    }
+
+    /// The penalty of the modules (in the manner of ISO/IEC 18004, 7.8.3).
+    pub fn penalty(&self) -> u32
+        ensures { result ≡ Penalty.penalty self.now.side (is_dark self.now) }
+    {
+        penalty(&self.modules, self.side)
+    }
+}

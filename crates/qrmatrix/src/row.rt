@@ -1,0 +1,61 @@
+//! Rows of modules as words: bit i of a word is the module at place i.
+ghost use Rattle.std.specs.Prelude.{◌≡◌, ℕ, ◌+◌, ◌-◌, ◌*◌, ◌^◌, ◌<◌, ◌≤◌, Bool, nat_lt, cond, ◌&&◌};
+ghost use Rattle.std.specs.Bool.{beq};
+ghost use Rattle.qrmatrix.specs.Counting.{sum_below, count_below};
+ghost use Rattle.qrmatrix.specs.Bits.{bit};
+ghost use Rattle.qrmatrix.specs.Penalty.{begins_run};
+
+/// The word of ones in the lowest `n` places.
+pub fn low_ones(n: usize) -> u64
+    requires { n ≤ 57 }
+    ensures bits { (i : ℕ) → bit result i ≡ nat_lt i n }
+    ensures bound { result < 2 ^ 57 }
+{
+    (1 << n) - 1
+}
+
+/// How many of the lowest `n` places have a one.
+pub fn ones_below(word: u64, n: usize) -> u32
+    requires { n ≤ 57 }
+    ensures value { result ≡ count_below n (bit word) }
+    ensures bound { result ≤ n }
+{
+    (word & low_ones(n)).count_ones()
+}
+
+/// The places at which two rows have one colour.
+pub fn agreeing(a: u64, b: u64) -> u64
+    ensures { (i : ℕ) → i < 64 → bit result i ≡ beq (bit b i) (bit a i) }
+{
+    !(b ^ a)
+}
+
+/// The places at which five rows have one colour.
+pub fn agreeing_five(a: u64, b: u64, c: u64, d: u64, e: u64) -> u64
+    ensures { (i : ℕ) → i < 64 → bit result i ≡ (((beq (bit b i) (bit a i) && beq (bit c i) (bit a i)) && beq (bit d i) (bit a i)) && beq (bit e i) (bit a i)) }
+{
+    agreeing(a, b) & agreeing(a, c) & agreeing(a, d) & agreeing(a, e)
+}
+
+/// The places that are found already and at which the row is dark, or else light.
+pub fn found_with(found: u64, word: u64, dark: bool) -> u64
+    ensures { (i : ℕ) → i < 64 → bit result i ≡ (bit found i && beq (bit word i) dark) }
+{
+    found & if dark { word } else { !word }
+}
+
+/// The places of a row at which a run begins.
+pub fn run_starts(word: u64) -> u64
+    ensures { (i : ℕ) → i < 64 → bit result i ≡ begins_run (bit word) i }
+{
+    ((word ^ (word >> 1)) << 1) | 1
+}
+
+/// The penalty of runs, where `uniform` has the places of windows of one colour and `begins` those at which a run begins.
+pub fn run_points(uniform: u64, begins: u64, n: usize) -> u32
+    requires { n ≤ 57 }
+    ensures value { result ≡ sum_below n (λ i. cond (bit uniform i) (1 + cond (bit begins i) 2 0) 0) }
+    ensures bound { result ≤ 3 * n }
+{
+    ones_below(uniform, n) + 2 * ones_below(uniform & begins, n)
+}

@@ -1,0 +1,96 @@
+//! A square of truth values, one word a row.
+ghost use Rattle.std.specs.Prelude.{◌≡◌, ℕ, ◌^◌, ◌<◌, Bool, ◌&&◌, ◌==◌, if◌then◌else◌, List, [], false, map, slice_index, All};
+ghost use Rattle.qrmatrix.specs.Bits.{bit};
+ghost use Rattle.qrmatrix.specs.Masks.{flip_if};
+ghost use Rattle.qrmatrix.specs.RowWords.{bits_of, AreRows};
+ghost use Rattle.qrmatrix.specs.Square.{value_at, WritesAt};
+
+use std::marker::Model;
+
+/// A truth value for each column and row: bit x of word y is that at column x and row y.
+#[derive(Drop)]
+pub struct Square {
+    rows: [u64; 57],
+}
+
+impl Model for Square {
+    ghost Value = { List (List Bool) };
+
+    ghost view = { λ s. map bits_of s.rows };
+
+    ghost invariant = { λ s. AreRows s.rows };
+}
+
+/// The word with one bit written.
+fn with_bit(word: u64, x: usize, value: bool) -> u64
+    requires word { word < 2 ^ 57 }
+    requires place { x < 57 }
+    ensures bits { (a : ℕ) → bit result a ≡ (if a == x then value else bit word a) }
+    ensures bound { result < 2 ^ 57 }
+{
+    if value {
+        word | (1 << x)
+    } else {
+        word & !(1 << x)
+    }
+}
+
+impl Square {
+    /// All false.
+    pub fn new() -> Square
+        ensures { (x y : ℕ) → value_at result x y ≡ false }
+    {
+        Square { rows: [0; 57] }
+    }
+
+    /// The same square again.
+    pub fn copied(&self) -> Square
+        ensures { result ≡ self.now }
+    {
+        Square { rows: self.rows }
+    }
+
+    /// The value at column `x` and row `y`.
+    pub fn get(&self, x: usize, y: usize) -> bool
+        requires column { x < 57 }
+        requires row { y < 57 }
+        ensures { result ≡ value_at self.now x y }
+    {
+        (self.rows[y] >> x) & 1 == 1
+    }
+
+    /// Writes one value.
+    pub fn set(&mut self, x: usize, y: usize, value: bool)
+        requires column { x < 57 }
+        requires row { y < 57 }
+        ensures { WritesAt self.old self.new x y value }
+    {
+        self.rows[y] = with_bit(self.rows[y], x, value);
+    }
+
+    /// The word of row `y`.
+    pub fn row(&self, y: usize) -> u64
+        requires { y < 57 }
+        ensures bits { (x : ℕ) → bit result x ≡ value_at self.now x y }
+        ensures bound { result < 2 ^ 57 }
+    {
+        self.rows[y]
+    }
+
+    /// Turns the modules of row `y` over that have a bit in the word.
+    pub fn flip(&mut self, y: usize, word: u64)
+        requires row { y < 57 }
+        requires word { word < 2 ^ 57 }
+        ensures { (a b : ℕ) → value_at self.new a b ≡ flip_if (b == y && bit word a) (value_at self.old a b) }
+    {
+        self.rows[y] ^= word;
+    }
+
+    /// The words, one a row.
+    pub fn rows(&self) -> &[u64; 57]
+        ensures bits { (x y : ℕ) → bit (slice_index result.now y) x ≡ value_at self.now x y }
+        ensures narrow { All (λ w. w < 2 ^ 57) result.now }
+    {
+        &self.rows
+    }
+}

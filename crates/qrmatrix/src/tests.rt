@@ -1,0 +1,167 @@
+//! The worked example of the standard, and every symbol against the slow form.
+ghost use Rattle.std.specs.Prelude.{◌≡◌, ◌<◌, ◌≤◌, ◌+◌, ◌*◌, IfSome, length};
+ghost use Rattle.qrdata.specs.Versions.{side_of, total_codewords};
+
+mod slow;
+
+use crate::Matrix;
+use arrayvec::ArrayVec;
+use labelcore::Level;
+use qrdata::{Version, Words};
+
+/// The codewords of the digits 01234567 in version 1 at level M (ISO/IEC 18004, Annex I).
+const CODEWORDS: [u8; 26] = [
+    0x10, 0x20, 0x0C, 0x56, 0x61, 0x80, 0xEC, 0x11, 0xEC, 0x11, 0xEC, 0x11, 0xEC, 0x11, 0xEC, 0x11,
+    0xA5, 0x24, 0xD4, 0xC1, 0xED, 0x36, 0xC7, 0x87, 0x2C, 0x55,
+];
+
+/// Their symbol under mask 2.
+const ROWS: [&[u8; 21]; 21] = [
+    b"111111100101101111111",
+    b"100000100111101000001",
+    b"101110101000001011101",
+    b"101110101100001011101",
+    b"101110101011101011101",
+    b"100000101000101000001",
+    b"111111101010101111111",
+    b"000000001001100000000",
+    b"101111100100101111100",
+    b"000101011010100101100",
+    b"001000110101010011111",
+    b"000010000100000111100",
+    b"000111111001010010000",
+    b"000000001011111001100",
+    b"111111100110101100000",
+    b"100000101011111000101",
+    b"101110101000100101100",
+    b"101110101100100100000",
+    b"101110101011010010100",
+    b"100000100000000110110",
+    b"111111101111010010100",
+];
+
+/// Its penalties under the masks 0 to 7.
+const PENALTIES: [u32; 8] = [297, 533, 397, 452, 570, 637, 419, 406];
+
+/// The symbol of the worked example under a mask.
+fn example(mask: Option<u8>) -> Option<Matrix>
+    requires { IfSome mask (λ k. k < 8) }
+    ensures { IfSome result (λ m. m.side ≡ 21) }
+{
+    let mut words = ArrayVec::new();
+    for word in CODEWORDS {
+        let _ = words.try_push(word);
+    }
+    let version = Version::new(1)?;
+    if words.len() == version.total_words() {
+        Some(Matrix::draw(version, Level::M, mask, &words))
+    } else {
+        None
+    }
+}
+
+#[test]
+fn draws_the_worked_example(rt: HostRuntime) {
+    let matrix = example(Some(2)).expect(&rt, "26 codewords");
+    assert_eq!(rt; matrix.side(), 21);
+    assert_eq!(rt; matrix.mask(), 2);
+    for y in 0..21 {
+        for x in 0..21 {
+            assert_eq!(rt; matrix.dark(x, y), ROWS[y][x] == b'1', "at {x}, {y}");
+        }
+    }
+}
+
+#[test]
+fn lends_its_rows(rt: HostRuntime) {
+    let matrix = example(Some(2)).expect(&rt, "26 codewords");
+    let rows = matrix.rows();
+    assert_eq!(rt; rows[0], 0x1FDA7F);
+    assert_eq!(rt; rows[6], 0x1FD57F);
+    assert_eq!(rt; rows[20], 0x052F7F);
+    assert_eq!(rt; rows[21], 0);
+}
+
+#[test]
+fn picks_the_mask_of_the_least_penalty(rt: HostRuntime) {
+    for mask in 0..8u8 {
+        let matrix = example(Some(mask)).expect(&rt, "26 codewords");
+        assert_eq!(rt;
+            matrix.penalty(),
+            PENALTIES[usize::from(mask)],
+            "under mask {mask}"
+        );
+    }
+    let matrix = example(None).expect(&rt, "26 codewords");
+    assert_eq!(rt; matrix.mask(), 0);
+    assert_eq!(rt; matrix.penalty(), 297);
+}
+
+/// What the codewords of a symbol are made of.
+#[derive(Clone, Copy)]
+enum Filling {
+    /// All bits are 0.
+    Zeros,
+    /// All bits are 1.
+    Ones,
+    /// Each codeword is the low byte of its place.
+    Places,
+}
+
+impl Filling {
+    /// So many codewords.
+    fn words(self, count: usize) -> Words {
+        let mut words = ArrayVec::new();
+        for i in 0..count {
+            let _ = words.try_push(match self {
+                Filling::Zeros => 0,
+                Filling::Ones => 255,
+                Filling::Places => (i % 256) as u8,
+            });
+        }
+        words
+    }
+}
+
+/// Whether the symbol has the modules, the mask and the penalty of the slow form.
+fn agrees(version: Version, level: Level, mask: Option<u8>, words: &Words) -> bool
+    requires count { length words.now.items ≡ total_codewords version.number }
+    requires mask { IfSome mask (λ k. k < 8) }
+{
+    let matrix = Matrix::draw(version, level, mask, words);
+    let slow = slow::Symbol::draw(version, level, mask, words);
+    for y in 0..matrix.side() {
+        for x in 0..matrix.side() {
+            if matrix.dark(x, y) != slow.dark(x, y) {
+                return false;
+            }
+        }
+    }
+    matrix.mask() == slow.mask() && u64::from(matrix.penalty()) == slow.penalty()
+}
+
+/// Whether the symbols of a version and a level agree, with no mask given and with each.
+fn all_agree(version: Version, level: Level) -> bool {
+    for filling in [Filling::Zeros, Filling::Ones, Filling::Places] {
+        let words = filling.words(version.total_words());
+        if words.len() != version.total_words() || !agrees(version, level, None, &words) {
+            return false;
+        }
+        for mask in 0..8 {
+            if !agrees(version, level, Some(mask), &words) {
+                return false;
+            }
+        }
+    }
+    true
+}
+
+#[test]
+fn agrees_with_the_slow_form(rt: HostRuntime) {
+    for number in 1..11u8 {
+        let version = Version::new(number).expect(&rt, "a version");
+        for level in [Level::L, Level::M, Level::Q, Level::H] {
+            assert!(rt; all_agree(version, level), "version {number}");
+        }
+    }
+}

@@ -1,0 +1,151 @@
+//! The slow form of a symbol: 57 by 57 truth values, drawn and counted module by module, each mask in a drawing of its own.
+
+mod penalty;
+mod square;
+
+ghost use Rattle.std.specs.Prelude.{◌≡◌, ◌+◌, ◌*◌, ◌<◌, ◌≤◌, IfSome};
+ghost use Rattle.qrdata.specs.Versions.{side_of};
+
+use crate::function;
+use labelcore::Level;
+use penalty::penalty;
+use qrdata::{Version, Words};
+use square::Square;
+
+/// The modules of a symbol.
+#[derive(Drop)]
+pub struct Symbol {
+    side: usize,
+    mask: u8,
+    modules: Square,
+    ghost least: { 21 ≤ side },
+    ghost most: { side ≤ 57 },
+}
+
+impl Symbol {
+    /// Draws the codewords under the given mask, or else under the first of the least penalty.
+    pub fn draw(version: Version, level: Level, mask: Option<u8>, words: &Words) -> Symbol
+        requires { IfSome mask (λ k. k < 8) }
+    {
+        let mask = match mask {
+            Some(mask) => mask,
+            None => least_mask(version, level, words),
+        };
+        Symbol {
+            side: version.side(),
+            mask,
+            modules: modules_under(version, level, mask, words),
+        }
+    }
+
+    /// Whether the module at column `x` and row `y` is dark.
+    pub fn dark(&self, x: usize, y: usize) -> bool
+        requires column { x < 57 }
+        requires row { y < 57 }
+    {
+        self.modules.get(x, y)
+    }
+
+    /// The mask.
+    pub fn mask(&self) -> u8 {
+        self.mask
+    }
+
+    /// The penalty.
+    pub fn penalty(&self) -> u64 {
+        penalty(&self.modules, self.side)
+    }
+}
+
+/// The first mask of the least penalty.
+fn least_mask(version: Version, level: Level, words: &Words) -> u8
+    ensures { result < 8 }
+{
+    let mut best = 0;
+    let mut least = u64::MAX;
+    for mask in 0..8 {
+        let next = penalty(&modules_under(version, level, mask, words), version.side());
+        if next < least {
+            least = next;
+            best = mask;
+        }
+    }
+    best
+}
+
+/// The modules of the symbol under a mask.
+fn modules_under(version: Version, level: Level, mask: u8, words: &Words) -> Square
+    requires { mask < 8 }
+{
+    let n = version.side();
+    let mut modules = Square::new();
+    let mut function = Square::new();
+    for y in 0..n {
+        for x in 0..n {
+            if let Some(dark) = function::fixed(version, level, mask, x, y) {
+                function.set(x, y, true);
+                modules.set(x, y, dark);
+            }
+        }
+    }
+    place(n, words, &function, &mut modules);
+    for y in 0..n {
+        for x in 0..n {
+            if !function.get(x, y) && is_flipped(mask, y, x) {
+                let dark = modules.get(x, y);
+                modules.set(x, y, !dark);
+            }
+        }
+    }
+    modules
+}
+
+/// Places the codewords on the free modules: a cursor goes along the strips and counts the free modules.
+fn place(n: usize, words: &Words, function: &Square, modules: &mut Square)
+    requires least { 21 ≤ n }
+    requires most { n ≤ 57 }
+{
+    let mut placed = 0;
+    for strip in 0..(n - 1) / 2 {
+        let right = if strip < (n - 7) / 2 {
+            n - 1 - 2 * strip
+        } else {
+            n - 2 - 2 * strip
+        };
+        for t in 0..n {
+            let y = if strip % 2 == 0 { n - 1 - t } else { t };
+            for x in [right, right - 1] {
+                if !function.get(x, y) {
+                    modules.set(x, y, data_bit(words, placed));
+                    placed = placed.saturating_add(1);
+                }
+            }
+        }
+    }
+}
+
+/// Bit `i` of the codewords, the high bit of each first, and light past their end.
+fn data_bit(words: &Words, i: usize) -> bool {
+    match words.get(i / 8) {
+        Some(word) => (*word >> (7 - i % 8)) & 1 == 1,
+        None => false,
+    }
+}
+
+/// Whether a mask flips the free module at row `i` and column `j`.
+fn is_flipped(mask: u8, i: usize, j: usize) -> bool
+    requires row { i < 57 }
+    requires column { j < 57 }
+{
+    let value = match mask {
+        0 => (i + j) % 2,
+        1 => i % 2,
+        2 => j % 3,
+        3 => (i + j) % 3,
+        4 => (i / 2 + j / 3) % 2,
+        5 => (i * j) % 2 + (i * j) % 3,
+        6 => ((i * j) % 2 + (i * j) % 3) % 2,
+        _ => ((i + j) % 2 + (i * j) % 3) % 2,
+    };
+    value == 0
+}
