@@ -1,0 +1,5 @@
+pub mod Code128Rows
+pub mod EanRows
+pub mod SwitchingLemmas
+pub mod TableLemmas
+pub mod WrittenLemmas

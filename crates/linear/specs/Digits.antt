@@ -1,0 +1,46 @@
+-- The digits of EAN and UPC as bytes, and their check digit (ISO/IEC 15420).
+use Rattle.std.specs.Prelude.{ℕ, ◌+◌, ◌-◌, ◌*◌, ◌%◌, ◌==◌, if◌then◌else◌, not, Option, Some, None, Result, Ok, Err, List, [], ◌∷◌, ◌++◌, length, take, position, slice_index}
+use Rattle.std.specs.Char.{is_ascii_digit}
+use Rattle.labelcore.specs.declared.fault.Fault.{Fault}
+use Rattle.labelcore.specs.declared.fault.Fault.TheVariants.{NotADigit, WrongNumberOfDigits, WrongCheckDigit}
+
+-- the value of a digit's byte
+abbrev pub digit_value : ℕ → ℕ
+digit_value byte = byte - 48
+
+-- what a digit weighs that has this many digits to its right: from the right the weights are 3, 1, 3, 1 and so on
+abbrev pub weight : ℕ → ℕ
+weight following = if following % 2 == 0 then 3 else 1
+
+-- the sum of the digits, each times its weight
+abbrev pub weighted_sum : List ℕ → ℕ
+weighted_sum [] = 0
+weighted_sum (byte ∷ rest) = weight (length rest) * digit_value byte + weighted_sum rest
+
+-- the check digit of the digits before it
+abbrev pub check_digit : List ℕ → ℕ
+check_digit digits = (10 - weighted_sum digits % 10) % 10
+
+-- digits and a last one that is to be their check digit
+abbrev pub checked : List ℕ → ℕ → Result (List ℕ) Fault
+checked digits last =
+    if digit_value last == check_digit digits
+    then Ok (digits ++ last ∷ [])
+    else Err (WrongCheckDigit (digit_value last) (check_digit digits))
+
+-- digits, this many or with their check digit one more, with their check digit
+abbrev pub completed : ℕ → List ℕ → Result (List ℕ) Fault
+completed count digits =
+    if length digits == count then Ok (digits ++ (48 + check_digit digits) ∷ [])
+    else if length digits == count + 1 then checked (take count digits) (slice_index digits count)
+    else Err (WrongNumberOfDigits (length digits))
+
+-- the result, or the refusal of the byte at an index
+abbrev pub unless_refused : Option ℕ → Result (List ℕ) Fault → Result (List ℕ) Fault
+unless_refused None result = result
+unless_refused (Some index) result = Err (NotADigit (index + 1))
+
+-- the full data of a symbol that has this many digits and a check digit: bytes that are no digits are refused first, then
+-- a wrong number of digits, then a wrong check digit
+abbrev pub full_digits : ℕ → List ℕ → Result (List ℕ) Fault
+full_digits count bytes = unless_refused (position (λ byte. not (is_ascii_digit byte)) bytes) (completed count bytes)

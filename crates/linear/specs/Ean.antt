@@ -1,0 +1,52 @@
+-- The rows of EAN and UPC symbols (ISO/IEC 15420).
+use Rattle.std.specs.Prelude.{ℕ, Bool, List, [], ◌∷◌, ◌++◌, map, reverse, not, take, drop, replicate, slice_index_or, flat_map, codes}
+use Rattle.linear.specs.declared.tables.TheConstants.{NUMBER_SET_A, LEFT_SETS}
+use Rattle.linear.specs.declared.ean.NumberSet.{NumberSet}
+use Rattle.linear.specs.declared.ean.NumberSet.TheVariants.{A, B, C}
+use Rattle.linear.specs.Digits.{digit_value}
+use Rattle.linear.specs.Modules.{modules}
+
+-- a digit's modules in number set A
+abbrev pub pattern_a : ℕ → List Bool
+pattern_a digit = modules (slice_index_or NUMBER_SET_A digit [])
+
+-- a digit's modules in a number set: set C is the complement of A, and set B is C read backwards
+abbrev pub pattern : NumberSet → ℕ → List Bool
+pattern A digit = pattern_a digit
+pattern B digit = reverse (map not (pattern_a digit))
+pattern C digit = map not (pattern_a digit)
+
+-- digits, each in its number set
+abbrev pub patterns : List NumberSet → List ℕ → List Bool
+patterns [] bytes = []
+patterns (set ∷ sets) [] = []
+patterns (set ∷ sets) (byte ∷ bytes) = pattern set (digit_value byte) ++ patterns sets bytes
+
+-- the guard patterns
+abbrev pub normal_guard : List Bool
+normal_guard = modules (codes "101")
+
+abbrev pub centre_guard : List Bool
+centre_guard = modules (codes "01010")
+
+-- a symbol: a left half in these sets, and a right half in set C, between guards
+abbrev pub symbol : List NumberSet → List ℕ → List ℕ → List Bool
+symbol sets left right =
+    normal_guard ++ (patterns sets left ++ (centre_guard ++ (flat_map (λ byte. pattern C (digit_value byte)) right ++ normal_guard)))
+
+-- EAN-8: four digits in set A and four in set C
+abbrev pub ean8_bars : List ℕ → List Bool
+ean8_bars full = symbol (replicate 4 A) (take 4 full) (drop 4 full)
+
+-- the number sets of the left half of an EAN-13 symbol, by its first digit
+abbrev pub left_sets : ℕ → List NumberSet
+left_sets digit = slice_index_or LEFT_SETS digit []
+
+-- EAN-13: the first digit picks the sets of the next six, and the last six are in set C
+abbrev pub ean13_bars : List ℕ → List Bool
+ean13_bars [] = []
+ean13_bars (first ∷ rest) = symbol (left_sets (digit_value first)) (take 6 rest) (drop 6 rest)
+
+-- UPC-A: the bars of EAN-13 for the same digits after a 0
+abbrev pub upca_bars : List ℕ → List Bool
+upca_bars full = ean13_bars (48 ∷ full)

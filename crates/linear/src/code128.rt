@@ -1,0 +1,138 @@
+//! Code 128 symbols.
+ghost use Rattle.std.specs.Prelude.{◌≡◌, [], ◌+◌, ◌*◌, ◌≤◌, ◌<◌, ◌++◌, All, Ok, Err, OnOk, MatchResult, length, sum, flat_map, position, nat_le, true};
+ghost use Rattle.arrayvec.specs.ArrayVec.{array_vec_len};
+ghost use Rattle.linear.specs.Code128.{check_value, bars_and_spaces, widths_of, character_bars, full_code128, code128_bars};
+
+use crate::linear::Linear;
+use crate::row::{Row, push_run};
+use crate::switching::{start_set, start_value, written};
+use crate::tables::{STOP_WIDTHS, WIDTHS};
+use labelcore::Fault;
+
+/// The check value of a start value and the values after it.
+fn check_value(start: u8, values: &[u8]) -> u8
+    requires { length values.now ≤ 160 }
+    ensures { result ≡ check_value start values.now }
+{
+    let mut sum = u32::from(start);
+    let mut place = 1;
+    for value in values {
+        sum += place * u32::from(*value);
+        place += 1;
+    }
+    (sum % 103) as u8
+}
+
+/// Appends bars and spaces of these widths in turn.
+fn push_widths(row: &mut Row, widths: &[u8])
+    requires { array_vec_len row.old + sum widths.now ≤ 1795 }
+    ensures items { row.new.items ≡ row.old.items ++ bars_and_spaces true widths.now }
+    ensures len { array_vec_len row.new ≡ array_vec_len row.old + sum widths.now }
+{
+    let mut dark = true;
+    for width in widths {
+        push_run(row, dark, *width);
+        dark = !dark;
+    }
+}
+
+/// The widths of a character.
+fn widths(value: u8) -> [u8; 6]
+    requires { value < 106 }
+    ensures widths { result ≡ widths_of value }
+    ensures sum { sum result ≡ 11 }
+{
+    WIDTHS[usize::from(value)]
+}
+
+/// Appends a character.
+fn push_character(row: &mut Row, value: u8)
+    requires value { value < 106 }
+    requires room { array_vec_len row.old + 11 ≤ 1795 }
+    ensures drawn { row.new.items ≡ row.old.items ++ character_bars value }
+    ensures len { array_vec_len row.new ≡ array_vec_len row.old + 11 }
+{
+    push_widths(row, &widths(value));
+}
+
+/// Appends characters.
+fn push_characters(row: &mut Row, values: &[u8])
+    requires values { All (λ value. value < 106) values.now }
+    requires room { array_vec_len row.old + 11 * length values.now ≤ 1795 }
+    ensures drawn { row.new.items ≡ row.old.items ++ flat_map character_bars values.now }
+    ensures len { array_vec_len row.new ≡ array_vec_len row.old + 11 * length values.now }
+{
+    for value in values {
+        push_character(row, *value);
+    }
+}
+
+/// Appends the symbol of data.
+fn push_code128(row: &mut Row, data: &[u8])
+    requires ascii { All (λ byte. byte < 128) «data».now }
+    requires few { length «data».now ≤ 80 }
+    requires blank { row.old.items ≡ [] }
+    ensures drawn { row.new.items ≡ code128_bars «data».now }
+    ensures len { array_vec_len row.new ≤ 1795 }
+{
+    let set = start_set(data);
+    let start = start_value(set);
+    let values = written(data, set);
+    push_character(row, start);
+    push_characters(row, &values);
+    push_character(row, check_value(start, &values));
+    push_widths(row, &STOP_WIDTHS);
+}
+
+#[tactic(auto, using(crate::specs::Code128Laws::all_ascii_from_None))]
+/// Whether data can be a symbol: at most 80 bytes, all of them ASCII.
+fn check_data(data: &[u8]) -> Result<(), Fault>
+    ensures answer { MatchResult result (λ _. full_code128 «data».now ≡ Ok «data».now) (λ fault. full_code128 «data».now ≡ Err fault) }
+    ensures ascii { OnOk result (All (λ byte. byte < 128) «data».now) }
+    ensures few { OnOk result (length «data».now ≤ 80) }
+{
+    if data.len() > 80 {
+        return Err(Fault::DataTooLong);
+    }
+    if let Some(index) = first_not_ascii(data) {
+        return Err(Fault::NotAscii(index + 1));
+    }
+    Ok(())
+}
+
+fn first_not_ascii(bytes: &[u8]) -> Option<usize>
+    ensures { result ≡ position (λ byte. nat_le 128 byte) bytes.now }
+{
+    bytes.iter().position(|byte| *byte >= 128)
+}
+
+/// Code 128.
+pub struct Code128;
+
+impl Linear for Code128 {
+    ghost use Rattle.linear.specs.Code128.{full_code128, code128_bars};
+    ghost use Rattle.linear.specs.Code128Reading.{read_code128};
+    ghost use Rattle.linear.specs.Code128Laws.{code128_reads_back};
+
+    ghost full_data = { full_code128 };
+
+    ghost bars = { code128_bars };
+
+    ghost reading = { read_code128 };
+
+    ghost reads_back = { code128_reads_back };
+
+    ghost QUIET_LEFT = { 10 };
+
+    ghost QUIET_RIGHT = { 10 };
+
+    const QUIET_LEFT: usize = 10;
+    const QUIET_RIGHT: usize = 10;
+
+    fn encode(data: &[u8], row: &mut Row) -> Result<(), Fault> {
+        row.clear();
+        check_data(data)?;
+        push_code128(row, data);
+        Ok(())
+    }
+}

@@ -1,0 +1,195 @@
+//! EAN and UPC symbols.
+ghost use Rattle.std.specs.Prelude.{◌≡◌, ℕ, ◌+◌, ◌*◌, ◌≤◌, ◌<◌, ◌++◌, All, length, map, not, flat_map};
+ghost use Rattle.std.specs.Char.{IsAsciiDigit};
+ghost use Rattle.arrayvec.specs.ArrayVec.{array_vec_len};
+ghost use Rattle.linear.specs.Digits.{digit_value};
+ghost use Rattle.linear.specs.Modules.{modules};
+ghost use Rattle.linear.specs.Ean.{pattern, patterns, symbol, ean13_bars};
+
+use crate::digits::full_digits;
+use crate::linear::Linear;
+use crate::row::{Row, push_complement, push_modules};
+use crate::tables::{LEFT_SETS, NUMBER_SET_A};
+use labelcore::Fault;
+
+/// A number set of EAN and UPC: each digit has one pattern of seven modules in each.
+#[derive(Clone, Copy, Debug, PartialEq, Eq)]
+pub enum NumberSet {
+    A,
+    B,
+    C,
+}
+
+/// Appends a digit in a number set.
+fn push_digit(row: &mut Row, set: NumberSet, digit: u8)
+    requires digit { digit < 10 }
+    requires room { array_vec_len row.old + 7 ≤ 1795 }
+    ensures drawn { row.new.items ≡ row.old.items ++ pattern set digit }
+    ensures len { array_vec_len row.new ≡ array_vec_len row.old + 7 }
+{
+    let mut text = NUMBER_SET_A[digit as usize];
+    match set {
+        NumberSet::A => push_modules(row, &text),
+        NumberSet::B => {
+            text.reverse();
+            push_complement(row, &text)
+        }
+        NumberSet::C => push_complement(row, &text),
+    }
+}
+
+/// Appends digits, each in its number set.
+fn push_left(row: &mut Row, sets: &[NumberSet], digits: &[u8])
+    requires same { length sets.now ≡ length digits.now }
+    requires digits { All IsAsciiDigit digits.now }
+    requires few { length digits.now ≤ 6 }
+    requires room { array_vec_len row.old + 42 ≤ 1795 }
+    ensures drawn { row.new.items ≡ row.old.items ++ patterns sets.now digits.now }
+    ensures len { array_vec_len row.new ≡ array_vec_len row.old + 7 * length digits.now }
+{
+    for (i, digit) in digits.iter().enumerate() {
+        push_digit(row, sets[i], *digit - b'0');
+    }
+}
+
+/// Appends digits in number set C.
+fn push_right(row: &mut Row, digits: &[u8])
+    requires digits { All IsAsciiDigit digits.now }
+    requires few { length digits.now ≤ 6 }
+    requires room { array_vec_len row.old + 42 ≤ 1795 }
+    ensures drawn { row.new.items ≡ row.old.items ++ flat_map (λ byte. pattern NumberSet.C (digit_value byte)) digits.now }
+    ensures len { array_vec_len row.new ≡ array_vec_len row.old + 7 * length digits.now }
+{
+    for digit in digits {
+        push_digit(row, NumberSet::C, *digit - b'0');
+    }
+}
+
+/// Appends a symbol: a left half in these sets, and a right half in set C, between guards.
+fn push_symbol(row: &mut Row, sets: &[NumberSet], left: &[u8], right: &[u8])
+    requires same { length sets.now ≡ length left.now }
+    requires left { All IsAsciiDigit left.now }
+    requires right { All IsAsciiDigit right.now }
+    requires few_left { length left.now ≤ 6 }
+    requires few_right { length right.now ≤ 6 }
+    requires room { array_vec_len row.old + 95 ≤ 1795 }
+    ensures drawn { row.new.items ≡ row.old.items ++ symbol sets.now left.now right.now }
+    ensures len { array_vec_len row.new ≤ array_vec_len row.old + 95 }
+{
+    push_modules(row, b"101");
+    push_left(row, sets, left);
+    push_modules(row, b"01010");
+    push_right(row, right);
+    push_modules(row, b"101");
+}
+
+/// EAN-8.
+pub struct Ean8;
+
+impl Linear for Ean8 {
+    ghost use Rattle.linear.specs.Digits.{full_digits};
+    ghost use Rattle.linear.specs.Ean.{ean8_bars};
+    ghost use Rattle.linear.specs.EanReading.{read_ean8};
+    ghost use Rattle.linear.specs.EanLaws.{ean8_reads_back};
+
+    ghost full_data = { full_digits 7 };
+
+    ghost bars = { ean8_bars };
+
+    ghost reading = { read_ean8 };
+
+    ghost reads_back = { ean8_reads_back };
+
+    ghost QUIET_LEFT = { 7 };
+
+    ghost QUIET_RIGHT = { 7 };
+
+    const QUIET_LEFT: usize = 7;
+    const QUIET_RIGHT: usize = 7;
+
+    fn encode(data: &[u8], row: &mut Row) -> Result<(), Fault> {
+        row.clear();
+        let full = full_digits(7, data)?;
+        let (left, right) = full.split_at(4);
+        push_symbol(row, &[NumberSet::A; 4], left, right);
+        Ok(())
+    }
+}
+
+/// Appends the symbol of thirteen digits.
+fn push_ean13(row: &mut Row, full: &[u8])
+    requires digits { All IsAsciiDigit full.now }
+    requires len { length full.now ≡ 13 }
+    requires room { array_vec_len row.old + 95 ≤ 1795 }
+    ensures drawn { row.new.items ≡ row.old.items ++ ean13_bars full.now }
+    ensures len { array_vec_len row.new ≤ array_vec_len row.old + 95 }
+{
+    let sets = &LEFT_SETS[usize::from(full[0] - b'0')];
+    let (left, right) = full[1..].split_at(6);
+    push_symbol(row, sets, left, right);
+}
+
+/// EAN-13.
+pub struct Ean13;
+
+impl Linear for Ean13 {
+    ghost use Rattle.linear.specs.Digits.{full_digits};
+    ghost use Rattle.linear.specs.Ean.{ean13_bars};
+    ghost use Rattle.linear.specs.EanReading.{read_ean13};
+    ghost use Rattle.linear.specs.EanLaws.{ean13_reads_back};
+
+    ghost full_data = { full_digits 12 };
+
+    ghost bars = { ean13_bars };
+
+    ghost reading = { read_ean13 };
+
+    ghost reads_back = { ean13_reads_back };
+
+    ghost QUIET_LEFT = { 11 };
+
+    ghost QUIET_RIGHT = { 7 };
+
+    const QUIET_LEFT: usize = 11;
+    const QUIET_RIGHT: usize = 7;
+
+    fn encode(data: &[u8], row: &mut Row) -> Result<(), Fault> {
+        row.clear();
+        let full = full_digits(12, data)?;
+        push_ean13(row, &full);
+        Ok(())
+    }
+}
+
+/// UPC-A.
+pub struct UpcA;
+
+impl Linear for UpcA {
+    ghost use Rattle.linear.specs.Digits.{full_digits};
+    ghost use Rattle.linear.specs.Ean.{upca_bars};
+    ghost use Rattle.linear.specs.EanReading.{read_upca};
+    ghost use Rattle.linear.specs.EanLaws.{upca_reads_back};
+
+    ghost full_data = { full_digits 11 };
+
+    ghost bars = { upca_bars };
+
+    ghost reading = { read_upca };
+
+    ghost reads_back = { upca_reads_back };
+
+    ghost QUIET_LEFT = { 9 };
+
+    ghost QUIET_RIGHT = { 9 };
+
+    const QUIET_LEFT: usize = 9;
+    const QUIET_RIGHT: usize = 9;
+
+    fn encode(data: &[u8], row: &mut Row) -> Result<(), Fault> {
+        row.clear();
+        let mut full = full_digits(11, data)?;
+        full.insert(0, b'0');
+        push_ean13(row, &full);
+        Ok(())
+    }
+}

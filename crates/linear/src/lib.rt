@@ -1,0 +1,19 @@
+//! The rows of EAN, UPC and Code 128 symbols, and their reading.
+#![tactic(auto)]
+
+mod code128;
+mod digits;
+mod ean;
+mod linear;
+mod row;
+mod switching;
+mod tables;
+#[cfg(test)]
+mod tests;
+
+pub use code128::Code128;
+pub use ean::{Ean8, Ean13, UpcA};
+pub use linear::Linear;
+pub use row::Row;
+pub use switching::switching_law;
+pub use tables::table_laws;

@@ -1,0 +1,243 @@
+//! Code sets, and the rule by which data changes between them.
+ghost use Rattle.std.specs.Prelude.{◌≡◌, [], ◌∷◌, ◌+◌, ◌≤◌, ◌<◌, ◌++◌, All, length, IsTrue};
+ghost use Rattle.std.specs.Char.{IsAsciiDigit};
+ghost use Rattle.arrayvec.specs.ArrayVec.{array_vec_len};
+ghost use Rattle.linear.specs.CodeSets.{has_character, character_value, start_value, change_value, shift_value, leading_digits, is_control_next, is_lower_next, picked_set, is_pair_next, pair_values, changed_to, byte_written, written, start_set};
+ghost use Rattle.linear.specs.Switching.{ValuesAreWrittenBySteps};
+
+use arrayvec::ArrayVec;
+
+/// A code set of Code 128: A has the control characters, B the lower case, and C pairs of digits.
+#[derive(Clone, Copy, Debug, PartialEq, Eq)]
+pub enum CodeSet {
+    A,
+    B,
+    C,
+}
+
+/// The values of a symbol between its start and check value.
+pub type Values = ArrayVec<u8, 160>;
+
+const SHIFT: u8 = 98;
+
+fn leading_digits(bytes: &[u8]) -> usize
+    ensures value { result ≡ leading_digits bytes.now }
+    ensures within { result ≤ length bytes.now }
+{
+    bytes
+        .iter()
+        .take_while(|byte| byte.is_ascii_digit())
+        .count()
+}
+
+/// Whether the next byte that only one of sets A and B has is a control character.
+fn is_control_next(bytes: &[u8]) -> bool
+    ensures { result ≡ is_control_next bytes.now }
+{
+    for byte in bytes {
+        if *byte < 32 {
+            return true;
+        }
+        if *byte >= 96 {
+            return false;
+        }
+    }
+    false
+}
+
+/// Whether the next byte that only one of sets A and B has is one from 96 on.
+fn is_lower_next(bytes: &[u8]) -> bool
+    ensures { result ≡ is_lower_next bytes.now }
+{
+    for byte in bytes {
+        if *byte < 32 {
+            return false;
+        }
+        if *byte >= 96 {
+            return true;
+        }
+    }
+    false
+}
+
+fn picked_set(bytes: &[u8]) -> CodeSet
+    ensures { result ≡ picked_set bytes.now }
+{
+    if is_control_next(bytes) {
+        CodeSet::A
+    } else {
+        CodeSet::B
+    }
+}
+
+fn is_pair_next(set: CodeSet, bytes: &[u8]) -> bool
+    ensures { result ≡ is_pair_next set bytes.now }
+{
+    let digits = leading_digits(bytes);
+    match set {
+        CodeSet::C => digits >= 2,
+        _ => digits % 2 == 0 && (digits >= 6 || (digits >= 4 && digits == bytes.len())),
+    }
+}
+
+pub fn start_set(bytes: &[u8]) -> CodeSet
+    ensures { result ≡ start_set bytes.now }
+{
+    let digits = leading_digits(bytes);
+    if digits >= 4 || (digits == 2 && bytes.len() == 2) {
+        CodeSet::C
+    } else {
+        picked_set(bytes)
+    }
+}
+
+pub fn start_value(set: CodeSet) -> u8
+    ensures { result ≡ start_value set }
+{
+    match set {
+        CodeSet::A => 103,
+        CodeSet::B => 104,
+        CodeSet::C => 105,
+    }
+}
+
+fn change_value(set: CodeSet) -> u8
+    ensures { result ≡ change_value set }
+{
+    match set {
+        CodeSet::A => 101,
+        CodeSet::B => 100,
+        CodeSet::C => 99,
+    }
+}
+
+/// The value of a byte in set A or B.
+fn character_value(set: CodeSet, byte: u8) -> u8
+    requires ascii { byte < 128 }
+    requires has { IsTrue (has_character set byte) }
+    ensures { result ≡ character_value set byte }
+{
+    if byte < 32 { byte + 64 } else { byte - 32 }
+}
+
+/// Appends the values of two digits.
+fn push_pair(values: &mut Values, set: CodeSet, first: u8, second: u8)
+    requires first { IsAsciiDigit first }
+    requires second { IsAsciiDigit second }
+    requires room { array_vec_len values.old + 2 ≤ 160 }
+    ensures items { values.new.items ≡ values.old.items ++ pair_values set first second }
+    ensures len { array_vec_len values.new ≤ array_vec_len values.old + 2 }
+{
+    if set != CodeSet::C {
+        values.push(change_value(CodeSet::C));
+    }
+    values.push((first - b'0') * 10 + (second - b'0'));
+}
+
+/// Appends the values of a byte after a change to a set that has it.
+fn push_changed(values: &mut Values, set: CodeSet, byte: u8) -> CodeSet
+    requires ascii { byte < 128 }
+    requires has { IsTrue (has_character set byte) }
+    requires room { array_vec_len values.old + 2 ≤ 160 }
+    ensures items { values.new.items ≡ values.old.items ++ (changed_to set byte).values }
+    ensures set { result ≡ set }
+    ensures len { array_vec_len values.new ≤ array_vec_len values.old + 2 }
+{
+    values.push(change_value(set));
+    values.push(character_value(set, byte));
+    set
+}
+
+/// Appends a shift and the value of a byte in the set that it stands for. The set that holds stays.
+fn push_shifted(values: &mut Values, set: CodeSet, shifted: CodeSet, byte: u8) -> CodeSet
+    requires ascii { byte < 128 }
+    requires has { IsTrue (has_character shifted byte) }
+    requires room { array_vec_len values.old + 2 ≤ 160 }
+    ensures items { values.new.items ≡ values.old.items ++ shift_value ∷ character_value shifted byte ∷ [] }
+    ensures set { result ≡ set }
+    ensures len { array_vec_len values.new ≤ array_vec_len values.old + 2 }
+{
+    values.push(SHIFT);
+    values.push(character_value(shifted, byte));
+    set
+}
+
+/// Appends the values of a byte before `rest`, and gives the set that holds after them.
+fn push_byte(values: &mut Values, set: CodeSet, byte: u8, rest: &[u8]) -> CodeSet
+    requires ascii { byte < 128 }
+    requires room { array_vec_len values.old + 2 ≤ 160 }
+    ensures items { values.new.items ≡ values.old.items ++ (byte_written set byte rest.now).values }
+    ensures set { result ≡ (byte_written set byte rest.now).set }
+    ensures len { array_vec_len values.new ≤ array_vec_len values.old + 2 }
+{
+    match set {
+        CodeSet::A => {
+            if byte < 96 {
+                values.push(character_value(CodeSet::A, byte));
+                CodeSet::A
+            } else if is_control_next(rest) {
+                push_shifted(values, CodeSet::A, CodeSet::B, byte)
+            } else {
+                push_changed(values, CodeSet::B, byte)
+            }
+        }
+        CodeSet::B => {
+            if byte >= 32 {
+                values.push(character_value(CodeSet::B, byte));
+                CodeSet::B
+            } else if is_lower_next(rest) {
+                push_shifted(values, CodeSet::B, CodeSet::A, byte)
+            } else {
+                push_changed(values, CodeSet::A, byte)
+            }
+        }
+        CodeSet::C => {
+            let picked = picked_set_of(byte, rest);
+            push_changed(values, picked, byte)
+        }
+    }
+}
+
+/// The set to change to from C for a byte before `rest`.
+fn picked_set_of(byte: u8, rest: &[u8]) -> CodeSet
+    requires { byte < 128 }
+    ensures picked { result ≡ picked_set (byte ∷ rest.now) }
+    ensures has { IsTrue (has_character result byte) }
+{
+    if byte < 32 {
+        CodeSet::A
+    } else if byte >= 96 {
+        CodeSet::B
+    } else {
+        picked_set(rest)
+    }
+}
+
+/// The values that the data is written in, from a set on.
+#[tactic(auto, using(crate::proofs::WrittenLemmas::pair_at, crate::proofs::WrittenLemmas::byte_at))]
+pub fn written(data: &[u8], start: CodeSet) -> Values
+    requires ascii { All (λ byte. byte < 128) «data».now }
+    requires few { length «data».now ≤ 80 }
+    ensures items { result.items ≡ written start «data».now }
+    ensures characters { All (λ value. value < 106) result.items }
+{
+    let mut values = Values::new();
+    let mut set = start;
+    let mut i = 0;
+    while i < data.len() {
+        if is_pair_next(set, &data[i..]) {
+            push_pair(&mut values, set, data[i], data[i + 1]);
+            set = CodeSet::C;
+            i += 2;
+        } else {
+            set = push_byte(&mut values, set, data[i], &data[i + 1..]);
+            i += 1;
+        }
+    }
+    values
+}
+
+/// The values that a symbol is written in are those of the switching rule, step by step.
+pub fn switching_law()
+    ensures { ValuesAreWrittenBySteps }
+{}

@@ -1,0 +1,10 @@
+pub mod AsciiLemmas
+pub mod CutLemmas
+pub mod HeaderLemmas
+pub mod LineLemmas
+pub mod PassingLemmas
+pub mod PbmLemmas
+pub mod PictureRows
+pub mod RasterLemmas
+pub mod SampleLemmas
+pub mod ShortLineLemmas

@@ -1,0 +1,55 @@
+-- A plain PBM file reads back as the picture's pixels.
+use Rattle.std.proofs.Common.{◌≡◌, ℕ, suc, ◌+◌, ◌-◌, ◌*◌, ◌^◌, ◌<◌, Bool, true, not, ◌==◌, ◌&&◌, List, [], ◌∷◌, ◌++◌, length, take, drop, map, flat_map, filter, refl, ap, sym, ◌∙◌, arith, codes, decimal, Some, append_assoc}
+use Rattle.std.specs.Str.{bytes_eq}
+use Rattle.std.proofs.lemmas.List.{append-nil}
+use Rattle.std.proofs.lemmas.Bool.{eq-eqb}
+use Rattle.std.proofs.lemmas.List.FromFn.{length-range_with_len}
+use Rattle.picture.specs.Picture.{Picture}
+use Rattle.picture.specs.RoundTrip.{IsDrawable}
+use Rattle.picture.specs.Text.{below, pbm_text, pbm_header, pbm_pixel_text, pbm_row, row_text}
+use Rattle.picture.specs.Read.{Raster, raster, raster_of, pbm_pixels, has_short_lines, after_white, after_one_white, number_at, is_white, pixel_row}
+use Rattle.picture.proofs.RasterLemmas.{strip, row_digits, strip-pbm_rows, list_all-row_digits, length-row_digits, rows_of-row_digits}
+use Rattle.picture.proofs.HeaderLemmas.{number_at-decimal, after_white-decimal}
+use Rattle.picture.proofs.ShortLineLemmas.{short_rows, short_header}
+
+pbm_pixels-steps : (text first second third fourth rest : List ℕ) (width height : ℕ) →
+    has_short_lines text ≡ true → bytes_eq (take 2 text) (codes "P1") ≡ true → after_white (drop 2 text) ≡ Some first →
+    number_at first ≡ Some (width, second) → after_white second ≡ Some third → number_at third ≡ Some (height, fourth) → after_one_white fourth ≡ Some rest →
+    pbm_pixels text ≡ raster_of width height (strip rest)
+unfolding pbm_pixels
+pbm_pixels-steps text first second third fourth rest width height short magic one two three four five = rw (short, magic, one, two, three, four, five) refl
+
+raster_of-digits : (p : Picture) (ys : List ℕ) → p.height ≡ length ys →
+    raster_of p.width p.height (flat_map (row_digits p) ys) ≡ Some (record { width = p.width; height = p.height; rows = map (pixel_row p) ys })
+raster_of-digits p ys e =
+    rw (e, list_all-row_digits p ys, eq-eqb _ _ (length-row_digits p ys), rows_of-row_digits p ys) refl
+
+-- the text, line by line
+grouped : (w h body : List ℕ) → ((((80 ∷ 49 ∷ 10 ∷ []) ++ w) ++ (32 ∷ [])) ++ h) ++ (10 ∷ []) ++ body ≡ 80 ∷ 49 ∷ 10 ∷ (w ++ 32 ∷ (h ++ 10 ∷ body))
+grouped w h body = simp append_assoc
+
+read_back : (p : Picture) (n : ℕ) → suc n ≡ p.width → p.width < 2 ^ 64 → p.height < 2 ^ 64 → pbm_pixels (pbm_text p) ≡ Some (raster p)
+read_back p n e wide high =
+    let body = flat_map (pbm_row p) (below p.height) in
+    let w = decimal p.width in
+    let h = decimal p.height in
+    let text = 80 ∷ 49 ∷ 10 ∷ (w ++ 32 ∷ (h ++ 10 ∷ body)) in
+    let short : has_short_lines text ≡ true =
+    ap (λ t. has_short_lines (80 ∷ 49 ∷ 10 ∷ t)) (sym (append_assoc w (32 ∷ h) (10 ∷ body))) ∙ short_header p.width p.height body wide high (short_rows p n (below p.height) e) in
+    ap pbm_pixels (grouped w h body)
+    ∙ pbm_pixels-steps text (w ++ 32 ∷ (h ++ 10 ∷ body)) (32 ∷ (h ++ 10 ∷ body)) (h ++ 10 ∷ body) (10 ∷ body) body p.width p.height
+    short refl (after_white-decimal p.width 10 (32 ∷ (h ++ 10 ∷ body)) wide refl) (number_at-decimal p.width 32 (h ++ 10 ∷ body) wide refl)
+    (after_white-decimal p.height 32 (10 ∷ body) high refl) (number_at-decimal p.height 10 body high refl) refl
+    ∙ ap (raster_of p.width p.height) (strip-pbm_rows p (below p.height))
+    ∙ raster_of-digits p (below p.height) (sym (length-range_with_len 0 p.height))
+
+-- a plain PBM file of some column reads back as the picture's pixels
+pub pbm_pixels-pbm_text : (p : Picture) → IsDrawable p → pbm_pixels (pbm_text p) ≡ Some (raster p)
+pbm_pixels-pbm_text p h = read_back p (p.width - 1) (let some = h.some in omega arith) h.wide h.high
+
+-- the rows of a walker that writes digits and line ends, and ends a row with nothing
+pub flat_map-pbm_rows : (p : Picture) (ys : List ℕ) → flat_map (row_text pbm_pixel_text [] p) ys ≡ flat_map (pbm_row p) ys
+flat_map-pbm_rows p [] = refl
+flat_map-pbm_rows p (y ∷ ys) =
+    ap (λ (row : List ℕ). row ++ flat_map (row_text pbm_pixel_text [] p) ys) (append-nil (pbm_row p y))
+    ∙ ap (λ (rest : List ℕ). pbm_row p y ++ rest) (flat_map-pbm_rows p ys)

@@ -1,0 +1,12 @@
+use Rattle.std.proofs.Common.{◌≡◌, flat_map}
+use Rattle.picture.specs.Text.{below, row_text}
+use Rattle.picture.specs.Passing.{PassesOn}
+use Rattle.picture.proofs.rows.put_rows.Given as goal
+
+-- the rows so far were passed on
+abbrev pub invariant-loop-y : goal.invariant-loop-y
+invariant-loop-y g l = record {
+  passed : PassesOn g.S.Sink.took l.initial.sink l.sink l.initial.pending.items l.pending.items
+      (flat_map (row_text g.T.PixelText.pixel g.T.PixelText.row_end (g.G.Grid.picture l.grid)) (below l.y));
+  uncounted : g.S.Sink.failures l.sink ≡ g.S.Sink.failures l.initial.sink;
+}

@@ -1,0 +1,5 @@
+pub mod Passing
+pub mod Picture
+pub mod Read
+pub mod RoundTrip
+pub mod Text

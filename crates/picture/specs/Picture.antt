@@ -1,0 +1,33 @@
+-- Pictures, by coordinates: x counts columns from the left and y rows from the top, both from 0 (ISO/IEC 15420, 15417 and 18004, quiet zones).
+use Rattle.std.specs.Prelude.{ℕ, ◌+◌, ◌-◌, ◌*◌, ◌/◌, Bool, false, ◌&&◌, List, length, slice_index_or, nat_lt, nat_le}
+
+-- a picture: its width, its height, and whether the pixel at x and y is dark
+pub record Picture : Type 0 where
+  pub width : ℕ
+  pub height : ℕ
+  pub dark : ℕ → ℕ → Bool
+
+-- bars of one height, one for each module of the row
+abbrev pub bars : List Bool → ℕ → Picture
+bars row height = record { width = length row; height = height; dark = λ x y. slice_index_or row x false }
+
+-- widths of a quiet zone
+pub record Zone : Type 0 where
+  pub left : ℕ
+  pub right : ℕ
+  pub top : ℕ
+  pub bottom : ℕ
+
+-- the picture in its quiet zone, which is light
+abbrev pub framed : Picture → Zone → Picture
+framed p zone = record {
+  width = zone.left + p.width + zone.right;
+  height = zone.top + p.height + zone.bottom;
+  dark = λ x y.
+      nat_le zone.left x && nat_lt x (zone.left + p.width) && nat_le zone.top y && nat_lt y (zone.top + p.height)
+      && p.dark (x - zone.left) (y - zone.top);
+}
+
+-- each pixel drawn as a square of so many pixels
+abbrev pub scaled : Picture → ℕ → Picture
+scaled p scale = record { width = p.width * scale; height = p.height * scale; dark = λ x y. p.dark (x / scale) (y / scale) }

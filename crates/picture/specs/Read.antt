@@ -1,0 +1,190 @@
+-- Pictures read back from text: plain PBM files (pbm(5), the plain format), and text pictures.
+use Rattle.std.specs.Prelude.{ℕ, ◌+◌, ◌-◌, ◌*◌, ◌/◌, ◌%◌, zero, suc, Bool, true, false, not, ◌&&◌, ◌||◌, List, [], ◌∷◌, ◌++◌, map, flat_map, filter, take, drop, length, codes, Option, Some, None, option_map, option_and_then, nat_le, nat_lt, nat_eq, ◌==◌, if◌then◌else◌, take_while, slice_index_or}
+use Rattle.std.specs.List.{list_all, prefix_len, onto_first, concat}
+use Rattle.std.specs.Str.{bytes_eq}
+use Rattle.std.specs.Str.Parse.{digits_value}
+use Rattle.std.specs.Char.{is_digit}
+use Rattle.labelcore.specs.Lines.{LF, lines}
+use Rattle.picture.specs.Picture.{Picture, Zone}
+use Rattle.picture.specs.Text.{below}
+
+abbrev pub bool_eq : Bool → Bool → Bool
+bool_eq true b = b
+bool_eq false b = not b
+
+-- the pixels of a picture, row by row
+pub record Raster : Type 0 where
+  pub width : ℕ
+  pub height : ℕ
+  pub rows : List (List Bool)
+
+abbrev pub pixel_row : Picture → ℕ → List Bool
+pixel_row p y = map (λ x. p.dark x y) (below p.width)
+
+abbrev pub raster : Picture → Raster
+raster p = record { width = p.width; height = p.height; rows = map (pixel_row p) (below p.height) }
+
+-- blank, tab, carriage return and line feed, pbm(5)
+abbrev pub is_white : ℕ → Bool
+is_white b = b == 32 || b == 9 || b == 13 || b == 10
+
+infixl 10 ◌>>=◌
+abbrev pub ◌>>=◌ : {A B : Type 0} → Option A → (A → Option B) → Option B
+o >>= f = option_and_then f o
+
+-- what follows, if the test holds
+abbrev pub given : Bool → Option (Unit {0})
+given true = Some tt
+given false = None
+
+-- the text after white space, of which there is some
+abbrev pub after_white : List ℕ → Option (List ℕ)
+after_white text = if prefix_len is_white text == 0 then None else Some (drop (prefix_len is_white text) text)
+
+abbrev pub after_one_white : List ℕ → Option (List ℕ)
+after_one_white [] = None
+after_one_white (b ∷ rest) = if is_white b then Some rest else None
+
+-- a decimal number, and the text after it
+abbrev pub number_at : List ℕ → Option (ℕ × List ℕ)
+number_at text =
+    let size = prefix_len (λ b. is_digit b 10) text in
+    if size == 0 then None else Some (digits_value 10 (take size text), drop size text)
+
+-- rows of a width, as many as the height
+abbrev pub rows_of : {X : Type 0} → ℕ → ℕ → List X → List (List X)
+rows_of width zero pixels = []
+rows_of width (suc height) pixels = take width pixels ∷ rows_of width height (drop width pixels)
+
+abbrev pub is_pbm_digit : ℕ → Bool
+is_pbm_digit b = b == 48 || b == 49
+
+-- no line is longer than 70 characters
+abbrev pub has_short_lines : List ℕ → Bool
+has_short_lines text = list_all (λ line. nat_le (length line) 70) (lines text)
+
+-- so many digits, as rows of pixels
+abbrev pub raster_of : ℕ → ℕ → List ℕ → Option Raster
+raster_of width height digits =
+    if list_all is_pbm_digit digits && length digits == width * height
+    then Some (record { width = width; height = height; rows = rows_of width height (map (λ b. b == 49) digits) })
+    else None
+
+-- the pixels of a plain PBM file, pbm(5): its advice on the length of lines is a rule here
+unfoldable pub pbm_pixels : List ℕ → Option Raster
+pbm_pixels text = do
+  short ← given (has_short_lines text)
+  magic ← given (bytes_eq (take 2 text) (codes "P1"))
+  first ← after_white (drop 2 text)
+  width ← number_at first
+  second ← after_white width.1
+  height ← number_at second
+  rest ← after_one_white height.1
+  raster_of width.0 height.0 (filter (λ b. not (is_white b)) rest)
+
+-- pairs of number signs and pairs of spaces, as pixels
+abbrev pub ascii_line : List ℕ → Option (List Bool)
+ascii_line [] = Some []
+ascii_line (b ∷ []) = None
+ascii_line (b ∷ c ∷ rest) =
+    if b == c && (b == 35 || b == 32) then option_map (λ pixels. (b == 35) ∷ pixels) (ascii_line rest) else None
+
+-- lines of pixels, and then one empty line
+abbrev pub ascii_lines : List (List ℕ) → Option (List (List Bool))
+ascii_lines [] = None
+ascii_lines (line ∷ []) = if length line == 0 then Some [] else None
+ascii_lines (line ∷ next ∷ more) = do
+  pixels ← ascii_line line
+  rows ← ascii_lines (next ∷ more)
+  Some (pixels ∷ rows)
+
+abbrev pub first_length : List (List Bool) → ℕ
+first_length [] = 0
+first_length (row ∷ rows) = length row
+
+-- the pixels of a text picture: lines of equal length, and then an empty line
+unfoldable pub ascii_pixels : List ℕ → Option Raster
+ascii_pixels text = do
+  rows ← ascii_lines (lines text)
+  equal ← given (list_all (λ row. length row == first_length rows) rows)
+  Some (record { width = first_length rows; height = length rows; rows = rows })
+
+-- parts with an element before them: it is a part of its own, or the front of the first
+abbrev pub onto_parts : {X : Type 0} → Bool → X → List (List X) → List (List X)
+onto_parts true x parts = (x ∷ []) ∷ parts
+onto_parts false x parts = onto_first x parts
+
+-- the parts of a list, each but the last ended by an element that passes
+abbrev pub cut_after : {X : Type 0} → (X → Bool) → List X → List (List X)
+cut_after ends [] = []
+cut_after ends (x ∷ xs) = onto_parts (ends x) x (cut_after ends xs)
+
+-- the parts of a list, each but the first begun by an element that passes
+abbrev pub begins_part : {X : Type 0} → (X → Bool) → List X → Bool
+begins_part begins [] = true
+begins_part begins (x ∷ xs) = begins x
+
+abbrev pub cut_before : {X : Type 0} → (X → Bool) → List X → List (List X)
+cut_before begins [] = []
+cut_before begins (x ∷ xs) = onto_parts (begins_part begins xs) x (cut_before begins xs)
+
+abbrev pub is_line_feed : ℕ → Bool
+is_line_feed b = b == LF
+
+-- the lines of a stream, each with its line feed
+abbrev pub whole_lines : List ℕ → List (List ℕ)
+whole_lines stream = cut_after is_line_feed stream
+
+-- the files of a stream: each begins with a line `P1`
+abbrev pub pbm_files : List ℕ → List (List ℕ)
+pbm_files stream = map concat (cut_before (λ line. bytes_eq line (codes "P1\n")) (whole_lines stream))
+
+-- the text pictures of a stream: each ends with an empty line
+abbrev pub ascii_files : List ℕ → List (List ℕ)
+ascii_files stream = map concat (cut_after (λ line. bytes_eq line (codes "\n")) (whole_lines stream))
+
+-- the pixel at x and y
+abbrev pub pixel : Raster → ℕ → ℕ → Bool
+pixel r x y = slice_index_or (slice_index_or r.rows y []) x false
+
+-- all pixels of the cell in this column and row are of the colour
+abbrev pub has_colour : Raster → ℕ → ℕ → ℕ → Bool → Bool
+has_colour r scale column row dark =
+    list_all (λ y. list_all (λ x. bool_eq (pixel r (column * scale + x) (row * scale + y)) dark) (below scale)) (below scale)
+
+-- the colour of a cell, by its first pixel
+abbrev pub cell : Raster → ℕ → ℕ → ℕ → Bool
+cell r scale column row = pixel r (column * scale) (row * scale)
+
+abbrev pub is_inside : Zone → ℕ → ℕ → ℕ → ℕ → Bool
+is_inside zone columns rows column row =
+    nat_le zone.left column && nat_lt (column + zone.right) columns && nat_le zone.top row && nat_lt (row + zone.bottom) rows
+
+-- each cell is of one colour, and light in the quiet zone
+abbrev pub are_cells : Raster → ℕ → Zone → ℕ → ℕ → Bool
+are_cells r scale zone columns rows =
+    list_all (λ row. list_all (λ column.
+    has_colour r scale column row (cell r scale column row)
+    && (is_inside zone columns rows column row || not (cell r scale column row))) (below columns)) (below rows)
+
+-- the modules inside the quiet zone, row by row, where all cells are of one colour and the zone is light
+unfoldable pub sample : Raster → ℕ → Zone → Option (List (List Bool))
+sample r scale zone =
+    let columns = r.width / scale in
+    let rows = r.height / scale in
+    if r.width % scale == 0 && r.height % scale == 0
+    && nat_le (zone.left + zone.right) columns && nat_le (zone.top + zone.bottom) rows && are_cells r scale zone columns rows
+    then Some (map (λ row. map (λ column. cell r scale (zone.left + column) (zone.top + row))
+    (below (columns - zone.left - zone.right))) (below (rows - zone.top - zone.bottom)))
+    else None
+
+abbrev pub row_eq : List Bool → List Bool → Bool
+row_eq [] [] = true
+row_eq [] (b ∷ bs) = false
+row_eq (a ∷ as') [] = false
+row_eq (a ∷ as') (b ∷ bs) = bool_eq a b && row_eq as' bs
+
+-- the one row of a linear symbol, where all rows are equal
+abbrev pub linear_row : List (List Bool) → Option (List Bool)
+linear_row [] = None
+linear_row (row ∷ rows) = if list_all (row_eq row) rows then Some row else None

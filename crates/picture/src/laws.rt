@@ -1,0 +1,14 @@
+//! What reading finds in texts and pixels.
+ghost use Rattle.picture.specs.RoundTrip.{PbmFilesAreTexts, AsciiFilesAreTexts, ModulesAreSampled, BarsAreOneRow};
+
+/// A stream of texts is cut into these texts.
+pub fn files_of_texts()
+    ensures pbm { PbmFilesAreTexts }
+    ensures ascii { AsciiFilesAreTexts }
+{}
+
+/// The modules of a symbol are sampled from its pixels, and a linear symbol's are one row.
+pub fn modules_of_pixels()
+    ensures sampled { ModulesAreSampled }
+    ensures row { BarsAreOneRow }
+{}

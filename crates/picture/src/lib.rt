@@ -1,0 +1,22 @@
+//! Pictures of symbols, and their texts.
+#![tactic(auto)]
+
+mod ascii;
+mod bars;
+mod framed;
+mod grid;
+mod laws;
+mod pbm;
+mod pending;
+mod rows;
+mod scaled;
+#[cfg(test)]
+mod tests;
+
+pub use ascii::write_ascii;
+pub use bars::Bars;
+pub use framed::Framed;
+pub use grid::Grid;
+pub use laws::{files_of_texts, modules_of_pixels};
+pub use pbm::write_pbm;
+pub use scaled::Scaled;
