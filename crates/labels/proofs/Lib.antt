@@ -5,7 +5,6 @@ pub mod Named
 pub mod OneKind
 pub mod OutputLemmas
 pub mod Parsed
-pub mod QrLemmas
 pub mod ReadLemmas
 pub mod RunLemmas
 pub mod WordsRows

@@ -6,6 +6,7 @@ use Rattle.std.specs.List.{AllByRecursion, flat_map, list_all, range_with_len}
 use Rattle.std.proofs.Math.Nat.{mul-pos, mul-le-mul_right}
 use Rattle.std.proofs.lemmas.Bool.{cases_lt, le-ltb}
 use Rattle.std.proofs.lemmas.List.{get_or_past}
+use Rattle.std.proofs.lemmas.List.Elements.{All-from_recursion}
 use Rattle.std.proofs.lemmas.List.FromFn.{get_or-map-range_with_len, length-map-range_with_len}
 use Rattle.labelcore.specs.declared.fault.Fault.{Fault}
 use Rattle.labelcore.specs.declared.options.Format.{Format}
@@ -15,24 +16,20 @@ use Rattle.labelcore.specs.declared.symbology.Symbology.{Symbology}
 use Rattle.labelcore.specs.declared.symbology.Symbology.TheVariants.{Ean13, Ean8, UpcA, Code128, Qr}
 use Rattle.labelcore.specs.OptionValues.{OptionValues}
 use Rattle.qrdata.specs.Reading.{data_in}
-use Rattle.qrmatrix.specs.Placement.{is_inside}
+use Rattle.qrmatrix.specs.Modules.{is_inside}
 use Rattle.qrmatrix.specs.Reading.{Reading, read_matrix}
 use Rattle.qrmatrix.specs.Square.{value_at}
 use Rattle.picture.specs.Picture.{Picture, Zone, bars, framed, scaled}
 use Rattle.picture.specs.Text.{below, pbm_text, ascii_text}
 use Rattle.picture.specs.Read.{Raster, raster, pixel_row, pbm_pixels, ascii_pixels, sample, linear_row, pbm_files, ascii_files, ◌>>=◌}
-use Rattle.picture.proofs.RoundTrip.{pbm_pixels-pbm_text}
+use Rattle.picture.specs.RoundTrip.{IsDrawable}
+use Rattle.picture.proofs.PbmLemmas.{pbm_pixels-pbm_text}
 use Rattle.picture.proofs.AsciiLemmas.{ascii_pixels-ascii_text, ascii_files-flat_map}
-use Rattle.picture.proofs.CutLemmas.{IsDrawable, pbm_files-flat_map}
+use Rattle.picture.proofs.CutLemmas.{pbm_files-flat_map}
 use Rattle.picture.proofs.SampleLemmas.{pixel-raster, sample-raster, linear_row-bars}
 use Rattle.labels.specs.Label.{Label, quiet_zone, linear_label}
 use Rattle.labels.specs.Output.{Outcome, skipped, refused, drawn, outcome, outcome_of_label, image_of, images, picture_of, text_of}
 use Rattle.labels.specs.Readback.{cut, pixels, is_square, read_qr, read_linear, read_modules, read_image, accepted, with_label, AreRead, IsReadable, ReadsBack}
-
--- numbers above 0
-pub pred_of : (n : ℕ) → 0 < n → (k : ℕ) × (suc k ≡ n)
-pred_of zero some = absurd (omega arith)
-pred_of (suc n) some = (n, refl)
 
 -- the quiet zones are narrow
 zone_columns : (symbology : Symbology) → (quiet_zone symbology).left + (quiet_zone symbology).right ≤ 20
@@ -64,17 +61,17 @@ module _ (options : OptionValues) (low : 1 ≤ options.scale) (high : options.sc
       let zone = quiet_zone label.symbology in
       let wide : zone.left + label.modules.width + zone.right ≤ 1840 = small_sum zone.left label.modules.width zone.right (zone_columns label.symbology) h.columns in
       let tall : zone.top + label.modules.height + zone.bottom ≤ 1840 = small_sum zone.top label.modules.height zone.bottom (omega (arith, zone_rows label.symbology)) (omega (arith, h.rows)) in
-      let some = pred_of ((zone.left + label.modules.width + zone.right) * options.scale) (mul-pos (some_sum zone.left label.modules.width zone.right h.some_columns) low) in
-      record { columns = some.0; some = some.1; wide = small_product (zone.left + label.modules.width + zone.right) options.scale wide high; high = small_product (zone.top + label.modules.height + zone.bottom) options.scale tall high }
+      let some = mul-pos (some_sum zone.left label.modules.width zone.right h.some_columns) low in
+      record { some = some; wide = small_product (zone.left + label.modules.width + zone.right) options.scale wide high; high = small_product (zone.top + label.modules.height + zone.bottom) options.scale tall high }
 
-  some_rows : (label : Label) → IsReadable label → (n : ℕ) × (suc n ≡ (picture_of options label).height)
+  some_rows : (label : Label) → IsReadable label → 0 < (picture_of options label).height
   some_rows label h =
       let zone = quiet_zone label.symbology in
-      pred_of ((zone.top + label.modules.height + zone.bottom) * options.scale) (mul-pos (some_sum zone.top label.modules.height zone.bottom h.some_rows) low)
+      mul-pos (some_sum zone.top label.modules.height zone.bottom h.some_rows) low
 
   text_read : (format : Format) (label : Label) → IsReadable label → pixels format (text_of format (picture_of options label)) ≡ Some (raster (picture_of options label))
-  text_read Pbm label h = let d = drawable label h in pbm_pixels-pbm_text (picture_of options label) d.columns d.some d.wide d.high
-  text_read Ascii label h = let n = some_rows label h in ascii_pixels-ascii_text (picture_of options label) n.0 n.1
+  text_read Pbm label h = pbm_pixels-pbm_text (picture_of options label) (drawable label h)
+  text_read Ascii label h = ascii_pixels-ascii_text (picture_of options label) (some_rows label h)
 
   -- one image
   image_read : (format : Format) (label : Label) → IsReadable label → read_image format options.scale label.symbology (text_of format (picture_of options label)) ≡ Some label.full
@@ -85,14 +82,14 @@ module _ (options : OptionValues) (low : 1 ≤ options.scale) (high : options.sc
   are_drawable [] all = tt
   are_drawable (label ∷ labels) all = (drawable label all.0, are_drawable labels all.1)
 
-  have_columns : (labels : List Label) → AllByRecursion IsReadable labels → AllByRecursion (λ (p : Picture). (n : ℕ) × (suc n ≡ p.width)) (map (picture_of options) labels)
+  have_columns : (labels : List Label) → AllByRecursion IsReadable labels → AllByRecursion (λ (p : Picture). 0 < p.width) (map (picture_of options) labels)
   have_columns [] all = tt
-  have_columns (label ∷ labels) all = let d = drawable label all.0 in ((d.columns, d.some), have_columns labels all.1)
+  have_columns (label ∷ labels) all = ((drawable label all.0).some, have_columns labels all.1)
 
   -- a stream of images
   stream_cut : (format : Format) (labels : List Label) → AllByRecursion IsReadable labels → cut format (flat_map (text_of format) (map (picture_of options) labels)) ≡ map (text_of format) (map (picture_of options) labels)
-  stream_cut Pbm labels all = pbm_files-flat_map (map (picture_of options) labels) (are_drawable labels all)
-  stream_cut Ascii labels all = ascii_files-flat_map (map (picture_of options) labels) (have_columns labels all)
+  stream_cut Pbm labels all = let ps = map (picture_of options) labels in pbm_files-flat_map ps (All-from_recursion IsDrawable ps (are_drawable labels all))
+  stream_cut Ascii labels all = let ps = map (picture_of options) labels in ascii_files-flat_map ps (All-from_recursion (λ (p : Picture). 0 < p.width) ps (have_columns labels all))
 
   all_read : (labels : List Label) → AllByRecursion IsReadable labels → AreRead options.format options.scale (map (text_of options.format) (map (picture_of options) labels)) labels
   unfolding AreRead
@@ -137,8 +134,7 @@ pub linear_readable : (symbology : Symbology) (row : List ℕ → List Bool) (re
 linear_readable symbology row reading options (Err fault) low high law none back = tt
 linear_readable symbology row reading options (Ok full) low high law none back =
     let b = back full refl in
-    let p = pred_of options.height low in
-    let one : linear_row (raster (bars (row full) options.height)).rows ≡ Some (row full) = subst (λ (n : ℕ). linear_row (raster (bars (row full) n)).rows ≡ Some (row full)) p.1 (linear_row-bars (row full) p.0) in
+    let one = linear_row-bars (row full) options.height low in
     record {
       some_columns = some_row reading (row full) full none b.1;
       columns = omega (arith, b.0);

@@ -9,9 +9,10 @@ use Rattle.linear.specs.Digits.{full_digits}
 use Rattle.linear.specs.Ean.{ean13_bars, ean8_bars, upca_bars}
 use Rattle.linear.specs.Code128.{full_code128, code128_bars}
 use Rattle.qrdata.specs.Codewords.{symbol_codewords}
-use Rattle.qrdata.specs.Fewest.{least_version, whole}
-use Rattle.qrmatrix.specs.Functions.{side}
-use Rattle.qrmatrix.specs.Placement.{module_at, chosen_mask}
+use Rattle.qrdata.specs.Fewest.{chosen_segments, chosen_version}
+use Rattle.qrdata.specs.Versions.{side_of}
+use Rattle.qrmatrix.specs.MaskChoice.{chosen_mask}
+use Rattle.qrmatrix.specs.Modules.{module_at}
 use Rattle.picture.specs.Picture.{Picture, Zone, bars}
 
 -- a symbol: its symbology, its full data, which has the check digit, and its modules
@@ -35,13 +36,13 @@ linear_label symbology row options (Err fault) = Err fault
 
 -- the codewords of the data in a version
 unfoldable pub qr_codewords : OptionValues → List ℕ → ℕ → List ℕ
-qr_codewords options bytes version = symbol_codewords version options.level (whole bytes) bytes
+qr_codewords options bytes version = symbol_codewords version options.level (chosen_segments version bytes) bytes
 
 -- the modules of codewords, under the mask of the options, or else the first of the least penalty
 unfoldable pub qr_modules : OptionValues → ℕ → List ℕ → Picture
 qr_modules options version words = record {
-  width = side version;
-  height = side version;
+  width = side_of version;
+  height = side_of version;
   dark = module_at version options.level (chosen_mask version options.level options.mask words) words;
 }
 
@@ -57,4 +58,4 @@ label_of options Ean13 bytes = linear_label Ean13 ean13_bars options (full_digit
 label_of options Ean8 bytes = linear_label Ean8 ean8_bars options (full_digits 7 bytes)
 label_of options UpcA bytes = linear_label UpcA upca_bars options (full_digits 11 bytes)
 label_of options Code128 bytes = linear_label Code128 code128_bars options (full_code128 bytes)
-label_of options Qr bytes = qr_label options bytes (least_version options.min_version options.level (λ version. whole bytes))
+label_of options Qr bytes = qr_label options bytes (chosen_version options.min_version options.level bytes)

@@ -2,7 +2,8 @@
 ghost use Rattle.std.specs.Prelude.{Bool, None, ◌≡◌, ◌≢◌, ◌+◌, ◌*◌, ◌<◌, ◌≤◌, List, ℕ, [], length, IfOk};
 ghost use Rattle.labelcore.specs.Device.{CountsFailure, Writes};
 ghost use Rattle.picture.specs.Picture.{scaled, symbol_picture};
-ghost use Rattle.qrdata.specs.Fewest.{capacity, least_version, whole};
+ghost use Rattle.qrdata.specs.Fewest.{chosen_segments, chosen_version};
+ghost use Rattle.qrdata.specs.Versions.{capacity};
 ghost use Rattle.qrdata.specs.Segments.{IsSegmentation, cost};
 ghost use Rattle.labels.specs.Label.{linear_label, label_of, qr_codewords, qr_label, qr_modules, quiet_zone};
 ghost use Rattle.labels.specs.Output.{outcome_of_label, image_of, text_of};
@@ -14,7 +15,7 @@ use labelcore::{Fault, Format, IoFault, Options, Sink, Symbology};
 use linear::{Code128, Ean8, Ean13, Linear, Row, UpcA};
 use picture::{Bars, Framed, Grid, Scaled, write_ascii, write_pbm};
 use qrdata::{Plan, Words, choose, codewords};
-use qrmatrix::matrix::Matrix;
+use qrmatrix::Matrix;
 
 /// Writes the image of the data's symbol, and says why it is refused, if it is.
 #[tactic(auto, unfolding(crate::specs::Label::label_of))]
@@ -74,11 +75,11 @@ fn draw_qr<O: Sink>(
     requires { content.now ≢ [] }
     ensures count { CountsFailure (O.failures out.old) (O.failures out.new) result }
     ensures bytes { Writes O.took out.old out.new (image_of options.now (outcome_of_label (qr_label options.now content.now
-        (least_version options.now.min_version options.now.level (λ version. whole content.now))))) result }
+        (chosen_version options.now.min_version options.now.level content.now)))) result }
     ensures refusal { IfOk result (λ refusal. refusal ≡ refusal_of (outcome_of_label (qr_label options.now content.now
-        (least_version options.now.min_version options.now.level (λ version. whole content.now))))) }
+        (chosen_version options.now.min_version options.now.level content.now)))) }
     ensures read { ReadsBack (outcome_of_label (qr_label options.now content.now
-        (least_version options.now.min_version options.now.level (λ version. whole content.now)))) }
+        (chosen_version options.now.min_version options.now.level content.now))) }
 {
     match choose(options, content) {
         Ok(plan) => {
@@ -95,7 +96,7 @@ fn draw_qr<O: Sink>(
 fn matrix_of(options: &Options, plan: &Plan, content: &[u8]) -> Matrix
     requires held { IsSegmentation plan.now.version plan.now.segments content.now }
     requires fits { cost plan.now.version plan.now.segments ≤ capacity plan.now.version plan.now.level }
-    requires whole { plan.now.segments ≡ whole content.now }
+    requires chosen { plan.now.segments ≡ chosen_segments plan.now.version content.now }
     requires level { plan.now.level ≡ options.now.level }
     ensures modules { symbol_picture result ≡ qr_modules options.now plan.now.version (qr_codewords options.now content.now plan.now.version) }
     ensures side { result.side ≤ 57 }

@@ -1,5 +1,6 @@
 -- Pictures, by coordinates: x counts columns from the left and y rows from the top, both from 0 (ISO/IEC 15420, 15417 and 18004, quiet zones).
 use Rattle.std.specs.Prelude.{ℕ, ◌+◌, ◌-◌, ◌*◌, ◌/◌, Bool, false, ◌&&◌, List, length, slice_index_or, nat_lt, nat_le}
+use Rattle.qrmatrix.specs.Symbol.{Symbol, is_dark}
 
 -- a picture: its width, its height, and whether the pixel at x and y is dark
 pub record Picture : Type 0 where
@@ -10,6 +11,10 @@ pub record Picture : Type 0 where
 -- bars of one height, one for each module of the row
 abbrev pub bars : List Bool → ℕ → Picture
 bars row height = record { width = length row; height = height; dark = λ x y. slice_index_or row x false }
+
+-- the modules of a QR symbol
+abbrev pub symbol_picture : Symbol → Picture
+symbol_picture s = record { width = s.side; height = s.side; dark = is_dark s }
 
 -- widths of a quiet zone
 pub record Zone : Type 0 where

@@ -6,6 +6,7 @@ mod bars;
 mod framed;
 mod grid;
 mod laws;
+mod matrix;
 mod pbm;
 mod pending;
 mod rows;

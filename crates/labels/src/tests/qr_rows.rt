@@ -2,7 +2,7 @@
 use crate::tests::support::{assert_came_to, assert_row, choice_of, joined, letters, repeated, run_by};
 use labelcore::{Level, Options};
 use qrdata::{Version, Words};
-use qrmatrix::matrix::Matrix;
+use qrmatrix::Matrix;
 use std::alloc::{AllocError, Global};
 use std::process::Abort;
 use std::test::Fail;
