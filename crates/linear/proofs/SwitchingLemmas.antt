@@ -4,13 +4,13 @@ use Rattle.std.proofs.lemmas.Bool.{cases_lt, and_parts, true≢false}
 use Rattle.std.proofs.lemmas.Bool.Decides.{nat_tests}
 use Rattle.std.specs.Char.{is_ascii_digit}
 use Rattle.linear.specs.Code128Laws.{even_run, picked_has}
-use Rattle.linear.specs.Switching.{Step, to_set, is_long_run, character_step, run_step, step, Writes, done, stepped, ValuesAreWrittenBySteps}
-use Rattle.std.specs.Prelude.{if◌then◌else◌, ◌==◌, nat_le, ◌&&◌, ◌||◌, slice_index}
+use Rattle.linear.specs.Switching.{Step, to_set, is_long_run, character_step, step, Writes, done, stepped, ValuesAreWrittenBySteps}
+use Rattle.std.specs.Prelude.{◌&&◌, ◌||◌, slice_index}
 use Rattle.std.specs.List.{AllByRecursion}
 use Rattle.std.proofs.lemmas.List.Elements.{recursion_from_All}
 use Rattle.linear.specs.declared.switching.CodeSet.{CodeSet}
 use Rattle.linear.specs.declared.switching.CodeSet.TheVariants.{A, B, C}
-use Rattle.linear.specs.CodeSets.{has_character, character_value, pair_value, change_value, shift_value, leading_digits, is_control_next, is_lower_next, picked_set, is_even_run, is_pair_next, pair_values, Written, changed_to, byte_written, written}
+use Rattle.linear.specs.CodeSets.{character_value, pair_value, change_value, shift_value, leading_digits, is_control_next, is_lower_next, picked_set, is_even_run, is_pair_next, pair_values, Written, changed_to, byte_written, written}
 
 by_step : (set : CodeSet) (byte : ℕ) (rest values all : List ℕ) (s : Step) → step set byte rest ≡ s → Writes s.set s.rest values → s.values ++ values ≡ all → Writes set (byte ∷ rest) all
 by_step set byte rest values all s e w h =

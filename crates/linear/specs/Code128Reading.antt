@@ -1,4 +1,4 @@
--- Reading of Code 128 symbols (ISO/IEC 15417).
+-- Reading of Code 128 symbols (ISO/IEC 15417, symbol characters, code sets and check character).
 use Rattle.std.specs.Prelude.{ℕ, ◌+◌, ◌-◌, ◌*◌, ◌/◌, ◌%◌, ◌==◌, nat_lt, if◌then◌else◌, Bool, true, false, ◌&&◌, Option, Some, None, List, [], ◌∷◌, ◌++◌, length, take, drop, position, slice_index, option_map, option_and_then}
 use Rattle.std.specs.Bool.{beq}
 use Rattle.std.specs.Str.{bytes_eq}
@@ -16,7 +16,7 @@ longer_first (width ∷ widths) = (width + 1) ∷ widths
 -- the lengths of the runs of equal modules
 abbrev pub run_lengths : List Bool → List ℕ
 run_lengths [] = []
-run_lengths (module_ ∷ []) = 1 ∷ []
+run_lengths (one ∷ []) = 1 ∷ []
 run_lengths (one ∷ next ∷ rest) = if beq one next then longer_first (run_lengths (next ∷ rest)) else 1 ∷ run_lengths (next ∷ rest)
 
 abbrev pub is_dark_first : List Bool → Bool

@@ -1,4 +1,4 @@
--- The rows of EAN and UPC symbols (ISO/IEC 15420).
+-- The rows of EAN and UPC symbols (ISO/IEC 15420, symbol characters, guard patterns and symbol formats).
 use Rattle.std.specs.Prelude.{ℕ, Bool, List, [], ◌∷◌, ◌++◌, map, reverse, not, take, drop, replicate, slice_index_or, flat_map, codes}
 use Rattle.linear.specs.declared.tables.TheConstants.{NUMBER_SET_A, LEFT_SETS}
 use Rattle.linear.specs.declared.ean.NumberSet.{NumberSet}

@@ -1,4 +1,4 @@
--- Reading of EAN and UPC symbols (ISO/IEC 15420).
+-- Reading of EAN and UPC symbols (ISO/IEC 15420, symbol characters, guard patterns and symbol formats).
 use Rattle.std.specs.Prelude.{ℕ, ◌+◌, ◌*◌, ◌-◌, ◌==◌, if◌then◌else◌, Bool, ◌&&◌, Option, Some, None, List, [], ◌∷◌, ◌++◌, map, length, take, drop, find, slice_index, option_map, option_and_then, codes}
 use Rattle.std.specs.Option.{option_zip, option_or}
 use Rattle.std.specs.Cmp.Lexicographic.{pointwise}

@@ -8,7 +8,7 @@ use Rattle.linear.specs.Code128.{widths_of}
 abbrev pub PatternsDiffer : Type 0
 PatternsDiffer =
     (set other_set : NumberSet) (digit other : ℕ) → digit < 10 → other < 10
-        → pattern set digit ≡ pattern other_set other → (set ≡ other_set) × (digit ≡ other)
+    → pattern set digit ≡ pattern other_set other → (set ≡ other_set) × (digit ≡ other)
 
 -- the widths of the values 0 to 106 differ
 abbrev pub WidthsDiffer : Type 0

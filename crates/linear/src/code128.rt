@@ -1,4 +1,4 @@
-//! Code 128 symbols.
+//! Code 128 symbols (ISO/IEC 15417).
 ghost use Rattle.std.specs.Prelude.{◌≡◌, [], ◌+◌, ◌*◌, ◌≤◌, ◌<◌, ◌++◌, All, Ok, Err, OnOk, MatchResult, length, sum, flat_map, position, nat_le, true};
 ghost use Rattle.arrayvec.specs.ArrayVec.{array_vec_len};
 ghost use Rattle.linear.specs.Code128.{check_value, bars_and_spaces, widths_of, character_bars, full_code128, code128_bars};
@@ -26,7 +26,7 @@ fn check_value(start: u8, values: &[u8]) -> u8
 /// Appends bars and spaces of these widths in turn.
 fn push_widths(row: &mut Row, widths: &[u8])
     requires { array_vec_len row.old + sum widths.now ≤ 1795 }
-    ensures items { row.new.items ≡ row.old.items ++ bars_and_spaces true widths.now }
+    ensures drawn { row.new.items ≡ row.old.items ++ bars_and_spaces true widths.now }
     ensures len { array_vec_len row.new ≡ array_vec_len row.old + sum widths.now }
 {
     let mut dark = true;
@@ -36,7 +36,7 @@ fn push_widths(row: &mut Row, widths: &[u8])
     }
 }
 
-/// The widths of a character.
+/// The widths of a character, bar first: eleven modules.
 fn widths(value: u8) -> [u8; 6]
     requires { value < 106 }
     ensures widths { result ≡ widths_of value }
@@ -45,7 +45,7 @@ fn widths(value: u8) -> [u8; 6]
     WIDTHS[usize::from(value)]
 }
 
-/// Appends a character.
+/// Appends the character of a value.
 fn push_character(row: &mut Row, value: u8)
     requires value { value < 106 }
     requires room { array_vec_len row.old + 11 ≤ 1795 }
@@ -55,7 +55,7 @@ fn push_character(row: &mut Row, value: u8)
     push_widths(row, &widths(value));
 }
 
-/// Appends characters.
+/// Appends the characters of values.
 fn push_characters(row: &mut Row, values: &[u8])
     requires values { All (λ value. value < 106) values.now }
     requires room { array_vec_len row.old + 11 * length values.now ≤ 1795 }
@@ -67,7 +67,7 @@ fn push_characters(row: &mut Row, values: &[u8])
     }
 }
 
-/// Appends the symbol of data.
+/// Appends the symbol of data: start, values, check value and stop.
 fn push_code128(row: &mut Row, data: &[u8])
     requires ascii { All (λ byte. byte < 128) «data».now }
     requires few { length «data».now ≤ 80 }
@@ -84,8 +84,8 @@ fn push_code128(row: &mut Row, data: &[u8])
     push_widths(row, &STOP_WIDTHS);
 }
 
-#[tactic(auto, using(crate::specs::Code128Laws::all_ascii_from_None))]
 /// Whether data can be a symbol: at most 80 bytes, all of them ASCII.
+#[tactic(auto, using(crate::specs::Code128Laws::all_ascii_from_None))]
 fn check_data(data: &[u8]) -> Result<(), Fault>
     ensures answer { MatchResult result (λ _. full_code128 «data».now ≡ Ok «data».now) (λ fault. full_code128 «data».now ≡ Err fault) }
     ensures ascii { OnOk result (All (λ byte. byte < 128) «data».now) }
@@ -100,13 +100,16 @@ fn check_data(data: &[u8]) -> Result<(), Fault>
     Ok(())
 }
 
+/// The index of the first byte that is not ASCII.
 fn first_not_ascii(bytes: &[u8]) -> Option<usize>
     ensures { result ≡ position (λ byte. nat_le 128 byte) bytes.now }
 {
     bytes.iter().position(|byte| *byte >= 128)
 }
 
-/// Code 128.
+/// Code 128 (ISO/IEC 15417): 1 to 80 ASCII bytes, as a row of at most 1,795 modules.
+///
+/// More than 80 bytes are refused as `DataTooLong`, then a byte from 128 on as `NotAscii`.
 pub struct Code128;
 
 impl Linear for Code128 {
@@ -127,6 +130,7 @@ impl Linear for Code128 {
     ghost QUIET_RIGHT = { 10 };
 
     const QUIET_LEFT: usize = 10;
+
     const QUIET_RIGHT: usize = 10;
 
     fn encode(data: &[u8], row: &mut Row) -> Result<(), Fault> {

@@ -1,9 +1,8 @@
-//! EAN and UPC symbols.
-ghost use Rattle.std.specs.Prelude.{◌≡◌, ℕ, ◌+◌, ◌*◌, ◌≤◌, ◌<◌, ◌++◌, All, length, map, not, flat_map};
+//! EAN and UPC symbols (ISO/IEC 15420).
+ghost use Rattle.std.specs.Prelude.{◌≡◌, ◌+◌, ◌*◌, ◌≤◌, ◌<◌, ◌++◌, All, length, flat_map};
 ghost use Rattle.std.specs.Char.{IsAsciiDigit};
 ghost use Rattle.arrayvec.specs.ArrayVec.{array_vec_len};
 ghost use Rattle.linear.specs.Digits.{digit_value};
-ghost use Rattle.linear.specs.Modules.{modules};
 ghost use Rattle.linear.specs.Ean.{pattern, patterns, symbol, ean13_bars};
 
 use crate::digits::full_digits;
@@ -12,7 +11,7 @@ use crate::row::{Row, push_complement, push_modules};
 use crate::tables::{LEFT_SETS, NUMBER_SET_A};
 use labelcore::Fault;
 
-/// A number set of EAN and UPC: each digit has one pattern of seven modules in each.
+/// A number set: each digit has a pattern of seven modules in each of the three.
 #[derive(Clone, Copy, Debug, PartialEq, Eq)]
 pub enum NumberSet {
     A,
@@ -27,7 +26,7 @@ fn push_digit(row: &mut Row, set: NumberSet, digit: u8)
     ensures drawn { row.new.items ≡ row.old.items ++ pattern set digit }
     ensures len { array_vec_len row.new ≡ array_vec_len row.old + 7 }
 {
-    let mut text = NUMBER_SET_A[digit as usize];
+    let mut text = NUMBER_SET_A[usize::from(digit)];
     match set {
         NumberSet::A => push_modules(row, &text),
         NumberSet::B => {
@@ -83,7 +82,10 @@ fn push_symbol(row: &mut Row, sets: &[NumberSet], left: &[u8], right: &[u8])
     push_modules(row, b"101");
 }
 
-/// EAN-8.
+/// EAN-8 (ISO/IEC 15420): seven digits, or eight that end in the right check digit, as a row of 67 modules.
+///
+/// A byte that is no digit is refused as `NotADigit`, then another number of digits as `WrongNumberOfDigits`, then
+/// a wrong last digit as `WrongCheckDigit`.
 pub struct Ean8;
 
 impl Linear for Ean8 {
@@ -105,6 +107,7 @@ impl Linear for Ean8 {
     ghost QUIET_RIGHT = { 7 };
 
     const QUIET_LEFT: usize = 7;
+
     const QUIET_RIGHT: usize = 7;
 
     fn encode(data: &[u8], row: &mut Row) -> Result<(), Fault> {
@@ -129,7 +132,9 @@ fn push_ean13(row: &mut Row, full: &[u8])
     push_symbol(row, sets, left, right);
 }
 
-/// EAN-13.
+/// EAN-13 (ISO/IEC 15420): twelve digits, or thirteen that end in the right check digit, as a row of 95 modules.
+///
+/// The refusals are those of [`Ean8`].
 pub struct Ean13;
 
 impl Linear for Ean13 {
@@ -151,6 +156,7 @@ impl Linear for Ean13 {
     ghost QUIET_RIGHT = { 7 };
 
     const QUIET_LEFT: usize = 11;
+
     const QUIET_RIGHT: usize = 7;
 
     fn encode(data: &[u8], row: &mut Row) -> Result<(), Fault> {
@@ -161,7 +167,10 @@ impl Linear for Ean13 {
     }
 }
 
-/// UPC-A.
+/// UPC-A (ISO/IEC 15420): eleven digits, or twelve that end in the right check digit, as a row of 95 modules. The
+/// row is that of EAN-13 for the same digits after a 0.
+///
+/// The refusals are those of [`Ean8`].
 pub struct UpcA;
 
 impl Linear for UpcA {
@@ -183,6 +192,7 @@ impl Linear for UpcA {
     ghost QUIET_RIGHT = { 9 };
 
     const QUIET_LEFT: usize = 9;
+
     const QUIET_RIGHT: usize = 9;
 
     fn encode(data: &[u8], row: &mut Row) -> Result<(), Fault> {

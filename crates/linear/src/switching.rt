@@ -1,8 +1,8 @@
-//! Code sets, and the rule by which data changes between them.
+//! Code sets, and the rule by which data changes between them (ISO/IEC 15417).
 ghost use Rattle.std.specs.Prelude.{◌≡◌, [], ◌∷◌, ◌+◌, ◌≤◌, ◌<◌, ◌++◌, All, length, IsTrue};
 ghost use Rattle.std.specs.Char.{IsAsciiDigit};
 ghost use Rattle.arrayvec.specs.ArrayVec.{array_vec_len};
-ghost use Rattle.linear.specs.CodeSets.{has_character, character_value, start_value, change_value, shift_value, leading_digits, is_control_next, is_lower_next, picked_set, is_pair_next, pair_values, changed_to, byte_written, written, start_set};
+ghost use Rattle.linear.specs.CodeSets.{has_character, character_value, start_value, change_value, shift_value, leading_digits, is_control_next, is_lower_next, next_special, picked_set, is_pair_next, pair_values, changed_to, byte_written, written, start_set};
 ghost use Rattle.linear.specs.Switching.{ValuesAreWrittenBySteps};
 
 use arrayvec::ArrayVec;
@@ -18,8 +18,10 @@ pub enum CodeSet {
 /// The values of a symbol between its start and check value.
 pub type Values = ArrayVec<u8, 160>;
 
+/// The value that shifts the next character alone to the other of sets A and B.
 const SHIFT: u8 = 98;
 
+/// How many digits the bytes begin with.
 fn leading_digits(bytes: &[u8]) -> usize
     ensures value { result ≡ leading_digits bytes.now }
     ensures within { result ≤ length bytes.now }
@@ -30,36 +32,28 @@ fn leading_digits(bytes: &[u8]) -> usize
         .count()
 }
 
-/// Whether the next byte that only one of sets A and B has is a control character.
+/// The first byte that only one of sets A and B has.
+fn next_special(bytes: &[u8]) -> Option<u8>
+    ensures { result ≡ next_special bytes.now }
+{
+    bytes.iter().copied().find(|byte| *byte < 32 || *byte >= 96)
+}
+
+/// Whether the next byte that only one of sets A and B has is a control character, which A has.
 fn is_control_next(bytes: &[u8]) -> bool
     ensures { result ≡ is_control_next bytes.now }
 {
-    for byte in bytes {
-        if *byte < 32 {
-            return true;
-        }
-        if *byte >= 96 {
-            return false;
-        }
-    }
-    false
+    next_special(bytes).is_some_and(|byte| byte < 32)
 }
 
-/// Whether the next byte that only one of sets A and B has is one from 96 on.
+/// Whether the next byte that only one of sets A and B has is one from 96 on, which B has.
 fn is_lower_next(bytes: &[u8]) -> bool
     ensures { result ≡ is_lower_next bytes.now }
 {
-    for byte in bytes {
-        if *byte < 32 {
-            return false;
-        }
-        if *byte >= 96 {
-            return true;
-        }
-    }
-    false
+    next_special(bytes).is_some_and(|byte| byte >= 96)
 }
 
+/// The one of sets A and B to go to for these bytes.
 fn picked_set(bytes: &[u8]) -> CodeSet
     ensures { result ≡ picked_set bytes.now }
 {
@@ -70,6 +64,7 @@ fn picked_set(bytes: &[u8]) -> CodeSet
     }
 }
 
+/// Whether the next two digits are to be one value of set C.
 fn is_pair_next(set: CodeSet, bytes: &[u8]) -> bool
     ensures { result ≡ is_pair_next set bytes.now }
 {
@@ -80,6 +75,7 @@ fn is_pair_next(set: CodeSet, bytes: &[u8]) -> bool
     }
 }
 
+/// The set to start in.
 pub fn start_set(bytes: &[u8]) -> CodeSet
     ensures { result ≡ start_set bytes.now }
 {
@@ -91,6 +87,7 @@ pub fn start_set(bytes: &[u8]) -> CodeSet
     }
 }
 
+/// The value that starts a symbol in a set.
 pub fn start_value(set: CodeSet) -> u8
     ensures { result ≡ start_value set }
 {
@@ -101,6 +98,7 @@ pub fn start_value(set: CodeSet) -> u8
     }
 }
 
+/// The value that changes to a set.
 fn change_value(set: CodeSet) -> u8
     ensures { result ≡ change_value set }
 {
@@ -108,6 +106,17 @@ fn change_value(set: CodeSet) -> u8
         CodeSet::A => 101,
         CodeSet::B => 100,
         CodeSet::C => 99,
+    }
+}
+
+/// Whether a set has a byte as a character of its own.
+fn has_character(set: CodeSet, byte: u8) -> bool
+    ensures { result ≡ has_character set byte }
+{
+    match set {
+        CodeSet::A => byte < 96,
+        CodeSet::B => byte >= 32,
+        CodeSet::C => false,
     }
 }
 
@@ -120,7 +129,7 @@ fn character_value(set: CodeSet, byte: u8) -> u8
     if byte < 32 { byte + 64 } else { byte - 32 }
 }
 
-/// Appends the values of two digits.
+/// Appends the value of two digits, after a change to set C where another one holds.
 fn push_pair(values: &mut Values, set: CodeSet, first: u8, second: u8)
     requires first { IsAsciiDigit first }
     requires second { IsAsciiDigit second }
@@ -170,31 +179,16 @@ fn push_byte(values: &mut Values, set: CodeSet, byte: u8, rest: &[u8]) -> CodeSe
     ensures set { result ≡ (byte_written set byte rest.now).set }
     ensures len { array_vec_len values.new ≤ array_vec_len values.old + 2 }
 {
+    if has_character(set, byte) {
+        values.push(character_value(set, byte));
+        return set;
+    }
     match set {
-        CodeSet::A => {
-            if byte < 96 {
-                values.push(character_value(CodeSet::A, byte));
-                CodeSet::A
-            } else if is_control_next(rest) {
-                push_shifted(values, CodeSet::A, CodeSet::B, byte)
-            } else {
-                push_changed(values, CodeSet::B, byte)
-            }
-        }
-        CodeSet::B => {
-            if byte >= 32 {
-                values.push(character_value(CodeSet::B, byte));
-                CodeSet::B
-            } else if is_lower_next(rest) {
-                push_shifted(values, CodeSet::B, CodeSet::A, byte)
-            } else {
-                push_changed(values, CodeSet::A, byte)
-            }
-        }
-        CodeSet::C => {
-            let picked = picked_set_of(byte, rest);
-            push_changed(values, picked, byte)
-        }
+        CodeSet::A if is_control_next(rest) => push_shifted(values, set, CodeSet::B, byte),
+        CodeSet::A => push_changed(values, CodeSet::B, byte),
+        CodeSet::B if is_lower_next(rest) => push_shifted(values, set, CodeSet::A, byte),
+        CodeSet::B => push_changed(values, CodeSet::A, byte),
+        CodeSet::C => push_changed(values, picked_set_of(byte, rest), byte),
     }
 }
 
@@ -213,7 +207,7 @@ fn picked_set_of(byte: u8, rest: &[u8]) -> CodeSet
     }
 }
 
-/// The values that the data is written in, from a set on.
+/// The values that the data is written in, from a set on: at most two a byte.
 #[tactic(auto, using(crate::proofs::WrittenLemmas::pair_at, crate::proofs::WrittenLemmas::byte_at))]
 pub fn written(data: &[u8], start: CodeSet) -> Values
     requires ascii { All (λ byte. byte < 128) «data».now }
