@@ -22,43 +22,43 @@ use qrmatrix::Matrix;
 pub fn draw<O: Sink>(
     options: &Options,
     symbology: Symbology,
-    content: &[u8],
+    bytes: &[u8],
     out: &mut O,
 ) -> Result<Option<Fault>, IoFault>
-    requires { content.now ≢ [] }
+    requires { bytes.now ≢ [] }
     ensures count { CountsFailure (O.failures out.old) (O.failures out.new) result }
-    ensures bytes { Writes O.took out.old out.new (image_of options.now (outcome_of_label (label_of options.now symbology content.now))) result }
-    ensures refusal { IfOk result (λ refusal. refusal ≡ refusal_of (outcome_of_label (label_of options.now symbology content.now))) }
-    ensures read { ReadsBack (outcome_of_label (label_of options.now symbology content.now)) }
+    ensures bytes { Writes O.took out.old out.new (image_of options.now (outcome_of_label (label_of options.now symbology bytes.now))) result }
+    ensures refusal { IfOk result (λ refusal. refusal ≡ refusal_of (outcome_of_label (label_of options.now symbology bytes.now))) }
+    ensures read { ReadsBack (outcome_of_label (label_of options.now symbology bytes.now)) }
 {
     match symbology {
-        Symbology::Ean13 => draw_linear::<Ean13, O>(options, symbology, content, out),
-        Symbology::Ean8 => draw_linear::<Ean8, O>(options, symbology, content, out),
-        Symbology::UpcA => draw_linear::<UpcA, O>(options, symbology, content, out),
-        Symbology::Code128 => draw_linear::<Code128, O>(options, symbology, content, out),
-        Symbology::Qr => draw_qr(options, content, out),
+        Symbology::Ean13 => draw_linear::<Ean13, O>(options, symbology, bytes, out),
+        Symbology::Ean8 => draw_linear::<Ean8, O>(options, symbology, bytes, out),
+        Symbology::UpcA => draw_linear::<UpcA, O>(options, symbology, bytes, out),
+        Symbology::Code128 => draw_linear::<Code128, O>(options, symbology, bytes, out),
+        Symbology::Qr => draw_qr(options, bytes, out),
     }
 }
 
-// Draws a linear symbol.
+/// Draws a linear symbol.
 fn draw_linear<L: Linear, O: Sink>(
     options: &Options,
     symbology: Symbology,
-    content: &[u8],
+    bytes: &[u8],
     out: &mut O,
 ) -> Result<Option<Fault>, IoFault>
-    requires some { content.now ≢ [] }
+    requires some { bytes.now ≢ [] }
     requires zone { quiet_zone symbology ≡ record { left = L.QUIET_LEFT; right = L.QUIET_RIGHT; top = 0; bottom = 0 } }
     requires narrow { L.QUIET_LEFT + L.QUIET_RIGHT ≤ 20 }
     requires reading { (rows : List (List Bool)) → read_modules symbology rows ≡ read_linear L.reading rows }
     requires none { L.reading [] ≡ None }
     ensures count { CountsFailure (O.failures out.old) (O.failures out.new) result }
-    ensures bytes { Writes O.took out.old out.new (image_of options.now (outcome_of_label (linear_label symbology L.bars options.now (L.full_data content.now)))) result }
-    ensures refusal { IfOk result (λ refusal. refusal ≡ refusal_of (outcome_of_label (linear_label symbology L.bars options.now (L.full_data content.now)))) }
-    ensures read { ReadsBack (outcome_of_label (linear_label symbology L.bars options.now (L.full_data content.now))) }
+    ensures bytes { Writes O.took out.old out.new (image_of options.now (outcome_of_label (linear_label symbology L.bars options.now (L.full_data bytes.now)))) result }
+    ensures refusal { IfOk result (λ refusal. refusal ≡ refusal_of (outcome_of_label (linear_label symbology L.bars options.now (L.full_data bytes.now)))) }
+    ensures read { ReadsBack (outcome_of_label (linear_label symbology L.bars options.now (L.full_data bytes.now))) }
 {
     let mut row = Row::new();
-    if let Err(fault) = L::encode(content, &mut row) {
+    if let Err(fault) = L::encode(bytes, &mut row) {
         return Ok(Some(fault));
     }
     let bars = Bars::new(row.as_slice(), usize::from(options.height()));
@@ -66,24 +66,24 @@ fn draw_linear<L: Linear, O: Sink>(
     Ok(None)
 }
 
-// Draws a QR symbol.
+/// Draws a QR symbol.
 fn draw_qr<O: Sink>(
     options: &Options,
-    content: &[u8],
+    bytes: &[u8],
     out: &mut O,
 ) -> Result<Option<Fault>, IoFault>
-    requires { content.now ≢ [] }
+    requires { bytes.now ≢ [] }
     ensures count { CountsFailure (O.failures out.old) (O.failures out.new) result }
-    ensures bytes { Writes O.took out.old out.new (image_of options.now (outcome_of_label (qr_label options.now content.now
-        (chosen_version options.now.min_version options.now.level content.now)))) result }
-    ensures refusal { IfOk result (λ refusal. refusal ≡ refusal_of (outcome_of_label (qr_label options.now content.now
-        (chosen_version options.now.min_version options.now.level content.now)))) }
-    ensures read { ReadsBack (outcome_of_label (qr_label options.now content.now
-        (chosen_version options.now.min_version options.now.level content.now))) }
+    ensures bytes { Writes O.took out.old out.new (image_of options.now (outcome_of_label (qr_label options.now bytes.now
+        (chosen_version options.now.min_version options.now.level bytes.now)))) result }
+    ensures refusal { IfOk result (λ refusal. refusal ≡ refusal_of (outcome_of_label (qr_label options.now bytes.now
+        (chosen_version options.now.min_version options.now.level bytes.now)))) }
+    ensures read { ReadsBack (outcome_of_label (qr_label options.now bytes.now
+        (chosen_version options.now.min_version options.now.level bytes.now))) }
 {
-    match choose(options, content) {
+    match choose(options, bytes) {
         Ok(plan) => {
-            let matrix = matrix_of(options, &plan, content);
+            let matrix = matrix_of(options, &plan, bytes);
             write_picture(options, Framed::new(matrix, 4, 4, 4, 4), out)?;
             Ok(None)
         }
@@ -91,23 +91,23 @@ fn draw_qr<O: Sink>(
     }
 }
 
-// The symbol of a plan.
+/// The symbol of a plan.
 #[tactic(auto, unfolding(crate::specs::Label::qr_modules, crate::specs::Label::qr_codewords))]
-fn matrix_of(options: &Options, plan: &Plan, content: &[u8]) -> Matrix
-    requires held { IsSegmentation plan.now.version plan.now.segments content.now }
+fn matrix_of(options: &Options, plan: &Plan, bytes: &[u8]) -> Matrix
+    requires held { IsSegmentation plan.now.version plan.now.segments bytes.now }
     requires fits { cost plan.now.version plan.now.segments ≤ capacity plan.now.version plan.now.level }
-    requires chosen { plan.now.segments ≡ chosen_segments plan.now.version content.now }
+    requires chosen { plan.now.segments ≡ chosen_segments plan.now.version bytes.now }
     requires level { plan.now.level ≡ options.now.level }
-    ensures modules { symbol_picture result ≡ qr_modules options.now plan.now.version (qr_codewords options.now content.now plan.now.version) }
+    ensures modules { symbol_picture result ≡ qr_modules options.now plan.now.version (qr_codewords options.now bytes.now plan.now.version) }
     ensures side { result.side ≤ 57 }
-    ensures read { IsReadable (record { symbology = Qr; full = content.now; modules = symbol_picture result }) }
+    ensures read { IsReadable (record { symbology = Qr; full = bytes.now; modules = symbol_picture result }) }
 {
     let mut words = Words::new();
-    codewords(plan, content, &mut words);
+    codewords(plan, bytes, &mut words);
     Matrix::draw(plan.version(), plan.level(), options.mask(), &words)
 }
 
-// Writes the text of a picture, each of its modules a square of pixels.
+/// Writes the text of a picture, each of its modules a square of pixels.
 fn write_picture<G: Grid + Drop, O: Sink>(options: &Options, grid: G, out: &mut O) -> Result<(), IoFault>
     requires width { (G.picture grid).width ≤ 1815 }
     requires height { (G.picture grid).height ≤ 500 }
@@ -118,7 +118,7 @@ fn write_picture<G: Grid + Drop, O: Sink>(options: &Options, grid: G, out: &mut 
     write_text(options.format(), &picture, out)
 }
 
-// Writes the text of a picture.
+/// Writes the text of a picture.
 fn write_text<G: Grid, O: Sink>(format: Format, picture: &G, out: &mut O) -> Result<(), IoFault>
     ensures count { CountsFailure (O.failures out.old) (O.failures out.new) result }
     ensures bytes { Writes O.took out.old out.new (text_of format (G.picture picture.now)) result }

@@ -43,7 +43,7 @@ impl Filter {
         }
     }
 
-    // Takes one byte.
+    /// Takes one byte.
     fn feed_byte<O: Sink, E: Sink>(
         &mut self,
         byte: u8,
@@ -128,7 +128,7 @@ impl Filter {
         })
     }
 
-    // Writes what the last line comes to, if no LF ends it, and says whether any line is refused.
+    /// Writes what the last line comes to, if no LF ends it, and says whether any line is refused.
     fn finish_open_line<O: Sink, E: Sink>(&self, out: &mut O, err: &mut E) -> Result<bool, RunFault>
         ensures refused { (options : OptionValues) (text : List ℕ) → StandsAt options self.now text → IfOk result (λ r. r ≡ any_refused options (lines text)) }
         ensures took { (options : OptionValues) (text : List ℕ) → StandsAt options self.now text → OnOk result
@@ -151,7 +151,7 @@ impl Filter {
     }
 }
 
-// Flushes the images, and then the messages.
+/// Flushes the images, and then the messages.
 fn flush_both<O: Sink, E: Sink>(out: &mut O, err: &mut E) -> Result<(), RunFault>
     ensures out_takes_none { O.took out.old out.new [] }
     ensures err_takes_none { E.took err.old err.new [] }

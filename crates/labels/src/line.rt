@@ -32,7 +32,7 @@ pub fn finish_line<O: Sink, E: Sink>(
     finish_item(options, item, number, out, err)
 }
 
-// Writes the image or the message of what a line asks for.
+/// Writes the image or the message of what a line asks for.
 fn finish_item<O: Sink, E: Sink>(
     options: &Options,
     item: Item,
@@ -49,34 +49,34 @@ fn finish_item<O: Sink, E: Sink>(
     match item {
         Item::Skip => Ok(false),
         Item::Refuse(fault) => refuse(number, &fault, err),
-        Item::Draw(symbology, own, content) => {
-            draw_or_refuse(&own, symbology, content, number, out, err)
+        Item::Draw(symbology, own, bytes) => {
+            draw_or_refuse(&own, symbology, bytes, number, out, err)
         }
     }
 }
 
-// Writes the image of data, or the message of its refusal.
+/// Writes the image of data, or the message of its refusal.
 fn draw_or_refuse<O: Sink, E: Sink>(
     options: &Options,
     symbology: Symbology,
-    content: &[u8],
+    bytes: &[u8],
     number: u64,
     out: &mut O,
     err: &mut E,
 ) -> Result<bool, RunFault>
-    requires { content.now ≢ [] }
-    ensures ends { IfOk result (EndsLine options.now (O.took out.old out.new) (E.took err.old err.new) number (outcome_of_label (label_of options.now symbology content.now))) }
-    ensures fails { IfErr result (FailsInLine options.now (O.took out.old out.new) (E.took err.old err.new) number (outcome_of_label (label_of options.now symbology content.now))) }
+    requires { bytes.now ≢ [] }
+    ensures ends { IfOk result (EndsLine options.now (O.took out.old out.new) (E.took err.old err.new) number (outcome_of_label (label_of options.now symbology bytes.now))) }
+    ensures fails { IfErr result (FailsInLine options.now (O.took out.old out.new) (E.took err.old err.new) number (outcome_of_label (label_of options.now symbology bytes.now))) }
     ensures counts { CountsFault (O.failures out.old) (O.failures out.new) (E.failures err.old) (E.failures err.new) result }
 {
-    match draw(options, symbology, content, out) {
+    match draw(options, symbology, bytes, out) {
         Ok(None) => Ok(false),
         Ok(Some(fault)) => refuse(number, &fault, err),
         Err(_) => Err(RunFault::WriteOut),
     }
 }
 
-// Writes the message of a refused line.
+/// Writes the message of a refused line.
 fn refuse<E: Sink>(number: u64, fault: &Fault, err: &mut E) -> Result<bool, RunFault>
     ensures refused { IfOk result (λ r. r ≡ true) }
     ensures message { OnOk result (E.took err.old err.new (message number fault.now)) }

@@ -33,7 +33,7 @@ pub enum WordsFault {
     Memory,
 }
 
-// `--name TEXT`
+/// `--name TEXT`
 fn text_option<'a>(alloc: Global, name: &'a str, help: &'a str) -> Arg<'a>
     ensures rule { rule_of result ≡ text_option name.entry.now }
     ensures local { result.global ≡ false }
@@ -41,7 +41,7 @@ fn text_option<'a>(alloc: Global, name: &'a str, help: &'a str) -> Arg<'a>
     Arg::new(alloc, name).long(name).help(help)
 }
 
-// `--name NUMBER`
+/// `--name NUMBER`
 fn number_option<'a>(
     alloc: Global,
     name: &'a str,

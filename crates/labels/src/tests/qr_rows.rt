@@ -1,8 +1,6 @@
 //! Worked labels of QR.
 use crate::tests::support::{assert_came_to, assert_row, choice_of, joined, letters, repeated, run_by};
-use labelcore::{Level, Options};
-use qrdata::{Version, Words};
-use qrmatrix::Matrix;
+use labelcore::Options;
 use std::alloc::{AllocError, Global};
 use std::process::Abort;
 use std::test::Fail;
@@ -40,10 +38,10 @@ const EXAMPLE: [&[u8]; 29] = [
     b"00000000000000000000000000000",
 ];
 
-/// The plain PBM of the worked symbol.
-fn example(alloc: Global) -> Result<Vec<u8>, AllocError> {
-    let mut text = joined(alloc, &[b"P1\n29 29\n"])?;
-    for row in EXAMPLE {
+/// The plain PBM of rows of pixels, each of less than 70.
+fn plain_pbm(alloc: Global, header: &[u8], rows: &[&[u8]]) -> Result<Vec<u8>, AllocError> {
+    let mut text = joined(alloc, &[header])?;
+    for row in rows {
         text.extend_from_slice(row)?;
         text.push(b'\n')?;
     }
@@ -86,7 +84,7 @@ fn assert_does_not_fit(rt: &impl Abort, alloc: Global, words: &[&str], front: &[
 #[test]
 fn standard_example(rt: HostRuntime) -> Result<(), Fail> {
     let alloc = rt.alloc();
-    let want = example(alloc)?;
+    let want = plain_pbm(alloc, b"P1\n29 29\n", EXAMPLE.as_slice())?;
     assert_eq!(rt; want.len(), 879);
     let options = options_of(alloc, &["--mask", "2"])?;
     assert_row(&rt, alloc, options, b"qr 01234567\n", want.as_slice(), b"");
@@ -99,33 +97,44 @@ fn standard_example(rt: HostRuntime) -> Result<(), Fail> {
     Ok(())
 }
 
-/// The codewords of `HELLO WORLD` at level Q, and their parity.
-const HELLO: [u8; 26] = [
-    32, 91, 11, 120, 209, 114, 220, 77, 67, 64, 236, 17, 236, 168, 72, 22, 82, 217, 54, 156, 0, 46,
-    15, 180, 122, 16,
+/// The symbol of `HELLO WORLD` at level Q under mask 6, in its quiet zone, as another encoder draws it.
+const HELLO: [&[u8]; 29] = [
+    b"00000000000000000000000000000",
+    b"00000000000000000000000000000",
+    b"00000000000000000000000000000",
+    b"00000000000000000000000000000",
+    b"00001111111000010011111110000",
+    b"00001000001011001010000010000",
+    b"00001011101001011010111010000",
+    b"00001011101011111010111010000",
+    b"00001011101011010010111010000",
+    b"00001000001001001010000010000",
+    b"00001111111010101011111110000",
+    b"00000000000011011000000000000",
+    b"00000101111011001110110100000",
+    b"00001011110100001111011100000",
+    b"00000010101100010011000000000",
+    b"00001011010001011000110000000",
+    b"00001101111111101110111110000",
+    b"00000000000010001001010000000",
+    b"00001111111001100110011110000",
+    b"00001000001010100100101110000",
+    b"00001011101011010010001110000",
+    b"00001011101010111000101000000",
+    b"00001011101001000010000110000",
+    b"00001000001011100111001100000",
+    b"00001111111001010000000100000",
+    b"00000000000000000000000000000",
+    b"00000000000000000000000000000",
+    b"00000000000000000000000000000",
+    b"00000000000000000000000000000",
 ];
 
 #[test]
 fn hello_world(rt: HostRuntime) -> Result<(), Fail> {
     let alloc = rt.alloc();
-    let Some(version) = Version::new(1) else {
-        panic!(rt; "version 1");
-    };
-    let mut words = Words::new();
-    for word in HELLO {
-        words.push(word);
-    }
-    let matrix = Matrix::draw(version, Level::Q, None, &words);
-    let mut want = joined(alloc, &[b"P1\n29 29\n"])?;
-    for y in 0..29 {
-        for x in 0..29 {
-            let inside = 4 <= x && x < 25 && 4 <= y && y < 25;
-            let dark = inside && matrix.dark(x - 4, y - 4);
-            want.push(if dark { b'1' } else { b'0' })?;
-        }
-        want.push(b'\n')?;
-    }
-    let options = options_of(alloc, &["--level", "Q"])?;
+    let want = plain_pbm(alloc, b"P1\n29 29\n", HELLO.as_slice())?;
+    let options = options_of(alloc, &["--level", "Q", "--mask", "6"])?;
     assert_row(&rt, alloc, options, b"qr HELLO WORLD\n", want.as_slice(), b"");
     Ok(())
 }

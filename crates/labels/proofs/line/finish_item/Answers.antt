@@ -18,4 +18,4 @@ returns-in-Draw-clause-ends g c =
 pub returns-in-Draw-clause-fails : goal.returns-in-Draw-clause-fails
 returns-in-Draw-clause-fails g c =
     let kept : KeepsForm c.args.options.now c.in-Draw.own = rw c.in-Draw.is at c.requires.form in
-    rw c.in-Draw.is (IfErr-weaker c.draw_or_refuse.result _ _ (FailsInLine-own c.args.options.now c.in-Draw.own kept (g.O.Sink.took c.args.out.now c.draw_or_refuse.new.out) (g.E.Sink.took c.args.err.now c.draw_or_refuse.new.err) c.args.number (outcome_of_label (label_of c.in-Draw.own c.in-Draw.symbology c.in-Draw.content.now))) c.draw_or_refuse.ensures.fails)
+    rw c.in-Draw.is (IfErr-weaker c.draw_or_refuse.result _ _ (FailsInLine-own c.args.options.now c.in-Draw.own kept (g.O.Sink.took c.args.out.now c.draw_or_refuse.new.out) (g.E.Sink.took c.args.err.now c.draw_or_refuse.new.err) c.args.number (outcome_of_label (label_of c.in-Draw.own c.in-Draw.symbology c.in-Draw.bytes.now))) c.draw_or_refuse.ensures.fails)
