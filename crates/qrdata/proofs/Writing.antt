@@ -9,11 +9,12 @@ use Rattle.std.proofs.Math.Nat.{div-eq_of_lt}
 use Rattle.std.proofs.lemmas.Nat.{pow_pos}
 use Rattle.labelcore.specs.declared.options.Level.{Level}
 use Rattle.qrdata.specs.declared.mode.Mode.{Mode}
+use Rattle.qrdata.specs.declared.mode.Mode.TheVariants.{Numeric}
 use Rattle.qrdata.specs.declared.mode.Segment.{Segment}
 use Rattle.qrdata.specs.Bits.{bits_of, codewords_of, number_of}
 use Rattle.qrdata.specs.Codewords.{longest, split_by}
 use Rattle.qrdata.specs.Reading.{largest}
-use Rattle.qrdata.specs.Segments.{IsSegmentation, alphanumeric_bits, alphanumeric_value, byte_bits, cost, count_width, segment_bits, segment_length, segments_bits}
+use Rattle.qrdata.specs.Segments.{IsSegmentation, alphanumeric_bits, alphanumeric_value, byte_bits, cost, count_width, segment_bits, segment_length, segment_of, segments_bits}
 use Rattle.qrdata.specs.Versions.{block_count, block_lengths, data_codewords, parity_length}
 use Rattle.qrdata.proofs.BlockLaws.{split_lengths}
 use Rattle.qrdata.proofs.BitStrings.{drop_front, take_front}
@@ -55,6 +56,10 @@ byte_bits-next xs i h = rw (drop_more xs i 0 h) refl
 pub byte_bits-none_left : (xs : List ℕ) (i : ℕ) → length xs ≤ i → byte_bits (drop i xs) ≡ []
 unfolding byte_bits
 byte_bits-none_left xs i h = rw (drop_none xs i h) refl
+
+-- what a list of segments is read as past its end
+abbrev pub default_segment : Segment
+default_segment = segment_of Numeric 0
 
 -- segments: the next one, and those after it
 pub segments_bits-next : (version : ℕ) (segments : List Segment) (d : Segment) (bytes : List ℕ) (i place : ℕ) → i < length segments

@@ -7,7 +7,7 @@ use Rattle.labelcore.specs.declared.options.Level.{Level}
 use Rattle.qrdata.specs.declared.mode.Mode.{Mode}
 use Rattle.qrdata.specs.declared.mode.Mode.TheVariants.{Numeric, Alphanumeric, Byte}
 use Rattle.qrdata.specs.Bits.{number_of}
-use Rattle.qrdata.specs.Segments.{alphanumeric_characters, byte_bits, count_width, mode_indicator}
+use Rattle.qrdata.specs.Segments.{alphanumeric_characters, byte_bits, count_width, mode_indicator, modes}
 use Rattle.qrdata.specs.Versions.{block_count, block_lengths, data_codewords, parity_length, total_codewords}
 
 infixl 10 ◌>>=◌
@@ -64,7 +64,7 @@ payload_at Byte count bits = bytes_at count bits
 
 -- the mode that four bits name
 abbrev pub mode_named : ℕ → Option Mode
-mode_named n = find (λ mode. mode_indicator mode == n) (Numeric ∷ Alphanumeric ∷ Byte ∷ [])
+mode_named n = find (λ mode. mode_indicator mode == n) modes
 
 -- the payload of the segment at the front, and the bits after it
 unfoldable pub segment_at : ℕ → List Bool → Option (List ℕ × List Bool)
