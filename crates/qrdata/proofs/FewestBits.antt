@@ -2,7 +2,7 @@
 use Rattle.std.proofs.Common.{◌≡◌, ℕ, zero, suc, ◌+◌, ◌^◌, ◌<◌, ◌≤◌, List, [], ◌∷◌, map, drop, length, refl, arith, Bool, true, false, inl, inr, cond}
 use Rattle.std.specs.Prelude.{nat_lt, ◌&&◌, filter}
 use Rattle.std.specs.List.{AllByRecursion, best_of}
-use Rattle.std.proofs.lemmas.Bool.{cases_lt, le-ltb, lt-ltb, ltb-true}
+use Rattle.std.proofs.lemmas.Bool.{and_parts, cases_lt, le-ltb, lt-ltb, ltb-true}
 use Rattle.std.proofs.lemmas.List.{length-drop}
 use Rattle.std.proofs.lemmas.List.Sums.{sum_by-cons}
 use Rattle.qrdata.specs.declared.mode.Mode.{Mode}
@@ -10,7 +10,6 @@ use Rattle.qrdata.specs.declared.mode.Mode.TheVariants.{Numeric, Alphanumeric, B
 use Rattle.qrdata.specs.declared.mode.Segment.{Segment}
 use Rattle.qrdata.specs.Segments.{IsSegmentation, cost, count_width, modes, segment_length, segment_of}
 use Rattle.qrdata.proofs.Membership.{IsIn, IsIn-filter, IsIn-flat_map, IsIn-map}
-use Rattle.qrdata.proofs.Payloads.{both}
 use Rattle.qrdata.specs.Fewest.{chosen_segments, best_within, candidates, cheapest, down_from, first_segments, is_first}
 
 IsIn-down_from : (k n : ℕ) → 0 < k → k ≤ n → IsIn k (down_from n)
@@ -140,7 +139,7 @@ is_step : (version n : ℕ) (b : ℕ) (bytes : List ℕ) → length bytes ≤ n
 unfolding best_within
 is_step version n b bytes h later =
     let each : (s : Segment) → ((0 < s.len) × (s.len ≤ length (b ∷ bytes))) × (is_first version (b ∷ bytes) s ≡ true) → IsSegmentation version (s ∷ best_within version n (drop s.len (b ∷ bytes))) (b ∷ bytes) =
-    λ s fits. (record { some = fits.0.0; inside = fits.0.1; characters = (both _ _ fits.1).0; counted = ltb-true _ _ (both _ _ fits.1).1 }, later (drop s.len (b ∷ bytes)) (omega (arith, length-drop s.len (b ∷ bytes), fits.0.0, fits.0.1))) in
+    λ s fits. (record { some = fits.0.0; inside = fits.0.1; characters = (and_parts _ _ fits.1).0; counted = ltb-true _ _ (and_parts _ _ fits.1).1 }, later (drop s.len (b ∷ bytes)) (omega (arith, length-drop s.len (b ∷ bytes), fits.0.0, fits.0.1))) in
     cheapest-one (λ lists. IsSegmentation version lists (b ∷ bytes)) version _ _
     (IsIn-map (λ (t : Segment). t ∷ best_within version n (drop t.len (b ∷ bytes))) (segment_of Byte 1) (first_segments version (b ∷ bytes)) (one_byte version b bytes))
     (All-map _ _ (λ (t : Segment). t ∷ best_within version n (drop t.len (b ∷ bytes))) each (first_segments version (b ∷ bytes)) (all_tried version (b ∷ bytes)))

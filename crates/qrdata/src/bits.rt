@@ -165,11 +165,11 @@ pub(crate) fn push_padding(count: usize, words: &mut Words)
 {
     let mut left = count;
     while left >= 2 {
-        words.push(0b1110_1100);
-        words.push(0b0001_0001);
+        words.push(0xEC);
+        words.push(0x11);
         left -= 2;
     }
     if left == 1 {
-        words.push(0b1110_1100);
+        words.push(0xEC);
     }
 }
