@@ -2,16 +2,16 @@
 use Rattle.std.proofs.Common.{◌≡◌, [], ◌∷◌, refl, Some}
 use Rattle.std.specs.Prelude.{codes}
 use Rattle.std.specs.List.{range_with_len}
-use Rattle.labelcore.specs.declared.options.Level.TheVariants.{Q, H}
+use Rattle.labelcore.specs.declared.options.Level.TheVariants.{Q}
 use Rattle.gf256.specs.BinaryPolynomial.{binary_product, binary_remainder}
 use Rattle.gf256.specs.Field.{field_product, field_power}
 use Rattle.gf256.specs.Polynomial.{evaluate}
 use Rattle.qrdata.specs.declared.mode.Mode.TheVariants.{Numeric, Byte}
-use Rattle.qrdata.specs.Bits.{bits_of, number_of, codewords_of}
-use Rattle.qrdata.specs.Codewords.{terminated, aligned, filled, padded, data_of, split_by, interleaved}
-use Rattle.qrdata.specs.Fewest.{first_segments, best_within, chosen_segments, chosen_version}
+use Rattle.qrdata.specs.Bits.{bits_of, number_of}
+use Rattle.qrdata.specs.Codewords.{split_by, interleaved}
+use Rattle.qrdata.specs.Fewest.{first_segments, best_within, chosen_segments}
 use Rattle.qrdata.specs.Reading.{number_at, digits_at, characters_at, bytes_at, segment_at, segments_at, dealt_round, joined_pairs, dealt_within, dealt, data_in}
-use Rattle.qrdata.specs.Segments.{alphanumeric_characters, alphanumeric_value, numeric_bits, alphanumeric_bits, byte_bits, segments_bits, cost}
+use Rattle.qrdata.specs.Segments.{alphanumeric_characters, alphanumeric_value, byte_bits, cost, segment_of}
 use Rattle.qrdata.specs.Versions.{total_codewords, block_count, parity_length, data_codewords, block_lengths}
 
 -- a symbol of version 1-Q that is known from outside is read
@@ -27,25 +27,17 @@ unfolding total_codewords block_count parity_length data_codewords block_lengths
 interleaving = refl
 
 -- the fewest bits, and ties to the longest first segment
-mixed : chosen_segments 1 (codes "a123456789") ≡ record { mode = Byte; len = 1 } ∷ record { mode = Numeric; len = 9 } ∷ []
+mixed : chosen_segments 1 (codes "a12345") ≡ segment_of Byte 1 ∷ segment_of Numeric 5 ∷ []
 unfolding alphanumeric_characters alphanumeric_value first_segments best_within chosen_segments
 mixed = refl
 
-tie : chosen_segments 1 (codes "a123") ≡ record { mode = Byte; len = 4 } ∷ []
+tie : chosen_segments 1 (codes "a123") ≡ segment_of Byte 4 ∷ []
 unfolding alphanumeric_characters alphanumeric_value first_segments best_within chosen_segments
 tie = refl
 
-short_digits : chosen_segments 1 (codes "a12b") ≡ record { mode = Byte; len = 4 } ∷ []
+short_digits : chosen_segments 1 (codes "a12b") ≡ segment_of Byte 4 ∷ []
 unfolding alphanumeric_characters alphanumeric_value first_segments best_within chosen_segments
 short_digits = refl
 
-three_segments_cost : cost 1 (record { mode = Byte; len = 1 } ∷ record { mode = Numeric; len = 2 } ∷ record { mode = Byte; len = 1 } ∷ []) ≡ 61
+three_segments_cost : cost 1 (segment_of Byte 1 ∷ segment_of Numeric 2 ∷ segment_of Byte 1 ∷ []) ≡ 61
 three_segments_cost = refl
-
-mixed_version : chosen_version 1 H (codes "a123456789") ≡ Some 1
-unfolding alphanumeric_characters alphanumeric_value total_codewords block_count parity_length data_codewords first_segments best_within chosen_segments chosen_version
-mixed_version = refl
-
-mixed_words : data_of 1 H (chosen_segments 1 (codes "a123456789")) (codes "a123456789") ≡ 0x40 ∷ 0x16 ∷ 0x11 ∷ 0x02 ∷ 0x47 ∷ 0xB7 ∷ 0x23 ∷ 0x15 ∷ 0x00 ∷ []
-unfolding alphanumeric_characters alphanumeric_value bits_of number_of codewords_of total_codewords block_count parity_length data_codewords numeric_bits alphanumeric_bits byte_bits segments_bits terminated aligned filled padded data_of first_segments best_within chosen_segments
-mixed_words = refl

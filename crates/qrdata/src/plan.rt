@@ -2,7 +2,8 @@
 ghost use Rattle.labelcore.specs.declared.fault.Fault.TheVariants.{DoesNotFit};
 ghost use Rattle.qrdata.specs.Fewest.{chosen_segments, chosen_version, NoneFits};
 ghost use Rattle.qrdata.specs.Segments.{IsSegmentation, cost};
-ghost use Rattle.qrdata.specs.Table.{HasFirsts, IsLeastPlan, NoPlan, SameWidths};
+ghost use Rattle.qrdata.specs.LeastPlan.{IsLeastPlan, NoPlan, SameWidths};
+ghost use Rattle.qrdata.specs.Table.{HasFirsts};
 ghost use Rattle.qrdata.specs.Versions.{capacity};
 ghost use Rattle.qrdata.specs.declared.mode.Segment.{Segment};
 ghost use Rattle.std.specs.Prelude.{Some, None, length, ◌≡◌, ◌≤◌, ◌<◌, IfErr, IfNone, IfOk, IfSome, ℕ, List};

@@ -12,14 +12,14 @@ pub(crate) const MAX_BYTES: usize = 652;
 
 /// A first segment of a rest of the bytes, and the bits of the list that it begins.
 #[derive(Clone, Copy)]
-pub(crate) struct Choice {
+struct Choice {
     segment: Segment,
     bits: u16,
 }
 
 /// The candidate of so many bytes, if it is a segment and its list costs less, and else the choice so far. The first
 /// bytes that the mode has are a run of this length, and the best list of what comes after the candidate has these bits.
-pub(crate) fn better(
+fn better(
     version: Version,
     mode: Mode,
     len: usize,
@@ -48,7 +48,7 @@ pub(crate) fn better(
 
 /// The first segment of the best list of a rest of the bytes, and the bits of that list. The bits of the best lists of
 /// shorter rests are known, and how many of the first bytes are digits and characters.
-pub(crate) fn first_of(
+fn first_of(
     version: Version,
     bytes: &[u8],
     place: usize,

@@ -1,4 +1,4 @@
-use Rattle.qrdata.specs.Table.{IsLeastPlan, NoPlan}
+use Rattle.qrdata.specs.LeastPlan.{IsLeastPlan, NoPlan}
 use Rattle.qrdata.proofs.FewestBits.{chosen_segments-is, chosen_segments-least}
 use Rattle.qrdata.proofs.VersionSearch.{NoneFits-from_chosen, chosen_version-is, chosen_version-none}
 use Rattle.qrdata.proofs.plan.choose.Goals as goal

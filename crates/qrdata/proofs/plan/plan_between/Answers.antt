@@ -2,9 +2,9 @@ use Rattle.std.proofs.Common.{◌≡◌, ◌≤◌, arith, inl, inr, refl}
 use Rattle.std.proofs.lemmas.Bool.{cases_lt}
 use Rattle.qrdata.specs.Fewest.{chosen_segments}
 use Rattle.qrdata.specs.Segments.{cost}
-use Rattle.qrdata.specs.Table.{DoNotFit}
+use Rattle.qrdata.specs.LeastPlan.{DoNotFit}
 use Rattle.qrdata.specs.Versions.{capacity}
-use Rattle.qrdata.proofs.Choosing.{few_segments}
+use Rattle.qrdata.proofs.Bounds.{few_segments}
 use Rattle.qrdata.proofs.FewestBits.{chosen_segments-is}
 use Rattle.qrdata.proofs.SameWidths.{HasFirsts-same, cost-chosen_same}
 use Rattle.qrdata.proofs.VersionTable.{capacity-le}

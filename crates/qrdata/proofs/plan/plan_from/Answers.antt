@@ -1,6 +1,6 @@
 use Rattle.std.proofs.Common.{arith}
 use Rattle.qrdata.specs.Fewest.{chosen_segments}
-use Rattle.qrdata.proofs.Choosing.{long_fit_nowhere}
+use Rattle.qrdata.proofs.Bounds.{long_fit_nowhere}
 use Rattle.qrdata.proofs.FewestBits.{chosen_segments-is}
 use Rattle.qrdata.proofs.plan.plan_from.Goals as goal
 

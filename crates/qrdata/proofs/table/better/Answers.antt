@@ -1,6 +1,6 @@
 use Rattle.std.proofs.Common.{◌≡◌, ◌+◌, arith, sym}
-use Rattle.qrdata.specs.Segments.{segment_length}
-use Rattle.qrdata.proofs.Choosing.{next_choice-keeps, next_choice-past, next_choice-short, next_choice-takes, segment_of}
+use Rattle.qrdata.specs.Segments.{segment_length, segment_of}
+use Rattle.qrdata.proofs.Choosing.{next_choice-keeps, next_choice-past, next_choice-short, next_choice-takes}
 use Rattle.qrdata.proofs.table.better.Goals as goal
 use Rattle.qrdata.proofs.table.better.Goals.{else-len-run-via-then-len-run+else-len-count_limit, else-len-run-via-else-len-run}
 
