@@ -44,7 +44,7 @@ drawn_module v level mask words x y function m1 m2 d marked shown placed others 
       | inr t ↦ rw (mark, t) (others t ∙ shown ∙ taken_role v level mask (role v x y) d (flip_if (is_flipped mask x y) (data_bit words (rank v x y))) t)
     ]
 
--- where the data chooses, nothing is fixed, and elsewhere the data does not matter
+-- where the codewords choose, nothing is fixed, and elsewhere they do not matter
 pub free_fixed : (v : ℕ) (level : Level) (mask x y : ℕ) (d : Bool) → is_free v x y ≡ true → fixed_or (fixed v level mask x y) d ≡ d
 unfolding fixed is_free
 free_fixed v level mask x y d f = free_is_data v level mask (role v x y) d f

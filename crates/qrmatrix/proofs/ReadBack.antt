@@ -21,7 +21,7 @@ use Rattle.qrmatrix.proofs.WalkRanks.{walk_ranks}
 use Rattle.qrmatrix.proofs.CodewordBits.{words_of_bits}
 use Rattle.qrmatrix.proofs.InformationRead.{format_read, copies, version_shown}
 
--- ---- the data bits
+-- ---- the bits of the codewords
 
 map_filter_step : {X Y : Type 0} (b : Bool) (f g : X → Y) (x : X) (ys : List X) → (b ≡ true → f x ≡ g x) → map f ys ≡ map g ys → map f (cond b (x ∷ ys) ys) ≡ map g (cond b (x ∷ ys) ys)
 map_filter_step true f g x ys h e = let k = h refl in cc
