@@ -1,7 +1,7 @@
 -- The choice over the first segments, candidate by candidate, ends with the first segment of the best list.
 use Rattle.std.proofs.Common.{◌≡◌, ℕ, zero, suc, ◌+◌, ◌-◌, ◌*◌, ◌^◌, ◌<◌, ◌≤◌, List, [], ◌∷◌, ◌++◌, map, take, drop, length, refl, sym, ap, ◌∙◌, append_assoc, append-nil, arith, Bool, true, false, inl, inr, cond}
 use Rattle.std.specs.Prelude.{filter, nat_lt, nat_le, ◌&&◌}
-use Rattle.std.specs.List.{best_of, flat_map, list_all}
+use Rattle.std.specs.List.{best_of, list_all}
 use Rattle.std.proofs.lemmas.Bool.{cases_lt, le-leb, lt-leb, le-ltb, lt-ltb}
 use Rattle.std.proofs.lemmas.List.{length-drop, map-append}
 use Rattle.std.proofs.lemmas.List.Elements.{filter-append}
@@ -10,14 +10,10 @@ use Rattle.qrdata.specs.declared.table.Choice.{Choice}
 use Rattle.qrdata.specs.declared.mode.Mode.{Mode}
 use Rattle.qrdata.specs.declared.mode.Mode.TheVariants.{Numeric, Alphanumeric, Byte}
 use Rattle.qrdata.specs.declared.mode.Segment.{Segment}
-use Rattle.labelcore.specs.declared.options.Level.{Level}
-use Rattle.qrdata.specs.Fewest.{NoneFits, chosen_segments, cheapest, down_from, first_segments, is_first}
-use Rattle.qrdata.specs.Versions.{capacity}
-use Rattle.qrdata.specs.Segments.{IsSegmentation, cost, count_width, has_character, payload_length, segment_length}
+use Rattle.qrdata.specs.Fewest.{candidates, cheapest, chosen_segments, first_segments, is_first}
+use Rattle.qrdata.specs.Segments.{IsSegmentation, cost, count_width, has_character, segment_length, segment_of}
 use Rattle.qrdata.specs.Table.{IsChoice, next_choice, run_length}
 use Rattle.qrdata.proofs.BestLaw.{chosen_segments-cons}
-use Rattle.qrdata.proofs.SameWidths.{SameWidths-nine}
-use Rattle.qrdata.proofs.VersionTable.{capacity-le, capacity-le_nine}
 use Rattle.qrdata.proofs.FewestBits.{chosen_segments-is, one_byte}
 
 -- a run passes up to its length
@@ -76,9 +72,6 @@ IsCheapest-next version bytes (u ∷ tried) c t h small =
     ] in
     rw (last, same) (go (beats (f t) old) refl)
 
-abbrev pub segment_of : Mode → ℕ → Segment
-segment_of m n = record { mode = m; len = n }
-
 pub cost-continued : (version : ℕ) (bytes : List ℕ) (s : Segment) → cost version (continued version bytes s) ≡ segment_length version s + cost version (chosen_segments version (drop s.len bytes))
 cost-continued version bytes s = sum_by-cons (segment_length version) s (chosen_segments version (drop s.len bytes))
 
@@ -105,12 +98,9 @@ IsCheapest-candidate version bytes tried c mode len run after inside e k small h
     ] in
     go (nat_le len run && limit) test
 
-abbrev pub modes : List Mode
-modes = Numeric ∷ Alphanumeric ∷ Byte ∷ []
-
 -- the first segments of at most so many bytes
 abbrev pub tries : (version : ℕ) (bytes : List ℕ) (n : ℕ) → List Segment
-tries version bytes n = filter (is_first version bytes) (flat_map (λ n. map (λ m. segment_of m n) modes) (down_from n))
+tries version bytes n = filter (is_first version bytes) (candidates n)
 
 tries-all : (version : ℕ) (bytes : List ℕ) → tries version bytes (length bytes) ≡ first_segments version bytes
 unfolding first_segments
@@ -121,7 +111,7 @@ tries-next : (version : ℕ) (bytes : List ℕ) (n : ℕ) → 0 < n → tries ve
 tries-next version bytes zero h = absurd (omega arith)
 tries-next version bytes (suc n) h =
     let less : suc n - 1 ≡ n = omega arith in
-    let others = flat_map (λ n. map (λ m. segment_of m n) modes) (down_from n) in
+    let others = candidates n in
     rw (
       less,
       ← filter-append (is_first version bytes) (segment_of Byte (suc n) ∷ []) others,
@@ -194,68 +184,6 @@ cost-le version (s ∷ segments) bytes cut =
 
 pub best_cost-le : (version : ℕ) (bytes : List ℕ) → cost version (chosen_segments version bytes) ≤ 28 * length bytes
 best_cost-le version bytes = cost-le version (chosen_segments version bytes) bytes (chosen_segments-is version bytes)
-
--- the fewest bits of a segment
-least_nine : (mode : Mode) (n : ℕ) → 0 < n → 18 ≤ 4 + count_width 9 mode + payload_length mode n
-least_nine Numeric n h = omega arith
-least_nine Alphanumeric n h = omega arith
-least_nine Byte n h = omega arith
-
-least_ten : (mode : Mode) (n : ℕ) → 0 < n → 20 ≤ 4 + count_width 10 mode + payload_length mode n
-least_ten Numeric n h = omega arith
-least_ten Alphanumeric n h = omega arith
-least_ten Byte n h = omega arith
-
-many_nine : (version : ℕ) (segments : List Segment) (bytes : List ℕ) → version ≤ 9 → IsSegmentation version segments bytes → 18 * length segments ≤ cost version segments
-many_nine version [] bytes small cut = omega arith
-many_nine version (s ∷ segments) bytes small cut =
-    omega (arith, sum_by-cons (segment_length version) s segments, least_nine s.mode s.len cut.0.some, SameWidths-nine version small s.mode, many_nine version segments (drop s.len bytes) small cut.1)
-
-many_ten : (segments : List Segment) (bytes : List ℕ) → IsSegmentation 10 segments bytes → 20 * length segments ≤ cost 10 segments
-many_ten [] bytes cut = omega arith
-many_ten (s ∷ segments) bytes cut = omega (arith, sum_by-cons (segment_length 10) s segments, least_ten s.mode s.len cut.0.some, many_ten segments (drop s.len bytes) cut.1)
-
--- segments that fit are at most 109
-pub few_segments : (version : ℕ) (level : Level) (segments : List Segment) (bytes : List ℕ) → 1 ≤ version → version ≤ 10 → IsSegmentation version segments bytes
-    → cost version segments ≤ capacity version level → length segments ≤ 109
-few_segments version level segments bytes low high cut fits = elim (cases_lt version 10) [
-  | inl small ↦ omega (arith, many_nine version segments bytes (omega arith) cut, capacity-le_nine level version low (omega arith))
-  | inr large ↦
-      let ten : version ≡ 10 = omega arith in
-      let many : 20 * length segments ≤ cost version segments = rw ten (many_ten segments bytes (rw ten at cut)) in
-      omega (arith, many, capacity-le level version low high)
-]
-
--- a byte costs at least a third of ten bits
-payload_third : (mode : Mode) (n : ℕ) → 10 * n ≤ 3 * payload_length mode n
-payload_third Numeric n = omega arith
-payload_third Alphanumeric n = omega arith
-payload_third Byte n = omega arith
-
-first_ten : (mode : Mode) (n : ℕ) → 0 < n → 10 * n + 48 ≤ 3 * (4 + count_width 10 mode + payload_length mode n)
-first_ten Numeric n h = omega arith
-first_ten Alphanumeric n h = omega arith
-first_ten Byte n h = omega arith
-
-third : (version : ℕ) (segments : List Segment) (bytes : List ℕ) → IsSegmentation version segments bytes → 10 * length bytes ≤ 3 * cost version segments
-third version [] bytes cut = rw cut (omega arith)
-third version (s ∷ segments) bytes cut =
-    omega (arith, sum_by-cons (segment_length version) s segments, payload_third s.mode s.len, third version segments (drop s.len bytes) cut.1, length-drop s.len bytes, cut.0.inside)
-
-third_ten : (segments : List Segment) (bytes : List ℕ) → IsSegmentation 10 segments bytes → 0 < length bytes → 10 * length bytes + 48 ≤ 3 * cost 10 segments
-third_ten [] bytes cut some = absurd (omega (arith, ap length cut))
-third_ten (s ∷ segments) bytes cut some =
-    omega (arith, sum_by-cons (segment_length 10) s segments, first_ten s.mode s.len cut.0.some, third 10 segments (drop s.len bytes) cut.1, length-drop s.len bytes, cut.0.inside)
-
--- more than 652 bytes fit nowhere
-pub long_fit_nowhere : (version : ℕ) (level : Level) (bytes : List ℕ) → 1 ≤ version → version ≤ 10 → 652 < length bytes → NoneFits version level bytes
-long_fit_nowhere version level bytes low high long segments cut = elim (cases_lt version 10) [
-  | inl small ↦ omega (arith, third version segments bytes cut, capacity-le_nine level version low (omega arith))
-  | inr large ↦
-      let ten : version ≡ 10 = omega arith in
-      let many : 10 * length bytes + 48 ≤ 3 * cost version segments = rw ten (third_ten segments bytes (rw ten at cut) (omega arith)) in
-      omega (arith, many, capacity-le level version low high)
-]
 
 -- what becomes of a candidate
 pub next_choice-takes : (version : ℕ) (mode : Mode) (len run after : ℕ) (c : Choice) → len ≤ run → len < 2 ^ count_width version mode → segment_length version (segment_of mode len) + after < c.bits

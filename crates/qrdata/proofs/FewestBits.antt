@@ -1,57 +1,22 @@
 -- The best list of segments is one, and no list costs less.
-use Rattle.std.proofs.Common.{◌≡◌, ℕ, zero, suc, ◌+◌, ◌^◌, ◌<◌, ◌≤◌, List, [], ◌∷◌, ◌++◌, map, drop, length, refl, ap, arith, Bool, true, false, inl, inr, cond, ◌⊎◌}
+use Rattle.std.proofs.Common.{◌≡◌, ℕ, zero, suc, ◌+◌, ◌^◌, ◌<◌, ◌≤◌, List, [], ◌∷◌, map, drop, length, refl, arith, Bool, true, false, inl, inr, cond}
 use Rattle.std.specs.Prelude.{nat_lt, ◌&&◌, filter}
-use Rattle.std.specs.List.{AllByRecursion, best_of, flat_map}
-use Rattle.std.proofs.lemmas.Bool.{cases_lt, le-ltb, lt-ltb, ltb-true}
+use Rattle.std.specs.List.{AllByRecursion, best_of}
+use Rattle.std.proofs.lemmas.Bool.{and_parts, cases_lt, le-ltb, lt-ltb, ltb-true}
 use Rattle.std.proofs.lemmas.List.{length-drop}
 use Rattle.std.proofs.lemmas.List.Sums.{sum_by-cons}
 use Rattle.qrdata.specs.declared.mode.Mode.{Mode}
 use Rattle.qrdata.specs.declared.mode.Mode.TheVariants.{Numeric, Alphanumeric, Byte}
 use Rattle.qrdata.specs.declared.mode.Segment.{Segment}
-use Rattle.qrdata.specs.Segments.{IsSegmentation, cost, count_width, segment_length}
-use Rattle.qrdata.proofs.Payloads.{both}
-use Rattle.qrdata.specs.Fewest.{chosen_segments, best_within, cheapest, down_from, first_segments, is_first}
-
--- x is in the list
-abbrev pub IsIn : {A : Type 0} → A → List A → Type 0
-IsIn x [] = ⊥
-IsIn x (y ∷ ys) = (x ≡ y) ⊎ IsIn x ys
-
-IsIn-map : {A B : Type 0} (f : A → B) (x : A) (xs : List A) → IsIn x xs → IsIn (f x) (map f xs)
-IsIn-map f x [] h = h
-IsIn-map f x (y ∷ ys) (inl e) = inl (ap f e)
-IsIn-map f x (y ∷ ys) (inr h) = inr (IsIn-map f x ys h)
-
-IsIn-kept : {A : Type 0} (p : A → Bool) (x y : A) (ys : List A) → IsIn x (filter p ys) → IsIn x (filter p (y ∷ ys))
-IsIn-kept {A} p x y ys h = elim (p y) as (λ b. IsIn x (cond {A = List A} b (y ∷ filter p ys) (filter p ys))) [ true ↦ inr h | false ↦ h ]
-
-IsIn-filter : {A : Type 0} (p : A → Bool) (x : A) (xs : List A) → p x ≡ true → IsIn x xs → IsIn x (filter p xs)
-IsIn-filter p x [] t h = h
-IsIn-filter p x (y ∷ ys) t (inl e) = let passes : p y ≡ true = rw e at t in rw passes (inl e)
-IsIn-filter p x (y ∷ ys) t (inr h) = IsIn-kept p x y ys (IsIn-filter p x ys t h)
-
-IsIn-append_left : {A : Type 0} (x : A) (xs ys : List A) → IsIn x xs → IsIn x (xs ++ ys)
-IsIn-append_left x [] ys h = absurd h
-IsIn-append_left x (z ∷ xs) ys (inl e) = inl e
-IsIn-append_left x (z ∷ xs) ys (inr h) = inr (IsIn-append_left x xs ys h)
-
-IsIn-append_right : {A : Type 0} (x : A) (xs ys : List A) → IsIn x ys → IsIn x (xs ++ ys)
-IsIn-append_right x [] ys h = h
-IsIn-append_right x (z ∷ xs) ys h = inr (IsIn-append_right x xs ys h)
-
-IsIn-flat_map : {A B : Type 0} (f : A → List B) (x : A) (y : B) (xs : List A) → IsIn x xs → IsIn y (f x) → IsIn y (flat_map f xs)
-IsIn-flat_map f x y [] h k = absurd h
-IsIn-flat_map f x y (z ∷ xs) (inl e) k = IsIn-append_left y (f z) (flat_map f xs) (rw e at k)
-IsIn-flat_map f x y (z ∷ xs) (inr h) k = IsIn-append_right y (f z) (flat_map f xs) (IsIn-flat_map f x y xs h k)
+use Rattle.qrdata.specs.Segments.{IsSegmentation, cost, count_width, modes, segment_length, segment_of}
+use Rattle.qrdata.proofs.Membership.{IsIn, IsIn-filter, IsIn-flat_map, IsIn-map}
+use Rattle.qrdata.specs.Fewest.{chosen_segments, best_within, candidates, cheapest, down_from, first_segments, is_first}
 
 IsIn-down_from : (k n : ℕ) → 0 < k → k ≤ n → IsIn k (down_from n)
 IsIn-down_from k zero low high = absurd (omega arith)
 IsIn-down_from k (suc n) low high = elim (cases_lt n k) [ inl last ↦ inl (omega arith) | inr less ↦ inr (IsIn-down_from k n low less) ]
 
 -- the one of two with the lower number, the second of equals
-lower_of : {A : Type 0} → (A → ℕ) → A → A → A
-lower_of f b a = cond (nat_lt (f b) (f a)) b a
-
 lower_of-both : {A : Type 0} (f : A → ℕ) (b a : A) → (f (cond (nat_lt (f b) (f a)) b a) ≤ f a) × (f (cond (nat_lt (f b) (f a)) b a) ≤ f b)
 lower_of-both f b a = elim (cases_lt (f b) (f a)) [
   | inl less ↦ rw (lt-ltb (f b) (f a) less) (omega arith, omega arith)
@@ -85,23 +50,16 @@ cheapest-least version x [] h = absurd h
 cheapest-least version x (a ∷ lists) (inl e) = rw e (least_of-first (cost version) a lists)
 cheapest-least version x (a ∷ lists) (inr h) = least_of-each (cost version) a x lists h
 
-abbrev modes : List Mode
-modes = Numeric ∷ Alphanumeric ∷ Byte ∷ []
-
 any_mode : (mode : Mode) → IsIn mode modes
 any_mode Numeric = inl refl
 any_mode Alphanumeric = inr (inl refl)
 any_mode Byte = inr (inr (inl refl))
 
-abbrev segment_of : Mode → ℕ → Segment
-segment_of m n = record { mode = m; len = n }
-
 -- a first segment is among those that are tried
 pub first_is_tried : (version : ℕ) (bytes : List ℕ) (s : Segment) → 0 < s.len → s.len ≤ length bytes → is_first version bytes s ≡ true → IsIn s (first_segments version bytes)
 unfolding first_segments
 first_is_tried version bytes s low high h =
-    let candidates = flat_map (λ n. map (λ m. segment_of m n) modes) (down_from (length bytes)) in
-    IsIn-filter (is_first version bytes) s candidates h
+    IsIn-filter (is_first version bytes) s (candidates (length bytes)) h
     (IsIn-flat_map (λ n. map (λ m. segment_of m n) modes) s.len s (down_from (length bytes)) (IsIn-down_from s.len (length bytes) low high)
     (IsIn-map (λ m. segment_of m s.len) s.mode modes (any_mode s.mode)))
 
@@ -139,13 +97,6 @@ unfolding chosen_segments
 chosen_segments-least version bytes segments cut = best_within-least version (length bytes) bytes segments (omega arith) cut
 
 -- The segments that are tried are first segments of the bytes.
-IsFirst : ℕ → List ℕ → Segment → Type 0
-IsFirst version bytes s = (0 < s.len) × (s.len ≤ length bytes) × (is_first version bytes s ≡ true)
-
-All-append : {A : Type 0} (P : A → Type 0) (xs ys : List A) → AllByRecursion P xs → AllByRecursion P ys → AllByRecursion P (xs ++ ys)
-All-append P [] ys v w = w
-All-append P (x ∷ xs) ys v w = (v.0, All-append P xs ys v.1 w)
-
 All-filter : {A : Type 0} (P : A → Type 0) (p : A → Bool) (xs : List A) → AllByRecursion P xs → AllByRecursion (λ x. P x × (p x ≡ true)) (filter p xs)
 All-filter P p [] w = tt
 All-filter {A} P p (x ∷ xs) w =
@@ -161,14 +112,14 @@ All-map P R f each [] w = tt
 All-map P R f each (x ∷ xs) w = (each x w.0, All-map P R f each xs w.1)
 
 -- a length that is tried is not 0 nor past the end
-tried_lengths : (n size : ℕ) → n ≤ size → AllByRecursion (λ (s : Segment). (0 < s.len) × (s.len ≤ size)) (flat_map (λ k. map (λ m. segment_of m k) modes) (down_from n))
+tried_lengths : (n size : ℕ) → n ≤ size → AllByRecursion (λ (s : Segment). (0 < s.len) × (s.len ≤ size)) (candidates n)
 tried_lengths zero size h = tt
 tried_lengths (suc n) size h =
     ((omega arith, h), ((omega arith, h), ((omega arith, h), tried_lengths n size (omega arith))))
 
 pub all_tried : (version : ℕ) (bytes : List ℕ) → AllByRecursion (λ (s : Segment). ((0 < s.len) × (s.len ≤ length bytes)) × (is_first version bytes s ≡ true)) (first_segments version bytes)
 unfolding first_segments
-all_tried version bytes = All-filter (λ (s : Segment). (0 < s.len) × (s.len ≤ length bytes)) (is_first version bytes) (flat_map (λ k. map (λ m. segment_of m k) modes) (down_from (length bytes))) (tried_lengths (length bytes) (length bytes) (omega arith))
+all_tried version bytes = All-filter (λ (s : Segment). (0 < s.len) × (s.len ≤ length bytes)) (is_first version bytes) (candidates (length bytes)) (tried_lengths (length bytes) (length bytes) (omega arith))
 
 -- a list that is not empty has a cheapest one, which is one of it
 cheapest-one : (P : List Segment → Type 0) (version : ℕ) (x : List Segment) (lists : List (List Segment)) → IsIn x lists → AllByRecursion P lists → P (cheapest version lists)
@@ -188,7 +139,7 @@ is_step : (version n : ℕ) (b : ℕ) (bytes : List ℕ) → length bytes ≤ n
 unfolding best_within
 is_step version n b bytes h later =
     let each : (s : Segment) → ((0 < s.len) × (s.len ≤ length (b ∷ bytes))) × (is_first version (b ∷ bytes) s ≡ true) → IsSegmentation version (s ∷ best_within version n (drop s.len (b ∷ bytes))) (b ∷ bytes) =
-    λ s fits. (record { some = fits.0.0; inside = fits.0.1; characters = (both _ _ fits.1).0; counted = ltb-true _ _ (both _ _ fits.1).1 }, later (drop s.len (b ∷ bytes)) (omega (arith, length-drop s.len (b ∷ bytes), fits.0.0, fits.0.1))) in
+    λ s fits. (record { some = fits.0.0; inside = fits.0.1; characters = (and_parts _ _ fits.1).0; counted = ltb-true _ _ (and_parts _ _ fits.1).1 }, later (drop s.len (b ∷ bytes)) (omega (arith, length-drop s.len (b ∷ bytes), fits.0.0, fits.0.1))) in
     cheapest-one (λ lists. IsSegmentation version lists (b ∷ bytes)) version _ _
     (IsIn-map (λ (t : Segment). t ∷ best_within version n (drop t.len (b ∷ bytes))) (segment_of Byte 1) (first_segments version (b ∷ bytes)) (one_byte version b bytes))
     (All-map _ _ (λ (t : Segment). t ∷ best_within version n (drop t.len (b ∷ bytes))) each (first_segments version (b ∷ bytes)) (all_tried version (b ∷ bytes)))

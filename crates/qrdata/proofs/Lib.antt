@@ -3,6 +3,7 @@ pub mod BitStrings
 pub mod BlockSteps
 pub mod BlockLaws
 pub mod Dealing
+pub mod Membership
 pub mod FewestBits
 pub mod Lengths
 pub mod VersionTable
@@ -15,5 +16,6 @@ pub mod SegmentsRead
 pub mod VersionSearch
 pub mod Writing
 pub mod SameWidths
+pub mod Bounds
 pub mod Choosing
 pub mod TableSteps

@@ -1,15 +1,16 @@
 -- In versions whose character counts have the same bits the best segments are the same.
 use Rattle.std.proofs.Common.{◌≡◌, ℕ, zero, suc, ◌≤◌, List, [], ◌∷◌, map, drop, length, refl, ap, ◌∙◌, arith, Bool, cond}
 use Rattle.std.specs.Prelude.{filter, nat_lt, ◌&&◌}
-use Rattle.std.specs.List.{best_of, flat_map, list_all}
+use Rattle.std.specs.List.{best_of, list_all}
 use Rattle.std.proofs.Common.{take, ◌^◌, ◌+◌}
 use Rattle.std.proofs.lemmas.Bool.{lt-ltb}
 use Rattle.std.proofs.lemmas.List.Sums.{sum_by-cons}
 use Rattle.qrdata.specs.declared.mode.Mode.TheVariants.{Numeric, Alphanumeric, Byte}
 use Rattle.qrdata.specs.declared.mode.Segment.{Segment}
-use Rattle.qrdata.specs.Fewest.{best_within, cheapest, chosen_segments, down_from, first_segments, is_first}
+use Rattle.qrdata.specs.Fewest.{best_within, candidates, cheapest, chosen_segments, first_segments, is_first}
 use Rattle.qrdata.specs.Segments.{cost, has_character, payload_length, segment_length}
-use Rattle.qrdata.specs.Table.{HasFirsts, SameWidths}
+use Rattle.qrdata.specs.LeastPlan.{SameWidths}
+use Rattle.qrdata.specs.Table.{HasFirsts}
 
 -- up to version 9 a character count has the same bits
 pub SameWidths-nine : (version : ℕ) → version ≤ 9 → SameWidths version 9
@@ -35,8 +36,7 @@ filter-same p q each (x ∷ xs) = rw (each x, filter-same p q each xs) refl
 first_segments-same : (v w : ℕ) → SameWidths v w → (bytes : List ℕ) → first_segments v bytes ≡ first_segments w bytes
 unfolding first_segments
 first_segments-same v w same bytes =
-    filter-same (is_first v bytes) (is_first w bytes) (is_first-same v w same bytes)
-    (flat_map (λ n. map (λ m. record { mode = m; len = n }) (Numeric ∷ Alphanumeric ∷ Byte ∷ [])) (down_from (length bytes)))
+    filter-same (is_first v bytes) (is_first w bytes) (is_first-same v w same bytes) (candidates (length bytes))
 
 best_of-same : {A : Type 0} (p q : A → A → Bool) → ((x y : A) → p x y ≡ q x y) → (a : A) (xs : List A) → best_of p a xs ≡ best_of q a xs
 best_of-same p q each a [] = refl

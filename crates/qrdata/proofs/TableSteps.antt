@@ -6,11 +6,11 @@ use Rattle.std.proofs.lemmas.Bool.{cases_lt}
 use Rattle.std.proofs.lemmas.Grind.{get_or-set_at}
 use Rattle.std.proofs.lemmas.List.{drop-drop, drop_all, drop_more, get_or-set_other, length-drop, length-set}
 use Rattle.std.proofs.lemmas.Option.{slice_get-get_or}
-use Rattle.qrdata.specs.declared.mode.Mode.TheVariants.{Numeric}
 use Rattle.qrdata.specs.declared.mode.Segment.{Segment}
 use Rattle.qrdata.specs.Fewest.{chosen_segments}
 use Rattle.qrdata.specs.Segments.{IsSegmentation, cost}
 use Rattle.qrdata.specs.Table.{HasCosts, HasFirsts, run_length}
+use Rattle.qrdata.proofs.Writing.{default_segment}
 use Rattle.qrdata.proofs.BestLaw.{chosen_segments-nil}
 use Rattle.qrdata.proofs.Choosing.{best_cost-le}
 use Rattle.qrdata.proofs.FewestBits.{chosen_segments-is}
@@ -54,14 +54,11 @@ pub after-le : (version : ℕ) (bytes bits : List ℕ) (place len : ℕ) → 0 <
 after-le version bytes bits place len some inside few known =
     omega (arith, HasCosts-after version bytes bits place len some inside known, best_cost-le version (drop len (drop place bytes)), length-drop len (drop place bytes), length-drop place bytes)
 
-abbrev default : Segment
-default = record { mode = Numeric; len = 0 }
-
 pub HasFirsts-end : (version : ℕ) (bytes : List ℕ) (firsts : List Segment) → HasFirsts version bytes (length bytes) firsts
 HasFirsts-end version bytes firsts = λ k from to. absurd (omega arith)
 
-found_is : (firsts : List Segment) (k : ℕ) (first : Segment) → k < length firsts → slice_get firsts k ≡ Some first → first ≡ get_or firsts k default
-found_is firsts k first h found = let at_k = slice_get-get_or firsts k default h in cc
+found_is : (firsts : List Segment) (k : ℕ) (first : Segment) → k < length firsts → slice_get firsts k ≡ Some first → first ≡ get_or firsts k default_segment
+found_is firsts k first h found = let at_k = slice_get-get_or firsts k default_segment h in cc
 
 pub HasFirsts-set : (version : ℕ) (bytes : List ℕ) (firsts : List Segment) (place : ℕ) (s : Segment) → 0 < place → place ≤ length bytes → length bytes < length firsts
     → s ∷ chosen_segments version (drop s.len (drop (place - 1) bytes)) ≡ chosen_segments version (drop (place - 1) bytes) → HasFirsts version bytes place firsts
@@ -72,11 +69,11 @@ HasFirsts-set version bytes firsts place s some inside room e old = λ k from to
     elim (cases_lt (place - 1) k) [
       | inl more ↦
           let other : k ≢ place - 1 = omega arith in
-          let before : first ≡ get_or firsts k default = is ∙ get_or-set_other firsts (place - 1) k s default other in
-          old k (omega arith) to first (slice_get-get_or firsts k default (omega arith) ∙ ap (λ x. Some x) (sym before))
+          let before : first ≡ get_or firsts k default_segment = is ∙ get_or-set_other firsts (place - 1) k s default_segment other in
+          old k (omega arith) to first (slice_get-get_or firsts k default_segment (omega arith) ∙ ap (λ x. Some x) (sym before))
       | inr here ↦
           let same : k ≡ place - 1 = omega arith in
-          let now : first ≡ s = is ∙ get_or-set_at firsts (place - 1) k s default same (omega arith) in
+          let now : first ≡ s = is ∙ get_or-set_at firsts (place - 1) k s default_segment same (omega arith) in
           rw (now, same) e
     ]
 
@@ -87,10 +84,10 @@ pub record IsNamed (version : ℕ) (bytes : List ℕ) (place : ℕ) (s : Segment
   pub next : chosen_segments version (drop place bytes) ≡ s ∷ chosen_segments version (drop (place + s.len) bytes)
 
 pub IsNamed-first : (version : ℕ) (bytes : List ℕ) (firsts : List Segment) (place : ℕ) → place < length bytes → length bytes < length firsts → HasFirsts version bytes 0 firsts
-    → IsNamed version bytes place (get_or firsts place default)
+    → IsNamed version bytes place (get_or firsts place default_segment)
 IsNamed-first version bytes firsts place h room known =
-    let s = get_or firsts place default in
-    let first : s ∷ chosen_segments version (drop s.len (drop place bytes)) ≡ chosen_segments version (drop place bytes) = known place (omega arith) h s (slice_get-get_or firsts place default (omega arith)) in
+    let s = get_or firsts place default_segment in
+    let first : s ∷ chosen_segments version (drop s.len (drop place bytes)) ≡ chosen_segments version (drop place bytes) = known place (omega arith) h s (slice_get-get_or firsts place default_segment (omega arith)) in
     let cut : IsSegmentation version (s ∷ chosen_segments version (drop s.len (drop place bytes))) (drop place bytes) =
     subst (λ (l : List Segment). IsSegmentation version l (drop place bytes)) (sym first) (chosen_segments-is version (drop place bytes)) in
     record { some = cut.0.some; inside = omega (arith, cut.0.inside, length-drop place bytes); next = rw (drop-drop s.len place bytes) at (sym first) }

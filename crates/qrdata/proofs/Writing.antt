@@ -9,15 +9,15 @@ use Rattle.std.proofs.Math.Nat.{div-eq_of_lt}
 use Rattle.std.proofs.lemmas.Nat.{pow_pos}
 use Rattle.labelcore.specs.declared.options.Level.{Level}
 use Rattle.qrdata.specs.declared.mode.Mode.{Mode}
+use Rattle.qrdata.specs.declared.mode.Mode.TheVariants.{Numeric}
 use Rattle.qrdata.specs.declared.mode.Segment.{Segment}
 use Rattle.qrdata.specs.Bits.{bits_of, codewords_of, number_of}
-use Rattle.qrdata.specs.Codewords.{longest, split_by}
-use Rattle.qrdata.specs.Reading.{largest}
-use Rattle.qrdata.specs.Segments.{IsSegmentation, alphanumeric_bits, alphanumeric_value, byte_bits, cost, count_width, segment_bits, segment_length, segments_bits}
+use Rattle.qrdata.specs.Codewords.{largest, split_by}
+use Rattle.qrdata.specs.Segments.{IsSegmentation, alphanumeric_bits, alphanumeric_value, byte_bits, cost, count_width, segment_bits, segment_length, segment_of, segments_bits}
 use Rattle.qrdata.specs.Versions.{block_count, block_lengths, data_codewords, parity_length}
 use Rattle.qrdata.proofs.BlockLaws.{split_lengths}
 use Rattle.qrdata.proofs.BitStrings.{drop_front, take_front}
-use Rattle.qrdata.proofs.Dealing.{Blocks, largest-lengths}
+use Rattle.qrdata.proofs.Dealing.{Blocks, longest}
 use Rattle.qrdata.proofs.PayloadSteps.{drop_next, drop_none}
 use Rattle.qrdata.proofs.Payloads.{AreBytes}
 use Rattle.gf256.specs.Parity.{parity_of, ParityIsRemainder, RemaindersAreCodewords}
@@ -55,6 +55,10 @@ byte_bits-next xs i h = rw (drop_more xs i 0 h) refl
 pub byte_bits-none_left : (xs : List ℕ) (i : ℕ) → length xs ≤ i → byte_bits (drop i xs) ≡ []
 unfolding byte_bits
 byte_bits-none_left xs i h = rw (drop_none xs i h) refl
+
+-- what a list of segments is read as past its end
+abbrev pub default_segment : Segment
+default_segment = segment_of Numeric 0
 
 -- segments: the next one, and those after it
 pub segments_bits-next : (version : ℕ) (segments : List Segment) (d : Segment) (bytes : List ℕ) (i place : ℕ) → i < length segments
@@ -99,7 +103,7 @@ codewords_of-none_left n place bits h = let none : n - place ≡ 0 = omega arith
 
 -- the longest of the blocks that the words are cut into has the greatest of the lengths
 pub longest-split_by : (lengths words : List ℕ) → sum lengths ≡ length words → longest (split_by lengths words) ≡ largest lengths
-longest-split_by lengths words whole = sym (largest-lengths (split_by lengths words)) ∙ ap largest (split_lengths lengths words (omega arith))
+longest-split_by lengths words whole = ap largest (split_lengths lengths words (omega arith))
 
 -- the blocks that are left are the next one and the others
 pub split_by-next : (lengths words : List ℕ) (i start : ℕ) → i < length lengths

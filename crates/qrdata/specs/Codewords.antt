@@ -16,11 +16,11 @@ terminated capacity bits = bits ++ replicate (min 4 (capacity - length bits)) fa
 unfoldable pub aligned : List Bool → List Bool
 aligned bits = bits ++ replicate ((8 - length bits % 8) % 8) false
 
--- the padding: 236 and 17 in turn
+-- so many pad codewords: 11101100 and 00010001 in turn
 abbrev pub pad_codewords : ℕ → List ℕ
 pad_codewords zero = []
-pad_codewords (suc zero) = 236 ∷ []
-pad_codewords (suc (suc n)) = 236 ∷ 17 ∷ pad_codewords n
+pad_codewords (suc zero) = 0xEC ∷ []
+pad_codewords (suc (suc n)) = 0xEC ∷ 0x11 ∷ pad_codewords n
 
 -- so many codewords: those of the bits, and the padding
 unfoldable pub filled : ℕ → List Bool → List ℕ
@@ -40,17 +40,17 @@ split_by [] words = []
 split_by (n ∷ lengths) words = take n words ∷ split_by lengths (drop n words)
 
 -- the words at a place of the blocks that have one, block by block
-abbrev pub words_at : {A : Type 0} → List (List A) → ℕ → List A
+abbrev pub words_at : List (List ℕ) → ℕ → List ℕ
 words_at blocks place = filter_map (λ block. slice_get block place) blocks
 
--- the length of the longest block
-abbrev pub longest : {A : Type 0} → List (List A) → ℕ
-longest [] = 0
-longest (block ∷ blocks) = max (length block) (longest blocks)
+-- the greatest of some numbers, 0 if there is none
+abbrev pub largest : List ℕ → ℕ
+largest [] = 0
+largest (n ∷ ns) = max n (largest ns)
 
 -- the words of the blocks in the order of their places, and at one place in the order of the blocks
-unfoldable pub interleaved : {A : Type 0} → List (List A) → List A
-interleaved blocks = flat_map (words_at blocks) (range_with_len 0 (longest blocks))
+unfoldable pub interleaved : List (List ℕ) → List ℕ
+interleaved blocks = flat_map (words_at blocks) (range_with_len 0 (largest (map length blocks)))
 
 -- the blocks of the data codewords
 abbrev pub blocks_of : ℕ → Level → List ℕ → List (List ℕ)

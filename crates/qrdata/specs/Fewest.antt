@@ -2,9 +2,8 @@
 use Rattle.std.specs.Prelude.{ℕ, zero, suc, ◌-◌, ◌^◌, ◌<◌, List, [], ◌∷◌, map, length, take, drop, nat_lt, nat_le, ◌&&◌, Bool, Option, filter}
 use Rattle.std.specs.List.{best_of, find, flat_map, list_all, range_with_len}
 use Rattle.labelcore.specs.declared.options.Level.{Level}
-use Rattle.qrdata.specs.declared.mode.Mode.TheVariants.{Numeric, Alphanumeric, Byte}
 use Rattle.qrdata.specs.declared.mode.Segment.{Segment}
-use Rattle.qrdata.specs.Segments.{IsSegmentation, cost, count_width, has_character}
+use Rattle.qrdata.specs.Segments.{IsSegmentation, cost, count_width, has_character, modes, segment_of}
 use Rattle.qrdata.specs.Versions.{capacity}
 
 -- n, n - 1 and so on down to 1
@@ -12,14 +11,17 @@ abbrev pub down_from : ℕ → List ℕ
 down_from zero = []
 down_from (suc n) = suc n ∷ down_from n
 
+-- a segment of each mode of each length, the longest first
+abbrev pub candidates : ℕ → List Segment
+candidates longest = flat_map (λ len. map (λ mode. segment_of mode len) modes) (down_from longest)
+
 -- whether a segment's mode has its bytes, and its character count holds its length
 abbrev pub is_first : ℕ → List ℕ → Segment → Bool
 is_first version bytes s = list_all (has_character s.mode) (take s.len bytes) && nat_lt s.len (2 ^ count_width version s.mode)
 
--- the segments that the bytes may begin with: the longest first, and numeric before alphanumeric before byte
+-- the segments that the bytes may begin with: the longest first, and among these numeric before alphanumeric before byte
 unfoldable pub first_segments : ℕ → List ℕ → List Segment
-first_segments version bytes =
-    filter (is_first version bytes) (flat_map (λ n. map (λ m. record { mode = m; len = n }) (Numeric ∷ Alphanumeric ∷ Byte ∷ [])) (down_from (length bytes)))
+first_segments version bytes = filter (is_first version bytes) (candidates (length bytes))
 
 -- the first list of least cost
 abbrev pub cheapest : ℕ → List (List Segment) → List Segment

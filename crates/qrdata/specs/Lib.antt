@@ -6,3 +6,4 @@ pub mod Segments
 pub mod Versions
 pub mod PlanView
 pub mod Table
+pub mod LeastPlan

@@ -1,5 +1,5 @@
 -- Reading the codewords of a symbol, with no correction (ISO/IEC 18004, 12).
-use Rattle.std.specs.Prelude.{ℕ, zero, suc, ◌+◌, ◌-◌, ◌*◌, ◌/◌, ◌%◌, ◌^◌, List, [], ◌∷◌, ◌++◌, map, length, take, drop, replicate, slice_index, nat_lt, nat_le, max, ◌==◌, if◌then◌else◌, ◌&&◌, ◌||◌, Bool, Option, Some, None}
+use Rattle.std.specs.Prelude.{ℕ, zero, suc, ◌+◌, ◌-◌, ◌*◌, ◌/◌, ◌%◌, ◌^◌, List, [], ◌∷◌, ◌++◌, map, length, take, drop, replicate, slice_index, nat_lt, nat_le, ◌==◌, if◌then◌else◌, ◌&&◌, ◌||◌, Bool, Option, Some, None}
 use Rattle.std.specs.List.{flat_map, find, list_all, range_with_len}
 use Rattle.gf256.specs.Field.{alpha, field_power}
 use Rattle.gf256.specs.Polynomial.{evaluate}
@@ -7,9 +7,11 @@ use Rattle.labelcore.specs.declared.options.Level.{Level}
 use Rattle.qrdata.specs.declared.mode.Mode.{Mode}
 use Rattle.qrdata.specs.declared.mode.Mode.TheVariants.{Numeric, Alphanumeric, Byte}
 use Rattle.qrdata.specs.Bits.{number_of}
-use Rattle.qrdata.specs.Segments.{alphanumeric_characters, byte_bits, count_width, mode_indicator}
+use Rattle.qrdata.specs.Codewords.{largest}
+use Rattle.qrdata.specs.Segments.{alphanumeric_characters, byte_bits, count_width, mode_indicator, modes}
 use Rattle.qrdata.specs.Versions.{block_count, block_lengths, data_codewords, parity_length, total_codewords}
 
+-- where there is a value, what is made of it
 infixl 10 ◌>>=◌
 abbrev pub ◌>>=◌ : {A B : Type 0} → Option A → (A → Option B) → Option B
 None >>= f = None
@@ -57,6 +59,7 @@ bytes_at (suc count) bits = do
   others ← bytes_at count n.1
   Some (n.0 ∷ others.0, others.1)
 
+-- the payload of so many bytes, and the bits after it
 abbrev pub payload_at : Mode → ℕ → List Bool → Option (List ℕ × List Bool)
 payload_at Numeric count bits = digits_at count bits
 payload_at Alphanumeric count bits = characters_at count bits
@@ -64,7 +67,7 @@ payload_at Byte count bits = bytes_at count bits
 
 -- the mode that four bits name
 abbrev pub mode_named : ℕ → Option Mode
-mode_named n = find (λ mode. mode_indicator mode == n) (Numeric ∷ Alphanumeric ∷ Byte ∷ [])
+mode_named n = find (λ mode. mode_indicator mode == n) modes
 
 -- the payload of the segment at the front, and the bits after it
 unfoldable pub segment_at : ℕ → List Bool → Option (List ℕ × List Bool)
@@ -105,10 +108,6 @@ unfoldable pub dealt_within : ℕ → List ℕ → List ℕ → List (List ℕ)
 dealt_within zero rooms words = map (λ room. []) rooms
 dealt_within (suc rounds) rooms words =
     let round = dealt_round rooms words in joined_pairs round.0 (dealt_within rounds (map (λ room. room - 1) rooms) round.1)
-
-abbrev pub largest : List ℕ → ℕ
-largest [] = 0
-largest (n ∷ ns) = max n (largest ns)
 
 -- the words dealt in turn to blocks of these lengths
 unfoldable pub dealt : List ℕ → List ℕ → List (List ℕ)

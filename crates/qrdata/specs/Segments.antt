@@ -19,6 +19,13 @@ alphanumeric_value c = position_or_len (λ x. x == c) alphanumeric_characters
 abbrev pub digit_value : ℕ → ℕ
 digit_value c = c - 48
 
+-- every mode, in the order that decides ties
+abbrev pub modes : List Mode
+modes = Numeric ∷ Alphanumeric ∷ Byte ∷ []
+
+abbrev pub segment_of : Mode → ℕ → Segment
+segment_of mode len = record { mode = mode; len = len }
+
 -- whether a mode has a byte
 abbrev pub has_character : Mode → ℕ → Bool
 has_character Numeric c = is_ascii_digit c

@@ -1,19 +1,18 @@
-//! Blocks, their parity codewords and interleaving.
+//! Blocks, their parity codewords and interleaving (ISO/IEC 18004, 7.5 and 7.6).
 ghost use Rattle.arrayvec.specs.ArrayVec.{array_vec_len};
 ghost use Rattle.gf256.specs.Parity.{parity_of};
-ghost use Rattle.qrdata.specs.Codewords.{interleaved, split_by, words_at};
-ghost use Rattle.qrdata.specs.Reading.{largest};
+ghost use Rattle.qrdata.specs.Codewords.{interleaved, largest, split_by, words_at};
 ghost use Rattle.std.specs.List.{flat_map};
 ghost use Rattle.std.specs.Prelude.{length, ◌≡◌, ◌+◌, ◌≤◌, ◌<◌, ◌++◌, sum, ◌*◌, ◌/◌, replicate};
 
 use arrayvec::ArrayVec;
 use gf256::Generator;
 
-/// The codewords of a symbol.
+/// The codewords of a symbol, at most the 346 of version 10.
 pub type Words = ArrayVec<u8, 346>;
 
 /// Writes the words at one place of the blocks, block by block. The blocks have these lengths, one after another.
-pub fn push_place(lengths: &[usize], words: &[u8], place: usize, out: &mut Words)
+fn push_place(lengths: &[usize], words: &[u8], place: usize, out: &mut Words)
     requires whole { sum lengths.now ≡ length words.now }
     requires room { array_vec_len out.old + length (words_at (split_by lengths.now words.now) place) ≤ 346 }
     ensures { out.new.items ≡ out.old.items ++ words_at (split_by lengths.now words.now) place }
@@ -28,7 +27,7 @@ pub fn push_place(lengths: &[usize], words: &[u8], place: usize, out: &mut Words
 }
 
 /// The greatest of some lengths, 0 if there is none.
-pub(crate) fn greatest(lengths: &[usize]) -> usize
+fn greatest(lengths: &[usize]) -> usize
     ensures { result ≡ largest lengths.now }
 {
     let mut most = 0;
@@ -41,7 +40,7 @@ pub(crate) fn greatest(lengths: &[usize]) -> usize
 }
 
 /// Writes the words of the blocks in the order of their places, and at one place in the order of the blocks.
-pub fn interleave(lengths: &[usize], words: &[u8], out: &mut Words)
+pub(crate) fn interleave(lengths: &[usize], words: &[u8], out: &mut Words)
     requires whole { sum lengths.now ≡ length words.now }
     requires room { array_vec_len out.old + length words.now ≤ 346 }
     ensures { out.new.items ≡ out.old.items ++ interleaved (split_by lengths.now words.now) }
@@ -52,8 +51,8 @@ pub fn interleave(lengths: &[usize], words: &[u8], out: &mut Words)
     }
 }
 
-/// The lengths of some blocks.
-pub type Lengths = ArrayVec<usize, 8>;
+/// The lengths of the blocks of a symbol, at most 8 of them.
+pub(crate) type Lengths = ArrayVec<usize, 8>;
 
 /// Writes a length so many times.
 pub(crate) fn push_lengths(lengths: &mut Lengths, count: usize, size: usize)
@@ -68,7 +67,7 @@ pub(crate) fn push_lengths(lengths: &mut Lengths, count: usize, size: usize)
 }
 
 /// Writes words at the end.
-pub(crate) fn push_words(out: &mut Words, words: &[u8])
+fn push_words(out: &mut Words, words: &[u8])
     requires room { array_vec_len out.old + length words.now ≤ 346 }
     ensures { out.new.items ≡ out.old.items ++ words.now }
 {
@@ -78,7 +77,7 @@ pub(crate) fn push_words(out: &mut Words, words: &[u8])
 }
 
 /// Writes the parity codewords of a block.
-pub(crate) fn push_block_parity(generator: &Generator, count: usize, block: &[u8], out: &mut Words)
+fn push_block_parity(generator: &Generator, count: usize, block: &[u8], out: &mut Words)
     requires count { generator.now ≡ count }
     requires low { 1 ≤ count }
     requires high { count ≤ 30 }

@@ -1,42 +1,83 @@
-//! Modes and segments.
-ghost use Rattle.qrdata.specs.Segments.{mode_indicator, alphanumeric_value, count_width, payload_length};
-ghost use Rattle.qrdata.specs.declared.mode.Mode.TheVariants.{Numeric, Alphanumeric};
-ghost use Rattle.qrdata.specs.declared.mode.Segment.{Segment};
-ghost use Rattle.std.specs.Prelude.{◌≡◌, ◌+◌, ◌≤◌, ◌<◌, ◌^◌, ◌*◌, ◌/◌};
+//! Modes and segments (ISO/IEC 18004, 7.3 and 7.4).
+ghost use Rattle.qrdata.specs.Segments.{alphanumeric_value, count_width, mode_indicator, payload_length};
+ghost use Rattle.std.specs.Prelude.{◌≡◌, ◌<◌, ◌≤◌, ◌^◌};
 
 use crate::version::Version;
 
-/// How a segment's bytes are written.
-#[derive(Clone, Copy, Default)]
+/// How the bytes of a segment are written.
+#[derive(Clone, Copy, Debug, Default, PartialEq, Eq)]
 pub enum Mode {
+    /// Digits: three in ten bits.
     #[default]
     Numeric,
+    /// The 45 characters of the alphanumeric mode: two in eleven bits.
     Alphanumeric,
+    /// Any bytes: each in eight bits.
     Byte,
 }
 
 /// A segment of the data: a mode and a number of bytes.
-#[derive(Clone, Copy, Default)]
+#[derive(Clone, Copy, Debug, Default, PartialEq, Eq)]
 pub struct Segment {
+    /// How the bytes are written.
     pub mode: Mode,
+    /// How many bytes there are. These are digits or characters in the numeric and the alphanumeric mode.
     pub len: u16,
 }
 
-/// The four bits that name the mode.
-pub fn indicator(mode: Mode) -> u8
-    ensures { result ≡ mode_indicator mode }
-{
-    match mode {
-        Mode::Numeric => 1,
-        Mode::Alphanumeric => 2,
-        Mode::Byte => 4,
+impl Mode {
+    /// The mode indicator, a number of four bits.
+    pub(crate) fn indicator(self) -> u8
+        ensures { result ≡ mode_indicator self }
+    {
+        match self {
+            Mode::Numeric => 1,
+            Mode::Alphanumeric => 2,
+            Mode::Byte => 4,
+        }
+    }
+
+    /// The bits of the character count indicator in a version.
+    pub(crate) fn count_bits(self, version: Version) -> usize
+        ensures { result ≡ count_width version.number self }
+    {
+        let short = version.number < 10;
+        match self {
+            Mode::Numeric => if short { 10 } else { 12 },
+            Mode::Alphanumeric => if short { 9 } else { 11 },
+            Mode::Byte => if short { 8 } else { 16 },
+        }
+    }
+
+    /// What a length must be below for the character count indicator to hold it in a version.
+    pub(crate) fn count_limit(self, version: Version) -> usize
+        ensures { result ≡ 2 ^ count_width version.number self }
+    {
+        let short = version.number < 10;
+        match self {
+            Mode::Numeric => if short { 1024 } else { 4096 },
+            Mode::Alphanumeric => if short { 512 } else { 2048 },
+            Mode::Byte => if short { 256 } else { 65536 },
+        }
+    }
+
+    /// The bits of a payload of so many bytes.
+    pub(crate) fn payload_bits(self, len: usize) -> usize
+        requires { len < 65536 }
+        ensures { result ≡ payload_length self len }
+    {
+        match self {
+            Mode::Numeric => (10 * len + 2) / 3,
+            Mode::Alphanumeric => (11 * len + 1) / 2,
+            Mode::Byte => 8 * len,
+        }
     }
 }
 
 /// The characters of the alphanumeric mode, in the order of their values.
-pub(crate) const ALPHANUMERIC: &[u8] = b"0123456789ABCDEFGHIJKLMNOPQRSTUVWXYZ $%*+-./:";
+const ALPHANUMERIC: &[u8] = b"0123456789ABCDEFGHIJKLMNOPQRSTUVWXYZ $%*+-./:";
 
-/// The value of an alphanumeric character, and 45 for any other.
+/// The value of a character of the alphanumeric mode, and 45 for any other byte.
 pub(crate) fn value_of(character: u8) -> usize
     ensures value { result ≡ alphanumeric_value character }
     ensures small { result ≤ 45 }
@@ -47,40 +88,4 @@ pub(crate) fn value_of(character: u8) -> usize
         }
     }
     45
-}
-
-/// The bits of a character count.
-pub(crate) fn count_bits(version: Version, mode: Mode) -> usize
-    ensures { result ≡ count_width version.number mode }
-{
-    let short = version.number < 10;
-    match mode {
-        Mode::Numeric => if short { 10 } else { 12 },
-        Mode::Alphanumeric => if short { 9 } else { 11 },
-        Mode::Byte => if short { 8 } else { 16 },
-    }
-}
-
-/// The bits of a payload of so many bytes.
-pub(crate) fn payload_size(mode: Mode, len: usize) -> usize
-    requires { len < 65536 }
-    ensures { result ≡ payload_length mode len }
-{
-    match mode {
-        Mode::Numeric => (10 * len + 2) / 3,
-        Mode::Alphanumeric => (11 * len + 1) / 2,
-        Mode::Byte => 8 * len,
-    }
-}
-
-/// What a character count must be below.
-pub(crate) fn count_limit(version: Version, mode: Mode) -> usize
-    ensures { result ≡ 2 ^ count_width version.number mode }
-{
-    let short = version.number < 10;
-    match mode {
-        Mode::Numeric => if short { 1024 } else { 4096 },
-        Mode::Alphanumeric => if short { 512 } else { 2048 },
-        Mode::Byte => if short { 256 } else { 65536 },
-    }
 }

@@ -2,7 +2,8 @@
 ghost use Rattle.labelcore.specs.declared.fault.Fault.TheVariants.{DoesNotFit};
 ghost use Rattle.qrdata.specs.Fewest.{chosen_segments, chosen_version, NoneFits};
 ghost use Rattle.qrdata.specs.Segments.{IsSegmentation, cost};
-ghost use Rattle.qrdata.specs.Table.{HasFirsts, IsLeastPlan, NoPlan, SameWidths};
+ghost use Rattle.qrdata.specs.LeastPlan.{IsLeastPlan, NoPlan, SameWidths};
+ghost use Rattle.qrdata.specs.Table.{HasFirsts};
 ghost use Rattle.qrdata.specs.Versions.{capacity};
 ghost use Rattle.qrdata.specs.declared.mode.Segment.{Segment};
 ghost use Rattle.std.specs.Prelude.{Some, None, length, ◌≡◌, ◌≤◌, ◌<◌, IfErr, IfNone, IfOk, IfSome, ℕ, List};
@@ -69,24 +70,24 @@ impl Plan {
 /// of segments that of the fewest bits in it. The level is that of the options. Empty data has no segments.
 ///
 /// Data that fits in none of these versions is the fault [`Fault::DoesNotFit`] with the level.
-pub fn choose(options: &Options, data: &[u8]) -> Result<Plan, Fault>
-    ensures version { IfOk result (λ plan. chosen_version options.now.min_version options.now.level «data».now ≡ Some plan.version) }
+pub fn choose(options: &Options, bytes: &[u8]) -> Result<Plan, Fault>
+    ensures version { IfOk result (λ plan. chosen_version options.now.min_version options.now.level bytes.now ≡ Some plan.version) }
     ensures level { IfOk result (λ plan. plan.level ≡ options.now.level) }
-    ensures segments { IfOk result (λ plan. plan.segments ≡ chosen_segments plan.version «data».now) }
+    ensures segments { IfOk result (λ plan. plan.segments ≡ chosen_segments plan.version bytes.now) }
     ensures fault { IfErr result (λ fault. fault ≡ DoesNotFit options.now.level) }
-    ensures no_version { IfErr result (λ fault. chosen_version options.now.min_version options.now.level «data».now ≡ None) }
+    ensures no_version { IfErr result (λ fault. chosen_version options.now.min_version options.now.level bytes.now ≡ None) }
 
     // The segments are segments of the data and fit, and no others cost less.
-    ensures cut { IfOk result (λ plan. IsSegmentation plan.version plan.segments «data».now) }
+    ensures cut { IfOk result (λ plan. IsSegmentation plan.version plan.segments bytes.now) }
     ensures fits { IfOk result (λ plan. cost plan.version plan.segments ≤ capacity plan.version plan.level) }
-    ensures fewest { IfOk result (λ plan. (segments : List Segment) → IsSegmentation plan.version segments «data».now → cost plan.version plan.segments ≤ cost plan.version segments) }
+    ensures fewest { IfOk result (λ plan. (segments : List Segment) → IsSegmentation plan.version segments bytes.now → cost plan.version plan.segments ≤ cost plan.version segments) }
 
     // No segments of the data fit in a lower version, and after a refusal in none.
-    ensures least { IfOk result (λ plan. (v : ℕ) → options.now.min_version ≤ v → v < plan.version → NoneFits v plan.level «data».now) }
-    ensures nowhere { IfErr result (λ fault. (v : ℕ) → options.now.min_version ≤ v → v ≤ 10 → NoneFits v options.now.level «data».now) }
+    ensures least { IfOk result (λ plan. (v : ℕ) → options.now.min_version ≤ v → v < plan.version → NoneFits v plan.level bytes.now) }
+    ensures nowhere { IfErr result (λ fault. (v : ℕ) → options.now.min_version ≤ v → v ≤ 10 → NoneFits v options.now.level bytes.now) }
 {
     let level = options.level();
-    match plan_from(options.min_version(), level, data) {
+    match plan_from(options.min_version(), level, bytes) {
         Some(plan) => Ok(plan),
         None => Err(Fault::DoesNotFit(level)),
     }
@@ -94,61 +95,61 @@ pub fn choose(options: &Options, data: &[u8]) -> Result<Plan, Fault>
 
 /// The plan of the least version from the lowest one to 10. One table of best segments serves all versions up to 9, and
 /// a second one version 10.
-fn plan_from(lowest: u8, level: Level, data: &[u8]) -> Option<Plan>
+fn plan_from(lowest: u8, level: Level, bytes: &[u8]) -> Option<Plan>
     requires low { 1 ≤ lowest }
     requires high { lowest ≤ 10 }
-    ensures some { IfSome result (IsLeastPlan lowest 10 level «data».now) }
-    ensures none { IfNone result (NoPlan lowest 10 level «data».now) }
+    ensures some { IfSome result (IsLeastPlan lowest 10 level bytes.now) }
+    ensures none { IfNone result (NoPlan lowest 10 level bytes.now) }
 {
-    if data.len() > MAX_BYTES {
+    if bytes.len() > MAX_BYTES {
         return None;
     }
     if lowest < 10 {
-        if let Some(plan) = plan_between(lowest, 9, level, data) {
+        if let Some(plan) = plan_between(lowest, 9, level, bytes) {
             return Some(plan);
         }
     }
-    plan_between(10, 10, level, data)
+    plan_between(10, 10, level, bytes)
 }
 
 /// The plan of the least version from the lowest one to the highest one. In all of these a character count has the same
 /// bits, so that the best segments are the same.
-fn plan_between(lowest: u8, highest: u8, level: Level, data: &[u8]) -> Option<Plan>
-    requires few { length «data».now ≤ 652 }
+fn plan_between(lowest: u8, highest: u8, level: Level, bytes: &[u8]) -> Option<Plan>
+    requires few { length bytes.now ≤ 652 }
     requires low { 1 ≤ lowest }
     requires some { lowest ≤ highest }
     requires high { highest ≤ 10 }
     requires same { (v : ℕ) → lowest ≤ v → v ≤ highest → SameWidths v highest }
-    ensures some { IfSome result (IsLeastPlan lowest highest level «data».now) }
-    ensures none { IfNone result (NoPlan lowest highest level «data».now) }
+    ensures some { IfSome result (IsLeastPlan lowest highest level bytes.now) }
+    ensures none { IfNone result (NoPlan lowest highest level bytes.now) }
 {
     let mut bits = [0; 653];
     let mut firsts = [Segment {
         mode: Mode::Byte,
         len: 0,
     }; 653];
-    fill(Version { number: highest }, data, &mut bits, &mut firsts);
+    fill(Version { number: highest }, bytes, &mut bits, &mut firsts);
     for number in lowest..highest + 1 {
         let version = Version { number };
         if usize::from(bits[0]) <= 8 * version.data_words(level) {
-            return Some(plan_of(version, level, data, &firsts, u32::from(bits[0])));
+            return Some(plan_of(version, level, bytes, &firsts, u32::from(bits[0])));
         }
     }
     None
 }
 
 /// The plan of the segments that a table names, from the front of the data. They have this many bits.
-fn plan_of(version: Version, level: Level, data: &[u8], firsts: &[Segment], bits: u32) -> Plan
-    requires few { length «data».now ≤ 652 }
+fn plan_of(version: Version, level: Level, bytes: &[u8], firsts: &[Segment], bits: u32) -> Plan
+    requires few { length bytes.now ≤ 652 }
     requires size { length firsts.now ≡ 653 }
-    requires firsts { HasFirsts version.number «data».now 0 firsts.now }
-    requires short { length (chosen_segments version.number «data».now) ≤ 109 }
-    requires bits { bits ≡ cost version.number (chosen_segments version.number «data».now) }
-    ensures { result ≡ record { version = version.number; level = level; segments = chosen_segments version.number «data».now } }
+    requires firsts { HasFirsts version.number bytes.now 0 firsts.now }
+    requires short { length (chosen_segments version.number bytes.now) ≤ 109 }
+    requires bits { bits ≡ cost version.number (chosen_segments version.number bytes.now) }
+    ensures { result ≡ record { version = version.number; level = level; segments = chosen_segments version.number bytes.now } }
 {
     let mut segments = ArrayVec::new();
     let mut place = 0;
-    while place < data.len() {
+    while place < bytes.len() {
         let first = firsts[place];
         segments.push(first);
         place += usize::from(first.len);

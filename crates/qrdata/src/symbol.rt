@@ -1,4 +1,4 @@
-//! The codewords of a symbol.
+//! The codewords of a symbol (ISO/IEC 18004, 7.4 to 7.6).
 ghost use Rattle.arrayvec.specs.ArrayVec.{array_vec_len};
 ghost use Rattle.gf256.specs.Parity.{parity_of};
 ghost use Rattle.qrdata.specs.Codewords.{interleaved, blocks_of, data_of, symbol_codewords};
@@ -16,12 +16,16 @@ use crate::plan::Plan;
 use crate::version::Version;
 use labelcore::Level;
 
-/// The codewords of the symbol of a plan that holds the bytes.
+/// Writes the codewords of the symbol of a plan into `words`, in the order in which they are placed: the data codewords of
+/// its blocks interleaved, then their parity codewords interleaved (ISO/IEC 18004, 7.6). The plan is one for these bytes,
+/// as [`crate::choose`] gives it. What `words` held is dropped.
 pub fn codewords(plan: &Plan, bytes: &[u8], words: &mut Words)
     requires cut { IsSegmentation plan.now.version plan.now.segments bytes.now }
     requires fits { cost plan.now.version plan.now.segments ≤ capacity plan.now.version plan.now.level }
     ensures words { words.new.items ≡ symbol_codewords plan.now.version plan.now.level plan.now.segments bytes.now }
-    ensures len { array_vec_len words.new ≡ total_codewords plan.now.version }
+    ensures count { length words.new.items ≡ total_codewords plan.now.version }
+
+    // They read back as the bytes: each block is a codeword of its code, and the segments stop where they should.
     ensures read { data_in plan.now.version plan.now.level words.new.items ≡ Some bytes.now }
 {
     let version = plan.version();
@@ -33,7 +37,7 @@ pub fn codewords(plan: &Plan, bytes: &[u8], words: &mut Words)
 }
 
 /// Writes the data codewords of the segments.
-pub(crate) fn push_data(
+fn push_data(
     version: Version,
     level: Level,
     segments: &[Segment],
@@ -54,7 +58,7 @@ pub(crate) fn push_data(
 }
 
 /// Writes the blocks of data interleaved, and then their parity codewords interleaved.
-pub(crate) fn write_symbol(version: Version, level: Level, message: &[u8], words: &mut Words)
+fn write_symbol(version: Version, level: Level, message: &[u8], words: &mut Words)
     requires whole { length message.now ≡ data_codewords version.number level }
     ensures { words.new.items ≡ interleaved (blocks_of version.number level message.now) ++ interleaved (map (parity_of (parity_length version.number level)) (blocks_of version.number level message.now)) }
 {

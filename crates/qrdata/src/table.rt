@@ -1,25 +1,25 @@
-//! A table of the best segments of each rest of the data, filled from the end.
+//! A table of the best segments of each rest of the bytes, filled from the end.
 ghost use Rattle.qrdata.specs.Segments.{has_character};
 ghost use Rattle.qrdata.specs.Table.{run_length, next_choice, HasCosts, HasFirsts, IsChoice};
 ghost use Rattle.qrdata.specs.declared.mode.Mode.TheVariants.{Numeric, Alphanumeric};
 ghost use Rattle.std.specs.Prelude.{length, ◌≡◌, ◌+◌, ◌≤◌, ◌<◌, drop};
 
-use crate::mode::{Mode, Segment, count_bits, count_limit, payload_size, value_of};
+use crate::mode::{Mode, Segment, value_of};
 use crate::version::Version;
 
 /// The most bytes that a symbol of version 10 holds: more digits than this have more bits than its data codewords.
 pub(crate) const MAX_BYTES: usize = 652;
 
-/// A first segment of a rest of the data, and the bits of the list that it begins.
+/// A first segment of a rest of the bytes, and the bits of the list that it begins.
 #[derive(Clone, Copy)]
-pub(crate) struct Choice {
+struct Choice {
     segment: Segment,
     bits: u16,
 }
 
 /// The candidate of so many bytes, if it is a segment and its list costs less, and else the choice so far. The first
 /// bytes that the mode has are a run of this length, and the best list of what comes after the candidate has these bits.
-pub(crate) fn better(
+fn better(
     version: Version,
     mode: Mode,
     len: usize,
@@ -31,8 +31,8 @@ pub(crate) fn better(
     requires after { after ≤ 18256 }
     ensures { result ≡ next_choice version.number mode len run after so_far }
 {
-    if len <= run && len < count_limit(version, mode) {
-        let bits = 4 + count_bits(version, mode) + payload_size(mode, len) + usize::from(after);
+    if len <= run && len < mode.count_limit(version) {
+        let bits = 4 + mode.count_bits(version) + mode.payload_bits(len) + usize::from(after);
         if bits < usize::from(so_far.bits) {
             return Choice {
                 segment: Segment {
@@ -46,25 +46,25 @@ pub(crate) fn better(
     so_far
 }
 
-/// The first segment of the best list of a rest of the data, and the bits of that list. The bits of the best lists of
+/// The first segment of the best list of a rest of the bytes, and the bits of that list. The bits of the best lists of
 /// shorter rests are known, and how many of the first bytes are digits and characters.
-pub(crate) fn first_of(
+fn first_of(
     version: Version,
-    data: &[u8],
+    bytes: &[u8],
     place: usize,
     digits: usize,
     characters: usize,
     bits: &[u16],
 ) -> Choice
-    requires few { length «data».now ≤ 652 }
-    requires inside { place < length «data».now }
-    requires digits { digits ≡ run_length (has_character Numeric) (drop place «data».now) }
-    requires characters { characters ≡ run_length (has_character Alphanumeric) (drop place «data».now) }
+    requires few { length bytes.now ≤ 652 }
+    requires inside { place < length bytes.now }
+    requires digits { digits ≡ run_length (has_character Numeric) (drop place bytes.now) }
+    requires characters { characters ≡ run_length (has_character Alphanumeric) (drop place bytes.now) }
     requires size { length bits.now ≡ 653 }
-    requires known { HasCosts version.number «data».now (place + 1) bits.now }
-    ensures { IsChoice version.number (drop place «data».now) result }
+    requires known { HasCosts version.number bytes.now (place + 1) bits.now }
+    ensures { IsChoice version.number (drop place bytes.now) result }
 {
-    let rest = data.len() - place;
+    let rest = bytes.len() - place;
     let mut choice = Choice {
         segment: Segment {
             mode: Mode::Byte,
@@ -83,31 +83,31 @@ pub(crate) fn first_of(
     choice
 }
 
-/// Fills a table over the rests of the data, from the end: the bits of the best list and its first segment.
-pub(crate) fn fill(version: Version, data: &[u8], bits: &mut [u16], firsts: &mut [Segment])
-    requires few { length «data».now ≤ 652 }
+/// Fills a table over the rests of the bytes, from the end: the bits of the best list and its first segment.
+pub(crate) fn fill(version: Version, bytes: &[u8], bits: &mut [u16], firsts: &mut [Segment])
+    requires few { length bytes.now ≤ 652 }
     requires bits { length bits.old ≡ 653 }
     requires firsts { length firsts.old ≡ 653 }
-    ensures costs { HasCosts version.number «data».now 0 bits.new }
-    ensures firsts { HasFirsts version.number «data».now 0 firsts.new }
+    ensures costs { HasCosts version.number bytes.now 0 bits.new }
+    ensures firsts { HasFirsts version.number bytes.now 0 firsts.new }
 {
-    let mut place = data.len();
+    let mut place = bytes.len();
     let mut digits = 0;
     let mut characters = 0;
     bits[place] = 0;
     while place > 0 {
         place -= 1;
-        digits = if data[place].is_ascii_digit() {
+        digits = if bytes[place].is_ascii_digit() {
             digits + 1
         } else {
             0
         };
-        characters = if value_of(data[place]) < 45 {
+        characters = if value_of(bytes[place]) < 45 {
             characters + 1
         } else {
             0
         };
-        let choice = first_of(version, data, place, digits, characters, bits);
+        let choice = first_of(version, bytes, place, digits, characters, bits);
         bits[place] = choice.bits;
         firsts[place] = choice.segment;
     }

@@ -1,12 +1,14 @@
-ghost use Rattle.qrdata.specs.Versions.{capacity};
+//! Known symbols, and the shortest lists of segments found by listing them all.
 ghost use Rattle.qrdata.specs.Segments.{IsSegmentation, cost};
+ghost use Rattle.qrdata.specs.Versions.{capacity};
 ghost use Rattle.std.specs.Prelude.{◌≤◌};
 
 use super::*;
-use labelcore::{Format, Level, Options};
+use crate::blocks::interleave;
+use labelcore::{Fault, Format, Level, Options};
 use std::process::Abort;
 
-fn options_from(rt: &impl Abort, level: Level, min_version: u8) -> Options {
+fn options(rt: &impl Abort, level: Level, min_version: u8) -> Options {
     match Options::new(Format::Pbm, 1, 50, level, min_version, None, false) {
         Some(options) => options,
         None => panic!(rt; "an option is out of its range"),
@@ -17,49 +19,247 @@ fn planned(rt: &impl Abort, level: Level, min_version: u8, data: &[u8]) -> Plan
     ensures cut { IsSegmentation result.version result.segments «data».now }
     ensures fits { cost result.version result.segments ≤ capacity result.version result.level }
 {
-    match choose(&options_from(rt, level, min_version), data) {
+    match choose(&options(rt, level, min_version), data) {
         Ok(plan) => plan,
         Err(_) => panic!(rt; "data does not fit"),
     }
 }
 
-fn expect_words(rt: &impl Abort, plan: &Plan, data: &[u8], first: &[u8])
+fn expect_refused(rt: &impl Abort, level: Level, data: &[u8]) {
+    match choose(&options(rt, level, 1), data) {
+        Ok(_) => panic!(rt; "data fits"),
+        Err(fault) => assert_eq!(rt; fault, Fault::DoesNotFit(level)),
+    }
+}
+
+fn expect_version(rt: &impl Abort, plan: &Plan, number: u8, bits: u32) {
+    assert_eq!(rt; plan.version().number(), number);
+    assert_eq!(rt; plan.bits(), bits);
+}
+
+fn words_of(plan: &Plan, data: &[u8]) -> Words
     requires cut { IsSegmentation plan.now.version plan.now.segments «data».now }
     requires fits { cost plan.now.version plan.now.segments ≤ capacity plan.now.version plan.now.level }
 {
     let mut words = Words::new();
     words.push(7);
     codewords(plan, data, &mut words);
-    assert_eq!(rt; words.len(), plan.version().total_words());
-    for (word, expected) in words.as_slice().iter().zip(first) {
-        assert_eq!(rt; *word, *expected);
+    words
+}
+
+fn expect_words(rt: &impl Abort, words: &Words, from: usize, expected: &[u8]) {
+    assert!(rt; words.len().saturating_sub(from) >= expected.len());
+    for (word, right) in words.as_slice().iter().skip(from).zip(expected) {
+        assert_eq!(rt; *word, *right);
+    }
+}
+
+fn expect_segments(rt: &impl Abort, plan: &Plan, expected: &[Segment]) {
+    assert_eq!(rt; plan.segments().len(), expected.len());
+    for (segment, right) in plan.segments().iter().zip(expected) {
+        assert_eq!(rt; *segment, *right);
     }
 }
 
 #[test]
-fn one_byte_segment_and_digits(rt: HostRuntime) {
-    let plan = planned(&rt, Level::H, 1, b"a123456789");
-    assert_eq!(rt; plan.bits(), 64);
-    assert_eq!(rt; plan.version().number(), 1);
-    assert_eq!(rt; plan.segments().len(), 2);
-    expect_words(
-        &rt,
-        &plan,
-        b"a123456789",
-        &[0x40, 0x16, 0x11, 0x02, 0x47, 0xB7, 0x23, 0x15, 0x00],
+fn sizes(rt: HostRuntime) {
+    assert!(rt; Version::new(0).is_none());
+    assert!(rt; Version::new(11).is_none());
+    let data = [
+        [19, 16, 13, 9],
+        [34, 28, 22, 16],
+        [55, 44, 34, 26],
+        [80, 64, 48, 36],
+        [108, 86, 62, 46],
+        [136, 108, 76, 60],
+        [156, 124, 88, 66],
+        [194, 154, 110, 86],
+        [232, 182, 132, 100],
+        [274, 216, 154, 122],
+    ];
+    let total = [26, 44, 70, 100, 134, 172, 196, 242, 292, 346];
+    for number in 1..11u8 {
+        let Some(version) = Version::new(number) else {
+            panic!(rt; "there is such a version")
+        };
+        let place = usize::from(number) - 1;
+        assert_eq!(rt; version.number(), number);
+        assert_eq!(rt; version.side(), 21 + 4 * place);
+        assert_eq!(rt; version.total_words(), total[place]);
+        assert_eq!(rt; version.data_words(Level::L), data[place][0]);
+        assert_eq!(rt; version.data_words(Level::M), data[place][1]);
+        assert_eq!(rt; version.data_words(Level::Q), data[place][2]);
+        assert_eq!(rt; version.data_words(Level::H), data[place][3]);
+    }
+}
+
+#[test]
+fn standard_symbols(rt: HostRuntime) {
+    let digits = planned(&rt, Level::M, 1, b"01234567");
+    let words = words_of(&digits, b"01234567");
+    assert_eq!(rt;
+        words.as_slice(),
+        [
+            0x10, 0x20, 0x0C, 0x56, 0x61, 0x80, 0xEC, 0x11, 0xEC, 0x11, 0xEC, 0x11, 0xEC, 0x11,
+            0xEC, 0x11, 0xA5, 0x24, 0xD4, 0xC1, 0xED, 0x36, 0xC7, 0x87, 0x2C, 0x55,
+        ]
+        .as_slice()
+    );
+    let hello = planned(&rt, Level::Q, 1, b"HELLO WORLD");
+    let words = words_of(&hello, b"HELLO WORLD");
+    assert_eq!(rt;
+        words.as_slice(),
+        [
+            32, 91, 11, 120, 209, 114, 220, 77, 67, 64, 236, 17, 236, 168, 72, 22, 82, 217, 54,
+            156, 0, 46, 15, 180, 122, 16,
+        ]
+        .as_slice()
     );
 }
 
 #[test]
-fn no_terminator(rt: HostRuntime) {
-    let plan = planned(&rt, Level::Q, 1, b"ab1234567890cd");
-    assert_eq!(rt; plan.bits(), 104);
-    assert_eq!(rt; plan.version().number(), 1);
-    assert_eq!(rt; plan.segments().len(), 3);
+fn one_digit(rt: HostRuntime) {
+    let plan = planned(&rt, Level::H, 1, b"1");
+    expect_version(&rt, &plan, 1, 18);
+    let words = words_of(&plan, b"1");
+    assert_eq!(rt; words.len(), 26);
     expect_words(
         &rt,
+        &words,
+        0,
+        &[0x10, 0x04, 0x40, 0xEC, 0x11, 0xEC, 0x11, 0xEC, 0x11],
+    );
+}
+
+#[test]
+fn terminator_of_one_bit(rt: HostRuntime) {
+    let data = [b'1'; 42];
+    let plan = planned(&rt, Level::L, 1, &data[..41]);
+    expect_version(&rt, &plan, 1, 151);
+    let words = words_of(&plan, &data[..41]);
+    expect_words(&rt, &words, 0, &[0x10, 0xA4, 0x6F]);
+    expect_words(&rt, &words, 18, &[0x16]);
+    let longer = planned(&rt, Level::L, 1, &data);
+    assert_eq!(rt; longer.version().number(), 2);
+}
+
+#[test]
+fn terminator_of_four_bits(rt: HostRuntime) {
+    let data = [b'a'; 18];
+    let plan = planned(&rt, Level::L, 1, &data[..17]);
+    expect_version(&rt, &plan, 1, 148);
+    let words = words_of(&plan, &data[..17]);
+    expect_words(&rt, &words, 0, &[0x41]);
+    expect_words(&rt, &words, 1, &[0x16; 17]);
+    expect_words(&rt, &words, 18, &[0x10]);
+    let longer = planned(&rt, Level::L, 1, &data);
+    assert_eq!(rt; longer.version().number(), 2);
+    let words = words_of(&longer, &data);
+    expect_words(&rt, &words, 0, &[0x41, 0x26]);
+    expect_words(&rt, &words, 2, &[0x16; 17]);
+    expect_words(
+        &rt,
+        &words,
+        19,
+        &[
+            0x10, 0xEC, 0x11, 0xEC, 0x11, 0xEC, 0x11, 0xEC, 0x11, 0xEC, 0x11, 0xEC, 0x11, 0xEC,
+            0x11,
+        ],
+    );
+}
+
+#[test]
+fn longest_data(rt: HostRuntime) {
+    let letters = [b'a'; 272];
+    let plan = planned(&rt, Level::L, 1, &letters[..271]);
+    expect_version(&rt, &plan, 10, 2188);
+    expect_refused(&rt, Level::L, &letters);
+    let digits = [b'1'; 653];
+    let plan = planned(&rt, Level::L, 1, &digits[..652]);
+    expect_version(&rt, &plan, 10, 2190);
+    assert_eq!(rt; words_of(&plan, &digits[..652]).len(), 346);
+    expect_refused(&rt, Level::L, &digits);
+    let mut mixed = [b'1'; 646];
+    mixed[0] = b'a';
+    let plan = planned(&rt, Level::L, 1, &mixed[..645]);
+    expect_version(&rt, &plan, 10, 2191);
+    expect_refused(&rt, Level::L, &mixed);
+}
+
+#[test]
+fn uneven_blocks(rt: HostRuntime) {
+    let data = [b'a'; 30];
+    let plan = planned(&rt, Level::Q, 5, &data);
+    assert_eq!(rt; plan.version().number(), 5);
+    assert_eq!(rt; plan.level(), Level::Q);
+    assert_eq!(rt; planned(&rt, Level::Q, 1, &data).version().number(), 3);
+    let words = words_of(&plan, &data);
+    assert_eq!(rt; words.len(), 62 + 72);
+    expect_words(
+        &rt,
+        &words,
+        0,
+        &[0x41, 0x16, 0x16, 0xEC, 0xE6, 0x16, 0x10, 0x11],
+    );
+    expect_words(&rt, &words, 56, &[0x16, 0x16, 0xEC, 0xEC, 0x11, 0x11]);
+}
+
+#[test]
+fn interleaving_order(rt: HostRuntime) {
+    let mut places = [0; 62];
+    for (place, word) in places.iter_mut().enumerate() {
+        *word = place as u8;
+    }
+    let mut words = Words::new();
+    interleave(&[15, 15, 16, 16], &places, &mut words);
+    assert_eq!(rt; words.len(), 62);
+    for place in 0..15u8 {
+        let from = 4 * usize::from(place);
+        expect_words(
+            &rt,
+            &words,
+            from,
+            &[place, 15 + place, 30 + place, 46 + place],
+        );
+    }
+    expect_words(&rt, &words, 60, &[45, 61]);
+}
+
+const fn segment(mode: Mode, len: u16) -> Segment {
+    Segment { mode, len }
+}
+
+#[test]
+fn mixed_segments(rt: HostRuntime) {
+    let plan = planned(&rt, Level::H, 1, b"a123456789");
+    expect_version(&rt, &plan, 1, 64);
+    expect_segments(
+        &rt,
         &plan,
-        b"ab1234567890cd",
+        &[segment(Mode::Byte, 1), segment(Mode::Numeric, 9)],
+    );
+    expect_words(
+        &rt,
+        &words_of(&plan, b"a123456789"),
+        0,
+        &[0x40, 0x16, 0x11, 0x02, 0x47, 0xB7, 0x23, 0x15, 0x00],
+    );
+
+    let plan = planned(&rt, Level::Q, 1, b"ab1234567890cd");
+    expect_version(&rt, &plan, 1, 104);
+    expect_segments(
+        &rt,
+        &plan,
+        &[
+            segment(Mode::Byte, 2),
+            segment(Mode::Numeric, 10),
+            segment(Mode::Byte, 2),
+        ],
+    );
+    expect_words(
+        &rt,
+        &words_of(&plan, b"ab1234567890cd"),
+        0,
         &[
             0x40, 0x26, 0x16, 0x21, 0x02, 0x87, 0xB7, 0x23, 0x15, 0x04, 0x02, 0x63, 0x64,
         ],
@@ -67,129 +267,94 @@ fn no_terminator(rt: HostRuntime) {
 }
 
 #[test]
-fn tie_goes_to_the_longest(rt: HostRuntime) {
+fn one_segment_where_more_save_nothing(rt: HostRuntime) {
     let plan = planned(&rt, Level::M, 1, b"a123");
-    assert_eq!(rt; plan.bits(), 44);
-    assert_eq!(rt; plan.segments().len(), 1);
-    let whole = planned(&rt, Level::M, 1, b"a12b");
-    assert_eq!(rt; whole.bits(), 44);
-    expect_words(
-        &rt,
-        &whole,
-        b"a12b",
-        &[0x40, 0x46, 0x13, 0x13, 0x26, 0x20, 0xEC, 0x11, 0xEC, 0x11],
-    );
-}
+    expect_version(&rt, &plan, 1, 44);
+    expect_segments(&rt, &plan, &[segment(Mode::Byte, 4)]);
 
-#[test]
-fn standard_symbols(rt: HostRuntime) {
-    let digits = planned(&rt, Level::M, 1, b"01234567");
+    let plan = planned(&rt, Level::M, 1, b"a12b");
+    expect_version(&rt, &plan, 1, 44);
+    expect_segments(&rt, &plan, &[segment(Mode::Byte, 4)]);
     expect_words(
         &rt,
-        &digits,
-        b"01234567",
+        &words_of(&plan, b"a12b"),
+        0,
         &[
-            16, 32, 12, 86, 97, 128, 236, 17, 236, 17, 236, 17, 236, 17, 236, 17, 165, 36, 212,
-            193, 237, 54, 199, 135, 44, 85,
+            0x40, 0x46, 0x13, 0x13, 0x26, 0x20, 0xEC, 0x11, 0xEC, 0x11, 0xEC, 0x11, 0xEC, 0x11,
+            0xEC, 0x11,
         ],
     );
-    let hello = planned(&rt, Level::Q, 1, b"HELLO WORLD");
-    expect_words(
-        &rt,
-        &hello,
-        b"HELLO WORLD",
-        &[
-            32, 91, 11, 120, 209, 114, 220, 77, 67, 64, 236, 17, 236, 168, 72, 22, 82, 217, 54,
-            156, 0, 46, 15, 180, 122, 16,
-        ],
-    );
-}
-
-#[test]
-fn uneven_blocks(rt: HostRuntime) {
-    let data = [97; 30];
-    let plan = planned(&rt, Level::Q, 5, &data);
-    assert_eq!(rt; plan.version().number(), 5);
-    expect_words(&rt, &plan, &data, &[65, 22, 22, 236, 230, 22, 16, 17]);
-}
-
-#[test]
-fn longest_data(rt: HostRuntime) {
-    let mut data = [49; 646];
-    data[0] = 97;
-    let plan = planned(&rt, Level::L, 1, &data[..645]);
-    assert_eq!(rt; plan.bits(), 2191);
-    assert_eq!(rt; plan.version().number(), 10);
-    let options = options_from(&rt, Level::L, 1);
-    assert!(rt; choose(&options, &data).is_err());
-    assert!(rt; choose(&options, &[49; 653]).is_err());
-    let digits = planned(&rt, Level::L, 1, &[49; 652]);
-    expect_words(&rt, &digits, &[49; 652], &[]);
 }
 
 #[test]
 fn empty_data(rt: HostRuntime) {
     let plan = planned(&rt, Level::M, 1, b"");
-    assert_eq!(rt; plan.bits(), 0);
-    assert_eq!(rt; plan.segments().len(), 0);
-    expect_words(&rt, &plan, b"", &[0, 236, 17]);
+    expect_version(&rt, &plan, 1, 0);
+    assert!(rt; plan.segments().is_empty());
+    expect_words(&rt, &words_of(&plan, b""), 0, &[0, 0xEC, 0x11]);
 }
 
-// The bits of a list of segments in versions 1 to 9: the data is cut after each byte whose bit is set, and the modes are
-// digits to the base 3. None if a mode lacks a byte.
+/// The bits of a list of segments in versions 1 to 9. The data is cut after each byte whose bit in `cuts` is set, and the
+/// modes of the pieces are the digits of `modes` to the base 3. There is none if a mode lacks a byte.
 fn listed(data: &[u8], cuts: u32, modes: u32) -> Option<u32> {
     let mut total: u32 = 0;
     let mut len: u32 = 0;
-    let mut left = cuts;
-    let mut mode = modes;
+    let mut cuts_left = cuts;
+    let mut modes_left = modes;
     for (i, byte) in data.iter().enumerate() {
-        if mode % 3 == 0 && *byte != b'1' || mode % 3 == 1 && *byte == b'a' {
+        let mode = modes_left % 3;
+        if mode == 0 && *byte != b'1' || mode == 1 && *byte == b'a' {
             return None;
         }
         len = len.saturating_add(1);
-        if left % 2 == 1 || i + 1 == data.len() {
-            let bits = match mode % 3 {
+        if cuts_left % 2 == 1 || i + 1 == data.len() {
+            let bits = match mode {
                 0 => (len.saturating_mul(10).saturating_add(2) / 3).saturating_add(14),
                 1 => (len.saturating_mul(11).saturating_add(1) / 2).saturating_add(13),
                 _ => len.saturating_mul(8).saturating_add(12),
             };
             total = total.saturating_add(bits);
             len = 0;
-            mode /= 3;
+            modes_left /= 3;
         }
-        left /= 2;
+        cuts_left /= 2;
     }
     Some(total)
 }
 
-#[test]
-fn no_list_costs_less(rt: HostRuntime) {
-    for size in 1..7usize {
-        for text in 0..729u32 {
-            let mut data = [b'1'; 6];
-            let mut rest = text;
-            for byte in data.iter_mut() {
-                *byte = if rest % 3 == 0 {
-                    b'1'
-                } else if rest % 3 == 1 {
-                    b'A'
-                } else {
-                    b'a'
-                };
-                rest /= 3;
-            }
-            let plan = planned(&rt, Level::M, 1, &data[..size]);
-            let mut least = 65535;
-            for cuts in 0..32 {
-                for modes in 0..729 {
-                    if let Some(bits) = listed(&data[..size], cuts, modes) {
-                        if bits < least {
-                            least = bits;
-                        }
-                    }
+fn fewest_bits(data: &[u8]) -> u32 {
+    let mut least = u32::MAX;
+    for cuts in 0..32 {
+        for modes in 0..729 {
+            if let Some(bits) = listed(data, cuts, modes) {
+                if bits < least {
+                    least = bits;
                 }
             }
-            assert_eq!(rt; plan.bits(), least);
+        }
+    }
+    least
+}
+
+/// The text whose characters are the digits of a number to the base 3, of which `1`, `A` and `a` are the digits.
+fn text_of(number: u32) -> [u8; 6] {
+    let characters = [b'1', b'A', b'a'];
+    let mut text = [b'1'; 6];
+    let mut rest = number;
+    for character in text.iter_mut() {
+        *character = characters[(rest % 3) as usize];
+        rest /= 3;
+    }
+    text
+}
+
+#[test]
+fn no_list_costs_less(rt: HostRuntime) {
+    for (shorter, texts) in [3, 9, 27, 81, 243, 729].iter().enumerate() {
+        for number in 0..*texts {
+            let text = text_of(number);
+            let plan = planned(&rt, Level::M, 1, &text[..shorter + 1]);
+            assert_eq!(rt; plan.bits(), fewest_bits(&text[..shorter + 1]));
         }
     }
 }

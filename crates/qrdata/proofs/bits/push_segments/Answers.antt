@@ -1,13 +1,8 @@
 use Rattle.std.proofs.Common.{◌≡◌, ◌+◌, ◌-◌, ◌++◌, drop, take, length, get_or, append_assoc, append-nil, arith, ap, length-append}
 use Rattle.qrdata.specs.Segments.{segment_bits}
-use Rattle.qrdata.specs.declared.mode.Segment.{Segment}
-use Rattle.qrdata.specs.declared.mode.Mode.TheVariants.{Numeric}
 use Rattle.std.proofs.lemmas.List.{drop-drop, length-drop}
-use Rattle.qrdata.proofs.Writing.{IsSegmentation-next, length-segment_bits_front, cost-next, segments_bits-next, segments_bits-none_left}
+use Rattle.qrdata.proofs.Writing.{default_segment, IsSegmentation-next, length-segment_bits_front, cost-next, segments_bits-next, segments_bits-none_left}
 use Rattle.qrdata.proofs.bits.push_segments.Goals as goal
-
-abbrev default : Segment
-default = record { mode = Numeric; len = 0 }
 
 pub loop-segment-preserved : goal.loop-segment-preserved
 loop-segment-preserved c =
@@ -16,16 +11,16 @@ loop-segment-preserved c =
     let bytes = c.args.bytes.now in
     let i = c.loop-segment.segment-index in
     let place = c.loop-segment.place in
-    let s = get_or segments i default in
+    let s = get_or segments i default_segment in
     let inside = c.loop-segment-test.true in
     let size : c.from.result ≡ s.len = c.from.ensures in
     let piece : place + c.from.result - place ≡ s.len = omega arith in
-    let next = segments_bits-next version segments default bytes i place inside in
-    let held = IsSegmentation-next version segments default bytes i place inside c.loop-segment.invariant.3 in
+    let next = segments_bits-next version segments default_segment bytes i place inside in
+    let held = IsSegmentation-next version segments default_segment bytes i place inside c.loop-segment.invariant.3 in
     let written : c.push_segment.new.bits.items ≡ c.loop-segment.bits.items ++ segment_bits version s.mode (take s.len (drop place bytes)) = rw piece at c.push_segment.ensures in
     let count = length-segment_bits_front version s.mode s.len (drop place bytes) held.0.inside in (
       rw (written, size, append_assoc) (rw next at c.loop-segment.invariant.0),
-      omega (arith, ap length written, length-append c.loop-segment.bits.items (segment_bits version s.mode (take s.len (drop place bytes))), count, cost-next version segments default i inside, c.loop-segment.invariant.1),
+      omega (arith, ap length written, length-append c.loop-segment.bits.items (segment_bits version s.mode (take s.len (drop place bytes))), count, cost-next version segments default_segment i inside, c.loop-segment.invariant.1),
       omega (arith, held.0.inside, length-drop place bytes, size, c.loop-segment.invariant.2),
       rw (size, ← drop-drop s.len place bytes) held.1,
     )

@@ -1,9 +1,9 @@
 use Rattle.std.proofs.Common.{arith}
 use Rattle.qrdata.specs.Fewest.{chosen_segments}
-use Rattle.qrdata.proofs.Choosing.{long_fit_nowhere}
+use Rattle.qrdata.proofs.Bounds.{long_fit_nowhere}
 use Rattle.qrdata.proofs.FewestBits.{chosen_segments-is}
 use Rattle.qrdata.proofs.plan.plan_from.Goals as goal
 
-pub returns-then-data-gt-MAX_BYTES-clause-none : goal.returns-then-data-gt-MAX_BYTES-clause-none
-returns-then-data-gt-MAX_BYTES-clause-none c = λ v from to.
-    long_fit_nowhere v c.args.level c.args.data.now (omega (arith, c.requires.low)) to c.if-data-gt-MAX_BYTES.true (chosen_segments v c.args.data.now) (chosen_segments-is v c.args.data.now)
+pub returns-then-bytes-gt-MAX_BYTES-clause-none : goal.returns-then-bytes-gt-MAX_BYTES-clause-none
+returns-then-bytes-gt-MAX_BYTES-clause-none c = λ v from to.
+    long_fit_nowhere v c.args.level c.args.bytes.now (omega (arith, c.requires.low)) to c.if-bytes-gt-MAX_BYTES.true (chosen_segments v c.args.bytes.now) (chosen_segments-is v c.args.bytes.now)

@@ -4,7 +4,7 @@ use Rattle.qrdata.proofs.plan.plan_of.Given as goal
 
 -- what is read and the best list of the rest are the best list
 abbrev pub invariant-loop-place : goal.invariant-loop-place
-invariant-loop-place l = (l.segments.items ++ chosen_segments l.version.number (drop l.place l.«data») ≡ chosen_segments l.version.number l.«data») × (l.place ≤ length l.«data»)
+invariant-loop-place l = (l.segments.items ++ chosen_segments l.version.number (drop l.place l.bytes) ≡ chosen_segments l.version.number l.bytes) × (l.place ≤ length l.bytes)
 
 abbrev pub decreases-loop-place : goal.decreases-loop-place
-decreases-loop-place l = length l.«data» - l.place
+decreases-loop-place l = length l.bytes - l.place

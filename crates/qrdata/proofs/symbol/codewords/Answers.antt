@@ -25,5 +25,5 @@ returns-clause-read c =
     rw (returns-clause-words c) (data_in-symbol_codewords c.args.plan.now.version c.args.plan.now.level c.args.plan.now.segments c.args.bytes.now
     low high (AreBytes-slice c.args.bytes.now (λ i. omega (arith, c.type_inv.bytes i))) held c.requires.fits c.parity_is_sound.ensures.remainder c.parity_is_sound.ensures.codeword)
 
-pub returns-clause-len : goal.returns-clause-len
-returns-clause-len c = length-read c.args.plan.now.version c.args.plan.now.level c.write_symbol.new.words.items c.args.bytes.now (returns-clause-read c)
+pub returns-clause-count : goal.returns-clause-count
+returns-clause-count c = length-read c.args.plan.now.version c.args.plan.now.level c.write_symbol.new.words.items c.args.bytes.now (returns-clause-read c)

@@ -6,11 +6,11 @@ use Rattle.qrdata.proofs.table.fill.Given as goal
 
 -- the table is filled from here on, and the runs from here on are known
 abbrev pub invariant-loop-place : goal.invariant-loop-place
-invariant-loop-place l = (l.place ≤ length l.«data»)
-    × HasCosts l.version.number l.«data» l.place l.bits
-    × HasFirsts l.version.number l.«data» l.place l.firsts
-    × (l.digits ≡ run_length (has_character Numeric) (drop l.place l.«data»))
-    × (l.characters ≡ run_length (has_character Alphanumeric) (drop l.place l.«data»))
+invariant-loop-place l = (l.place ≤ length l.bytes)
+    × HasCosts l.version.number l.bytes l.place l.bits
+    × HasFirsts l.version.number l.bytes l.place l.firsts
+    × (l.digits ≡ run_length (has_character Numeric) (drop l.place l.bytes))
+    × (l.characters ≡ run_length (has_character Alphanumeric) (drop l.place l.bytes))
 
 abbrev pub decreases-loop-place : goal.decreases-loop-place
 decreases-loop-place l = l.place

@@ -1,0 +1,29 @@
+-- The plan of the least version in a range (ISO/IEC 18004, 7.4.1).
+use Rattle.std.specs.Prelude.{◌≡◌, ℕ, ◌<◌, ◌≤◌, List}
+use Rattle.labelcore.specs.declared.options.Level.{Level}
+use Rattle.qrdata.specs.declared.mode.Mode.{Mode}
+use Rattle.qrdata.specs.Fewest.{chosen_segments}
+use Rattle.qrdata.specs.PlanView.{PlanView}
+use Rattle.qrdata.specs.Segments.{cost, count_width}
+use Rattle.qrdata.specs.Versions.{capacity}
+
+-- a character count has the same bits in two versions, whatever the mode
+abbrev pub SameWidths : ℕ → ℕ → Type 0
+SameWidths v w = (mode : Mode) → count_width v mode ≡ count_width w mode
+
+-- the best segments of the bytes do not fit in a version
+abbrev pub DoNotFit : ℕ → Level → List ℕ → Type 0
+DoNotFit version level bytes = capacity version level < cost version (chosen_segments version bytes)
+
+-- the plan has the least version from a lowest one to a highest one in which the best segments fit, and these segments
+pub record IsLeastPlan (lowest highest : ℕ) (level : Level) (bytes : List ℕ) (plan : PlanView) : Type 0 where
+  pub from : lowest ≤ plan.version
+  pub to : plan.version ≤ highest
+  pub same_level : plan.level ≡ level
+  pub same_segments : plan.segments ≡ chosen_segments plan.version bytes
+  pub fits : cost plan.version (chosen_segments plan.version bytes) ≤ capacity plan.version level
+  pub least : (v : ℕ) → lowest ≤ v → v < plan.version → DoNotFit v level bytes
+
+-- in no version from a lowest one to a highest one do the best segments fit
+abbrev pub NoPlan : (lowest highest : ℕ) → Level → List ℕ → Type 0
+NoPlan lowest highest level bytes = (v : ℕ) → lowest ≤ v → v ≤ highest → DoNotFit v level bytes
