@@ -6,7 +6,7 @@ use Rattle.std.proofs.lemmas.Bool.{eqb-true}
 use Rattle.std.proofs.lemmas.List.Elements.{All-head, All-tail}
 use Rattle.qrmatrix.specs.Counting.{all_below}
 use Rattle.qrmatrix.specs.Bits.{bit}
-use Rattle.qrmatrix.specs.Placement.{data_bit}
+use Rattle.qrmatrix.specs.Placement.{codeword_bit}
 use Rattle.qrmatrix.specs.Reading.{high_first, by_eights}
 use Rattle.qrmatrix.proofs.Sums.{all_below_at}
 
@@ -28,20 +28,20 @@ map_shift f g d h a (suc m) =
     let t = h a in
     cc
 
-data_bit_shift : (w : ℕ) (ws : List ℕ) (i : ℕ) → data_bit (w ∷ ws) (i + 8) ≡ data_bit ws i
+data_bit_shift : (w : ℕ) (ws : List ℕ) (i : ℕ) → codeword_bit (w ∷ ws) (i + 8) ≡ codeword_bit ws i
 data_bit_shift w ws i =
     let q : (i + 8) / 8 ≡ suc (i / 8) = omega arith in
     let r : (i + 8) % 8 ≡ i % 8 = omega arith in
     rw (q, r)
 
-first_word : (w : ℕ) (ws : List ℕ) (k m : ℕ) → w < 256 → by_eights (suc k) (map (data_bit (w ∷ ws)) (range_with_len 0 (suc (suc (suc (suc (suc (suc (suc (suc m)))))))))) ≡ w ∷ by_eights k (map (data_bit ws) (range_with_len 0 m))
+first_word : (w : ℕ) (ws : List ℕ) (k m : ℕ) → w < 256 → by_eights (suc k) (map (codeword_bit (w ∷ ws)) (range_with_len 0 (suc (suc (suc (suc (suc (suc (suc (suc m)))))))))) ≡ w ∷ by_eights k (map (codeword_bit ws) (range_with_len 0 m))
 unfolding spelled
 first_word w ws k m h =
     let a = byte w h in
-    let b = map_shift (data_bit (w ∷ ws)) (data_bit ws) 8 (data_bit_shift w ws) 0 m in
+    let b = map_shift (codeword_bit (w ∷ ws)) (codeword_bit ws) 8 (data_bit_shift w ws) 0 m in
     cc
 
-pub words_of_bits : (ws : List ℕ) (r : ℕ) → All (λ w. w < 256) ws → by_eights (length ws) (map (data_bit ws) (range_with_len 0 (8 * length ws + r))) ≡ ws
+pub words_of_bits : (ws : List ℕ) (r : ℕ) → All (λ w. w < 256) ws → by_eights (length ws) (map (codeword_bit ws) (range_with_len 0 (8 * length ws + r))) ≡ ws
 words_of_bits [] r h = refl
 words_of_bits (w ∷ ws) r h =
     let n : 8 * suc (length ws) + r ≡ suc (suc (suc (suc (suc (suc (suc (suc (8 * length ws + r)))))))) = omega arith in

@@ -5,7 +5,7 @@ use Rattle.std.proofs.lemmas.Bool.{cases_eq, cases_Bool}
 use Rattle.std.proofs.lemmas.Bool.Decides.{nat_tests}
 use Rattle.qrdata.specs.Versions.{side_of}
 use Rattle.qrmatrix.specs.Functions.{is_free}
-use Rattle.qrmatrix.specs.Placement.{key, free_below, rank, data_bit, columns_right}
+use Rattle.qrmatrix.specs.Placement.{key, free_below, rank, codeword_bit, columns_right}
 use Rattle.qrmatrix.specs.Square.{value_at, WritesAt, SameOutside}
 use Rattle.qrmatrix.specs.Drawing.{MarksFunctions}
 use Rattle.qrmatrix.proofs.EachVersion.{Computed}
@@ -23,7 +23,7 @@ row_of n strip t = if strip % 2 == 0 then n - 1 - t else t
 pub record Placed (v : ℕ) (words : List ℕ) (old new : List (List Bool)) (i k : ℕ) : Type 0 where
   pub counted : i ≡ free_below v k
   pub bounded : i ≤ k
-  pub placed : (x y : ℕ) → x < side_of v → y < side_of v → is_free v x y ≡ true → key (side_of v) x y < k → value_at new x y ≡ data_bit words (rank v x y)
+  pub placed : (x y : ℕ) → x < side_of v → y < side_of v → is_free v x y ≡ true → key (side_of v) x y < k → value_at new x y ≡ codeword_bit words (rank v x y)
   pub others : (x y : ℕ) → x < side_of v → y < side_of v → is_free v x y ≡ false → value_at new x y ≡ value_at old x y
   pub outside : SameOutside (side_of v) old new
 
@@ -59,7 +59,7 @@ unwritten m n a b value w x y ne = w x y ∙ grind (arith, nat_tests)
 
 module _ (v : ℕ) (c : Computed v) (words : List ℕ) (old m : List (List Bool)) (i k a b : ℕ) (p : Placed v words old m i k) (la : a < side_of v) (lb : b < side_of v) (ne : a ≢ 6) (e : key (side_of v) a b ≡ k) where
   -- a bit is placed on a free module
-  pub step_free : (n : List (List Bool)) → is_free v a b ≡ true → WritesAt m n a b (data_bit words i) → Placed v words old n (i + 1) (k + 1)
+  pub step_free : (n : List (List Bool)) → is_free v a b ≡ true → WritesAt m n a b (codeword_bit words i) → Placed v words old n (i + 1) (k + 1)
   unfolding rank
   step_free n f w =
       let more = free_below_more v c a b k la lb ne e in
@@ -71,17 +71,17 @@ module _ (v : ℕ) (c : Computed v) (words : List ℕ) (old m : List (List Bool)
         placed = λ x y lx ly free l. elim (cases_eq (key (side_of v) x y) k) [
           | inl same ↦
               let at = unique v c x y a b lx ly free la lb ne (same ∙ sym e) in
-              written m n a b (data_bit words i) w x y at.0 at.1 ∙ ap (data_bit words) (p.counted ∙ ap (free_below v) (sym same))
+              written m n a b (codeword_bit words i) w x y at.0 at.1 ∙ ap (codeword_bit words) (p.counted ∙ ap (free_below v) (sym same))
           | inr other ↦
-              unwritten m n a b (data_bit words i) w x y (λ ex ey. other (ap (λ z. key (side_of v) z y) ex ∙ ap (λ z. key (side_of v) a z) ey ∙ e))
+              unwritten m n a b (codeword_bit words i) w x y (λ ex ey. other (ap (λ z. key (side_of v) z y) ex ∙ ap (λ z. key (side_of v) a z) ey ∙ e))
               ∙ p.placed x y lx ly free (omega arith)
         ];
         others = λ x y lx ly taken.
-            unwritten m n a b (data_bit words i) w x y (λ ex ey. let same : is_free v x y ≡ true = ap (λ z. is_free v z y) ex ∙ ap (λ z. is_free v a z) ey ∙ f in cc)
+            unwritten m n a b (codeword_bit words i) w x y (λ ex ey. let same : is_free v x y ≡ true = ap (λ z. is_free v z y) ex ∙ ap (λ z. is_free v a z) ey ∙ f in cc)
             ∙ p.others x y lx ly taken;
         outside = record {
-          columns = λ x y l. unwritten m n a b (data_bit words i) w x y (λ ex ey. omega arith) ∙ p.outside.columns x y l;
-          rows = λ x y l. unwritten m n a b (data_bit words i) w x y (λ ex ey. omega arith) ∙ p.outside.rows x y l;
+          columns = λ x y l. unwritten m n a b (codeword_bit words i) w x y (λ ex ey. omega arith) ∙ p.outside.columns x y l;
+          rows = λ x y l. unwritten m n a b (codeword_bit words i) w x y (λ ex ey. omega arith) ∙ p.outside.rows x y l;
         };
       }
 
@@ -102,7 +102,7 @@ module _ (v : ℕ) (c : Computed v) (words : List ℕ) (old m : List (List Bool)
       }
 
   -- what `place_module` leaves
-  pub step_any : (function n : List (List Bool)) (j : ℕ) → MarksFunctions v function → (value_at function a b ≡ false → (j ≡ i + 1) × WritesAt m n a b (data_bit words i)) → (value_at function a b ≡ true → (j ≡ i) × (n ≡ m)) → Placed v words old n j (k + 1)
+  pub step_any : (function n : List (List Bool)) (j : ℕ) → MarksFunctions v function → (value_at function a b ≡ false → (j ≡ i + 1) × WritesAt m n a b (codeword_bit words i)) → (value_at function a b ≡ true → (j ≡ i) × (n ≡ m)) → Placed v words old n j (k + 1)
   step_any function n j marks written_if kept_if =
       elim (cases_Bool (is_free v a b)) [
         | inl f ↦
@@ -128,8 +128,8 @@ placed_none v c words m k e =
 
 -- the two modules of a row of a strip
 pub placed_pair : (v : ℕ) → Computed v → (words : List ℕ) (old m n o : List (List Bool)) (i j h s t right y : ℕ) (function : List (List Bool)) → MarksFunctions v function → Placed v words old m i (2 * side_of v * s + 2 * t) → s < (side_of v - 1) / 2 → t < side_of v → right ≡ right_column (side_of v) s → y ≡ row_of (side_of v) s t
-    → (value_at function right y ≡ false → (j ≡ i + 1) × WritesAt m n right y (data_bit words i)) → (value_at function right y ≡ true → (j ≡ i) × (n ≡ m))
-    → (value_at function (right - 1) y ≡ false → (h ≡ j + 1) × WritesAt n o (right - 1) y (data_bit words j)) → (value_at function (right - 1) y ≡ true → (h ≡ j) × (o ≡ n))
+    → (value_at function right y ≡ false → (j ≡ i + 1) × WritesAt m n right y (codeword_bit words i)) → (value_at function right y ≡ true → (j ≡ i) × (n ≡ m))
+    → (value_at function (right - 1) y ≡ false → (h ≡ j + 1) × WritesAt n o (right - 1) y (codeword_bit words j)) → (value_at function (right - 1) y ≡ true → (h ≡ j) × (o ≡ n))
     → Placed v words old o h (2 * side_of v * s + 2 * (t + 1))
 placed_pair v c words old m n o i j h s t right y function marks p ls lt er ey w0 k0 w1 k1 =
     let c0 = column_in v s 0 ls (omega arith) in

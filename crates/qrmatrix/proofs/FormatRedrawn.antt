@@ -8,7 +8,7 @@ use Rattle.qrdata.specs.Versions.{side_of}
 use Rattle.qrmatrix.specs.Functions.{fixed, fixed_by, role, role_or, is_free, finder, alignment, timing, format_bit, version_bit, is_dark_module}
 use Rattle.qrmatrix.specs.Modules.{fixed_or}
 use Rattle.qrmatrix.specs.Masks.{flip_if, is_flipped}
-use Rattle.qrmatrix.specs.Placement.{data_bit, rank}
+use Rattle.qrmatrix.specs.Placement.{codeword_bit, rank}
 use Rattle.qrmatrix.specs.Square.{value_at, WritesAt, SameOutside}
 use Rattle.qrmatrix.specs.Drawing.{masked, IsUnmasked, RedrawsFormat}
 use Rattle.qrmatrix.proofs.CursorSteps.{written, unwritten}
@@ -152,7 +152,7 @@ fixed_elsewhere v level j k x y nx ny = any_mask v level j k (role v x y) (no_fo
 
 -- the module under the mask
 pub under : (v : ℕ) (level : Level) (mask : ℕ) (words : List ℕ) (function old m : List (List Bool)) → IsUnmasked v level words function old → RedrawsFormat v level mask old m → (x y : ℕ) → x < side_of v → y < side_of v
-    → masked mask function m x y ≡ fixed_or (fixed v level mask x y) (flip_if (is_flipped mask x y) (data_bit words (rank v x y)))
+    → masked mask function m x y ≡ fixed_or (fixed v level mask x y) (flip_if (is_flipped mask x y) (codeword_bit words (rank v x y)))
 under v level mask words function old m u r x y lx ly =
     drawn_module v level mask words x y function m m (value_at m x y) (u.marked x y lx ly ∙ sym (some_fixed v level mask x y)) shown free (λ t. refl)
   where
@@ -161,7 +161,7 @@ under v level mask words function old m u r x y lx ly =
     crossed (inl ex) = subst (λ z. value_at m z y ≡ fixed_or (fixed v level mask z y) (value_at old z y)) (sym ex) (r.in_column y ly)
     crossed (inr ey) = subst (λ z. value_at m x z ≡ fixed_or (fixed v level mask x z) (value_at old x z)) (sym ey) (r.in_row x lx)
 
-    free : is_free v x y ≡ true → value_at m x y ≡ data_bit words (rank v x y)
+    free : is_free v x y ≡ true → value_at m x y ≡ codeword_bit words (rank v x y)
     free f =
         elim (on_cross x y) [
           | inl e ↦ crossed e ∙ free_fixed v level mask x y (value_at old x y) f ∙ u.free x y lx ly f

@@ -13,7 +13,7 @@ use Rattle.qrmatrix.specs.Bits.{bit}
 use Rattle.qrmatrix.specs.Information.{format_word, version_word}
 use Rattle.qrmatrix.specs.Modules.{module_at, is_inside, fixed_or}
 use Rattle.qrmatrix.specs.Masks.{flip_if, is_flipped}
-use Rattle.qrmatrix.specs.Placement.{data_bit, rank, remainder_bits}
+use Rattle.qrmatrix.specs.Placement.{codeword_bit, rank, remainder_bits}
 use Rattle.qrmatrix.specs.Reading.{walk, read_bits, read_matrix, by_eights, format_copy_1, format_copy_2, version_copy_1, version_copy_2, word_at, low_first, read_format, shows_version, shows_functions, agrees}
 use Rattle.qrmatrix.proofs.Sums.{all_below_from}
 use Rattle.qrmatrix.proofs.EachVersion.{Computed, computed}
@@ -21,7 +21,7 @@ use Rattle.qrmatrix.proofs.WalkRanks.{walk_ranks}
 use Rattle.qrmatrix.proofs.CodewordBits.{words_of_bits}
 use Rattle.qrmatrix.proofs.InformationRead.{format_read, copies, version_shown}
 
--- ---- the data bits
+-- ---- the bits of the codewords
 
 map_filter_step : {X Y : Type 0} (b : Bool) (f g : X → Y) (x : X) (ys : List X) → (b ≡ true → f x ≡ g x) → map f ys ≡ map g ys → map f (cond b (x ∷ ys) ys) ≡ map g (cond b (x ∷ ys) ys)
 map_filter_step true f g x ys h e = let k = h refl in cc
@@ -53,7 +53,7 @@ inside_from n x y lx ly = and_from (nat_lt x n) (nat_lt y n) (lt-ltb x n lx) (lt
 
 module _ (v : ℕ) (level : Level) (mask : ℕ) (words : List ℕ) where
   -- a module in the square
-  pub module_inside : (x y : ℕ) → is_inside (side_of v) x y ≡ true → module_at v level mask words x y ≡ fixed_or (fixed v level mask x y) (flip_if (is_flipped mask x y) (data_bit words (rank v x y)))
+  pub module_inside : (x y : ℕ) → is_inside (side_of v) x y ≡ true → module_at v level mask words x y ≡ fixed_or (fixed v level mask x y) (flip_if (is_flipped mask x y) (codeword_bit words (rank v x y)))
   unfolding module_at
   module_inside x y h = rw h
 
@@ -62,17 +62,17 @@ module _ (v : ℕ) (level : Level) (mask : ℕ) (words : List ℕ) where
   unfolding module_at
   module_outside x y h = rw h
 
-  unmasked : (p : ℕ × ℕ) → is_inside (side_of v) p.0 p.1 ≡ true → is_free v p.0 p.1 ≡ true → flip_if (is_flipped mask p.0 p.1) (module_at v level mask words p.0 p.1) ≡ data_bit words (rank v p.0 p.1)
+  unmasked : (p : ℕ × ℕ) → is_inside (side_of v) p.0 p.1 ≡ true → is_free v p.0 p.1 ≡ true → flip_if (is_flipped mask p.0 p.1) (module_at v level mask words p.0 p.1) ≡ codeword_bit words (rank v p.0 p.1)
   unfolding is_free fixed
   unmasked p i h =
-      rw (module_inside p.0 p.1 i, free_is_data v level mask (role v p.0 p.1) (flip_if (is_flipped mask p.0 p.1) (data_bit words (rank v p.0 p.1))) h) (flip_twice (is_flipped mask p.0 p.1) (data_bit words (rank v p.0 p.1)))
+      rw (module_inside p.0 p.1 i, free_is_data v level mask (role v p.0 p.1) (flip_if (is_flipped mask p.0 p.1) (codeword_bit words (rank v p.0 p.1))) h) (flip_twice (is_flipped mask p.0 p.1) (codeword_bit words (rank v p.0 p.1)))
 
-  pub bits_read : Computed v → read_bits v mask (module_at v level mask words) ≡ map (data_bit words) (range_with_len 0 (8 * total_codewords v + remainder_bits v))
+  pub bits_read : Computed v → read_bits v mask (module_at v level mask words) ≡ map (codeword_bit words) (range_with_len 0 (8 * total_codewords v + remainder_bits v))
   unfolding read_bits
   bits_read c =
-      map_filter (λ (p : ℕ × ℕ). is_free v p.0 p.1) (λ (p : ℕ × ℕ). is_inside (side_of v) p.0 p.1) (λ (p : ℕ × ℕ). flip_if (is_flipped mask p.0 p.1) (module_at v level mask words p.0 p.1)) (λ (p : ℕ × ℕ). data_bit words (rank v p.0 p.1)) unmasked (walk (side_of v)) c.inside
-      ∙ map_map (data_bit words) (λ (p : ℕ × ℕ). rank v p.0 p.1) (filter (λ (p : ℕ × ℕ). is_free v p.0 p.1) (walk (side_of v)))
-      ∙ ap (map (data_bit words)) (walk_ranks v c)
+      map_filter (λ (p : ℕ × ℕ). is_free v p.0 p.1) (λ (p : ℕ × ℕ). is_inside (side_of v) p.0 p.1) (λ (p : ℕ × ℕ). flip_if (is_flipped mask p.0 p.1) (module_at v level mask words p.0 p.1)) (λ (p : ℕ × ℕ). codeword_bit words (rank v p.0 p.1)) unmasked (walk (side_of v)) c.inside
+      ∙ map_map (codeword_bit words) (λ (p : ℕ × ℕ). rank v p.0 p.1) (filter (λ (p : ℕ × ℕ). is_free v p.0 p.1) (walk (side_of v)))
+      ∙ ap (map (codeword_bit words)) (walk_ranks v c)
 
   pub words_read : Computed v → length words ≡ total_codewords v → All (λ w. w < 256) words → by_eights (total_codewords v) (read_bits v mask (module_at v level mask words)) ≡ words
   words_read c n h =
@@ -90,7 +90,7 @@ module _ (v : ℕ) (level : Level) (mask : ℕ) (words : List ℕ) where
   functions_shown =
       all_below_from (side_of v) (λ y. all_below (side_of v) (λ x. agrees (fixed v level mask x y) (module_at v level mask words x y)))
       (λ y ly. all_below_from (side_of v) (λ x. agrees (fixed v level mask x y) (module_at v level mask words x y))
-      (λ x lx. rw (module_inside x y (inside_from (side_of v) x y lx ly)) (agrees_itself (fixed v level mask x y) (flip_if (is_flipped mask x y) (data_bit words (rank v x y))))))
+      (λ x lx. rw (module_inside x y (inside_from (side_of v) x y lx ly)) (agrees_itself (fixed v level mask x y) (flip_if (is_flipped mask x y) (codeword_bit words (rank v x y))))))
 
   -- the modules at the places of a word's bits
   modules_at_role : (places : List (ℕ × ℕ)) (kind : ℕ → Role) (word : ℕ) (is_ : List ℕ) → ((i : ℕ) → fixed_by v level mask (kind i) ≡ Some (bit word i)) → list_all (λ (p : ℕ × ℕ). is_inside (side_of v) p.0 p.1) places ≡ true → map (λ (p : ℕ × ℕ). role v p.0 p.1) places ≡ map kind is_ → map (λ (p : ℕ × ℕ). module_at v level mask words p.0 p.1) places ≡ map (bit word) is_
@@ -102,7 +102,7 @@ module _ (v : ℕ) (level : Level) (mask : ℕ) (words : List ℕ) where
       let here : role v p.0 p.1 ≡ kind i = cc in
       let there : map (λ (p : ℕ × ℕ). role v p.0 p.1) ps ≡ map kind is_ = cc in
       let parts = and_parts (is_inside (side_of v) p.0 p.1) (list_all (λ (p : ℕ × ℕ). is_inside (side_of v) p.0 p.1) ps) z in
-      let m : fixed_or (fixed_by v level mask (role v p.0 p.1)) (flip_if (is_flipped mask p.0 p.1) (data_bit words (rank v p.0 p.1))) ≡ bit word i = rw (here, h i) in
+      let m : fixed_or (fixed_by v level mask (role v p.0 p.1)) (flip_if (is_flipped mask p.0 p.1) (codeword_bit words (rank v p.0 p.1))) ≡ bit word i = rw (here, h i) in
       let at = module_inside p.0 p.1 parts.0 ∙ m in
       let rest = modules_at_role ps kind word is_ h parts.1 there in
       cc

@@ -5,8 +5,9 @@ use Rattle.qrdata.specs.Versions.{side_of}
 use Rattle.qrmatrix.specs.Functions.{fixed, is_free}
 use Rattle.qrmatrix.specs.Masks.{is_flipped, flip_if}
 use Rattle.qrmatrix.specs.Modules.{fixed_or}
-use Rattle.qrmatrix.specs.Placement.{data_bit, rank}
+use Rattle.qrmatrix.specs.Placement.{codeword_bit, rank}
 use Rattle.qrmatrix.specs.Square.{value_at, SameOutside}
+use Rattle.qrmatrix.specs.declared.unmasked.Unmasked.{Unmasked}
 
 -- the square marks the modules that the codewords do not choose
 abbrev pub MarksFunctions : ℕ → List (List Bool) → Type 0
@@ -21,10 +22,14 @@ masked mask function modules x y =
 -- a symbol that has the format information of mask 0 and no mask laid over
 pub record IsUnmasked (v : ℕ) (level : Level) (words : List ℕ) (function modules : List (List Bool)) : Type 0 where
   pub marked : MarksFunctions v function
-  pub free : (x y : ℕ) → x < side_of v → y < side_of v → is_free v x y ≡ true → value_at modules x y ≡ data_bit words (rank v x y)
+  pub free : (x y : ℕ) → x < side_of v → y < side_of v → is_free v x y ≡ true → value_at modules x y ≡ codeword_bit words (rank v x y)
   pub taken : (x y : ℕ) → x < side_of v → y < side_of v → is_free v x y ≡ false → value_at modules x y ≡ fixed_or (fixed v level 0 x y) false
   pub columns : (x y : ℕ) → side_of v ≤ x → value_at modules x y ≡ false
   pub rows : (x y : ℕ) → side_of v ≤ y → value_at modules x y ≡ false
+
+-- the codewords are placed in a drawing
+abbrev pub Places : Unmasked → List ℕ → Type 0
+Places unmasked words = IsUnmasked unmasked.version.number unmasked.level words unmasked.function unmasked.modules
 
 -- the fixed modules of row 8 and column 8, where the format information stands, are drawn for a mask
 pub record RedrawsFormat (v : ℕ) (level : Level) (mask : ℕ) (old new : List (List Bool)) : Type 0 where

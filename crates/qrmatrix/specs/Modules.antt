@@ -4,7 +4,7 @@ use Rattle.labelcore.specs.declared.options.Level.{Level}
 use Rattle.qrdata.specs.Versions.{side_of}
 use Rattle.qrmatrix.specs.Functions.{fixed}
 use Rattle.qrmatrix.specs.Masks.{is_flipped, flip_if}
-use Rattle.qrmatrix.specs.Placement.{data_bit, rank}
+use Rattle.qrmatrix.specs.Placement.{codeword_bit, rank}
 
 -- the fixed module, else another
 abbrev pub fixed_or : Option Bool → Bool → Bool
@@ -20,4 +20,4 @@ is_inside n x y = nat_lt x n && nat_lt y n
 unfoldable pub module_at : ℕ → Level → ℕ → List ℕ → ℕ → ℕ → Bool
 unfolding fixed rank is_flipped
 module_at v level mask words x y =
-    is_inside (side_of v) x y && fixed_or (fixed v level mask x y) (flip_if (is_flipped mask x y) (data_bit words (rank v x y)))
+    is_inside (side_of v) x y && fixed_or (fixed v level mask x y) (flip_if (is_flipped mask x y) (codeword_bit words (rank v x y)))

@@ -19,7 +19,7 @@ low_first (b ∷ bs) = one_if b + 2 * low_first bs
 abbrev pub high_first : List Bool → ℕ
 high_first bits = low_first (reverse bits)
 
--- the places of a word's bits, bit 0 first, in each of its two copies
+-- the places of the bits of the format word, bit 0 first, in each of its two copies
 abbrev pub format_copy_1 : List (ℕ × ℕ)
 format_copy_1 =
     map (λ i. (8, i)) (range_with_len 0 6) ++ ((8, 7) ∷ (8, 8) ∷ (7, 8) ∷ map (λ i. (14 - i, 8)) (range_with_len 9 6))
@@ -28,6 +28,7 @@ abbrev pub format_copy_2 : ℕ → List (ℕ × ℕ)
 format_copy_2 n =
     map (λ i. (n - 1 - i, 8)) (range_with_len 0 8) ++ map (λ i. (8, n - 15 + i)) (range_with_len 8 7)
 
+-- the places of the bits of the version word, bit 0 first, in each of its two copies
 abbrev pub version_copy_1 : ℕ → List (ℕ × ℕ)
 version_copy_1 n = map (λ i. (n - 11 + i % 3, i / 3)) (range_with_len 0 18)
 
@@ -38,6 +39,7 @@ version_copy_2 n = map (λ i. (i / 3, n - 11 + i % 3)) (range_with_len 0 18)
 abbrev pub word_at : (ℕ → ℕ → Bool) → List (ℕ × ℕ) → ℕ
 word_at m places = low_first (map (λ (p : ℕ × ℕ). m p.0 p.1) places)
 
+-- the level that an error correction level indicator stands for
 abbrev pub level_of : ℕ → Level
 level_of indicator = if indicator == 0 then M else (if indicator == 1 then L else (if indicator == 2 then H else Q))
 
@@ -66,7 +68,7 @@ abbrev pub agrees : Option Bool → Bool → Bool
 agrees None b = true
 agrees (Some a) b = beq a b
 
--- whether every module that the data does not choose is right
+-- whether every module that the codewords do not choose is right
 unfoldable pub shows_functions : ℕ → Level → ℕ → (ℕ → ℕ → Bool) → Bool
 unfolding fixed
 shows_functions v level mask m =
@@ -90,7 +92,7 @@ right_columns n = map (λ s. n - 1 - 2 * s) (range_with_len 0 ((n - 7) / 2)) ++ 
 unfoldable pub walk : ℕ → List (ℕ × ℕ)
 walk n = strips (right_columns n) (reverse (range_with_len 0 n)) (range_with_len 0 n)
 
--- the data bits: the free modules in the order of reading, with the mask taken off
+-- the bits of the codewords: the free modules in the order of reading, with the mask taken off
 unfoldable pub read_bits : ℕ → ℕ → (ℕ → ℕ → Bool) → List Bool
 unfolding is_free walk is_flipped
 read_bits v mask m =

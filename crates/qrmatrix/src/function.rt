@@ -157,8 +157,8 @@ fn alignment_in(n: usize, a: usize, rows: &[usize], x: usize, y: usize) -> Optio
     ensures { result ≡ Functions.alignment_in n a rows.now x y }
 {
     for b in rows {
-        if finder(n, a, *b).is_none() {
-            if let Some(dark) = alignment_at(a, *b, x, y) {
+        if let Some(dark) = alignment_at(a, *b, x, y) {
+            if finder(n, a, *b).is_none() {
                 return Some(dark);
             }
         }

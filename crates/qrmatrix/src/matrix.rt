@@ -77,7 +77,7 @@ impl Matrix {
     /// The rows as words: bit x of word y is the module at column x and row y, and the bits from the side on are 0.
     pub fn rows(&self) -> &[u64; 57]
         ensures bits { (x y : ℕ) → bit (slice_index result.now y) x ≡ (is_inside self.now.side x y && is_dark self.now x y) }
-        ensures fits { self.now.side ≤ 57 }
+        ensures bound { self.now.side ≤ 57 }
     {
         self.modules.rows()
     }

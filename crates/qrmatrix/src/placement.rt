@@ -2,7 +2,8 @@
 ghost use Rattle.std.specs.Prelude.{◌≡◌, ℕ, ◌+◌, ◌-◌, ◌*◌, ◌/◌, ◌%◌, ◌^◌, ◌<◌, ◌≤◌, Bool, true, false, not, ◌&&◌, ◌==◌, if◌then◌else◌, IsTrue, IsFalse, nat_lt};
 ghost use Rattle.qrdata.specs.Versions.{side_of};
 ghost use Rattle.qrmatrix.specs.Functions.{is_free};
-ghost use Rattle.qrmatrix.specs.Placement.{data_bit, rank};
+ghost use Rattle.qrmatrix.specs.Placement;
+ghost use Rattle.qrmatrix.specs.Placement.{rank};
 ghost use Rattle.qrmatrix.specs.Square.{value_at, WritesAt, SameOutside};
 ghost use Rattle.qrmatrix.specs.Drawing.{MarksFunctions};
 
@@ -10,8 +11,8 @@ use crate::square::Square;
 use qrdata::{Version, Words};
 
 /// Bit `i` of the codewords, the high bit of each first, and light past their end.
-fn bit_of(words: &Words, i: usize) -> bool
-    ensures { result ≡ data_bit words.now.items i }
+fn codeword_bit(words: &Words, i: usize) -> bool
+    ensures { result ≡ Placement.codeword_bit words.now.items i }
 {
     match words.get(i / 8) {
         Some(word) => (*word >> (7 - i % 8)) & 1 == 1,
@@ -31,13 +32,13 @@ fn place_module(
     requires column { x < 57 }
     requires row { y < 57 }
     requires count { i < 2 ^ 32 }
-    ensures free { IsFalse (value_at function.now x y) → (result ≡ i + 1) × WritesAt modules.old modules.new x y (data_bit words.now.items i) }
+    ensures free { IsFalse (value_at function.now x y) → (result ≡ i + 1) × WritesAt modules.old modules.new x y (Placement.codeword_bit words.now.items i) }
     ensures kept { IsTrue (value_at function.now x y) → (result ≡ i) × (modules.new ≡ modules.old) }
 {
     if function.get(x, y) {
         i
     } else {
-        modules.set(x, y, bit_of(words, i));
+        modules.set(x, y, codeword_bit(words, i));
         i + 1
     }
 }
@@ -46,7 +47,7 @@ fn place_module(
 /// 18004, 7.7.3).
 pub fn place(version: Version, words: &Words, function: &Square, modules: &mut Square)
     requires { MarksFunctions version.number function.now }
-    ensures placed { (x y : ℕ) → x < side_of version.number → y < side_of version.number → is_free version.number x y ≡ true → value_at modules.new x y ≡ data_bit words.now.items (rank version.number x y) }
+    ensures placed { (x y : ℕ) → x < side_of version.number → y < side_of version.number → is_free version.number x y ≡ true → value_at modules.new x y ≡ Placement.codeword_bit words.now.items (rank version.number x y) }
     ensures others { (x y : ℕ) → x < side_of version.number → y < side_of version.number → is_free version.number x y ≡ false → value_at modules.new x y ≡ value_at modules.old x y }
     ensures outside { SameOutside (side_of version.number) modules.old modules.new }
 {

@@ -1,7 +1,7 @@
 //! A symbol before its mask: what stays under all eight masks is drawn once.
 ghost use Rattle.std.specs.Prelude.{◌≡◌, ℕ, ◌<◌, ◌≤◌, is_some, List};
 ghost use Rattle.qrdata.specs.Versions.{side_of};
-ghost use Rattle.qrmatrix.specs.Drawing.{IsUnmasked, RedrawsFormat};
+ghost use Rattle.qrmatrix.specs.Drawing.{Places, RedrawsFormat};
 ghost use Rattle.qrmatrix.specs.Functions.{fixed};
 ghost use Rattle.qrmatrix.specs.MaskChoice.{least_place, penalties};
 ghost use Rattle.qrmatrix.specs.Modules.{fixed_or, module_at};
@@ -84,7 +84,7 @@ impl Unmasked {
     pub fn draw(version: Version, level: Level, words: &Words) -> Unmasked
         ensures version { result.version ≡ version }
         ensures level { result.level ≡ level }
-        ensures drawn { IsUnmasked version.number level words.now.items result.function result.modules }
+        ensures placed { Places result words.now.items }
     {
         let mut modules = Square::new();
         let mut function = Square::new();
@@ -101,8 +101,7 @@ impl Unmasked {
     /// The symbol under a mask.
     pub fn under(&self, mask: u8) -> Square
         requires { mask < 8 }
-        ensures { (words : List ℕ) → IsUnmasked self.now.version.number self.now.level words self.now.function self.now.modules
-            → (x y : ℕ) → value_at result x y ≡ module_at self.now.version.number self.now.level mask words x y }
+        ensures { (words : List ℕ) → Places self.now words → (x y : ℕ) → value_at result x y ≡ module_at self.now.version.number self.now.level mask words x y }
     {
         let mut modules = self.modules.copied();
         draw_format(self.version, self.level, mask, &mut modules);
@@ -113,16 +112,14 @@ impl Unmasked {
     /// The penalty of the symbol under a mask.
     fn penalty_under(&self, mask: u8) -> u32
         requires { mask < 8 }
-        ensures { (words : List ℕ) → IsUnmasked self.now.version.number self.now.level words self.now.function self.now.modules
-            → result ≡ Penalty.penalty (side_of self.now.version.number) (module_at self.now.version.number self.now.level mask words) }
+        ensures { (words : List ℕ) → Places self.now words → result ≡ Penalty.penalty (side_of self.now.version.number) (module_at self.now.version.number self.now.level mask words) }
     {
         penalty(&self.under(mask), self.version.side())
     }
 
     /// The first mask of the least penalty (ISO/IEC 18004, 7.8.1).
     pub fn least_mask(&self) -> u8
-        ensures value { (words : List ℕ) → IsUnmasked self.now.version.number self.now.level words self.now.function self.now.modules
-            → result ≡ least_place (penalties self.now.version.number self.now.level words) }
+        ensures value { (words : List ℕ) → Places self.now words → result ≡ least_place (penalties self.now.version.number self.now.level words) }
         ensures bound { result < 8 }
     {
         let mut best = 0;

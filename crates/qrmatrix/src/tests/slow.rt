@@ -116,7 +116,7 @@ fn place(n: usize, words: &Words, function: &Square, modules: &mut Square)
             let y = if strip % 2 == 0 { n - 1 - t } else { t };
             for x in [right, right - 1] {
                 if !function.get(x, y) {
-                    modules.set(x, y, data_bit(words, placed));
+                    modules.set(x, y, codeword_bit(words, placed));
                     placed = placed.saturating_add(1);
                 }
             }
@@ -125,7 +125,7 @@ fn place(n: usize, words: &Words, function: &Square, modules: &mut Square)
 }
 
 /// Bit `i` of the codewords, the high bit of each first, and light past their end.
-fn data_bit(words: &Words, i: usize) -> bool {
+fn codeword_bit(words: &Words, i: usize) -> bool {
     match words.get(i / 8) {
         Some(word) => (*word >> (7 - i % 8)) & 1 == 1,
         None => false,

@@ -11,7 +11,7 @@ use Rattle.qrmatrix.proofs.matrix.Matrix.draw.Goals.{in-Some, in-None}
 
 -- the modules that are drawn
 shown : (c : goal.After-under) (x y : ℕ) → value_at c.under.result x y ≡ module_at c.args.version.number c.args.level c.match-mask.mask c.args.words.now.items x y
-shown c = (rw (c.draw-unmasked.ensures.version, c.draw-unmasked.ensures.level) at c.under.ensures) c.args.words.now.items c.draw-unmasked.ensures.drawn
+shown c = rw (c.draw-unmasked.ensures.version, c.draw-unmasked.ensures.level) at (c.under.ensures c.args.words.now.items c.draw-unmasked.ensures.placed)
 
 -- the modules outside of the side
 light : (c : goal.After-under) (x y : ℕ) → is_inside c.side.result x y ≡ false → value_at c.under.result x y ≡ false
@@ -25,7 +25,7 @@ returns-clause-mask c =
     elim c.match-mask.branch [
       | in-Some w ↦ w.mask-is ∙ sym (ap chosen w.in-Some.is)
       | in-None w ↦
-          w.mask-is ∙ (rw (c.draw-unmasked.ensures.version, c.draw-unmasked.ensures.level) at w.least_mask-mask.ensures.value) c.args.words.now.items c.draw-unmasked.ensures.drawn ∙ sym (ap chosen w.in-None.is)
+          w.mask-is ∙ (rw (c.draw-unmasked.ensures.version, c.draw-unmasked.ensures.level) at (w.least_mask-mask.ensures.value c.args.words.now.items c.draw-unmasked.ensures.placed)) ∙ sym (ap chosen w.in-None.is)
     ]
 
 pub returns-clause-modules : goal.returns-clause-modules

@@ -8,8 +8,8 @@ pub place-requires : goal.place-requires
 place-requires c =
     λ x y lx ly. c.draw_functions.ensures.marked x y lx ly ∙ some_fixed c.args.version.number c.args.level 0 x y
 
-pub returns-clause-drawn : goal.returns-clause-drawn
-returns-clause-drawn c =
+pub returns-clause-placed : goal.returns-clause-placed
+returns-clause-placed c =
     let v = c.args.version.number in
     record {
       marked = λ x y lx ly. c.draw_functions.ensures.marked x y lx ly ∙ some_fixed v c.args.level 0 x y;
