@@ -1,16 +1,14 @@
 -- Pictures read back from text: plain PBM files (pbm(5), the plain format), and text pictures.
-use Rattle.std.specs.Prelude.{ℕ, ◌+◌, ◌-◌, ◌*◌, ◌/◌, ◌%◌, zero, suc, Bool, true, false, not, ◌&&◌, ◌||◌, List, [], ◌∷◌, ◌++◌, map, flat_map, filter, take, drop, length, codes, Option, Some, None, option_map, option_and_then, nat_le, nat_lt, nat_eq, ◌==◌, if◌then◌else◌, take_while, slice_index_or}
+use Rattle.std.specs.Prelude.{ℕ, ◌+◌, ◌-◌, ◌*◌, ◌/◌, ◌%◌, zero, suc, Bool, true, false, not, ◌&&◌, ◌||◌, List, [], ◌∷◌, map, filter, take, drop, length, codes, Option, Some, None, option_map, option_and_then, nat_le, nat_lt, ◌==◌, if◌then◌else◌, slice_index_or}
 use Rattle.std.specs.List.{list_all, prefix_len, onto_first, concat}
+use Rattle.std.specs.Bool.{beq}
+use Rattle.std.specs.Cmp.Lexicographic.{pointwise}
 use Rattle.std.specs.Str.{bytes_eq}
 use Rattle.std.specs.Str.Parse.{digits_value}
 use Rattle.std.specs.Char.{is_digit}
 use Rattle.labelcore.specs.Lines.{LF, lines}
 use Rattle.picture.specs.Picture.{Picture, Zone}
 use Rattle.picture.specs.Text.{below}
-
-abbrev pub bool_eq : Bool → Bool → Bool
-bool_eq true b = b
-bool_eq false b = not b
 
 -- the pixels of a picture, row by row
 pub record Raster : Type 0 where
@@ -150,7 +148,7 @@ pixel r x y = slice_index_or (slice_index_or r.rows y []) x false
 -- all pixels of the cell in this column and row are of the colour
 abbrev pub has_colour : Raster → ℕ → ℕ → ℕ → Bool → Bool
 has_colour r scale column row dark =
-    list_all (λ y. list_all (λ x. bool_eq (pixel r (column * scale + x) (row * scale + y)) dark) (below scale)) (below scale)
+    list_all (λ y. list_all (λ x. beq (pixel r (column * scale + x) (row * scale + y)) dark) (below scale)) (below scale)
 
 -- the colour of a cell, by its first pixel
 abbrev pub cell : Raster → ℕ → ℕ → ℕ → Bool
@@ -178,13 +176,7 @@ sample r scale zone =
     (below (columns - zone.left - zone.right))) (below (rows - zone.top - zone.bottom)))
     else None
 
-abbrev pub row_eq : List Bool → List Bool → Bool
-row_eq [] [] = true
-row_eq [] (b ∷ bs) = false
-row_eq (a ∷ as') [] = false
-row_eq (a ∷ as') (b ∷ bs) = bool_eq a b && row_eq as' bs
-
 -- the one row of a linear symbol, where all rows are equal
 abbrev pub linear_row : List (List Bool) → Option (List Bool)
 linear_row [] = None
-linear_row (row ∷ rows) = if list_all (row_eq row) rows then Some row else None
+linear_row (row ∷ rows) = if list_all (pointwise beq row) rows then Some row else None
