@@ -1,16 +1,16 @@
 -- The modules of a drawn symbol, sampled again.
-use Rattle.std.proofs.Common.{◌≡◌, ◌≢◌, ℕ, suc, zero, ◌+◌, ◌-◌, ◌*◌, ◌/◌, ◌%◌, ◌<◌, ◌≤◌, Bool, true, false, not, cond, ◌&&◌, ◌||◌, ◌==◌, List, [], ◌∷◌, length, map, refl, ap, sym, subst, ◌∙◌, arith, Some, get_or, nat_le, nat_lt, inl, inr}
+use Rattle.std.proofs.Common.{◌≡◌, ℕ, suc, zero, ◌+◌, ◌-◌, ◌*◌, ◌/◌, ◌%◌, ◌<◌, ◌≤◌, Bool, true, false, not, ◌&&◌, ◌||◌, List, [], ◌∷◌, length, map, refl, ap, sym, subst, ◌∙◌, arith, Some, get_or, nat_le, nat_lt, inl, inr}
 use Rattle.std.specs.Bool.{beq}
 use Rattle.std.specs.Cmp.Lexicographic.{pointwise}
 use Rattle.std.specs.List.{list_all, range_with_len}
 use Rattle.std.proofs.lemmas.List.FromFn.{get_or-map-range_with_len, fill_by_all}
 use Rattle.std.proofs.lemmas.Nat.{div-mul-add, mul-add-lt}
-use Rattle.std.proofs.lemmas.Bool.{eq-eqb, le-leb, lt-ltb, le-ltb, lt-leb, and_from, cases_lt, and_left, and_right}
+use Rattle.std.proofs.lemmas.Bool.{le-leb, lt-ltb, le-ltb, and_from, cases_lt}
 use Rattle.std.proofs.Math.Nat.{mul-mod_left}
 use Rattle.picture.specs.Picture.{Picture, Zone, bars, framed, scaled}
 use Rattle.picture.specs.RoundTrip.{ModulesAreSampled, BarsAreOneRow}
 use Rattle.picture.specs.Text.{below}
-use Rattle.picture.specs.Read.{Raster, raster, pixel, pixel_row, cell, has_colour, is_inside, are_cells, sample, linear_row}
+use Rattle.picture.specs.Read.{raster, pixel, pixel_row, cell, has_colour, is_inside, are_cells, sample, linear_row}
 
 -- the pixels of a raster are those of its picture
 pub pixel-raster : (p : Picture) (x y : ℕ) → x < p.width → y < p.height → pixel (raster p) x y ≡ p.dark x y

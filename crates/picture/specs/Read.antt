@@ -16,6 +16,7 @@ pub record Raster : Type 0 where
   pub height : ℕ
   pub rows : List (List Bool)
 
+-- the pixels of the row y
 abbrev pub pixel_row : Picture → ℕ → List Bool
 pixel_row p y = map (λ x. p.dark x y) (below p.width)
 
@@ -27,6 +28,7 @@ abbrev pub is_white : ℕ → Bool
 is_white b = b == 32 || b == 9 || b == 13 || b == 10
 
 infixl 10 ◌>>=◌
+-- the next step on what this one found, if it found something
 abbrev pub ◌>>=◌ : {A B : Type 0} → Option A → (A → Option B) → Option B
 o >>= f = option_and_then f o
 
@@ -39,6 +41,7 @@ given false = None
 abbrev pub after_white : List ℕ → Option (List ℕ)
 after_white text = if prefix_len is_white text == 0 then None else Some (drop (prefix_len is_white text) text)
 
+-- the text after one byte of white space
 abbrev pub after_one_white : List ℕ → Option (List ℕ)
 after_one_white [] = None
 after_one_white (b ∷ rest) = if is_white b then Some rest else None
@@ -96,6 +99,7 @@ ascii_lines (line ∷ next ∷ more) = do
   rows ← ascii_lines (next ∷ more)
   Some (pixels ∷ rows)
 
+-- the length of the first row
 abbrev pub first_length : List (List Bool) → ℕ
 first_length [] = 0
 first_length (row ∷ rows) = length row
@@ -117,11 +121,12 @@ abbrev pub cut_after : {X : Type 0} → (X → Bool) → List X → List (List X
 cut_after ends [] = []
 cut_after ends (x ∷ xs) = onto_parts (ends x) x (cut_after ends xs)
 
--- the parts of a list, each but the first begun by an element that passes
+-- whether a part begins here, where nothing stands or an element that passes
 abbrev pub begins_part : {X : Type 0} → (X → Bool) → List X → Bool
 begins_part begins [] = true
 begins_part begins (x ∷ xs) = begins x
 
+-- the parts of a list, each but the first begun by an element that passes
 abbrev pub cut_before : {X : Type 0} → (X → Bool) → List X → List (List X)
 cut_before begins [] = []
 cut_before begins (x ∷ xs) = onto_parts (begins_part begins xs) x (cut_before begins xs)
@@ -154,6 +159,7 @@ has_colour r scale column row dark =
 abbrev pub cell : Raster → ℕ → ℕ → ℕ → Bool
 cell r scale column row = pixel r (column * scale) (row * scale)
 
+-- whether the cell in this column and row is inside the zone
 abbrev pub is_inside : Zone → ℕ → ℕ → ℕ → ℕ → Bool
 is_inside zone columns rows column row =
     nat_le zone.left column && nat_lt (column + zone.right) columns && nat_le zone.top row && nat_lt (row + zone.bottom) rows

@@ -1,4 +1,4 @@
-use Rattle.std.proofs.Common.{◌≡◌, ◌++◌, ◌+◌, ◌<◌, ℕ, Bool, List, sym, ap, subst, ◌∙◌, arith, flat_map, append_assoc}
+use Rattle.std.proofs.Common.{◌≡◌, ◌++◌, ◌<◌, ℕ, Bool, List, sym, ap, subst, ◌∙◌, arith, flat_map, append_assoc}
 use Rattle.std.proofs.lemmas.Result.{MatchResult-from_err}
 use Rattle.labelcore.specs.Device.{TakesBeginning}
 use Rattle.picture.specs.Text.{row_text, below}

@@ -1,4 +1,4 @@
-use Rattle.std.proofs.Common.{◌≡◌, [], ◌++◌, ℕ, List, sym, subst, flat_map, append_assoc}
+use Rattle.std.proofs.Common.{[], ◌++◌, ℕ, List, sym, subst, flat_map, append_assoc}
 use Rattle.std.proofs.lemmas.Result.{MatchResult-from_err}
 use Rattle.labelcore.specs.Device.{TakesBeginning, Writes}
 use Rattle.labelcore.proofs.DeviceLemmas.{TakesBeginning-append}
