@@ -23,17 +23,19 @@ character_value C byte = 0
 abbrev pub pair_value : ℕ → ℕ → ℕ
 pair_value first second = 10 * digit_value first + digit_value second
 
--- the values that start in a set, that change to it, and that shift the next character to the other of A and B
+-- the value that starts a symbol in a set
 abbrev pub start_value : CodeSet → ℕ
 start_value A = 103
 start_value B = 104
 start_value C = 105
 
+-- the value that changes to a set
 abbrev pub change_value : CodeSet → ℕ
 change_value A = 101
 change_value B = 100
 change_value C = 99
 
+-- the value that shifts the next character alone to the other of A and B
 abbrev pub shift_value : ℕ
 shift_value = 98
 
@@ -45,10 +47,11 @@ leading_digits bytes = prefix_len is_ascii_digit bytes
 abbrev pub next_special : List ℕ → Option ℕ
 next_special bytes = find (λ byte. nat_lt byte 32 || nat_le 96 byte) bytes
 
--- whether that byte is a control character, which A has, or one from 96 on, which B has
+-- whether that byte is a control character, which A has
 abbrev pub is_control_next : List ℕ → Bool
 is_control_next bytes = option_map_or (λ byte. nat_lt byte 32) (next_special bytes) false
 
+-- whether that byte is one from 96 on, which B has
 abbrev pub is_lower_next : List ℕ → Bool
 is_lower_next bytes = option_map_or (λ byte. nat_le 96 byte) (next_special bytes) false
 
@@ -56,11 +59,13 @@ is_lower_next bytes = option_map_or (λ byte. nat_le 96 byte) (next_special byte
 abbrev pub picked_set : List ℕ → CodeSet
 picked_set bytes = if is_control_next bytes then A else B
 
--- whether the next two digits are to be one value of set C: in C always; in A and B where the digits that follow are even in
--- number, and at least 6, or at least 4 and nothing after them
+-- whether the bytes begin with an even number of digits, at least 6, or at least 4 with nothing after them
 abbrev pub is_even_run : List ℕ → Bool
-is_even_run bytes = leading_digits bytes % 2 == 0 && (nat_le 6 (leading_digits bytes) || (nat_le 4 (leading_digits bytes) && (leading_digits bytes == length bytes)))
+is_even_run bytes =
+    leading_digits bytes % 2 == 0
+    && (nat_le 6 (leading_digits bytes) || (nat_le 4 (leading_digits bytes) && (leading_digits bytes == length bytes)))
 
+-- whether the next two digits are to be one value of set C
 abbrev pub is_pair_next : CodeSet → List ℕ → Bool
 is_pair_next A bytes = is_even_run bytes
 is_pair_next B bytes = is_even_run bytes
@@ -77,11 +82,12 @@ pair_values A first second = change_value C ∷ pair_value first second ∷ []
 pair_values B first second = change_value C ∷ pair_value first second ∷ []
 pair_values C first second = pair_value first second ∷ []
 
--- one byte before others: in C after a change to the picked set; in A and B in the set itself where it has the byte, else by a
--- shift where the next special byte is of this set, and else after a change to the other set
+-- one byte after a change to a set
 abbrev pub changed_to : CodeSet → ℕ → Written
 changed_to set byte = record { values = change_value set ∷ character_value set byte ∷ []; set = set }
 
+-- one byte before others: in the set itself where it has the byte, else by a shift where the next special byte is of this set,
+-- and else after a change; from C after a change to the picked set
 abbrev pub byte_written : CodeSet → ℕ → List ℕ → Written
 byte_written A byte rest =
     if has_character A byte then record { values = character_value A byte ∷ []; set = A }

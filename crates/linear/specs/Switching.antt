@@ -16,7 +16,8 @@ to_set set bytes = record { values = change_value set ∷ []; set = set; rest = 
 
 -- whether a run of digits is long enough for set C
 abbrev pub is_long_run : List ℕ → Bool
-is_long_run bytes = nat_le 6 (leading_digits bytes) || (nat_le 4 (leading_digits bytes) && (leading_digits bytes == length bytes))
+is_long_run bytes =
+    nat_le 6 (leading_digits bytes) || (nat_le 4 (leading_digits bytes) && (leading_digits bytes == length bytes))
 
 -- one character in A or B: in the set itself where it has the byte, else by a shift or after a change
 abbrev pub character_step : CodeSet → ℕ → List ℕ → Step

@@ -1,19 +1,19 @@
 -- Text pictures, read back and cut from a stream.
-use Rattle.std.proofs.Common.{◌≡◌, ◌≢◌, ℕ, suc, zero, ◌+◌, ◌-◌, ◌*◌, ◌<◌, ◌≤◌, Bool, true, false, not, cond, ◌&&◌, ◌||◌, ◌==◌, List, [], ◌∷◌, ◌++◌, length, map, refl, ap, sym, subst, ◌∙◌, arith, flat_map, codes, append_assoc, Some, if◌then◌else◌}
+use Rattle.std.proofs.Common.{◌≡◌, ℕ, suc, ◌+◌, ◌-◌, ◌<◌, Bool, true, false, not, ◌==◌, List, [], ◌∷◌, ◌++◌, length, map, refl, ap, sym, subst, ◌∙◌, arith, flat_map, codes, append_assoc, Some}
 use Rattle.std.specs.List.{list_all, range_with_len, concat, AllByRecursion}
 use Rattle.std.specs.Str.{bytes_eq}
 use Rattle.std.proofs.lemmas.List.Folds.{list_all-append}
 use Rattle.std.proofs.lemmas.List.FromFn.{length-map-range_with_len, length-range_with_len}
 use Rattle.std.proofs.lemmas.List.{length-map}
 use Rattle.std.proofs.lemmas.Bool.{eq-eqb}
-use Rattle.labelcore.specs.Lines.{LF, lines}
+use Rattle.labelcore.specs.Lines.{lines}
 use Rattle.std.proofs.lemmas.List.Elements.{recursion_from_All}
 use Rattle.picture.specs.Picture.{Picture}
 use Rattle.picture.specs.RoundTrip.{AsciiFilesAreTexts}
 use Rattle.picture.specs.Text.{below, ascii_pixel, ascii_row, ascii_text}
-use Rattle.picture.specs.Read.{Raster, raster, pixel_row, ascii_line, ascii_lines, ascii_pixels, first_length, cut_after, is_line_feed, whole_lines, ascii_files}
+use Rattle.picture.specs.Read.{raster, pixel_row, ascii_line, ascii_lines, ascii_pixels, first_length, cut_after, is_line_feed, whole_lines, ascii_files}
 use Rattle.picture.proofs.LineLemmas.{has_no_line_feed, lines-line, lines-nil}
-use Rattle.picture.proofs.CutLemmas.{cut_after-at, cut_after-part, concat-cut_after}
+use Rattle.picture.proofs.CutLemmas.{cut_after-at, cut_after-part}
 
 -- the letters of a row
 abbrev pub letters : Picture → ℕ → List ℕ

@@ -1,7 +1,7 @@
 -- Text that goes to a sink through a buffer, piece by piece.
-use Rattle.std.proofs.Common.{◌≡◌, ℕ, suc, zero, ◌+◌, ◌-◌, ◌<◌, ◌≤◌, List, [], ◌∷◌, ◌++◌, Result, refl, ap, sym, ◌∙◌, subst, arith, append_assoc, flat_map, length, take, drop, get_or, zero-add, add-zero}
+use Rattle.std.proofs.Common.{◌≡◌, ℕ, suc, zero, ◌+◌, ◌-◌, ◌<◌, List, [], ◌++◌, Result, refl, ap, sym, ◌∙◌, subst, arith, append_assoc, flat_map, zero-add, add-zero}
 use Rattle.std.specs.List.{range_with_len}
-use Rattle.std.proofs.lemmas.List.{append-nil, take-append-drop, take_more}
+use Rattle.std.proofs.lemmas.List.{append-nil}
 use Rattle.std.proofs.lemmas.Grind.{flat_map-append}
 use Rattle.std.proofs.lemmas.Result.{MatchResult-weaker}
 use Rattle.labelcore.specs.Device.{TakesBeginning, Writes}
@@ -9,18 +9,6 @@ use Rattle.picture.specs.Passing.{PassesOn, Passes}
 use Rattle.picture.specs.Text.{below}
 
 module _ {S : Type 0} (took : S → S → List ℕ → Type 0) (took_none : (s : S) → took s s []) (took_joined : (s t u : S) (xs ys : List ℕ) → took s t xs → took t u ys → took s u (xs ++ ys)) where
-  -- nothing is added
-  pub PassesOn-none : (s : S) (text : List ℕ) → PassesOn took s s text text []
-  PassesOn-none s text = record { sent = []; taken = took_none s; cut = append-nil text }
-
-  -- a byte is kept
-  pub PassesOn-kept : (s : S) (text added new : List ℕ) → new ≡ text ++ added → PassesOn took s s text new added
-  PassesOn-kept s text added new e = record { sent = []; taken = took_none s; cut = sym e }
-
-  -- the old text went out, and what was added is the new text
-  pub PassesOn-emptied : (s t : S) (text added new : List ℕ) → took s t text → new ≡ added → PassesOn took s t text new added
-  PassesOn-emptied s t text added new h e = record { sent = text; taken = h; cut = ap (λ (xs : List ℕ). text ++ xs) (sym e) }
-
   joined_cut : (a b c m n sent more : List ℕ) → a ++ m ≡ sent ++ b → b ++ n ≡ more ++ c → a ++ (m ++ n) ≡ (sent ++ more) ++ c
   joined_cut a b c m n sent more e f =
       sym (append_assoc a m n) ∙ (ap (λ (xs : List ℕ). xs ++ n) e ∙ (append_assoc sent b n ∙ (ap (λ (xs : List ℕ). sent ++ xs) f ∙ sym (append_assoc sent more c))))

@@ -1,5 +1,5 @@
 -- Worked pictures, computed.
-use Rattle.std.specs.Prelude.{ℕ, ◌≡◌, Bool, ◌==◌, List, [], ◌∷◌, ◌++◌, map, length, codes, refl, true, false, Some, take}
+use Rattle.std.specs.Prelude.{◌≡◌, Bool, ◌==◌, List, [], ◌∷◌, ◌++◌, map, length, codes, refl, true, false, Some, take}
 use Rattle.std.specs.Fmt.{digits}
 use Rattle.labelcore.specs.Lines.{lines, ended_lines, open_line}
 use Rattle.picture.specs.Picture.{Picture, Zone, bars, framed, scaled}

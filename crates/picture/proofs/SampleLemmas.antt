@@ -1,14 +1,16 @@
 -- The modules of a drawn symbol, sampled again.
-use Rattle.std.proofs.Common.{◌≡◌, ◌≢◌, ℕ, suc, zero, ◌+◌, ◌-◌, ◌*◌, ◌/◌, ◌%◌, ◌<◌, ◌≤◌, Bool, true, false, not, cond, ◌&&◌, ◌||◌, ◌==◌, List, [], ◌∷◌, length, map, refl, ap, sym, subst, ◌∙◌, arith, Some, get_or, nat_le, nat_lt, inl, inr}
+use Rattle.std.proofs.Common.{◌≡◌, ℕ, suc, zero, ◌+◌, ◌-◌, ◌*◌, ◌/◌, ◌%◌, ◌<◌, ◌≤◌, Bool, true, false, not, ◌&&◌, ◌||◌, List, [], ◌∷◌, length, map, refl, ap, sym, subst, ◌∙◌, arith, Some, get_or, nat_le, nat_lt, inl, inr}
+use Rattle.std.specs.Bool.{beq}
+use Rattle.std.specs.Cmp.Lexicographic.{pointwise}
 use Rattle.std.specs.List.{list_all, range_with_len}
 use Rattle.std.proofs.lemmas.List.FromFn.{get_or-map-range_with_len, fill_by_all}
 use Rattle.std.proofs.lemmas.Nat.{div-mul-add, mul-add-lt}
-use Rattle.std.proofs.lemmas.Bool.{eq-eqb, le-leb, lt-ltb, le-ltb, lt-leb, and_from, cases_lt, and_left, and_right}
+use Rattle.std.proofs.lemmas.Bool.{le-leb, lt-ltb, le-ltb, and_from, cases_lt}
 use Rattle.std.proofs.Math.Nat.{mul-mod_left}
 use Rattle.picture.specs.Picture.{Picture, Zone, bars, framed, scaled}
 use Rattle.picture.specs.RoundTrip.{ModulesAreSampled, BarsAreOneRow}
 use Rattle.picture.specs.Text.{below}
-use Rattle.picture.specs.Read.{Raster, raster, pixel, pixel_row, cell, has_colour, is_inside, are_cells, sample, bool_eq, row_eq, linear_row}
+use Rattle.picture.specs.Read.{raster, pixel, pixel_row, cell, has_colour, is_inside, are_cells, sample, linear_row}
 
 -- the pixels of a raster are those of its picture
 pub pixel-raster : (p : Picture) (x y : ℕ) → x < p.width → y < p.height → pixel (raster p) x y ≡ p.dark x y
@@ -28,9 +30,9 @@ pub map-range : {X : Type 0} (f g : ℕ → X) (a n : ℕ) → ((k : ℕ) → a 
 map-range f g a zero each = refl
 map-range f g a (suc n) each = rw (each a (omega arith) (omega arith), map-range f g (a + 1) n (λ k low high. each k (omega arith) (omega arith))) refl
 
-bool_eq-same : (b : Bool) → bool_eq b b ≡ true
-bool_eq-same true = refl
-bool_eq-same false = refl
+beq-same : (b : Bool) → beq b b ≡ true
+beq-same true = refl
+beq-same false = refl
 
 scaled_place : (size scale k i : ℕ) → k < size → i < scale → k * scale + i < size * scale
 scaled_place size scale k i inside within = omega (arith, mul-add-lt k scale i size inside within)
@@ -54,7 +56,7 @@ has_colour-scaled : (p : Picture) (scale column row : ℕ) → column < p.width 
     has_colour (raster (scaled p scale)) scale column row (cell (raster (scaled p scale)) scale column row) ≡ true
 has_colour-scaled p scale column row wide high some =
     list_all-below _ scale (λ y within. list_all-below _ scale (λ x inside.
-    rw (cell-scaled p scale column row wide high some, scaled_pixel p scale column row x y wide high inside within) (bool_eq-same (p.dark column row))))
+    rw (cell-scaled p scale column row wide high some, scaled_pixel p scale column row x y wide high inside within) (beq-same (p.dark column row))))
 
 -- a test of a framed picture, by the picture within
 nat_lt-add : (a b c : ℕ) → nat_lt (a + c) (b + c) ≡ nat_lt a b
@@ -118,16 +120,16 @@ sample-raster p zone scale some =
       sampled p zone scale some,
     ) refl
 
-row_eq-same : (row : List Bool) → row_eq row row ≡ true
-row_eq-same [] = refl
-row_eq-same (b ∷ row) = rw (bool_eq-same b, row_eq-same row) refl
+pointwise-same : (row : List Bool) → pointwise beq row row ≡ true
+pointwise-same [] = refl
+pointwise-same (b ∷ row) = rw (beq-same b, pointwise-same row) refl
 
 pixel_row-bars : (row : List Bool) (height y : ℕ) → pixel_row (bars row height) y ≡ row
 pixel_row-bars row height y = sym (fill_by_all (λ x. get_or row x false) row (length row) false refl (λ k h. refl))
 
-same_rows : (row : List Bool) (height : ℕ) (ys : List ℕ) → list_all (row_eq row) (map (pixel_row (bars row height)) ys) ≡ true
+same_rows : (row : List Bool) (height : ℕ) (ys : List ℕ) → list_all (pointwise beq row) (map (pixel_row (bars row height)) ys) ≡ true
 same_rows row height [] = refl
-same_rows row height (y ∷ ys) = rw (pixel_row-bars row height y, row_eq-same row, same_rows row height ys) refl
+same_rows row height (y ∷ ys) = rw (pixel_row-bars row height y, pointwise-same row, same_rows row height ys) refl
 
 -- bars of some height have one row
 one_row : (row : List Bool) (n : ℕ) → linear_row (raster (bars row (suc n))).rows ≡ Some row

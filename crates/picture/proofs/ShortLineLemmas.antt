@@ -1,16 +1,13 @@
 -- No line of a plain PBM file is longer than 70 characters.
-use Rattle.std.proofs.Common.{◌≡◌, ◌≢◌, ℕ, suc, zero, ◌+◌, ◌*◌, ◌%◌, ◌^◌, ◌<◌, ◌≤◌, Bool, true, false, not, cond, ◌&&◌, ◌||◌, ◌==◌, List, [], ◌∷◌, ◌++◌, length, take, drop, map, refl, ap, sym, subst, ◌∙◌, arith, length-append, rules, if◌then◌else◌, decimal, Option, Some, None, append_assoc, flat_map, nat_le, inl, inr}
-use Rattle.std.specs.List.{list_all, range_with_len, onto_first}
+use Rattle.std.proofs.Common.{◌≡◌, ◌≢◌, ℕ, suc, zero, ◌+◌, ◌%◌, ◌^◌, ◌<◌, ◌≤◌, Bool, true, false, not, ◌||◌, ◌==◌, List, [], ◌∷◌, ◌++◌, length, refl, ap, sym, subst, ◌∙◌, arith, length-append, if◌then◌else◌, decimal, append_assoc, flat_map, nat_le, inl, inr}
+use Rattle.std.specs.List.{list_all, range_with_len}
 use Rattle.std.specs.Str.Parse.{AllDigits}
-use Rattle.std.specs.Char.{digit_value}
-use Rattle.std.proofs.lemmas.Bool.Decides.{nat_tests}
-use Rattle.std.proofs.lemmas.Bool.{and_parts, and_from, or_parts, or_cases, eqb-false, eqb-true, le-leb, not-true, ne_eqb}
+use Rattle.std.proofs.lemmas.Bool.{or_parts, or_cases, eqb-false, eqb-true, le-leb, ne_eqb}
 use Rattle.std.proofs.lemmas.List.Folds.{list_all-append}
 use Rattle.std.proofs.lemmas.Fmt.{decimal_is_IsNumeral, length-decimal-le}
 use Rattle.std.proofs.lemmas.Str.Parse.{digit_from_value}
-use Rattle.labelcore.specs.Lines.{lines}
 use Rattle.picture.specs.Picture.{Picture}
-use Rattle.picture.specs.Text.{below, pbm_digit, pbm_line_end, pbm_pixel, pbm_row}
+use Rattle.picture.specs.Text.{pbm_digit, pbm_pixel, pbm_row}
 use Rattle.picture.specs.Read.{has_short_lines, is_line_feed}
 use Rattle.picture.proofs.LineLemmas.{has_no_line_feed, lines-line, lines-nil}
 

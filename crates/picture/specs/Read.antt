@@ -1,6 +1,8 @@
 -- Pictures read back from text: plain PBM files (pbm(5), the plain format), and text pictures.
-use Rattle.std.specs.Prelude.{ℕ, ◌+◌, ◌-◌, ◌*◌, ◌/◌, ◌%◌, zero, suc, Bool, true, false, not, ◌&&◌, ◌||◌, List, [], ◌∷◌, ◌++◌, map, flat_map, filter, take, drop, length, codes, Option, Some, None, option_map, option_and_then, nat_le, nat_lt, nat_eq, ◌==◌, if◌then◌else◌, take_while, slice_index_or}
+use Rattle.std.specs.Prelude.{ℕ, ◌+◌, ◌-◌, ◌*◌, ◌/◌, ◌%◌, zero, suc, Bool, true, false, not, ◌&&◌, ◌||◌, List, [], ◌∷◌, map, filter, take, drop, length, codes, Option, Some, None, option_map, option_and_then, nat_le, nat_lt, ◌==◌, if◌then◌else◌, slice_index_or}
 use Rattle.std.specs.List.{list_all, prefix_len, onto_first, concat}
+use Rattle.std.specs.Bool.{beq}
+use Rattle.std.specs.Cmp.Lexicographic.{pointwise}
 use Rattle.std.specs.Str.{bytes_eq}
 use Rattle.std.specs.Str.Parse.{digits_value}
 use Rattle.std.specs.Char.{is_digit}
@@ -8,16 +10,13 @@ use Rattle.labelcore.specs.Lines.{LF, lines}
 use Rattle.picture.specs.Picture.{Picture, Zone}
 use Rattle.picture.specs.Text.{below}
 
-abbrev pub bool_eq : Bool → Bool → Bool
-bool_eq true b = b
-bool_eq false b = not b
-
 -- the pixels of a picture, row by row
 pub record Raster : Type 0 where
   pub width : ℕ
   pub height : ℕ
   pub rows : List (List Bool)
 
+-- the pixels of the row y
 abbrev pub pixel_row : Picture → ℕ → List Bool
 pixel_row p y = map (λ x. p.dark x y) (below p.width)
 
@@ -29,6 +28,7 @@ abbrev pub is_white : ℕ → Bool
 is_white b = b == 32 || b == 9 || b == 13 || b == 10
 
 infixl 10 ◌>>=◌
+-- the next step on what this one found, if it found something
 abbrev pub ◌>>=◌ : {A B : Type 0} → Option A → (A → Option B) → Option B
 o >>= f = option_and_then f o
 
@@ -41,6 +41,7 @@ given false = None
 abbrev pub after_white : List ℕ → Option (List ℕ)
 after_white text = if prefix_len is_white text == 0 then None else Some (drop (prefix_len is_white text) text)
 
+-- the text after one byte of white space
 abbrev pub after_one_white : List ℕ → Option (List ℕ)
 after_one_white [] = None
 after_one_white (b ∷ rest) = if is_white b then Some rest else None
@@ -98,6 +99,7 @@ ascii_lines (line ∷ next ∷ more) = do
   rows ← ascii_lines (next ∷ more)
   Some (pixels ∷ rows)
 
+-- the length of the first row
 abbrev pub first_length : List (List Bool) → ℕ
 first_length [] = 0
 first_length (row ∷ rows) = length row
@@ -119,11 +121,12 @@ abbrev pub cut_after : {X : Type 0} → (X → Bool) → List X → List (List X
 cut_after ends [] = []
 cut_after ends (x ∷ xs) = onto_parts (ends x) x (cut_after ends xs)
 
--- the parts of a list, each but the first begun by an element that passes
+-- whether a part begins here, where nothing stands or an element that passes
 abbrev pub begins_part : {X : Type 0} → (X → Bool) → List X → Bool
 begins_part begins [] = true
 begins_part begins (x ∷ xs) = begins x
 
+-- the parts of a list, each but the first begun by an element that passes
 abbrev pub cut_before : {X : Type 0} → (X → Bool) → List X → List (List X)
 cut_before begins [] = []
 cut_before begins (x ∷ xs) = onto_parts (begins_part begins xs) x (cut_before begins xs)
@@ -150,12 +153,13 @@ pixel r x y = slice_index_or (slice_index_or r.rows y []) x false
 -- all pixels of the cell in this column and row are of the colour
 abbrev pub has_colour : Raster → ℕ → ℕ → ℕ → Bool → Bool
 has_colour r scale column row dark =
-    list_all (λ y. list_all (λ x. bool_eq (pixel r (column * scale + x) (row * scale + y)) dark) (below scale)) (below scale)
+    list_all (λ y. list_all (λ x. beq (pixel r (column * scale + x) (row * scale + y)) dark) (below scale)) (below scale)
 
 -- the colour of a cell, by its first pixel
 abbrev pub cell : Raster → ℕ → ℕ → ℕ → Bool
 cell r scale column row = pixel r (column * scale) (row * scale)
 
+-- whether the cell in this column and row is inside the zone
 abbrev pub is_inside : Zone → ℕ → ℕ → ℕ → ℕ → Bool
 is_inside zone columns rows column row =
     nat_le zone.left column && nat_lt (column + zone.right) columns && nat_le zone.top row && nat_lt (row + zone.bottom) rows
@@ -178,13 +182,7 @@ sample r scale zone =
     (below (columns - zone.left - zone.right))) (below (rows - zone.top - zone.bottom)))
     else None
 
-abbrev pub row_eq : List Bool → List Bool → Bool
-row_eq [] [] = true
-row_eq [] (b ∷ bs) = false
-row_eq (a ∷ as') [] = false
-row_eq (a ∷ as') (b ∷ bs) = bool_eq a b && row_eq as' bs
-
 -- the one row of a linear symbol, where all rows are equal
 abbrev pub linear_row : List (List Bool) → Option (List Bool)
 linear_row [] = None
-linear_row (row ∷ rows) = if list_all (row_eq row) rows then Some row else None
+linear_row (row ∷ rows) = if list_all (pointwise beq row) rows then Some row else None

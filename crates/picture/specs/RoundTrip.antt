@@ -22,7 +22,7 @@ AsciiFilesAreTexts = (ps : List Picture) → All (λ p. 0 < p.width) ps → asci
 abbrev pub ModulesAreSampled : Type 0
 ModulesAreSampled =
     (p : Picture) (zone : Zone) (scale : ℕ) → 0 < scale
-        → sample (raster (scaled (framed p zone) scale)) scale zone ≡ Some (raster p).rows
+    → sample (raster (scaled (framed p zone) scale)) scale zone ≡ Some (raster p).rows
 
 -- the rows of bars are all one row
 abbrev pub BarsAreOneRow : Type 0

@@ -8,10 +8,6 @@ use Rattle.picture.specs.Picture.{Picture}
 abbrev pub below : ℕ → List ℕ
 below n = range_with_len 0 n
 
--- a row of pixels, each written by the row's width, its column and its colour, and the row's end
-abbrev pub row_text : (ℕ → ℕ → Bool → List ℕ) → List ℕ → Picture → ℕ → List ℕ
-row_text pixel row_end p y = flat_map (λ x. pixel p.width x (p.dark x y)) (below p.width) ++ row_end
-
 -- a pixel of a plain PBM file: 1 is dark
 abbrev pub pbm_digit : Bool → ℕ
 pbm_digit dark = if dark then 49 else 48
@@ -28,9 +24,11 @@ pbm_pixel_text width x dark = pbm_digit dark ∷ pbm_line_end width x
 abbrev pub pbm_pixel : Picture → ℕ → ℕ → List ℕ
 pbm_pixel p y x = pbm_pixel_text p.width x (p.dark x y)
 
+-- the row y: its pixels and their line ends
 abbrev pub pbm_row : Picture → ℕ → List ℕ
 pbm_row p y = flat_map (pbm_pixel p y) (below p.width)
 
+-- the two lines before the rows
 abbrev pub pbm_header : ℕ → ℕ → List ℕ
 pbm_header width height = codes "P1\n" ++ decimal width ++ codes " " ++ decimal height ++ codes "\n"
 
@@ -42,6 +40,7 @@ pbm_text p = pbm_header p.width p.height ++ flat_map (pbm_row p) (below p.height
 abbrev pub ascii_pixel : Bool → List ℕ
 ascii_pixel dark = if dark then codes "##" else codes "  "
 
+-- the row y: its letters, and the line's end
 abbrev pub ascii_row : Picture → ℕ → List ℕ
 ascii_row p y = flat_map (λ x. ascii_pixel (p.dark x y)) (below p.width) ++ LF ∷ []
 

@@ -8,8 +8,8 @@ use crate::grid::Grid;
 use crate::rows::{PixelText, write_rows};
 use labelcore::{IoFault, Sink};
 
-/// Writes the grid in letters, `##` where dark and two spaces where light, and an empty line after it. After an
-/// `Err` a beginning of it is written.
+/// Writes the grid as text, a line for each row: `##` where dark and two spaces where light, and an empty line after
+/// them. An error is the sink's, and leaves a beginning of the text written.
 pub fn write_ascii<G: Grid, S: Sink>(grid: &G, sink: &mut S) -> Result<(), IoFault>
     ensures count { CountsFailure (S.failures sink.old) (S.failures sink.new) result }
     ensures bytes { Writes S.took sink.old sink.new (ascii_text (G.picture grid.now)) result }

@@ -12,7 +12,7 @@ pub struct Bars<'a> {
 }
 
 impl<'a> Bars<'a> {
-    /// The row, this many modules high.
+    /// The row, this many modules high: at most 65,535 columns and rows.
     pub fn new(row: &'a [bool], height: usize) -> Self
         requires width { length row.now ≤ 65535 }
         requires height { height ≤ 65535 }

@@ -17,7 +17,7 @@ pub struct Framed<G: Grid> {
 }
 
 impl<G: Grid> Framed<G> {
-    /// The grid with so many light pixels on each side.
+    /// The grid with so many light pixels on each side, at most 65,535 columns and rows in all.
     pub fn new(grid: G, left: usize, right: usize, top: usize, bottom: usize) -> Self
         requires width { left + (G.picture grid).width + right ≤ 65535 }
         requires height { top + (G.picture grid).height + bottom ≤ 65535 }

@@ -10,7 +10,8 @@ use crate::rows::{PixelText, write_rows};
 use itoa::Buffer;
 use labelcore::{IoFault, Sink};
 
-/// Writes the grid as a plain PBM file of lines of at most 70 pixels. After an `Err` a beginning of it is written.
+/// Writes the grid as a plain PBM file, pbm(5): two lines of header, and each row in lines of at most 70 pixels. An
+/// error is the sink's, and leaves a beginning of the file written.
 pub fn write_pbm<G: Grid, S: Sink>(grid: &G, sink: &mut S) -> Result<(), IoFault>
     ensures count { CountsFailure (S.failures sink.old) (S.failures sink.new) result }
     ensures bytes { Writes S.took sink.old sink.new (pbm_text (G.picture grid.now)) result }

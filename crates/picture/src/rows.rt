@@ -1,8 +1,8 @@
 //! The rows of a grid as text.
 ghost use Rattle.std.specs.Prelude.{◌≡◌, ◌<◌, ◌≤◌, ◌++◌, ℕ, Bool, List, length, flat_map};
 ghost use Rattle.labelcore.specs.Device.{CountsFailure, Writes};
-ghost use Rattle.picture.specs.Passing.{Passes};
-ghost use Rattle.picture.specs.Text.{below, row_text};
+ghost use Rattle.picture.specs.Passing.{Passes, row_text};
+ghost use Rattle.picture.specs.Text.{below};
 
 use crate::grid::Grid;
 use crate::pending::{Pending, put};
@@ -28,8 +28,8 @@ pub trait PixelText {
         ensures short { length result.now ≤ 2 };
 }
 
-/// Writes a text, the rows of the grid, and another text. After an `Err` a beginning of them is written. It holds
-/// at most one `Pending` of text.
+/// Writes a text, the rows of the grid, and another text, and holds at most one `Pending` of them. An error is the
+/// sink's, and leaves a beginning of them written.
 pub fn write_rows<T: PixelText, G: Grid, S: Sink>(
     first: &[u8],
     grid: &G,

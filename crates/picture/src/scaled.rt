@@ -15,7 +15,7 @@ pub struct Scaled<G: Grid> {
 }
 
 impl<G: Grid> Scaled<G> {
-    /// The grid, this many times as wide and as high.
+    /// The grid, this many times as wide and as high, at most 65,535 columns and rows.
     pub fn new(grid: G, scale: usize) -> Self
         requires some { 1 ≤ scale }
         requires width { (G.picture grid).width * scale ≤ 65535 }

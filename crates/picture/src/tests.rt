@@ -4,10 +4,12 @@ use labelcore::{IoFault, MemSink};
 use std::process::Abort;
 
 /// The modules of the symbol of `ean8 7351353`.
-const EAN8_MODULES: &[u8; 67] = b"1010111011011110101100010011001010101000010100111010000101000100101";
+const EAN8_MODULES: &[u8; 67] =
+    b"1010111011011110101100010011001010101000010100111010000101000100101";
 
 /// Its plain PBM file, one module high: a line of 70 and a line of 11.
-const EAN8_PBM: &[u8; 91] = b"P1\n81 1\n0000000101011101101111010110001001100101010100001010011101000010100010\n01010000000\n";
+const EAN8_PBM: &[u8; 91] =
+    b"P1\n81 1\n0000000101011101101111010110001001100101010100001010011101000010100010\n01010000000\n";
 
 /// The modules of a text of `0` and `1`.
 fn modules_of(text: &[u8; 67]) -> [bool; 67] {
@@ -121,7 +123,10 @@ fn ascii_of_a_failing_sink(rt: HostRuntime) {
     let modules = [true, false];
     for limit in 0..11 {
         let mut sink = MemSink::<11>::new(1, limit);
-        assert_eq!(rt; write_ascii(&Bars::new(&modules, 2), &mut sink), Err(IoFault));
+        assert_eq!(rt;
+            write_ascii(&Bars::new(&modules, 2), &mut sink),
+            Err(IoFault)
+        );
         assert!(rt; b"##  \n##  \n\n".starts_with(sink.bytes()));
         assert_eq!(rt; sink.bytes().len(), limit);
         assert_eq!(rt; sink.failures(), 1);

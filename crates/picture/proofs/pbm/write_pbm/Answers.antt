@@ -1,7 +1,8 @@
 use Rattle.std.proofs.Common.{◌≡◌, ◌++◌, [], ℕ, List, ap, subst, ◌∙◌, arith, flat_map}
 use Rattle.std.proofs.lemmas.List.{append-nil}
 use Rattle.labelcore.specs.Device.{Writes}
-use Rattle.picture.specs.Text.{pbm_pixel_text, pbm_header, pbm_text, row_text, below}
+use Rattle.picture.specs.Passing.{row_text}
+use Rattle.picture.specs.Text.{pbm_pixel_text, pbm_header, pbm_text, below}
 use Rattle.picture.proofs.PbmLemmas.{pbm_pixels-pbm_text, flat_map-pbm_rows}
 use Rattle.picture.proofs.pbm.write_pbm.Goals as goal
 

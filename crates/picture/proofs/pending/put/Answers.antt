@@ -1,4 +1,3 @@
-use Rattle.std.proofs.Common.{List, ℕ}
 use Rattle.std.proofs.lemmas.Result.{MatchResult-from_err}
 use Rattle.labelcore.proofs.DeviceLemmas.{TakesBeginning-append}
 use Rattle.picture.proofs.pending.put.Goals as goal

@@ -1,8 +1,8 @@
-use Rattle.std.proofs.Common.{◌≡◌, ◌++◌, ◌+◌, ◌<◌, ℕ, Bool, List, sym, ap, subst, ◌∙◌, arith, flat_map, append_assoc}
+use Rattle.std.proofs.Common.{◌≡◌, ◌++◌, ◌<◌, ℕ, Bool, List, sym, ap, subst, ◌∙◌, arith, flat_map, append_assoc}
 use Rattle.std.proofs.lemmas.Result.{MatchResult-from_err}
 use Rattle.labelcore.specs.Device.{TakesBeginning}
-use Rattle.picture.specs.Text.{row_text, below}
-use Rattle.picture.specs.Passing.{PassesOn, Passes}
+use Rattle.picture.specs.Text.{below}
+use Rattle.picture.specs.Passing.{PassesOn, Passes, row_text}
 use Rattle.picture.proofs.PassingLemmas.{PassesOn-joined, Passes-after, Begins-after, Begins-more, flat_map-below_front, flat_map-below_more}
 use Rattle.picture.proofs.rows.put_row.Goals as goal
 

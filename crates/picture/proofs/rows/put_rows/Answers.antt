@@ -1,7 +1,7 @@
-use Rattle.std.proofs.Common.{◌≡◌, ◌++◌, ◌+◌, ◌<◌, ℕ, List, sym, subst, ◌∙◌, arith, flat_map}
+use Rattle.std.proofs.Common.{◌≡◌, ◌++◌, ◌<◌, ℕ, List, sym, subst, ◌∙◌, arith, flat_map}
 use Rattle.std.proofs.lemmas.Result.{MatchResult-from_err}
-use Rattle.picture.specs.Text.{row_text, below}
-use Rattle.picture.specs.Passing.{PassesOn}
+use Rattle.picture.specs.Text.{below}
+use Rattle.picture.specs.Passing.{PassesOn, row_text}
 use Rattle.picture.proofs.PassingLemmas.{PassesOn-joined, Begins-after, Begins-more, flat_map-below_front, flat_map-below_more}
 use Rattle.picture.proofs.rows.put_rows.Goals as goal
 

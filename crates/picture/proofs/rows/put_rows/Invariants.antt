@@ -1,6 +1,6 @@
 use Rattle.std.proofs.Common.{◌≡◌, flat_map}
-use Rattle.picture.specs.Text.{below, row_text}
-use Rattle.picture.specs.Passing.{PassesOn}
+use Rattle.picture.specs.Text.{below}
+use Rattle.picture.specs.Passing.{PassesOn, row_text}
 use Rattle.picture.proofs.rows.put_rows.Given as goal
 
 -- the rows so far were passed on

@@ -1,9 +1,9 @@
-use Rattle.std.proofs.Common.{◌≡◌, [], ◌++◌, ℕ, List, sym, subst, flat_map, append_assoc}
+use Rattle.std.proofs.Common.{[], ◌++◌, ℕ, List, sym, subst, flat_map, append_assoc}
 use Rattle.std.proofs.lemmas.Result.{MatchResult-from_err}
 use Rattle.labelcore.specs.Device.{TakesBeginning, Writes}
 use Rattle.labelcore.proofs.DeviceLemmas.{TakesBeginning-append}
-use Rattle.picture.specs.Text.{row_text, below}
-use Rattle.picture.specs.Passing.{PassesOn}
+use Rattle.picture.specs.Text.{below}
+use Rattle.picture.specs.Passing.{PassesOn, row_text}
 use Rattle.picture.proofs.PassingLemmas.{PassesOn-joined, Begins-after, Begins-more, Writes-rest}
 use Rattle.picture.proofs.rows.write_rows.Goals as goal
 
