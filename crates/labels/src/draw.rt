@@ -62,16 +62,16 @@ fn draw_linear<L: Linear, O: Sink>(
         return Ok(Some(fault));
     }
     let bars = Bars::new(row.as_slice(), usize::from(options.height()));
-    write_picture(options, Framed::new(bars, L::QUIET_LEFT, L::QUIET_RIGHT, 0, 0), out)?;
+    write_picture(
+        options,
+        Framed::new(bars, L::QUIET_LEFT, L::QUIET_RIGHT, 0, 0),
+        out,
+    )?;
     Ok(None)
 }
 
 /// Draws a QR symbol.
-fn draw_qr<O: Sink>(
-    options: &Options,
-    bytes: &[u8],
-    out: &mut O,
-) -> Result<Option<Fault>, IoFault>
+fn draw_qr<O: Sink>(options: &Options, bytes: &[u8], out: &mut O) -> Result<Option<Fault>, IoFault>
     requires { bytes.now ≢ [] }
     ensures count { CountsFailure (O.failures out.old) (O.failures out.new) result }
     ensures bytes { Writes O.took out.old out.new (image_of options.now (outcome_of_label (qr_label options.now bytes.now
@@ -108,7 +108,11 @@ fn matrix_of(options: &Options, plan: &Plan, bytes: &[u8]) -> Matrix
 }
 
 /// Writes the text of a picture, each of its modules a square of pixels.
-fn write_picture<G: Grid + Drop, O: Sink>(options: &Options, grid: G, out: &mut O) -> Result<(), IoFault>
+fn write_picture<G: Grid + Drop, O: Sink>(
+    options: &Options,
+    grid: G,
+    out: &mut O,
+) -> Result<(), IoFault>
     requires width { (G.picture grid).width ≤ 1815 }
     requires height { (G.picture grid).height ≤ 500 }
     ensures count { CountsFailure (O.failures out.old) (O.failures out.new) result }

@@ -9,8 +9,8 @@ ghost use Rattle.labels.specs.Label.{label_of};
 ghost use Rattle.labels.specs.Output.{outcome, outcome_of_item, outcome_of_label};
 ghost use Rattle.labels.specs.Line.{Begins, EndsLine, FailsInLine, CountsFault};
 
-use crate::status::RunFault;
 use crate::draw::draw;
+use crate::status::RunFault;
 use labelcore::{Fault, Item, LineBuf, Options, Scratch, Sink, Symbology, parse, write_fault};
 
 /// Writes the line's image or its message, and says whether it is refused.

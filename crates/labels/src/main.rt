@@ -17,15 +17,14 @@ pub use end::End;
 pub use engine::run;
 pub use file::{OpenFault, open_file};
 pub use filter::Filter;
-pub use status::{RunFault, Status};
-pub use words::{Choice, WordsFault, options_of};
-
 use labelcore::{Source, StdSink, StdSource};
 use output::{HeldOutput, HeldWriter, WaitingSource};
+pub use status::{RunFault, Status};
 use std::alloc::Global;
 use std::env;
 use std::io::{ErrorKind, Write};
 use std::process::ExitCode;
+pub use words::{Choice, WordsFault, options_of};
 
 fn main(rt: HostRuntime) -> ExitCode {
     let end = end_of(&rt);

@@ -193,4 +193,3 @@ pub fn options_of(alloc: Global, words: &[String]) -> Result<Choice, WordsFault>
         Err(error) => Err(fault_of(alloc, &error)),
     }
 }
-

@@ -80,8 +80,15 @@ fn full_sink(rt: HostRuntime) {
         }
         _ => panic!(rt; "two images"),
     }
-    for piece in [b"#\n".as_slice(), b"".as_slice(), b"ean8 7351353\n".as_slice()] {
-        assert_eq!(rt; filter.feed(piece, &mut out, &mut err), Err(RunFault::Spent));
+    for piece in [
+        b"#\n".as_slice(),
+        b"".as_slice(),
+        b"ean8 7351353\n".as_slice(),
+    ] {
+        assert_eq!(rt;
+            filter.feed(piece, &mut out, &mut err),
+            Err(RunFault::Spent)
+        );
     }
     assert_eq!(rt; out.bytes().len(), 1000);
     assert_eq!(rt; out.failures(), 1);
@@ -95,7 +102,10 @@ fn nine_bytes_of_the_second_image(rt: HostRuntime) -> Result<(), Fail> {
     let mut source = MemSource::new(b"ean8 7351353\nean8 7351353\n", 4096, false);
     let mut out: MemSink<100> = MemSink::new(4096, 100);
     let mut err: MemSink<8> = MemSink::new(8, 8);
-    assert_eq!(rt; run(low(&rt), &mut source, &mut out, &mut err), Err(RunFault::WriteOut));
+    assert_eq!(rt;
+        run(low(&rt), &mut source, &mut out, &mut err),
+        Err(RunFault::WriteOut)
+    );
     let want = joined(rt.alloc(), &[EAN8, b"P1\n81 1\n0"])?;
     assert!(rt; out.bytes() == want.as_slice());
     Ok(())
@@ -108,7 +118,10 @@ fn assert_read_fails(rt: &impl Abort, piece: usize)
     let mut source = MemSource::new(b"ean8 7351353\nqr 0", piece, true);
     let mut out: MemSink<200> = MemSink::new(200, 200);
     let mut err: MemSink<8> = MemSink::new(8, 8);
-    assert_eq!(rt; run(low(rt), &mut source, &mut out, &mut err), Err(RunFault::Read));
+    assert_eq!(rt;
+        run(low(rt), &mut source, &mut out, &mut err),
+        Err(RunFault::Read)
+    );
     assert_eq!(rt; out.bytes(), EAN8);
     assert_eq!(rt; err.bytes(), b"".as_slice());
 }

@@ -22,7 +22,11 @@ fn every_limit_of_the_images(rt: HostRuntime) -> Result<(), Fail> {
         let answer = run(low(&rt, false), &mut source, &mut out, &mut err);
         assert!(rt; all.starts_with(out.bytes()));
         assert_eq!(rt; out.bytes().len(), limit);
-        let want = if limit < 182 { Err(RunFault::WriteOut) } else { Ok(Status::Clean) };
+        let want = if limit < 182 {
+            Err(RunFault::WriteOut)
+        } else {
+            Ok(Status::Clean)
+        };
         assert_eq!(rt; answer, want);
     }
     Ok(())
@@ -39,7 +43,11 @@ fn every_limit_of_the_messages(rt: HostRuntime) {
         let answer = run(low(&rt, false), &mut source, &mut out, &mut err);
         assert!(rt; all.starts_with(err.bytes()));
         assert_eq!(rt; err.bytes().len(), limit);
-        let want = if limit < 52 { Err(RunFault::WriteMessages) } else { Ok(Status::Refused) };
+        let want = if limit < 52 {
+            Err(RunFault::WriteMessages)
+        } else {
+            Ok(Status::Refused)
+        };
         assert_eq!(rt; answer, want);
     }
 }
@@ -68,9 +76,18 @@ impl<'a> FailedRun<'a> {
     }
 
     /// It answered this, after so many calls of each device, and the sinks hold so many bytes of their texts.
-    fn assert(&self, rt: &impl Abort, answer: RunFault, calls: (u64, u64, u64), held: (usize, usize)) {
+    fn assert(
+        &self,
+        rt: &impl Abort,
+        answer: RunFault,
+        calls: (u64, u64, u64),
+        held: (usize, usize),
+    ) {
         assert_eq!(rt; self.answer, Err(answer));
-        assert_eq!(rt; (self.source.calls(), self.out.calls(), self.err.calls()), calls);
+        assert_eq!(rt;
+            (self.source.calls(), self.out.calls(), self.err.calls()),
+            calls
+        );
         let out = self.out.device().bytes();
         let err = self.err.device().bytes();
         assert_eq!(rt; (out.len(), err.len()), held);
@@ -111,7 +128,12 @@ fn each_write_of_the_image_and_its_flush_fail(rt: HostRuntime) -> Result<(), Fai
     let input = rather_long_lines(rt.alloc())?;
     for call in 1..93 {
         let failed = FailedRun::new(low(&rt, false), input.as_slice(), 0, call, 0);
-        failed.assert(&rt, RunFault::WriteOut, (3117, call, 39), (call as usize - 1, 39));
+        failed.assert(
+            &rt,
+            RunFault::WriteOut,
+            (3117, call, 39),
+            (call as usize - 1, 39),
+        );
     }
     Ok(())
 }
@@ -121,7 +143,12 @@ fn each_write_of_the_message_and_its_flush_fail(rt: HostRuntime) -> Result<(), F
     let input = rather_long_lines(rt.alloc())?;
     for call in 1..40 {
         let failed = FailedRun::new(low(&rt, false), input.as_slice(), 0, 0, call);
-        failed.assert(&rt, RunFault::WriteMessages, (1102, 0, call), (0, call as usize - 1));
+        failed.assert(
+            &rt,
+            RunFault::WriteMessages,
+            (1102, 0, call),
+            (0, call as usize - 1),
+        );
     }
     let failed = FailedRun::new(low(&rt, false), input.as_slice(), 0, 0, 40);
     failed.assert(&rt, RunFault::WriteMessages, (3117, 92, 40), (91, 39));
@@ -161,7 +188,12 @@ fn every_byte(rt: HostRuntime) -> Result<(), Fail> {
     }
     let came = run_by(alloc, low(&rt, false), input.as_slice(), 4096);
     assert_eq!(rt; came.out.len(), 9525);
-    assert!(rt; came.out.as_slice().chunks(75).all(|image| image.starts_with(b"P1\n66 1\n")));
+    assert!(rt;
+        came.out
+            .as_slice()
+            .chunks(75)
+            .all(|image| image.starts_with(b"P1\n66 1\n"))
+    );
     assert_came_to(&rt, &came, came.out.as_slice(), messages.as_slice());
     Ok(())
 }
@@ -170,9 +202,11 @@ fn every_byte(rt: HostRuntime) -> Result<(), Fail> {
 fn input_that_breaks_off(rt: HostRuntime) -> Result<(), Fail> {
     let alloc = rt.alloc();
     let letters = repeated(alloc, b"a", 81)?;
-    let lines = b"ean8 73x1353\nean13 123\nqr\nqr \n qr x\ncode128 a\\q\ncode128 \xC3\xA9\ncode128 ";
+    let lines =
+        b"ean8 73x1353\nean13 123\nqr\nqr \n qr x\ncode128 a\\q\ncode128 \xC3\xA9\ncode128 ";
     let input = joined(alloc, &[lines, letters.as_slice(), b"\n"])?;
-    let messages = b"line 1: not a digit at byte 3\nline 2: wrong number of digits: 3\nline 3: no data\nline 4: no data\nline 5: unknown symbology\nline 6: bad escape at byte 2\nline 7: byte 1 is not ASCII\nline 8: data is longer than 80 bytes\n";
+    let messages =
+        b"line 1: not a digit at byte 3\nline 2: wrong number of digits: 3\nline 3: no data\nline 4: no data\nline 5: unknown symbology\nline 6: bad escape at byte 2\nline 7: byte 1 is not ASCII\nline 8: data is longer than 80 bytes\n";
     for end in 0..input.len() {
         let front = &input.as_slice()[..end];
         let came = run_by(alloc, low(&rt, true), front, 4096);
@@ -185,7 +219,12 @@ fn input_that_breaks_off(rt: HostRuntime) -> Result<(), Fail> {
         let told = came.err.as_slice().split(|byte| *byte == b'\n');
         let want = messages.split(|byte| *byte == b'\n');
         assert!(rt; told.zip(want).take(ended).all(|(told, want)| told == want));
-        let told = came.err.as_slice().iter().filter(|byte| **byte == b'\n').count();
+        let told = came
+            .err
+            .as_slice()
+            .iter()
+            .filter(|byte| **byte == b'\n')
+            .count();
         assert!(rt; told == ended || told == ended.saturating_add(1));
     }
     Ok(())

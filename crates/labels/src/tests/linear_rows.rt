@@ -12,7 +12,13 @@ fn low(alloc: Global) -> Result<Options, Fail> {
 }
 
 /// A line is drawn as these rows of pixels, 50 modules high.
-fn assert_drawn(rt: &impl Abort, alloc: Global, input: &[u8], header: &[u8], row: &[u8]) -> Result<(), Fail> {
+fn assert_drawn(
+    rt: &impl Abort,
+    alloc: Global,
+    input: &[u8],
+    header: &[u8],
+    row: &[u8],
+) -> Result<(), Fail> {
     let want = bars(alloc, header, row, 50)?;
     assert_row(rt, alloc, Options::default(), input, want.as_slice(), b"");
     Ok(())
@@ -39,10 +45,17 @@ fn ean8_in_letters(rt: HostRuntime) -> Result<(), Fail> {
     let want = letters(alloc, &[row.as_slice()])?;
     assert_eq!(rt; want.len(), 164);
     assert_row(&rt, alloc, options, b"ean8 7351353\n", want.as_slice(), b"");
-    let options = choice_of(alloc, &["--height", "1", "--scale", "8", "--format", "ascii"])?.options;
+    let options = choice_of(
+        alloc,
+        &["--height", "1", "--scale", "8", "--format", "ascii"],
+    )?
+    .options;
     let came = run_by(alloc, options, b"ean8 7351353\n", 4096);
     assert_eq!(rt; came.out.len(), 10_377);
-    assert_eq!(rt; came.out.as_slice().split(|byte| *byte == b'\n').count(), 10);
+    assert_eq!(rt;
+        came.out.as_slice().split(|byte| *byte == b'\n').count(),
+        10
+    );
     assert!(rt;
         came.out
             .as_slice()
@@ -55,17 +68,20 @@ fn ean8_in_letters(rt: HostRuntime) -> Result<(), Fail> {
 #[test]
 fn ean13(rt: HostRuntime) -> Result<(), Fail> {
     let alloc = rt.alloc();
-    let row = b"0000000000010100011010100111010111101111010001001011001101010100001010\n0001010000101110100100001011001101010000000\n";
+    let row =
+        b"0000000000010100011010100111010111101111010001001011001101010100001010\n0001010000101110100100001011001101010000000\n";
     assert_drawn(&rt, alloc, b"ean13 4006381333931\n", b"P1\n113 50\n", row)?;
     let came = run_by(alloc, Options::default(), b"ean13 4006381333931\n", 4096);
     assert_eq!(rt; came.out.len(), 5760);
-    let row = b"0000000000010100011010111101010111100011010001101000110101010110110011\n1010011001101011100100111011011001010000000\n";
+    let row =
+        b"0000000000010100011010111101010111100011010001101000110101010110110011\n1010011001101011100100111011011001010000000\n";
     assert_drawn(&rt, alloc, b"ean13 0036000291452\n", b"P1\n113 50\n", row)
 }
 
 #[test]
 fn upca(rt: HostRuntime) -> Result<(), Fail> {
-    let row = b"0000000001010001101011110101011110001101000110100011010101011011001110\n1001100110101110010011101101100101000000000\n";
+    let row =
+        b"0000000001010001101011110101011110001101000110100011010101011011001110\n1001100110101110010011101101100101000000000\n";
     assert_drawn(&rt, rt.alloc(), b"upca 03600029145\n", b"P1\n113 50\n", row)
 }
 
@@ -113,9 +129,17 @@ fn code128(rt: HostRuntime) -> Result<(), Fail> {
 fn code128_shift(rt: HostRuntime) -> Result<(), Fail> {
     let alloc = rt.alloc();
     let options = choice_of(alloc, &["--escapes"])?.options;
-    let row = b"0000000000110100100001001011000011110100010100101100001001000011011011\n00110011000111010110000000000\n";
+    let row =
+        b"0000000000110100100001001011000011110100010100101100001001000011011011\n00110011000111010110000000000\n";
     let want = bars(alloc, b"P1\n99 50\n", row, 50)?;
-    assert_row(&rt, alloc, options, b"code128 a\\x01b\n", want.as_slice(), b"");
+    assert_row(
+        &rt,
+        alloc,
+        options,
+        b"code128 a\\x01b\n",
+        want.as_slice(),
+        b"",
+    );
     Ok(())
 }
 
@@ -126,7 +150,10 @@ fn no_empty_line_after_rows_of_whole_lines(rt: HostRuntime) -> Result<(), Fail> 
     let came = run_by(alloc, options, b"code128 A123456\n", 4096);
     assert!(rt; came.out.starts_with(b"P1\n770 7\n"));
     assert_eq!(rt; came.out.len(), 5476);
-    assert_eq!(rt; came.out.as_slice().split(|byte| *byte == b'\n').count(), 80);
+    assert_eq!(rt;
+        came.out.as_slice().split(|byte| *byte == b'\n').count(),
+        80
+    );
     assert!(rt;
         came.out
             .as_slice()
@@ -179,7 +206,8 @@ fn each_refusal_of_a_linear_line(rt: HostRuntime) -> Result<(), Fail> {
             b"\n",
         ],
     )?;
-    let messages = b"line 1: not a digit at byte 3\nline 2: wrong number of digits: 3\nline 3: no data\nline 4: no data\nline 5: unknown symbology\nline 6: bad escape at byte 2\nline 7: byte 1 is not ASCII\nline 8: data is longer than 80 bytes\n";
+    let messages =
+        b"line 1: not a digit at byte 3\nline 2: wrong number of digits: 3\nline 3: no data\nline 4: no data\nline 5: unknown symbology\nline 6: bad escape at byte 2\nline 7: byte 1 is not ASCII\nline 8: data is longer than 80 bytes\n";
     assert_row(&rt, alloc, options, input.as_slice(), b"", messages);
     let came = run_by(alloc, options, input.as_slice(), 4096);
     assert_eq!(rt; End::Ran(came.answer).status(), 1);
@@ -192,16 +220,42 @@ fn lines_are_skipped_refused_and_counted(rt: HostRuntime) -> Result<(), Fail> {
     let options = low(alloc)?;
     assert_row(&rt, alloc, options, b"", b"", b"");
     assert_eq!(rt; run_by(alloc, options, b"", 1).answer, Ok(Status::Clean));
-    assert_row(&rt, alloc, options, b"#\n\npdf x\n", b"", b"line 3: unknown symbology\n");
+    assert_row(
+        &rt,
+        alloc,
+        options,
+        b"#\n\npdf x\n",
+        b"",
+        b"line 3: unknown symbology\n",
+    );
     let letters = repeated(alloc, b"a", 1101)?;
     let comment = repeated(alloc, b"a", 2000)?;
     let input = joined(
         alloc,
-        &[letters.as_slice(), b"\n#", comment.as_slice(), b"\nean8 7351353"],
+        &[
+            letters.as_slice(),
+            b"\n#",
+            comment.as_slice(),
+            b"\nean8 7351353",
+        ],
     )?;
-    assert_row(&rt, alloc, options, input.as_slice(), EAN8, b"line 1: line is longer than 1100 bytes\n");
+    assert_row(
+        &rt,
+        alloc,
+        options,
+        input.as_slice(),
+        EAN8,
+        b"line 1: line is longer than 1100 bytes\n",
+    );
     let letters = repeated(alloc, b"a", 1100)?;
-    assert_row(&rt, alloc, options, letters.as_slice(), b"", b"line 1: unknown symbology\n");
+    assert_row(
+        &rt,
+        alloc,
+        options,
+        letters.as_slice(),
+        b"",
+        b"line 1: unknown symbology\n",
+    );
     Ok(())
 }
 
@@ -210,9 +264,30 @@ fn escaped_digits(rt: HostRuntime) -> Result<(), Fail> {
     let alloc = rt.alloc();
     let options = choice_of(alloc, &["--height", "1", "--escapes"])?.options;
     assert_row(&rt, alloc, options, b"ean8 73\\x35\\x31353\n", EAN8, b"");
-    assert_row(&rt, alloc, options, b"ean8 \\\n", b"", b"line 1: bad escape at byte 1\n");
-    assert_row(&rt, alloc, options, b"ean8 \\x4\n", b"", b"line 1: bad escape at byte 1\n");
-    assert_row(&rt, alloc, options, b"ean8 7\\\\x\n", b"", b"line 1: not a digit at byte 2\n");
+    assert_row(
+        &rt,
+        alloc,
+        options,
+        b"ean8 \\\n",
+        b"",
+        b"line 1: bad escape at byte 1\n",
+    );
+    assert_row(
+        &rt,
+        alloc,
+        options,
+        b"ean8 \\x4\n",
+        b"",
+        b"line 1: bad escape at byte 1\n",
+    );
+    assert_row(
+        &rt,
+        alloc,
+        options,
+        b"ean8 7\\\\x\n",
+        b"",
+        b"line 1: not a digit at byte 2\n",
+    );
     Ok(())
 }
 
@@ -220,21 +295,61 @@ fn escaped_digits(rt: HostRuntime) -> Result<(), Fail> {
 fn settings_hold_for_their_line(rt: HostRuntime) -> Result<(), Fail> {
     let alloc = rt.alloc();
     let options = low(alloc)?;
-    let row = b"0000000101011101101111010110001001100101010100001010011101000010100010\n01010000000\n";
+    let row =
+        b"0000000101011101101111010110001001100101010100001010011101000010100010\n01010000000\n";
     let two = bars(alloc, b"P1\n81 2\n", row, 2)?;
     assert_eq!(rt; two.len(), 174);
-    assert_row(&rt, alloc, options, b"ean8,height=2 7351353\n", two.as_slice(), b"");
-    assert_row(&rt, alloc, options, b"ean8,height=500,height=002 7351353\n", two.as_slice(), b"");
+    assert_row(
+        &rt,
+        alloc,
+        options,
+        b"ean8,height=2 7351353\n",
+        two.as_slice(),
+        b"",
+    );
+    assert_row(
+        &rt,
+        alloc,
+        options,
+        b"ean8,height=500,height=002 7351353\n",
+        two.as_slice(),
+        b"",
+    );
     let both = joined(alloc, &[two.as_slice(), EAN8])?;
-    assert_row(&rt, alloc, options, b"ean8,height=2 7351353\nean8 7351353\n", both.as_slice(), b"");
+    assert_row(
+        &rt,
+        alloc,
+        options,
+        b"ean8,height=2 7351353\nean8 7351353\n",
+        both.as_slice(),
+        b"",
+    );
     for (input, message) in [
-        (b"qr,height=3 1\n".as_slice(), b"line 1: unknown setting 1\n".as_slice()),
-        (b"ean8, 7351353\n".as_slice(), b"line 1: unknown setting 1\n".as_slice()),
-        (b"ean8,height=0 1\n".as_slice(), b"line 1: bad value in setting 1\n".as_slice()),
-        (b"qr,level=H,mask=8\n".as_slice(), b"line 1: bad value in setting 2\n".as_slice()),
-        (b"qr,mask=3,level=h,size=2 x\n".as_slice(), b"line 1: bad value in setting 2\n".as_slice()),
+        (
+            b"qr,height=3 1\n".as_slice(),
+            b"line 1: unknown setting 1\n".as_slice(),
+        ),
+        (
+            b"ean8, 7351353\n".as_slice(),
+            b"line 1: unknown setting 1\n".as_slice(),
+        ),
+        (
+            b"ean8,height=0 1\n".as_slice(),
+            b"line 1: bad value in setting 1\n".as_slice(),
+        ),
+        (
+            b"qr,level=H,mask=8\n".as_slice(),
+            b"line 1: bad value in setting 2\n".as_slice(),
+        ),
+        (
+            b"qr,mask=3,level=h,size=2 x\n".as_slice(),
+            b"line 1: bad value in setting 2\n".as_slice(),
+        ),
         (b"qr,level=H\n".as_slice(), b"line 1: no data\n".as_slice()),
-        (b"pdf,height=9 x\n".as_slice(), b"line 1: unknown symbology\n".as_slice()),
+        (
+            b"pdf,height=9 x\n".as_slice(),
+            b"line 1: unknown symbology\n".as_slice(),
+        ),
     ] {
         assert_row(&rt, alloc, options, input, b"", message);
     }

@@ -1,5 +1,7 @@
 //! Worked labels of QR.
-use crate::tests::support::{assert_came_to, assert_row, choice_of, joined, letters, repeated, run_by};
+use crate::tests::support::{
+    assert_came_to, assert_row, choice_of, joined, letters, repeated, run_by,
+};
 use labelcore::Options;
 use std::alloc::{AllocError, Global};
 use std::process::Abort;
@@ -54,7 +56,13 @@ fn options_of(alloc: Global, words: &[&str]) -> Result<Options, Fail> {
 }
 
 /// A line is drawn with this header, and nothing is refused.
-fn assert_header(rt: &impl Abort, alloc: Global, words: &[&str], line: &[u8], header: &[u8]) -> Result<(), Fail> {
+fn assert_header(
+    rt: &impl Abort,
+    alloc: Global,
+    words: &[&str],
+    line: &[u8],
+    header: &[u8],
+) -> Result<(), Fail> {
     let options = options_of(alloc, words)?;
     let came = run_by(alloc, options, line, 4096);
     assert!(rt; came.out.starts_with(header));
@@ -63,7 +71,14 @@ fn assert_header(rt: &impl Abort, alloc: Global, words: &[&str], line: &[u8], he
 }
 
 /// A line of a name and so many equal bytes is drawn with this header.
-fn assert_long(rt: &impl Abort, alloc: Global, words: &[&str], byte: &[u8], times: usize, header: &[u8]) -> Result<(), Fail> {
+fn assert_long(
+    rt: &impl Abort,
+    alloc: Global,
+    words: &[&str],
+    byte: &[u8],
+    times: usize,
+    header: &[u8],
+) -> Result<(), Fail> {
     let data = repeated(alloc, byte, times)?;
     let line = joined(alloc, &[b"qr ", data.as_slice()])?;
     let came = run_by(alloc, options_of(alloc, words)?, line.as_slice(), 4096);
@@ -73,7 +88,14 @@ fn assert_long(rt: &impl Abort, alloc: Global, words: &[&str], byte: &[u8], time
 }
 
 /// A line of a name and so many equal bytes does not fit.
-fn assert_does_not_fit(rt: &impl Abort, alloc: Global, words: &[&str], front: &[u8], byte: &[u8], times: usize) -> Result<(), Fail> {
+fn assert_does_not_fit(
+    rt: &impl Abort,
+    alloc: Global,
+    words: &[&str],
+    front: &[u8],
+    byte: &[u8],
+    times: usize,
+) -> Result<(), Fail> {
     let data = repeated(alloc, byte, times)?;
     let line = joined(alloc, &[front, data.as_slice()])?;
     let came = run_by(alloc, options_of(alloc, words)?, line.as_slice(), 4096);
@@ -89,7 +111,14 @@ fn standard_example(rt: HostRuntime) -> Result<(), Fail> {
     let options = options_of(alloc, &["--mask", "2"])?;
     assert_row(&rt, alloc, options, b"qr 01234567\n", want.as_slice(), b"");
     let options = options_of(alloc, &["--level", "H", "--height", "1"])?;
-    assert_row(&rt, alloc, options, b"qr,level=M,mask=2 01234567\n", want.as_slice(), b"");
+    assert_row(
+        &rt,
+        alloc,
+        options,
+        b"qr,level=M,mask=2 01234567\n",
+        want.as_slice(),
+        b"",
+    );
     let options = options_of(alloc, &["--mask", "2", "--format", "ascii"])?;
     let want = letters(alloc, EXAMPLE.as_slice())?;
     assert_eq!(rt; want.len(), 1712);
@@ -135,7 +164,14 @@ fn hello_world(rt: HostRuntime) -> Result<(), Fail> {
     let alloc = rt.alloc();
     let want = plain_pbm(alloc, b"P1\n29 29\n", HELLO.as_slice())?;
     let options = options_of(alloc, &["--level", "Q", "--mask", "6"])?;
-    assert_row(&rt, alloc, options, b"qr HELLO WORLD\n", want.as_slice(), b"");
+    assert_row(
+        &rt,
+        alloc,
+        options,
+        b"qr HELLO WORLD\n",
+        want.as_slice(),
+        b"",
+    );
     Ok(())
 }
 
@@ -152,13 +188,32 @@ fn least_versions(rt: HostRuntime) -> Result<(), Fail> {
     assert_long(&rt, alloc, &low, b"1", 652, b"P1\n65 65\n")?;
     assert_does_not_fit(&rt, alloc, &low, b"qr ", b"1", 653)?;
     assert_does_not_fit(&rt, alloc, &low, b"qr a", b"1", 645)?;
-    assert_long(&rt, alloc, &["--level", "Q", "--min-version", "5"], b"a", 30, b"P1\n45 45\n")
+    assert_long(
+        &rt,
+        alloc,
+        &["--level", "Q", "--min-version", "5"],
+        b"a",
+        30,
+        b"P1\n45 45\n",
+    )
 }
 
 #[test]
 fn mixed_segments(rt: HostRuntime) -> Result<(), Fail> {
     let alloc = rt.alloc();
-    assert_header(&rt, alloc, &["--level", "H"], b"qr a123456789\n", b"P1\n29 29\n")?;
-    assert_header(&rt, alloc, &["--level", "Q"], b"qr ab1234567890cd\n", b"P1\n29 29\n")?;
+    assert_header(
+        &rt,
+        alloc,
+        &["--level", "H"],
+        b"qr a123456789\n",
+        b"P1\n29 29\n",
+    )?;
+    assert_header(
+        &rt,
+        alloc,
+        &["--level", "Q"],
+        b"qr ab1234567890cd\n",
+        b"P1\n29 29\n",
+    )?;
     assert_header(&rt, alloc, &[], b"qr a123\n", b"P1\n29 29\n")
 }

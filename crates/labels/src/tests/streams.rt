@@ -99,11 +99,22 @@ fn writer_of(alloc: Global, oddity: Oddity) -> ByteWriter {
 }
 
 /// Over devices of one byte a call, a run comes to these images and messages.
-fn assert_by_bytes(rt: &impl Abort, alloc: Global, options: Options, input: &[u8], out: &[u8], err: &[u8]) {
+fn assert_by_bytes(
+    rt: &impl Abort,
+    alloc: Global,
+    options: Options,
+    input: &[u8],
+    out: &[u8],
+    err: &[u8],
+) {
     let mut images = writer_of(alloc, Oddity::None);
     let mut messages = writer_of(alloc, Oddity::None);
     let answer = run_by_bytes(options, reader_of(input), &mut images, &mut messages);
-    let status = if err.is_empty() { Status::Clean } else { Status::Refused };
+    let status = if err.is_empty() {
+        Status::Clean
+    } else {
+        Status::Refused
+    };
     assert_eq!(rt; answer, Ok(status));
     assert!(rt; images.bytes.as_slice() == out);
     assert!(rt; messages.bytes.as_slice() == err);
@@ -112,15 +123,28 @@ fn assert_by_bytes(rt: &impl Abort, alloc: Global, options: Options, input: &[u8
 #[test]
 fn devices_of_one_byte_a_call(rt: HostRuntime) -> Result<(), Fail> {
     let alloc = rt.alloc();
-    let low = Options::new(Format::Pbm, 1, 1, Level::M, 1, None, true).expect(&rt, "options in range");
+    let low = Options::new(Format::Pbm, 1, 1, Level::M, 1, None, true).expect(
+        &rt,
+        "options in range",
+    );
     assert_by_bytes(&rt, alloc, low, b"ean8 7351353\n", EAN8, b"");
-    let row = b"0000000000010100011010100111010111101111010001001011001101010100001010\n0001010000101110100100001011001101010000000\n";
+    let row =
+        b"0000000000010100011010100111010111101111010001001011001101010100001010\n0001010000101110100100001011001101010000000\n";
     let tall = bars(alloc, b"P1\n113 50\n", row, 50)?;
-    assert_by_bytes(&rt, alloc, Options::default(), b"ean13 4006381333931\n", tall.as_slice(), b"");
+    assert_by_bytes(
+        &rt,
+        alloc,
+        Options::default(),
+        b"ean13 4006381333931\n",
+        tall.as_slice(),
+        b"",
+    );
     let letters = repeated(alloc, b"a", 81)?;
-    let lines = b"ean8 73x1353\nean13 123\nqr\nqr \n qr x\ncode128 a\\q\ncode128 \xC3\xA9\ncode128 ";
+    let lines =
+        b"ean8 73x1353\nean13 123\nqr\nqr \n qr x\ncode128 a\\q\ncode128 \xC3\xA9\ncode128 ";
     let input = joined(alloc, &[lines, letters.as_slice(), b"\n"])?;
-    let messages = b"line 1: not a digit at byte 3\nline 2: wrong number of digits: 3\nline 3: no data\nline 4: no data\nline 5: unknown symbology\nline 6: bad escape at byte 2\nline 7: byte 1 is not ASCII\nline 8: data is longer than 80 bytes\n";
+    let messages =
+        b"line 1: not a digit at byte 3\nline 2: wrong number of digits: 3\nline 3: no data\nline 4: no data\nline 5: unknown symbology\nline 6: bad escape at byte 2\nline 7: byte 1 is not ASCII\nline 8: data is longer than 80 bytes\n";
     assert_by_bytes(&rt, alloc, low, input.as_slice(), b"", messages);
     Ok(())
 }
@@ -152,7 +176,12 @@ fn an_interrupted_or_empty_write_is_a_failure(rt: HostRuntime) {
         assert!(rt; out.bytes.as_slice() == b"P1".as_slice());
         let mut out = writer_of(alloc, Oddity::None);
         let mut err = writer_of(alloc, oddity);
-        let answer = run_by_bytes(Options::default(), reader_of(b"pdf x\n"), &mut out, &mut err);
+        let answer = run_by_bytes(
+            Options::default(),
+            reader_of(b"pdf x\n"),
+            &mut out,
+            &mut err,
+        );
         assert_eq!(rt; answer, Err(RunFault::WriteMessages));
         assert!(rt; err.bytes.as_slice() == b"li".as_slice());
     }

@@ -8,7 +8,8 @@ use std::process::Abort;
 use std::test::Fail;
 
 /// The image of `ean8 7351353`, one module high.
-pub const EAN8: &[u8] = b"P1\n81 1\n0000000101011101101111010110001001100101010100001010011101000010100010\n01010000000\n";
+pub const EAN8: &[u8] =
+    b"P1\n81 1\n0000000101011101101111010110001001100101010100001010011101000010100010\n01010000000\n";
 
 /// What a run came to.
 #[derive(Drop)]
@@ -133,7 +134,14 @@ pub fn assert_came_to(rt: &impl Abort, came: &RunResult, out: &[u8], err: &[u8])
 }
 
 /// Over the input, read in pieces of several sizes and fed in two at each cut, a run comes to these images and messages.
-pub fn assert_row(rt: &impl Abort, alloc: Global, options: Options, input: &[u8], out: &[u8], err: &[u8]) {
+pub fn assert_row(
+    rt: &impl Abort,
+    alloc: Global,
+    options: Options,
+    input: &[u8],
+    out: &[u8],
+    err: &[u8],
+) {
     assert_came_to(rt, &run_by(alloc, options, input, 1), out, err);
     assert_came_to(rt, &run_by(alloc, options, input, 2), out, err);
     assert_came_to(rt, &run_by(alloc, options, input, 7), out, err);
