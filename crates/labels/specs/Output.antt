@@ -4,6 +4,7 @@ use Rattle.std.specs.List.{flat_map, list_any}
 use Rattle.labelcore.specs.declared.fault.Fault.{Fault}
 use Rattle.labelcore.specs.declared.options.Format.{Format}
 use Rattle.labelcore.specs.declared.options.Format.TheVariants.{Pbm, Ascii}
+use Rattle.labelcore.specs.declared.symbology.Symbology.{Symbology}
 use Rattle.labelcore.specs.OptionValues.{OptionValues}
 use Rattle.labelcore.specs.LineItem.{LineItem, skip, refuse, draw, item}
 use Rattle.labelcore.specs.Message.{message}
@@ -23,11 +24,14 @@ abbrev pub outcome_of_label : Result Label Fault → Outcome
 outcome_of_label (Ok label) = drawn label
 outcome_of_label (Err fault) = refused fault
 
--- a label is drawn with the options of its line
+-- what data comes to under the options of its line
+abbrev pub outcome_of_data : OptionValues → Symbology → List ℕ → Outcome
+outcome_of_data own symbology bytes = outcome_of_label (label_of own symbology bytes)
+
 abbrev pub outcome_of_item : LineItem → Outcome
 outcome_of_item skip = skipped
 outcome_of_item (refuse fault) = refused fault
-outcome_of_item (draw asked) = outcome_of_label (label_of asked.options asked.symbology asked.bytes)
+outcome_of_item (draw asked) = outcome_of_data asked.options asked.symbology asked.bytes
 
 unfoldable pub outcome : OptionValues → List ℕ → Outcome
 outcome options line = outcome_of_item (item options line)

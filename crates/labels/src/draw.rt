@@ -2,11 +2,11 @@
 ghost use Rattle.std.specs.Prelude.{Bool, None, ◌≡◌, ◌≢◌, ◌+◌, ◌*◌, ◌<◌, ◌≤◌, List, ℕ, [], length, IfOk};
 ghost use Rattle.labelcore.specs.Device.{CountsFailure, Writes};
 ghost use Rattle.picture.specs.Picture.{scaled, symbol_picture};
-ghost use Rattle.qrdata.specs.Fewest.{chosen_segments, chosen_version};
+ghost use Rattle.qrdata.specs.Fewest.{chosen_segments};
 ghost use Rattle.qrdata.specs.Versions.{capacity};
 ghost use Rattle.qrdata.specs.Segments.{IsSegmentation, cost};
-ghost use Rattle.labels.specs.Label.{linear_label, label_of, qr_codewords, qr_label, qr_modules, quiet_zone};
-ghost use Rattle.labels.specs.Output.{outcome_of_label, image_of, text_of};
+ghost use Rattle.labels.specs.Label.{linear_label, qr_codewords, qr_modules, quiet_zone};
+ghost use Rattle.labels.specs.Output.{outcome_of_data, outcome_of_label, image_of, text_of};
 ghost use Rattle.labels.specs.Line.{refusal_of};
 ghost use Rattle.labels.specs.Readback.{IsReadable, ReadsBack, read_linear, read_modules};
 ghost use Rattle.labelcore.specs.declared.symbology.Symbology.TheVariants.{Qr};
@@ -27,9 +27,11 @@ pub fn draw<O: Sink>(
 ) -> Result<Option<Fault>, IoFault>
     requires { bytes.now ≢ [] }
     ensures count { CountsFailure (O.failures out.old) (O.failures out.new) result }
-    ensures bytes { Writes O.took out.old out.new (image_of options.now (outcome_of_label (label_of options.now symbology bytes.now))) result }
-    ensures refusal { IfOk result (λ refusal. refusal ≡ refusal_of (outcome_of_label (label_of options.now symbology bytes.now))) }
-    ensures read { ReadsBack (outcome_of_label (label_of options.now symbology bytes.now)) }
+    ensures bytes { Writes O.took out.old out.new
+        (image_of options.now (outcome_of_data options.now symbology bytes.now)) result }
+    ensures refusal { IfOk result (λ refusal. refusal
+        ≡ refusal_of (outcome_of_data options.now symbology bytes.now)) }
+    ensures read { ReadsBack (outcome_of_data options.now symbology bytes.now) }
 {
     match symbology {
         Symbology::Ean13 => draw_linear::<Ean13, O>(options, symbology, bytes, out),
@@ -48,14 +50,20 @@ fn draw_linear<L: Linear, O: Sink>(
     out: &mut O,
 ) -> Result<Option<Fault>, IoFault>
     requires some { bytes.now ≢ [] }
-    requires zone { quiet_zone symbology ≡ record { left = L.QUIET_LEFT; right = L.QUIET_RIGHT; top = 0; bottom = 0 } }
+    requires zone { quiet_zone symbology
+        ≡ record { left = L.QUIET_LEFT; right = L.QUIET_RIGHT; top = 0; bottom = 0 } }
     requires narrow { L.QUIET_LEFT + L.QUIET_RIGHT ≤ 20 }
-    requires reading { (rows : List (List Bool)) → read_modules symbology rows ≡ read_linear L.reading rows }
+    requires reading { (rows : List (List Bool))
+        → read_modules symbology rows ≡ read_linear L.reading rows }
     requires none { L.reading [] ≡ None }
     ensures count { CountsFailure (O.failures out.old) (O.failures out.new) result }
-    ensures bytes { Writes O.took out.old out.new (image_of options.now (outcome_of_label (linear_label symbology L.bars options.now (L.full_data bytes.now)))) result }
-    ensures refusal { IfOk result (λ refusal. refusal ≡ refusal_of (outcome_of_label (linear_label symbology L.bars options.now (L.full_data bytes.now)))) }
-    ensures read { ReadsBack (outcome_of_label (linear_label symbology L.bars options.now (L.full_data bytes.now))) }
+    ensures bytes { Writes O.took out.old out.new
+        (image_of options.now
+        (outcome_of_label (linear_label symbology L.bars options.now (L.full_data bytes.now)))) result }
+    ensures refusal { IfOk result (λ refusal. refusal ≡ refusal_of
+        (outcome_of_label (linear_label symbology L.bars options.now (L.full_data bytes.now)))) }
+    ensures read { ReadsBack
+        (outcome_of_label (linear_label symbology L.bars options.now (L.full_data bytes.now))) }
 {
     let mut row = Row::new();
     if let Err(fault) = L::encode(bytes, &mut row) {
@@ -71,15 +79,15 @@ fn draw_linear<L: Linear, O: Sink>(
 }
 
 /// Draws a QR symbol.
+#[tactic(auto, unfolding(crate::specs::Label::label_of))]
 fn draw_qr<O: Sink>(options: &Options, bytes: &[u8], out: &mut O) -> Result<Option<Fault>, IoFault>
     requires { bytes.now ≢ [] }
     ensures count { CountsFailure (O.failures out.old) (O.failures out.new) result }
-    ensures bytes { Writes O.took out.old out.new (image_of options.now (outcome_of_label (qr_label options.now bytes.now
-        (chosen_version options.now.min_version options.now.level bytes.now)))) result }
-    ensures refusal { IfOk result (λ refusal. refusal ≡ refusal_of (outcome_of_label (qr_label options.now bytes.now
-        (chosen_version options.now.min_version options.now.level bytes.now)))) }
-    ensures read { ReadsBack (outcome_of_label (qr_label options.now bytes.now
-        (chosen_version options.now.min_version options.now.level bytes.now))) }
+    ensures bytes { Writes O.took out.old out.new
+        (image_of options.now (outcome_of_data options.now Qr bytes.now)) result }
+    ensures refusal { IfOk result (λ refusal. refusal
+        ≡ refusal_of (outcome_of_data options.now Qr bytes.now)) }
+    ensures read { ReadsBack (outcome_of_data options.now Qr bytes.now) }
 {
     match choose(options, bytes) {
         Ok(plan) => {
@@ -98,7 +106,8 @@ fn matrix_of(options: &Options, plan: &Plan, bytes: &[u8]) -> Matrix
     requires fits { cost plan.now.version plan.now.segments ≤ capacity plan.now.version plan.now.level }
     requires chosen { plan.now.segments ≡ chosen_segments plan.now.version bytes.now }
     requires level { plan.now.level ≡ options.now.level }
-    ensures modules { symbol_picture result ≡ qr_modules options.now plan.now.version (qr_codewords options.now bytes.now plan.now.version) }
+    ensures modules { symbol_picture result ≡ qr_modules options.now plan.now.version
+        (qr_codewords options.now bytes.now plan.now.version) }
     ensures side { result.side ≤ 57 }
     ensures read { IsReadable (record { symbology = Qr; full = bytes.now; modules = symbol_picture result }) }
 {
@@ -116,7 +125,8 @@ fn write_picture<G: Grid + Drop, O: Sink>(
     requires width { (G.picture grid).width ≤ 1815 }
     requires height { (G.picture grid).height ≤ 500 }
     ensures count { CountsFailure (O.failures out.old) (O.failures out.new) result }
-    ensures bytes { Writes O.took out.old out.new (text_of options.now.format (scaled (G.picture grid) options.now.scale)) result }
+    ensures bytes { Writes O.took out.old out.new 
+        (text_of options.now.format (scaled (G.picture grid) options.now.scale)) result }
 {
     let picture = Scaled::new(grid, usize::from(options.scale()));
     write_text(options.format(), &picture, out)

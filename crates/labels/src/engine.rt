@@ -6,14 +6,19 @@ use crate::filter::Filter;
 use crate::status::{RunFault, Status};
 use labelcore::{Options, Sink, Source};
 
-/// Reads the source to its end, and writes what its lines come to.
+/// Reads the source to its end, at most 4,096 bytes a read, and writes what its lines come to: images to `out`, messages to
+/// `err`. The answer says whether any line was refused.
+///
+/// `Read`, `WriteOut` and `WriteMessages` say which device failed; `Spent` is never answered. After `Read` every ended line's
+/// text is whole, the open line is not drawn and nothing is flushed. After 2^64 - 1 reads that gave bytes `Read` is answered too.
 pub fn run<S: Source, O: Sink, E: Sink>(
     options: Options,
     source: &mut S,
     out: &mut O,
     err: &mut E,
 ) -> Result<Status, RunFault>
-    ensures whole { IfOk result (RunsWhole options (S.gave source.old source.new) (O.took out.old out.new) (E.took err.old err.new)) }
+    ensures whole { IfOk result (RunsWhole options (S.gave source.old source.new)
+        (O.took out.old out.new) (E.took err.old err.new)) }
     ensures ended { OnOk result (S.at_end source.new ≡ true) }
     ensures flushed { OnOk result ((O.is_flushed out.new ≡ true) × (E.is_flushed err.new ≡ true)) }
     ensures no_failure { OnOk result ((S.failures source.new ≡ S.failures source.old)

@@ -26,7 +26,13 @@ impl Model for Filter {
 
     ghost Value = { FilterState };
 
-    ghost view = { λ f. record { options = f.options; line = f.line; line_count = f.line_count; is_refused = f.is_refused; is_spent = f.is_spent } };
+    ghost view = { λ f. record {
+      options = f.options;
+      line = f.line;
+      line_count = f.line_count;
+      is_refused = f.is_refused;
+      is_spent = f.is_spent;
+    } };
 }
 
 impl Filter {
@@ -50,13 +56,17 @@ impl Filter {
         out: &mut O,
         err: &mut E,
     ) -> Result<(), RunFault>
-        ensures stands { (options : OptionValues) (text : List ℕ) → StandsAt options self.old text → OnOk result (StandsAt options self.new (text ++ byte ∷ [])) }
-        ensures took { (options : OptionValues) (text : List ℕ) → StandsAt options self.old text → OnOk result
-            (TookPiece options (O.took out.old out.new) (E.took err.old err.new) text (byte ∷ [])) }
-        ensures stops { (options : OptionValues) (text : List ℕ) → StandsAt options self.old text → IfErr result
-            (StopsInPiece options (O.took out.old out.new) (E.took err.old err.new) text (byte ∷ [])) }
+        ensures stands { (options : OptionValues) (text : List ℕ) → StandsAt options self.old text
+            → OnOk result (StandsAt options self.new (text ++ byte ∷ [])) }
+        ensures took { (options : OptionValues) (text : List ℕ) → StandsAt options self.old text
+            → OnOk result (TookPiece options
+            (O.took out.old out.new) (E.took err.old err.new) text (byte ∷ [])) }
+        ensures stops { (options : OptionValues) (text : List ℕ) → StandsAt options self.old text
+            → IfErr result (StopsInPiece options
+            (O.took out.old out.new) (E.took err.old err.new) text (byte ∷ [])) }
         ensures spent { OnErr result (self.new.is_spent ≡ true) }
-        ensures counts { CountsFault (O.failures out.old) (O.failures out.new) (E.failures err.old) (E.failures err.new) result }
+        ensures counts { CountsFault (O.failures out.old) (O.failures out.new)
+            (E.failures err.old) (E.failures err.new) result }
     {
         if byte != b'\n' {
             self.line.push(byte);
@@ -77,19 +87,26 @@ impl Filter {
     }
 
     /// Takes the next piece of the input: writes what the lines come to that it ends, and holds the rest.
+    ///
+    /// `WriteOut` and `WriteMessages` say which sink failed, in one of these lines: earlier lines' texts are whole, and
+    /// its own is a beginning. From then on the filter is spent, and every call answers `Spent` and calls no sink.
     pub fn feed<O: Sink, E: Sink>(
         &mut self,
         piece: &[u8],
         out: &mut O,
         err: &mut E,
     ) -> Result<(), RunFault>
-        ensures stands { (options : OptionValues) (text : List ℕ) → StandsAt options self.old text → OnOk result (StandsAt options self.new (text ++ piece.now)) }
-        ensures took { (options : OptionValues) (text : List ℕ) → StandsAt options self.old text → OnOk result
-            (TookPiece options (O.took out.old out.new) (E.took err.old err.new) text piece.now) }
-        ensures stops { (options : OptionValues) (text : List ℕ) → StandsAt options self.old text → IfErr result
-            (StopsInPiece options (O.took out.old out.new) (E.took err.old err.new) text piece.now) }
+        ensures stands { (options : OptionValues) (text : List ℕ) → StandsAt options self.old text
+            → OnOk result (StandsAt options self.new (text ++ piece.now)) }
+        ensures took { (options : OptionValues) (text : List ℕ) → StandsAt options self.old text
+            → OnOk result (TookPiece options
+            (O.took out.old out.new) (E.took err.old err.new) text piece.now) }
+        ensures stops { (options : OptionValues) (text : List ℕ) → StandsAt options self.old text
+            → IfErr result (StopsInPiece options
+            (O.took out.old out.new) (E.took err.old err.new) text piece.now) }
         ensures counts { self.old.is_spent ≡ false
-            → CountsFault (O.failures out.old) (O.failures out.new) (E.failures err.old) (E.failures err.new) result }
+            → CountsFault (O.failures out.old) (O.failures out.new)
+            (E.failures err.old) (E.failures err.new) result }
         ensures spent { OnErr result (self.new.is_spent ≡ true) }
         ensures spent_before { self.old.is_spent ≡ true → (result ≡ Err RunFault.Spent) × (self.new ≡ self.old)
             × (out.new ≡ out.old) × (err.new ≡ err.old) }
@@ -103,16 +120,23 @@ impl Filter {
         Ok(())
     }
 
-    /// Ends the input: the last line is written, if no LF ends it, and then both sinks are flushed.
+    /// Ends the input: the last line is written, if no LF ends it, and then both sinks are flushed, the images first.
+    ///
+    /// `WriteOut` and `WriteMessages` say which sink failed, in that line or in its flush.
     pub fn finish<O: Sink, E: Sink>(self, out: &mut O, err: &mut E) -> Result<Status, RunFault>
-        ensures status { (options : OptionValues) (text : List ℕ) → StandsAt options self text → IfOk result (λ status. status ≡ status_of options (lines text)) }
-        ensures took { (options : OptionValues) (text : List ℕ) → StandsAt options self text → OnOk result
-            (TookLines options (O.took out.old out.new) (E.took err.old err.new) (length (ended_lines text)) (unless_empty (open_line text))) }
+        ensures status { (options : OptionValues) (text : List ℕ) → StandsAt options self text
+            → IfOk result (λ status. status ≡ status_of options (lines text)) }
+        ensures took { (options : OptionValues) (text : List ℕ) → StandsAt options self text
+            → OnOk result (TookLines options
+            (O.took out.old out.new) (E.took err.old err.new)
+            (length (ended_lines text)) (unless_empty (open_line text))) }
         ensures flushed { OnOk result ((O.is_flushed out.new ≡ true) × (E.is_flushed err.new ≡ true)) }
-        ensures stops { (options : OptionValues) (text : List ℕ) → StandsAt options self text → IfErr result
-            (StopsInFinish options (O.took out.old out.new) (E.took err.old err.new) text) }
+        ensures stops { (options : OptionValues) (text : List ℕ) → StandsAt options self text
+            → IfErr result (StopsInFinish options
+            (O.took out.old out.new) (E.took err.old err.new) text) }
         ensures counts { self.is_spent ≡ false
-            → CountsFault (O.failures out.old) (O.failures out.new) (E.failures err.old) (E.failures err.new) result }
+            → CountsFault (O.failures out.old) (O.failures out.new)
+            (E.failures err.old) (E.failures err.new) result }
         ensures spent { self.is_spent ≡ true → (result ≡ Err RunFault.Spent)
             × (out.new ≡ out.old) × (err.new ≡ err.old) }
     {
@@ -130,12 +154,18 @@ impl Filter {
 
     /// Writes what the last line comes to, if no LF ends it, and says whether any line is refused.
     fn finish_open_line<O: Sink, E: Sink>(&self, out: &mut O, err: &mut E) -> Result<bool, RunFault>
-        ensures refused { (options : OptionValues) (text : List ℕ) → StandsAt options self.now text → IfOk result (λ r. r ≡ any_refused options (lines text)) }
-        ensures took { (options : OptionValues) (text : List ℕ) → StandsAt options self.now text → OnOk result
-            (TookLines options (O.took out.old out.new) (E.took err.old err.new) (length (ended_lines text)) (unless_empty (open_line text))) }
-        ensures stops { (options : OptionValues) (text : List ℕ) → StandsAt options self.now text → IfErr result
-            (StopsInLine options (O.took out.old out.new) (E.took err.old err.new) (length (ended_lines text)) (unless_empty (open_line text))) }
-        ensures counts { CountsFault (O.failures out.old) (O.failures out.new) (E.failures err.old) (E.failures err.new) result }
+        ensures refused { (options : OptionValues) (text : List ℕ) → StandsAt options self.now text
+            → IfOk result (λ r. r ≡ any_refused options (lines text)) }
+        ensures took { (options : OptionValues) (text : List ℕ) → StandsAt options self.now text
+            → OnOk result (TookLines options
+            (O.took out.old out.new) (E.took err.old err.new)
+            (length (ended_lines text)) (unless_empty (open_line text))) }
+        ensures stops { (options : OptionValues) (text : List ℕ) → StandsAt options self.now text
+            → IfErr result (StopsInLine options
+            (O.took out.old out.new) (E.took err.old err.new)
+            (length (ended_lines text)) (unless_empty (open_line text))) }
+        ensures counts { CountsFault (O.failures out.old) (O.failures out.new)
+            (E.failures err.old) (E.failures err.new) result }
     {
         if self.line.is_empty() {
             return Ok(self.is_refused);
@@ -156,7 +186,8 @@ fn flush_both<O: Sink, E: Sink>(out: &mut O, err: &mut E) -> Result<(), RunFault
     ensures out_takes_none { O.took out.old out.new [] }
     ensures err_takes_none { E.took err.old err.new [] }
     ensures flushed { OnOk result ((O.is_flushed out.new ≡ true) × (E.is_flushed err.new ≡ true)) }
-    ensures counts { CountsFault (O.failures out.old) (O.failures out.new) (E.failures err.old) (E.failures err.new) result }
+    ensures counts { CountsFault (O.failures out.old) (O.failures out.new)
+            (E.failures err.old) (E.failures err.new) result }
 {
     if out.flush().is_err() {
         return Err(RunFault::WriteOut);

@@ -5,8 +5,7 @@ ghost use Rattle.labelcore.specs.ItemView.{item_seen};
 ghost use Rattle.labelcore.specs.LineItem.{HasData, KeepsRun};
 ghost use Rattle.labelcore.specs.Lines.{held};
 ghost use Rattle.labelcore.specs.Message.{message};
-ghost use Rattle.labels.specs.Label.{label_of};
-ghost use Rattle.labels.specs.Output.{outcome, outcome_of_item, outcome_of_label};
+ghost use Rattle.labels.specs.Output.{outcome, outcome_of_data, outcome_of_item};
 ghost use Rattle.labels.specs.Line.{Begins, EndsLine, FailsInLine, CountsFault};
 
 use crate::draw::draw;
@@ -22,10 +21,13 @@ pub fn finish_line<O: Sink, E: Sink>(
     err: &mut E,
 ) -> Result<bool, RunFault>
     ensures ends { (text : List ℕ) → line.now ≡ held text → IfOk result
-        (EndsLine options.now (O.took out.old out.new) (E.took err.old err.new) number (outcome options.now text)) }
+        (EndsLine options.now (O.took out.old out.new) (E.took err.old err.new) number
+        (outcome options.now text)) }
     ensures fails { (text : List ℕ) → line.now ≡ held text → IfErr result
-        (FailsInLine options.now (O.took out.old out.new) (E.took err.old err.new) number (outcome options.now text)) }
-    ensures counts { CountsFault (O.failures out.old) (O.failures out.new) (E.failures err.old) (E.failures err.new) result }
+        (FailsInLine options.now (O.took out.old out.new) (E.took err.old err.new) number
+        (outcome options.now text)) }
+    ensures counts { CountsFault (O.failures out.old) (O.failures out.new)
+        (E.failures err.old) (E.failures err.new) result }
 {
     let mut scratch = Scratch::new();
     let item = parse(options, line, &mut scratch);
@@ -42,9 +44,14 @@ fn finish_item<O: Sink, E: Sink>(
 ) -> Result<bool, RunFault>
     requires some_data { HasData (item_seen item) }
     requires form { KeepsRun options.now (item_seen item) }
-    ensures ends { IfOk result (EndsLine options.now (O.took out.old out.new) (E.took err.old err.new) number (outcome_of_item (item_seen item.entry))) }
-    ensures fails { IfErr result (FailsInLine options.now (O.took out.old out.new) (E.took err.old err.new) number (outcome_of_item (item_seen item.entry))) }
-    ensures counts { CountsFault (O.failures out.old) (O.failures out.new) (E.failures err.old) (E.failures err.new) result }
+    ensures ends { IfOk result (EndsLine options.now
+        (O.took out.old out.new) (E.took err.old err.new) number
+        (outcome_of_item (item_seen item.entry))) }
+    ensures fails { IfErr result (FailsInLine options.now
+        (O.took out.old out.new) (E.took err.old err.new) number
+        (outcome_of_item (item_seen item.entry))) }
+    ensures counts { CountsFault (O.failures out.old) (O.failures out.new)
+        (E.failures err.old) (E.failures err.new) result }
 {
     match item {
         Item::Skip => Ok(false),
@@ -65,9 +72,14 @@ fn draw_or_refuse<O: Sink, E: Sink>(
     err: &mut E,
 ) -> Result<bool, RunFault>
     requires { bytes.now ≢ [] }
-    ensures ends { IfOk result (EndsLine options.now (O.took out.old out.new) (E.took err.old err.new) number (outcome_of_label (label_of options.now symbology bytes.now))) }
-    ensures fails { IfErr result (FailsInLine options.now (O.took out.old out.new) (E.took err.old err.new) number (outcome_of_label (label_of options.now symbology bytes.now))) }
-    ensures counts { CountsFault (O.failures out.old) (O.failures out.new) (E.failures err.old) (E.failures err.new) result }
+    ensures ends { IfOk result (EndsLine options.now
+        (O.took out.old out.new) (E.took err.old err.new) number
+        (outcome_of_data options.now symbology bytes.now)) }
+    ensures fails { IfErr result (FailsInLine options.now
+        (O.took out.old out.new) (E.took err.old err.new) number
+        (outcome_of_data options.now symbology bytes.now)) }
+    ensures counts { CountsFault (O.failures out.old) (O.failures out.new)
+        (E.failures err.old) (E.failures err.new) result }
 {
     match draw(options, symbology, bytes, out) {
         Ok(None) => Ok(false),
@@ -80,8 +92,10 @@ fn draw_or_refuse<O: Sink, E: Sink>(
 fn refuse<E: Sink>(number: u64, fault: &Fault, err: &mut E) -> Result<bool, RunFault>
     ensures refused { IfOk result (λ r. r ≡ true) }
     ensures message { OnOk result (E.took err.old err.new (message number fault.now)) }
-    ensures fails { IfErr result (λ f. (f ≡ RunFault.WriteMessages) × Begins (E.took err.old err.new) (message number fault.now)) }
-    ensures counts { MatchResult result (λ _. E.failures err.new ≡ E.failures err.old) (λ _. Rises (E.failures err.old) (E.failures err.new)) }
+    ensures fails { IfErr result (λ f. (f ≡ RunFault.WriteMessages)
+        × Begins (E.took err.old err.new) (message number fault.now)) }
+    ensures counts { MatchResult result (λ _. E.failures err.new ≡ E.failures err.old)
+        (λ _. Rises (E.failures err.old) (E.failures err.new)) }
 {
     match write_fault(number, fault, err) {
         Ok(()) => Ok(true),
