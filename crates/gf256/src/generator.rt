@@ -20,7 +20,8 @@ impl Model for Generator {
 
     ghost view = { λ g. g.count };
 
-    ghost invariant = { λ g. (1 ≤ g.count) × (g.count ≤ 30) × (g.coefficients ≡ generator g.count ++ zeros (30 - g.count)) };
+    ghost invariant = { λ g.
+        (1 ≤ g.count) × (g.count ≤ 30) × (g.coefficients ≡ generator g.count ++ zeros (30 - g.count)) };
 }
 
 impl Generator {
@@ -41,19 +42,19 @@ impl Generator {
         }
     }
 
-    /// Writes the parity codewords of a block into `out`, which has room for exactly these: the remainder of the data
-    /// codewords times x^k by the generator polynomial, the highest coefficient first. What `out` held does not count.
-    pub fn parity(&self, data: &[u8], out: &mut [u8])
+    /// Writes the parity codewords of a block into `out`, which has room for exactly these: the remainder of the block
+    /// times x^k by the generator polynomial, the highest coefficient first. What `out` held does not count.
+    pub fn parity(&self, block: &[u8], out: &mut [u8])
         requires { length out.old ≡ self.now }
-        ensures value { out.new ≡ parity_of self.now «data».now }
+        ensures value { out.new ≡ parity_of self.now block.now }
 
         // There is one remainder, and it makes a codeword.
-        ensures remainder { IsRemainder self.now «data».now out.new }
-        ensures only { (parity : List ℕ) → IsRemainder self.now «data».now parity → parity ≡ out.new }
-        ensures codeword { HasRoots self.now («data».now ++ out.new) }
+        ensures remainder { IsRemainder self.now block.now out.new }
+        ensures only { (parity : List ℕ) → IsRemainder self.now block.now parity → parity ≡ out.new }
+        ensures codeword { HasRoots self.now (block.now ++ out.new) }
     {
         out.fill(0);
-        for &word in data {
+        for &word in block {
             shift(&self.coefficients[1..self.count + 1], out, word);
         }
     }

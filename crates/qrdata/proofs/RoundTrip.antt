@@ -13,7 +13,7 @@ use Rattle.gf256.specs.Parity.{parity_of, HasRoots, IsRemainder, ParityIsRemaind
 use Rattle.labelcore.specs.declared.options.Level.{Level}
 use Rattle.qrdata.specs.declared.mode.Segment.{Segment}
 use Rattle.qrdata.specs.Bits.{number_of, codewords_of}
-use Rattle.qrdata.specs.Codewords.{aligned, data_of, filled, interleaved, pad_codewords, padded, split_by, symbol_codewords, terminated}
+use Rattle.qrdata.specs.Codewords.{aligned, data_of, filled, final_message, interleaved, pad_codewords, padded, split_by, symbol_codewords, terminated}
 use Rattle.qrdata.specs.Reading.{data_in, dealt, is_codeword_block, joined_pairs, segments_at}
 use Rattle.qrdata.specs.Segments.{IsSegmentation, cost, segments_bits}
 use Rattle.qrdata.specs.Versions.{block_count, block_lengths, data_codewords, parity_length, total_codewords}
@@ -90,7 +90,7 @@ lengths_hold version level h = (sum-even_lengths (block_count version level) (da
 pub data_in-symbol_codewords : (version : ℕ) (level : Level) (segments : List Segment) (bytes : List ℕ)
     → 1 ≤ version → version ≤ 10 → AreBytes bytes → IsSegmentation version segments bytes → cost version segments ≤ 8 * data_codewords version level
     → ParityIsRemainder → RemaindersAreCodewords → data_in version level (symbol_codewords version level segments bytes) ≡ Some bytes
-unfolding data_in symbol_codewords data_of
+unfolding data_in symbol_codewords final_message data_of
 data_in-symbol_codewords version level segments bytes low high w cut fits remainder codeword =
     let size = data_codewords version level in
     let k = parity_length version level in

@@ -1,5 +1,5 @@
--- The segments that data gets, and the version (ISO/IEC 18004, 7.4.1 and annex J, which leave the choice to the encoder).
-use Rattle.std.specs.Prelude.{ℕ, zero, suc, ◌-◌, ◌^◌, ◌<◌, List, [], ◌∷◌, map, length, take, drop, nat_lt, nat_le, ◌&&◌, Bool, Option, filter}
+-- The segments that data gets, and its version (ISO/IEC 18004, 7.4.1 and annex J; the choice is left to the encoder).
+use Rattle.std.specs.Prelude.{ℕ, zero, suc, ◌-◌, ◌^◌, ◌<◌, ◌≤◌, List, [], ◌∷◌, map, length, take, drop, nat_lt, nat_le, ◌&&◌, Bool, Option, filter}
 use Rattle.std.specs.List.{best_of, find, flat_map, list_all, range_with_len}
 use Rattle.labelcore.specs.declared.options.Level.{Level}
 use Rattle.qrdata.specs.declared.mode.Segment.{Segment}
@@ -17,9 +17,10 @@ candidates longest = flat_map (λ len. map (λ mode. segment_of mode len) modes)
 
 -- whether a segment's mode has its bytes, and its character count holds its length
 abbrev pub is_first : ℕ → List ℕ → Segment → Bool
-is_first version bytes s = list_all (has_character s.mode) (take s.len bytes) && nat_lt s.len (2 ^ count_width version s.mode)
+is_first version bytes s =
+    list_all (has_character s.mode) (take s.len bytes) && nat_lt s.len (2 ^ count_width version s.mode)
 
--- the segments that the bytes may begin with: the longest first, and among these numeric before alphanumeric before byte
+-- the segments that the bytes may begin with, the longest first, and of one length by the order of the modes
 unfoldable pub first_segments : ℕ → List ℕ → List Segment
 first_segments version bytes = filter (is_first version bytes) (candidates (length bytes))
 
@@ -28,10 +29,11 @@ abbrev pub cheapest : ℕ → List (List Segment) → List Segment
 cheapest version [] = []
 cheapest version (segments ∷ lists) = best_of (λ s t. nat_lt (cost version s) (cost version t)) segments lists
 
--- Of the lists of a first segment and the best list of the rest, the first of least cost. The number is the length at most.
+-- Of the lists of a first segment and the best segments of the rest, the first of least cost. There are n bytes at most.
 unfoldable pub best_within : ℕ → ℕ → List ℕ → List Segment
 best_within version zero bytes = []
-best_within version (suc n) bytes = cheapest version (map (λ s. s ∷ best_within version n (drop s.len bytes)) (first_segments version bytes))
+best_within version (suc n) bytes =
+    cheapest version (map (λ s. s ∷ best_within version n (drop s.len bytes)) (first_segments version bytes))
 
 -- the segments that the bytes get in a version
 unfoldable pub chosen_segments : ℕ → List ℕ → List Segment
@@ -40,8 +42,15 @@ chosen_segments version bytes = best_within version (length bytes) bytes
 -- the least version from a lowest one to 10 in which the segments of the bytes fit the data bits
 unfoldable pub chosen_version : (lowest : ℕ) → Level → List ℕ → Option ℕ
 chosen_version lowest level bytes =
-    find (λ version. nat_le (cost version (chosen_segments version bytes)) (capacity version level)) (range_with_len lowest (11 - lowest))
+    find (λ version. nat_le (cost version (chosen_segments version bytes)) (capacity version level))
+    (range_with_len lowest (11 - lowest))
+
+-- no list of segments of the bytes, of any number and cut, costs less in a version
+abbrev pub IsFewest : ℕ → List ℕ → List Segment → Type 0
+IsFewest version bytes segments =
+    (others : List Segment) → IsSegmentation version others bytes → cost version segments ≤ cost version others
 
 -- no list of segments of the bytes fits in a version
 abbrev pub NoneFits : ℕ → Level → List ℕ → Type 0
-NoneFits version level bytes = (segments : List Segment) → IsSegmentation version segments bytes → capacity version level < cost version segments
+NoneFits version level bytes =
+    (segments : List Segment) → IsSegmentation version segments bytes → capacity version level < cost version segments

@@ -15,7 +15,7 @@ SameWidths v w = (mode : Mode) → count_width v mode ≡ count_width w mode
 abbrev pub DoNotFit : ℕ → Level → List ℕ → Type 0
 DoNotFit version level bytes = capacity version level < cost version (chosen_segments version bytes)
 
--- the plan has the least version from a lowest one to a highest one in which the best segments fit, and these segments
+-- the plan has the least version in a range in which the best segments of the bytes fit, and it has these segments
 pub record IsLeastPlan (lowest highest : ℕ) (level : Level) (bytes : List ℕ) (plan : PlanView) : Type 0 where
   pub from : lowest ≤ plan.version
   pub to : plan.version ≤ highest
@@ -24,6 +24,6 @@ pub record IsLeastPlan (lowest highest : ℕ) (level : Level) (bytes : List ℕ)
   pub fits : cost plan.version (chosen_segments plan.version bytes) ≤ capacity plan.version level
   pub least : (v : ℕ) → lowest ≤ v → v < plan.version → DoNotFit v level bytes
 
--- in no version from a lowest one to a highest one do the best segments fit
+-- in no version of a range do the best segments of the bytes fit
 abbrev pub NoPlan : (lowest highest : ℕ) → Level → List ℕ → Type 0
 NoPlan lowest highest level bytes = (v : ℕ) → lowest ≤ v → v ≤ highest → DoNotFit v level bytes

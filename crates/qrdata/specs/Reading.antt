@@ -20,7 +20,8 @@ None >>= f = None
 -- the number in the first bits, if it is below a limit, and the bits after it
 unfoldable pub number_at : ℕ → ℕ → List Bool → Option (ℕ × List Bool)
 number_at limit width bits =
-    if nat_lt (length bits) width || nat_le limit (number_of (take width bits)) then None else Some (number_of (take width bits), drop width bits)
+    if nat_lt (length bits) width || nat_le limit (number_of (take width bits)) then None
+    else Some (number_of (take width bits), drop width bits)
 
 -- so many digits, and the bits after them
 unfoldable pub digits_at : ℕ → List Bool → Option (List ℕ × List Bool)
@@ -107,7 +108,8 @@ joined_pairs (x ∷ xs) (y ∷ ys) = (x ++ y) ∷ joined_pairs xs ys
 unfoldable pub dealt_within : ℕ → List ℕ → List ℕ → List (List ℕ)
 dealt_within zero rooms words = map (λ room. []) rooms
 dealt_within (suc rounds) rooms words =
-    let round = dealt_round rooms words in joined_pairs round.0 (dealt_within rounds (map (λ room. room - 1) rooms) round.1)
+    let round = dealt_round rooms words in
+    joined_pairs round.0 (dealt_within rounds (map (λ room. room - 1) rooms) round.1)
 
 -- the words dealt in turn to blocks of these lengths
 unfoldable pub dealt : List ℕ → List ℕ → List (List ℕ)
@@ -115,14 +117,17 @@ dealt lengths words = dealt_within (largest lengths) lengths words
 
 -- whether a block's polynomial is 0 at alpha^0 to alpha^(k-1)
 abbrev pub is_codeword_block : ℕ → List ℕ → Bool
-is_codeword_block k block = list_all (λ i. evaluate block (field_power alpha i) == 0) (range_with_len 0 k)
+is_codeword_block k block =
+    list_all (λ i. evaluate block (field_power alpha i) == 0) (range_with_len 0 k)
 
 -- The data that the codewords of a symbol hold: dealt to blocks, each block a codeword of its parity, and the
 -- data codewords joined and read as segments.
 unfoldable pub data_in : ℕ → Level → List ℕ → Option (List ℕ)
 data_in version level words =
     let size = data_codewords version level in
+    let parity = parity_length version level in
     let blocks = dealt (block_lengths version level) (take size words) in
-    let parities = dealt (replicate (block_count version level) (parity_length version level)) (drop size words) in
-    if length words == total_codewords version && list_all (is_codeword_block (parity_length version level)) (joined_pairs blocks parities)
+    let parities = dealt (replicate (block_count version level) parity) (drop size words) in
+    if length words == total_codewords version
+    && list_all (is_codeword_block parity) (joined_pairs blocks parities)
     then segments_at version (8 * size) (byte_bits (flat_map (λ block. block) blocks)) else None

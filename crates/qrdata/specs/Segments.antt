@@ -16,6 +16,7 @@ alphanumeric_characters = codes "0123456789ABCDEFGHIJKLMNOPQRSTUVWXYZ $%*+-./:"
 unfoldable pub alphanumeric_value : ℕ → ℕ
 alphanumeric_value c = position_or_len (λ x. x == c) alphanumeric_characters
 
+-- the value of a digit
 abbrev pub digit_value : ℕ → ℕ
 digit_value c = c - 48
 
@@ -23,6 +24,7 @@ digit_value c = c - 48
 abbrev pub modes : List Mode
 modes = Numeric ∷ Alphanumeric ∷ Byte ∷ []
 
+-- a segment of so many bytes
 abbrev pub segment_of : Mode → ℕ → Segment
 segment_of mode len = record { mode = mode; len = len }
 
@@ -49,19 +51,22 @@ unfoldable pub numeric_bits : List ℕ → List Bool
 numeric_bits [] = []
 numeric_bits (a ∷ []) = bits_of 4 (digit_value a)
 numeric_bits (a ∷ b ∷ []) = bits_of 7 (10 * digit_value a + digit_value b)
-numeric_bits (a ∷ b ∷ c ∷ rest) = bits_of 10 (100 * digit_value a + 10 * digit_value b + digit_value c) ++ numeric_bits rest
+numeric_bits (a ∷ b ∷ c ∷ rest) =
+    bits_of 10 (100 * digit_value a + 10 * digit_value b + digit_value c) ++ numeric_bits rest
 
 -- two characters in eleven bits, one that is left in six
 unfoldable pub alphanumeric_bits : List ℕ → List Bool
 alphanumeric_bits [] = []
 alphanumeric_bits (a ∷ []) = bits_of 6 (alphanumeric_value a)
-alphanumeric_bits (a ∷ b ∷ rest) = bits_of 11 (45 * alphanumeric_value a + alphanumeric_value b) ++ alphanumeric_bits rest
+alphanumeric_bits (a ∷ b ∷ rest) =
+    bits_of 11 (45 * alphanumeric_value a + alphanumeric_value b) ++ alphanumeric_bits rest
 
 -- each byte in eight bits
 unfoldable pub byte_bits : List ℕ → List Bool
 byte_bits [] = []
 byte_bits (byte ∷ bytes) = bits_of 8 byte ++ byte_bits bytes
 
+-- the payload of a segment of these bytes
 abbrev pub payload_bits : Mode → List ℕ → List Bool
 payload_bits Numeric bytes = numeric_bits bytes
 payload_bits Alphanumeric bytes = alphanumeric_bits bytes
@@ -69,24 +74,27 @@ payload_bits Byte bytes = byte_bits bytes
 
 -- mode, character count and payload
 abbrev pub segment_bits : ℕ → Mode → List ℕ → List Bool
-segment_bits version mode bytes = bits_of 4 (mode_indicator mode) ++ bits_of (count_width version mode) (length bytes) ++ payload_bits mode bytes
+segment_bits version mode bytes =
+    bits_of 4 (mode_indicator mode) ++ bits_of (count_width version mode) (length bytes) ++ payload_bits mode bytes
 
 -- the segments of the data, joined
 unfoldable pub segments_bits : ℕ → List Segment → List ℕ → List Bool
 segments_bits version [] bytes = []
-segments_bits version (s ∷ segments) bytes = segment_bits version s.mode (take s.len bytes) ++ segments_bits version segments (drop s.len bytes)
+segments_bits version (s ∷ segments) bytes =
+    segment_bits version s.mode (take s.len bytes) ++ segments_bits version segments (drop s.len bytes)
 
--- A segment of the first bytes: it is not empty, its mode has all its bytes, and its character count holds its length.
+-- A segment of the first bytes: it is not empty, its mode has its bytes, and its character count holds its length.
 pub record IsFirstSegment (version : ℕ) (bytes : List ℕ) (s : Segment) : Type 0 where
   pub some : 0 < s.len
   pub inside : s.len ≤ length bytes
   pub characters : IsTrue (list_all (has_character s.mode) (take s.len bytes))
   pub counted : s.len < 2 ^ count_width version s.mode
 
--- The segments cut the data: each is a segment of the first of the bytes that those before it leave, and nothing is left.
+-- The segments cut the bytes: each is a segment of the first bytes that those before it leave, and nothing is left.
 abbrev pub IsSegmentation : ℕ → List Segment → List ℕ → Type 0
 IsSegmentation version [] bytes = bytes ≡ []
-IsSegmentation version (s ∷ segments) bytes = IsFirstSegment version bytes s × IsSegmentation version segments (drop s.len bytes)
+IsSegmentation version (s ∷ segments) bytes =
+    IsFirstSegment version bytes s × IsSegmentation version segments (drop s.len bytes)
 
 -- the bits of a payload of so many bytes
 abbrev pub payload_length : Mode → ℕ → ℕ

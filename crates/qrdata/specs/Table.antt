@@ -21,13 +21,17 @@ next_choice version mode len run after so_far =
 
 -- the first segment of the best list of some bytes, and the bits of that list
 abbrev pub IsChoice : (version : ℕ) (bytes : List ℕ) → Choice → Type 0
-IsChoice version bytes choice = (choice.segment ∷ chosen_segments version (drop choice.segment.len bytes) ≡ chosen_segments version bytes) × (choice.bits ≡ cost version (chosen_segments version bytes))
+IsChoice version bytes choice =
+    (choice.segment ∷ chosen_segments version (drop choice.segment.len bytes) ≡ chosen_segments version bytes)
+    × (choice.bits ≡ cost version (chosen_segments version bytes))
 
 -- from a place on the table holds the bits of the best list of each rest
 abbrev pub HasCosts : (version : ℕ) (bytes : List ℕ) (from : ℕ) → List ℕ → Type 0
-HasCosts version bytes from bits = (k : ℕ) → from ≤ k → k ≤ length bytes → slice_index bits k ≡ cost version (chosen_segments version (drop k bytes))
+HasCosts version bytes from bits =
+    (k : ℕ) → from ≤ k → k ≤ length bytes → slice_index bits k ≡ cost version (chosen_segments version (drop k bytes))
 
 -- from a place on the table holds the first segment of the best list of each rest
 abbrev pub HasFirsts : (version : ℕ) (bytes : List ℕ) (from : ℕ) → List Segment → Type 0
-HasFirsts version bytes from firsts = (k : ℕ) → from ≤ k → k < length bytes → (first : Segment) → slice_get firsts k ≡ Some first
+HasFirsts version bytes from firsts =
+    (k : ℕ) → from ≤ k → k < length bytes → (first : Segment) → slice_get firsts k ≡ Some first
     → first ∷ chosen_segments version (drop first.len (drop k bytes)) ≡ chosen_segments version (drop k bytes)

@@ -19,6 +19,7 @@ block_counts M = BLOCKS_M
 block_counts Q = BLOCKS_Q
 block_counts H = BLOCKS_H
 
+-- the blocks of a symbol
 unfoldable pub block_count : ℕ → Level → ℕ
 block_count version level = slice_index (block_counts level) (version - 1)
 
@@ -29,12 +30,14 @@ parity_lengths M = PARITY_M
 parity_lengths Q = PARITY_Q
 parity_lengths H = PARITY_H
 
+-- the parity codewords of each block
 unfoldable pub parity_length : ℕ → Level → ℕ
 parity_length version level = slice_index (parity_lengths level) (version - 1)
 
 -- the data codewords of a symbol
 unfoldable pub data_codewords : ℕ → Level → ℕ
-data_codewords version level = total_codewords version - block_count version level * parity_length version level
+data_codewords version level =
+    total_codewords version - block_count version level * parity_length version level
 
 -- the data bits of a symbol
 abbrev pub capacity : ℕ → Level → ℕ
@@ -42,8 +45,10 @@ capacity version level = 8 * data_codewords version level
 
 -- so many blocks, as even as can be, the short ones first: the data codewords of each
 abbrev pub even_lengths : ℕ → ℕ → List ℕ
-even_lengths blocks words = replicate (blocks - words % blocks) (words / blocks) ++ replicate (words % blocks) (words / blocks + 1)
+even_lengths blocks words =
+    replicate (blocks - words % blocks) (words / blocks) ++ replicate (words % blocks) (words / blocks + 1)
 
 -- the data codewords of each block
 unfoldable pub block_lengths : ℕ → Level → List ℕ
-block_lengths version level = even_lengths (block_count version level) (data_codewords version level)
+block_lengths version level =
+    even_lengths (block_count version level) (data_codewords version level)

@@ -103,7 +103,8 @@ fn push_payload(bits: &mut Bits, mode: Mode, bytes: &[u8])
 /// Writes a segment: its mode indicator, its character count indicator and its payload.
 fn push_segment(bits: &mut Bits, version: Version, mode: Mode, bytes: &[u8])
     requires characters { IsTrue (list_all (has_character mode) bytes.now) }
-    requires room { array_vec_len bits.old + (4 + count_width version.number mode + payload_length mode (length bytes.now)) ≤ 2192 }
+    requires room { array_vec_len bits.old
+        + (4 + count_width version.number mode + payload_length mode (length bytes.now)) ≤ 2192 }
     ensures { bits.new.items ≡ bits.old.items ++ segment_bits version.number mode bytes.now }
 {
     push_number(bits, u32::from(mode.indicator()), 4);

@@ -1,6 +1,6 @@
 //! The choice of a version and of segments.
 ghost use Rattle.labelcore.specs.declared.fault.Fault.TheVariants.{DoesNotFit};
-ghost use Rattle.qrdata.specs.Fewest.{chosen_segments, chosen_version, NoneFits};
+ghost use Rattle.qrdata.specs.Fewest.{chosen_segments, chosen_version, IsFewest, NoneFits};
 ghost use Rattle.qrdata.specs.Segments.{IsSegmentation, cost};
 ghost use Rattle.qrdata.specs.LeastPlan.{IsLeastPlan, NoPlan, SameWidths};
 ghost use Rattle.qrdata.specs.Table.{HasFirsts};
@@ -31,7 +31,11 @@ impl Model for Plan {
 
     ghost Value = { PlanView };
 
-    ghost view = { λ p. record { version = p.version.number; level = p.level; segments = p.segments.items } };
+    ghost view = { λ p. record {
+      version = p.version.number;
+      level = p.level;
+      segments = p.segments.items;
+    } };
 
     ghost invariant = { λ p. p.bits ≡ cost p.version.number p.segments.items };
 }
@@ -66,25 +70,31 @@ impl Plan {
     }
 }
 
-/// Chooses the least version, from that of the options to 10, in which some segments of the data fit, and of all lists
-/// of segments that of the fewest bits in it. The level is that of the options. Empty data has no segments.
+/// Chooses the least version, from that of the options to 10, in which some segments of the data fit the data codewords
+/// of the options' level, and in it the segments of the fewest bits (ISO/IEC 18004, 7.4.1). Of lists of equally few bits it
+/// is that of the longest first segment, then of the mode numeric before alphanumeric before byte, and likewise for the
+/// segments after it. Empty data has no segments.
 ///
-/// Data that fits in none of these versions is the fault [`Fault::DoesNotFit`] with the level.
+/// Data that fits none of these versions is refused by [`Fault::DoesNotFit`] with the level.
 pub fn choose(options: &Options, bytes: &[u8]) -> Result<Plan, Fault>
-    ensures version { IfOk result (λ plan. chosen_version options.now.min_version options.now.level bytes.now ≡ Some plan.version) }
+    ensures version { IfOk result (λ plan.
+        chosen_version options.now.min_version options.now.level bytes.now ≡ Some plan.version) }
     ensures level { IfOk result (λ plan. plan.level ≡ options.now.level) }
     ensures segments { IfOk result (λ plan. plan.segments ≡ chosen_segments plan.version bytes.now) }
     ensures fault { IfErr result (λ fault. fault ≡ DoesNotFit options.now.level) }
-    ensures no_version { IfErr result (λ fault. chosen_version options.now.min_version options.now.level bytes.now ≡ None) }
+    ensures no_version { IfErr result (λ fault.
+        chosen_version options.now.min_version options.now.level bytes.now ≡ None) }
 
     // The segments are segments of the data and fit, and no others cost less.
     ensures cut { IfOk result (λ plan. IsSegmentation plan.version plan.segments bytes.now) }
     ensures fits { IfOk result (λ plan. cost plan.version plan.segments ≤ capacity plan.version plan.level) }
-    ensures fewest { IfOk result (λ plan. (segments : List Segment) → IsSegmentation plan.version segments bytes.now → cost plan.version plan.segments ≤ cost plan.version segments) }
+    ensures fewest { IfOk result (λ plan. IsFewest plan.version bytes.now plan.segments) }
 
     // No segments of the data fit in a lower version, and after a refusal in none.
-    ensures least { IfOk result (λ plan. (v : ℕ) → options.now.min_version ≤ v → v < plan.version → NoneFits v plan.level bytes.now) }
-    ensures nowhere { IfErr result (λ fault. (v : ℕ) → options.now.min_version ≤ v → v ≤ 10 → NoneFits v options.now.level bytes.now) }
+    ensures least { IfOk result (λ plan.
+        (v : ℕ) → options.now.min_version ≤ v → v < plan.version → NoneFits v plan.level bytes.now) }
+    ensures nowhere { IfErr result (λ fault.
+        (v : ℕ) → options.now.min_version ≤ v → v ≤ 10 → NoneFits v options.now.level bytes.now) }
 {
     let level = options.level();
     match plan_from(options.min_version(), level, bytes) {
@@ -145,7 +155,11 @@ fn plan_of(version: Version, level: Level, bytes: &[u8], firsts: &[Segment], bit
     requires firsts { HasFirsts version.number bytes.now 0 firsts.now }
     requires short { length (chosen_segments version.number bytes.now) ≤ 109 }
     requires bits { bits ≡ cost version.number (chosen_segments version.number bytes.now) }
-    ensures { result ≡ record { version = version.number; level = level; segments = chosen_segments version.number bytes.now } }
+    ensures { result ≡ record {
+      version = version.number;
+      level = level;
+      segments = chosen_segments version.number bytes.now;
+    } }
 {
     let mut segments = ArrayVec::new();
     let mut place = 0;

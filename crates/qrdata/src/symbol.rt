@@ -1,7 +1,6 @@
 //! The codewords of a symbol (ISO/IEC 18004, 7.4 to 7.6).
 ghost use Rattle.arrayvec.specs.ArrayVec.{array_vec_len};
-ghost use Rattle.gf256.specs.Parity.{parity_of};
-ghost use Rattle.qrdata.specs.Codewords.{interleaved, blocks_of, data_of, symbol_codewords};
+ghost use Rattle.qrdata.specs.Codewords.{data_of, final_message, symbol_codewords};
 ghost use Rattle.qrdata.specs.Versions.{capacity};
 ghost use Rattle.qrdata.specs.Reading.{data_in};
 ghost use Rattle.qrdata.specs.Segments.{IsSegmentation, cost};
@@ -22,7 +21,8 @@ use labelcore::Level;
 pub fn codewords(plan: &Plan, bytes: &[u8], words: &mut Words)
     requires cut { IsSegmentation plan.now.version plan.now.segments bytes.now }
     requires fits { cost plan.now.version plan.now.segments ≤ capacity plan.now.version plan.now.level }
-    ensures words { words.new.items ≡ symbol_codewords plan.now.version plan.now.level plan.now.segments bytes.now }
+    ensures words { words.new.items
+        ≡ symbol_codewords plan.now.version plan.now.level plan.now.segments bytes.now }
     ensures count { length words.new.items ≡ total_codewords plan.now.version }
 
     // They read back as the bytes: each block is a codeword of its code, and the segments stop where they should.
@@ -57,10 +57,10 @@ fn push_data(
     push_padding(size - bits.len() / 8, message);
 }
 
-/// Writes the blocks of data interleaved, and then their parity codewords interleaved.
+/// Writes the blocks of the data codewords interleaved, and then their parity codewords interleaved.
 fn write_symbol(version: Version, level: Level, message: &[u8], words: &mut Words)
     requires whole { length message.now ≡ data_codewords version.number level }
-    ensures { words.new.items ≡ interleaved (blocks_of version.number level message.now) ++ interleaved (map (parity_of (parity_length version.number level)) (blocks_of version.number level message.now)) }
+    ensures { words.new.items ≡ final_message version.number level message.now }
 {
     gf256::parity_is_sound();
     let count = version.parity(level);

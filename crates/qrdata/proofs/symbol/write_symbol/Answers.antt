@@ -1,5 +1,5 @@
 use Rattle.std.proofs.Common.{◌≡◌, ◌*◌, length, replicate, arith, ap, refl, sym, ◌∙◌}
-use Rattle.qrdata.specs.Codewords.{blocks_of}
+use Rattle.qrdata.specs.Codewords.{final_message, blocks_of}
 use Rattle.qrdata.specs.Versions.{block_lengths, parity_length}
 use Rattle.std.specs.List.{flat_map}
 use Rattle.gf256.specs.Parity.{parity_of}
@@ -56,6 +56,7 @@ interleave-requires-2-clause-room c =
     omega (arith, first, ap length words, blocks.parities, blocks.total)
 
 pub returns : goal.returns
+unfolding final_message
 returns c =
     let k = parity_length c.args.version.number c.args.level in
     let lengths = block_lengths c.args.version.number c.args.level in
