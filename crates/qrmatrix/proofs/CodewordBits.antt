@@ -34,7 +34,8 @@ data_bit_shift w ws i =
     let r : (i + 8) % 8 ≡ i % 8 = omega arith in
     rw (q, r)
 
-first_word : (w : ℕ) (ws : List ℕ) (k m : ℕ) → w < 256 → by_eights (suc k) (map (codeword_bit (w ∷ ws)) (range_with_len 0 (suc (suc (suc (suc (suc (suc (suc (suc m)))))))))) ≡ w ∷ by_eights k (map (codeword_bit ws) (range_with_len 0 m))
+first_word : (w : ℕ) (ws : List ℕ) (k m : ℕ) → w < 256
+    → by_eights (suc k) (map (codeword_bit (w ∷ ws)) (range_with_len 0 (suc (suc (suc (suc (suc (suc (suc (suc m)))))))))) ≡ w ∷ by_eights k (map (codeword_bit ws) (range_with_len 0 m))
 unfolding spelled
 first_word w ws k m h =
     let a = byte w h in

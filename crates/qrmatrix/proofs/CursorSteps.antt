@@ -36,7 +36,8 @@ columns_at : (v s c : ℕ) → s < (side_of v - 1) / 2 → c < 2 → columns_rig
 columns_at v s c ls lc = grind (arith, nat_tests)
 
 -- the key of the module that the cursor is on
-pub key_at : (v s t c : ℕ) → s < (side_of v - 1) / 2 → c < 2 → t < side_of v → key (side_of v) (right_column (side_of v) s - c) (row_of (side_of v) s t) ≡ 2 * side_of v * s + 2 * t + c
+pub key_at : (v s t c : ℕ) → s < (side_of v - 1) / 2 → c < 2 → t < side_of v
+    → key (side_of v) (right_column (side_of v) s - c) (row_of (side_of v) s t) ≡ 2 * side_of v * s + 2 * t + c
 unfolding key
 key_at v s t c ls lc lt =
     let q : (2 * s + c) / 2 ≡ s = omega arith in
@@ -102,7 +103,9 @@ module _ (v : ℕ) (c : Computed v) (words : List ℕ) (old m : List (List Bool)
       }
 
   -- what `place_module` leaves
-  pub step_any : (function n : List (List Bool)) (j : ℕ) → MarksFunctions v function → (value_at function a b ≡ false → (j ≡ i + 1) × WritesAt m n a b (codeword_bit words i)) → (value_at function a b ≡ true → (j ≡ i) × (n ≡ m)) → Placed v words old n j (k + 1)
+  pub step_any : (function n : List (List Bool)) (j : ℕ) → MarksFunctions v function
+      → (value_at function a b ≡ false → (j ≡ i + 1) × WritesAt m n a b (codeword_bit words i)) → (value_at function a b ≡ true → (j ≡ i) × (n ≡ m))
+      → Placed v words old n j (k + 1)
   step_any function n j marks written_if kept_if =
       elim (cases_Bool (is_free v a b)) [
         | inl f ↦
@@ -127,9 +130,12 @@ placed_none v c words m k e =
     }
 
 -- the two modules of a row of a strip
-pub placed_pair : (v : ℕ) → Computed v → (words : List ℕ) (old m n o : List (List Bool)) (i j h s t right y : ℕ) (function : List (List Bool)) → MarksFunctions v function → Placed v words old m i (2 * side_of v * s + 2 * t) → s < (side_of v - 1) / 2 → t < side_of v → right ≡ right_column (side_of v) s → y ≡ row_of (side_of v) s t
+pub placed_pair : (v : ℕ) → Computed v → (words : List ℕ) (old m n o : List (List Bool)) (i j h s t right y : ℕ) (function : List (List Bool))
+    → MarksFunctions v function → Placed v words old m i (2 * side_of v * s + 2 * t) → s < (side_of v - 1) / 2 → t < side_of v
+    → right ≡ right_column (side_of v) s → y ≡ row_of (side_of v) s t
     → (value_at function right y ≡ false → (j ≡ i + 1) × WritesAt m n right y (codeword_bit words i)) → (value_at function right y ≡ true → (j ≡ i) × (n ≡ m))
-    → (value_at function (right - 1) y ≡ false → (h ≡ j + 1) × WritesAt n o (right - 1) y (codeword_bit words j)) → (value_at function (right - 1) y ≡ true → (h ≡ j) × (o ≡ n))
+    → (value_at function (right - 1) y ≡ false → (h ≡ j + 1) × WritesAt n o (right - 1) y (codeword_bit words j))
+    → (value_at function (right - 1) y ≡ true → (h ≡ j) × (o ≡ n))
     → Placed v words old o h (2 * side_of v * s + 2 * (t + 1))
 placed_pair v c words old m n o i j h s t right y function marks p ls lt er ey w0 k0 w1 k1 =
     let c0 = column_in v s 0 ls (omega arith) in

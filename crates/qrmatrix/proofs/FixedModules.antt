@@ -23,7 +23,8 @@ pub some_fixed : (v : ℕ) (level : Level) (mask x y : ℕ) → is_some (fixed v
 unfolding fixed is_free
 some_fixed v level mask x y = some_role v level mask (role v x y)
 
-taken_role : (v : ℕ) (level : Level) (mask : ℕ) (r : Role) (d e : Bool) → is_free_role r ≡ false → fixed_or (fixed_by v level mask r) d ≡ fixed_or (fixed_by v level mask r) e
+taken_role : (v : ℕ) (level : Level) (mask : ℕ) (r : Role) (d e : Bool) → is_free_role r ≡ false
+    → fixed_or (fixed_by v level mask r) d ≡ fixed_or (fixed_by v level mask r) e
 taken_role v level mask (Function b) d e h = refl
 taken_role v level mask (Format i) d e h = refl
 taken_role v level mask (Version i) d e h = refl

@@ -60,7 +60,8 @@ module _ (v : ℕ) (level : Level) (mask : ℕ) (old m n : List (List Bool)) (ro
     kept : (x y : ℕ) → value_at m x y ≡ fixed_or (fixed v level mask x y) (value_at old x y) → value_at n x y ≡ fixed_or (fixed v level mask x y) (value_at old x y)
     kept x y h = elim (at x y) [ inl e ↦ e | inr e ↦ e ∙ h ]
 
-  pub crossed_row : row < side_of v → 8 < side_of v → WritesAt m n row 8 (fixed_or (fixed v level mask row 8) (value_at m row 8)) → Crossed v level mask old n (row + 1) column
+  pub crossed_row : row < side_of v → 8 < side_of v → WritesAt m n row 8 (fixed_or (fixed v level mask row 8) (value_at m row 8))
+      → Crossed v level mask old n (row + 1) column
   crossed_row lr l8 w =
       record {
         either = either_more row 8 w;
@@ -73,7 +74,8 @@ module _ (v : ℕ) (level : Level) (mask : ℕ) (old m n : List (List Bool)) (ro
         };
       }
 
-  pub crossed_column : column < side_of v → 8 < side_of v → WritesAt m n 8 column (fixed_or (fixed v level mask 8 column) (value_at m 8 column)) → Crossed v level mask old n row (column + 1)
+  pub crossed_column : column < side_of v → 8 < side_of v → WritesAt m n 8 column (fixed_or (fixed v level mask 8 column) (value_at m 8 column))
+      → Crossed v level mask old n row (column + 1)
   crossed_column lc l8 w =
       record {
         either = either_more 8 column w;
@@ -151,7 +153,8 @@ unfolding fixed
 fixed_elsewhere v level j k x y nx ny = any_mask v level j k (role v x y) (no_format v x y nx ny)
 
 -- the module under the mask
-pub under : (v : ℕ) (level : Level) (mask : ℕ) (words : List ℕ) (function old m : List (List Bool)) → IsUnmasked v level words function old → RedrawsFormat v level mask old m → (x y : ℕ) → x < side_of v → y < side_of v
+pub under : (v : ℕ) (level : Level) (mask : ℕ) (words : List ℕ) (function old m : List (List Bool)) → IsUnmasked v level words function old
+    → RedrawsFormat v level mask old m → (x y : ℕ) → x < side_of v → y < side_of v
     → masked mask function m x y ≡ fixed_or (fixed v level mask x y) (flip_if (is_flipped mask x y) (codeword_bit words (rank v x y)))
 under v level mask words function old m u r x y lx ly =
     drawn_module v level mask words x y function m m (value_at m x y) (u.marked x y lx ly ∙ sym (some_fixed v level mask x y)) shown free (λ t. refl)

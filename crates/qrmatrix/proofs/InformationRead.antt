@@ -1,9 +1,10 @@
 -- What is computed of the format and version information.
-use Rattle.std.proofs.Common.{◌≡◌, ℕ, zero, suc, ◌<◌, ◌≤◌, refl, arith, Bool, true, Some}
+use Rattle.std.proofs.Common.{◌≡◌, ℕ, zero, suc, ◌<◌, ◌≤◌, List, refl, arith, Bool, true, Some}
 use Rattle.std.specs.Prelude.{map, nat_le}
 use Rattle.std.specs.List.{range_with_len, list_all}
 use Rattle.gf256.specs.BinaryPolynomial.{binary_remainder}
 use Rattle.labelcore.specs.declared.options.Level.{Level}
+use Rattle.qrmatrix.specs.declared.function.Role.{Role}
 use Rattle.qrmatrix.specs.declared.function.Role.TheVariants.{Format, Version}
 use Rattle.labelcore.specs.declared.options.Level.TheVariants.{L, M, Q, H}
 use Rattle.qrdata.specs.Versions.{side_of}
@@ -26,51 +27,55 @@ by_mask P p0 p1 p2 p3 p4 p5 p6 p7 (suc (suc (suc (suc (suc (suc zero)))))) h = p
 by_mask P p0 p1 p2 p3 p4 p5 p6 p7 (suc (suc (suc (suc (suc (suc (suc zero))))))) h = p7
 by_mask P p0 p1 p2 p3 p4 p5 p6 p7 (suc (suc (suc (suc (suc (suc (suc (suc n)))))))) h = absurd (omega arith)
 
--- the format word of a level and a mask is read back from its bits
-pub record FormatRead (level : Level) (mask : ℕ) : Type 0 where
-  pub from_bits : low_first (map (bit (format_word level mask)) (range_with_len 0 15)) ≡ format_word level mask
-  pub decoded : read_format_word (format_word level mask) ≡ Some (level, mask)
+-- the format word of a level and a mask is the number of its bits, and is read as that level and mask
+abbrev pub FormatRead : Level → ℕ → Type 0
+FormatRead level mask =
+    (low_first (map (bit (format_word level mask)) (range_with_len 0 15)) ≡ format_word level mask) × (read_format_word (format_word level mask) ≡ Some (level, mask))
 
 pub format_read : (level : Level) (mask : ℕ) → mask < 8 → FormatRead level mask
 unfolding format_word binary_remainder
-format_read L = by_mask (FormatRead L) (record { from_bits = refl; decoded = refl }) (record { from_bits = refl; decoded = refl }) (record { from_bits = refl; decoded = refl }) (record { from_bits = refl; decoded = refl }) (record { from_bits = refl; decoded = refl }) (record { from_bits = refl; decoded = refl }) (record { from_bits = refl; decoded = refl }) (record { from_bits = refl; decoded = refl })
-format_read M = by_mask (FormatRead M) (record { from_bits = refl; decoded = refl }) (record { from_bits = refl; decoded = refl }) (record { from_bits = refl; decoded = refl }) (record { from_bits = refl; decoded = refl }) (record { from_bits = refl; decoded = refl }) (record { from_bits = refl; decoded = refl }) (record { from_bits = refl; decoded = refl }) (record { from_bits = refl; decoded = refl })
-format_read Q = by_mask (FormatRead Q) (record { from_bits = refl; decoded = refl }) (record { from_bits = refl; decoded = refl }) (record { from_bits = refl; decoded = refl }) (record { from_bits = refl; decoded = refl }) (record { from_bits = refl; decoded = refl }) (record { from_bits = refl; decoded = refl }) (record { from_bits = refl; decoded = refl }) (record { from_bits = refl; decoded = refl })
-format_read H = by_mask (FormatRead H) (record { from_bits = refl; decoded = refl }) (record { from_bits = refl; decoded = refl }) (record { from_bits = refl; decoded = refl }) (record { from_bits = refl; decoded = refl }) (record { from_bits = refl; decoded = refl }) (record { from_bits = refl; decoded = refl }) (record { from_bits = refl; decoded = refl }) (record { from_bits = refl; decoded = refl })
+format_read L = by_mask (FormatRead L) (refl, refl) (refl, refl) (refl, refl) (refl, refl) (refl, refl) (refl, refl) (refl, refl) (refl, refl)
+format_read M = by_mask (FormatRead M) (refl, refl) (refl, refl) (refl, refl) (refl, refl) (refl, refl) (refl, refl) (refl, refl) (refl, refl)
+format_read Q = by_mask (FormatRead Q) (refl, refl) (refl, refl) (refl, refl) (refl, refl) (refl, refl) (refl, refl) (refl, refl) (refl, refl)
+format_read H = by_mask (FormatRead H) (refl, refl) (refl, refl) (refl, refl) (refl, refl) (refl, refl) (refl, refl) (refl, refl) (refl, refl)
 
--- the copies stand where the roles say
-pub record Copies (v : ℕ) : Type 0 where
-  pub format_1 : map (λ (p : ℕ × ℕ). role v p.0 p.1) format_copy_1 ≡ map Format (range_with_len 0 15)
-  pub format_2 : map (λ (p : ℕ × ℕ). role v p.0 p.1) (format_copy_2 (side_of v)) ≡ map Format (range_with_len 0 15)
-  pub inside_1 : list_all (λ (p : ℕ × ℕ). is_inside (side_of v) p.0 p.1) format_copy_1 ≡ true
-  pub inside_2 : list_all (λ (p : ℕ × ℕ). is_inside (side_of v) p.0 p.1) (format_copy_2 (side_of v)) ≡ true
-  pub version_inside_1 : nat_le 7 v ≡ true → list_all (λ (p : ℕ × ℕ). is_inside (side_of v) p.0 p.1) (version_copy_1 (side_of v)) ≡ true
-  pub version_inside_2 : nat_le 7 v ≡ true → list_all (λ (p : ℕ × ℕ). is_inside (side_of v) p.0 p.1) (version_copy_2 (side_of v)) ≡ true
-  pub version_1 : nat_le 7 v ≡ true → map (λ (p : ℕ × ℕ). role v p.0 p.1) (version_copy_1 (side_of v)) ≡ map Version (range_with_len 0 18)
-  pub version_2 : nat_le 7 v ≡ true → map (λ (p : ℕ × ℕ). role v p.0 p.1) (version_copy_2 (side_of v)) ≡ map Version (range_with_len 0 18)
+-- the bits of a word have their roles at a list of places, which are in the square
+abbrev pub StandsAt : ℕ → (ℕ → Role) → ℕ → List (ℕ × ℕ) → Type 0
+StandsAt v kind count places =
+    (map (λ (p : ℕ × ℕ). role v p.0 p.1) places ≡ map kind (range_with_len 0 count)) × (list_all (λ (p : ℕ × ℕ). is_inside (side_of v) p.0 p.1) places ≡ true)
 
-pub copies : (v : ℕ) → 1 ≤ v → v ≤ 10 → Copies v
+-- both copies of the format word
+abbrev pub FormatCopies : ℕ → Type 0
+FormatCopies v = StandsAt v Format 15 format_copy_1 × StandsAt v Format 15 (format_copy_2 (side_of v))
+
+pub format_copies : (v : ℕ) → 1 ≤ v → v ≤ 10 → FormatCopies v
 unfolding role
-copies =
-    by_version Copies
-    (record { inside_1 = refl; inside_2 = refl; version_inside_1 = λ h. refl; version_inside_2 = λ h. refl; format_1 = refl; format_2 = refl; version_1 = λ h. absurd (cc); version_2 = λ h. absurd (cc) })
-    (record { inside_1 = refl; inside_2 = refl; version_inside_1 = λ h. refl; version_inside_2 = λ h. refl; format_1 = refl; format_2 = refl; version_1 = λ h. absurd (cc); version_2 = λ h. absurd (cc) })
-    (record { inside_1 = refl; inside_2 = refl; version_inside_1 = λ h. refl; version_inside_2 = λ h. refl; format_1 = refl; format_2 = refl; version_1 = λ h. absurd (cc); version_2 = λ h. absurd (cc) })
-    (record { inside_1 = refl; inside_2 = refl; version_inside_1 = λ h. refl; version_inside_2 = λ h. refl; format_1 = refl; format_2 = refl; version_1 = λ h. absurd (cc); version_2 = λ h. absurd (cc) })
-    (record { inside_1 = refl; inside_2 = refl; version_inside_1 = λ h. refl; version_inside_2 = λ h. refl; format_1 = refl; format_2 = refl; version_1 = λ h. absurd (cc); version_2 = λ h. absurd (cc) })
-    (record { inside_1 = refl; inside_2 = refl; version_inside_1 = λ h. refl; version_inside_2 = λ h. refl; format_1 = refl; format_2 = refl; version_1 = λ h. absurd (cc); version_2 = λ h. absurd (cc) })
-    (record { inside_1 = refl; inside_2 = refl; version_inside_1 = λ h. refl; version_inside_2 = λ h. refl; format_1 = refl; format_2 = refl; version_1 = λ h. refl; version_2 = λ h. refl })
-    (record { inside_1 = refl; inside_2 = refl; version_inside_1 = λ h. refl; version_inside_2 = λ h. refl; format_1 = refl; format_2 = refl; version_1 = λ h. refl; version_2 = λ h. refl })
-    (record { inside_1 = refl; inside_2 = refl; version_inside_1 = λ h. refl; version_inside_2 = λ h. refl; format_1 = refl; format_2 = refl; version_1 = λ h. refl; version_2 = λ h. refl })
-    (record { inside_1 = refl; inside_2 = refl; version_inside_1 = λ h. refl; version_inside_2 = λ h. refl; format_1 = refl; format_2 = refl; version_1 = λ h. refl; version_2 = λ h. refl })
+format_copies =
+    by_version FormatCopies
+    ((refl, refl), (refl, refl)) ((refl, refl), (refl, refl)) ((refl, refl), (refl, refl)) ((refl, refl), (refl, refl)) ((refl, refl), (refl, refl))
+    ((refl, refl), (refl, refl)) ((refl, refl), (refl, refl)) ((refl, refl), (refl, refl)) ((refl, refl), (refl, refl)) ((refl, refl), (refl, refl))
 
--- a symbol whose copies of the version information hold its version word shows its version
-VersionShown : ℕ → Type 0
-VersionShown v = (m : ℕ → ℕ → Bool) → (nat_le 7 v ≡ true → (word_at m (version_copy_1 (side_of v)) ≡ low_first (map (bit (version_word v)) (range_with_len 0 18))) × (word_at m (version_copy_2 (side_of v)) ≡ low_first (map (bit (version_word v)) (range_with_len 0 18)))) → shows_version v (side_of v) m ≡ true
+-- both copies of the version word, from version 7 on
+abbrev pub VersionCopies : ℕ → Type 0
+VersionCopies v = nat_le 7 v ≡ true → StandsAt v Version 18 (version_copy_1 (side_of v)) × StandsAt v Version 18 (version_copy_2 (side_of v))
 
--- the version word is read back from its bits
-pub version_shown : (v : ℕ) → 1 ≤ v → v ≤ 10 → (m : ℕ → ℕ → Bool) → (nat_le 7 v ≡ true → (word_at m (version_copy_1 (side_of v)) ≡ low_first (map (bit (version_word v)) (range_with_len 0 18))) × (word_at m (version_copy_2 (side_of v)) ≡ low_first (map (bit (version_word v)) (range_with_len 0 18)))) → shows_version v (side_of v) m ≡ true
-unfolding VersionShown version_word shows_version
+pub version_copies : (v : ℕ) → 1 ≤ v → v ≤ 10 → VersionCopies v
+unfolding role
+version_copies =
+    by_version VersionCopies
+    (λ h. absurd cc) (λ h. absurd cc) (λ h. absurd cc) (λ h. absurd cc) (λ h. absurd cc) (λ h. absurd cc)
+    (λ h. ((refl, refl), (refl, refl))) (λ h. ((refl, refl), (refl, refl))) (λ h. ((refl, refl), (refl, refl))) (λ h. ((refl, refl), (refl, refl)))
+
+-- a symbol whose copies of the version information hold the bits of its version word shows its version
+abbrev pub HoldsVersion : ℕ → (ℕ → ℕ → Bool) → List (ℕ × ℕ) → Type 0
+HoldsVersion v m places = word_at m places ≡ low_first (map (bit (version_word v)) (range_with_len 0 18))
+
+abbrev pub VersionShown : ℕ → Type 0
+VersionShown v =
+    (m : ℕ → ℕ → Bool) → (nat_le 7 v ≡ true → HoldsVersion v m (version_copy_1 (side_of v)) × HoldsVersion v m (version_copy_2 (side_of v))) → shows_version v (side_of v) m ≡ true
+
+pub version_shown : (v : ℕ) → 1 ≤ v → v ≤ 10 → VersionShown v
+unfolding version_word shows_version
 version_shown =
     by_version VersionShown
     (λ m h. refl) (λ m h. refl) (λ m h. refl) (λ m h. refl) (λ m h. refl) (λ m h. refl)

@@ -1,13 +1,11 @@
 -- The choice of the mask.
-use Rattle.std.proofs.Common.{◌≡◌, ℕ, ◌+◌, ◌<◌, ◌≤◌, refl, ap, sym, subst, ◌∙◌, arith, Bool, true, zero, suc, inl, inr}
-use mathlib.Core.Path.{fun_ext}
+use Rattle.std.proofs.Common.{◌≡◌, ℕ, ◌+◌, ◌<◌, ◌≤◌, refl, ap, ◌∙◌, arith, Bool, true, zero, suc, inl, inr}
 use Rattle.std.specs.Prelude.{map, nat_le}
 use Rattle.std.specs.List.{range_with_len, list_all}
 use Rattle.std.proofs.lemmas.Bool.{le-leb, false_from_ne_true, leb-true, and_parts, and_from, cases_eq}
 use Rattle.std.proofs.lemmas.List.Sums.{position_or_len_is}
 use Rattle.std.proofs.lemmas.List.FromFn.{get_or-map-range_with_len}
 use Rattle.qrmatrix.specs.MaskChoice.{least_place}
-use Rattle.qrmatrix.specs.Penalty.{penalty}
 
 -- among the first n numbers, f is least at k, and is greater before it
 pub record Least (f : ℕ → ℕ) (n k : ℕ) : Type 0 where

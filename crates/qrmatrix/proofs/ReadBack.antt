@@ -19,15 +19,17 @@ use Rattle.qrmatrix.proofs.Sums.{all_below_from}
 use Rattle.qrmatrix.proofs.EachVersion.{Computed, computed}
 use Rattle.qrmatrix.proofs.WalkRanks.{walk_ranks}
 use Rattle.qrmatrix.proofs.CodewordBits.{words_of_bits}
-use Rattle.qrmatrix.proofs.InformationRead.{format_read, copies, version_shown}
+use Rattle.qrmatrix.proofs.InformationRead.{StandsAt, format_read, format_copies, version_copies, version_shown}
 
 -- ---- the bits of the codewords
 
-map_filter_step : {X Y : Type 0} (b : Bool) (f g : X → Y) (x : X) (ys : List X) → (b ≡ true → f x ≡ g x) → map f ys ≡ map g ys → map f (cond b (x ∷ ys) ys) ≡ map g (cond b (x ∷ ys) ys)
+map_filter_step : {X Y : Type 0} (b : Bool) (f g : X → Y) (x : X) (ys : List X) → (b ≡ true → f x ≡ g x) → map f ys ≡ map g ys
+    → map f (cond b (x ∷ ys) ys) ≡ map g (cond b (x ∷ ys) ys)
 map_filter_step true f g x ys h e = let k = h refl in cc
 map_filter_step false f g x ys h e = e
 
-map_filter : {X Y : Type 0} (test inside : X → Bool) (f g : X → Y) → ((x : X) → inside x ≡ true → test x ≡ true → f x ≡ g x) → (xs : List X) → list_all inside xs ≡ true → map f (filter test xs) ≡ map g (filter test xs)
+map_filter : {X Y : Type 0} (test inside : X → Bool) (f g : X → Y) → ((x : X) → inside x ≡ true → test x ≡ true → f x ≡ g x) → (xs : List X)
+    → list_all inside xs ≡ true → map f (filter test xs) ≡ map g (filter test xs)
 map_filter test inside f g h [] i = refl
 map_filter test inside f g h (x ∷ xs) i =
     let parts = and_parts (inside x) (list_all inside xs) i in
@@ -53,7 +55,8 @@ inside_from n x y lx ly = and_from (nat_lt x n) (nat_lt y n) (lt-ltb x n lx) (lt
 
 module _ (v : ℕ) (level : Level) (mask : ℕ) (words : List ℕ) where
   -- a module in the square
-  pub module_inside : (x y : ℕ) → is_inside (side_of v) x y ≡ true → module_at v level mask words x y ≡ fixed_or (fixed v level mask x y) (flip_if (is_flipped mask x y) (codeword_bit words (rank v x y)))
+  pub module_inside : (x y : ℕ) → is_inside (side_of v) x y ≡ true
+      → module_at v level mask words x y ≡ fixed_or (fixed v level mask x y) (flip_if (is_flipped mask x y) (codeword_bit words (rank v x y)))
   unfolding module_at
   module_inside x y h = rw h
 
@@ -62,7 +65,8 @@ module _ (v : ℕ) (level : Level) (mask : ℕ) (words : List ℕ) where
   unfolding module_at
   module_outside x y h = rw h
 
-  unmasked : (p : ℕ × ℕ) → is_inside (side_of v) p.0 p.1 ≡ true → is_free v p.0 p.1 ≡ true → flip_if (is_flipped mask p.0 p.1) (module_at v level mask words p.0 p.1) ≡ codeword_bit words (rank v p.0 p.1)
+  unmasked : (p : ℕ × ℕ) → is_inside (side_of v) p.0 p.1 ≡ true → is_free v p.0 p.1 ≡ true
+      → flip_if (is_flipped mask p.0 p.1) (module_at v level mask words p.0 p.1) ≡ codeword_bit words (rank v p.0 p.1)
   unfolding is_free fixed
   unmasked p i h =
       rw (module_inside p.0 p.1 i, free_is_data v level mask (role v p.0 p.1) (flip_if (is_flipped mask p.0 p.1) (codeword_bit words (rank v p.0 p.1))) h) (flip_twice (is_flipped mask p.0 p.1) (codeword_bit words (rank v p.0 p.1)))
@@ -74,7 +78,8 @@ module _ (v : ℕ) (level : Level) (mask : ℕ) (words : List ℕ) where
       ∙ map_map (codeword_bit words) (λ (p : ℕ × ℕ). rank v p.0 p.1) (filter (λ (p : ℕ × ℕ). is_free v p.0 p.1) (walk (side_of v)))
       ∙ ap (map (codeword_bit words)) (walk_ranks v c)
 
-  pub words_read : Computed v → length words ≡ total_codewords v → All (λ w. w < 256) words → by_eights (total_codewords v) (read_bits v mask (module_at v level mask words)) ≡ words
+  pub words_read : Computed v → length words ≡ total_codewords v → All (λ w. w < 256) words
+      → by_eights (total_codewords v) (read_bits v mask (module_at v level mask words)) ≡ words
   words_read c n h =
       rw (bits_read c, ← n) (words_of_bits words (remainder_bits v) h)
 
@@ -93,7 +98,10 @@ module _ (v : ℕ) (level : Level) (mask : ℕ) (words : List ℕ) where
       (λ x lx. rw (module_inside x y (inside_from (side_of v) x y lx ly)) (agrees_itself (fixed v level mask x y) (flip_if (is_flipped mask x y) (codeword_bit words (rank v x y))))))
 
   -- the modules at the places of a word's bits
-  modules_at_role : (places : List (ℕ × ℕ)) (kind : ℕ → Role) (word : ℕ) (is_ : List ℕ) → ((i : ℕ) → fixed_by v level mask (kind i) ≡ Some (bit word i)) → list_all (λ (p : ℕ × ℕ). is_inside (side_of v) p.0 p.1) places ≡ true → map (λ (p : ℕ × ℕ). role v p.0 p.1) places ≡ map kind is_ → map (λ (p : ℕ × ℕ). module_at v level mask words p.0 p.1) places ≡ map (bit word) is_
+  modules_at_role : (places : List (ℕ × ℕ)) (kind : ℕ → Role) (word : ℕ) (is_ : List ℕ)
+      → ((i : ℕ) → fixed_by v level mask (kind i) ≡ Some (bit word i)) → list_all (λ (p : ℕ × ℕ). is_inside (side_of v) p.0 p.1) places ≡ true
+      → map (λ (p : ℕ × ℕ). role v p.0 p.1) places ≡ map kind is_
+      → map (λ (p : ℕ × ℕ). module_at v level mask words p.0 p.1) places ≡ map (bit word) is_
   unfolding fixed
   modules_at_role [] kind word [] h z e = refl
   modules_at_role [] kind word (i ∷ is_) h z e = cc
@@ -108,26 +116,30 @@ module _ (v : ℕ) (level : Level) (mask : ℕ) (words : List ℕ) where
       cc
 
   module _ (at_least : 1 ≤ v) (at_most : v ≤ 10) (mask_below : mask < 8) where
+    -- the word that stands at places where its bits have their roles
+    word_shown : (places : List (ℕ × ℕ)) (kind : ℕ → Role) (word count : ℕ) → ((i : ℕ) → fixed_by v level mask (kind i) ≡ Some (bit word i))
+        → StandsAt v kind count places → word_at (module_at v level mask words) places ≡ low_first (map (bit word) (range_with_len 0 count))
+    word_shown places kind word count by stands = ap low_first (modules_at_role places kind word (range_with_len 0 count) by stands.1 stands.0)
+
     pub format_shown : read_format (side_of v) (module_at v level mask words) ≡ Some (level, mask)
     unfolding read_format
     format_shown =
-        let c = copies v at_least at_most in
+        let copies = format_copies v at_least at_most in
         let f = format_read level mask mask_below in
         let by = λ (i : ℕ). let e : fixed_by v level mask (Format i) ≡ Some (bit (format_word level mask) i) = refl in e in
-        let one : word_at (module_at v level mask words) format_copy_1 ≡ format_word level mask = ap low_first (modules_at_role format_copy_1 Format (format_word level mask) (range_with_len 0 15) by c.inside_1 c.format_1) ∙ f.from_bits in
-        let two : word_at (module_at v level mask words) (format_copy_2 (side_of v)) ≡ format_word level mask = ap low_first (modules_at_role (format_copy_2 (side_of v)) Format (format_word level mask) (range_with_len 0 15) by c.inside_2 c.format_2) ∙ f.from_bits in
-        rw (one, two, eq-eqb (format_word level mask) (format_word level mask) refl) f.decoded
+        let one = word_shown format_copy_1 Format (format_word level mask) 15 by copies.0 ∙ f.0 in
+        let two = word_shown (format_copy_2 (side_of v)) Format (format_word level mask) 15 by copies.1 ∙ f.0 in
+        rw (one, two, eq-eqb (format_word level mask) (format_word level mask) refl) f.1
 
     pub version_is_shown : shows_version v (side_of v) (module_at v level mask words) ≡ true
     version_is_shown =
-        let c = copies v at_least at_most in
         let by = λ (i : ℕ). let e : fixed_by v level mask (Version i) ≡ Some (bit (version_word v) i) = refl in e in
-        version_shown v at_least at_most (module_at v level mask words) (λ h. (
-          ap low_first (modules_at_role (version_copy_1 (side_of v)) Version (version_word v) (range_with_len 0 18) by (c.version_inside_1 h) (c.version_1 h)),
-          ap low_first (modules_at_role (version_copy_2 (side_of v)) Version (version_word v) (range_with_len 0 18) by (c.version_inside_2 h) (c.version_2 h)),
-        ))
+        version_shown v at_least at_most (module_at v level mask words) (λ h.
+        let copies = version_copies v at_least at_most h in
+        (word_shown (version_copy_1 (side_of v)) Version (version_word v) 18 by copies.0, word_shown (version_copy_2 (side_of v)) Version (version_word v) 18 by copies.1))
 
-    pub reads_back : length words ≡ total_codewords v → All (λ w. w < 256) words → read_matrix (side_of v) (module_at v level mask words) ≡ Some (record { version = v; level = level; words = words })
+    pub reads_back : length words ≡ total_codewords v → All (λ w. w < 256) words
+        → read_matrix (side_of v) (module_at v level mask words) ≡ Some (record { version = v; level = level; words = words })
     unfolding read_matrix
     reads_back n h =
         let same : (17 + 4 * v - 17) / 4 ≡ v = omega arith in

@@ -11,7 +11,8 @@ use Rattle.qrmatrix.specs.Reading.{walk}
 use Rattle.qrmatrix.proofs.EachVersion.{Computed, is_walked}
 use Rattle.qrmatrix.proofs.Ranks.{free_below_more, free_below_none}
 
-step : (b : Bool) (p : ℕ × ℕ) (ps : List (ℕ × ℕ)) (r : ℕ × ℕ → ℕ) (i j : ℕ) → r p ≡ i → j ≡ i + one_if b → map r ps ≡ range_with_len j (length ps) → map r (cond b (p ∷ ps) ps) ≡ range_with_len i (length (cond b (p ∷ ps) ps))
+step : (b : Bool) (p : ℕ × ℕ) (ps : List (ℕ × ℕ)) (r : ℕ × ℕ → ℕ) (i j : ℕ) → r p ≡ i → j ≡ i + one_if b → map r ps ≡ range_with_len j (length ps)
+    → map r (cond b (p ∷ ps) ps) ≡ range_with_len i (length (cond b (p ∷ ps) ps))
 step true p ps r i j e n h = let k = rw n at h in cc
 step false p ps r i j e n h = let k = rw (n, add-zero) at h in k
 
@@ -23,7 +24,9 @@ module _ (v : ℕ) (c : Computed v) where
       let b = and_parts (nat_lt p.1 (side_of v)) (not (p.0 == 6)) a.1 in
       (ltb-true _ _ a.0, ltb-true _ _ b.0, eqb-false p.0 6 (not-true (p.0 == 6) b.1))
 
-  along : (ps : List (ℕ × ℕ)) (a m : ℕ) → map (λ (p : ℕ × ℕ). key (side_of v) p.0 p.1) ps ≡ range_with_len a m → list_all (λ (p : ℕ × ℕ). is_walked (side_of v) p) ps ≡ true → map (λ (p : ℕ × ℕ). free_below v (key (side_of v) p.0 p.1)) (filter (λ (p : ℕ × ℕ). is_free v p.0 p.1) ps) ≡ range_with_len (free_below v a) (length (filter (λ (p : ℕ × ℕ). is_free v p.0 p.1) ps))
+  along : (ps : List (ℕ × ℕ)) (a m : ℕ) → map (λ (p : ℕ × ℕ). key (side_of v) p.0 p.1) ps ≡ range_with_len a m
+      → list_all (λ (p : ℕ × ℕ). is_walked (side_of v) p) ps ≡ true
+      → map (λ (p : ℕ × ℕ). free_below v (key (side_of v) p.0 p.1)) (filter (λ (p : ℕ × ℕ). is_free v p.0 p.1) ps) ≡ range_with_len (free_below v a) (length (filter (λ (p : ℕ × ℕ). is_free v p.0 p.1) ps))
   along [] a m e h = refl
   along (p ∷ ps) a zero e h = cc
   along (p ∷ ps) a (suc m) e h =

@@ -8,7 +8,8 @@ ghost use Rattle.qrmatrix.specs.Square.{value_at, SameOutside};
 use crate::row::low_ones;
 use crate::square::Square;
 
-/// Of each mask, the first six modules that it flips in each of the first twelve rows. They repeat after six columns and twelve rows.
+/// Of each mask, which of the first six modules it flips in each of the first twelve rows, the first module lowest. The
+/// masks repeat after six columns and twelve rows.
 const PATTERNS: [[u64; 12]; 8] = [
     [
         0b010101, 0b101010, 0b010101, 0b101010, 0b010101, 0b101010, 0b010101, 0b101010, 0b010101,

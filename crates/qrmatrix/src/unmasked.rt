@@ -2,19 +2,32 @@
 ghost use Rattle.std.specs.Prelude.{◌≡◌, ℕ, ◌<◌, ◌≤◌, is_some, List};
 ghost use Rattle.qrdata.specs.Versions.{side_of};
 ghost use Rattle.qrmatrix.specs.Drawing.{Places, RedrawsFormat};
-ghost use Rattle.qrmatrix.specs.Functions.{fixed};
+ghost use Rattle.qrmatrix.specs.Functions;
 ghost use Rattle.qrmatrix.specs.MaskChoice.{least_place, penalties};
 ghost use Rattle.qrmatrix.specs.Modules.{fixed_or, module_at};
 ghost use Rattle.qrmatrix.specs.Penalty;
 ghost use Rattle.qrmatrix.specs.Square.{value_at, SameOutside, WritesAt};
 
-use crate::function;
+use crate::function::fixed;
 use crate::mask::apply_mask;
 use crate::penalty::penalty;
 use crate::placement::place;
 use crate::square::Square;
 use labelcore::Level;
 use qrdata::{Version, Words};
+
+/// Draws the module at column `x` and row `y`, where it is fixed.
+fn draw_fixed(fixed: Option<bool>, modules: &mut Square, x: usize, y: usize)
+    requires column { x < 57 }
+    requires row { y < 57 }
+    ensures { WritesAt modules.old modules.new x y (fixed_or fixed (value_at modules.old x y)) }
+{
+    let dark = match fixed {
+        Some(dark) => dark,
+        None => modules.get(x, y),
+    };
+    modules.set(x, y, dark);
+}
 
 /// Draws the modules that the codewords do not choose, and marks them.
 fn draw_functions(
@@ -25,36 +38,18 @@ fn draw_functions(
     function: &mut Square,
 )
     requires { mask < 8 }
-    ensures drawn { (x y : ℕ) → x < side_of version.number → y < side_of version.number → value_at modules.new x y ≡ fixed_or (fixed version.number level mask x y) (value_at modules.old x y) }
+    ensures drawn { (x y : ℕ) → x < side_of version.number → y < side_of version.number → value_at modules.new x y ≡ fixed_or (Functions.fixed version.number level mask x y) (value_at modules.old x y) }
     ensures outside { SameOutside (side_of version.number) modules.old modules.new }
-    ensures marked { (x y : ℕ) → x < side_of version.number → y < side_of version.number → value_at function.new x y ≡ is_some (fixed version.number level mask x y) }
+    ensures marked { (x y : ℕ) → x < side_of version.number → y < side_of version.number → value_at function.new x y ≡ is_some (Functions.fixed version.number level mask x y) }
 {
     let n = version.side();
     for y in 0..n {
         for x in 0..n {
-            let fixed = function::fixed(version, level, mask, x, y);
+            let fixed = fixed(version, level, mask, x, y);
             function.set(x, y, fixed.is_some());
-            let dark = match fixed {
-                Some(dark) => dark,
-                None => modules.get(x, y),
-            };
-            modules.set(x, y, dark);
+            draw_fixed(fixed, modules, x, y);
         }
     }
-}
-
-/// Draws the module at column `x` and row `y`, if the codewords do not choose it.
-fn draw_fixed(version: Version, level: Level, mask: u8, modules: &mut Square, x: usize, y: usize)
-    requires column { x < side_of version.number }
-    requires row { y < side_of version.number }
-    requires mask { mask < 8 }
-    ensures { WritesAt modules.old modules.new x y (fixed_or (fixed version.number level mask x y) (value_at modules.old x y)) }
-{
-    let dark = match function::fixed(version, level, mask, x, y) {
-        Some(dark) => dark,
-        None => modules.get(x, y),
-    };
-    modules.set(x, y, dark);
 }
 
 /// Draws the format information for a mask. It stands in row 8 and column 8.
@@ -63,8 +58,10 @@ fn draw_format(version: Version, level: Level, mask: u8, modules: &mut Square)
     ensures { RedrawsFormat version.number level mask modules.old modules.new }
 {
     for k in 0..version.side() {
-        draw_fixed(version, level, mask, modules, k, 8);
-        draw_fixed(version, level, mask, modules, 8, k);
+        let in_row = fixed(version, level, mask, k, 8);
+        draw_fixed(in_row, modules, k, 8);
+        let in_column = fixed(version, level, mask, 8, k);
+        draw_fixed(in_column, modules, 8, k);
     }
 }
 

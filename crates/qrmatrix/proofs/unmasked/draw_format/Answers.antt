@@ -17,7 +17,7 @@ loop-k-preserved c =
     let n = c.draw_fixed-in-loop-k.new.modules in
     let l : k < side_of v = omega arith in
     let l8 : 8 < side_of v = omega arith in
-    crossed_column v level mask old m n (k + 1) k (crossed_row v level mask old c.loop-k.modules m k k c.loop-k.invariant l l8 c.draw_fixed.ensures) l l8 c.draw_fixed-in-loop-k.ensures
+    crossed_column v level mask old m n (k + 1) k (crossed_row v level mask old c.loop-k.modules m k k c.loop-k.invariant l l8 (rw c.fixed-in_row.ensures at c.draw_fixed.ensures)) l l8 (rw c.fixed-in_column.ensures at c.draw_fixed-in-loop-k.ensures)
 
 pub returns : goal.returns
 returns c =
