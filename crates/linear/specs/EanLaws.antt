@@ -80,10 +80,7 @@ module _ (n : ℕ) (sets : List NumberSet) (left right : List ℕ) (as_many : le
   long_right_half : length (right_half right) ≡ 7 * n
   long_right_half = length-right_half right digits_right ∙ ap (λ k. 7 * k) long_right
 
-  -- what follows the first guard, the left half, the centre guard and the right half
-  from_left : drop 3 (symbol sets left right) ≡ patterns sets left ++ (centre_guard ++ (right_half right ++ normal_guard))
-  from_left = refl
-
+  -- what follows the left half, the centre guard and the right half
   from_centre : drop (3 + 7 * n) (symbol sets left right) ≡ centre_guard ++ (right_half right ++ normal_guard)
   from_centre = drop-append_more 3 (7 * n) normal_guard _ refl ∙ drop-append (7 * n) (patterns sets left) _ long_patterns
 
@@ -108,9 +105,6 @@ module _ (n : ℕ) (sets : List NumberSet) (left right : List ℕ) (as_many : le
 
   pub symbol_framed : is_framed n (symbol sets left right) ≡ true
   symbol_framed = rw (eq-eqb (length (symbol sets left right)) (14 * n + 11) long_symbol, from_centre, from_end) refl
-
-  pub symbol_left : left_groups n (symbol sets left right) ≡ groups 7 n (patterns sets left ++ (centre_guard ++ (right_half right ++ normal_guard)))
-  symbol_left = refl
 
   pub symbol_right_read : each_found (digit_in C) (right_groups n (symbol sets left right)) ≡ Some right
   symbol_right_read =
