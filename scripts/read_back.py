@@ -184,6 +184,8 @@ def main():
         print(f"skipped: {', '.join(missing)} not installed")
         return 0
     program = os.path.abspath(sys.argv[1] if len(sys.argv) > 1 else f"{TOP}/crates/labels/out/labels")
+    if not os.access(program, os.X_OK):
+        sys.exit(f"{program} is not there: run `rt run` in crates/labels")
     draw = random.Random(18004)
     labels = [label for part in (ean_and_upc, code128, qr_by_settings, qr_by_capacity, qr_of_bytes) for label in part(draw)]
     good = 0

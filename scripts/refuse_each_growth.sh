@@ -95,6 +95,8 @@ refuse_each() {
     while :; do
         run_refused "$growth" "$@"
         verdict=$(judge)
+        # A build for each growth takes its time.
+        [ "$way" = built ] || echo "growth $growth: $verdict"
         case $verdict in
             refused) refused=$((refused + 1)) in_a_row=0 ;;
             whole) whole=$((whole + 1)) in_a_row=$((in_a_row + 1)) ;;
