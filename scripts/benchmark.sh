@@ -6,7 +6,8 @@
 # PROGRAM is crates/labels/out/labels where none is given. It prints Markdown tables, those of docs/BENCHMARKS.md. All tools draw the
 # same labels. A time is processor time, user and system together, of all processes of a measurement: on a machine that does other work too
 # it says more than the time on the clock. It is the least of ROUNDS rounds (5), in which the tools take turns. ONE_BY_ONE (300) labels
-# are drawn with a process for each, MANY (1000) in one run, HUGE (1000000) in the run for memory.
+# are drawn with a process for each, MANY (1000) in one run, HUGE (1000000) in the run for memory. Files go to a folder in TMPDIR, /tmp
+# where it is not set: TMPDIR=/dev/shm keeps them off the disk.
 # shellcheck disable=SC2016  # a command in single quotes is for the bash of its measurement
 set -euo pipefail
 
@@ -185,7 +186,8 @@ print_machine() {
     has qrencode && echo "- $(qrencode --version 2>&1 | head -n 1)"
     has zint && echo "- $(zint --version | head -n 1)"
     has barcode && echo "- GNU barcode $(barcode --version 2>&1 | awk '{ print $3; exit }')"
-    echo "- load of the machine before: $(cut -d' ' -f1-3 /proc/loadavg)"
+    echo "- System: $(sed -n 's/^PRETTY_NAME="\(.*\)"$/\1/p' /etc/os-release), files on $(df --output=fstype . | tail -n 1)"
+    echo "- Load of the machine before: $(cut -d' ' -f1-3 /proc/loadavg)"
 }
 
 print_machine

@@ -3,24 +3,24 @@
 #
 # usage: scripts/refuse_each_growth.sh [--try]
 #
-# Each run draws the stored label (crates/labels/args, stdin and stdout), once from standard input and once from a FILE. In run N
-# the Nth growth of memory is refused. A run is good where it either
-#   - writes the stored output and ends with status 0, or
+# The words and the input are those of the stored run (crates/labels/args and stdin), from standard input and from a FILE; then some
+# other words. In run N the Nth growth of memory is refused. A run is good where it either
+#   - does what it does when no growth is refused: the same output, messages and status, or
 #   - writes nothing on standard output and `labels: no memory` on standard error, and ends with status 3.
 # Any other run is told, and makes the status of this script 1.
 #
 # Without a word it takes the proved program, crates/labels/out/labels, which `rt run` in crates/labels leaves there (another
 # program: LABELS=PATH), and refuses the Nth call of malloc or realloc by a small library that is loaded before the C library (it
 # needs glibc and a C compiler). N goes up to the first run that makes fewer than N such calls.
-# With --try it takes `rt try --fail-alloc N`, which needs no proof and no C compiler, but builds anew for each N. Here nothing says
-# whether a run comes to its Nth growth: it stops after four runs in a row that write the stored output.
+# With --try it takes `rt try --fail-alloc N`, which needs no proof and no C compiler, but builds anew for each N; so it makes the
+# stored run alone. Here nothing says whether a run comes to its Nth growth: it stops after four runs in a row that do as ever.
 set -euo pipefail
 
 top=$(cd "$(dirname "$0")/.." && pwd)
 crate=$top/crates/labels
 program=${LABELS:-$crate/out/labels}
-words=()
-while IFS= read -r word; do words+=("$word"); done < "$crate/args"
+stored=()
+while IFS= read -r word; do stored+=("$word"); done < "$crate/args"
 scratch=$(mktemp -d)
 trap 'rm -rf "$scratch"' EXIT
 
@@ -60,7 +60,7 @@ C
     "${CC:-cc}" -O2 -fPIC -shared -o "$scratch/refuse.so" "$scratch/refuse.c"
 }
 
-# Runs the label with growth $1 refused and the further words $2 .., into the files out and err and the variable status.
+# Runs the program by the words $2 .. with growth $1 refused (none, where $1 is 0), into the files out and err and the variable status.
 run_refused() {
     local growth=$1
     shift
@@ -68,10 +68,12 @@ run_refused() {
     rm -f "$scratch/mark"
     cd "$crate"
     if [ "$way" = built ]; then
-        GROWTH=$growth MARK=$scratch/mark LD_PRELOAD=$scratch/refuse.so "$program" "${words[@]}" "$@" \
+        GROWTH=$growth MARK=$scratch/mark LD_PRELOAD=$scratch/refuse.so "$program" "$@" \
             < stdin > "$scratch/out" 2> "$scratch/err" || status=$?
     else
-        rt try --fail-alloc "$growth" -- "${words[@]}" "$@" < stdin > "$scratch/out" 2> "$scratch/told" || status=$?
+        local refusal=()
+        [ "$growth" -eq 0 ] || refusal=(--fail-alloc "$growth")
+        rt try "${refusal[@]}" -- "$@" < stdin > "$scratch/out" 2> "$scratch/told" || status=$?
         # The lines of rt itself are left out.
         grep -Ev '^(allocations:|interpreter:|checked:|run=)' "$scratch/told" > "$scratch/err" || true
         grep -q '^run=ended ' "$scratch/told" || status="$status, not ended"
@@ -80,7 +82,7 @@ run_refused() {
 
 # Says what the last run was: whole, refused or bad.
 judge() {
-    if [ "$status" = 0 ] && cmp -s "$scratch/out" "$crate/stdout" && ! [ -s "$scratch/err" ]; then
+    if [ "$status" = "$whole_status" ] && cmp -s "$scratch/out" "$scratch/whole_out" && cmp -s "$scratch/err" "$scratch/whole_err"; then
         echo whole
     elif [ "$status" = 3 ] && ! [ -s "$scratch/out" ] && [ "$(cat "$scratch/err")" = 'labels: no memory' ]; then
         echo refused
@@ -89,36 +91,42 @@ judge() {
     fi
 }
 
-# Refuses each growth of the run with the further words $1 .., and tells the counts.
+# Refuses each growth of the run by the words $1 .., and tells the counts.
 refuse_each() {
-    local growth=1 refused=0 whole=0 bad=0 in_a_row=0 verdict
+    local growth=0 refused=0 whole=0 bad=0 in_a_row=0 verdict
+    echo "labels $*:"
+    run_refused 0 "$@"
+    whole_status=$status
+    mv "$scratch/out" "$scratch/whole_out"
+    mv "$scratch/err" "$scratch/whole_err"
     while :; do
-        run_refused "$growth" "$@"
+        run_refused $((growth + 1)) "$@"
+        [ "$way" = tried ] || [ -e "$scratch/mark" ] || break
+        growth=$((growth + 1))
         verdict=$(judge)
         # A build for each growth takes its time.
-        [ "$way" = built ] || echo "growth $growth: $verdict"
+        [ "$way" = built ] || echo "  growth $growth: $verdict"
         case $verdict in
             refused) refused=$((refused + 1)) in_a_row=0 ;;
             whole) whole=$((whole + 1)) in_a_row=$((in_a_row + 1)) ;;
             bad)
                 bad=$((bad + 1)) in_a_row=0
-                echo "growth $growth refused: status $status, $(wc -c < "$scratch/out") bytes on standard output, on standard error:"
+                echo "  growth $growth: status $status, $(wc -c < "$scratch/out") bytes on standard output, on standard error:"
                 cat "$scratch/err"
                 ;;
         esac
-        if [ "$way" = built ]; then
-            [ -e "$scratch/mark" ] || break
-        elif [ "$in_a_row" -eq 4 ] || [ "$growth" -eq 1000 ]; then
-            break
-        fi
-        growth=$((growth + 1))
+        [ "$way" = built ] || [ "$in_a_row" -lt 4 ] || break
     done
-    if [ "$way" = built ]; then
-        # The last run came to no refused growth.
-        growth=$((growth - 1)) whole=$((whole - 1))
+    echo "  $growth growths: $refused end with 'no memory' and no output, $whole as ever with status $whole_status, $bad otherwise"
+    [ "$bad" -eq 0 ] && [ "$refused" -gt 0 ] || good=1
+}
+
+# Sees that the last words, with no growth refused, did the stored run.
+see_stored() {
+    if [ "$whole_status" != 0 ] || ! cmp "$scratch/whole_out" "$crate/stdout"; then
+        echo "  not the stored run"
+        good=1
     fi
-    echo "$growth runs: $refused end with 'no memory' and no output, $whole with the whole output, $bad otherwise"
-    [ "$bad" -eq 0 ] && [ "$refused" -gt 0 ]
 }
 
 case ${1-} in
@@ -138,8 +146,15 @@ case ${1-} in
 esac
 
 good=0
-echo "the label from standard input:"
-refuse_each || good=1
-echo "the label from a FILE:"
-refuse_each stdin || good=1
+refuse_each "${stored[@]}"
+see_stored
+refuse_each "${stored[@]}" stdin
+see_stored
+if [ "$way" = built ]; then
+    refuse_each --format ascii --scale 2 --height 3 --level Q --min-version 3 --mask 5 --escapes stdin
+    refuse_each --help
+    refuse_each --scale 9
+    refuse_each --no-such-word
+    refuse_each no-such-file
+fi
 exit "$good"
