@@ -1,0 +1,160 @@
+#!/usr/bin/env bash
+# Refuses memory to the program `labels`, one growth a run, and looks at what it then does.
+#
+# usage: scripts/refuse_each_growth.sh [--try]
+#
+# The words and the input are those of the stored run (crates/labels/args and stdin), from standard input and from a FILE; then some
+# other words. In run N the Nth growth of memory is refused. A run is good where it either
+#   - does what it does when no growth is refused: the same output, messages and status, or
+#   - writes nothing on standard output and `labels: no memory` on standard error, and ends with status 3.
+# Any other run is told, and makes the status of this script 1.
+#
+# Without a word it takes the proved program, crates/labels/out/labels, which `rt run` in crates/labels leaves there (another
+# program: LABELS=PATH), and refuses the Nth call of malloc or realloc by a small library that is loaded before the C library (it
+# needs glibc and a C compiler). N goes up to the first run that makes fewer than N such calls.
+# With --try it takes `rt try --fail-alloc N`, which needs no proof and no C compiler, but builds anew for each N; so it makes the
+# stored run alone. Here nothing says whether a run comes to its Nth growth: it stops after four runs in a row that do as ever.
+set -euo pipefail
+
+top=$(cd "$(dirname "$0")/.." && pwd)
+crate=$top/crates/labels
+program=${LABELS:-$crate/out/labels}
+stored=()
+while IFS= read -r word; do stored+=("$word"); done < "$crate/args"
+scratch=$(mktemp -d)
+trap 'rm -rf "$scratch"' EXIT
+
+# The library: the call of malloc or realloc whose number is GROWTH answers that there is no memory, and leaves the file MARK.
+build_library() {
+    cat > "$scratch/refuse.c" <<'C'
+#include <errno.h>
+#include <fcntl.h>
+#include <stddef.h>
+#include <stdlib.h>
+#include <unistd.h>
+
+extern void *__libc_malloc(size_t size);
+extern void *__libc_realloc(void *old, size_t size);
+
+static int is_refused(void) {
+    static long left = -1;
+    if (left < 0) {
+        left = atol(getenv("GROWTH"));
+    }
+    if (left == 0 || --left > 0) {
+        return 0;
+    }
+    close(creat(getenv("MARK"), 0600));
+    errno = ENOMEM;
+    return 1;
+}
+
+void *malloc(size_t size) {
+    return is_refused() ? NULL : __libc_malloc(size);
+}
+
+void *realloc(void *old, size_t size) {
+    return is_refused() ? NULL : __libc_realloc(old, size);
+}
+C
+    "${CC:-cc}" -O2 -fPIC -shared -o "$scratch/refuse.so" "$scratch/refuse.c"
+}
+
+# Runs the program by the words $2 .. with growth $1 refused (none, where $1 is 0), into the files out and err and the variable status.
+run_refused() {
+    local growth=$1
+    shift
+    status=0
+    rm -f "$scratch/mark"
+    cd "$crate"
+    if [ "$way" = built ]; then
+        GROWTH=$growth MARK=$scratch/mark LD_PRELOAD=$scratch/refuse.so "$program" "$@" \
+            < stdin > "$scratch/out" 2> "$scratch/err" || status=$?
+    else
+        local refusal=()
+        [ "$growth" -eq 0 ] || refusal=(--fail-alloc "$growth")
+        rt try "${refusal[@]}" -- "$@" < stdin > "$scratch/out" 2> "$scratch/told" || status=$?
+        # The lines of rt itself are left out.
+        grep -Ev '^(allocations:|interpreter:|checked:|run=)' "$scratch/told" > "$scratch/err" || true
+        grep -q '^run=ended ' "$scratch/told" || status="$status, not ended"
+    fi
+}
+
+# Says what the last run was: whole, refused or bad.
+judge() {
+    if [ "$status" = "$whole_status" ] && cmp -s "$scratch/out" "$scratch/whole_out" && cmp -s "$scratch/err" "$scratch/whole_err"; then
+        echo whole
+    elif [ "$status" = 3 ] && ! [ -s "$scratch/out" ] && [ "$(cat "$scratch/err")" = 'labels: no memory' ]; then
+        echo refused
+    else
+        echo bad
+    fi
+}
+
+# Refuses each growth of the run by the words $1 .., and tells the counts.
+refuse_each() {
+    local growth=0 refused=0 whole=0 bad=0 in_a_row=0 verdict
+    echo "labels $*:"
+    run_refused 0 "$@"
+    whole_status=$status
+    mv "$scratch/out" "$scratch/whole_out"
+    mv "$scratch/err" "$scratch/whole_err"
+    while :; do
+        run_refused $((growth + 1)) "$@"
+        [ "$way" = tried ] || [ -e "$scratch/mark" ] || break
+        growth=$((growth + 1))
+        verdict=$(judge)
+        # A build for each growth takes its time.
+        [ "$way" = built ] || echo "  growth $growth: $verdict"
+        case $verdict in
+            refused) refused=$((refused + 1)) in_a_row=0 ;;
+            whole) whole=$((whole + 1)) in_a_row=$((in_a_row + 1)) ;;
+            bad)
+                bad=$((bad + 1)) in_a_row=0
+                echo "  growth $growth: status $status, $(wc -c < "$scratch/out") bytes on standard output, on standard error:"
+                cat "$scratch/err"
+                ;;
+        esac
+        [ "$way" = built ] || [ "$in_a_row" -lt 4 ] || break
+    done
+    echo "  $growth growths: $refused end with 'no memory' and no output, $whole as ever with status $whole_status, $bad otherwise"
+    [ "$bad" -eq 0 ] && [ "$refused" -gt 0 ] || good=1
+}
+
+# Sees that the last words, with no growth refused, did the stored run.
+see_stored() {
+    if [ "$whole_status" != 0 ] || ! cmp "$scratch/whole_out" "$crate/stdout"; then
+        echo "  not the stored run"
+        good=1
+    fi
+}
+
+case ${1-} in
+    --try) way=tried ;;
+    '')
+        way=built
+        if ! [ -x "$program" ]; then
+            echo "$program is not there: run 'rt run' in crates/labels, or this script with --try" >&2
+            exit 2
+        fi
+        build_library
+        ;;
+    *)
+        echo "usage: scripts/refuse_each_growth.sh [--try]" >&2
+        exit 2
+        ;;
+esac
+
+good=0
+refuse_each "${stored[@]}"
+see_stored
+refuse_each "${stored[@]}" stdin
+see_stored
+if [ "$way" = built ]; then
+    refuse_each --format ascii --scale 2 --height 3 --level Q --min-version 3 --mask 5 --escapes stdin
+    refuse_each --help
+    refuse_each --scale 9
+    refuse_each --no-such-word
+    refuse_each no-such-file
+fi
+exit "$good"
