@@ -40,6 +40,7 @@ data_of() {
 lines_of() {
     case $1 in
         qr10) sed 's/^/qr,min-version=10 /' ;;
+        qr10_mask) sed 's/^/qr,min-version=10,mask=3 /' ;;
         *) sed "s/^/$1 /" ;;
     esac
 }
@@ -51,6 +52,7 @@ zint_words() {
         code128) echo '-b CODE128 --notext --quietzones' ;;
         qr) echo '-b QRCODE --secure=2 --quietzones' ;;
         qr10) echo '-b QRCODE --secure=2 --vers=10 --quietzones' ;;
+        qr10_mask) echo '-b QRCODE --secure=2 --vers=10 --mask=3 --quietzones' ;;
     esac
 }
 
@@ -191,7 +193,8 @@ print_machine() {
 }
 
 print_machine
-for kind in 'ean13 EAN-13' 'code128 Code 128, 19 characters' 'qr QR, version 3, level M' 'qr10 QR, version 10, level M, no mask given'; do
+for kind in 'ean13 EAN-13' 'code128 Code 128, 19 characters' 'qr QR, version 3, level M, no mask given' \
+    'qr10 QR, version 10, level M, no mask given' 'qr10_mask QR, version 10, level M, mask 3 given'; do
     table_one_by_one "${kind%% *}" "${kind#* }"
     table_one_run "${kind%% *}" "${kind#* }"
 done

