@@ -1,4 +1,7 @@
-//! The field of 256 elements in which QR Code computes its error correction codewords, and these codewords.
+//! The field of 256 elements of QR Code, and the parity codewords of its blocks (ISO/IEC 18004, 7.5.2).
+//!
+//! A [`Generator`] is made once for a number of parity codewords and serves all blocks with as many. Nothing here takes
+//! memory.
 #![tactic(auto)]
 
 mod field;

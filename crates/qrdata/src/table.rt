@@ -10,15 +10,16 @@ use crate::version::Version;
 /// The most bytes that a symbol of version 10 holds: more digits than this have more bits than its data codewords.
 pub(crate) const MAX_BYTES: usize = 652;
 
-/// A first segment of a rest of the bytes, and the bits of the list that it begins.
+/// A first segment of a rest of the bytes.
 #[derive(Clone, Copy)]
 struct Choice {
     segment: Segment,
+    /// The bits of the list of this segment and the best segments of what comes after it.
     bits: u16,
 }
 
-/// The candidate of so many bytes, if it is a segment and its list costs less, and else the choice so far. The first
-/// bytes that the mode has are a run of this length, and the best list of what comes after the candidate has these bits.
+/// The candidate of a mode and a length, if it is a segment and its list costs less, and else the choice so far. The mode
+/// has the first `run` bytes, and the best segments of what comes after the candidate have `after` bits.
 fn better(
     version: Version,
     mode: Mode,
@@ -46,8 +47,8 @@ fn better(
     so_far
 }
 
-/// The first segment of the best list of a rest of the bytes, and the bits of that list. The bits of the best lists of
-/// shorter rests are known, and how many of the first bytes are digits and characters.
+/// The first of the best segments of the bytes from a place on. From that place on this many bytes are digits and this many
+/// are alphanumeric characters, and `bits` has the bits of the best segments of each shorter rest.
 fn first_of(
     version: Version,
     bytes: &[u8],
@@ -83,7 +84,8 @@ fn first_of(
     choice
 }
 
-/// Fills a table over the rests of the bytes, from the end: the bits of the best list and its first segment.
+/// Fills a table from its end: at each place stand the bits of the best segments of the bytes from there on, and the first
+/// of these segments. Its time grows with the square of the number of bytes.
 pub(crate) fn fill(version: Version, bytes: &[u8], bits: &mut [u16], firsts: &mut [Segment])
     requires few { length bytes.now ≤ 652 }
     requires bits { length bits.old ≡ 653 }
