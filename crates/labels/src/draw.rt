@@ -125,7 +125,7 @@ fn write_picture<G: Grid + Drop, O: Sink>(
     requires width { (G.picture grid).width ≤ 1815 }
     requires height { (G.picture grid).height ≤ 500 }
     ensures count { CountsFailure (O.failures out.old) (O.failures out.new) result }
-    ensures bytes { Writes O.took out.old out.new 
+    ensures bytes { Writes O.took out.old out.new
         (text_of options.now.format (scaled (G.picture grid) options.now.scale)) result }
 {
     let picture = Scaled::new(grid, usize::from(options.scale()));

@@ -187,7 +187,7 @@ fn flush_both<O: Sink, E: Sink>(out: &mut O, err: &mut E) -> Result<(), RunFault
     ensures err_takes_none { E.took err.old err.new [] }
     ensures flushed { OnOk result ((O.is_flushed out.new ≡ true) × (E.is_flushed err.new ≡ true)) }
     ensures counts { CountsFault (O.failures out.old) (O.failures out.new)
-            (E.failures err.old) (E.failures err.new) result }
+        (E.failures err.old) (E.failures err.new) result }
 {
     if out.flush().is_err() {
         return Err(RunFault::WriteOut);
