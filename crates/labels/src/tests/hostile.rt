@@ -1,5 +1,7 @@
 //! Hostile use: devices that fail at each call or at each byte, very long lines, every byte, and input that breaks off.
-use crate::tests::support::{EAN8, assert_came_to, joined, repeated, run_by};
+use crate::tests::support::{
+    EAN8, REFUSALS, assert_came_to, joined, refused_lines, repeated, run_by,
+};
 use crate::{RunFault, Status, run};
 use labelcore::{FailAt, Format, Level, MemSink, MemSource, Options};
 use std::alloc::{AllocError, Global};
@@ -201,12 +203,7 @@ fn every_byte(rt: HostRuntime) -> Result<(), Fail> {
 #[test]
 fn input_that_breaks_off(rt: HostRuntime) -> Result<(), Fail> {
     let alloc = rt.alloc();
-    let letters = repeated(alloc, b"a", 81)?;
-    let lines =
-        b"ean8 73x1353\nean13 123\nqr\nqr \n qr x\ncode128 a\\q\ncode128 \xC3\xA9\ncode128 ";
-    let input = joined(alloc, &[lines, letters.as_slice(), b"\n"])?;
-    let messages =
-        b"line 1: not a digit at byte 3\nline 2: wrong number of digits: 3\nline 3: no data\nline 4: no data\nline 5: unknown symbology\nline 6: bad escape at byte 2\nline 7: byte 1 is not ASCII\nline 8: data is longer than 80 bytes\n";
+    let input = refused_lines(alloc)?;
     for end in 0..input.len() {
         let front = &input.as_slice()[..end];
         let came = run_by(alloc, low(&rt, true), front, 4096);
@@ -217,7 +214,7 @@ fn input_that_breaks_off(rt: HostRuntime) -> Result<(), Fail> {
         assert!(rt; came.err.as_slice() == same.err.as_slice());
         let ended = front.iter().filter(|byte| **byte == b'\n').count();
         let told = came.err.as_slice().split(|byte| *byte == b'\n');
-        let want = messages.split(|byte| *byte == b'\n');
+        let want = REFUSALS.split(|byte| *byte == b'\n');
         assert!(rt; told.zip(want).take(ended).all(|(told, want)| told == want));
         let told = came
             .err

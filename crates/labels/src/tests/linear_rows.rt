@@ -1,5 +1,8 @@
 //! Worked labels of EAN-13, EAN-8, UPC-A and Code 128, and the lines that they refuse.
-use crate::tests::support::{EAN8, assert_row, bars, choice_of, joined, letters, repeated, run_by};
+use crate::tests::support::{
+    EAN8, EAN13_ROW, REFUSALS, assert_row, bars, choice_of, joined, letters, refused_lines,
+    repeated, run_by,
+};
 use crate::{End, Status};
 use labelcore::Options;
 use std::alloc::Global;
@@ -68,9 +71,13 @@ fn ean8_in_letters(rt: HostRuntime) -> Result<(), Fail> {
 #[test]
 fn ean13(rt: HostRuntime) -> Result<(), Fail> {
     let alloc = rt.alloc();
-    let row =
-        b"0000000000010100011010100111010111101111010001001011001101010100001010\n0001010000101110100100001011001101010000000\n";
-    assert_drawn(&rt, alloc, b"ean13 4006381333931\n", b"P1\n113 50\n", row)?;
+    assert_drawn(
+        &rt,
+        alloc,
+        b"ean13 4006381333931\n",
+        b"P1\n113 50\n",
+        EAN13_ROW,
+    )?;
     let came = run_by(alloc, Options::default(), b"ean13 4006381333931\n", 4096);
     assert_eq!(rt; came.out.len(), 5760);
     let row =
@@ -197,18 +204,8 @@ fn data_is_refused(rt: HostRuntime) -> Result<(), Fail> {
 fn each_refusal_of_a_linear_line(rt: HostRuntime) -> Result<(), Fail> {
     let alloc = rt.alloc();
     let options = choice_of(alloc, &["--escapes"])?.options;
-    let letters = repeated(alloc, b"a", 81)?;
-    let input = joined(
-        alloc,
-        &[
-            b"ean8 73x1353\nean13 123\nqr\nqr \n qr x\ncode128 a\\q\ncode128 \xC3\xA9\ncode128 ",
-            letters.as_slice(),
-            b"\n",
-        ],
-    )?;
-    let messages =
-        b"line 1: not a digit at byte 3\nline 2: wrong number of digits: 3\nline 3: no data\nline 4: no data\nline 5: unknown symbology\nline 6: bad escape at byte 2\nline 7: byte 1 is not ASCII\nline 8: data is longer than 80 bytes\n";
-    assert_row(&rt, alloc, options, input.as_slice(), b"", messages);
+    let input = refused_lines(alloc)?;
+    assert_row(&rt, alloc, options, input.as_slice(), b"", REFUSALS);
     let came = run_by(alloc, options, input.as_slice(), 4096);
     assert_eq!(rt; End::Ran(came.answer).status(), 1);
     Ok(())

@@ -1,5 +1,5 @@
 //! Readers and writers of std that move one byte a call, break off once, or take nothing once.
-use crate::tests::support::{EAN8, bars, joined, repeated};
+use crate::tests::support::{EAN8, EAN13_ROW, REFUSALS, bars, refused_lines};
 use crate::{RunFault, Status, run};
 use labelcore::{Format, Level, Options, StdSink, StdSource};
 use std::alloc::Global;
@@ -128,9 +128,7 @@ fn devices_of_one_byte_a_call(rt: HostRuntime) -> Result<(), Fail> {
         "options in range",
     );
     assert_by_bytes(&rt, alloc, low, b"ean8 7351353\n", EAN8, b"");
-    let row =
-        b"0000000000010100011010100111010111101111010001001011001101010100001010\n0001010000101110100100001011001101010000000\n";
-    let tall = bars(alloc, b"P1\n113 50\n", row, 50)?;
+    let tall = bars(alloc, b"P1\n113 50\n", EAN13_ROW, 50)?;
     assert_by_bytes(
         &rt,
         alloc,
@@ -139,13 +137,8 @@ fn devices_of_one_byte_a_call(rt: HostRuntime) -> Result<(), Fail> {
         tall.as_slice(),
         b"",
     );
-    let letters = repeated(alloc, b"a", 81)?;
-    let lines =
-        b"ean8 73x1353\nean13 123\nqr\nqr \n qr x\ncode128 a\\q\ncode128 \xC3\xA9\ncode128 ";
-    let input = joined(alloc, &[lines, letters.as_slice(), b"\n"])?;
-    let messages =
-        b"line 1: not a digit at byte 3\nline 2: wrong number of digits: 3\nline 3: no data\nline 4: no data\nline 5: unknown symbology\nline 6: bad escape at byte 2\nline 7: byte 1 is not ASCII\nline 8: data is longer than 80 bytes\n";
-    assert_by_bytes(&rt, alloc, low, input.as_slice(), b"", messages);
+    let input = refused_lines(alloc)?;
+    assert_by_bytes(&rt, alloc, low, input.as_slice(), b"", REFUSALS);
     Ok(())
 }
 

@@ -11,6 +11,14 @@ use std::test::Fail;
 pub const EAN8: &[u8] =
     b"P1\n81 1\n0000000101011101101111010110001001100101010100001010011101000010100010\n01010000000\n";
 
+/// A row of pixels of `ean13 4006381333931`, in its quiet zone.
+pub const EAN13_ROW: &[u8] =
+    b"0000000000010100011010100111010111101111010001001011001101010100001010\n0001010000101110100100001011001101010000000\n";
+
+/// What lines of each refusal that no setting makes are told, with `--escapes`.
+pub const REFUSALS: &[u8] =
+    b"line 1: not a digit at byte 3\nline 2: wrong number of digits: 3\nline 3: no data\nline 4: no data\nline 5: unknown symbology\nline 6: bad escape at byte 2\nline 7: byte 1 is not ASCII\nline 8: data is longer than 80 bytes\n";
+
 /// What a run came to.
 #[derive(Drop)]
 pub struct RunResult {
@@ -100,6 +108,14 @@ pub fn joined(alloc: Global, texts: &[&[u8]]) -> Result<Vec<u8>, AllocError> {
         all.extend_from_slice(text)?;
     }
     Ok(all)
+}
+
+/// The lines that `REFUSALS` tells of.
+pub fn refused_lines(alloc: Global) -> Result<Vec<u8>, AllocError> {
+    let lines =
+        b"ean8 73x1353\nean13 123\nqr\nqr \n qr x\ncode128 a\\q\ncode128 \xC3\xA9\ncode128 ";
+    let letters = repeated(alloc, b"a", 81)?;
+    joined(alloc, &[lines, letters.as_slice(), b"\n"])
 }
 
 /// A header, and then the text of one row of pixels for each of the rows.
