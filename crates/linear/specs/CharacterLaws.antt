@@ -1,4 +1,4 @@
--- Rules of the table of widths.
+-- Laws of the table of widths (ISO/IEC 15417, symbol characters): each is a test that is computed over the whole table.
 use Rattle.std.proofs.Common.{◌≡◌, ℕ, ◌<◌, Some, length, eqb, refl}
 use Rattle.std.specs.Prelude.{sum}
 use Rattle.std.proofs.lemmas.Bool.Decides.{Decides-eqb}

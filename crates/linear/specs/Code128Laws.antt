@@ -1,4 +1,4 @@
--- What is drawn as Code 128 is read back.
+-- What is drawn as Code 128 is read back (ISO/IEC 15417, symbol structure).
 use Rattle.std.proofs.Common.{◌≡◌, ℕ, ◌+◌, ◌-◌, ◌*◌, ◌/◌, ◌%◌, ◌<◌, ◌≤◌, ◌⊎◌, Bool, true, false, cond, Ok, Err, Some, None, Option, List, [], ◌∷◌, ◌++◌, ◌&&◌, length, take, drop, eqb, ltb, leb, refl, sym, ap, subst, ◌∙◌, arith, length-append, append_assoc, append-nil, eq-eqb, lt-ltb, le-ltb, le-leb, inl, inr, lit<}
 use Rattle.std.specs.Prelude.{option_map, option_and_then, flat_map, slice_index, get_or, position, All}
 use Rattle.std.specs.Char.{IsAsciiDigit, is_ascii_digit}

@@ -87,7 +87,8 @@ fn push_code128(row: &mut Row, data: &[u8])
 /// Whether data can be a symbol: at most 80 bytes, all of them ASCII.
 #[tactic(auto, using(crate::specs::Code128Laws::all_ascii_from_None))]
 fn check_data(data: &[u8]) -> Result<(), Fault>
-    ensures answer { MatchResult result (λ _. full_code128 «data».now ≡ Ok «data».now) (λ fault. full_code128 «data».now ≡ Err fault) }
+    ensures answer { MatchResult result (λ _. full_code128 «data».now ≡ Ok «data».now)
+        (λ fault. full_code128 «data».now ≡ Err fault) }
     ensures ascii { OnOk result (All (λ byte. byte < 128) «data».now) }
     ensures few { OnOk result (length «data».now ≤ 80) }
 {

@@ -56,7 +56,8 @@ fn push_right(row: &mut Row, digits: &[u8])
     requires digits { All IsAsciiDigit digits.now }
     requires few { length digits.now ≤ 6 }
     requires room { array_vec_len row.old + 42 ≤ 1795 }
-    ensures drawn { row.new.items ≡ row.old.items ++ flat_map (λ byte. pattern NumberSet.C (digit_value byte)) digits.now }
+    ensures drawn { row.new.items
+        ≡ row.old.items ++ flat_map (λ byte. pattern NumberSet.C (digit_value byte)) digits.now }
     ensures len { array_vec_len row.new ≡ array_vec_len row.old + 7 * length digits.now }
 {
     for digit in digits {

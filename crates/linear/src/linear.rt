@@ -36,5 +36,6 @@ pub trait Linear {
         ensures empty { OnErr result (row.new.items ≡ []) };
 
     /// What is drawn is read back as the full data.
-    ghost reads_back: { (bytes full : List ℕ) → full_data bytes ≡ Ok full → reading (bars full) ≡ Some full };
+    ghost reads_back: { (bytes full : List ℕ) → full_data bytes ≡ Ok full
+        → reading (bars full) ≡ Some full };
 }

@@ -162,7 +162,8 @@ fn push_shifted(values: &mut Values, set: CodeSet, shifted: CodeSet, byte: u8) -
     requires ascii { byte < 128 }
     requires has { IsTrue (has_character shifted byte) }
     requires room { array_vec_len values.old + 2 ≤ 160 }
-    ensures items { values.new.items ≡ values.old.items ++ shift_value ∷ character_value shifted byte ∷ [] }
+    ensures items { values.new.items
+        ≡ values.old.items ++ shift_value ∷ character_value shifted byte ∷ [] }
     ensures set { result ≡ set }
     ensures len { array_vec_len values.new ≤ array_vec_len values.old + 2 }
 {
