@@ -8,14 +8,14 @@ impl Grid for Matrix {
     ghost picture = { symbol_picture };
 
     fn width(&self) -> usize {
-        Matrix::side(self)
+        self.side()
     }
 
     fn height(&self) -> usize {
-        Matrix::side(self)
+        self.side()
     }
 
     fn dark(&self, x: usize, y: usize) -> bool {
-        Matrix::dark(self, x, y)
+        (self.rows()[y] >> x) & 1 == 1
     }
 }
