@@ -1,7 +1,5 @@
 //! Worked labels of QR.
-use crate::tests::support::{
-    assert_came_to, assert_row, choice_of, joined, letters, repeated, run_by,
-};
+use crate::tests::support::{assert_row, choice_of, joined, letters, repeated, run_by};
 use labelcore::Options;
 use std::alloc::{AllocError, Global};
 use std::process::Abort;
@@ -81,27 +79,27 @@ fn assert_long(
 ) -> Result<(), Fail> {
     let data = repeated(alloc, byte, times)?;
     let line = joined(alloc, &[b"qr ", data.as_slice()])?;
-    let came = run_by(alloc, options_of(alloc, words)?, line.as_slice(), 4096);
-    assert!(rt; came.out.starts_with(header));
-    assert!(rt; came.err.is_empty());
-    Ok(())
+    assert_header(rt, alloc, words, line.as_slice(), header)
 }
 
-/// A line of a name and so many equal bytes does not fit.
+/// A line of this front and so many equal bytes does not fit at level L.
 fn assert_does_not_fit(
     rt: &impl Abort,
     alloc: Global,
-    words: &[&str],
     front: &[u8],
     byte: &[u8],
     times: usize,
 ) -> Result<(), Fail> {
     let data = repeated(alloc, byte, times)?;
     let line = joined(alloc, &[front, data.as_slice()])?;
-    let came = run_by(alloc, options_of(alloc, words)?, line.as_slice(), 4096);
-    assert_came_to(rt, &came, b"", b"line 1: data does not fit version 10-L\n");
+    let options = options_of(alloc, &LOW)?;
+    let message = b"line 1: data does not fit version 10-L\n";
+    assert_row(rt, alloc, options, line.as_slice(), b"", message);
     Ok(())
 }
+
+/// The words of level L.
+const LOW: [&str; 2] = ["--level", "L"];
 
 #[test]
 fn standard_example(rt: HostRuntime) -> Result<(), Fail> {
@@ -178,24 +176,35 @@ fn hello_world(rt: HostRuntime) -> Result<(), Fail> {
 #[test]
 fn least_versions(rt: HostRuntime) -> Result<(), Fail> {
     let alloc = rt.alloc();
-    let low = ["--level", "L"];
-    assert_long(&rt, alloc, &low, b"1", 41, b"P1\n29 29\n")?;
-    assert_long(&rt, alloc, &low, b"1", 42, b"P1\n33 33\n")?;
-    assert_long(&rt, alloc, &low, b"a", 17, b"P1\n29 29\n")?;
-    assert_long(&rt, alloc, &low, b"a", 18, b"P1\n33 33\n")?;
-    assert_long(&rt, alloc, &low, b"a", 271, b"P1\n65 65\n")?;
-    assert_does_not_fit(&rt, alloc, &low, b"qr ", b"a", 272)?;
-    assert_long(&rt, alloc, &low, b"1", 652, b"P1\n65 65\n")?;
-    assert_does_not_fit(&rt, alloc, &low, b"qr ", b"1", 653)?;
-    assert_does_not_fit(&rt, alloc, &low, b"qr a", b"1", 645)?;
-    assert_long(
-        &rt,
-        alloc,
-        &["--level", "Q", "--min-version", "5"],
-        b"a",
-        30,
-        b"P1\n45 45\n",
-    )
+    assert_long(&rt, alloc, &LOW, b"1", 41, b"P1\n29 29\n")?;
+    assert_long(&rt, alloc, &LOW, b"1", 42, b"P1\n33 33\n")?;
+    assert_long(&rt, alloc, &LOW, b"a", 17, b"P1\n29 29\n")?;
+    assert_long(&rt, alloc, &LOW, b"a", 18, b"P1\n33 33\n")?;
+    let words = ["--level", "Q", "--min-version", "5"];
+    assert_long(&rt, alloc, &words, b"a", 30, b"P1\n45 45\n")
+}
+
+#[test]
+fn most_bytes(rt: HostRuntime) -> Result<(), Fail> {
+    let alloc = rt.alloc();
+    assert_long(&rt, alloc, &LOW, b"a", 271, b"P1\n65 65\n")?;
+    assert_does_not_fit(&rt, alloc, b"qr ", b"a", 272)
+}
+
+#[test]
+fn most_digits(rt: HostRuntime) -> Result<(), Fail> {
+    let alloc = rt.alloc();
+    assert_long(&rt, alloc, &LOW, b"1", 652, b"P1\n65 65\n")?;
+    assert_does_not_fit(&rt, alloc, b"qr ", b"1", 653)
+}
+
+#[test]
+fn most_digits_after_a_letter(rt: HostRuntime) -> Result<(), Fail> {
+    let alloc = rt.alloc();
+    let data = repeated(alloc, b"1", 644)?;
+    let line = joined(alloc, &[b"qr a", data.as_slice()])?;
+    assert_header(&rt, alloc, &LOW, line.as_slice(), b"P1\n65 65\n")?;
+    assert_does_not_fit(&rt, alloc, b"qr a", b"1", 645)
 }
 
 #[test]
