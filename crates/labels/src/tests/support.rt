@@ -112,10 +112,15 @@ pub fn joined(alloc: Global, texts: &[&[u8]]) -> Result<Vec<u8>, AllocError> {
 
 /// The lines that `REFUSALS` tells of.
 pub fn refused_lines(alloc: Global) -> Result<Vec<u8>, AllocError> {
-    let lines =
-        b"ean8 73x1353\nean13 123\nqr\nqr \n qr x\ncode128 a\\q\ncode128 \xC3\xA9\ncode128 ";
-    let letters = repeated(alloc, b"a", 81)?;
-    joined(alloc, &[lines, letters.as_slice(), b"\n"])
+    let mut lines = Vec::new(alloc);
+    lines.extend_from_slice(
+        b"ean8 73x1353\nean13 123\nqr\nqr \n qr x\ncode128 a\\q\ncode128 \xC3\xA9\ncode128 ",
+    )?;
+    for _ in 0..81 {
+        lines.push(b'a')?;
+    }
+    lines.push(b'\n')?;
+    Ok(lines)
 }
 
 /// A header, and then the text of one row of pixels for each of the rows.
