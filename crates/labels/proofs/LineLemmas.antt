@@ -1,5 +1,5 @@
 -- What a line comes to, from what its symbol or its refusal comes to.
-use Rattle.std.proofs.Common.{◌≡◌, ℕ, Bool, List, [], Option, Some, None, Result, Ok, Err, refl, sym, subst, ap, ◌∙◌}
+use Rattle.std.proofs.Common.{◌≡◌, ℕ, Bool, List, Some, Result, Ok, Err, refl, sym, subst}
 use Rattle.std.specs.Prelude.{IfErr}
 use Rattle.labelcore.specs.OptionValues.{OptionValues, KeepsForm}
 use Rattle.labelcore.specs.LineItem.{item}

@@ -1,8 +1,8 @@
 -- Images that are read back, one and many.
-use Rattle.std.proofs.Common.{◌≡◌, ℕ, zero, suc, ◌+◌, ◌-◌, ◌*◌, ◌^◌, ◌<◌, ◌≤◌, Bool, true, false, List, [], ◌∷◌, ◌++◌, map, length, Option, None, Some, Result, Ok, Err, refl, sym, ap, subst, ◌∙◌, arith, get_or, inl, inr, ◌&&◌, ◌==◌, eq-eqb}
+use Rattle.std.proofs.Common.{◌≡◌, ℕ, ◌+◌, ◌*◌, ◌^◌, ◌<◌, ◌≤◌, Bool, true, false, List, [], ◌∷◌, ◌++◌, map, length, Option, None, Some, Result, Ok, Err, refl, sym, ap, ◌∙◌, arith, get_or, inl, inr, ◌&&◌, ◌==◌, eq-eqb}
 use mathlib.Core.Path.{fun_ext}
 use Rattle.std.specs.Prelude.{nat_lt}
-use Rattle.std.specs.List.{AllByRecursion, flat_map, list_all, range_with_len}
+use Rattle.std.specs.List.{AllByRecursion, flat_map, list_all}
 use Rattle.std.proofs.Math.Nat.{mul-pos, mul-le-mul_right}
 use Rattle.std.proofs.lemmas.Bool.{cases_lt, le-ltb}
 use Rattle.std.proofs.lemmas.List.{get_or_past}
@@ -17,19 +17,15 @@ use Rattle.labelcore.specs.declared.symbology.Symbology.TheVariants.{Ean13, Ean8
 use Rattle.labelcore.specs.OptionValues.{OptionValues}
 use Rattle.qrdata.specs.Reading.{data_in}
 use Rattle.qrmatrix.specs.Modules.{is_inside}
-use Rattle.qrmatrix.specs.Reading.{Reading, read_matrix}
+use Rattle.qrmatrix.specs.Reading.{read_matrix}
 use Rattle.qrmatrix.specs.Square.{value_at}
-use Rattle.picture.specs.Picture.{Picture, Zone, bars, framed, scaled}
-use Rattle.picture.specs.Text.{below, pbm_text, ascii_text}
-use Rattle.picture.specs.Read.{Raster, raster, pixel_row, pbm_pixels, ascii_pixels, sample, linear_row, pbm_files, ascii_files, ◌>>=◌}
-use Rattle.picture.specs.RoundTrip.{IsDrawable}
-use Rattle.picture.proofs.PbmLemmas.{pbm_pixels-pbm_text}
-use Rattle.picture.proofs.AsciiLemmas.{ascii_pixels-ascii_text, ascii_files-flat_map}
-use Rattle.picture.proofs.CutLemmas.{pbm_files-flat_map}
-use Rattle.picture.proofs.SampleLemmas.{pixel-raster, sample-raster, linear_row-bars}
+use Rattle.picture.specs.Picture.{Picture, bars}
+use Rattle.picture.specs.Text.{below}
+use Rattle.picture.specs.Read.{raster, pixel_row}
+use Rattle.picture.specs.RoundTrip.{IsDrawable, PbmFilesAreTexts, AsciiFilesAreTexts, PbmTextsAreRead, AsciiTextsAreRead, PixelsAreThePicture, ModulesAreSampled, BarsAreOneRow}
 use Rattle.labels.specs.Label.{Label, quiet_zone, linear_label}
 use Rattle.labels.specs.Output.{Outcome, skipped, refused, drawn, outcome, outcome_of_label, image_of, images, picture_of, text_of}
-use Rattle.labels.specs.Readback.{cut, pixels, is_square, read_qr, read_linear, read_modules, read_image, accepted, with_label, AreRead, IsReadable, ReadsBack}
+use Rattle.labels.specs.Readback.{cut, pixels, read_linear, read_modules, read_image, accepted, with_label, AreRead, IsReadable, ReadsBack}
 
 -- the quiet zones are narrow
 zone_columns : (symbology : Symbology) → (quiet_zone symbology).left + (quiet_zone symbology).right ≤ 20
@@ -55,7 +51,15 @@ some_sum a b c some = omega arith
 small_product : (a b : ℕ) → a ≤ 1840 → b ≤ 8 → a * b < 2 ^ 64
 small_product a b few scale = let m : a * b ≤ 1840 * b = mul-le-mul_right b few in omega arith
 
-module _ (options : OptionValues) (low : 1 ≤ options.scale) (high : options.scale ≤ 8) where
+-- what the laws of `picture` say of reading
+pub record ReadingLaws : Type 0 where
+  pub pbm_files : PbmFilesAreTexts
+  pub ascii_files : AsciiFilesAreTexts
+  pub pbm_texts : PbmTextsAreRead
+  pub ascii_texts : AsciiTextsAreRead
+  pub sampled : ModulesAreSampled
+
+module _ (laws : ReadingLaws) (options : OptionValues) (low : 1 ≤ options.scale) (high : options.scale ≤ 8) where
   drawable : (label : Label) → IsReadable label → IsDrawable (picture_of options label)
   drawable label h =
       let zone = quiet_zone label.symbology in
@@ -70,13 +74,13 @@ module _ (options : OptionValues) (low : 1 ≤ options.scale) (high : options.sc
       mul-pos (some_sum zone.top label.modules.height zone.bottom h.some_rows) low
 
   text_read : (format : Format) (label : Label) → IsReadable label → pixels format (text_of format (picture_of options label)) ≡ Some (raster (picture_of options label))
-  text_read Pbm label h = pbm_pixels-pbm_text (picture_of options label) (drawable label h)
-  text_read Ascii label h = ascii_pixels-ascii_text (picture_of options label) (some_rows label h)
+  text_read Pbm label h = laws.pbm_texts (picture_of options label) (drawable label h)
+  text_read Ascii label h = laws.ascii_texts (picture_of options label) (some_rows label h)
 
   -- one image
   image_read : (format : Format) (label : Label) → IsReadable label → read_image format options.scale label.symbology (text_of format (picture_of options label)) ≡ Some label.full
   unfolding read_image
-  image_read format label h = rw (text_read format label h, sample-raster label.modules (quiet_zone label.symbology) options.scale low) h.read
+  image_read format label h = rw (text_read format label h, laws.sampled label.modules (quiet_zone label.symbology) options.scale low) h.read
 
   are_drawable : (labels : List Label) → AllByRecursion IsReadable labels → AllByRecursion IsDrawable (map (picture_of options) labels)
   are_drawable [] all = tt
@@ -88,8 +92,8 @@ module _ (options : OptionValues) (low : 1 ≤ options.scale) (high : options.sc
 
   -- a stream of images
   stream_cut : (format : Format) (labels : List Label) → AllByRecursion IsReadable labels → cut format (flat_map (text_of format) (map (picture_of options) labels)) ≡ map (text_of format) (map (picture_of options) labels)
-  stream_cut Pbm labels all = let ps = map (picture_of options) labels in pbm_files-flat_map ps (All-from_recursion IsDrawable ps (are_drawable labels all))
-  stream_cut Ascii labels all = let ps = map (picture_of options) labels in ascii_files-flat_map ps (All-from_recursion (λ (p : Picture). 0 < p.width) ps (have_columns labels all))
+  stream_cut Pbm labels all = let ps = map (picture_of options) labels in laws.pbm_files ps (All-from_recursion IsDrawable ps (are_drawable labels all))
+  stream_cut Ascii labels all = let ps = map (picture_of options) labels in laws.ascii_files ps (All-from_recursion (λ (p : Picture). 0 < p.width) ps (have_columns labels all))
 
   all_read : (labels : List Label) → AllByRecursion IsReadable labels → AreRead options.format options.scale (map (text_of options.format) (map (picture_of options) labels)) labels
   unfolding AreRead
@@ -128,13 +132,13 @@ some_row reading [] full none e = absurd (let no : None ≡ Some full = sym none
 some_row reading (module_ ∷ row) full none e = omega arith
 
 -- a linear symbol whose row is read
-pub linear_readable : (symbology : Symbology) (row : List ℕ → List Bool) (reading : List Bool → Option (List ℕ)) (options : OptionValues) (r : Result (List ℕ) Fault) → 1 ≤ options.height → options.height ≤ 500 →
+pub linear_readable : BarsAreOneRow → (symbology : Symbology) (row : List ℕ → List Bool) (reading : List Bool → Option (List ℕ)) (options : OptionValues) (r : Result (List ℕ) Fault) → 1 ≤ options.height → options.height ≤ 500 →
     ((rows : List (List Bool)) → read_modules symbology rows ≡ read_linear reading rows) → reading [] ≡ None →
     ((full : List ℕ) → r ≡ Ok full → (length (row full) ≤ 1795) × (reading (row full) ≡ Some full)) → ReadsBack (outcome_of_label (linear_label symbology row options r))
-linear_readable symbology row reading options (Err fault) low high law none back = tt
-linear_readable symbology row reading options (Ok full) low high law none back =
+linear_readable one_row symbology row reading options (Err fault) low high law none back = tt
+linear_readable one_row symbology row reading options (Ok full) low high law none back =
     let b = back full refl in
-    let one = linear_row-bars (row full) options.height low in
+    let one = one_row (row full) options.height low in
     record {
       some_columns = some_row reading (row full) full none b.1;
       columns = omega (arith, b.0);
@@ -155,14 +159,14 @@ left_false : (a b : Bool) → a ≡ false → (a && b) ≡ false
 left_false true b e = cc
 left_false false b e = refl
 
-module _ (n : ℕ) (dark : ℕ → ℕ → Bool) (outside : (x y : ℕ) → is_inside n x y ≡ false → dark x y ≡ false) where
+module _ (pixels_are : PixelsAreThePicture) (n : ℕ) (dark : ℕ → ℕ → Bool) (outside : (x y : ℕ) → is_inside n x y ≡ false → dark x y ≡ false) where
   abbrev square : Picture
   square = record { width = n; height = n; dark = dark }
 
   square_value : (x y : ℕ) → value_at (raster square).rows x y ≡ dark x y
   square_value x y = elim (cases_lt y n) [
     | inl high ↦ elim (cases_lt x n) [
-      | inl wide ↦ pixel-raster square x y wide high
+      | inl wide ↦ pixels_are square x y wide high
       | inr past ↦
           ap (λ (row : List Bool). get_or row x false) (get_or-map-range_with_len (pixel_row square) 0 n y y [] high (omega arith))
           ∙ (get_or_past (pixel_row square y) x false (let size = length-map-range_with_len (λ x. dark x y) 0 n in omega arith)

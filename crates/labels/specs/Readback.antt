@@ -1,5 +1,5 @@
 -- Images read back: pbm(5), and the readings of ISO/IEC 15420, 15417 and 18004 with no correction.
-use Rattle.std.specs.Prelude.{◌≡◌, ℕ, ◌<◌, ◌≤◌, ◌==◌, Bool, List, [], ◌∷◌, length, Option, Some, option_and_then, slice_index_or, ⊤}
+use Rattle.std.specs.Prelude.{◌≡◌, ℕ, ◌<◌, ◌≤◌, ◌==◌, Bool, List, [], ◌∷◌, length, Option, Some, ⊤}
 use Rattle.std.specs.List.{list_all}
 use Rattle.labelcore.specs.declared.options.Format.{Format}
 use Rattle.labelcore.specs.declared.options.Format.TheVariants.{Pbm, Ascii}
@@ -9,7 +9,7 @@ use Rattle.labelcore.specs.OptionValues.{OptionValues}
 use Rattle.linear.specs.EanReading.{read_ean13, read_ean8, read_upca}
 use Rattle.linear.specs.Code128Reading.{read_code128}
 use Rattle.qrdata.specs.Reading.{data_in}
-use Rattle.qrmatrix.specs.Reading.{Reading, read_matrix}
+use Rattle.qrmatrix.specs.Reading.{read_matrix}
 use Rattle.qrmatrix.specs.Square.{value_at}
 use Rattle.picture.specs.Read.{Raster, raster, pbm_files, ascii_files, pbm_pixels, ascii_pixels, sample, linear_row, given, ◌>>=◌}
 use Rattle.labels.specs.Label.{Label, quiet_zone}

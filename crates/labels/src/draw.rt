@@ -13,7 +13,7 @@ ghost use Rattle.labelcore.specs.declared.symbology.Symbology.TheVariants.{Qr};
 
 use labelcore::{Fault, Format, IoFault, Options, Sink, Symbology};
 use linear::{Code128, Ean8, Ean13, Linear, Row, UpcA};
-use picture::{Bars, Framed, Grid, Scaled, write_ascii, write_pbm};
+use picture::{Bars, Framed, Grid, Scaled, modules_of_pixels, write_ascii, write_pbm};
 use qrdata::{Plan, Words, choose, codewords};
 use qrmatrix::Matrix;
 
@@ -65,6 +65,7 @@ fn draw_linear<L: Linear, O: Sink>(
     ensures read { ReadsBack
         (outcome_of_label (linear_label symbology L.bars options.now (L.full_data bytes.now))) }
 {
+    modules_of_pixels();
     let mut row = Row::new();
     if let Err(fault) = L::encode(bytes, &mut row) {
         return Ok(Some(fault));
@@ -111,6 +112,7 @@ fn matrix_of(options: &Options, plan: &Plan, bytes: &[u8]) -> Matrix
     ensures side { result.side ≤ 57 }
     ensures read { IsReadable (record { symbology = Qr; full = bytes.now; modules = symbol_picture result }) }
 {
+    modules_of_pixels();
     let mut words = Words::new();
     codewords(plan, bytes, &mut words);
     Matrix::draw(plan.version(), plan.level(), options.mask(), &words)

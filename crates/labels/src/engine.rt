@@ -5,6 +5,7 @@ ghost use Rattle.labels.specs.Run.{RunsWhole, RunStops, RunRaises, GaveTooMuch};
 use crate::filter::Filter;
 use crate::status::{RunFault, Status};
 use labelcore::{Options, Sink, Source};
+use picture::{files_of_texts, modules_of_pixels, pixels_of_texts};
 
 /// Reads the source to its end, at most 4,096 bytes a read, and writes what its lines come to: images to `out`, messages to
 /// `err`. The answer says whether any line was refused.
@@ -30,6 +31,9 @@ pub fn run<S: Source, O: Sink, E: Sink>(
         (E.failures err.old) (E.failures err.new)) }
 {
     options.ranges();
+    files_of_texts();
+    pixels_of_texts();
+    modules_of_pixels();
     let mut filter = Filter::new(options);
     let mut buffer = [0u8; 4096];
     for _turn in 0..u64::MAX {

@@ -9,7 +9,7 @@ use Rattle.std.proofs.lemmas.Bool.{eq-eqb}
 use Rattle.labelcore.specs.Lines.{lines}
 use Rattle.std.proofs.lemmas.List.Elements.{recursion_from_All}
 use Rattle.picture.specs.Picture.{Picture}
-use Rattle.picture.specs.RoundTrip.{AsciiFilesAreTexts}
+use Rattle.picture.specs.RoundTrip.{AsciiFilesAreTexts, AsciiTextsAreRead}
 use Rattle.picture.specs.Text.{below, ascii_pixel, ascii_row, ascii_text}
 use Rattle.picture.specs.Read.{raster, pixel_row, ascii_line, ascii_lines, ascii_pixels, first_length, cut_after, is_line_feed, whole_lines, ascii_files}
 use Rattle.picture.proofs.LineLemmas.{has_no_line_feed, lines-line, lines-nil}
@@ -65,7 +65,7 @@ unfolding ascii_pixels
 read_back p n e =
     rw (rows_as_lines p (below p.height), read_rows p (below p.height), first_row p n e, equal_rows p (below p.height), length-map (below p.height) (pixel_row p), length-range_with_len 0 p.height) refl
 
-pub ascii_pixels-ascii_text : (p : Picture) → 0 < p.height → ascii_pixels (ascii_text p) ≡ Some (raster p)
+pub ascii_pixels-ascii_text : AsciiTextsAreRead
 ascii_pixels-ascii_text p some = read_back p (p.height - 1) (omega arith)
 
 abbrev is_blank : List ℕ → Bool

@@ -5,7 +5,7 @@ use Rattle.std.proofs.lemmas.List.{append-nil}
 use Rattle.std.proofs.lemmas.Bool.{eq-eqb}
 use Rattle.std.proofs.lemmas.List.FromFn.{length-range_with_len}
 use Rattle.picture.specs.Picture.{Picture}
-use Rattle.picture.specs.RoundTrip.{IsDrawable}
+use Rattle.picture.specs.RoundTrip.{PbmTextsAreRead}
 use Rattle.picture.specs.Passing.{row_text}
 use Rattle.picture.specs.Text.{below, pbm_text, pbm_pixel_text, pbm_row}
 use Rattle.picture.specs.Read.{raster, raster_of, pbm_pixels, has_short_lines, after_white, after_one_white, number_at, pixel_row}
@@ -45,7 +45,7 @@ read_back p n e wide high =
     ∙ raster_of-digits p (below p.height) (sym (length-range_with_len 0 p.height))
 
 -- a plain PBM file of some column reads back as the picture's pixels
-pub pbm_pixels-pbm_text : (p : Picture) → IsDrawable p → pbm_pixels (pbm_text p) ≡ Some (raster p)
+pub pbm_pixels-pbm_text : PbmTextsAreRead
 pbm_pixels-pbm_text p h = read_back p (p.width - 1) (let some = h.some in omega arith) h.wide h.high
 
 -- the rows of a walker that writes digits and line ends, and ends a row with nothing

@@ -8,12 +8,12 @@ use Rattle.std.proofs.lemmas.Nat.{div-mul-add, mul-add-lt}
 use Rattle.std.proofs.lemmas.Bool.{le-leb, lt-ltb, le-ltb, and_from, cases_lt}
 use Rattle.std.proofs.Math.Nat.{mul-mod_left}
 use Rattle.picture.specs.Picture.{Picture, Zone, bars, framed, scaled}
-use Rattle.picture.specs.RoundTrip.{ModulesAreSampled, BarsAreOneRow}
+use Rattle.picture.specs.RoundTrip.{PixelsAreThePicture, ModulesAreSampled, BarsAreOneRow}
 use Rattle.picture.specs.Text.{below}
 use Rattle.picture.specs.Read.{raster, pixel, pixel_row, cell, has_colour, is_inside, are_cells, sample, linear_row}
 
 -- the pixels of a raster are those of its picture
-pub pixel-raster : (p : Picture) (x y : ℕ) → x < p.width → y < p.height → pixel (raster p) x y ≡ p.dark x y
+pub pixel-raster : PixelsAreThePicture
 pixel-raster p x y wide high =
     ap (λ (row : List Bool). get_or row x false) (get_or-map-range_with_len (pixel_row p) 0 p.height y y [] high (omega arith))
     ∙ get_or-map-range_with_len (λ x. p.dark x y) 0 p.width x x false wide (omega arith)

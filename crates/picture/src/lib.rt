@@ -18,6 +18,6 @@ pub use ascii::write_ascii;
 pub use bars::Bars;
 pub use framed::Framed;
 pub use grid::Grid;
-pub use laws::{files_of_texts, modules_of_pixels};
+pub use laws::{files_of_texts, modules_of_pixels, pixels_of_texts};
 pub use pbm::write_pbm;
 pub use scaled::Scaled;

@@ -35,6 +35,7 @@ fn grids_are_asked(rt: HostRuntime) {
     assert_eq!(rt; (scaled.dark(7, 5), scaled.dark(9, 5)), (false, true));
     assert_eq!(rt; (scaled.dark(9, 6), scaled.dark(10, 5)), (false, false));
     files_of_texts();
+    pixels_of_texts();
     modules_of_pixels();
 }
 
