@@ -1,5 +1,6 @@
 //! What reading finds in texts and pixels.
-ghost use Rattle.picture.specs.RoundTrip.{PbmFilesAreTexts, AsciiFilesAreTexts, PbmTextsAreRead, AsciiTextsAreRead, PixelsAreThePicture, ModulesAreSampled, BarsAreOneRow};
+ghost use Rattle.picture.specs.RoundTrip.{PbmFilesAreTexts, AsciiFilesAreTexts, PbmTextsAreRead, AsciiTextsAreRead};
+ghost use Rattle.picture.specs.RoundTrip.{PixelsAreThePicture, ModulesAreSampled, BarsAreOneRow};
 
 /// A stream of texts is cut into these texts.
 pub fn files_of_texts()

@@ -41,16 +41,22 @@ alignment_coordinates v =
     ∷ (6 ∷ 22 ∷ 38 ∷ []) ∷ (6 ∷ 24 ∷ 42 ∷ []) ∷ (6 ∷ 26 ∷ 46 ∷ []) ∷ (6 ∷ 28 ∷ 50 ∷ []) ∷ [])
     v []
 
--- the first alignment pattern with its centre in column a, and on no finder pattern, that has the module
-abbrev pub alignment_in : ℕ → ℕ → List ℕ → ℕ → ℕ → Option Bool
-alignment_in n a [] x y = None
-alignment_in n a (b ∷ rows) x y =
-    or_else (cond (is_none (finder n a b)) (alignment_at a b x y) None) (alignment_in n a rows x y)
+-- the alignment pattern with its centre at (a, b), if no finder pattern has that module
+abbrev pub alignment_off_finders : ℕ → ℕ → ℕ → ℕ → ℕ → Option Bool
+alignment_off_finders n a b x y = cond (is_none (finder n a b)) (alignment_at a b x y) None
 
--- the first alignment pattern that has the module, column by column of centres
+-- the first pattern that has a module, among those at the coordinates
+abbrev pub first_some : (ℕ → Option Bool) → List ℕ → Option Bool
+first_some at [] = None
+first_some at (a ∷ rest) = or_else (at a) (first_some at rest)
+
+-- the alignment patterns with their centres in column a
+abbrev pub alignment_in : ℕ → ℕ → List ℕ → ℕ → ℕ → Option Bool
+alignment_in n a rows x y = first_some (λ b. alignment_off_finders n a b x y) rows
+
+-- the alignment patterns with their centres in these columns and rows
 abbrev pub alignment_over : ℕ → List ℕ → List ℕ → ℕ → ℕ → Option Bool
-alignment_over n [] rows x y = None
-alignment_over n (a ∷ columns) rows x y = or_else (alignment_in n a rows x y) (alignment_over n columns rows x y)
+alignment_over n columns rows x y = first_some (λ a. alignment_in n a rows x y) columns
 
 -- the alignment patterns of a version
 unfoldable pub alignment : ℕ → ℕ → ℕ → Option Bool
