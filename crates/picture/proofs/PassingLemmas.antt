@@ -3,7 +3,8 @@ use Rattle.std.proofs.Common.{◌≡◌, ℕ, suc, zero, ◌+◌, ◌-◌, ◌<�
 use Rattle.std.specs.List.{range_with_len}
 use Rattle.std.proofs.lemmas.List.{append-nil}
 use Rattle.std.proofs.lemmas.Grind.{flat_map-append}
-use Rattle.std.proofs.lemmas.Result.{MatchResult-weaker}
+use Rattle.std.specs.Result.{IsErr}
+use Rattle.std.proofs.lemmas.Result.{MatchResult-from_err, MatchResult-weaker}
 use Rattle.labelcore.specs.Device.{TakesBeginning, Writes}
 use Rattle.picture.specs.Passing.{PassesOn, Passes}
 use Rattle.picture.specs.Text.{below}
@@ -24,6 +25,13 @@ module _ {S : Type 0} (took : S → S → List ℕ → Type 0) (took_none : (s :
   pub Begins-more : (s t : S) (text added whole rest : List ℕ) → whole ≡ added ++ rest → TakesBeginning took s t (text ++ added) → TakesBeginning took s t (text ++ whole)
   Begins-more s t text added whole rest e b =
       (b.0, (b.1.0 ++ rest, ap (λ (xs : List ℕ). text ++ xs) e ∙ (sym (append_assoc text added rest) ∙ (ap (λ (xs : List ℕ). xs ++ rest) b.1.1 ∙ append_assoc b.0 b.1.0 rest))), b.2)
+
+  -- a failure after a beginning of the old text and what is added
+  pub Passes-err : {T E : Type 0} (s t : S) (a b added : List ℕ) (r : Result T E) → IsErr r → TakesBeginning took s t (a ++ added) → Passes took s t a b added r
+  Passes-err s t a b added r err begun = MatchResult-from_err r (λ _. PassesOn took s t a b added) (λ _. TakesBeginning took s t (a ++ added)) err (λ _. begun)
+
+  pub Writes-err : {T E : Type 0} (s t : S) (text : List ℕ) (r : Result T E) → IsErr r → TakesBeginning took s t text → Writes took s t text r
+  Writes-err s t text r err begun = MatchResult-from_err r (λ _. took s t text) (λ _. TakesBeginning took s t text) err (λ _. begun)
 
   -- after some text was passed on, a beginning of more of it went out
   pub Begins-after : (s t u : S) (a b m n : List ℕ) → PassesOn took s t a b m → TakesBeginning took t u (b ++ n) → TakesBeginning took s u (a ++ (m ++ n))

@@ -1,4 +1,4 @@
-use Rattle.std.proofs.Common.{◌≡◌, ◌++◌, [], ℕ, List, ap, subst, ◌∙◌, arith, flat_map}
+use Rattle.std.proofs.Common.{◌≡◌, ◌++◌, [], ℕ, List, ap, refl, subst, ◌∙◌, arith, flat_map}
 use Rattle.std.proofs.lemmas.List.{append-nil}
 use Rattle.labelcore.specs.Device.{Writes}
 use Rattle.picture.specs.Passing.{row_text}
@@ -11,8 +11,7 @@ returns-clause-bytes g c =
     let p = g.G.Grid.picture c.args.grid.now in
     let rows = flat_map (row_text pbm_pixel_text [] p) (below p.height) in
     let first : c.as_slice.result.now ≡ pbm_header p.width p.height =
-    c.as_slice.ensures.value ∙ (c.header-first.ensures
-    ∙ (ap (λ (n : ℕ). pbm_header n c.height.result) c.width.ensures ∙ ap (pbm_header p.width) c.height.ensures)) in
+    rw (c.as_slice.ensures.value, c.header-first.ensures, c.width.ensures, c.height.ensures) refl in
     let text : c.as_slice.result.now ++ (rows ++ []) ≡ pbm_text p =
     ap (λ (t : List ℕ). t ++ (rows ++ [])) first
     ∙ (ap (λ (t : List ℕ). pbm_header p.width p.height ++ t) (append-nil rows ∙ flat_map-pbm_rows p (below p.height))) in

@@ -1,9 +1,8 @@
 use Rattle.std.proofs.Common.{◌≡◌, ◌++◌, ◌<◌, ℕ, Bool, List, sym, ap, subst, ◌∙◌, arith, flat_map, append_assoc}
-use Rattle.std.proofs.lemmas.Result.{MatchResult-from_err}
 use Rattle.labelcore.specs.Device.{TakesBeginning}
 use Rattle.picture.specs.Text.{below}
 use Rattle.picture.specs.Passing.{PassesOn, Passes, row_text}
-use Rattle.picture.proofs.PassingLemmas.{PassesOn-joined, Passes-after, Begins-after, Begins-more, flat_map-below_front, flat_map-below_more}
+use Rattle.picture.proofs.PassingLemmas.{PassesOn-joined, Passes-after, Begins-after, Begins-more, Passes-err, flat_map-below_front, flat_map-below_more}
 use Rattle.picture.proofs.rows.put_row.Goals as goal
 
 -- a pixel of a row in the code's words is one in the definition's
@@ -26,8 +25,8 @@ returns-in_err-put-clause-bytes g c =
     let before = flat_map pixel (below x) in
     let whole : row_text g.T.PixelText.pixel end p y ≡ (before ++ pixel x) ++ (front.0 ++ end) =
     ap (λ (t : List ℕ). t ++ end) front.1 ∙ append_assoc (before ++ pixel x) front.0 end in
-    MatchResult-from_err c.from_residual.result _ _ c.from_residual.ensures.0
-    (λ _. Begins-more took none joined c.args.sink.now c.put.new.sink c.args.pending.now.items (before ++ pixel x) (row_text g.T.PixelText.pixel end p y) (front.0 ++ end) whole
+    Passes-err took none joined c.args.sink.now c.put.new.sink c.args.pending.now.items c.put.new.pending.items (row_text g.T.PixelText.pixel end p y) c.from_residual.result c.from_residual.ensures.0
+    (Begins-more took none joined c.args.sink.now c.put.new.sink c.args.pending.now.items (before ++ pixel x) (row_text g.T.PixelText.pixel end p y) (front.0 ++ end) whole
     (Begins-after took none joined c.args.sink.now c.loop-x.sink c.put.new.sink c.args.pending.now.items c.loop-x.pending.items before (pixel x)
     c.loop-x.invariant.passed
     (subst (λ (t : List ℕ). TakesBeginning took c.loop-x.sink c.put.new.sink (c.loop-x.pending.items ++ t)) same c.in_err-put.ensures.bytes)))

@@ -1,8 +1,7 @@
 use Rattle.std.proofs.Common.{◌≡◌, ◌++◌, ◌<◌, ℕ, List, sym, subst, ◌∙◌, arith, flat_map}
-use Rattle.std.proofs.lemmas.Result.{MatchResult-from_err}
 use Rattle.picture.specs.Text.{below}
 use Rattle.picture.specs.Passing.{PassesOn, row_text}
-use Rattle.picture.proofs.PassingLemmas.{PassesOn-joined, Begins-after, Begins-more, flat_map-below_front, flat_map-below_more}
+use Rattle.picture.proofs.PassingLemmas.{PassesOn-joined, Begins-after, Begins-more, Passes-err, flat_map-below_front, flat_map-below_more}
 use Rattle.picture.proofs.rows.put_rows.Goals as goal
 
 pub returns-in_err-put_row-clause-bytes : goal.returns-in_err-put_row-clause-bytes
@@ -15,8 +14,8 @@ returns-in_err-put_row-clause-bytes g c =
     let row : ℕ → List ℕ = row_text g.T.PixelText.pixel g.T.PixelText.row_end p in
     let inside : y < p.height = omega (arith, c.height-y-end.ensures) in
     let front = flat_map-below_front row y p.height inside in
-    MatchResult-from_err c.from_residual.result _ _ c.from_residual.ensures.0
-    (λ _. Begins-more took none joined c.args.sink.now c.put_row.new.sink c.args.pending.now.items (flat_map row (below y) ++ row y) (flat_map row (below p.height)) front.0 front.1
+    Passes-err took none joined c.args.sink.now c.put_row.new.sink c.args.pending.now.items c.put_row.new.pending.items (flat_map row (below p.height)) c.from_residual.result c.from_residual.ensures.0
+    (Begins-more took none joined c.args.sink.now c.put_row.new.sink c.args.pending.now.items (flat_map row (below y) ++ row y) (flat_map row (below p.height)) front.0 front.1
     (Begins-after took none joined c.args.sink.now c.loop-y.sink c.put_row.new.sink c.args.pending.now.items c.loop-y.pending.items (flat_map row (below y)) (row y) c.loop-y.invariant.passed c.in_err-put_row.ensures.bytes))
 
 pub loop-y-preserved : goal.loop-y-preserved

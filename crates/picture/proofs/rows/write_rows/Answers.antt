@@ -1,10 +1,8 @@
-use Rattle.std.proofs.Common.{[], ◌++◌, ℕ, List, sym, subst, flat_map, append_assoc}
-use Rattle.std.proofs.lemmas.Result.{MatchResult-from_err}
+use Rattle.std.proofs.Common.{[], ◌++◌, ℕ, List, sym, subst, refl, flat_map, append_assoc}
 use Rattle.labelcore.specs.Device.{TakesBeginning, Writes}
-use Rattle.labelcore.proofs.DeviceLemmas.{TakesBeginning-append}
 use Rattle.picture.specs.Text.{below}
 use Rattle.picture.specs.Passing.{PassesOn, row_text}
-use Rattle.picture.proofs.PassingLemmas.{PassesOn-joined, Begins-after, Begins-more, Writes-rest}
+use Rattle.picture.proofs.PassingLemmas.{PassesOn-joined, Begins-after, Begins-more, Writes-err, Writes-rest}
 use Rattle.picture.proofs.rows.write_rows.Goals as goal
 
 pub returns-in_err-put-clause-bytes : goal.returns-in_err-put-clause-bytes
@@ -12,9 +10,12 @@ returns-in_err-put-clause-bytes g c =
     let took = g.S.Sink.took in
     let p = g.G.Grid.picture c.args.grid.now in
     let rows = flat_map (row_text g.T.PixelText.pixel g.T.PixelText.row_end p) (below p.height) in
+    let none = g.met.S.Sink.took_none in
+    let joined = g.met.S.Sink.took_joined in
     let first = c.args.first.now in
-    MatchResult-from_err c.from_residual.result _ _ c.from_residual.ensures.0
-    (λ _. TakesBeginning-append took g.met.S.Sink.took_none g.met.S.Sink.took_joined c.args.sink.now c.put.new.sink first (rows ++ c.args.last.now)
+    let rest = rows ++ c.args.last.now in
+    Writes-err took none joined c.args.sink.now c.put.new.sink (first ++ rest) c.from_residual.result c.from_residual.ensures.0
+    (Begins-more took none joined c.args.sink.now c.put.new.sink [] first (first ++ rest) rest refl
     (subst (λ (old : List ℕ). TakesBeginning took c.args.sink.now c.put.new.sink (old ++ first)) c.new-pending.ensures c.in_err-put.ensures.bytes))
 
 pub returns-in_err-put_rows-clause-bytes : goal.returns-in_err-put_rows-clause-bytes
@@ -28,8 +29,8 @@ returns-in_err-put_rows-clause-bytes g c =
     let last = c.args.last.now in
     let begun : PassesOn took c.args.sink.now c.put.new.sink [] c.put.new.pending.items first =
     subst (λ (old : List ℕ). PassesOn took c.args.sink.now c.put.new.sink old c.put.new.pending.items first) c.new-pending.ensures c.in_ok-put.ensures.bytes in
-    MatchResult-from_err c.from_residual-in_err-put_rows.result _ _ c.from_residual-in_err-put_rows.ensures.0
-    (λ _. Begins-more took none joined c.args.sink.now c.put_rows.new.sink [] (first ++ rows) (first ++ (rows ++ last)) last (sym (append_assoc first rows last))
+    Writes-err took none joined c.args.sink.now c.put_rows.new.sink (first ++ (rows ++ last)) c.from_residual-in_err-put_rows.result c.from_residual-in_err-put_rows.ensures.0
+    (Begins-more took none joined c.args.sink.now c.put_rows.new.sink [] (first ++ rows) (first ++ (rows ++ last)) last (sym (append_assoc first rows last))
     (Begins-after took none joined c.args.sink.now c.put.new.sink c.put_rows.new.sink [] c.put.new.pending.items first rows begun c.in_err-put_rows.ensures.bytes))
 
 pub returns-in_err-put-2-clause-bytes : goal.returns-in_err-put-2-clause-bytes
@@ -44,8 +45,8 @@ returns-in_err-put-2-clause-bytes g c =
     let begun : PassesOn took c.args.sink.now c.put.new.sink [] c.put.new.pending.items first =
     subst (λ (old : List ℕ). PassesOn took c.args.sink.now c.put.new.sink old c.put.new.pending.items first) c.new-pending.ensures c.in_ok-put.ensures.bytes in
     let passed = PassesOn-joined took none joined c.args.sink.now c.put.new.sink c.put_rows.new.sink [] c.put.new.pending.items c.put_rows.new.pending.items first rows begun c.in_ok-put_rows.ensures.bytes in
-    MatchResult-from_err c.from_residual-in_err-put-2.result _ _ c.from_residual-in_err-put-2.ensures.0
-    (λ _. subst (TakesBeginning took c.args.sink.now c.put-2.new.sink) (append_assoc first rows last)
+    Writes-err took none joined c.args.sink.now c.put-2.new.sink (first ++ (rows ++ last)) c.from_residual-in_err-put-2.result c.from_residual-in_err-put-2.ensures.0
+    (subst (TakesBeginning took c.args.sink.now c.put-2.new.sink) (append_assoc first rows last)
     (Begins-after took none joined c.args.sink.now c.put_rows.new.sink c.put-2.new.sink [] c.put_rows.new.pending.items (first ++ rows) last passed c.in_err-put-2.ensures.bytes))
 
 pub returns-clause-bytes : goal.returns-clause-bytes
