@@ -1,5 +1,6 @@
 //! A run over a whole input.
 ghost use Rattle.std.specs.Prelude.{◌≡◌, ℕ, true, List, OnOk, IfOk, IfErr};
+ghost use Rattle.labelcore.specs.Device.{Unflushed};
 ghost use Rattle.labels.specs.Run.{RunsWhole, RunStops, RunRaises, GaveTooMuch};
 
 use crate::filter::Filter;
@@ -26,6 +27,9 @@ pub fn run<S: Source, O: Sink, E: Sink>(
         × (O.failures out.new ≡ O.failures out.old) × (E.failures err.new ≡ E.failures err.old)) }
     ensures stops { IfErr result (λ fault. (text : List ℕ) × S.gave source.old source.new text
         × RunStops options (O.took out.old out.new) (E.took err.old err.new) text fault) }
+    ensures unflushed { IfErr result (λ fault. fault ≡ RunFault.Read
+        → Unflushed (O.is_flushed out.old) (O.is_flushed out.new)
+        × Unflushed (E.is_flushed err.old) (E.is_flushed err.new)) }
     ensures failure { IfErr result (RunRaises (GaveTooMuch (S.gave source.old source.new))
         (S.failures source.old) (S.failures source.new) (O.failures out.old) (O.failures out.new)
         (E.failures err.old) (E.failures err.new)) }

@@ -1,5 +1,6 @@
 //! The filter, fed piece by piece.
 ghost use Rattle.std.specs.Prelude.{◌≡◌, ℕ, Bool, true, false, List, [], ◌∷◌, ◌++◌, length, Err, OnOk, OnErr, IfOk, IfErr};
+ghost use Rattle.labelcore.specs.Device.{Unflushed};
 ghost use Rattle.labelcore.specs.OptionValues.{OptionValues};
 ghost use Rattle.labelcore.specs.Lines.{lines, ended_lines, open_line, unless_empty};
 ghost use Rattle.labels.specs.Output.{any_refused, status_of};
@@ -67,6 +68,8 @@ impl Filter {
         ensures spent { OnErr result (self.new.is_spent ≡ true) }
         ensures counts { CountsFault (O.failures out.old) (O.failures out.new)
             (E.failures err.old) (E.failures err.new) result }
+        ensures unflushed { Unflushed (O.is_flushed out.old) (O.is_flushed out.new)
+            × Unflushed (E.is_flushed err.old) (E.is_flushed err.new) }
     {
         if byte != b'\n' {
             self.line.push(byte);
@@ -86,7 +89,7 @@ impl Filter {
         }
     }
 
-    /// Takes the next piece of the input: writes what the lines come to that it ends, and holds the rest.
+    /// Takes the next piece of the input: writes what the lines come to that it ends, flushes nothing, and holds the rest.
     ///
     /// `WriteOut` and `WriteMessages` say which sink failed, in one of these lines: earlier lines' texts are whole, and
     /// its own is a beginning. From then on the filter is spent, and every call answers `Spent` and calls no sink.
@@ -108,6 +111,8 @@ impl Filter {
             → CountsFault (O.failures out.old) (O.failures out.new)
             (E.failures err.old) (E.failures err.new) result }
         ensures spent { OnErr result (self.new.is_spent ≡ true) }
+        ensures unflushed { Unflushed (O.is_flushed out.old) (O.is_flushed out.new)
+            × Unflushed (E.is_flushed err.old) (E.is_flushed err.new) }
         ensures spent_before { self.old.is_spent ≡ true → (result ≡ Err RunFault.Spent) × (self.new ≡ self.old)
             × (out.new ≡ out.old) × (err.new ≡ err.old) }
     {
@@ -122,7 +127,8 @@ impl Filter {
 
     /// Ends the input: the last line is written, if no LF ends it, and then both sinks are flushed, the images first.
     ///
-    /// `WriteOut` and `WriteMessages` say which sink failed, in that line or in its flush.
+    /// `WriteOut` and `WriteMessages` say which sink failed, in that line or in its flush. A filter that was spent answers
+    /// `Spent` and calls no sink.
     pub fn finish<O: Sink, E: Sink>(self, out: &mut O, err: &mut E) -> Result<Status, RunFault>
         ensures status { (options : OptionValues) (text : List ℕ) → StandsAt options self text
             → IfOk result (λ status. status ≡ status_of options (lines text)) }

@@ -1,6 +1,6 @@
 //! What the end of a line does.
 ghost use Rattle.std.specs.Prelude.{◌≡◌, ◌≢◌, ℕ, true, List, [], IfOk, IfErr, OnOk, MatchResult};
-ghost use Rattle.labelcore.specs.Device.{Rises};
+ghost use Rattle.labelcore.specs.Device.{Rises, Unflushed};
 ghost use Rattle.labelcore.specs.ItemView.{item_seen};
 ghost use Rattle.labelcore.specs.LineItem.{HasData, KeepsRun};
 ghost use Rattle.labelcore.specs.Lines.{held};
@@ -28,6 +28,8 @@ pub fn finish_line<O: Sink, E: Sink>(
         (outcome options.now text)) }
     ensures counts { CountsFault (O.failures out.old) (O.failures out.new)
         (E.failures err.old) (E.failures err.new) result }
+    ensures unflushed { Unflushed (O.is_flushed out.old) (O.is_flushed out.new)
+        × Unflushed (E.is_flushed err.old) (E.is_flushed err.new) }
 {
     let mut scratch = Scratch::new();
     let item = parse(options, line, &mut scratch);
@@ -52,6 +54,8 @@ fn finish_item<O: Sink, E: Sink>(
         (outcome_of_item (item_seen item.entry))) }
     ensures counts { CountsFault (O.failures out.old) (O.failures out.new)
         (E.failures err.old) (E.failures err.new) result }
+    ensures unflushed { Unflushed (O.is_flushed out.old) (O.is_flushed out.new)
+        × Unflushed (E.is_flushed err.old) (E.is_flushed err.new) }
 {
     match item {
         Item::Skip => Ok(false),
@@ -80,6 +84,8 @@ fn draw_or_refuse<O: Sink, E: Sink>(
         (outcome_of_data options.now symbology bytes.now)) }
     ensures counts { CountsFault (O.failures out.old) (O.failures out.new)
         (E.failures err.old) (E.failures err.new) result }
+    ensures unflushed { Unflushed (O.is_flushed out.old) (O.is_flushed out.new)
+        × Unflushed (E.is_flushed err.old) (E.is_flushed err.new) }
 {
     match draw(options, symbology, bytes, out) {
         Ok(None) => Ok(false),
@@ -96,6 +102,7 @@ fn refuse<E: Sink>(number: u64, fault: &Fault, err: &mut E) -> Result<bool, RunF
         × Begins (E.took err.old err.new) (message number fault.now)) }
     ensures counts { MatchResult result (λ _. E.failures err.new ≡ E.failures err.old)
         (λ _. Rises (E.failures err.old) (E.failures err.new)) }
+    ensures unflushed { Unflushed (E.is_flushed err.old) (E.is_flushed err.new) }
 {
     match write_fault(number, fault, err) {
         Ok(()) => Ok(true),

@@ -1,6 +1,6 @@
 //! Text pictures.
 ghost use Rattle.std.specs.Prelude.{◌≡◌, ◌<◌, Some};
-ghost use Rattle.labelcore.specs.Device.{CountsFailure, Writes};
+ghost use Rattle.labelcore.specs.Device.{CountsFailure, Unflushed, Writes};
 ghost use Rattle.picture.specs.Read.{ascii_pixels, raster};
 ghost use Rattle.picture.specs.Text.{ascii_text};
 
@@ -12,6 +12,7 @@ use labelcore::{IoFault, Sink};
 /// them. An error is the sink's, and leaves a beginning of the text written.
 pub fn write_ascii<G: Grid, S: Sink>(grid: &G, sink: &mut S) -> Result<(), IoFault>
     ensures count { CountsFailure (S.failures sink.old) (S.failures sink.new) result }
+    ensures unflushed { Unflushed (S.is_flushed sink.old) (S.is_flushed sink.new) }
     ensures bytes { Writes S.took sink.old sink.new (ascii_text (G.picture grid.now)) result }
     // The text, read back, has the grid's pixels.
     ensures read { 0 < (G.picture grid.now).height

@@ -1,6 +1,6 @@
 //! Text on its way to a sink.
 ghost use Rattle.std.specs.Prelude.{◌≡◌, ◌+◌, ◌≤◌, [], ◌++◌, length, OnOk, MatchResult};
-ghost use Rattle.labelcore.specs.Device.{CountsFailure, TakesBeginning};
+ghost use Rattle.labelcore.specs.Device.{CountsFailure, TakesBeginning, Unflushed};
 ghost use Rattle.picture.specs.Passing.{PassesOn, Passes};
 
 use arrayvec::ArrayVec;
@@ -13,6 +13,7 @@ pub type Pending = ArrayVec<u8, 128>;
 fn reserve<S: Sink>(room: usize, pending: &mut Pending, sink: &mut S) -> Result<(), IoFault>
     requires { room ≤ 128 }
     ensures count { CountsFailure (S.failures sink.old) (S.failures sink.new) result }
+    ensures unflushed { Unflushed (S.is_flushed sink.old) (S.is_flushed sink.new) }
     ensures bytes { MatchResult result
         (λ _. PassesOn S.took sink.old sink.new pending.old.items pending.new.items [])
         (λ _. TakesBeginning S.took sink.old sink.new pending.old.items) }
@@ -37,6 +38,7 @@ pub fn append(bytes: &[u8], pending: &mut Pending)
 pub fn put<S: Sink>(bytes: &[u8], pending: &mut Pending, sink: &mut S) -> Result<(), IoFault>
     requires { length bytes.now ≤ 128 }
     ensures count { CountsFailure (S.failures sink.old) (S.failures sink.new) result }
+    ensures unflushed { Unflushed (S.is_flushed sink.old) (S.is_flushed sink.new) }
     ensures bytes { Passes S.took sink.old sink.new pending.old.items pending.new.items bytes.now result }
 {
     reserve(bytes.len(), pending, sink)?;

@@ -1,6 +1,6 @@
 //! The rows of a grid as text.
 ghost use Rattle.std.specs.Prelude.{◌≡◌, ◌<◌, ◌≤◌, ◌++◌, ℕ, Bool, List, length, flat_map};
-ghost use Rattle.labelcore.specs.Device.{CountsFailure, Writes};
+ghost use Rattle.labelcore.specs.Device.{CountsFailure, Unflushed, Writes};
 ghost use Rattle.picture.specs.Passing.{Passes, row_text};
 ghost use Rattle.picture.specs.Text.{below};
 
@@ -39,6 +39,7 @@ pub fn write_rows<T: PixelText, G: Grid, S: Sink>(
     requires first { length first.now ≤ 128 }
     requires last { length last.now ≤ 128 }
     ensures count { CountsFailure (S.failures sink.old) (S.failures sink.new) result }
+    ensures unflushed { Unflushed (S.is_flushed sink.old) (S.is_flushed sink.new) }
     ensures bytes { Writes S.took sink.old sink.new
         (first.now ++ (flat_map (row_text T.pixel T.row_end (G.picture grid.now)) (below (G.picture grid.now).height)
         ++ last.now)) result }
@@ -57,6 +58,7 @@ fn put_rows<T: PixelText, G: Grid, S: Sink>(
     sink: &mut S,
 ) -> Result<(), IoFault>
     ensures count { CountsFailure (S.failures sink.old) (S.failures sink.new) result }
+    ensures unflushed { Unflushed (S.is_flushed sink.old) (S.is_flushed sink.new) }
     ensures bytes { Passes S.took sink.old sink.new pending.old.items pending.new.items
         (flat_map (row_text T.pixel T.row_end (G.picture grid.now)) (below (G.picture grid.now).height)) result }
 {
@@ -75,6 +77,7 @@ fn put_row<T: PixelText, G: Grid, S: Sink>(
 ) -> Result<(), IoFault>
     requires { y < (G.picture grid.now).height }
     ensures count { CountsFailure (S.failures sink.old) (S.failures sink.new) result }
+    ensures unflushed { Unflushed (S.is_flushed sink.old) (S.is_flushed sink.new) }
     ensures bytes { Passes S.took sink.old sink.new pending.old.items pending.new.items
         (row_text T.pixel T.row_end (G.picture grid.now) y) result }
 {

@@ -46,6 +46,7 @@ loop-x-preserved g c =
           (PassesOn-joined took none joined c.args.sink.now c.loop-x.sink c.put.new.sink c.args.pending.now.items c.loop-x.pending.items c.put.new.pending.items
           (flat_map pixel (below x)) (pixel x) c.loop-x.invariant.passed
           (subst (PassesOn took c.loop-x.sink c.put.new.sink c.loop-x.pending.items c.put.new.pending.items) same c.in_ok-put.ensures.bytes));
+      unflushed = λ e. c.loop-x.invariant.unflushed (c.in_ok-put.ensures.unflushed e);
       uncounted = c.in_ok-put.ensures.count ∙ c.loop-x.invariant.uncounted;
     }
 

@@ -30,6 +30,7 @@ loop-y-preserved g c =
       passed = subst (PassesOn took c.args.sink.now c.put_row.new.sink c.args.pending.now.items c.put_row.new.pending.items) (sym (flat_map-below_more row y))
           (PassesOn-joined took none joined c.args.sink.now c.loop-y.sink c.put_row.new.sink c.args.pending.now.items c.loop-y.pending.items c.put_row.new.pending.items
           (flat_map row (below y)) (row y) c.loop-y.invariant.passed c.in_ok-put_row.ensures.bytes);
+      unflushed = λ e. c.loop-y.invariant.unflushed (c.in_ok-put_row.ensures.unflushed e);
       uncounted = c.in_ok-put_row.ensures.count ∙ c.loop-y.invariant.uncounted;
     }
 

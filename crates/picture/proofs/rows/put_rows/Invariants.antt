@@ -1,4 +1,5 @@
 use Rattle.std.proofs.Common.{◌≡◌, flat_map}
+use Rattle.labelcore.specs.Device.{Unflushed}
 use Rattle.picture.specs.Text.{below}
 use Rattle.picture.specs.Passing.{PassesOn, row_text}
 use Rattle.picture.proofs.rows.put_rows.Given as goal
@@ -8,5 +9,6 @@ abbrev pub invariant-loop-y : goal.invariant-loop-y
 invariant-loop-y g l = record {
   passed : PassesOn g.S.Sink.took l.initial.sink l.sink l.initial.pending.items l.pending.items
       (flat_map (row_text g.T.PixelText.pixel g.T.PixelText.row_end (g.G.Grid.picture l.grid)) (below l.y));
+  unflushed : Unflushed (g.S.Sink.is_flushed l.initial.sink) (g.S.Sink.is_flushed l.sink);
   uncounted : g.S.Sink.failures l.sink ≡ g.S.Sink.failures l.initial.sink;
 }
