@@ -18,7 +18,7 @@ pub use engine::run;
 pub use file::{OpenFault, open_file};
 pub use filter::Filter;
 use labelcore::{Source, StdSink, StdSource};
-use output::{HeldOutput, HeldWriter, WaitingSource};
+use output::{HeldOutput, HeldWriter, MessageWriter, WaitingSource};
 pub use status::{RunFault, Status};
 use std::alloc::Global;
 use std::env;
@@ -83,7 +83,7 @@ fn run_choice(rt: &HostRuntime, alloc: Global, choice: Choice) -> End {
     }
 }
 
-/// Runs the filter over a source, standard output held back between reads.
+/// Runs the filter over a source, standard output held back between reads and messages.
 fn run_over<S: Source + Drop>(rt: &HostRuntime, alloc: Global, choice: &Choice, source: S) -> End {
     let Ok(output) = HeldOutput::new(alloc, rt.stdout()) else {
         return End::NoMemory;
@@ -103,6 +103,6 @@ fn run_into<S: Source + Drop, W: Write + Drop>(
 ) -> Result<Status, RunFault> {
     let mut source = WaitingSource::new(source, output);
     let mut out = StdSink::new(HeldWriter::new(output));
-    let mut err = StdSink::new(rt.stderr());
+    let mut err = StdSink::new(MessageWriter::new(rt.stderr(), output));
     run(choice.options, &mut source, &mut out, &mut err)
 }

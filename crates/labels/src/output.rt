@@ -1,7 +1,7 @@
-//! Standard output, held back in memory until the program waits for input.
+//! Standard output, held back in memory until the program waits for input or writes a message.
 //!
 //! Writing is cheaper in large pieces, but a label must come out as soon as its line has come in. So what is held back
-//! goes out before each read, since a read may wait.
+//! goes out before each read, since a read may wait, and before each message, which stands after the images of earlier lines.
 
 use labelcore::{IoFault, Source};
 use std::alloc::Global;
@@ -17,7 +17,7 @@ pub struct HeldOutput<W: Write + Drop> {
     held: RefCell<Held<W>>,
 }
 
-/// The writer, and whether it failed before a read. The sink tells that failure at its next call.
+/// The writer, and whether it failed as it was sent out. The sink tells that failure at its next call.
 #[derive(Drop)]
 struct Held<W: Write + Drop> {
     writer: BufWriter<W>,
@@ -72,6 +72,31 @@ impl<W: Write + Drop> Write for HeldWriter<'_, W> {
             Ok(mut held) if !held.is_broken => held.writer.flush(),
             _ => Err(ErrorKind::Other.into()),
         }
+    }
+}
+
+/// A writer of messages before each of whose writes the held output goes out.
+#[derive(Drop)]
+pub struct MessageWriter<'a, M: Write + Drop, W: Write + Drop> {
+    writer: M,
+    output: &'a HeldOutput<W>,
+}
+
+impl<'a, M: Write + Drop, W: Write + Drop> MessageWriter<'a, M, W> {
+    /// Writes to this writer, and sends out this output.
+    pub fn new(writer: M, output: &'a HeldOutput<W>) -> Self {
+        MessageWriter { writer, output }
+    }
+}
+
+impl<M: Write + Drop, W: Write + Drop> Write for MessageWriter<'_, M, W> {
+    fn write(&mut self, bytes: &[u8]) -> io::Result<usize> {
+        self.output.send_out();
+        self.writer.write(bytes)
+    }
+
+    fn flush(&mut self) -> io::Result<()> {
+        self.writer.flush()
     }
 }
 

@@ -1,5 +1,6 @@
 //! The product as a whole: worked labels, devices, hostile use, the words.
 mod device_rows;
+mod held_output;
 mod hostile;
 mod linear_rows;
 mod qr_rows;

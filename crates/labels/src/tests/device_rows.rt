@@ -1,16 +1,11 @@
 //! Runs over devices that stop, fail or take little, and the filter piece by piece.
 ghost use Rattle.std.specs.Prelude.{◌<◌};
 
-use crate::tests::support::{EAN8, joined};
+use crate::tests::support::{EAN8, joined, low};
 use crate::{Filter, RunFault, Status, run};
 use labelcore::{Format, Level, MemSink, MemSource, Options, StdSink, StdSource};
 use std::process::Abort;
 use std::test::Fail;
-
-/// One module high.
-fn low(rt: &impl Abort) -> Options {
-    Options::new(Format::Pbm, 1, 1, Level::M, 1, None, false).expect(rt, "options in range")
-}
 
 #[test]
 fn standard_devices(rt: HostRuntime) -> Result<(), Fail> {
@@ -19,7 +14,7 @@ fn standard_devices(rt: HostRuntime) -> Result<(), Fail> {
     let mut err = Vec::new(alloc);
     let mut source = StdSource::new(b"ean8 7351353\n#\npdf x".as_slice());
     let answer = run(
-        low(&rt),
+        low(&rt, false),
         &mut source,
         &mut StdSink::new(&mut out),
         &mut StdSink::new(&mut err),
@@ -32,7 +27,7 @@ fn standard_devices(rt: HostRuntime) -> Result<(), Fail> {
 
 #[test]
 fn pieces(rt: HostRuntime) {
-    let mut filter = Filter::new(low(&rt));
+    let mut filter = Filter::new(low(&rt, false));
     let mut out: MemSink<200> = MemSink::new(7, 200);
     let mut err: MemSink<200> = MemSink::new(200, 200);
     assert_eq!(rt; filter.feed(b"", &mut out, &mut err), Ok(()));
@@ -48,7 +43,7 @@ fn pieces(rt: HostRuntime) {
 
 #[test]
 fn single_bytes(rt: HostRuntime) {
-    let mut filter = Filter::new(low(&rt));
+    let mut filter = Filter::new(low(&rt, false));
     let mut out: MemSink<200> = MemSink::new(200, 200);
     let mut err: MemSink<200> = MemSink::new(200, 200);
     for byte in b"ean8 7351353" {
@@ -103,7 +98,7 @@ fn nine_bytes_of_the_second_image(rt: HostRuntime) -> Result<(), Fail> {
     let mut out: MemSink<100> = MemSink::new(4096, 100);
     let mut err: MemSink<8> = MemSink::new(8, 8);
     assert_eq!(rt;
-        run(low(&rt), &mut source, &mut out, &mut err),
+        run(low(&rt, false), &mut source, &mut out, &mut err),
         Err(RunFault::WriteOut)
     );
     let want = joined(rt.alloc(), &[EAN8, b"P1\n81 1\n0"])?;
@@ -119,7 +114,7 @@ fn assert_read_fails(rt: &impl Abort, piece: usize)
     let mut out: MemSink<200> = MemSink::new(200, 200);
     let mut err: MemSink<8> = MemSink::new(8, 8);
     assert_eq!(rt;
-        run(low(rt), &mut source, &mut out, &mut err),
+        run(low(rt, false), &mut source, &mut out, &mut err),
         Err(RunFault::Read)
     );
     assert_eq!(rt; out.bytes(), EAN8);

@@ -1,17 +1,12 @@
 //! Hostile use: devices that fail at each call or at each byte, very long lines, every byte, and input that breaks off.
 use crate::tests::support::{
-    EAN8, REFUSALS, assert_came_to, joined, refused_lines, repeated, run_by,
+    EAN8, REFUSALS, assert_came_to, joined, low, refused_lines, repeated, run_by,
 };
 use crate::{RunFault, Status, run};
-use labelcore::{FailAt, Format, Level, MemSink, MemSource, Options};
+use labelcore::{FailAt, MemSink, MemSource, Options};
 use std::alloc::{AllocError, Global};
 use std::process::Abort;
 use std::test::Fail;
-
-/// One module high.
-fn low(rt: &impl Abort, escapes: bool) -> Options {
-    Options::new(Format::Pbm, 1, 1, Level::M, 1, None, escapes).expect(rt, "options in range")
-}
 
 #[test]
 fn every_limit_of_the_images(rt: HostRuntime) -> Result<(), Fail> {

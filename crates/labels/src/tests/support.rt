@@ -2,7 +2,7 @@
 ghost use Rattle.std.specs.Prelude.{◌<◌};
 
 use crate::{Choice, Filter, RunFault, Status, WordsFault, options_of, run};
-use labelcore::{MemSource, Options, StdSink};
+use labelcore::{Format, Level, MemSource, Options, StdSink};
 use std::alloc::{AllocError, Global};
 use std::process::Abort;
 use std::test::Fail;
@@ -46,6 +46,11 @@ pub fn choice_of(alloc: Global, texts: &[&str]) -> Result<Choice, Fail> {
 pub fn are_bad(alloc: Global, texts: &[&str]) -> Result<bool, AllocError> {
     let words = words_of(alloc, texts)?;
     Ok(matches!(&options_of(alloc, words.as_slice()), Err(WordsFault::Bad)))
+}
+
+/// The options of pictures one module high.
+pub fn low(rt: &impl Abort, escapes: bool) -> Options {
+    Options::new(Format::Pbm, 1, 1, Level::M, 1, None, escapes).expect(rt, "options in range")
 }
 
 /// Runs over the input, `piece` bytes a read.
