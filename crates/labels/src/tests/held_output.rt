@@ -67,6 +67,7 @@ fn output_that_fails_as_it_is_sent_out_is_a_failed_write(rt: HostRuntime) -> Res
     let text = RefCell::new(Vec::new(alloc));
     let answer = run_into_one(&rt, alloc, &text, true)?;
     assert_eq!(rt; answer, Err(RunFault::WriteOut));
-    assert!(rt; text.into_inner().as_slice() == b"line 2: unknown symbology\n");
+    let message = b"line 2: unknown symbology\n".as_slice();
+    assert_eq!(rt; text.into_inner().as_slice(), message);
     Ok(())
 }
