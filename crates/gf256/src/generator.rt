@@ -21,7 +21,8 @@ impl Model for Generator {
     ghost view = { λ g. g.count };
 
     ghost invariant = { λ g.
-        (1 ≤ g.count) × (g.count ≤ 30) × (g.coefficients ≡ generator g.count ++ zeros (30 - g.count)) };
+        (1 ≤ g.count) × (g.count ≤ 30) × (g.coefficients
+        ≡ generator g.count ++ zeros (30 - g.count)) };
 }
 
 impl Generator {
@@ -50,7 +51,8 @@ impl Generator {
 
         // There is one remainder, and it makes a codeword.
         ensures remainder { IsRemainder self.now block.now out.new }
-        ensures only { (parity : List ℕ) → IsRemainder self.now block.now parity → parity ≡ out.new }
+        ensures only { (parity : List ℕ) → IsRemainder self.now block.now parity
+            → parity ≡ out.new }
         ensures codeword { HasRoots self.now (block.now ++ out.new) }
     {
         out.fill(0);
@@ -64,7 +66,8 @@ impl Generator {
 fn multiply_by_root(coefficients: &mut [u8], root: u8)
     ensures { EachIndex coefficients.new (λ j.
         slice_index coefficients.new j
-        ≡ bit_xor (slice_index coefficients.old j) (field_product root (slice_index (0 ∷ coefficients.old) j))) }
+        ≡ bit_xor (slice_index coefficients.old j)
+        (field_product root (slice_index (0 ∷ coefficients.old) j))) }
 {
     let mut previous = 0;
     for coefficient in coefficients.iter_mut() {

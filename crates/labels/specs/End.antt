@@ -7,14 +7,14 @@ use Rattle.labels.specs.declared.status.Status.TheVariants.{Clean, Refused}
 
 -- the status: 0 for a clean run or help, 1 for a run with refused lines, 2 for bad words, 3 for
 -- what failed
-abbrev pub status_of : End → ℕ
-status_of (Ran (Ok Clean)) = 0
-status_of (Ran (Ok Refused)) = 1
-status_of (Ran (Err fault)) = 3
-status_of Helped = 0
-status_of BadWords = 2
-status_of NoFile = 3
-status_of NoMemory = 3
+abbrev pub exit_status : End → ℕ
+exit_status (Ran (Ok Clean)) = 0
+exit_status (Ran (Ok Refused)) = 1
+exit_status (Ran (Err fault)) = 3
+exit_status Helped = 0
+exit_status BadWords = 2
+exit_status NoFile = 3
+exit_status NoMemory = 3
 
 -- a line of the program's own; 10 is the line feed
 abbrev pub program_line : List ℕ → List ℕ

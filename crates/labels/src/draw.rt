@@ -61,7 +61,8 @@ fn draw_linear<L: Linear, O: Sink>(
     ensures unflushed { Unflushed (O.is_flushed out.old) (O.is_flushed out.new) }
     ensures bytes { Writes O.took out.old out.new
         (image_of options.now
-        (outcome_of_label (linear_label symbology L.bars options.now (L.full_data bytes.now)))) result }
+        (outcome_of_label (linear_label symbology L.bars options.now
+        (L.full_data bytes.now)))) result }
     ensures refusal { IfOk result (λ refusal. refusal ≡ refusal_of
         (outcome_of_label (linear_label symbology L.bars options.now (L.full_data bytes.now)))) }
     ensures read { ReadsBack
@@ -107,13 +108,15 @@ fn draw_qr<O: Sink>(options: &Options, bytes: &[u8], out: &mut O) -> Result<Opti
 #[tactic(auto, unfolding(crate::specs::Label::qr_modules, crate::specs::Label::qr_codewords))]
 fn matrix_of(options: &Options, plan: &Plan, bytes: &[u8]) -> Matrix
     requires held { IsSegmentation plan.now.version plan.now.segments bytes.now }
-    requires fits { cost plan.now.version plan.now.segments ≤ capacity plan.now.version plan.now.level }
+    requires fits { cost plan.now.version plan.now.segments
+        ≤ capacity plan.now.version plan.now.level }
     requires chosen { plan.now.segments ≡ chosen_segments plan.now.version bytes.now }
     requires level { plan.now.level ≡ options.now.level }
     ensures modules { symbol_picture result ≡ qr_modules options.now plan.now.version
         (qr_codewords options.now bytes.now plan.now.version) }
     ensures side { result.side ≤ 57 }
-    ensures read { IsReadable (record { symbology = Qr; full = bytes.now; modules = symbol_picture result }) }
+    ensures read { IsReadable
+        (record { symbology = Qr; full = bytes.now; modules = symbol_picture result }) }
 {
     modules_of_pixels();
     let mut words = Words::new();

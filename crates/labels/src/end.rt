@@ -1,6 +1,6 @@
 //! How the program ends.
 ghost use Rattle.std.specs.Prelude.{◌≡◌};
-ghost use Rattle.labels.specs.End.{line_of, status_of};
+ghost use Rattle.labels.specs.End.{line_of, exit_status};
 
 use crate::status::{RunFault, Status};
 
@@ -22,7 +22,7 @@ pub enum End {
 impl End {
     /// The status of the process.
     pub fn status(&self) -> u8
-        ensures { result ≡ status_of self.now }
+        ensures { result ≡ exit_status self.now }
     {
         match self {
             End::Ran(Ok(Status::Clean)) | End::Helped => 0,

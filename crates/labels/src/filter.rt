@@ -113,7 +113,8 @@ impl Filter {
         ensures spent { OnErr result (self.new.is_spent ≡ true) }
         ensures unflushed { Unflushed (O.is_flushed out.old) (O.is_flushed out.new)
             × Unflushed (E.is_flushed err.old) (E.is_flushed err.new) }
-        ensures spent_before { self.old.is_spent ≡ true → (result ≡ Err RunFault.Spent) × (self.new ≡ self.old)
+        ensures spent_before { self.old.is_spent ≡ true
+            → (result ≡ Err RunFault.Spent) × (self.new ≡ self.old)
             × (out.new ≡ out.old) × (err.new ≡ err.old) }
     {
         if self.is_spent {
@@ -136,7 +137,8 @@ impl Filter {
             → OnOk result (TookLines options
             (O.took out.old out.new) (E.took err.old err.new)
             (length (ended_lines text)) (unless_empty (open_line text))) }
-        ensures flushed { OnOk result ((O.is_flushed out.new ≡ true) × (E.is_flushed err.new ≡ true)) }
+        ensures flushed { OnOk result
+            ((O.is_flushed out.new ≡ true) × (E.is_flushed err.new ≡ true)) }
         ensures stops { (options : OptionValues) (text : List ℕ) → StandsAt options self text
             → IfErr result (StopsInFinish options
             (O.took out.old out.new) (E.took err.old err.new) text) }

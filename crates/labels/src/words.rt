@@ -48,7 +48,8 @@ fn number_option<'a>(
     parser: ValueParser<'a>,
     help: &'a str,
 ) -> Arg<'a>
-    ensures rule { rule_of result ≡ record (text_option name.entry.now) { parser = Some parser.entry } }
+    ensures rule { rule_of result
+        ≡ record (text_option name.entry.now) { parser = Some parser.entry } }
     ensures local { result.global ≡ false }
 {
     text_option(alloc, name, help).value_parser(parser)

@@ -22,7 +22,8 @@ impl<G: Grid> Framed<G> {
         requires width { left + (G.picture grid).width + right ≤ 65535 }
         requires height { top + (G.picture grid).height + bottom ≤ 65535 }
         ensures { ⟦<Framed<G> as Grid>⟧.picture result
-            ≡ framed (G.picture grid) (record { left = left; right = right; top = top; bottom = bottom }) }
+            ≡ framed (G.picture grid)
+            (record { left = left; right = right; top = top; bottom = bottom }) }
     {
         Framed {
             grid,

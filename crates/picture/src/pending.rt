@@ -39,7 +39,8 @@ pub fn put<S: Sink>(bytes: &[u8], pending: &mut Pending, sink: &mut S) -> Result
     requires { length bytes.now ≤ 128 }
     ensures count { CountsFailure (S.failures sink.old) (S.failures sink.new) result }
     ensures unflushed { Unflushed (S.is_flushed sink.old) (S.is_flushed sink.new) }
-    ensures bytes { Passes S.took sink.old sink.new pending.old.items pending.new.items bytes.now result }
+    ensures bytes { Passes S.took sink.old sink.new
+        pending.old.items pending.new.items bytes.now result }
 {
     reserve(bytes.len(), pending, sink)?;
     append(bytes, pending);

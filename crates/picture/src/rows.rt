@@ -41,7 +41,9 @@ pub fn write_rows<T: PixelText, G: Grid, S: Sink>(
     ensures count { CountsFailure (S.failures sink.old) (S.failures sink.new) result }
     ensures unflushed { Unflushed (S.is_flushed sink.old) (S.is_flushed sink.new) }
     ensures bytes { Writes S.took sink.old sink.new
-        (first.now ++ (flat_map (row_text T.pixel T.row_end (G.picture grid.now)) (below (G.picture grid.now).height)
+        (first.now
+        ++ (flat_map (row_text T.pixel T.row_end (G.picture grid.now))
+        (below (G.picture grid.now).height)
         ++ last.now)) result }
 {
     let mut pending = Pending::new();
@@ -60,7 +62,8 @@ fn put_rows<T: PixelText, G: Grid, S: Sink>(
     ensures count { CountsFailure (S.failures sink.old) (S.failures sink.new) result }
     ensures unflushed { Unflushed (S.is_flushed sink.old) (S.is_flushed sink.new) }
     ensures bytes { Passes S.took sink.old sink.new pending.old.items pending.new.items
-        (flat_map (row_text T.pixel T.row_end (G.picture grid.now)) (below (G.picture grid.now).height)) result }
+        (flat_map (row_text T.pixel T.row_end (G.picture grid.now))
+        (below (G.picture grid.now).height)) result }
 {
     for y in 0..grid.height() {
         put_row::<T, G, S>(grid, y, pending, sink)?;

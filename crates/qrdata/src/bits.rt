@@ -60,7 +60,8 @@ fn push_digits(bits: &mut Bits, digits: &[u8])
 
 /// Writes alphanumeric characters: two in eleven bits, one that is left in six.
 fn push_characters(bits: &mut Bits, characters: &[u8])
-    requires room { array_vec_len bits.old + payload_length Alphanumeric (length characters.now) ≤ 2192 }
+    requires room { array_vec_len bits.old
+        + payload_length Alphanumeric (length characters.now) ≤ 2192 }
     ensures { bits.new.items ≡ bits.old.items ++ alphanumeric_bits characters.now }
 {
     let mut place = 0;
@@ -116,7 +117,8 @@ fn push_segment(bits: &mut Bits, version: Version, mode: Mode, bytes: &[u8])
 pub(crate) fn push_segments(bits: &mut Bits, version: Version, segments: &[Segment], bytes: &[u8])
     requires cut { IsSegmentation version.number segments.now bytes.now }
     requires room { array_vec_len bits.old + cost version.number segments.now ≤ 2192 }
-    ensures { bits.new.items ≡ bits.old.items ++ segments_bits version.number segments.now bytes.now }
+    ensures { bits.new.items
+        ≡ bits.old.items ++ segments_bits version.number segments.now bytes.now }
 {
     let mut place = 0;
     for segment in segments {

@@ -14,7 +14,8 @@ pub type Words = ArrayVec<u8, 346>;
 /// Writes the words at one place of the blocks, block by block. The blocks have these lengths, one after another.
 fn push_place(lengths: &[usize], words: &[u8], place: usize, out: &mut Words)
     requires whole { sum lengths.now ≡ length words.now }
-    requires room { array_vec_len out.old + length (words_at (split_by lengths.now words.now) place) ≤ 346 }
+    requires room { array_vec_len out.old
+        + length (words_at (split_by lengths.now words.now) place) ≤ 346 }
     ensures { out.new.items ≡ out.old.items ++ words_at (split_by lengths.now words.now) place }
 {
     let mut start = 0;
@@ -97,7 +98,8 @@ pub(crate) fn push_parity(count: usize, lengths: &[usize], words: &[u8], out: &m
     requires whole { sum lengths.now ≡ length words.now }
     requires few { length lengths.now ≤ 8 }
     requires room { array_vec_len out.old ≤ 106 }
-    ensures { out.new.items ≡ out.old.items ++ flat_map (parity_of count) (split_by lengths.now words.now) }
+    ensures { out.new.items
+        ≡ out.old.items ++ flat_map (parity_of count) (split_by lengths.now words.now) }
 {
     let generator = Generator::new(count);
     let mut start = 0;

@@ -80,19 +80,22 @@ pub fn choose(options: &Options, bytes: &[u8]) -> Result<Plan, Fault>
     ensures version { IfOk result (λ plan.
         chosen_version options.now.min_version options.now.level bytes.now ≡ Some plan.version) }
     ensures level { IfOk result (λ plan. plan.level ≡ options.now.level) }
-    ensures segments { IfOk result (λ plan. plan.segments ≡ chosen_segments plan.version bytes.now) }
+    ensures segments { IfOk result (λ plan. plan.segments
+        ≡ chosen_segments plan.version bytes.now) }
     ensures fault { IfErr result (λ fault. fault ≡ DoesNotFit options.now.level) }
     ensures no_version { IfErr result (λ fault.
         chosen_version options.now.min_version options.now.level bytes.now ≡ None) }
 
     // The segments are segments of the data and fit, and no others cost less.
     ensures cut { IfOk result (λ plan. IsSegmentation plan.version plan.segments bytes.now) }
-    ensures fits { IfOk result (λ plan. cost plan.version plan.segments ≤ capacity plan.version plan.level) }
+    ensures fits { IfOk result
+        (λ plan. cost plan.version plan.segments ≤ capacity plan.version plan.level) }
     ensures fewest { IfOk result (λ plan. IsFewest plan.version bytes.now plan.segments) }
 
     // No segments of the data fit in a lower version, and after a refusal in none.
     ensures least { IfOk result (λ plan.
-        (v : ℕ) → options.now.min_version ≤ v → v < plan.version → NoneFits v plan.level bytes.now) }
+        (v : ℕ) → options.now.min_version ≤ v → v < plan.version
+        → NoneFits v plan.level bytes.now) }
     ensures nowhere { IfErr result (λ fault.
         (v : ℕ) → options.now.min_version ≤ v → v ≤ 10 → NoneFits v options.now.level bytes.now) }
 {

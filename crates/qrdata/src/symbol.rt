@@ -20,7 +20,8 @@ use labelcore::Level;
 /// as [`crate::choose`] gives it. What `words` held is dropped.
 pub fn codewords(plan: &Plan, bytes: &[u8], words: &mut Words)
     requires cut { IsSegmentation plan.now.version plan.now.segments bytes.now }
-    requires fits { cost plan.now.version plan.now.segments ≤ capacity plan.now.version plan.now.level }
+    requires fits { cost plan.now.version plan.now.segments
+        ≤ capacity plan.now.version plan.now.level }
     ensures words { words.new.items
         ≡ symbol_codewords plan.now.version plan.now.level plan.now.segments bytes.now }
     ensures count { length words.new.items ≡ total_codewords plan.now.version }

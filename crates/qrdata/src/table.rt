@@ -60,7 +60,8 @@ fn first_of(
     requires few { length bytes.now ≤ 652 }
     requires inside { place < length bytes.now }
     requires digits { digits ≡ run_length (has_character Numeric) (drop place bytes.now) }
-    requires characters { characters ≡ run_length (has_character Alphanumeric) (drop place bytes.now) }
+    requires characters { characters
+        ≡ run_length (has_character Alphanumeric) (drop place bytes.now) }
     requires size { length bits.now ≡ 653 }
     requires known { HasCosts version.number bytes.now (place + 1) bits.now }
     ensures { IsChoice version.number (drop place bytes.now) result }

@@ -39,7 +39,8 @@ fn expect_version(rt: &impl Abort, plan: &Plan, number: u8, bits: u32) {
 
 fn words_of(plan: &Plan, data: &[u8]) -> Words
     requires cut { IsSegmentation plan.now.version plan.now.segments «data».now }
-    requires fits { cost plan.now.version plan.now.segments ≤ capacity plan.now.version plan.now.level }
+    requires fits { cost plan.now.version plan.now.segments
+        ≤ capacity plan.now.version plan.now.level }
 {
     let mut words = Words::new();
     words.push(7);

@@ -1,5 +1,5 @@
 -- What the passes over a square of modules make of it, on the way to a symbol (ISO/IEC 18004, 7.7 to 7.9).
-use Rattle.std.specs.Prelude.{◌≡◌, ◌≢◌, ℕ, ◌<◌, ◌≤◌, Bool, true, false, not, List, cond}
+use Rattle.std.specs.Prelude.{◌≡◌, ◌≢◌, ℕ, ◌<◌, ◌≤◌, Bool, true, false, not, List, if◌then◌else◌}
 use Rattle.labelcore.specs.declared.options.Level.{Level}
 use Rattle.qrdata.specs.Versions.{side_of}
 use Rattle.qrmatrix.specs.Functions.{fixed, is_free}
@@ -17,7 +17,7 @@ MarksFunctions v function =
 -- a marked module as it is, another with the mask laid over
 abbrev pub masked : ℕ → List (List Bool) → List (List Bool) → ℕ → ℕ → Bool
 masked mask function modules x y =
-    cond (value_at function x y) (value_at modules x y) (flip_if (is_flipped mask x y) (value_at modules x y))
+    if value_at function x y then value_at modules x y else flip_if (is_flipped mask x y) (value_at modules x y)
 
 -- a symbol that has the format information of mask 0 and no mask laid over
 pub record IsUnmasked (v : ℕ) (level : Level) (words : List ℕ) (function modules : List (List Bool)) : Type 0 where

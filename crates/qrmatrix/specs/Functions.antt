@@ -1,6 +1,6 @@
 -- What each module of a QR symbol is there for (ISO/IEC 18004, 6.3, 7.9, 7.10 and Annex E).
 -- A pattern is `Some true` where it has a dark module, `Some false` where it has a light one, and `None` where it has none.
-use Rattle.std.specs.Prelude.{ℕ, ◌+◌, ◌-◌, ◌*◌, ◌%◌, ◌<◌, max, Bool, true, false, cond, not, ◌&&◌, ◌==◌, nat_lt, nat_le, if◌then◌else◌, List, [], ◌∷◌, Option, None, Some, is_none, slice_index_or}
+use Rattle.std.specs.Prelude.{ℕ, ◌+◌, ◌-◌, ◌*◌, ◌%◌, ◌<◌, max, Bool, true, false, not, ◌&&◌, ◌==◌, nat_lt, nat_le, if◌then◌else◌, List, [], ◌∷◌, Option, None, Some, is_none, slice_index_or}
 use Rattle.labelcore.specs.declared.options.Level.{Level}
 use Rattle.qrdata.specs.Versions.{side_of}
 use Rattle.qrmatrix.specs.Bits.{bit}
@@ -43,7 +43,7 @@ alignment_coordinates v =
 
 -- the alignment pattern with its centre at (a, b), if no finder pattern has that module
 abbrev pub alignment_off_finders : ℕ → ℕ → ℕ → ℕ → ℕ → Option Bool
-alignment_off_finders n a b x y = cond (is_none (finder n a b)) (alignment_at a b x y) None
+alignment_off_finders n a b x y = if is_none (finder n a b) then alignment_at a b x y else None
 
 -- the first pattern that has a module, among those at the coordinates
 abbrev pub first_some : (ℕ → Option Bool) → List ℕ → Option Bool
@@ -107,8 +107,8 @@ role v x y =
     (role_or Function (alignment v x y)
     (role_or Function (timing x y)
     (role_or Format (format_bit (side_of v) x y)
-    (cond (is_dark_module (side_of v) x y) (Function true)
-    (cond (nat_le 7 v) (role_or Version (version_bit (side_of v) x y) Free) Free)))))
+    (if is_dark_module (side_of v) x y then Function true
+    else (if nat_le 7 v then role_or Version (version_bit (side_of v) x y) Free else Free)))))
 
 -- a bit of the format word is below 15, one of the version word below 18
 abbrev pub IsInRange : Role → Type 0

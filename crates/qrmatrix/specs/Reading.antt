@@ -1,5 +1,5 @@
 -- The reading of a symbol's modules, m x y being the module at column x and row y of n by n (ISO/IEC 18004, 12).
-use Rattle.std.specs.Prelude.{ℕ, zero, suc, ◌+◌, ◌-◌, ◌*◌, ◌/◌, ◌%◌, ◌^◌, Bool, true, cond, not, ◌&&◌, ◌||◌, ◌==◌, nat_le, if◌then◌else◌, List, [], ◌∷◌, ◌++◌, map, reverse, take, drop, Option, None, Some, bit_xor}
+use Rattle.std.specs.Prelude.{ℕ, zero, suc, ◌+◌, ◌-◌, ◌*◌, ◌/◌, ◌%◌, ◌^◌, Bool, true, not, ◌&&◌, ◌||◌, ◌==◌, nat_le, if◌then◌else◌, List, [], ◌∷◌, ◌++◌, map, reverse, take, drop, Option, None, Some, bit_xor}
 use Rattle.std.specs.Bool.{beq}
 use Rattle.std.specs.List.{range_with_len, filter}
 use Rattle.gf256.specs.BinaryPolynomial.{binary_remainder}
@@ -53,7 +53,7 @@ read_format_word word =
 unfoldable pub read_format : ℕ → (ℕ → ℕ → Bool) → Option (Level × ℕ)
 unfolding binary_remainder
 read_format n m =
-    cond (word_at m format_copy_1 == word_at m (format_copy_2 n)) (read_format_word (word_at m format_copy_1)) None
+    if word_at m format_copy_1 == word_at m (format_copy_2 n) then read_format_word (word_at m format_copy_1) else None
 
 -- whether both copies of the version information, where the version has it, are its codeword
 unfoldable pub shows_version : ℕ → ℕ → (ℕ → ℕ → Bool) → Bool

@@ -61,7 +61,8 @@ fn mask_word(mask: u8, y: usize) -> u64
 pub fn apply_mask(n: usize, mask: u8, function: &Square, modules: &mut Square)
     requires side { n ≤ 57 }
     requires mask { mask < 8 }
-    ensures masked { (x y : ℕ) → x < n → y < n → value_at modules.new x y ≡ masked mask function.now modules.old x y }
+    ensures masked { (x y : ℕ) → x < n → y < n → value_at modules.new x y
+        ≡ masked mask function.now modules.old x y }
     ensures outside { SameOutside n modules.old modules.new }
 {
     for y in 0..n {

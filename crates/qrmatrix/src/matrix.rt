@@ -29,7 +29,11 @@ impl Model for Matrix {
 
     ghost view = { λ m. record { side = m.side; mask = m.mask; rows = m.modules } };
 
-    ghost invariant = { λ m. record { least : 21 ≤ m.side; most : m.side ≤ 57; within : IsWithin m.side m.modules } };
+    ghost invariant = { λ m. record {
+      least : 21 ≤ m.side;
+      most : m.side ≤ 57;
+      within : IsWithin m.side m.modules;
+    } };
 }
 
 /// What the type of bytes says of each of them.
@@ -45,12 +49,16 @@ impl Matrix {
         requires mask { IfSome mask (λ k. k < 8) }
         ensures side { result.side ≡ side_of version.number }
         ensures mask { result.mask ≡ chosen_mask version.number level mask words.now.items }
-        ensures modules { (x y : ℕ) → is_dark result x y ≡ module_at version.number level result.mask words.now.items x y }
-        ensures outside { (x y : ℕ) → is_inside result.side x y ≡ false → is_dark result x y ≡ false }
-        ensures reads { read_matrix result.side (is_dark result) ≡ Some (record { version = version.number; level = level; words = words.now.items }) }
+        ensures modules { (x y : ℕ) → is_dark result x y
+            ≡ module_at version.number level result.mask words.now.items x y }
+        ensures outside { (x y : ℕ) → is_inside result.side x y ≡ false
+            → is_dark result x y ≡ false }
+        ensures reads { read_matrix result.side (is_dark result)
+            ≡ Some (record { version = version.number; level = level; words = words.now.items }) }
 
         // No codeword is left out, and only the remainder bits hold none.
-        ensures room { free_count version.number ≡ 8 * length words.now.items + remainder_bits version.number }
+        ensures room { free_count version.number
+            ≡ 8 * length words.now.items + remainder_bits version.number }
     {
         are_bytes(words);
         let unmasked = Unmasked::draw(version, level, words);
@@ -76,7 +84,8 @@ impl Matrix {
 
     /// The rows as words: bit x of word y is the module at column x and row y, and the bits from the side on are 0.
     pub fn rows(&self) -> &[u64; 57]
-        ensures bits { (x y : ℕ) → bit (slice_index result.now y) x ≡ (is_inside self.now.side x y && is_dark self.now x y) }
+        ensures bits { (x y : ℕ) → bit (slice_index result.now y) x
+            ≡ (is_inside self.now.side x y && is_dark self.now x y) }
         ensures bound { self.now.side ≤ 57 }
     {
         self.modules.rows()

@@ -32,7 +32,8 @@ fn place_module(
     requires column { x < 57 }
     requires row { y < 57 }
     requires count { i < 2 ^ 32 }
-    ensures free { IsFalse (value_at function.now x y) → (result ≡ i + 1) × WritesAt modules.old modules.new x y (Placement.codeword_bit words.now.items i) }
+    ensures free { IsFalse (value_at function.now x y) → (result ≡ i + 1)
+        × WritesAt modules.old modules.new x y (Placement.codeword_bit words.now.items i) }
     ensures kept { IsTrue (value_at function.now x y) → (result ≡ i) × (modules.new ≡ modules.old) }
 {
     if function.get(x, y) {
@@ -47,8 +48,11 @@ fn place_module(
 /// 18004, 7.7.3).
 pub fn place(version: Version, words: &Words, function: &Square, modules: &mut Square)
     requires { MarksFunctions version.number function.now }
-    ensures placed { (x y : ℕ) → x < side_of version.number → y < side_of version.number → is_free version.number x y ≡ true → value_at modules.new x y ≡ Placement.codeword_bit words.now.items (rank version.number x y) }
-    ensures others { (x y : ℕ) → x < side_of version.number → y < side_of version.number → is_free version.number x y ≡ false → value_at modules.new x y ≡ value_at modules.old x y }
+    ensures placed { (x y : ℕ) → x < side_of version.number → y < side_of version.number
+        → is_free version.number x y ≡ true → value_at modules.new x y
+        ≡ Placement.codeword_bit words.now.items (rank version.number x y) }
+    ensures others { (x y : ℕ) → x < side_of version.number → y < side_of version.number
+        → is_free version.number x y ≡ false → value_at modules.new x y ≡ value_at modules.old x y }
     ensures outside { SameOutside (side_of version.number) modules.old modules.new }
 {
     let n = version.side();

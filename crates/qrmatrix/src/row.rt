@@ -1,5 +1,5 @@
 //! Rows of modules as words: bit i of a word is the module at place i.
-ghost use Rattle.std.specs.Prelude.{◌≡◌, ℕ, ◌+◌, ◌-◌, ◌*◌, ◌^◌, ◌<◌, ◌≤◌, Bool, nat_lt, cond, ◌&&◌};
+ghost use Rattle.std.specs.Prelude.{◌≡◌, ℕ, ◌+◌, ◌-◌, ◌*◌, ◌^◌, ◌<◌, ◌≤◌, Bool, nat_lt, if◌then◌else◌, ◌&&◌};
 ghost use Rattle.std.specs.Bool.{beq};
 ghost use Rattle.qrmatrix.specs.Counting.{sum_below, count_below};
 ghost use Rattle.qrmatrix.specs.Bits.{bit};
@@ -32,7 +32,9 @@ pub fn agreeing(a: u64, b: u64) -> u64
 
 /// The places at which five rows have one colour.
 pub fn agreeing_five(a: u64, b: u64, c: u64, d: u64, e: u64) -> u64
-    ensures { (i : ℕ) → i < 64 → bit result i ≡ (((beq (bit b i) (bit a i) && beq (bit c i) (bit a i)) && beq (bit d i) (bit a i)) && beq (bit e i) (bit a i)) }
+    ensures { (i : ℕ) → i < 64 → bit result i
+        ≡ (((beq (bit b i) (bit a i) && beq (bit c i) (bit a i))
+        && beq (bit d i) (bit a i)) && beq (bit e i) (bit a i)) }
 {
     agreeing(a, b) & agreeing(a, c) & agreeing(a, d) & agreeing(a, e)
 }
@@ -54,7 +56,8 @@ pub fn run_starts(word: u64) -> u64
 /// The penalty of runs, where `uniform` has the places of windows of one colour and `begins` those at which a run begins.
 pub fn run_points(uniform: u64, begins: u64, n: usize) -> u32
     requires { n ≤ 57 }
-    ensures value { result ≡ sum_below n (λ i. cond (bit uniform i) (1 + cond (bit begins i) 2 0) 0) }
+    ensures value { result
+        ≡ sum_below n (λ i. if bit uniform i then 1 + (if bit begins i then 2 else 0) else 0) }
     ensures bound { result ≤ 3 * n }
 {
     ones_below(uniform, n) + 2 * ones_below(uniform & begins, n)

@@ -81,7 +81,8 @@ impl Square {
     pub fn flip(&mut self, y: usize, word: u64)
         requires row { y < 57 }
         requires word { word < 2 ^ 57 }
-        ensures { (a b : ℕ) → value_at self.new a b ≡ flip_if (b == y && bit word a) (value_at self.old a b) }
+        ensures { (a b : ℕ) → value_at self.new a b
+            ≡ flip_if (b == y && bit word a) (value_at self.old a b) }
     {
         self.rows[y] ^= word;
     }

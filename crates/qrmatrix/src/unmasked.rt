@@ -38,9 +38,12 @@ fn draw_functions(
     function: &mut Square,
 )
     requires { mask < 8 }
-    ensures drawn { (x y : ℕ) → x < side_of version.number → y < side_of version.number → value_at modules.new x y ≡ fixed_or (Functions.fixed version.number level mask x y) (value_at modules.old x y) }
+    ensures drawn { (x y : ℕ) → x < side_of version.number → y < side_of version.number
+        → value_at modules.new x y
+        ≡ fixed_or (Functions.fixed version.number level mask x y) (value_at modules.old x y) }
     ensures outside { SameOutside (side_of version.number) modules.old modules.new }
-    ensures marked { (x y : ℕ) → x < side_of version.number → y < side_of version.number → value_at function.new x y ≡ is_some (Functions.fixed version.number level mask x y) }
+    ensures marked { (x y : ℕ) → x < side_of version.number → y < side_of version.number
+        → value_at function.new x y ≡ is_some (Functions.fixed version.number level mask x y) }
 {
     let n = version.side();
     for y in 0..n {
@@ -98,7 +101,8 @@ impl Unmasked {
     /// The symbol under a mask.
     pub fn under(&self, mask: u8) -> Square
         requires { mask < 8 }
-        ensures { (words : List ℕ) → Places self.now words → (x y : ℕ) → value_at result x y ≡ module_at self.now.version.number self.now.level mask words x y }
+        ensures { (words : List ℕ) → Places self.now words → (x y : ℕ) → value_at result x y
+            ≡ module_at self.now.version.number self.now.level mask words x y }
     {
         let mut modules = self.modules.copied();
         draw_format(self.version, self.level, mask, &mut modules);
@@ -109,14 +113,17 @@ impl Unmasked {
     /// The penalty of the symbol under a mask.
     fn penalty_under(&self, mask: u8) -> u32
         requires { mask < 8 }
-        ensures { (words : List ℕ) → Places self.now words → result ≡ Penalty.penalty (side_of self.now.version.number) (module_at self.now.version.number self.now.level mask words) }
+        ensures { (words : List ℕ) → Places self.now words → result
+            ≡ Penalty.penalty (side_of self.now.version.number)
+            (module_at self.now.version.number self.now.level mask words) }
     {
         penalty(&self.under(mask), self.version.side())
     }
 
     /// The first mask of the least penalty (ISO/IEC 18004, 7.8.1).
     pub fn least_mask(&self) -> u8
-        ensures value { (words : List ℕ) → Places self.now words → result ≡ least_place (penalties self.now.version.number self.now.level words) }
+        ensures value { (words : List ℕ) → Places self.now words → result
+            ≡ least_place (penalties self.now.version.number self.now.level words) }
         ensures bound { result < 8 }
     {
         let mut best = 0;

@@ -57,8 +57,11 @@ fn single_bytes(rt: HostRuntime) {
 
 #[test]
 fn full_sink(rt: HostRuntime) {
-    let options = Options::new(Format::Pbm, 1, 50, Level::M, 1, Some(2), false);
-    let mut filter = Filter::new(options.expect(&rt, "options in range"));
+    let options = Options::new(Format::Pbm, 1, 50, Level::M, 1, Some(2), false).expect(
+        &rt,
+        "options in range",
+    );
+    let mut filter = Filter::new(options);
     let mut out: MemSink<1000> = MemSink::new(1000, 1000);
     let mut err: MemSink<8> = MemSink::new(8, 8);
     assert_eq!(rt;
@@ -90,6 +93,11 @@ fn full_sink(rt: HostRuntime) {
     assert_eq!(rt; err.failures(), 0);
     assert_eq!(rt; filter.finish(&mut out, &mut err), Err(RunFault::Spent));
     assert_eq!(rt; out.failures(), 1);
+    let mut source = MemSource::new(b"qr 01234567\nqr 01234567\n", 4096, false);
+    let mut same: MemSink<1000> = MemSink::new(1000, 1000);
+    let answer = run(options, &mut source, &mut same, &mut err);
+    assert_eq!(rt; answer, Err(RunFault::WriteOut));
+    assert_eq!(rt; same.bytes(), out.bytes());
 }
 
 #[test]

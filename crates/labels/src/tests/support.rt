@@ -176,4 +176,5 @@ pub fn assert_row(
         let (first, second) = input.split_at(at);
         assert_came_to(rt, &fed(alloc, options, first, second), out, err);
     }
+    assert_came_to(rt, &fed(alloc, options, input, b""), out, err);
 }
