@@ -6,7 +6,8 @@ use Rattle.labelcore.specs.LineItem.{item}
 use Rattle.labelcore.specs.Message.{message}
 use Rattle.labelcore.specs.declared.fault.Fault.{Fault}
 use Rattle.labels.specs.Output.{Outcome, skipped, refused, drawn, outcome, outcome_of_item, image_of}
-use Rattle.labels.specs.Line.{Begins, EndsLine, FailsInLine, refusal_of}
+use Rattle.labelcore.specs.Device.{Begins}
+use Rattle.labels.specs.Line.{EndsLine, FailsInLine, refusal_of}
 use Rattle.labels.specs.declared.status.RunFault.{RunFault}
 use Rattle.labels.specs.declared.status.RunFault.TheVariants.{Read, WriteOut, WriteMessages, Spent}
 

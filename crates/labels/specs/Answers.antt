@@ -1,4 +1,4 @@
--- What `options_of` answers.
+-- What `options_of` answers (docs/SPECIFICATION.md, Options).
 use Rattle.std.specs.Prelude.{◌≡◌, Result, Ok, Err, option_map, string_bytes}
 use Rattle.labels.specs.CommandLine.{Invocation, run, help, bad}
 use Rattle.labels.specs.declared.words.Choice.{Choice}

@@ -1,4 +1,4 @@
--- The command line `labels [options] [FILE]`: which words it takes, and what they ask for.
+-- The command line `labels [options] [FILE]`: which words it takes, and what they ask for (docs/SPECIFICATION.md, Options).
 use Rattle.std.specs.Prelude.{◌≡◌, ◌≤◌, ◌⊎◌, ℕ, Bool, true, false, List, [], ◌∷◌, Option, Some, None, pos, codes, if◌then◌else◌, option_map, option_and_then, unwrap_or, IfSome}
 use Rattle.std.specs.Option.{option_map_or}
 use Rattle.std.specs.Str.{bytes_eq}
@@ -54,22 +54,28 @@ command_line = record {
 abbrev pub number_of : Text → ℕ
 number_of text = digits_value 10 (without_leading_plus text)
 
+-- the number that an option was given
 abbrev pub number_named : Text → List Row → Option ℕ
 number_named id rows = option_map number_of (one_of id rows)
 
+-- whether a switch was given
 abbrev pub is_on : Text → List Row → Bool
 is_on id rows = option_map_or (λ text. bytes_eq text (codes "true")) (one_of id rows) false
 
+-- the format of this name
 abbrev pub format_of : Text → Option Format
 format_of text = if bytes_eq text (codes "pbm") then Some Pbm
     else (if bytes_eq text (codes "ascii") then Some Ascii else None)
 
+-- the format given, or the default
 abbrev pub format_in : List Row → Option Format
 format_in rows = format_of (unwrap_or (first_of (codes "format") rows) (codes "pbm"))
 
+-- the level given, or the default
 abbrev pub level_in : List Row → Option Level
 level_in rows = level_named (unwrap_or (first_of (codes "level") rows) (codes "M"))
 
+-- the options given, each other at its default
 abbrev pub options_with : List Row → Format → Level → OptionValues
 options_with rows format level = record {
   format = format;
@@ -96,17 +102,21 @@ pub data Invocation : Type 0 where
   help : Invocation
   bad : Invocation
 
+-- what a refused parse comes to
 abbrev pub invocation_refused : ErrorKind → Invocation
 invocation_refused kind.DisplayHelp = help
 invocation_refused _ = bad
 
+-- the run that the matches name, if format and level are listed
 abbrev pub run_of : List Row → Invocation
 run_of rows = option_map_or (λ s. run s (first_of (codes "file") rows)) (options_named rows) bad
 
+-- the first fault decides
 abbrev pub invocation_by : Kinds → List Row → Invocation
 invocation_by [] rows = run_of rows
 invocation_by (k ∷ ks) rows = invocation_refused k
 
+-- what the words ask for
 abbrev pub invocation_of : List Text → Invocation
 invocation_of words = invocation_by (fault_of command_line words) (matches_of command_line words)
 
@@ -117,6 +127,7 @@ abbrev pub IsNumberIn : ℕ → ℕ → Text → Type 0
 IsNumberIn low high text = IsNumeral 10 (without_leading_plus text) × (low ≤ number_of text)
     × (number_of text ≤ high)
 
+-- an option that was given holds a number from low to high
 abbrev pub HoldsNumber : ℕ → ℕ → Text → Found → Type 0
 HoldsNumber low high id f = IfSome (one_text f id) (IsNumberIn low high)
 

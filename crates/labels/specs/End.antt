@@ -1,4 +1,4 @@
--- How the program ends: its status, and its line on the standard error.
+-- How the program ends: its status, and its line on the standard error (docs/SPECIFICATION.md, Statuses).
 use Rattle.std.specs.Prelude.{ℕ, List, [], ◌∷◌, ◌++◌, Ok, Err, codes}
 use Rattle.labels.specs.declared.end.End.{End}
 use Rattle.labels.specs.declared.end.End.TheVariants.{Ran, Helped, BadWords, NoFile, NoMemory}

@@ -1,4 +1,4 @@
--- The images, the messages and the status of a text, line by line.
+-- The images, the messages and the status of a text, line by line (docs/SPECIFICATION.md, Lines, Statuses).
 use Rattle.std.specs.Prelude.{ℕ, ◌+◌, ◌-◌, ◌^◌, min, Bool, true, false, if◌then◌else◌, List, [], ◌∷◌, ◌++◌, Result, Ok, Err}
 use Rattle.std.specs.List.{flat_map, list_any}
 use Rattle.labelcore.specs.declared.fault.Fault.{Fault}
@@ -20,6 +20,7 @@ pub data Outcome : Type 0 where
   refused : Fault → Outcome
   drawn : Label → Outcome
 
+-- a label is drawn, and a fault refused
 abbrev pub outcome_of_label : Result Label Fault → Outcome
 outcome_of_label (Ok label) = drawn label
 outcome_of_label (Err fault) = refused fault
@@ -28,11 +29,13 @@ outcome_of_label (Err fault) = refused fault
 abbrev pub outcome_of_data : OptionValues → Symbology → List ℕ → Outcome
 outcome_of_data own symbology bytes = outcome_of_label (label_of own symbology bytes)
 
+-- what an item comes to
 abbrev pub outcome_of_item : LineItem → Outcome
 outcome_of_item skip = skipped
 outcome_of_item (refuse fault) = refused fault
 outcome_of_item (draw asked) = outcome_of_data asked.options asked.symbology asked.bytes
 
+-- what a line comes to
 unfoldable pub outcome : OptionValues → List ℕ → Outcome
 outcome options line = outcome_of_item (item options line)
 
@@ -40,6 +43,7 @@ outcome options line = outcome_of_item (item options line)
 abbrev pub picture_of : OptionValues → Label → Picture
 picture_of options label = scaled (framed label.modules (quiet_zone label.symbology)) options.scale
 
+-- the text of a picture in a format
 abbrev pub text_of : Format → Picture → List ℕ
 text_of Pbm p = pbm_text p
 text_of Ascii p = ascii_text p
@@ -56,6 +60,7 @@ message_of number skipped = []
 message_of number (refused fault) = message number fault
 message_of number (drawn label) = []
 
+-- whether the line is refused
 abbrev pub is_refusal : Outcome → Bool
 is_refusal skipped = false
 is_refusal (refused fault) = true
@@ -82,5 +87,6 @@ messages options lines = messages_after options 0 lines
 unfoldable pub any_refused : OptionValues → List (List ℕ) → Bool
 any_refused options lines = list_any (λ line. is_refusal (outcome options line)) lines
 
+-- the status of a run over these lines
 abbrev pub status_of : OptionValues → List (List ℕ) → Status
 status_of options lines = if any_refused options lines then Refused else Clean

@@ -25,6 +25,7 @@ abbrev pub pixels : Format → List ℕ → Option Raster
 pixels Pbm text = pbm_pixels text
 pixels Ascii text = ascii_pixels text
 
+-- there are as many columns as rows
 abbrev pub is_square : List (List Bool) → Bool
 is_square rows = list_all (λ row. length row == length rows) rows
 
@@ -81,6 +82,7 @@ pub record IsReadable (label : Label) : Type 0 where
   pub rows : label.modules.height ≤ 500
   pub read : read_modules label.symbology (raster label.modules).rows ≡ Some label.full
 
+-- what is drawn is readable; of other lines nothing is said
 abbrev pub ReadsBack : Outcome → Type 0
 ReadsBack skipped = ⊤
 ReadsBack (refused fault) = ⊤

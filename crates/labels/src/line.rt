@@ -1,12 +1,12 @@
 //! What the end of a line does.
 ghost use Rattle.std.specs.Prelude.{◌≡◌, ◌≢◌, ℕ, true, List, [], IfOk, IfErr, OnOk, MatchResult};
-ghost use Rattle.labelcore.specs.Device.{Rises, Unflushed};
+ghost use Rattle.labelcore.specs.Device.{Begins, Rises, Unflushed};
 ghost use Rattle.labelcore.specs.ItemView.{item_seen};
 ghost use Rattle.labelcore.specs.LineItem.{HasData, KeepsRun};
 ghost use Rattle.labelcore.specs.Lines.{held};
 ghost use Rattle.labelcore.specs.Message.{message};
 ghost use Rattle.labels.specs.Output.{outcome, outcome_of_data, outcome_of_item};
-ghost use Rattle.labels.specs.Line.{Begins, EndsLine, FailsInLine, CountsFault};
+ghost use Rattle.labels.specs.Line.{EndsLine, FailsInLine, CountsFault};
 
 use crate::draw::draw;
 use crate::status::RunFault;

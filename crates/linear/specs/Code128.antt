@@ -32,6 +32,7 @@ bars_and_spaces dark (width ∷ widths) = replicate width dark ++ bars_and_space
 abbrev pub widths_of : ℕ → List ℕ
 widths_of value = slice_index_or WIDTHS value STOP_WIDTHS
 
+-- the modules of a symbol character, from its widths
 abbrev pub character_bars : ℕ → List Bool
 character_bars value = bars_and_spaces true (widths_of value)
 

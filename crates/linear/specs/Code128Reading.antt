@@ -19,6 +19,7 @@ run_lengths [] = []
 run_lengths (one ∷ []) = 1 ∷ []
 run_lengths (one ∷ next ∷ rest) = if beq one next then longer_first (run_lengths (next ∷ rest)) else 1 ∷ run_lengths (next ∷ rest)
 
+-- whether the first module is dark
 abbrev pub is_dark_first : List Bool → Bool
 is_dark_first [] = false
 is_dark_first (first ∷ rest) = first
@@ -28,6 +29,7 @@ abbrev pub group_value : List Bool → Option ℕ
 group_value group =
     if is_dark_first group then position (λ widths. bytes_eq widths (run_lengths group)) WIDTHS else None
 
+-- whether the modules are the stop pattern
 abbrev pub is_stop : List Bool → Bool
 is_stop group = is_dark_first group && bytes_eq STOP_WIDTHS (run_lengths group)
 
@@ -62,6 +64,7 @@ meaning C value =
     else if value == 101 then change A
     else none
 
+-- the set to which Shift goes for one character
 abbrev pub other_set : CodeSet → CodeSet
 other_set A = B
 other_set B = A
@@ -108,6 +111,7 @@ symbol_data (start ∷ value ∷ values) =
 abbrev pub group_count : List Bool → ℕ
 group_count row = (length row - 13) / 11
 
+-- the data of a row of modules
 abbrev pub read_code128 : List Bool → Option (List ℕ)
 read_code128 row =
     if length row == 11 * group_count row + 13 && is_stop (drop (11 * group_count row) row)

@@ -26,6 +26,7 @@ patterns (set ∷ sets) (byte ∷ bytes) = pattern set (digit_value byte) ++ pat
 abbrev pub normal_guard : List Bool
 normal_guard = modules (codes "101")
 
+-- the guard between the halves
 abbrev pub centre_guard : List Bool
 centre_guard = modules (codes "01010")
 

@@ -24,6 +24,7 @@ is_framed half row =
 abbrev pub left_groups : ℕ → List Bool → List (List Bool)
 left_groups half row = groups 7 half (drop 3 row)
 
+-- the groups of seven modules of the right half
 abbrev pub right_groups : ℕ → List Bool → List (List Bool)
 right_groups half row = groups 7 half (drop (8 + 7 * half) row)
 
@@ -63,6 +64,7 @@ abbrev pub with_first_digit : List (NumberSet × ℕ) × List ℕ → Option (Li
 with_first_digit halves =
     option_map (λ first. first ∷ (map (λ found. found.1) halves.0 ++ halves.1)) (first_digit (map (λ found. found.0) halves.0))
 
+-- the thirteen digits of a row of modules
 abbrev pub read_ean13 : List Bool → Option (List ℕ)
 read_ean13 row = option_and_then checked_digits (option_and_then with_first_digit (read_halves 6 digit_in_a_or_b row))
 
@@ -71,5 +73,6 @@ abbrev pub without_zero : List ℕ → Option (List ℕ)
 without_zero [] = None
 without_zero (first ∷ rest) = if first == 48 then Some rest else None
 
+-- the twelve digits of a row of modules
 abbrev pub read_upca : List Bool → Option (List ℕ)
 read_upca row = option_and_then without_zero (read_ean13 row)

@@ -20,6 +20,7 @@ pub record Raster : Type 0 where
 abbrev pub pixel_row : Picture → ℕ → List Bool
 pixel_row p y = map (λ x. p.dark x y) (below p.width)
 
+-- the pixels of a picture
 abbrev pub raster : Picture → Raster
 raster p = record { width = p.width; height = p.height; rows = map (pixel_row p) (below p.height) }
 
@@ -57,6 +58,7 @@ abbrev pub rows_of : {X : Type 0} → ℕ → ℕ → List X → List (List X)
 rows_of width zero pixels = []
 rows_of width (suc height) pixels = take width pixels ∷ rows_of width height (drop width pixels)
 
+-- the digits 0 and 1
 abbrev pub is_pbm_digit : ℕ → Bool
 is_pbm_digit b = b == 48 || b == 49
 
@@ -131,6 +133,7 @@ abbrev pub cut_before : {X : Type 0} → (X → Bool) → List X → List (List 
 cut_before begins [] = []
 cut_before begins (x ∷ xs) = onto_parts (begins_part begins xs) x (cut_before begins xs)
 
+-- the byte that ends a line
 abbrev pub is_line_feed : ℕ → Bool
 is_line_feed b = b == LF
 

@@ -8,33 +8,33 @@ use Rattle.qrdata.specs.declared.version.TheConstants.{TOTAL, BLOCKS_L, BLOCKS_M
 abbrev pub side_of : ℕ → ℕ
 side_of version = 17 + 4 * version
 
--- the codewords of a symbol, data and parity
+-- how many codewords a symbol has, data and parity
 unfoldable pub total_codewords : ℕ → ℕ
 total_codewords version = slice_index TOTAL (version - 1)
 
--- the blocks of a symbol, from version 1 on
+-- how many blocks a symbol has, from version 1 on
 abbrev pub block_counts : Level → List ℕ
 block_counts L = BLOCKS_L
 block_counts M = BLOCKS_M
 block_counts Q = BLOCKS_Q
 block_counts H = BLOCKS_H
 
--- the blocks of a symbol
+-- how many blocks a symbol has
 unfoldable pub block_count : ℕ → Level → ℕ
 block_count version level = slice_index (block_counts level) (version - 1)
 
--- the parity codewords of each block, from version 1 on
+-- how many parity codewords each block has, from version 1 on
 abbrev pub parity_lengths : Level → List ℕ
 parity_lengths L = PARITY_L
 parity_lengths M = PARITY_M
 parity_lengths Q = PARITY_Q
 parity_lengths H = PARITY_H
 
--- the parity codewords of each block
+-- how many parity codewords each block has
 unfoldable pub parity_length : ℕ → Level → ℕ
 parity_length version level = slice_index (parity_lengths level) (version - 1)
 
--- the data codewords of a symbol
+-- how many data codewords a symbol has
 unfoldable pub data_codewords : ℕ → Level → ℕ
 data_codewords version level =
     total_codewords version - block_count version level * parity_length version level

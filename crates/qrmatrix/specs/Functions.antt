@@ -13,6 +13,7 @@ abbrev pub or_else : Option Bool → Option Bool → Option Bool
 or_else (Some b) other = Some b
 or_else None other = other
 
+-- how far two coordinates are from one another
 abbrev pub distance : ℕ → ℕ → ℕ
 distance a b = (a - b) + (b - a)
 
@@ -129,6 +130,7 @@ unfoldable pub fixed : ℕ → Level → ℕ → ℕ → ℕ → Option Bool
 unfolding role format_word version_word
 fixed v level mask x y = fixed_by v level mask (role v x y)
 
+-- whether the codewords choose the module
 abbrev pub is_free_role : Role → Bool
 is_free_role (Function b) = false
 is_free_role (Format i) = false

@@ -24,6 +24,7 @@ abbrev pub format_copy_1 : List (ℕ × ℕ)
 format_copy_1 =
     map (λ i. (8, i)) (range_with_len 0 6) ++ ((8, 7) ∷ (8, 8) ∷ (7, 8) ∷ map (λ i. (14 - i, 8)) (range_with_len 9 6))
 
+-- where the bits of the second copy of the format word stand
 abbrev pub format_copy_2 : ℕ → List (ℕ × ℕ)
 format_copy_2 n =
     map (λ i. (n - 1 - i, 8)) (range_with_len 0 8) ++ map (λ i. (8, n - 15 + i)) (range_with_len 8 7)
@@ -32,6 +33,7 @@ format_copy_2 n =
 abbrev pub version_copy_1 : ℕ → List (ℕ × ℕ)
 version_copy_1 n = map (λ i. (n - 11 + i % 3, i / 3)) (range_with_len 0 18)
 
+-- where the bits of the second copy of the version word stand
 abbrev pub version_copy_2 : ℕ → List (ℕ × ℕ)
 version_copy_2 n = map (λ i. (i / 3, n - 11 + i % 3)) (range_with_len 0 18)
 
@@ -109,6 +111,7 @@ pub record Reading : Type 0 where
   pub level : Level
   pub words : List ℕ
 
+-- the reading by a format word that was read
 abbrev pub read_with : ℕ → (ℕ → ℕ → Bool) → Option (Level × ℕ) → Option Reading
 read_with v m None = None
 read_with v m (Some format) =

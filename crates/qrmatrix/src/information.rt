@@ -2,6 +2,7 @@
 ghost use Rattle.std.specs.Prelude.{◌≡◌, ◌+◌, ◌*◌, ◌^◌, ◌<◌, ◌≤◌};
 ghost use Rattle.gf256.specs.BinaryPolynomial.{binary_remainder};
 ghost use Rattle.qrmatrix.specs.Information;
+ghost use Rattle.qrmatrix.specs.Information.{FormatWordsAreListed, VersionWordsAreListed};
 
 use labelcore::Level;
 use qrdata::Version;
@@ -58,3 +59,10 @@ pub fn version_word(version: Version) -> u32
     let message = u32::from(version.number()) << 12;
     message + remainder(12, 0x1F25, 6, message)
 }
+
+/// The words that the standard lists are those that are computed: format words (ISO/IEC 18004, Annex C) and version words
+/// (Annex D).
+pub fn information_laws()
+    ensures format { FormatWordsAreListed }
+    ensures version { VersionWordsAreListed }
+{}

@@ -4,7 +4,7 @@ ghost use Rattle.qrdata.specs.Versions.{side_of, total_codewords};
 
 mod slow;
 
-use crate::Matrix;
+use crate::{Matrix, information_laws};
 use arrayvec::ArrayVec;
 use labelcore::Level;
 use qrdata::{Version, Words};
@@ -62,6 +62,7 @@ fn example(mask: Option<u8>) -> Option<Matrix>
 
 #[test]
 fn draws_the_worked_example(rt: HostRuntime) {
+    information_laws();
     let matrix = example(Some(2)).expect(&rt, "26 codewords");
     assert_eq!(rt; matrix.side(), 21);
     assert_eq!(rt; matrix.mask(), 2);
