@@ -9,7 +9,7 @@ use labelcore::{Options, Sink, Source};
 use picture::{files_of_texts, modules_of_pixels, pixels_of_texts};
 
 /// Reads the source to its end, at most 4,096 bytes a read, and writes what its lines come to: images to `out`, messages to
-/// `err`. The answer says whether any line was refused.
+/// `err`. What `out` holds back it sends on before each read and each message. The answer says whether any line was refused.
 ///
 /// `Read`, `WriteOut` and `WriteMessages` say which device failed; `Spent` is never answered. After `Read` every ended line's
 /// text is whole, the open line is not drawn and nothing is flushed. After 2^64 - 1 reads that gave bytes `Read` is answered too.
@@ -41,6 +41,10 @@ pub fn run<S: Source, O: Sink, E: Sink>(
     let mut filter = Filter::new(options);
     let mut buffer = [0u8; 4096];
     for _turn in 0..u64::MAX {
+        // A read may wait, and then what earlier lines came to should have gone out.
+        if out.send_on().is_err() {
+            return Err(RunFault::WriteOut);
+        }
         let Ok(count) = source.read(&mut buffer) else {
             return Err(RunFault::Read);
         };

@@ -1,12 +1,12 @@
 //! What the end of a line does.
-ghost use Rattle.std.specs.Prelude.{◌≡◌, ◌≢◌, ℕ, true, List, [], IfOk, IfErr, OnOk, MatchResult};
-ghost use Rattle.labelcore.specs.Device.{Begins, Rises, Unflushed};
+ghost use Rattle.std.specs.Prelude.{◌≡◌, ◌≢◌, ℕ, true, List, [], IfOk, IfErr, OnOk};
+ghost use Rattle.labelcore.specs.Device.{Unflushed};
 ghost use Rattle.labelcore.specs.ItemView.{item_seen};
 ghost use Rattle.labelcore.specs.LineItem.{HasData, KeepsRun};
 ghost use Rattle.labelcore.specs.Lines.{held};
 ghost use Rattle.labelcore.specs.Message.{message};
 ghost use Rattle.labels.specs.Output.{outcome, outcome_of_data, outcome_of_item};
-ghost use Rattle.labels.specs.Line.{EndsLine, FailsInLine, CountsFault};
+ghost use Rattle.labels.specs.Line.{EndsLine, FailsInLine, FailsInMessage, CountsFault};
 
 use crate::draw::draw;
 use crate::status::RunFault;
@@ -59,7 +59,7 @@ fn finish_item<O: Sink, E: Sink>(
 {
     match item {
         Item::Skip => Ok(false),
-        Item::Refuse(fault) => refuse(number, &fault, err),
+        Item::Refuse(fault) => refuse(number, &fault, out, err),
         Item::Draw(symbology, own, bytes) => {
             draw_or_refuse(&own, symbology, bytes, number, out, err)
         }
@@ -89,21 +89,30 @@ fn draw_or_refuse<O: Sink, E: Sink>(
 {
     match draw(options, symbology, bytes, out) {
         Ok(None) => Ok(false),
-        Ok(Some(fault)) => refuse(number, &fault, err),
+        Ok(Some(fault)) => refuse(number, &fault, out, err),
         Err(_) => Err(RunFault::WriteOut),
     }
 }
 
-/// Writes the message of a refused line.
-fn refuse<E: Sink>(number: u64, fault: &Fault, err: &mut E) -> Result<bool, RunFault>
+/// Writes the message of a refused line, after the images of earlier lines.
+fn refuse<O: Sink, E: Sink>(
+    number: u64,
+    fault: &Fault,
+    out: &mut O,
+    err: &mut E,
+) -> Result<bool, RunFault>
     ensures refused { IfOk result (λ r. r ≡ true) }
+    ensures out { O.took out.old out.new [] }
     ensures message { OnOk result (E.took err.old err.new (message number fault.now)) }
-    ensures fails { IfErr result (λ f. (f ≡ RunFault.WriteMessages)
-        × Begins (E.took err.old err.new) (message number fault.now)) }
-    ensures counts { MatchResult result (λ _. E.failures err.new ≡ E.failures err.old)
-        (λ _. Rises (E.failures err.old) (E.failures err.new)) }
-    ensures unflushed { Unflushed (E.is_flushed err.old) (E.is_flushed err.new) }
+    ensures fails { IfErr result (FailsInMessage (E.took err.old err.new) (message number fault.now)) }
+    ensures counts { CountsFault (O.failures out.old) (O.failures out.new)
+        (E.failures err.old) (E.failures err.new) result }
+    ensures unflushed { Unflushed (O.is_flushed out.old) (O.is_flushed out.new)
+        × Unflushed (E.is_flushed err.old) (E.is_flushed err.new) }
 {
+    if out.send_on().is_err() {
+        return Err(RunFault::WriteOut);
+    }
     match write_fault(number, fault, err) {
         Ok(()) => Ok(true),
         Err(_) => Err(RunFault::WriteMessages),

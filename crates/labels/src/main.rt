@@ -7,7 +7,6 @@ mod engine;
 mod file;
 mod filter;
 mod line;
-mod output;
 mod status;
 #[cfg(test)]
 mod tests;
@@ -17,8 +16,7 @@ pub use end::End;
 pub use engine::run;
 pub use file::{OpenFault, open_file};
 pub use filter::Filter;
-use labelcore::{Source, StdSink, StdSource};
-use output::{HeldOutput, HeldWriter, MessageWriter, WaitingSource};
+use labelcore::{Held, Sink, Source, StdSink, StdSource};
 pub use status::{RunFault, Status};
 use std::alloc::Global;
 use std::env;
@@ -75,34 +73,20 @@ fn help(rt: &HostRuntime, text: &str) -> End {
 fn run_choice(rt: &HostRuntime, alloc: Global, choice: Choice) -> End {
     match &choice.file {
         Some(name) => match open_file(rt, alloc, name.as_str()) {
-            Ok(source) => run_over(rt, alloc, &choice, source),
+            Ok(source) => run_over(rt, &choice, source),
             Err(OpenFault::NoFile) => End::NoFile,
             Err(OpenFault::Memory) => End::NoMemory,
         },
-        None => run_over(rt, alloc, &choice, StdSource::new(rt.stdin())),
+        None => run_over(rt, &choice, StdSource::new(rt.stdin())),
     }
 }
 
-/// Runs the filter over a source, standard output held back between reads and messages.
-fn run_over<S: Source + Drop>(rt: &HostRuntime, alloc: Global, choice: &Choice, source: S) -> End {
-    let Ok(output) = HeldOutput::new(alloc, rt.stdout()) else {
-        return End::NoMemory;
-    };
-    let answer = run_into(rt, choice, source, &output);
+/// Runs the filter over a source, into standard output, held back between reads and messages, and standard error.
+fn run_over<S: Source + Drop>(rt: &HostRuntime, choice: &Choice, mut source: S) -> End {
+    let mut out = Held::new(StdSink::new(rt.stdout()));
+    let mut err = StdSink::new(rt.stderr());
+    let answer = run(choice.options, &mut source, &mut out, &mut err);
     // After a fault, what earlier lines came to still goes out.
-    output.send_out();
+    let _ = out.send_on();
     End::Ran(answer)
-}
-
-/// Runs the filter over a source, into an output that is held back and standard error.
-fn run_into<S: Source + Drop, W: Write + Drop>(
-    rt: &HostRuntime,
-    choice: &Choice,
-    source: S,
-    output: &HeldOutput<W>,
-) -> Result<Status, RunFault> {
-    let mut source = WaitingSource::new(source, output);
-    let mut out = StdSink::new(HeldWriter::new(output));
-    let mut err = StdSink::new(MessageWriter::new(rt.stderr(), output));
-    run(choice.options, &mut source, &mut out, &mut err)
 }

@@ -1,10 +1,12 @@
 pub mod AsciiLemmas
 pub mod CutLemmas
+pub mod GridLemmas
 pub mod HeaderLemmas
+pub mod LetterLemmas
 pub mod LineLemmas
-pub mod PassingLemmas
 pub mod PbmLemmas
 pub mod PictureRows
 pub mod RasterLemmas
 pub mod SampleLemmas
 pub mod ShortLineLemmas
+pub mod WritingLemmas

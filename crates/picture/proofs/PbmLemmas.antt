@@ -6,8 +6,7 @@ use Rattle.std.proofs.lemmas.Bool.{eq-eqb}
 use Rattle.std.proofs.lemmas.List.FromFn.{length-range_with_len}
 use Rattle.picture.specs.Picture.{Picture}
 use Rattle.picture.specs.RoundTrip.{PbmTextsAreRead}
-use Rattle.picture.specs.Passing.{row_text}
-use Rattle.picture.specs.Text.{below, pbm_text, pbm_pixel_text, pbm_row}
+use Rattle.picture.specs.Text.{below, pbm_text, pbm_pixel_text, pbm_row, row_text}
 use Rattle.picture.specs.Read.{raster, raster_of, pbm_pixels, has_short_lines, after_white, after_one_white, number_at, pixel_row}
 use Rattle.picture.proofs.RasterLemmas.{strip, row_digits, strip-pbm_rows, list_all-row_digits, length-row_digits, rows_of-row_digits}
 use Rattle.picture.proofs.HeaderLemmas.{number_at-decimal, after_white-decimal}

@@ -72,7 +72,7 @@ is_inside-framed : (p : Picture) (zone : Zone) (column row : ℕ) →
 is_inside-framed p zone column row = rw (nat_lt-add column (zone.left + p.width) zone.right, nat_lt-add row (zone.top + p.height) zone.bottom) refl
 
 -- a module of a framed picture
-dark-framed : (p : Picture) (zone : Zone) (column row : ℕ) → column < p.width → row < p.height → (framed p zone).dark (zone.left + column) (zone.top + row) ≡ p.dark column row
+pub dark-framed : (p : Picture) (zone : Zone) (column row : ℕ) → column < p.width → row < p.height → (framed p zone).dark (zone.left + column) (zone.top + row) ≡ p.dark column row
 dark-framed p zone column row wide high =
     let x : (zone.left + column) - zone.left ≡ column = omega arith in
     let y : (zone.top + row) - zone.top ≡ row = omega arith in
@@ -124,7 +124,7 @@ pointwise-same : (row : List Bool) → pointwise beq row row ≡ true
 pointwise-same [] = refl
 pointwise-same (b ∷ row) = rw (beq-same b, pointwise-same row) refl
 
-pixel_row-bars : (row : List Bool) (height y : ℕ) → pixel_row (bars row height) y ≡ row
+pub pixel_row-bars : (row : List Bool) (height y : ℕ) → pixel_row (bars row height) y ≡ row
 pixel_row-bars row height y = sym (fill_by_all (λ x. get_or row x false) row (length row) false refl (λ k h. refl))
 
 same_rows : (row : List Bool) (height : ℕ) (ys : List ℕ) → list_all (pointwise beq row) (map (pixel_row (bars row height)) ys) ≡ true

@@ -1,4 +1,3 @@
-pub mod Passing
 pub mod Picture
 pub mod Read
 pub mod RoundTrip

@@ -1,5 +1,5 @@
 -- Pictures, by coordinates: x counts columns from the left and y rows from the top, both from 0 (ISO/IEC 15420, 15417 and 18004, quiet zones).
-use Rattle.std.specs.Prelude.{ℕ, ◌+◌, ◌-◌, ◌*◌, ◌/◌, Bool, false, ◌&&◌, List, length, slice_index_or, nat_lt, nat_le}
+use Rattle.std.specs.Prelude.{◌≡◌, ℕ, ◌+◌, ◌-◌, ◌*◌, ◌/◌, ◌<◌, Bool, false, ◌&&◌, List, length, slice_index_or, nat_lt, nat_le}
 use Rattle.qrmatrix.specs.Symbol.{Symbol, is_dark}
 
 -- a picture: its width, its height, and whether the pixel at x and y is dark
@@ -7,6 +7,10 @@ pub record Picture : Type 0 where
   pub width : ℕ
   pub height : ℕ
   pub dark : ℕ → ℕ → Bool
+
+-- the row y has the pixels of the row above it
+abbrev pub RepeatsRow : Picture → ℕ → Type 0
+RepeatsRow p y = (x : ℕ) → x < p.width → p.dark x y ≡ p.dark x (y - 1)
 
 -- bars of one height, one for each module of the row
 abbrev pub bars : List Bool → ℕ → Picture

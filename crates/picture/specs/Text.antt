@@ -40,6 +40,9 @@ pbm_text p = pbm_header p.width p.height ++ flat_map (pbm_row p) (below p.height
 abbrev pub ascii_pixel : Bool → List ℕ
 ascii_pixel dark = if dark then codes "##" else codes "  "
 
+abbrev pub ascii_pixel_text : ℕ → ℕ → Bool → List ℕ
+ascii_pixel_text width x dark = ascii_pixel dark
+
 -- the row y: its letters, and the line's end
 abbrev pub ascii_row : Picture → ℕ → List ℕ
 ascii_row p y = flat_map (λ x. ascii_pixel (p.dark x y)) (below p.width) ++ LF ∷ []
@@ -47,3 +50,12 @@ ascii_row p y = flat_map (λ x. ascii_pixel (p.dark x y)) (below p.width) ++ LF 
 -- rows of letters, and an empty line
 abbrev pub ascii_text : Picture → List ℕ
 ascii_text p = flat_map (ascii_row p) (below p.height) ++ LF ∷ []
+
+-- a row of pixels, each written by the row's width, its column and its colour, and the row's end
+abbrev pub row_text : (ℕ → ℕ → Bool → List ℕ) → List ℕ → Picture → ℕ → List ℕ
+row_text pixel row_end p y = flat_map (λ x. pixel p.width x (p.dark x y)) (below p.width) ++ row_end
+
+-- the pixels of a row of this width from a column on, each written so
+abbrev pub pixels_text : (ℕ → ℕ → Bool → List ℕ) → ℕ → ℕ → List Bool → List ℕ
+pixels_text pixel width x [] = []
+pixels_text pixel width x (dark ∷ more) = pixel width x dark ++ pixels_text pixel width (x + 1) more

@@ -1,12 +1,12 @@
 //! Text pictures.
-ghost use Rattle.std.specs.Prelude.{◌≡◌, ◌<◌, Some};
+ghost use Rattle.std.specs.Prelude.{◌≡◌, ◌*◌, ◌<◌, ◌≤◌, Some, [], ◌∷◌, flat_map, length, take};
 ghost use Rattle.labelcore.specs.Device.{CountsFailure, Unflushed, Writes};
 ghost use Rattle.picture.specs.Read.{ascii_pixels, raster};
-ghost use Rattle.picture.specs.Text.{ascii_text};
+ghost use Rattle.picture.specs.Text.{ascii_pixel, ascii_pixel_text, ascii_text};
 
 use crate::grid::Grid;
 use crate::rows::{PixelText, write_rows};
-use labelcore::{IoFault, Sink};
+use labelcore::{IoFault, Sink, write_whole};
 
 /// Writes the grid as text, a line for each row: `##` where dark and two spaces where light, and an empty line after
 /// them. An error is the sink's, and leaves a beginning of the text written.
@@ -18,26 +18,65 @@ pub fn write_ascii<G: Grid, S: Sink>(grid: &G, sink: &mut S) -> Result<(), IoFau
     ensures read { 0 < (G.picture grid.now).height
         → ascii_pixels (ascii_text (G.picture grid.now)) ≡ Some (raster (G.picture grid.now)) }
 {
-    write_rows::<AsciiPixels, G, S>(b"", grid, b"\n", sink)
+    write_rows::<AsciiPixels, G, S>(grid, sink)?;
+    write_whole(b"\n", sink)
 }
 
 /// Two letters for each pixel, and a line end after each row.
 struct AsciiPixels;
 
 impl PixelText for AsciiPixels {
-    ghost use Rattle.std.specs.Prelude.{[], ◌∷◌};
     ghost use Rattle.labelcore.specs.Lines.{LF};
-    ghost use Rattle.picture.specs.Text.{ascii_pixel};
 
-    ghost pixel = { λ _ _ dark. ascii_pixel dark };
+    ghost pixel = { ascii_pixel_text };
 
     ghost row_end = { LF ∷ [] };
 
-    fn pixel(_width: usize, _x: usize, dark: bool) -> &'static [u8] {
-        if dark { b"##" } else { b"  " }
+    // In two halves, so that no text is longer than 70 bytes.
+    fn write_line<S: Sink>(
+        _width: usize,
+        _x: usize,
+        pixels: &[bool],
+        sink: &mut S,
+    ) -> Result<(), IoFault> {
+        let half = pixels.len() / 2;
+        write_letters(&pixels[..half], sink)?;
+        write_letters(&pixels[half..], sink)
     }
 
     fn row_end() -> &'static [u8] {
         b"\n"
     }
+}
+
+/// Writes the letters of a few pixels.
+fn write_letters<S: Sink>(pixels: &[bool], sink: &mut S) -> Result<(), IoFault>
+    requires { length pixels.now ≤ 35 }
+    ensures count { CountsFailure (S.failures sink.old) (S.failures sink.new) result }
+    ensures unflushed { Unflushed (S.is_flushed sink.old) (S.is_flushed sink.new) }
+    ensures bytes { Writes S.took sink.old sink.new (flat_map ascii_pixel pixels.now) result }
+{
+    let text = letters(pixels);
+    write_whole(&text[..2 * pixels.len()], sink)
+}
+
+/// The letters of a few pixels, and then spaces.
+fn letters(pixels: &[bool]) -> [u8; 70]
+    requires { length pixels.now ≤ 35 }
+    ensures { take (2 * length pixels.now) result ≡ flat_map ascii_pixel pixels.now }
+{
+    let mut text = [b' '; 70];
+    for i in 0..pixels.len() {
+        let letter = letter(pixels[i]);
+        text[2 * i] = letter;
+        text[2 * i + 1] = letter;
+    }
+    text
+}
+
+/// The letter of a pixel.
+fn letter(dark: bool) -> u8
+    ensures { ascii_pixel dark ≡ result ∷ result ∷ [] }
+{
+    if dark { b'#' } else { b' ' }
 }

@@ -36,4 +36,12 @@ impl<'a> Grid for Bars<'a> {
     fn dark(&self, x: usize, y: usize) -> bool {
         self.row[x]
     }
+
+    fn repeats(&self, y: usize) -> bool {
+        true
+    }
+
+    fn read_row(&self, y: usize, pixels: &mut [bool]) {
+        pixels.copy_from_slice(self.row);
+    }
 }

@@ -54,4 +54,21 @@ impl<G: Grid> Grid for Framed<G> {
             && y < self.top + self.grid.height()
             && self.grid.dark(x - self.left, y - self.top)
     }
+
+    fn repeats(&self, y: usize) -> bool {
+        let bottom = self.top + self.grid.height();
+        if y < self.top || bottom < y {
+            return true;
+        }
+        self.top < y && y < bottom && self.grid.repeats(y - self.top)
+    }
+
+    fn read_row(&self, y: usize, pixels: &mut [bool]) {
+        pixels.fill(false);
+        if self.top <= y && y < self.top + self.grid.height() {
+            let end = self.left + self.grid.width();
+            self.grid
+                .read_row(y - self.top, &mut pixels[self.left..end]);
+        }
+    }
 }

@@ -1,6 +1,7 @@
 //! Pictures by coordinates.
-ghost use Rattle.std.specs.Prelude.{◌≡◌, ◌<◌};
-ghost use Rattle.picture.specs.Picture.{Picture};
+ghost use Rattle.std.specs.Prelude.{◌≡◌, ◌<◌, length, IsTrue};
+ghost use Rattle.picture.specs.Picture.{Picture, RepeatsRow};
+ghost use Rattle.picture.specs.Read.{pixel_row};
 
 /// A picture, asked pixel by pixel: x counts columns from the left and y rows from the top, both from 0.
 pub trait Grid {
@@ -20,4 +21,24 @@ pub trait Grid {
         requires in_width { x < (picture self.now).width }
         requires in_height { y < (picture self.now).height }
         ensures { result ≡ (picture self.now).dark x y };
+
+    /// Whether the row is known to have the pixels of the row above it. `false` promises nothing.
+    fn repeats(&self, y: usize) -> bool
+        requires above { 0 < y }
+        requires in_height { y < (picture self.now).height }
+        ensures { IsTrue result → RepeatsRow (picture self.now) y }
+    {
+        false
+    }
+
+    /// Puts the pixels of a row into `pixels`.
+    fn read_row(&self, y: usize, pixels: &mut [bool])
+        requires in_height { y < (picture self.now).height }
+        requires whole { length pixels.old ≡ (picture self.now).width }
+        ensures { pixels.new ≡ pixel_row (picture self.now) y }
+    {
+        for x in 0..pixels.len() {
+            pixels[x] = self.dark(x, y);
+        }
+    }
 }

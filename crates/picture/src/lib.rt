@@ -8,7 +8,6 @@ mod grid;
 mod laws;
 mod matrix;
 mod pbm;
-mod pending;
 mod rows;
 mod scaled;
 #[cfg(test)]

@@ -1,14 +1,15 @@
 //! Plain PBM files, pbm(5).
-ghost use Rattle.std.specs.Prelude.{◌≡◌, ◌<◌, Some};
+ghost use Rattle.std.specs.Prelude.{◌≡◌, ◌+◌, ◌<◌, ◌≤◌, Some, ◌++◌, ◌∷◌, [], length, map, take};
 ghost use Rattle.labelcore.specs.Device.{CountsFailure, Unflushed, Writes};
 ghost use Rattle.picture.specs.Read.{pbm_pixels, raster};
-ghost use Rattle.picture.specs.Text.{pbm_pixel_text, pbm_header, pbm_text};
+ghost use Rattle.labelcore.specs.Lines.{LF};
+ghost use Rattle.picture.specs.Text.{pbm_digit, pbm_header, pbm_text};
 
 use crate::grid::Grid;
-use crate::pending::{Pending, append};
 use crate::rows::{PixelText, write_rows};
+use arrayvec::ArrayVec;
 use itoa::Buffer;
-use labelcore::{IoFault, Sink};
+use labelcore::{IoFault, Sink, write_whole};
 
 /// Writes the grid as a plain PBM file, pbm(5): two lines of header, and each row in lines of at most 70 pixels. An
 /// error is the sink's, and leaves a beginning of the file written.
@@ -21,14 +22,15 @@ pub fn write_pbm<G: Grid, S: Sink>(grid: &G, sink: &mut S) -> Result<(), IoFault
         → pbm_pixels (pbm_text (G.picture grid.now)) ≡ Some (raster (G.picture grid.now)) }
 {
     let first = header(grid.width(), grid.height());
-    write_rows::<PbmPixels, G, S>(first.as_slice(), grid, b"", sink)
+    write_whole(first.as_slice(), sink)?;
+    write_rows::<PbmPixels, G, S>(grid, sink)
 }
 
 /// The two lines before the pixels.
-fn header(width: usize, height: usize) -> Pending
+fn header(width: usize, height: usize) -> ArrayVec<u8, 128>
     ensures { result.items ≡ pbm_header width height }
 {
-    let mut text = Pending::new();
+    let mut text = ArrayVec::new();
     let mut number = Buffer::new();
     append(b"P1\n", &mut text);
     append(number.format(width).as_bytes(), &mut text);
@@ -36,6 +38,14 @@ fn header(width: usize, height: usize) -> Pending
     append(number.format(height).as_bytes(), &mut text);
     append(b"\n", &mut text);
     text
+}
+
+/// Adds bytes for which there is room.
+fn append(bytes: &[u8], text: &mut ArrayVec<u8, 128>)
+    requires { length text.old.items + length bytes.now ≤ 128 }
+    ensures { text.new.items ≡ text.old.items ++ bytes.now }
+{
+    let _ = text.try_extend_from_slice(bytes);
 }
 
 /// A digit for each pixel, and a line end after each 70 of a row and after its last.
@@ -49,17 +59,36 @@ impl PixelText for PbmPixels {
 
     ghost row_end = { [] };
 
-    fn pixel(width: usize, x: usize, dark: bool) -> &'static [u8] {
-        let ends_line = (x + 1) % 70 == 0 || x + 1 == width;
-        match (dark, ends_line) {
-            (true, true) => b"1\n",
-            (true, false) => b"1",
-            (false, true) => b"0\n",
-            (false, false) => b"0",
-        }
+    fn write_line<S: Sink>(
+        _width: usize,
+        _x: usize,
+        pixels: &[bool],
+        sink: &mut S,
+    ) -> Result<(), IoFault> {
+        let text = digits(pixels);
+        write_whole(&text[..pixels.len() + 1], sink)
     }
 
     fn row_end() -> &'static [u8] {
         b""
     }
+}
+
+/// A digit for each pixel, and then line feeds.
+fn digits(pixels: &[bool]) -> [u8; 71]
+    requires { length pixels.now ≤ 70 }
+    ensures { take (length pixels.now + 1) result ≡ map pbm_digit pixels.now ++ LF ∷ [] }
+{
+    let mut text = [b'\n'; 71];
+    for i in 0..pixels.len() {
+        text[i] = digit(pixels[i]);
+    }
+    text
+}
+
+/// The digit of a pixel.
+fn digit(dark: bool) -> u8
+    ensures { result ≡ pbm_digit dark }
+{
+    if dark { b'1' } else { b'0' }
 }

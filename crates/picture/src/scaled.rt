@@ -1,6 +1,7 @@
 //! Pictures enlarged.
-ghost use Rattle.std.specs.Prelude.{◌≡◌, ◌*◌, ◌≤◌};
+ghost use Rattle.std.specs.Prelude.{◌≡◌, ◌*◌, ◌/◌, ◌≤◌, false, length, map, slice_index_or};
 ghost use Rattle.picture.specs.Picture.{scaled};
+ghost use Rattle.picture.specs.Text.{below};
 
 use crate::grid::Grid;
 
@@ -39,5 +40,26 @@ impl<G: Grid> Grid for Scaled<G> {
 
     fn dark(&self, x: usize, y: usize) -> bool {
         self.grid.dark(x / self.scale, y / self.scale)
+    }
+
+    fn repeats(&self, y: usize) -> bool {
+        y % self.scale != 0 || self.grid.repeats(y / self.scale)
+    }
+
+    fn read_row(&self, y: usize, pixels: &mut [bool]) {
+        let width = self.grid.width();
+        self.grid.read_row(y / self.scale, &mut pixels[..width]);
+        spread(pixels, self.scale);
+    }
+}
+
+/// Puts each of the first pixels so many times, from the last one on, so that none is lost before it is read.
+fn spread(pixels: &mut [bool], scale: usize)
+    requires { 1 ≤ scale }
+    ensures { pixels.new ≡ map (λ x. slice_index_or pixels.old (x / scale) false)
+        (below (length pixels.old)) }
+{
+    for x in (0..pixels.len()).rev() {
+        pixels[x] = pixels[x / scale];
     }
 }

@@ -1,216 +1,109 @@
--- The choice over the first segments, candidate by candidate, ends with the first segment of the best list.
-use Rattle.std.proofs.Common.{◌≡◌, ℕ, zero, suc, ◌+◌, ◌-◌, ◌*◌, ◌^◌, ◌<◌, ◌≤◌, List, [], ◌∷◌, ◌++◌, map, take, drop, length, refl, sym, ap, ◌∙◌, append_assoc, append-nil, arith, Bool, true, false, inl, inr, cond}
-use Rattle.std.specs.Prelude.{filter, nat_lt, nat_le, ◌&&◌}
-use Rattle.std.specs.List.{best_of, list_all}
-use Rattle.std.proofs.lemmas.Bool.{cases_lt, le-leb, lt-leb, le-ltb, lt-ltb}
-use Rattle.std.proofs.lemmas.List.{length-drop, map-append}
-use Rattle.std.proofs.lemmas.List.Elements.{filter-append}
+-- Where the fewest bits fit, the best choices begin the best lists. There the limits of the character counts bind nothing.
+use Rattle.std.proofs.Common.{◌≡◌, ℕ, zero, suc, ◌+◌, ◌*◌, ◌/◌, ◌^◌, ◌<◌, ◌≤◌, List, [], ◌∷◌, drop, length, refl, sym, ap, ◌∙◌, arith, true, false, inl, inr, cond}
+use Rattle.std.specs.Prelude.{nat_lt}
+use Rattle.std.proofs.lemmas.Bool.{and_parts, le-leb, leb-true, lt-ltb}
+use Rattle.std.proofs.lemmas.List.{length-drop}
 use Rattle.std.proofs.lemmas.List.Sums.{sum_by-cons}
-use Rattle.qrdata.specs.declared.table.Choice.{Choice}
 use Rattle.qrdata.specs.declared.mode.Mode.{Mode}
 use Rattle.qrdata.specs.declared.mode.Mode.TheVariants.{Numeric, Alphanumeric, Byte}
 use Rattle.qrdata.specs.declared.mode.Segment.{Segment}
-use Rattle.qrdata.specs.Fewest.{candidates, cheapest, chosen_segments, first_segments, is_first}
-use Rattle.qrdata.specs.Segments.{IsSegmentation, cost, count_width, has_character, segment_length, segment_of}
-use Rattle.qrdata.specs.Table.{IsChoice, next_choice, run_length}
-use Rattle.qrdata.proofs.BestLaw.{chosen_segments-cons}
-use Rattle.qrdata.proofs.FewestBits.{chosen_segments-is, one_byte}
+use Rattle.qrdata.specs.Fewest.{chosen_segments, first_segments, is_first}
+use Rattle.qrdata.specs.Segments.{cost, count_width, has_character, segment_length, segment_of}
+use Rattle.qrdata.specs.Table.{choices_of, fewest_bits}
+use Rattle.qrdata.proofs.BestChoice.{best-front, best-least, fewest_bits-least}
+use Rattle.qrdata.proofs.Runs.{run_length, run_length-le, run_tells}
+use Rattle.qrdata.proofs.BestLaw.{chosen_segments-cons, chosen_segments-nil}
+use Rattle.qrdata.proofs.FewestBits.{chosen_segments-is}
+use Rattle.qrdata.proofs.FirstLeast.{IsBefore, IsFirstLeast-candidates, cheapest-is, mode_place}
 
--- a run passes up to its length
-suc_le : (a b : ℕ) → nat_le (suc a) (suc b) ≡ nat_le a b
-suc_le a b = elim (cases_lt b a) [
-  | inl less ↦ lt-leb (suc a) (suc b) (omega arith) ∙ sym (lt-leb a b less)
-  | inr more ↦ le-leb (suc a) (suc b) (omega arith) ∙ sym (le-leb a b more)
-]
+-- the data bits of the greatest version whose character counts are as wide
+abbrev pub widest : ℕ → ℕ
+widest version = cond (nat_lt (count_width version Byte) 16) 1856 2192
 
-pub run_tells : (p : ℕ → Bool) (bytes : List ℕ) (n : ℕ) → n ≤ length bytes → list_all p (take n bytes) ≡ nat_le n (run_length p bytes)
-unfolding run_length
-run_tells p bytes zero h = sym (le-leb 0 (run_length p bytes) (omega arith))
-run_tells p [] (suc n) h = absurd (omega arith)
-run_tells p (b ∷ bytes) (suc n) h =
-    let later = run_tells p bytes n (omega arith) in
-    let go : (t : Bool) → (t && list_all p (take n bytes)) ≡ nat_le (suc n) (cond t (suc (run_length p bytes)) 0) =
-    λ t. elim t as (λ t. (t && list_all p (take n bytes)) ≡ nat_le (suc n) (cond t (suc (run_length p bytes)) 0)) [
-      | true ↦ later ∙ sym (suc_le n (run_length p bytes))
-      | false ↦ sym (lt-leb (suc n) 0 (omega arith))
-    ] in
-    go (p b)
+-- a segment that fits is below the limit of its character count
+short_enough : (version : ℕ) (mode : Mode) (n : ℕ) → segment_length version (segment_of mode n) ≤ widest version → n < 2 ^ count_width version mode
+short_enough version Numeric n = elim (nat_lt version 10) as (λ t. 4 + cond t 10 12 + (10 * n + 2) / 3 ≤ cond (nat_lt (cond t 8 16) 16) 1856 2192 → n < 2 ^ cond t 10 12) [ true ↦ λ h. omega arith | false ↦ λ h. omega arith ]
+short_enough version Alphanumeric n = elim (nat_lt version 10) as (λ t. 4 + cond t 9 11 + (11 * n + 1) / 2 ≤ cond (nat_lt (cond t 8 16) 16) 1856 2192 → n < 2 ^ cond t 9 11) [ true ↦ λ h. omega arith | false ↦ λ h. omega arith ]
+short_enough version Byte n = elim (nat_lt version 10) as (λ t. 4 + cond t 8 16 + 8 * n ≤ cond (nat_lt (cond t 8 16) 16) 1856 2192 → n < 2 ^ cond t 8 16) [ true ↦ λ h. omega arith | false ↦ λ h. omega arith ]
+
+-- of two segments of one length that of the first mode is shorter
+shorter : (version : ℕ) (a b : Mode) (n : ℕ) → 0 < n → mode_place a < mode_place b → segment_length version (segment_of a n) < segment_length version (segment_of b n)
+shorter version Numeric Numeric n some h = absurd (omega arith)
+shorter version Numeric Alphanumeric n some h = elim (nat_lt version 10) as (λ t. 4 + cond t 10 12 + (10 * n + 2) / 3 < 4 + cond t 9 11 + (11 * n + 1) / 2) [ true ↦ omega arith | false ↦ omega arith ]
+shorter version Numeric Byte n some h = elim (nat_lt version 10) as (λ t. 4 + cond t 10 12 + (10 * n + 2) / 3 < 4 + cond t 8 16 + 8 * n) [ true ↦ omega arith | false ↦ omega arith ]
+shorter version Alphanumeric Numeric n some h = absurd (omega arith)
+shorter version Alphanumeric Alphanumeric n some h = absurd (omega arith)
+shorter version Alphanumeric Byte n some h = elim (nat_lt version 10) as (λ t. 4 + cond t 9 11 + (11 * n + 1) / 2 < 4 + cond t 8 16 + 8 * n) [ true ↦ omega arith | false ↦ omega arith ]
+shorter version Byte Numeric n some h = absurd (omega arith)
+shorter version Byte Alphanumeric n some h = absurd (omega arith)
+shorter version Byte Byte n some h = absurd (omega arith)
 
 -- a list that a first segment begins and the best list of the rest goes on
 abbrev pub continued : ℕ → List ℕ → Segment → List Segment
 continued version bytes s = s ∷ chosen_segments version (drop s.len bytes)
 
--- a choice among the segments tried so far: none yet, or the first of least cost
-abbrev pub IsCheapest : (version : ℕ) (bytes : List ℕ) → List Segment → Choice → Type 0
-IsCheapest version bytes [] c = c.bits ≡ 65535
-IsCheapest version bytes (t ∷ tried) c = (continued version bytes c.segment ≡ cheapest version (map (continued version bytes) (t ∷ tried))) × (c.bits ≡ cost version (continued version bytes c.segment))
-
-best_of-last : {A : Type 0} (beats : A → A → Bool) (a : A) (xs : List A) (y : A) → best_of beats a (xs ++ (y ∷ [])) ≡ cond (beats y (best_of beats a xs)) y (best_of beats a xs)
-best_of-last beats a [] y = refl
-best_of-last beats a (x ∷ xs) y = best_of-last beats (cond (beats x a) x a) xs y
-
-abbrev choice_of : Segment → ℕ → Choice
-choice_of t bits = record { segment = t; bits = bits }
-
--- one candidate more
-IsCheapest-next : (version : ℕ) (bytes : List ℕ) (tried : List Segment) (c : Choice) (t : Segment) → IsCheapest version bytes tried c → cost version (continued version bytes t) < 65535
-    → IsCheapest version bytes (tried ++ (t ∷ [])) (cond {A = Choice} (nat_lt (cost version (continued version bytes t)) c.bits) (choice_of t (cost version (continued version bytes t))) c)
-IsCheapest-next version bytes [] c t h small = rw (h, lt-ltb (cost version (continued version bytes t)) 65535 small) (refl, refl)
-IsCheapest-next version bytes (u ∷ tried) c t h small =
-    let f = continued version bytes in
-    let beats = λ (s r : List Segment). nat_lt (cost version s) (cost version r) in
-    let old = best_of beats (f u) (map f tried) in
-    let last : cheapest version (map f (u ∷ (tried ++ (t ∷ [])))) ≡ cond (beats (f t) old) (f t) old =
-    ap (λ lists. best_of beats (f u) lists) (map-append f tried (t ∷ [])) ∙ best_of-last beats (f u) (map f tried) (f t) in
-    let same : nat_lt (cost version (f t)) c.bits ≡ beats (f t) old = ap (λ n. nat_lt (cost version (f t)) n) (h.1 ∙ ap (cost version) h.0) in
-    let go : (b : Bool) → beats (f t) old ≡ b
-    → (f (cond {A = Choice} b (choice_of t (cost version (f t))) c).segment ≡ cond b (f t) old) × ((cond {A = Choice} b (choice_of t (cost version (f t))) c).bits ≡ cost version (f (cond {A = Choice} b (choice_of t (cost version (f t))) c).segment)) =
-    λ b. elim b as (λ b. beats (f t) old ≡ b
-    → (f (cond {A = Choice} b (choice_of t (cost version (f t))) c).segment ≡ cond b (f t) old) × ((cond {A = Choice} b (choice_of t (cost version (f t))) c).bits ≡ cost version (f (cond {A = Choice} b (choice_of t (cost version (f t))) c).segment))) [
-      | true ↦ λ e. (refl, refl)
-      | false ↦ λ e. h
-    ] in
-    rw (last, same) (go (beats (f t) old) refl)
-
-pub cost-continued : (version : ℕ) (bytes : List ℕ) (s : Segment) → cost version (continued version bytes s) ≡ segment_length version s + cost version (chosen_segments version (drop s.len bytes))
+cost-continued : (version : ℕ) (bytes : List ℕ) (s : Segment) → cost version (continued version bytes s) ≡ segment_length version s + cost version (chosen_segments version (drop s.len bytes))
 cost-continued version bytes s = sum_by-cons (segment_length version) s (chosen_segments version (drop s.len bytes))
 
-filter_one : (p : Segment → Bool) (t : Segment) (b : Bool) → p t ≡ b → filter p (t ∷ []) ≡ cond {A = List Segment} b (t ∷ []) []
-filter_one p t b e = rw e refl
+-- a first segment that is tried
+tried_low : (version : ℕ) (bytes : List ℕ) (t s : Segment) → (choices_of version bytes).best.segment ≡ t → cost version (continued version bytes t) ≡ fewest_bits version bytes → 0 < s.len → s.len ≤ length bytes → is_first version bytes s ≡ true
+    → (cost version (continued version bytes t) ≤ cost version (continued version bytes s)) × (t.len < s.len → cost version (continued version bytes t) < cost version (continued version bytes s))
+tried_low version bytes t s is sum some inside passes =
+    let run : s.len ≤ run_length (has_character s.mode) bytes = leb-true _ _ (sym (run_tells (has_character s.mode) bytes s.len inside) ∙ (and_parts _ _ passes).0) in
+    let first = best-least version bytes s.mode s.len some run in
+    let below = fewest_bits-least version (chosen_segments version (drop s.len bytes)) (drop s.len bytes) (chosen_segments-is version (drop s.len bytes)) in
+    let all = cost-continued version bytes s in
+    let len : (choices_of version bytes).best.segment.len ≡ t.len = ap (λ (u : Segment). u.len) is in
+    (omega (arith, first.0), λ less. omega (arith, first.1 (omega arith)))
 
--- the choice after one candidate more, if it is a first segment
-IsCheapest-candidate : (version : ℕ) (bytes : List ℕ) (tried : List Segment) (c : Choice) (mode : Mode) (len run after : ℕ) → len ≤ length bytes → run ≡ run_length (has_character mode) bytes
-    → after ≡ cost version (chosen_segments version (drop len bytes)) → segment_length version (segment_of mode len) + after < 65535 → IsCheapest version bytes tried c
-    → IsCheapest version bytes (tried ++ filter (is_first version bytes) (segment_of mode len ∷ [])) (next_choice version mode len run after c)
-unfolding next_choice
-IsCheapest-candidate version bytes tried c mode len run after inside e k small h =
-    let t = segment_of mode len in
-    let limit = nat_lt len (2 ^ count_width version mode) in
-    let test : is_first version bytes t ≡ (nat_le len run && limit) = rw (run_tells (has_character mode) bytes len inside, e) refl in
-    let total : cost version (continued version bytes t) ≡ segment_length version t + after = rw k (cost-continued version bytes t) in
-    let next = IsCheapest-next version bytes tried c t h (rw total small) in
-    let go : (b : Bool) → is_first version bytes t ≡ b
-    → IsCheapest version bytes (tried ++ filter (is_first version bytes) (t ∷ [])) (cond {A = Choice} (b && nat_lt (segment_length version t + after) c.bits) (choice_of t (segment_length version t + after)) c) =
-    λ b. elim b as (λ b. is_first version bytes t ≡ b
-    → IsCheapest version bytes (tried ++ filter (is_first version bytes) (t ∷ [])) (cond {A = Choice} (b && nat_lt (segment_length version t + after) c.bits) (choice_of t (segment_length version t + after)) c)) [
-      | true ↦ λ yes. rw (filter_one (is_first version bytes) t true yes) (rw total at next)
-      | false ↦ λ no. rw (filter_one (is_first version bytes) t false no, append-nil) h
-    ] in
-    go (nat_le len run && limit) test
+tried_strict : (version : ℕ) (bytes : List ℕ) (t s : Segment) → (choices_of version bytes).best.segment ≡ t → cost version (continued version bytes t) ≡ fewest_bits version bytes → 0 < s.len → s.len ≤ length bytes → is_first version bytes s ≡ true
+    → IsBefore s t → cost version (continued version bytes t) < cost version (continued version bytes s)
+tried_strict version bytes t s is sum some inside passes (inl longer) = (tried_low version bytes t s is sum some inside passes).1 longer
+tried_strict version bytes t s is sum some inside passes (inr same) =
+    let low = (tried_low version bytes t s is sum some inside passes).0 in
+    let rest : cost version (chosen_segments version (drop s.len bytes)) ≡ cost version (chosen_segments version (drop t.len bytes)) = ap (λ n. cost version (chosen_segments version (drop n bytes))) same.0 in
+    let less = shorter version s.mode t.mode s.len some same.1 in
+    let as_long : segment_length version (segment_of t.mode s.len) ≡ segment_length version t = ap (λ n. segment_length version (segment_of t.mode n)) same.0 in
+    absurd (omega (arith, low, rest, less, as_long, cost-continued version bytes s, cost-continued version bytes t))
 
--- the first segments of at most so many bytes
-abbrev pub tries : (version : ℕ) (bytes : List ℕ) (n : ℕ) → List Segment
-tries version bytes n = filter (is_first version bytes) (candidates n)
-
-tries-all : (version : ℕ) (bytes : List ℕ) → tries version bytes (length bytes) ≡ first_segments version bytes
+-- the best choice begins the best list, if the best list of the rest has as many bits as it says
+begins : (version b : ℕ) (bytes : List ℕ) (t : Segment) → (choices_of version (b ∷ bytes)).best.segment ≡ t → cost version (continued version (b ∷ bytes) t) ≡ fewest_bits version (b ∷ bytes)
+    → 0 < t.len → t.len ≤ length (b ∷ bytes) → is_first version (b ∷ bytes) t ≡ true → continued version (b ∷ bytes) t ≡ chosen_segments version (b ∷ bytes)
 unfolding first_segments
-tries-all version bytes = refl
+begins version b bytes t is sum some inside passes =
+    let f : Segment → ℕ = λ s. cost version (continued version (b ∷ bytes) s) in
+    let first = IsFirstLeast-candidates (is_first version (b ∷ bytes)) f (length (b ∷ bytes)) (length (b ∷ bytes)) t.mode t.len (omega arith) some inside (record {
+      passes = passes;
+      low = λ s h k u. (tried_low version (b ∷ bytes) t s is sum h k u).0;
+      strict = λ s h k u before. tried_strict version (b ∷ bytes) t s is sum h k u before;
+    }) in
+    sym (chosen_segments-cons version b bytes ∙ cheapest-is version (continued version (b ∷ bytes)) t (first_segments version (b ∷ bytes)) first)
 
-tries-next : (version : ℕ) (bytes : List ℕ) (n : ℕ) → 0 < n → tries version bytes n
-    ≡ filter (is_first version bytes) (segment_of Numeric n ∷ []) ++ (filter (is_first version bytes) (segment_of Alphanumeric n ∷ []) ++ (filter (is_first version bytes) (segment_of Byte n ∷ []) ++ tries version bytes (n - 1)))
-tries-next version bytes zero h = absurd (omega arith)
-tries-next version bytes (suc n) h =
-    let less : suc n - 1 ≡ n = omega arith in
-    let others = candidates n in
-    rw (
-      less,
-      ← filter-append (is_first version bytes) (segment_of Byte (suc n) ∷ []) others,
-      ← filter-append (is_first version bytes) (segment_of Alphanumeric (suc n) ∷ []) (segment_of Byte (suc n) ∷ others),
-      ← filter-append (is_first version bytes) (segment_of Numeric (suc n) ∷ []) (segment_of Alphanumeric (suc n) ∷ segment_of Byte (suc n) ∷ others),
-    ) refl
+-- the fewest bits are those of the best list, if they fit
+pub record Agrees (version : ℕ) (bytes : List ℕ) : Type 0 where
+  pub bits : fewest_bits version bytes ≡ cost version (chosen_segments version bytes)
+  pub first : 0 < length bytes → continued version bytes (choices_of version bytes).best.segment ≡ chosen_segments version bytes
 
--- a segment has at most 28 bits a byte
-pick_le : (t : Bool) (a b m : ℕ) → a ≤ m → b ≤ m → cond t a b ≤ m
-pick_le true a b m h k = h
-pick_le false a b m h k = k
+agrees_step : (version b : ℕ) (bytes : List ℕ) → length (b ∷ bytes) ≤ 652 → fewest_bits version (b ∷ bytes) ≤ widest version
+    → ((rest : List ℕ) → length rest ≤ length bytes → fewest_bits version rest ≤ widest version → Agrees version rest) → Agrees version (b ∷ bytes)
+agrees_step version b bytes few fits later =
+    let t = (choices_of version (b ∷ bytes)).best.segment in
+    let front = best-front version b bytes few in
+    let run = run_length-le (has_character t.mode) (b ∷ bytes) in
+    let inside : t.len ≤ length (b ∷ bytes) = omega (arith, front.inside) in
+    let rest = later (drop t.len (b ∷ bytes)) (omega (arith, length-drop t.len (b ∷ bytes), front.some)) (omega (arith, front.sum)) in
+    let sum : cost version (continued version (b ∷ bytes) t) ≡ fewest_bits version (b ∷ bytes) = omega (arith, cost-continued version (b ∷ bytes) t, front.sum, rest.bits) in
+    let counted : t.len < 2 ^ count_width version t.mode = short_enough version t.mode t.len (omega (arith, front.sum)) in
+    let passes : is_first version (b ∷ bytes) t ≡ true = rw (run_tells (has_character t.mode) (b ∷ bytes) t.len inside, le-leb t.len (run_length (has_character t.mode) (b ∷ bytes)) front.inside, lt-ltb t.len (2 ^ count_width version t.mode) counted) refl in
+    let whole = begins version b bytes t refl sum front.some inside passes in
+    record { bits = sym sum ∙ ap (cost version) whole; first = λ some. whole }
 
-pub segment_length-le : (version : ℕ) (mode : Mode) (n : ℕ) → 0 < n → segment_length version (segment_of mode n) ≤ 28 * n
-segment_length-le version Numeric n h = omega (arith, pick_le (nat_lt version 10) 10 12 12 (omega arith) (omega arith))
-segment_length-le version Alphanumeric n h = omega (arith, pick_le (nat_lt version 10) 9 11 11 (omega arith) (omega arith))
-segment_length-le version Byte n h = omega (arith, pick_le (nat_lt version 10) 8 16 16 (omega arith) (omega arith))
+agrees_within : (version n : ℕ) (bytes : List ℕ) → length bytes ≤ n → length bytes ≤ 652 → fewest_bits version bytes ≤ widest version → Agrees version bytes
+unfolding choices_of
+agrees_within version n [] short few fits = record { bits = rw (chosen_segments-nil version) refl; first = λ some. absurd (omega arith) }
+agrees_within version zero (b ∷ bytes) short few fits = absurd (omega arith)
+agrees_within version (suc n) (b ∷ bytes) short few fits =
+    agrees_step version b bytes few fits (λ rest shorter. agrees_within version n rest (omega arith) (omega arith))
 
-run_bytes : (bytes : List ℕ) → length bytes ≡ run_length (has_character Byte) bytes
-unfolding run_length
-run_bytes [] = refl
-run_bytes (b ∷ bytes) = ap suc (run_bytes bytes)
-
--- the choice after the first segments of more than so many bytes
-pub record HasTried (version : ℕ) (bytes : List ℕ) (len : ℕ) (choice : Choice) : Type 0 where
-  pub tried : List Segment
-  pub cheapest : IsCheapest version bytes tried choice
-  pub all : tried ++ tries version bytes len ≡ first_segments version bytes
-
-pub HasTried-none : (version : ℕ) (bytes : List ℕ) (choice : Choice) → choice.bits ≡ 65535 → HasTried version bytes (length bytes) choice
-HasTried-none version bytes choice e = record { tried = []; cheapest = e; all = tries-all version bytes }
-
-pub HasTried-next : (version : ℕ) (bytes : List ℕ) (len : ℕ) (digits characters after : ℕ) (choice : Choice) → 0 < len → len ≤ length bytes → length bytes ≤ 652
-    → digits ≡ run_length (has_character Numeric) bytes → characters ≡ run_length (has_character Alphanumeric) bytes → after ≡ cost version (chosen_segments version (drop len bytes)) → after ≤ 18256
-    → HasTried version bytes len choice
-    → HasTried version bytes (len - 1) (next_choice version Byte len (length bytes) after (next_choice version Alphanumeric len characters after (next_choice version Numeric len digits after choice)))
-HasTried-next version bytes len digits characters after choice some inside few d ch k small old =
-    let p = is_first version bytes in
-    let numeric = filter p (segment_of Numeric len ∷ []) in
-    let alphanumeric = filter p (segment_of Alphanumeric len ∷ []) in
-    let byte = filter p (segment_of Byte len ∷ []) in
-    let a = next_choice version Numeric len digits after choice in
-    let b = next_choice version Alphanumeric len characters after a in
-    let first = IsCheapest-candidate version bytes old.tried choice Numeric len digits after inside d k (omega (arith, segment_length-le version Numeric len some)) old.cheapest in
-    let second = IsCheapest-candidate version bytes (old.tried ++ numeric) a Alphanumeric len characters after inside ch k (omega (arith, segment_length-le version Alphanumeric len some)) first in
-    let third = IsCheapest-candidate version bytes ((old.tried ++ numeric) ++ alphanumeric) b Byte len (length bytes) after inside (run_bytes bytes) k (omega (arith, segment_length-le version Byte len some)) second in
-    record {
-      tried = ((old.tried ++ numeric) ++ alphanumeric) ++ byte;
-      cheapest = third;
-      all = rw (append_assoc, append_assoc, append_assoc) (rw (tries-next version bytes len some) at old.all);
-    }
-
-pub IsChoice-tried : (version : ℕ) (bytes : List ℕ) (choice : Choice) → 0 < length bytes → HasTried version bytes 0 choice → IsChoice version bytes choice
-IsChoice-tried version [] choice some old = absurd (omega arith)
-IsChoice-tried version (b ∷ bytes) choice some old =
-    let done : old.tried ≡ first_segments version (b ∷ bytes) = rw append-nil at old.all in
-    let go : (tried : List Segment) → IsCheapest version (b ∷ bytes) tried choice → tried ≡ first_segments version (b ∷ bytes) → IsChoice version (b ∷ bytes) choice =
-    λ tried. elim tried as (λ tried. IsCheapest version (b ∷ bytes) tried choice → tried ≡ first_segments version (b ∷ bytes) → IsChoice version (b ∷ bytes) choice) [
-      | [] ↦ λ h e. absurd (rw (← e) at (one_byte version b bytes))
-      | t ∷ tried ↦ λ h e.
-          let first : continued version (b ∷ bytes) choice.segment ≡ chosen_segments version (b ∷ bytes) = h.0 ∙ (ap (λ ss. cheapest version (map (continued version (b ∷ bytes)) ss)) e ∙ sym (chosen_segments-cons version b bytes)) in
-          (first, h.1 ∙ ap (cost version) first)
-    ] in
-    go old.tried old.cheapest done
-
--- a list of segments costs at most 28 bits a byte
-cost-le : (version : ℕ) (segments : List Segment) (bytes : List ℕ) → IsSegmentation version segments bytes → cost version segments ≤ 28 * length bytes
-cost-le version [] bytes cut = omega arith
-cost-le version (s ∷ segments) bytes cut =
-    omega (arith, sum_by-cons (segment_length version) s segments, segment_length-le version s.mode s.len cut.0.some, cost-le version segments (drop s.len bytes) cut.1, length-drop s.len bytes, cut.0.inside)
-
-pub best_cost-le : (version : ℕ) (bytes : List ℕ) → cost version (chosen_segments version bytes) ≤ 28 * length bytes
-best_cost-le version bytes = cost-le version (chosen_segments version bytes) bytes (chosen_segments-is version bytes)
-
--- what becomes of a candidate
-pub next_choice-takes : (version : ℕ) (mode : Mode) (len run after : ℕ) (c : Choice) → len ≤ run → len < 2 ^ count_width version mode → segment_length version (segment_of mode len) + after < c.bits
-    → next_choice version mode len run after c ≡ choice_of (segment_of mode len) (segment_length version (segment_of mode len) + after)
-unfolding next_choice
-next_choice-takes version mode len run after c inside below less =
-    rw (le-leb len run inside, lt-ltb len (2 ^ count_width version mode) below, lt-ltb (segment_length version (segment_of mode len) + after) c.bits less) refl
-
-kept : (b t : Bool) (x y : Choice) → t ≡ false → cond {A = Choice} (b && t) x y ≡ y
-kept true t x y e = rw e refl
-kept false t x y e = refl
-
-pub next_choice-keeps : (version : ℕ) (mode : Mode) (len run after : ℕ) (c : Choice) → c.bits ≤ segment_length version (segment_of mode len) + after → next_choice version mode len run after c ≡ c
-unfolding next_choice
-next_choice-keeps version mode len run after c more =
-    kept (nat_le len run && nat_lt len (2 ^ count_width version mode)) (nat_lt (segment_length version (segment_of mode len) + after) c.bits) (choice_of (segment_of mode len) (segment_length version (segment_of mode len) + after)) c
-    (le-ltb (segment_length version (segment_of mode len) + after) c.bits more)
-
-pub next_choice-short : (version : ℕ) (mode : Mode) (len run after : ℕ) (c : Choice) → run < len → next_choice version mode len run after c ≡ c
-unfolding next_choice
-next_choice-short version mode len run after c short = rw (lt-leb len run short) refl
-
-left : (b u : Bool) (x y : Choice) → cond {A = Choice} ((b && false) && u) x y ≡ y
-left true u x y = refl
-left false u x y = refl
-
-pub next_choice-past : (version : ℕ) (mode : Mode) (len run after : ℕ) (c : Choice) → 2 ^ count_width version mode ≤ len → next_choice version mode len run after c ≡ c
-unfolding next_choice
-next_choice-past version mode len run after c past =
-    rw (le-ltb len (2 ^ count_width version mode) past) (left (nat_le len run) (nat_lt (segment_length version (segment_of mode len) + after) c.bits) (choice_of (segment_of mode len) (segment_length version (segment_of mode len) + after)) c)
+pub Agrees-if_fits : (version : ℕ) (bytes : List ℕ) → length bytes ≤ 652 → fewest_bits version bytes ≤ widest version → Agrees version bytes
+Agrees-if_fits version bytes few fits = agrees_within version (length bytes) bytes (omega arith) few fits

@@ -97,7 +97,7 @@ unfolding chosen_segments
 chosen_segments-least version bytes segments cut = best_within-least version (length bytes) bytes segments (omega arith) cut
 
 -- The segments that are tried are first segments of the bytes.
-All-filter : {A : Type 0} (P : A → Type 0) (p : A → Bool) (xs : List A) → AllByRecursion P xs → AllByRecursion (λ x. P x × (p x ≡ true)) (filter p xs)
+pub All-filter : {A : Type 0} (P : A → Type 0) (p : A → Bool) (xs : List A) → AllByRecursion P xs → AllByRecursion (λ x. P x × (p x ≡ true)) (filter p xs)
 All-filter P p [] w = tt
 All-filter {A} P p (x ∷ xs) w =
     let go : (b : Bool) → p x ≡ b → AllByRecursion (λ x. P x × (p x ≡ true)) (cond {A = List A} b (x ∷ filter p xs) (filter p xs)) =
@@ -112,7 +112,7 @@ All-map P R f each [] w = tt
 All-map P R f each (x ∷ xs) w = (each x w.0, All-map P R f each xs w.1)
 
 -- a length that is tried is not 0 nor past the end
-tried_lengths : (n size : ℕ) → n ≤ size → AllByRecursion (λ (s : Segment). (0 < s.len) × (s.len ≤ size)) (candidates n)
+pub tried_lengths : (n size : ℕ) → n ≤ size → AllByRecursion (λ (s : Segment). (0 < s.len) × (s.len ≤ size)) (candidates n)
 tried_lengths zero size h = tt
 tried_lengths (suc n) size h =
     ((omega arith, h), ((omega arith, h), ((omega arith, h), tried_lengths n size (omega arith))))

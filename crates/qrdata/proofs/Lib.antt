@@ -17,5 +17,11 @@ pub mod VersionSearch
 pub mod Writing
 pub mod SameWidths
 pub mod Bounds
+pub mod Runs
+pub mod ChoiceOrder
+pub mod ChoiceClasses
+pub mod BestChoice
+pub mod FirstLeast
 pub mod Choosing
-pub mod TableSteps
+pub mod SmallChoices
+pub mod Tables

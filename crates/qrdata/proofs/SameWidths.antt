@@ -10,7 +10,6 @@ use Rattle.qrdata.specs.declared.mode.Segment.{Segment}
 use Rattle.qrdata.specs.Fewest.{best_within, candidates, cheapest, chosen_segments, first_segments, is_first}
 use Rattle.qrdata.specs.Segments.{cost, has_character, payload_length, segment_length}
 use Rattle.qrdata.specs.LeastPlan.{SameWidths}
-use Rattle.qrdata.specs.Table.{HasFirsts}
 
 -- up to version 9 a character count has the same bits
 pub SameWidths-nine : (version : ℕ) → version ≤ 9 → SameWidths version 9
@@ -67,8 +66,3 @@ chosen_segments-same v w same bytes = best_within-same_widths v w same (length b
 -- the costs of the best segments are the same
 pub cost-chosen_same : (v w : ℕ) → SameWidths v w → (bytes : List ℕ) → cost v (chosen_segments v bytes) ≡ cost w (chosen_segments w bytes)
 cost-chosen_same v w same bytes = cost-same v w same (chosen_segments v bytes) ∙ ap (cost w) (chosen_segments-same v w same bytes)
-
--- the first segments that a table names are the same
-pub HasFirsts-same : (v w : ℕ) → SameWidths v w → (bytes : List ℕ) (firsts : List Segment) → HasFirsts w bytes 0 firsts → HasFirsts v bytes 0 firsts
-HasFirsts-same v w same bytes firsts known = λ k from to first found.
-    rw (chosen_segments-same v w same (drop first.len (drop k bytes)), chosen_segments-same v w same (drop k bytes)) (known k from to first found)

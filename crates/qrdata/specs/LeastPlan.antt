@@ -1,7 +1,8 @@
 -- The plan of the least version in a range (ISO/IEC 18004, 7.4.1).
-use Rattle.std.specs.Prelude.{◌≡◌, ℕ, ◌<◌, ◌≤◌, List}
+use Rattle.std.specs.Prelude.{◌≡◌, ℕ, ◌<◌, ◌≤◌, List, ◌∷◌, length, drop, slice_get, Some}
 use Rattle.labelcore.specs.declared.options.Level.{Level}
 use Rattle.qrdata.specs.declared.mode.Mode.{Mode}
+use Rattle.qrdata.specs.declared.mode.Segment.{Segment}
 use Rattle.qrdata.specs.Fewest.{chosen_segments}
 use Rattle.qrdata.specs.PlanView.{PlanView}
 use Rattle.qrdata.specs.Segments.{cost, count_width}
@@ -27,3 +28,10 @@ pub record IsLeastPlan (lowest highest : ℕ) (level : Level) (bytes : List ℕ)
 -- in no version of a range do the best segments of the bytes fit
 abbrev pub NoPlan : (lowest highest : ℕ) → Level → List ℕ → Type 0
 NoPlan lowest highest level bytes = (v : ℕ) → lowest ≤ v → v ≤ highest → DoNotFit v level bytes
+
+-- where the best segments of a rest have at most so many bits, the table names the first of them
+abbrev pub NamesBest : (version : ℕ) (bytes : List ℕ) (limit : ℕ) → List Segment → Type 0
+NamesBest version bytes limit firsts =
+    (k : ℕ) → k < length bytes → cost version (chosen_segments version (drop k bytes)) ≤ limit
+    → (first : Segment) → slice_get firsts k ≡ Some first
+    → first ∷ chosen_segments version (drop first.len (drop k bytes)) ≡ chosen_segments version (drop k bytes)

@@ -1,37 +1,125 @@
--- A table over the rests of the data: for each the bits of its best segments, and the first of these (the choice of
--- ISO/IEC 18004, annex J, made by way of a table of this crate's own).
-use Rattle.std.specs.Prelude.{◌≡◌, ℕ, suc, ◌+◌, ◌^◌, ◌<◌, ◌≤◌, List, [], ◌∷◌, length, drop, nat_lt, nat_le, slice_index, slice_get, if◌then◌else◌, ◌&&◌, Bool, Some}
+-- The best choices of a first segment of each rest of the data, found from its end (the choice of ISO/IEC 18004, annex J, made in
+-- this crate's own way). The limits of the character counts are left out.
+use Rattle.std.specs.Prelude.{◌≡◌, ℕ, suc, ◌+◌, ◌^◌, ◌<◌, ◌≤◌, List, [], ◌∷◌, length, drop, nat_lt, slice_get, if◌then◌else◌, ◌==◌, ◌&&◌, ◌||◌, Some}
+use Rattle.std.specs.Char.{is_ascii_digit}
 use Rattle.qrdata.specs.declared.table.Choice.{Choice}
+use Rattle.qrdata.specs.declared.table.Digits.{Digits}
+use Rattle.qrdata.specs.declared.table.Characters.{Characters}
+use Rattle.qrdata.specs.declared.table.Choices.{Choices}
+use Rattle.qrdata.specs.declared.table.TheConstants.{ABSENT}
 use Rattle.qrdata.specs.declared.mode.Mode.{Mode}
+use Rattle.qrdata.specs.declared.mode.Mode.TheVariants.{Numeric, Alphanumeric, Byte}
 use Rattle.qrdata.specs.declared.mode.Segment.{Segment}
-use Rattle.qrdata.specs.Fewest.{chosen_segments}
-use Rattle.qrdata.specs.Segments.{cost, count_width, segment_length, segment_of}
+use Rattle.qrdata.specs.Segments.{has_character, segment_length, segment_of}
 
--- how many of the first bytes pass a test
-unfoldable pub run_length : (ℕ → Bool) → List ℕ → ℕ
-run_length passes [] = 0
-run_length passes (b ∷ bytes) = if passes b then suc (run_length passes bytes) else 0
+-- no choice of a mode
+abbrev pub absent_choice : Mode → Choice
+absent_choice mode = record { segment = segment_of mode 0; bits = ABSENT }
 
--- the candidate, if it is a segment and its list costs less, and else the choice so far
-unfoldable pub next_choice : (version : ℕ) (mode : Mode) (len run after : ℕ) → Choice → Choice
-next_choice version mode len run after so_far =
-    let bits = segment_length version (segment_of mode len) + after in
-    if (nat_le len run && nat_lt len (2 ^ count_width version mode)) && nat_lt bits so_far.bits
-    then record { segment = segment_of mode len; bits = bits } else so_far
+-- the choice of one byte, after which come the best segments of this many bits
+abbrev pub short_choice : (version : ℕ) → Mode → (after : ℕ) → Choice
+short_choice version mode after =
+    record { segment = segment_of mode 1; bits = segment_length version (segment_of mode 1) + after }
 
--- the first segment of the best list of some bytes, and the bits of that list
-abbrev pub IsChoice : (version : ℕ) (bytes : List ℕ) → Choice → Type 0
-IsChoice version bytes choice =
-    (choice.segment ∷ chosen_segments version (drop choice.segment.len bytes) ≡ chosen_segments version bytes)
-    × (choice.bits ≡ cost version (chosen_segments version bytes))
+-- a choice with one byte more, which adds so many bits
+abbrev pub longer_choice : Choice → (added : ℕ) → Choice
+longer_choice c added =
+    record { segment = segment_of c.segment.mode (suc c.segment.len); bits = c.bits + added }
 
--- from a place on the table holds the bits of the best list of each rest
-abbrev pub HasCosts : (version : ℕ) (bytes : List ℕ) (from : ℕ) → List ℕ → Type 0
-HasCosts version bytes from bits =
-    (k : ℕ) → from ≤ k → k ≤ length bytes → slice_index bits k ≡ cost version (chosen_segments version (drop k bytes))
+-- the choice of fewer bits, of equally many the longer one, and of equally long ones the first
+unfoldable pub better_choice : Choice → Choice → Choice
+better_choice c d =
+    if nat_lt d.bits c.bits || (d.bits == c.bits && nat_lt c.segment.len d.segment.len) then d else c
 
--- from a place on the table holds the first segment of the best list of each rest
+-- the choices in numeric mode of a byte and a rest, whose best segments have this many bits
+unfoldable pub next_digits : (version byte after : ℕ) → Digits → Digits
+next_digits version byte after rest =
+    if is_ascii_digit byte then record {
+      none_over = longer_choice rest.two_over 3;
+      one_over = better_choice (longer_choice rest.none_over 4) (short_choice version Numeric after);
+      two_over = longer_choice rest.one_over 3;
+    } else record {
+      none_over = absent_choice Numeric;
+      one_over = absent_choice Numeric;
+      two_over = absent_choice Numeric;
+    }
+
+-- the choices in alphanumeric mode of a byte and a rest
+unfoldable pub next_characters : (version byte after : ℕ) → Characters → Characters
+next_characters version byte after rest =
+    if has_character Alphanumeric byte then record {
+      none_over = longer_choice rest.one_over 5;
+      one_over = better_choice (longer_choice rest.none_over 6) (short_choice version Alphanumeric after);
+    } else record {
+      none_over = absent_choice Alphanumeric;
+      one_over = absent_choice Alphanumeric;
+    }
+
+-- the best of the choices in all modes
+unfoldable pub best_choice : Digits → Characters → Choice → Choice
+best_choice digits characters byte =
+    better_choice (better_choice
+    (better_choice (better_choice digits.none_over digits.one_over) digits.two_over)
+    (better_choice characters.none_over characters.one_over)) byte
+
+-- choices with the best of them
+abbrev pub choices_with_best : Digits → Characters → Choice → Choices
+choices_with_best digits characters byte = record {
+  digits = digits;
+  characters = characters;
+  bytes = byte;
+  best = best_choice digits characters byte;
+}
+
+-- the choices of a byte and a rest
+unfoldable pub next_choices : (version byte : ℕ) → Choices → Choices
+next_choices version byte rest =
+    choices_with_best (next_digits version byte rest.best.bits rest.digits)
+    (next_characters version byte rest.best.bits rest.characters)
+    (better_choice (longer_choice rest.bytes 8) (short_choice version Byte rest.best.bits))
+
+-- the choices of no bytes
+abbrev pub no_choices : Choices
+no_choices = record {
+  digits = record {
+    none_over = absent_choice Numeric;
+    one_over = absent_choice Numeric;
+    two_over = absent_choice Numeric;
+  };
+  characters = record {
+    none_over = absent_choice Alphanumeric;
+    one_over = absent_choice Alphanumeric;
+  };
+  bytes = absent_choice Byte;
+  best = record { segment = segment_of Byte 0; bits = 0 };
+}
+
+-- the choices of the bytes
+unfoldable pub choices_of : (version : ℕ) → List ℕ → Choices
+choices_of version [] = no_choices
+choices_of version (b ∷ bytes) = next_choices version b (choices_of version bytes)
+
+-- the bits of the best list of the bytes
+abbrev pub fewest_bits : (version : ℕ) → List ℕ → ℕ
+fewest_bits version bytes = (choices_of version bytes).best.bits
+
+-- from a place on the table holds the best first segment of each rest
 abbrev pub HasFirsts : (version : ℕ) (bytes : List ℕ) (from : ℕ) → List Segment → Type 0
 HasFirsts version bytes from firsts =
     (k : ℕ) → from ≤ k → k < length bytes → (first : Segment) → slice_get firsts k ≡ Some first
-    → first ∷ chosen_segments version (drop first.len (drop k bytes)) ≡ chosen_segments version (drop k bytes)
+    → first ≡ (choices_of version (drop k bytes)).best.segment
+
+-- there is room for a byte more
+abbrev pub IsSmall : Choice → Type 0
+IsSmall c = (c.segment.len ≤ 652) × (c.bits < 2 ^ 20)
+
+abbrev pub AreSmallDigits : Digits → Type 0
+AreSmallDigits digits = IsSmall digits.none_over × IsSmall digits.one_over × IsSmall digits.two_over
+
+abbrev pub AreSmallCharacters : Characters → Type 0
+AreSmallCharacters characters = IsSmall characters.none_over × IsSmall characters.one_over
+
+abbrev pub AreSmall : Choices → Type 0
+AreSmall choices =
+    AreSmallDigits choices.digits × AreSmallCharacters choices.characters
+    × IsSmall choices.bytes × IsSmall choices.best

@@ -11,6 +11,8 @@ mod plan;
 mod symbol;
 mod table;
 #[cfg(test)]
+mod table_tests;
+#[cfg(test)]
 mod tests;
 mod version;
 

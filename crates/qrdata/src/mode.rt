@@ -1,6 +1,6 @@
 //! Modes and segments (ISO/IEC 18004, 7.3 and 7.4).
 ghost use Rattle.qrdata.specs.Segments.{alphanumeric_value, count_width, mode_indicator, payload_length};
-ghost use Rattle.std.specs.Prelude.{◌≡◌, ◌<◌, ◌≤◌, ◌^◌};
+ghost use Rattle.std.specs.Prelude.{◌≡◌, ◌<◌, ◌≤◌};
 
 use crate::version::Version;
 
@@ -46,18 +46,6 @@ impl Mode {
             Mode::Numeric => if short { 10 } else { 12 },
             Mode::Alphanumeric => if short { 9 } else { 11 },
             Mode::Byte => if short { 8 } else { 16 },
-        }
-    }
-
-    /// What a length must be below for the character count indicator to hold it in a version.
-    pub(crate) fn count_limit(self, version: Version) -> usize
-        ensures { result ≡ 2 ^ count_width version.number self }
-    {
-        let short = version.number < 10;
-        match self {
-            Mode::Numeric => if short { 1024 } else { 4096 },
-            Mode::Alphanumeric => if short { 512 } else { 2048 },
-            Mode::Byte => if short { 256 } else { 65536 },
         }
     }
 

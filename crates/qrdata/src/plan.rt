@@ -2,8 +2,7 @@
 ghost use Rattle.labelcore.specs.declared.fault.Fault.TheVariants.{DoesNotFit};
 ghost use Rattle.qrdata.specs.Fewest.{chosen_segments, chosen_version, IsFewest, NoneFits};
 ghost use Rattle.qrdata.specs.Segments.{IsSegmentation, cost};
-ghost use Rattle.qrdata.specs.LeastPlan.{IsLeastPlan, NoPlan, SameWidths};
-ghost use Rattle.qrdata.specs.Table.{HasFirsts};
+ghost use Rattle.qrdata.specs.LeastPlan.{IsLeastPlan, NamesBest, NoPlan, SameWidths};
 ghost use Rattle.qrdata.specs.Versions.{capacity};
 ghost use Rattle.qrdata.specs.declared.mode.Segment.{Segment};
 ghost use Rattle.std.specs.Prelude.{Some, None, length, ◌≡◌, ◌≤◌, ◌<◌, IfErr, IfNone, IfOk, IfSome, ℕ, List};
@@ -136,16 +135,15 @@ fn plan_between(lowest: u8, highest: u8, level: Level, bytes: &[u8]) -> Option<P
     ensures some { IfSome result (IsLeastPlan lowest highest level bytes.now) }
     ensures none { IfNone result (NoPlan lowest highest level bytes.now) }
 {
-    let mut bits = [0; 653];
     let mut firsts = [Segment {
         mode: Mode::Byte,
         len: 0,
     }; 653];
-    fill(Version { number: highest }, bytes, &mut bits, &mut firsts);
+    let bits = fill(Version { number: highest }, bytes, &mut firsts);
     for number in lowest..highest + 1 {
         let version = Version { number };
-        if usize::from(bits[0]) <= 8 * version.data_words(level) {
-            return Some(plan_of(version, level, bytes, &firsts, u32::from(bits[0])));
+        if bits <= 8 * version.data_words(level) {
+            return Some(plan_of(version, level, bytes, &firsts, bits as u32));
         }
     }
     None
@@ -155,7 +153,7 @@ fn plan_between(lowest: u8, highest: u8, level: Level, bytes: &[u8]) -> Option<P
 fn plan_of(version: Version, level: Level, bytes: &[u8], firsts: &[Segment], bits: u32) -> Plan
     requires few { length bytes.now ≤ 652 }
     requires size { length firsts.now ≡ 653 }
-    requires firsts { HasFirsts version.number bytes.now 0 firsts.now }
+    requires firsts { NamesBest version.number bytes.now bits firsts.now }
     requires short { length (chosen_segments version.number bytes.now) ≤ 109 }
     requires bits { bits ≡ cost version.number (chosen_segments version.number bytes.now) }
     ensures { result ≡ record {

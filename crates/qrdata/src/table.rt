@@ -1,8 +1,6 @@
-//! A table of the best segments of each rest of the bytes, filled from the end.
-ghost use Rattle.qrdata.specs.Segments.{has_character};
-ghost use Rattle.qrdata.specs.Table.{run_length, next_choice, HasCosts, HasFirsts, IsChoice};
-ghost use Rattle.qrdata.specs.declared.mode.Mode.TheVariants.{Numeric, Alphanumeric};
-ghost use Rattle.std.specs.Prelude.{length, ◌≡◌, ◌+◌, ◌≤◌, ◌<◌, drop};
+//! A table of the best first segment of each rest of the bytes, filled from the end.
+ghost use Rattle.qrdata.specs.Table.{HasFirsts, IsSmall, AreSmallDigits, AreSmallCharacters, AreSmall, absent_choice, better_choice, best_choice, fewest_bits, longer_choice, next_characters, next_choices, next_digits, no_choices, short_choice};
+ghost use Rattle.std.specs.Prelude.{length, ◌≡◌, ◌^◌, ◌≤◌, ◌<◌};
 
 use crate::mode::{Mode, Segment, value_of};
 use crate::version::Version;
@@ -10,108 +8,212 @@ use crate::version::Version;
 /// The most bytes that a symbol of version 10 holds: more digits than this have more bits than its data codewords.
 pub(crate) const MAX_BYTES: usize = 652;
 
+/// The bits of a choice that there is not: more than the best segments of so few bytes have.
+const ABSENT: usize = 65536;
+
 /// A first segment of a rest of the bytes.
 #[derive(Clone, Copy)]
 struct Choice {
     segment: Segment,
     /// The bits of the list of this segment and the best segments of what comes after it.
-    bits: u16,
+    bits: usize,
 }
 
-/// The candidate of a mode and a length, if it is a segment and its list costs less, and else the choice so far. The mode
-/// has the first `run` bytes, and the best segments of what comes after the candidate have `after` bits.
-fn better(
-    version: Version,
-    mode: Mode,
-    len: usize,
-    run: usize,
-    after: u16,
-    so_far: Choice,
-) -> Choice
-    requires len { len ≤ 652 }
-    requires after { after ≤ 18256 }
-    ensures { result ≡ next_choice version.number mode len run after so_far }
+/// The best choices in numeric mode, by how many digits are over threes: what one digit more costs depends on it, and adding
+/// it to all choices of a kind leaves their order as it is.
+#[derive(Clone, Copy)]
+struct Digits {
+    none_over: Choice,
+    one_over: Choice,
+    two_over: Choice,
+}
+
+/// The best choices in alphanumeric mode, by how many characters are over twos.
+#[derive(Clone, Copy)]
+struct Characters {
+    none_over: Choice,
+    one_over: Choice,
+}
+
+/// The best choices of one rest of the bytes.
+#[derive(Clone, Copy)]
+struct Choices {
+    digits: Digits,
+    characters: Characters,
+    bytes: Choice,
+    /// The best of them all. With no bytes it is empty.
+    best: Choice,
+}
+
+/// No choice of a mode.
+fn absent(mode: Mode) -> Choice
+    ensures { result ≡ absent_choice mode }
 {
-    if len <= run && len < mode.count_limit(version) {
-        let bits = 4 + mode.count_bits(version) + mode.payload_bits(len) + usize::from(after);
-        if bits < usize::from(so_far.bits) {
-            return Choice {
-                segment: Segment {
-                    mode,
-                    len: len as u16,
-                },
-                bits: bits as u16,
-            };
-        }
+    Choice {
+        segment: Segment { mode, len: 0 },
+        bits: ABSENT,
     }
-    so_far
 }
 
-/// The first of the best segments of the bytes from a place on. From that place on this many bytes are digits and this many
-/// are alphanumeric characters, and `bits` has the bits of the best segments of each shorter rest.
-fn first_of(
-    version: Version,
-    bytes: &[u8],
-    place: usize,
-    digits: usize,
-    characters: usize,
-    bits: &[u16],
-) -> Choice
-    requires few { length bytes.now ≤ 652 }
-    requires inside { place < length bytes.now }
-    requires digits { digits ≡ run_length (has_character Numeric) (drop place bytes.now) }
-    requires characters { characters
-        ≡ run_length (has_character Alphanumeric) (drop place bytes.now) }
-    requires size { length bits.now ≡ 653 }
-    requires known { HasCosts version.number bytes.now (place + 1) bits.now }
-    ensures { IsChoice version.number (drop place bytes.now) result }
+/// The choice of one byte, where the best segments of what comes after it have `after` bits.
+fn short(version: Version, mode: Mode, after: usize) -> Choice
+    requires { after < 2 ^ 20 }
+    ensures { result ≡ short_choice version.number mode after }
 {
-    let rest = bytes.len() - place;
-    let mut choice = Choice {
+    Choice {
+        segment: Segment { mode, len: 1 },
+        bits: 4 + mode.count_bits(version) + mode.payload_bits(1) + after,
+    }
+}
+
+/// A choice with one byte more at the front, which adds so many bits.
+fn longer(choice: &Choice, added: usize) -> Choice
+    requires choice { IsSmall choice.now }
+    requires added { added ≤ 8 }
+    ensures { result ≡ longer_choice choice.now added }
+{
+    Choice {
         segment: Segment {
-            mode: Mode::Byte,
-            len: 1,
+            mode: choice.segment.mode,
+            len: choice.segment.len + 1,
         },
-        bits: 65535,
-    };
-    let mut len = rest;
-    while len > 0 {
-        let after = bits[place + len];
-        let numeric = better(version, Mode::Numeric, len, digits, after, choice);
-        let alphanumeric = better(version, Mode::Alphanumeric, len, characters, after, numeric);
-        choice = better(version, Mode::Byte, len, rest, after, alphanumeric);
-        len -= 1;
+        bits: choice.bits + added,
     }
-    choice
 }
 
-/// Fills a table from its end: at each place stand the bits of the best segments of the bytes from there on, and the first
-/// of these segments. Its time grows with the square of the number of bytes.
-pub(crate) fn fill(version: Version, bytes: &[u8], bits: &mut [u16], firsts: &mut [Segment])
+/// The choice of fewer bits, of equally many the longer segment, and of equally long ones the first.
+#[tactic(auto, unfolding(crate::specs::Table::better_choice))]
+fn better(first: Choice, second: Choice) -> Choice
+    ensures { result ≡ better_choice first second }
+{
+    if second.bits < first.bits
+        || second.bits == first.bits && first.segment.len < second.segment.len
+    {
+        second
+    } else {
+        first
+    }
+}
+
+/// The choices in numeric mode of a byte and a rest, whose best segments have `after` bits. The second of three digits
+/// adds three bits, and so does the third.
+#[tactic(auto, unfolding(crate::specs::Table::next_digits))]
+fn with_digit(version: Version, byte: u8, rest: &Digits, after: usize) -> Digits
+    requires rest { AreSmallDigits rest.now }
+    requires after { after < 2 ^ 20 }
+    ensures { result ≡ next_digits version.number byte after rest.now }
+{
+    if !byte.is_ascii_digit() {
+        let none = absent(Mode::Numeric);
+        return Digits {
+            none_over: none,
+            one_over: none,
+            two_over: none,
+        };
+    }
+    Digits {
+        none_over: longer(&rest.two_over, 3),
+        one_over: better(
+            longer(&rest.none_over, 4),
+            short(version, Mode::Numeric, after),
+        ),
+        two_over: longer(&rest.one_over, 3),
+    }
+}
+
+/// The choices in alphanumeric mode of a byte and a rest, whose best segments have `after` bits.
+#[tactic(auto, unfolding(crate::specs::Table::next_characters))]
+fn with_character(version: Version, byte: u8, rest: &Characters, after: usize) -> Characters
+    requires rest { AreSmallCharacters rest.now }
+    requires after { after < 2 ^ 20 }
+    ensures { result ≡ next_characters version.number byte after rest.now }
+{
+    if value_of(byte) >= 45 {
+        let none = absent(Mode::Alphanumeric);
+        return Characters {
+            none_over: none,
+            one_over: none,
+        };
+    }
+    Characters {
+        none_over: longer(&rest.one_over, 5),
+        one_over: better(
+            longer(&rest.none_over, 6),
+            short(version, Mode::Alphanumeric, after),
+        ),
+    }
+}
+
+/// The best of the choices in all modes.
+#[tactic(auto, unfolding(crate::specs::Table::best_choice))]
+fn best_of(digits: &Digits, characters: &Characters, bytes: Choice) -> Choice
+    ensures { result ≡ best_choice digits.now characters.now bytes }
+{
+    let numeric = better(better(digits.none_over, digits.one_over), digits.two_over);
+    let alphanumeric = better(characters.none_over, characters.one_over);
+    better(better(numeric, alphanumeric), bytes)
+}
+
+/// The choices of a byte and a rest.
+#[tactic(auto, unfolding(crate::specs::Table::next_choices))]
+fn with_byte(version: Version, byte: u8, rest: &Choices) -> Choices
+    requires { AreSmall rest.now }
+    ensures { result ≡ next_choices version.number byte rest.now }
+{
+    let after = rest.best.bits;
+    let digits = with_digit(version, byte, &rest.digits, after);
+    let characters = with_character(version, byte, &rest.characters, after);
+    let bytes = better(longer(&rest.bytes, 8), short(version, Mode::Byte, after));
+    Choices {
+        digits,
+        characters,
+        bytes,
+        best: best_of(&digits, &characters, bytes),
+    }
+}
+
+/// The choices of no bytes.
+fn without_bytes() -> Choices
+    ensures { result ≡ no_choices }
+{
+    let numeric = absent(Mode::Numeric);
+    let alphanumeric = absent(Mode::Alphanumeric);
+    Choices {
+        digits: Digits {
+            none_over: numeric,
+            one_over: numeric,
+            two_over: numeric,
+        },
+        characters: Characters {
+            none_over: alphanumeric,
+            one_over: alphanumeric,
+        },
+        bytes: absent(Mode::Byte),
+        best: Choice {
+            segment: Segment {
+                mode: Mode::Byte,
+                len: 0,
+            },
+            bits: 0,
+        },
+    }
+}
+
+/// Fills a table from its end: at each place stands the first of the best segments of the bytes from there on. The result
+/// is the bits of the best segments of all the bytes. The limits of the character counts are left out, for they bind no
+/// segments that fit. Its time grows with the number of bytes.
+pub(crate) fn fill(version: Version, bytes: &[u8], firsts: &mut [Segment]) -> usize
     requires few { length bytes.now ≤ 652 }
-    requires bits { length bits.old ≡ 653 }
     requires firsts { length firsts.old ≡ 653 }
-    ensures costs { HasCosts version.number bytes.now 0 bits.new }
+    ensures bits { result ≡ fewest_bits version.number bytes.now }
     ensures firsts { HasFirsts version.number bytes.now 0 firsts.new }
 {
+    let mut choices = without_bytes();
     let mut place = bytes.len();
-    let mut digits = 0;
-    let mut characters = 0;
-    bits[place] = 0;
     while place > 0 {
         place -= 1;
-        digits = if bytes[place].is_ascii_digit() {
-            digits + 1
-        } else {
-            0
-        };
-        characters = if value_of(bytes[place]) < 45 {
-            characters + 1
-        } else {
-            0
-        };
-        let choice = first_of(version, bytes, place, digits, characters, bits);
-        bits[place] = choice.bits;
-        firsts[place] = choice.segment;
+        choices = with_byte(version, bytes[place], &choices);
+        firsts[place] = choices.best.segment;
     }
+    choices.best.bits
 }

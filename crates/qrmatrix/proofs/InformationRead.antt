@@ -4,11 +4,9 @@ use Rattle.std.specs.Prelude.{map, nat_le}
 use Rattle.std.specs.List.{range_with_len, list_all}
 use Rattle.gf256.specs.BinaryPolynomial.{binary_remainder}
 use Rattle.labelcore.specs.declared.options.Level.{Level}
-use Rattle.qrmatrix.specs.declared.function.Role.{Role}
-use Rattle.qrmatrix.specs.declared.function.Role.TheVariants.{Format, Version}
+use Rattle.qrmatrix.specs.Functions.{Role, Format, Version, role}
 use Rattle.labelcore.specs.declared.options.Level.TheVariants.{L, M, Q, H}
 use Rattle.qrdata.specs.Versions.{side_of}
-use Rattle.qrmatrix.specs.Functions.{role}
 use Rattle.qrmatrix.specs.Bits.{bit}
 use Rattle.qrmatrix.specs.Information.{format_word, version_word}
 use Rattle.qrmatrix.specs.Modules.{is_inside}

@@ -24,7 +24,7 @@ all_mapped f p a zero h = refl
 all_mapped f p a (suc n) h =
     and_from (p (f a)) (list_all p (map f (range_with_len (a + 1) n))) (h a (omega arith) (omega arith)) (all_mapped f p (a + 1) n (λ j l m. h j (omega arith) (omega arith)))
 
-mapped_all : (f : ℕ → ℕ) (p : ℕ → Bool) (a n : ℕ) → list_all p (map f (range_with_len a n)) ≡ true → (j : ℕ) → a ≤ j → j < a + n → p (f j) ≡ true
+pub mapped_all : (f : ℕ → ℕ) (p : ℕ → Bool) (a n : ℕ) → list_all p (map f (range_with_len a n)) ≡ true → (j : ℕ) → a ≤ j → j < a + n → p (f j) ≡ true
 mapped_all f p a zero h j l m = absurd (omega arith)
 mapped_all f p a (suc n) h j l m =
     let parts = and_parts (p (f a)) (list_all p (map f (range_with_len (a + 1) n))) h in

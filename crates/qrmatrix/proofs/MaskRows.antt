@@ -1,16 +1,15 @@
 -- The rows of the masks as words.
-use Rattle.std.proofs.Common.{◌≡◌, ℕ, ◌+◌, ◌*◌, ◌%◌, ◌<◌, ◌≤◌, ◌^◌, refl, sym, ap, ◌∙◌, arith, Bool, true, false, not, cond, ◌&&◌, List, [], inl, inr}
+use Rattle.std.proofs.Common.{◌≡◌, ℕ, ◌+◌, ◌*◌, ◌%◌, ◌<◌, ◌≤◌, ◌^◌, refl, ap, ◌∙◌, arith, Bool, true, false, not, cond, ◌&&◌, List, []}
 use Rattle.std.specs.Prelude.{slice_index_or, ◌==◌, bit_and}
 use Rattle.std.specs.Bool.{beq}
 use Rattle.std.specs.Int.{bit_not, w64}
-use Rattle.std.proofs.lemmas.Bool.{cases_eq, eq-eqb, ne_eqb}
 use Rattle.qrmatrix.specs.declared.mask.TheConstants.{PATTERNS, EVERY_SIXTH}
 use Rattle.qrmatrix.specs.Counting.{all_below}
 use Rattle.qrmatrix.specs.Bits.{bit}
 use Rattle.qrmatrix.specs.Masks.{is_flipped, flip_if}
 use Rattle.qrmatrix.specs.Square.{value_at}
 use Rattle.qrmatrix.specs.Drawing.{masked}
-use Rattle.qrmatrix.proofs.Passes.{Mapped}
+use Rattle.qrmatrix.proofs.Passes.{Mapped, row_turned}
 use Rattle.qrmatrix.proofs.Sums.{all_below_at}
 use Rattle.qrmatrix.proofs.RowBits.{and_bit, not_bit, same_beq}
 
@@ -44,28 +43,7 @@ pub masked_row : (n mask row w : ℕ) (old m r function : List (List Bool)) → 
     → ((a : ℕ) → n ≤ a → bit w a ≡ false)
     → Mapped n old r (masked mask function old) (row + 1) 0
 masked_row n mask row w old m r function p flipped inside beyond =
-    record {
-      above = λ x y lx ly. elim (cases_eq y row) [
-        | inl e ↦ ap (λ z. value_at r x z) e ∙ here x ∙ at_inside x lx ∙ ap (λ z. masked mask function old x z) (sym e)
-        | inr ne ↦ others x y ne ∙ p.above x y lx (omega arith)
-      ];
-      left = λ x l. absurd (omega arith);
-      right = λ x l. others x (row + 1) (λ e. omega arith) ∙ p.below x (row + 1) (omega arith);
-      below = λ x y l. others x y (λ e. omega arith) ∙ p.below x y (omega arith);
-      beyond = λ x y l. elim (cases_eq y row) [
-        | inl e ↦ ap (λ z. value_at r x z) e ∙ here x ∙ ap (λ z. flip_if z (value_at old x row)) (beyond x l) ∙ ap (λ z. value_at old x z) (sym e)
-        | inr ne ↦ others x y ne ∙ p.beyond x y l
-      ];
-    }
-  where
-    others : (x y : ℕ) → (y ≡ row → ⊥) → value_at r x y ≡ value_at m x y
-    others x y ne = flipped x y ∙ rw (ne_eqb y row ne) refl
-
-    here : (x : ℕ) → value_at r x row ≡ flip_if (bit w x) (value_at old x row)
-    here x = let z : 0 ≤ x = omega arith in flipped x row ∙ rw (eq-eqb row row refl, p.right x z) refl
-
-    at_inside : (x : ℕ) → x < n → flip_if (bit w x) (value_at old x row) ≡ masked mask function old x row
-    at_inside x l = rw (inside x l) (free_flip (value_at function x row) (is_flipped mask x row) (value_at old x row))
+    row_turned n row w old m r (masked mask function old) p flipped (λ x l. rw (inside x l) (free_flip (value_at function x row) (is_flipped mask x row) (value_at old x row))) beyond
 
 pub and_turned : (a b : Bool) → (a && (true && b)) ≡ (b && a)
 and_turned true true = refl

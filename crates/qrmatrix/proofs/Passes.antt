@@ -1,6 +1,10 @@
 -- How far a pass over a square has come, row by row.
-use Rattle.std.proofs.Common.{◌≡◌, ℕ, ◌<◌, ◌≤◌, Bool, List}
-use Rattle.qrmatrix.specs.Square.{value_at}
+use Rattle.std.proofs.Common.{◌≡◌, ℕ, ◌+◌, ◌<◌, ◌≤◌, refl, sym, ap, ◌∙◌, arith, Bool, false, ◌&&◌, List, inl, inr}
+use Rattle.std.specs.Prelude.{◌==◌}
+use Rattle.std.proofs.lemmas.Bool.{cases_eq, eq-eqb, ne_eqb}
+use Rattle.qrmatrix.specs.Bits.{bit}
+use Rattle.qrmatrix.specs.Masks.{flip_if}
+use Rattle.qrmatrix.specs.Square.{value_at, SameOutside}
 
 -- the places before column and row have their targets, and the others are as they were
 pub record Mapped (n : ℕ) (old new : List (List Bool)) (target : ℕ → ℕ → Bool) (row column : ℕ) : Type 0 where
@@ -9,3 +13,41 @@ pub record Mapped (n : ℕ) (old new : List (List Bool)) (target : ℕ → ℕ �
   pub right : (x : ℕ) → column ≤ x → value_at new x row ≡ value_at old x row
   pub below : (x y : ℕ) → row < y → value_at new x y ≡ value_at old x y
   pub beyond : (x y : ℕ) → n ≤ x → value_at new x y ≡ value_at old x y
+
+-- a pass over all rows leaves what is outside
+pub mapped_outside : (n row : ℕ) (old new : List (List Bool)) (target : ℕ → ℕ → Bool) → Mapped n old new target row 0 → n ≡ row → SameOutside n old new
+mapped_outside n row old new target p e =
+    record {
+      columns = p.beyond;
+      rows = λ x y l. elim (cases_eq y row) [
+        | inl same ↦ let z : 0 ≤ x = omega arith in ap (λ k. value_at new x k) same ∙ p.right x z ∙ ap (λ k. value_at old x k) (sym same)
+        | inr other ↦ p.below x y (omega arith)
+      ];
+    }
+
+-- one more row is turned over by a word
+pub row_turned : (n row w : ℕ) (old m r : List (List Bool)) (target : ℕ → ℕ → Bool) → Mapped n old m target row 0
+    → ((a b : ℕ) → value_at r a b ≡ flip_if ((b == row) && bit w a) (value_at m a b))
+    → ((a : ℕ) → a < n → flip_if (bit w a) (value_at old a row) ≡ target a row)
+    → ((a : ℕ) → n ≤ a → bit w a ≡ false)
+    → Mapped n old r target (row + 1) 0
+row_turned n row w old m r target p flipped inside beyond =
+    record {
+      above = λ x y lx ly. elim (cases_eq y row) [
+        | inl e ↦ ap (λ z. value_at r x z) e ∙ here x ∙ inside x lx ∙ ap (λ z. target x z) (sym e)
+        | inr ne ↦ others x y ne ∙ p.above x y lx (omega arith)
+      ];
+      left = λ x l. absurd (omega arith);
+      right = λ x l. others x (row + 1) (λ e. omega arith) ∙ p.below x (row + 1) (omega arith);
+      below = λ x y l. others x y (λ e. omega arith) ∙ p.below x y (omega arith);
+      beyond = λ x y l. elim (cases_eq y row) [
+        | inl e ↦ ap (λ z. value_at r x z) e ∙ here x ∙ ap (λ z. flip_if z (value_at old x row)) (beyond x l) ∙ ap (λ z. value_at old x z) (sym e)
+        | inr ne ↦ others x y ne ∙ p.beyond x y l
+      ];
+    }
+  where
+    others : (x y : ℕ) → (y ≡ row → ⊥) → value_at r x y ≡ value_at m x y
+    others x y ne = flipped x y ∙ rw (ne_eqb y row ne) refl
+
+    here : (x : ℕ) → value_at r x row ≡ flip_if (bit w x) (value_at old x row)
+    here x = let z : 0 ≤ x = omega arith in flipped x row ∙ rw (eq-eqb row row refl, p.right x z) refl

@@ -4,11 +4,9 @@ use Rattle.std.specs.Prelude.{map, nat_lt, All}
 use Rattle.std.specs.List.{range_with_len, filter, list_all}
 use Rattle.std.proofs.lemmas.Bool.{and_from, and_parts, lt-ltb, le-leb}
 use Rattle.labelcore.specs.declared.options.Level.{Level}
-use Rattle.qrmatrix.specs.declared.function.Role.{Role}
-use Rattle.qrmatrix.specs.declared.function.Role.TheVariants.{Function, Format, Version, Free}
+use Rattle.qrmatrix.specs.Functions.{Role, Function, Format, Version, Free, is_free, is_free_role, role, fixed, fixed_by}
 use Rattle.qrmatrix.specs.Counting.{all_below}
 use Rattle.qrdata.specs.Versions.{side_of, total_codewords}
-use Rattle.qrmatrix.specs.Functions.{is_free, is_free_role, role, fixed, fixed_by}
 use Rattle.qrmatrix.specs.Bits.{bit}
 use Rattle.qrmatrix.specs.Information.{format_word, version_word}
 use Rattle.qrmatrix.specs.Modules.{module_at, is_inside, fixed_or}

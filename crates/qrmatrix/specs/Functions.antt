@@ -1,12 +1,18 @@
 -- What each module of a QR symbol is there for (ISO/IEC 18004, 6.3, 7.9, 7.10 and Annex E).
 -- A pattern is `Some true` where it has a dark module, `Some false` where it has a light one, and `None` where it has none.
-use Rattle.std.specs.Prelude.{ℕ, ◌+◌, ◌-◌, ◌*◌, ◌%◌, ◌<◌, max, Bool, true, false, not, ◌&&◌, ◌==◌, nat_lt, nat_le, if◌then◌else◌, List, [], ◌∷◌, Option, None, Some, is_none, slice_index_or}
+use Rattle.std.specs.Prelude.{ℕ, ◌+◌, ◌-◌, ◌*◌, ◌%◌, max, Bool, true, false, not, ◌&&◌, ◌==◌, nat_lt, nat_le, if◌then◌else◌, List, [], ◌∷◌, Option, None, Some, is_none, slice_index_or}
 use Rattle.labelcore.specs.declared.options.Level.{Level}
 use Rattle.qrdata.specs.Versions.{side_of}
 use Rattle.qrmatrix.specs.Bits.{bit}
 use Rattle.qrmatrix.specs.Information.{format_word, version_word}
-use Rattle.qrmatrix.specs.declared.function.Role.{Role}
-use Rattle.qrmatrix.specs.declared.function.Role.TheVariants.{Function, Format, Version, Free}
+
+-- what a module is there for: a function pattern, dark where true; a bit of the format word; a bit of the version word; or
+-- the codewords
+pub data Role : Type 0 where
+  Function : (dark : Bool) → Role
+  Format : (i : ℕ) → Role
+  Version : (i : ℕ) → Role
+  Free : Role
 
 -- the first of two patterns that has a module
 abbrev pub or_else : Option Bool → Option Bool → Option Bool
@@ -110,13 +116,6 @@ role v x y =
     (role_or Format (format_bit (side_of v) x y)
     (if is_dark_module (side_of v) x y then Function true
     else (if nat_le 7 v then role_or Version (version_bit (side_of v) x y) Free else Free)))))
-
--- a bit of the format word is below 15, one of the version word below 18
-abbrev pub IsInRange : Role → Type 0
-IsInRange (Function b) = Unit {0}
-IsInRange (Format i) = i < 15
-IsInRange (Version i) = i < 18
-IsInRange Free = Unit {0}
 
 -- the module that a role fixes for a version, a level and a mask
 abbrev pub fixed_by : ℕ → Level → ℕ → Role → Option Bool

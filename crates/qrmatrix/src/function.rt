@@ -1,237 +1,243 @@
-//! The function patterns, and where the format information and the version information stand.
-ghost use Rattle.std.specs.Prelude.{◌≡◌, ◌+◌, ◌-◌, ◌*◌, ◌%◌, ◌<◌, ◌≤◌, max, Bool, true, IfSome};
+//! The function patterns row by row, as words: bit x of a word is the module at column x.
+ghost use Rattle.std.specs.Prelude.{◌≡◌, ◌^◌, ◌<◌, ◌≤◌};
 ghost use Rattle.qrdata.specs.Versions.{side_of};
-ghost use Rattle.qrmatrix.specs.Functions;
-ghost use Rattle.qrmatrix.specs.Functions.{IsInRange};
+ghost use Rattle.qrmatrix.specs.Drawing.{HasFunctions};
+ghost use Rattle.qrmatrix.specs.FunctionRows;
 
-use crate::information::{format_word, version_word};
-use labelcore::Level;
+use crate::information::version_word;
+use crate::row::low_ones;
 use qrdata::Version;
 
-/// What a module is there for.
+/// What patterns have of a row.
 #[derive(Clone, Copy)]
-pub enum Role {
-    /// A function pattern has it, dark where true.
-    Function(bool),
-    /// It shows a bit of the format word.
-    Format(u8),
-    /// It shows a bit of the version word.
-    Version(u8),
-    /// The codewords choose it.
-    Free,
+pub struct PatternRow {
+    /// Their modules.
+    pub taken: u64,
+    /// Those of their modules that are dark.
+    pub dark: u64,
 }
 
-/// How far two coordinates are from one another.
-fn distance(a: usize, b: usize) -> usize
-    ensures { result ≡ Functions.distance a b }
-{
-    if a < b { b - a } else { a - b }
-}
+/// No pattern.
+const NONE: PatternRow = PatternRow { taken: 0, dark: 0 };
 
-/// The square ring round the centre (`a`, `b`) on which the module at column `x` and row `y` lies, the centre being ring 0.
-fn ring(a: usize, b: usize, x: usize, y: usize) -> usize
-    ensures { result ≡ Functions.ring a b x y }
-{
-    distance(a, x).max(distance(b, y))
-}
+/// The rows of a finder pattern, from above or from below, and of its separator.
+const FINDER: [u64; 8] = [
+    0b1111111, 0b1000001, 0b1011101, 0b1011101, 0b1011101, 0b1000001, 0b1111111, 0b0000000,
+];
 
-/// The finder pattern with its separator that has its centre at (`a`, `b`).
-fn finder_at(a: usize, b: usize, x: usize, y: usize) -> Option<bool>
-    ensures { result ≡ Functions.finder_at a b x y }
-{
-    let r = ring(a, b, x, y);
-    if r <= 4 { Some(r != 2 && r != 4) } else { None }
-}
+/// The coordinates of the centres of the alignment patterns (ISO/IEC 18004, Table E.1): bit k says whether k is one. The
+/// first word is for version 1.
+const CENTRES: [u64; 10] = [
+    0,
+    (1 << 6) | (1 << 18),
+    (1 << 6) | (1 << 22),
+    (1 << 6) | (1 << 26),
+    (1 << 6) | (1 << 30),
+    (1 << 6) | (1 << 34),
+    (1 << 6) | (1 << 22) | (1 << 38),
+    (1 << 6) | (1 << 24) | (1 << 42),
+    (1 << 6) | (1 << 26) | (1 << 46),
+    (1 << 6) | (1 << 28) | (1 << 50),
+];
 
-/// The finder pattern with its separator that has the module, in a symbol of `n` by `n` modules.
-#[tactic(auto, unfolding(crate::specs::Functions::finder))]
-fn finder(n: usize, x: usize, y: usize) -> Option<bool>
-    requires { 21 ≤ n }
-    ensures { result ≡ Functions.finder n x y }
-{
-    if let Some(dark) = finder_at(3, 3, x, y) {
-        return Some(dark);
-    }
-    if let Some(dark) = finder_at(n - 4, 3, x, y) {
-        return Some(dark);
-    }
-    finder_at(3, n - 4, x, y)
-}
+/// A one in every other place.
+const EVERY_OTHER: u64 = 0x5555555555555555;
 
-/// The alignment pattern that has its centre at (`a`, `b`).
-fn alignment_at(a: usize, b: usize, x: usize, y: usize) -> Option<bool>
-    ensures { result ≡ Functions.alignment_at a b x y }
-{
-    let r = ring(a, b, x, y);
-    if r <= 2 { Some(r != 1) } else { None }
-}
-
-/// The timing pattern that has the module.
-#[tactic(auto, unfolding(crate::specs::Functions::timing))]
-fn timing(x: usize, y: usize) -> Option<bool>
-    ensures { result ≡ Functions.timing x y }
-{
-    if x == 6 {
-        Some(y % 2 == 0)
-    } else if y == 6 {
-        Some(x % 2 == 0)
-    } else {
-        None
+impl PatternRow {
+    /// The first of two patterns that has a module.
+    #[tactic(auto, unfolding(crate::specs::FunctionRows::or_else))]
+    fn or_else(self, other: PatternRow) -> PatternRow
+        ensures { result ≡ FunctionRows.or_else self other }
+    {
+        PatternRow {
+            taken: self.taken | other.taken,
+            dark: self.dark | (other.dark & !self.taken),
+        }
     }
 }
 
-/// The bit of the format word that stands at the module.
-#[tactic(auto, unfolding(crate::specs::Functions::format_bit))]
-fn format_bit(n: usize, x: usize, y: usize) -> Option<u8>
+/// The finder patterns with their separators.
+#[tactic(auto, unfolding(crate::specs::FunctionRows::finders))]
+fn finders(n: usize, y: usize) -> PatternRow
     requires side { (21 ≤ n) × (n ≤ 57) }
-    requires column { x < n }
     requires row { y < n }
-    ensures value { result ≡ Functions.format_bit n x y }
-    ensures bound { IfSome result (λ i. i < 15) }
+    ensures { result ≡ FunctionRows.finders n y }
 {
-    if x == 8 {
-        if y < 6 {
-            Some(y as u8)
-        } else if y == 7 {
-            Some(6)
-        } else if y == 8 {
-            Some(7)
-        } else if n - 7 <= y {
-            Some((y + 15 - n) as u8)
-        } else {
-            None
+    if y < 8 {
+        PatternRow {
+            taken: 0xFF | (0xFF << (n - 8)),
+            dark: FINDER[y] | (FINDER[y] << (n - 7)),
         }
-    } else if y == 8 {
-        if x < 6 {
-            Some((14 - x) as u8)
-        } else if x == 7 {
-            Some(8)
-        } else if n - 8 <= x {
-            Some((n - 1 - x) as u8)
-        } else {
-            None
+    } else if n - 8 <= y {
+        PatternRow {
+            taken: 0xFF,
+            dark: FINDER[n - 1 - y],
         }
     } else {
-        None
+        NONE
     }
 }
 
-/// The bit of the version word that stands at the module, in the versions that have one.
-#[tactic(auto, unfolding(crate::specs::Functions::version_bit))]
-fn version_bit(n: usize, x: usize, y: usize) -> Option<u8>
+/// The row of an alignment pattern that comes to lie in row `y`, from the left module of the pattern on.
+#[tactic(auto, unfolding(crate::specs::FunctionRows::alignment_row))]
+fn alignment_row(centres: u64, y: usize) -> PatternRow
+    requires { y < 57 }
+    ensures { result ≡ FunctionRows.alignment_row centres y }
+{
+    // Bit k says whether row y + k - 2 has centres. Of five rows at most one has.
+    let near = ((centres << 2) >> y) & 0b11111;
+    if near == 0 {
+        NONE
+    } else if near == 0b00100 {
+        PatternRow {
+            taken: 0b11111,
+            dark: 0b10101,
+        }
+    } else if near & 0b01010 != 0 {
+        PatternRow {
+            taken: 0b11111,
+            dark: 0b10001,
+        }
+    } else {
+        PatternRow {
+            taken: 0b11111,
+            dark: 0b11111,
+        }
+    }
+}
+
+/// The left columns of the alignment patterns that row `y` may have. None has its centre in a finder pattern.
+#[tactic(auto, unfolding(crate::specs::FunctionRows::left_columns))]
+fn left_columns(n: usize, centres: u64, y: usize) -> u64
     requires side { (21 ≤ n) × (n ≤ 57) }
-    ensures value { result ≡ Functions.version_bit n x y }
-    ensures bound { IfSome result (λ i. i < 18) }
+    requires centres { centres < 2 ^ 57 }
+    ensures value { result ≡ FunctionRows.left_columns n centres y }
+    ensures bound { result < 2 ^ 55 }
 {
-    if x < 6 && n - 11 <= y && y < n - 8 {
-        Some((3 * x + (y - (n - 11))) as u8)
-    } else if y < 6 && n - 11 <= x && x < n - 8 {
-        Some((3 * y + (x - (n - 11))) as u8)
+    // Patterns with their centres in row 6 reach down to row 8, those with their centres in row n - 7 up to row n - 9.
+    let finders = if y < 9 {
+        0xFF | (0xFF << (n - 8))
+    } else if n - 9 <= y {
+        0xFF
     } else {
-        None
+        0
+    };
+    (centres & !finders) >> 2
+}
+
+/// The alignment patterns.
+#[tactic(auto, unfolding(crate::specs::FunctionRows::alignments))]
+fn alignments(version: Version, y: usize) -> PatternRow
+    requires { y < 57 }
+    ensures { result ≡ FunctionRows.alignments version.number y }
+{
+    let centres = CENTRES[usize::from(version.number()) - 1];
+    let row = alignment_row(centres, y);
+    let columns = left_columns(version.side(), centres, y);
+    PatternRow {
+        taken: row.taken * columns,
+        dark: row.dark * columns,
     }
 }
 
-/// The row and column coordinates of the centres of the alignment patterns (ISO/IEC 18004, Table E.1).
-#[tactic(auto, unfolding(crate::specs::Functions::alignment_coordinates))]
-fn alignment_coordinates(version: Version) -> &'static [usize]
-    ensures { result.now ≡ Functions.alignment_coordinates version.number }
+/// The timing patterns.
+#[tactic(auto, unfolding(crate::specs::FunctionRows::timing))]
+fn timing(n: usize, y: usize) -> PatternRow
+    requires { n ≤ 57 }
+    ensures { result ≡ FunctionRows.timing n y }
 {
-    match version.number() {
-        2 => &[6, 18],
-        3 => &[6, 22],
-        4 => &[6, 26],
-        5 => &[6, 30],
-        6 => &[6, 34],
-        7 => &[6, 22, 38],
-        8 => &[6, 24, 42],
-        9 => &[6, 26, 46],
-        10 => &[6, 28, 50],
-        _ => &[],
-    }
-}
-
-/// The first alignment pattern with its centre in column `a` that has the module.
-fn alignment_in(n: usize, a: usize, rows: &[usize], x: usize, y: usize) -> Option<bool>
-    requires { 21 ≤ n }
-    ensures { result ≡ Functions.alignment_in n a rows.now x y }
-{
-    for b in rows {
-        if let Some(dark) = alignment_at(a, *b, x, y) {
-            if finder(n, a, *b).is_none() {
-                return Some(dark);
-            }
+    if y == 6 {
+        let taken = low_ones(n);
+        PatternRow {
+            taken,
+            dark: taken & EVERY_OTHER,
+        }
+    } else if y % 2 == 0 {
+        PatternRow {
+            taken: 1 << 6,
+            dark: 1 << 6,
+        }
+    } else {
+        PatternRow {
+            taken: 1 << 6,
+            dark: 0,
         }
     }
-    None
 }
 
-/// The first alignment pattern that has the module.
-fn alignment_over(n: usize, columns: &[usize], rows: &[usize], x: usize, y: usize) -> Option<bool>
-    requires { 21 ≤ n }
-    ensures { result ≡ Functions.alignment_over n columns.now rows.now x y }
+/// The modules of the format information, which are light here, and the module that is always dark.
+#[tactic(auto, unfolding(crate::specs::FunctionRows::formats))]
+fn formats(n: usize, y: usize) -> PatternRow
+    requires { (21 ≤ n) × (n ≤ 57) }
+    ensures { result ≡ FunctionRows.formats n y }
 {
-    for a in columns {
-        if let Some(dark) = alignment_in(n, *a, rows, x, y) {
-            return Some(dark);
+    if y == 8 {
+        PatternRow {
+            taken: 0x1FF | (0xFF << (n - 8)),
+            dark: 0,
         }
+    } else if y == n - 8 {
+        PatternRow {
+            taken: 1 << 8,
+            dark: 1 << 8,
+        }
+    } else if y < 8 || n - 8 < y {
+        PatternRow {
+            taken: 1 << 8,
+            dark: 0,
+        }
+    } else {
+        NONE
     }
-    None
 }
 
-/// The alignment pattern that has the module.
-#[tactic(auto, unfolding(crate::specs::Functions::alignment))]
-fn alignment(version: Version, x: usize, y: usize) -> Option<bool>
-    ensures { result ≡ Functions.alignment version.number x y }
+/// The bits 0, 3, 6, .. of a word of 18 bits side by side.
+#[tactic(auto, unfolding(crate::specs::FunctionRows::every_third))]
+fn every_third(word: u64) -> u64
+    ensures { result ≡ FunctionRows.every_third word }
 {
-    let coordinates = alignment_coordinates(version);
-    alignment_over(version.side(), coordinates, coordinates, x, y)
+    (word & 1)
+        | ((word >> 2) & 2)
+        | ((word >> 4) & 4)
+        | ((word >> 6) & 8)
+        | ((word >> 8) & 16)
+        | ((word >> 10) & 32)
 }
 
-/// What the module at column `x` and row `y` is there for (ISO/IEC 18004, 6.3, 7.9 and 7.10).
-#[tactic(auto, unfolding(crate::specs::Functions::role, crate::specs::Functions::is_dark_module))]
-fn role_at(version: Version, x: usize, y: usize) -> Role
-    requires column { x < side_of version.number }
-    requires row { y < side_of version.number }
-    ensures value { result ≡ Functions.role version.number x y }
-    ensures bound { IsInRange result }
+/// The version information, in the versions that have one.
+#[tactic(auto, unfolding(crate::specs::FunctionRows::versions))]
+fn versions(version: Version, y: usize) -> PatternRow
+    ensures { result ≡ FunctionRows.versions version.number y }
 {
     let n = version.side();
-    if let Some(dark) = finder(n, x, y) {
-        return Role::Function(dark);
-    }
-    if let Some(dark) = alignment(version, x, y) {
-        return Role::Function(dark);
-    }
-    if let Some(dark) = timing(x, y) {
-        return Role::Function(dark);
-    }
-    if let Some(i) = format_bit(n, x, y) {
-        return Role::Format(i);
-    }
-    if x == 8 && y == n - 8 {
-        return Role::Function(true);
-    }
-    if version.number() >= 7 {
-        if let Some(i) = version_bit(n, x, y) {
-            return Role::Version(i);
+    if version.number() < 7 {
+        NONE
+    } else if y < 6 {
+        let three = (u64::from(version_word(version)) >> (3 * y)) & 7;
+        PatternRow {
+            taken: 7 << (n - 11),
+            dark: three << (n - 11),
         }
+    } else if n - 11 <= y && y < n - 8 {
+        PatternRow {
+            taken: 0b111111,
+            dark: every_third(u64::from(version_word(version)) >> (y - (n - 11))),
+        }
+    } else {
+        NONE
     }
-    Role::Free
 }
 
-/// Whether the module at column `x` and row `y` is dark, where the codewords do not choose it.
-#[tactic(auto, unfolding(crate::specs::Functions::fixed))]
-pub fn fixed(version: Version, level: Level, mask: u8, x: usize, y: usize) -> Option<bool>
-    requires column { x < side_of version.number }
-    requires row { y < side_of version.number }
-    requires mask { mask < 8 }
-    ensures { result ≡ Functions.fixed version.number level mask x y }
+/// The modules of row `y` that the codewords do not choose (ISO/IEC 18004, 6.3 and 7.10). Those of the format information
+/// are light.
+pub fn function_row(version: Version, y: usize) -> PatternRow
+    requires { y < side_of version.number }
+    ensures { HasFunctions version.number y result }
 {
-    match role_at(version, x, y) {
-        Role::Function(dark) => Some(dark),
-        Role::Format(i) => Some((format_word(level, mask) >> i) & 1 == 1),
-        Role::Version(i) => Some((version_word(version) >> i) & 1 == 1),
-        Role::Free => None,
-    }
+    let n = version.side();
+    finders(n, y)
+        .or_else(alignments(version, y))
+        .or_else(timing(n, y))
+        .or_else(formats(n, y))
+        .or_else(versions(version, y))
 }

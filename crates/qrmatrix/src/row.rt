@@ -8,6 +8,7 @@ ghost use Rattle.qrmatrix.specs.Penalty.{begins_run};
 /// The word of ones in the lowest `n` places.
 pub fn low_ones(n: usize) -> u64
     requires { n ≤ 57 }
+    ensures value { result ≡ 2 ^ n - 1 }
     ensures bits { (i : ℕ) → bit result i ≡ nat_lt i n }
     ensures bound { result < 2 ^ 57 }
 {

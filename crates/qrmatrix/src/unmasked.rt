@@ -1,14 +1,15 @@
 //! A symbol before its mask: what stays under all eight masks is drawn once.
-ghost use Rattle.std.specs.Prelude.{◌≡◌, ℕ, ◌<◌, ◌≤◌, is_some, List};
+ghost use Rattle.std.specs.Prelude.{◌≡◌, ℕ, ◌<◌, false, List};
 ghost use Rattle.qrdata.specs.Versions.{side_of};
-ghost use Rattle.qrmatrix.specs.Drawing.{Places, RedrawsFormat};
-ghost use Rattle.qrmatrix.specs.Functions;
+ghost use Rattle.qrmatrix.specs.Drawing.{drawn_by, MarksFunctions, Places};
+ghost use Rattle.qrmatrix.specs.Functions.{role};
 ghost use Rattle.qrmatrix.specs.MaskChoice.{least_place, penalties};
-ghost use Rattle.qrmatrix.specs.Modules.{fixed_or, module_at};
+ghost use Rattle.qrmatrix.specs.Modules.{module_at};
 ghost use Rattle.qrmatrix.specs.Penalty;
-ghost use Rattle.qrmatrix.specs.Square.{value_at, SameOutside, WritesAt};
+ghost use Rattle.qrmatrix.specs.Square.{value_at, SameOutside};
 
-use crate::function::fixed;
+use crate::format::draw_format;
+use crate::function::function_row;
 use crate::mask::apply_mask;
 use crate::penalty::penalty;
 use crate::placement::place;
@@ -16,59 +17,24 @@ use crate::square::Square;
 use labelcore::Level;
 use qrdata::{Version, Words};
 
-/// Draws the module at column `x` and row `y`, where it is fixed.
-fn draw_fixed(fixed: Option<bool>, modules: &mut Square, x: usize, y: usize)
-    requires column { x < 57 }
-    requires row { y < 57 }
-    ensures { WritesAt modules.old modules.new x y (fixed_or fixed (value_at modules.old x y)) }
-{
-    let dark = match fixed {
-        Some(dark) => dark,
-        None => modules.get(x, y),
-    };
-    modules.set(x, y, dark);
-}
-
-/// Draws the modules that the codewords do not choose, and marks them.
-fn draw_functions(
-    version: Version,
-    level: Level,
-    mask: u8,
-    modules: &mut Square,
-    function: &mut Square,
-)
-    requires { mask < 8 }
+/// Draws the function patterns on two blank squares: their modules, and those that are dark.
+fn draw_functions(version: Version, function: &mut Square, modules: &mut Square)
+    requires blank_function { (x y : ℕ) → value_at function.old x y ≡ false }
+    requires blank_modules { (x y : ℕ) → value_at modules.old x y ≡ false }
+    ensures marked { MarksFunctions version.number function.new }
     ensures drawn { (x y : ℕ) → x < side_of version.number → y < side_of version.number
-        → value_at modules.new x y
-        ≡ fixed_or (Functions.fixed version.number level mask x y) (value_at modules.old x y) }
+        → value_at modules.new x y ≡ drawn_by version.number (role version.number x y) }
     ensures outside { SameOutside (side_of version.number) modules.old modules.new }
-    ensures marked { (x y : ℕ) → x < side_of version.number → y < side_of version.number
-        → value_at function.new x y ≡ is_some (Functions.fixed version.number level mask x y) }
 {
     let n = version.side();
     for y in 0..n {
-        for x in 0..n {
-            let fixed = fixed(version, level, mask, x, y);
-            function.set(x, y, fixed.is_some());
-            draw_fixed(fixed, modules, x, y);
-        }
+        let row = function_row(version, y);
+        function.flip(y, row.taken);
+        modules.flip(y, row.dark);
     }
 }
 
-/// Draws the format information for a mask. It stands in row 8 and column 8.
-fn draw_format(version: Version, level: Level, mask: u8, modules: &mut Square)
-    requires { mask < 8 }
-    ensures { RedrawsFormat version.number level mask modules.old modules.new }
-{
-    for k in 0..version.side() {
-        let in_row = fixed(version, level, mask, k, 8);
-        draw_fixed(in_row, modules, k, 8);
-        let in_column = fixed(version, level, mask, 8, k);
-        draw_fixed(in_column, modules, 8, k);
-    }
-}
-
-/// A symbol that no mask is laid over yet, with the format information of mask 0.
+/// A symbol that no mask is laid over yet, without its format information.
 #[derive(Drop)]
 pub struct Unmasked {
     version: Version,
@@ -88,7 +54,7 @@ impl Unmasked {
     {
         let mut modules = Square::new();
         let mut function = Square::new();
-        draw_functions(version, level, 0, &mut modules, &mut function);
+        draw_functions(version, &mut function, &mut modules);
         place(version, words, &function, &mut modules);
         Unmasked {
             version,

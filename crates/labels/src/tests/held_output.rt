@@ -1,9 +1,7 @@
-//! Standard output held back, over writers in memory.
-use crate::output::{HeldOutput, HeldWriter, MessageWriter, WaitingSource};
+//! Output that is held back, over writers in memory.
 use crate::tests::support::{EAN8, joined, low};
 use crate::{RunFault, Status, run};
-use labelcore::{MemSource, StdSink};
-use std::alloc::Global;
+use labelcore::{FailAt, Held, IoFault, MemSink, MemSource, Sink, Source, StdSink};
 use std::cell::RefCell;
 use std::io::{self, ErrorKind, Write};
 use std::process::Abort;
@@ -33,41 +31,87 @@ impl Write for SharedWriter<'_> {
 }
 
 /// Runs over lines that are drawn, refused and drawn, with both outputs into one text.
-fn run_into_one(
-    rt: &impl Abort,
-    alloc: Global,
-    text: &RefCell<Vec<u8>>,
-    fails: bool,
-) -> Result<Result<Status, RunFault>, Fail> {
-    let output = HeldOutput::new(alloc, SharedWriter { text, fails })?;
-    let messages = SharedWriter { text, fails: false };
-    let mut source = WaitingSource::new(
-        MemSource::new(b"ean8 7351353\npdf x\nean8 7351353\n", 4096, false),
-        &output,
-    );
-    let mut out = StdSink::new(HeldWriter::new(&output));
-    let mut err = StdSink::new(MessageWriter::new(messages, &output));
-    Ok(run(low(rt, false), &mut source, &mut out, &mut err))
+fn run_into_one(rt: &impl Abort, text: &RefCell<Vec<u8>>, fails: bool) -> Result<Status, RunFault> {
+    let mut source = MemSource::new(b"ean8 7351353\npdf x\nean8 7351353\n", 4096, false);
+    let mut out = Held::new(StdSink::new(SharedWriter { text, fails }));
+    let mut err = StdSink::new(SharedWriter { text, fails: false });
+    let answer = run(low(rt, false), &mut source, &mut out, &mut err);
+    let _ = out.send_on();
+    answer
 }
 
 #[test]
 fn both_outputs_stand_in_the_order_of_the_lines(rt: HostRuntime) -> Result<(), Fail> {
     let alloc = rt.alloc();
     let text = RefCell::new(Vec::new(alloc));
-    let answer = run_into_one(&rt, alloc, &text, false)?;
-    assert_eq!(rt; answer, Ok(Status::Refused));
+    assert_eq!(rt; run_into_one(&rt, &text, false), Ok(Status::Refused));
     let want = joined(alloc, &[EAN8, b"line 2: unknown symbology\n", EAN8])?;
     assert!(rt; text.into_inner().as_slice() == want.as_slice());
     Ok(())
 }
 
 #[test]
-fn output_that_fails_as_it_is_sent_out_is_a_failed_write(rt: HostRuntime) -> Result<(), Fail> {
-    let alloc = rt.alloc();
-    let text = RefCell::new(Vec::new(alloc));
-    let answer = run_into_one(&rt, alloc, &text, true)?;
+fn no_message_stands_after_output_that_failed_to_go_out(rt: HostRuntime) {
+    let text = RefCell::new(Vec::new(rt.alloc()));
+    let answer = run_into_one(&rt, &text, true);
     assert_eq!(rt; answer, Err(RunFault::WriteOut));
-    let message = b"line 2: unknown symbology\n".as_slice();
-    assert_eq!(rt; text.into_inner().as_slice(), message);
-    Ok(())
+    assert_eq!(rt; text.into_inner().as_slice(), b"".as_slice());
+}
+
+/// A source that tells how long a text was at its last read.
+#[derive(Drop)]
+struct WatchingSource<'a, S: Drop> {
+    source: S,
+    text: &'a RefCell<Vec<u8>>,
+    seen: usize,
+}
+
+impl<S: Source + Drop> Source for WatchingSource<'_, S> {
+    ghost failures = { λ s. S.failures s.source };
+
+    ghost at_end = { λ s. S.at_end s.source };
+
+    ghost gave = { λ s t xs. S.gave s.source t.source xs };
+
+    fn read(&mut self, buf: &mut [u8]) -> Result<usize, IoFault> {
+        if let Ok(text) = self.text.try_borrow() {
+            self.seen = text.len();
+        }
+        self.source.read(buf)
+    }
+
+    ghost gave_none = { λ s. S.gave_none s.source };
+
+    ghost gave_joined = { λ s t u xs ys. S.gave_joined s.source t.source u.source xs ys };
+}
+
+#[test]
+fn output_goes_out_before_each_read(rt: HostRuntime) {
+    let text = RefCell::new(Vec::new(rt.alloc()));
+    let mut source = WatchingSource {
+        source: MemSource::new(b"ean8 7351353\nean8 7351353\n", 13, false),
+        text: &text,
+        seen: 0,
+    };
+    let mut out = Held::new(StdSink::new(SharedWriter {
+        text: &text,
+        fails: false,
+    }));
+    let mut err: MemSink<8> = MemSink::new(8, 8);
+    let answer = run(low(&rt, false), &mut source, &mut out, &mut err);
+    assert_eq!(rt; answer, Ok(Status::Clean));
+    assert_eq!(rt; source.seen, 2 * EAN8.len());
+}
+
+#[test]
+fn output_that_fails_as_it_is_sent_out_is_a_failed_write(rt: HostRuntime) {
+    let mut source = MemSource::new(b"ean8 7351353\nqr 0", 4096, false);
+    let mut out = Held::new(FailAt::new(MemSink::<200>::new(200, 200), 1));
+    let mut err: MemSink<8> = MemSink::new(8, 8);
+    let answer = run(low(&rt, false), &mut source, &mut out, &mut err);
+    assert_eq!(rt; answer, Err(RunFault::WriteOut));
+    assert_eq!(rt; out.sink().device().bytes(), b"".as_slice());
+    assert_eq!(rt; out.held(), EAN8);
+    assert_eq!(rt; out.send_on(), Ok(()));
+    assert_eq!(rt; out.sink().device().bytes(), EAN8);
 }

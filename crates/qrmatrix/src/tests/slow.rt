@@ -1,12 +1,12 @@
 //! The slow form of a symbol: 57 by 57 truth values, drawn and counted module by module, each mask in a drawing of its own.
 
+mod function;
 mod penalty;
 mod square;
 
 ghost use Rattle.std.specs.Prelude.{◌≡◌, ◌+◌, ◌*◌, ◌<◌, ◌≤◌, IfSome};
 ghost use Rattle.qrdata.specs.Versions.{side_of};
 
-use crate::function;
 use labelcore::Level;
 use penalty::penalty;
 use qrdata::{Version, Words};

@@ -8,7 +8,7 @@ use Rattle.labels.proofs.line.finish_item.Goals as goal
 
 pub returns-in-Refuse-clause-fails : goal.returns-in-Refuse-clause-fails
 returns-in-Refuse-clause-fails g c =
-    rw c.in-Refuse.is (refused_fails c.args.options.now _ _ c.args.number (refused c.in-Refuse.fault) c.in-Refuse.fault c.refuse.result refl (g.met.O.Sink.took_none _) c.refuse.ensures.fails)
+    rw c.in-Refuse.is (refused_fails c.args.options.now (g.O.Sink.took c.args.out.now c.refuse.new.out) (g.E.Sink.took c.args.err.now c.refuse.new.err) c.args.number (refused c.in-Refuse.fault) c.in-Refuse.fault c.refuse.result refl c.refuse.ensures.out c.refuse.ensures.fails)
 
 pub returns-in-Draw-clause-ends : goal.returns-in-Draw-clause-ends
 returns-in-Draw-clause-ends g c =

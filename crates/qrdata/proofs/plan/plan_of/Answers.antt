@@ -3,32 +3,32 @@ use Rattle.std.proofs.lemmas.List.{drop_all}
 use Rattle.qrdata.specs.declared.mode.Segment.{Segment}
 use Rattle.qrdata.specs.Fewest.{chosen_segments}
 use Rattle.qrdata.proofs.BestLaw.{chosen_segments-nil}
-use Rattle.qrdata.proofs.TableSteps.{IsNamed-first}
+use Rattle.qrdata.proofs.Tables.{IsNamed-first}
 use Rattle.qrdata.proofs.plan.plan_of.Goals as goal
 
 pub loop-place-init : goal.loop-place-init
-loop-place-init c = (rw c.new-segments.ensures refl, omega arith)
+loop-place-init c = (rw c.new-segments.ensures refl, omega arith, omega (arith, c.requires.bits))
 
 pub push-requires : goal.push-requires
 push-requires c =
-    let named = IsNamed-first c.args.version.number c.args.bytes.now c.args.firsts.now c.loop-place.place c.loop-place-test.true (omega (arith, c.requires.few, c.requires.size)) c.requires.firsts in
+    let named = IsNamed-first c.args.version.number c.args.bytes.now c.args.bits c.args.firsts.now c.loop-place.place c.loop-place-test.true (omega (arith, c.requires.few, c.requires.size)) c.requires.firsts c.loop-place.invariant.2 in
     let all = rw named.next at c.loop-place.invariant.0 in
     (lit< tt, omega (arith, ap length all, length-append {A = Segment}, c.requires.short))
 
 pub overflow_add-place : goal.overflow_add-place
 overflow_add-place c =
-    let named = IsNamed-first c.args.version.number c.args.bytes.now c.args.firsts.now c.loop-place.place c.loop-place-test.true (omega (arith, c.requires.few, c.requires.size)) c.requires.firsts in
+    let named = IsNamed-first c.args.version.number c.args.bytes.now c.args.bits c.args.firsts.now c.loop-place.place c.loop-place-test.true (omega (arith, c.requires.few, c.requires.size)) c.requires.firsts c.loop-place.invariant.2 in
     omega (arith, named.inside, c.requires.few, c.from-place.ensures)
 
 pub loop-place-smaller : goal.loop-place-smaller
 loop-place-smaller c =
-    let named = IsNamed-first c.args.version.number c.args.bytes.now c.args.firsts.now c.loop-place.place c.loop-place-test.true (omega (arith, c.requires.few, c.requires.size)) c.requires.firsts in
+    let named = IsNamed-first c.args.version.number c.args.bytes.now c.args.bits c.args.firsts.now c.loop-place.place c.loop-place-test.true (omega (arith, c.requires.few, c.requires.size)) c.requires.firsts c.loop-place.invariant.2 in
     omega (arith, named.some, named.inside, c.from-place.ensures)
 
 pub loop-place-preserved : goal.loop-place-preserved
 loop-place-preserved c =
-    let named = IsNamed-first c.args.version.number c.args.bytes.now c.args.firsts.now c.loop-place.place c.loop-place-test.true (omega (arith, c.requires.few, c.requires.size)) c.requires.firsts in
-    (rw (c.push.ensures.items, c.from-place.ensures, append_assoc) (rw named.next at c.loop-place.invariant.0), omega (arith, named.inside, c.from-place.ensures))
+    let named = IsNamed-first c.args.version.number c.args.bytes.now c.args.bits c.args.firsts.now c.loop-place.place c.loop-place-test.true (omega (arith, c.requires.few, c.requires.size)) c.requires.firsts c.loop-place.invariant.2 in
+    (rw (c.push.ensures.items, c.from-place.ensures, append_assoc) (rw named.next at c.loop-place.invariant.0), omega (arith, named.inside, c.from-place.ensures), rw c.from-place.ensures named.small)
 
 whole : (version : ℕ) (bytes : List ℕ) (place : ℕ) (segments : List Segment) → segments ++ chosen_segments version (drop place bytes) ≡ chosen_segments version bytes → length bytes ≤ place → segments ≡ chosen_segments version bytes
 whole version bytes place segments e past = rw (drop_all place bytes past, chosen_segments-nil version, append-nil) at e

@@ -5,6 +5,9 @@ use Rattle.qrmatrix.specs.Bits.{bit}
 use Rattle.qrmatrix.proofs.RowBits.{low_bit}
 use Rattle.qrmatrix.proofs.row.low_ones.Goals as goal
 
+pub returns-clause-value : goal.returns-clause-value
+returns-clause-value c = ap (λ z. z - 1) (one_shl c.args.n 64 (omega arith))
+
 pub returns-clause-bits : goal.returns-clause-bits
 returns-clause-bits c = λ i. ap (λ z. bit (z - 1) i) (one_shl c.args.n 64 (omega arith)) ∙ low_bit c.args.n i
 

@@ -2,8 +2,8 @@ use Rattle.std.proofs.Common.{◌∙◌, sym, subst, arith, ◌<◌, ◌≤◌, 
 use Rattle.std.proofs.lemmas.Bool.{cases_lt, and_left, and_right, le-ltb}
 use Rattle.std.specs.Prelude.{nat_lt}
 use Rattle.qrdata.specs.Versions.{side_of}
-use Rattle.qrmatrix.specs.Drawing.{RedrawsFormat}
-use Rattle.qrmatrix.proofs.FormatRedrawn.{under}
+use Rattle.qrmatrix.specs.Drawing.{ShowsFormat}
+use Rattle.qrmatrix.proofs.UnderMask.{under}
 use Rattle.qrmatrix.proofs.ReadBack.{inside_from, module_inside, module_outside}
 use Rattle.qrmatrix.proofs.unmasked.Unmasked.under.Goals as goal
 
@@ -15,7 +15,7 @@ returns c =
     let mask = c.args.mask in
     let old = c.args.self.now.modules in
     let m = c.draw_format.new.modules in
-    let redrawn : RedrawsFormat v level mask old m = subst (λ z. RedrawsFormat v level mask z m) c.copied-modules.ensures c.draw_format.ensures in
+    let redrawn : ShowsFormat v level mask old m = subst (λ z. ShowsFormat v level mask z m) c.copied-modules.ensures c.draw_format.ensures in
     elim (cases_lt x (side_of v)) [
       | inr gx ↦
           let a : c.side.result ≤ x = omega arith in

@@ -1,0 +1,151 @@
+-- Rows of pixels, by their columns.
+use Rattle.std.proofs.Common.{◌≡◌, ℕ, suc, zero, ◌+◌, ◌-◌, ◌*◌, ◌/◌, ◌%◌, ◌<◌, ◌≤◌, Bool, false, List, ◌∷◌, ◌++◌, map, length, take, drop, append_assoc, length-append, length-drop, zero-add, refl, ap, sym, subst, ◌∙◌, arith, add-zero, suc-mul, zero-mul, ◌⊎◌, inl, inr}
+use Rattle.std.proofs.Math.ListN.{get_or, replicate}
+use Rattle.std.proofs.lemmas.Bool.Decides.{nat_tests}
+use Rattle.std.specs.List.{range_with_len}
+use Rattle.std.proofs.lemmas.List.{take-replicate, drop-replicate, get_or_append_left}
+use borrow.Rule.Slice.PartMut.{put_mid}
+use Rattle.std.proofs.lemmas.Nat.{div-mul-add, div_below, div-add-mod', mul-le}
+use Rattle.std.proofs.lemmas.List.FromFn.{fill_by_all, length-map-range_with_len, get_or-map-range_with_len}
+use Rattle.picture.specs.Picture.{Picture, RepeatsRow, Zone, framed, scaled}
+use Rattle.picture.specs.Read.{pixel_row}
+use Rattle.picture.specs.Text.{below}
+use Rattle.picture.proofs.SampleLemmas.{dark-framed}
+use Rattle.picture.proofs.WritingLemmas.{map-below_add}
+
+map-range_same : (f g : ℕ → Bool) (a n : ℕ) → ((x : ℕ) → x < a + n → f x ≡ g x) → map f (range_with_len a n) ≡ map g (range_with_len a n)
+map-range_same f g a zero same = refl
+map-range_same f g a (suc n) same =
+    ap (λ (b : Bool). b ∷ map f (range_with_len (a + 1) n)) (same a (omega arith))
+    ∙ ap (λ (bs : List Bool). g a ∷ bs) (map-range_same f g (a + 1) n (λ x h. same x (omega arith)))
+
+-- a row that repeats the one above has its pixels
+pub pixel_row-repeats : (p : Picture) (y : ℕ) → RepeatsRow p y → pixel_row p (y - 1) ≡ pixel_row p y
+pixel_row-repeats p y same = sym (map-range_same (λ x. p.dark x y) (λ x. p.dark x (y - 1)) 0 p.width (λ x h. same x (omega arith)))
+
+-- the pixels from column x on, by their places
+pub map-from : (f : ℕ → Bool) (x a n : ℕ) → map (λ i. f (x + i)) (range_with_len a n) ≡ map f (range_with_len (x + a) n)
+map-from f x a zero = refl
+map-from f x a (suc n) =
+    let next : x + (a + 1) ≡ (x + a) + 1 = omega arith in
+    ap (λ (bs : List Bool). f (x + a) ∷ bs) (map-from f x (a + 1) n ∙ ap (λ (k : ℕ). map f (range_with_len k n)) next)
+
+pub filled_from : (f : ℕ → Bool) (x : ℕ) (bs : List Bool) (n : ℕ) → length bs ≡ n → ((k : ℕ) → k < n → get_or bs k false ≡ f (x + k)) → bs ≡ map f (range_with_len x n)
+filled_from f x bs n size each = fill_by_all (λ i. f (x + i)) bs n false size each ∙ (map-from f x 0 n ∙ ap (λ (k : ℕ). map f (range_with_len k n)) (add-zero x))
+
+-- inside a module, the row above belongs to the same row of modules
+inside_module : (y s : ℕ) → 0 < s → 0 < y % s → (y - 1) / s ≡ y / s
+inside_module y s some inside =
+    let whole = div-add-mod' y s in
+    let below : y % s - 1 < s = omega arith in
+    let cut : y - 1 ≡ y / s * s + (y % s - 1) = omega arith in
+    ap (λ (n : ℕ). n / s) cut ∙ div-mul-add (y / s) s (y % s - 1) below
+
+-- at its first row, to the row of modules above
+first_of_module : (y s q : ℕ) → 0 < s → y / s ≡ suc q → y % s ≡ 0 → (y - 1) / s ≡ y / s - 1
+first_of_module y s q some e first =
+    let whole = div-add-mod' y s in
+    let product : suc q * s ≡ q * s + s = suc-mul q s in
+    let size : y ≡ suc q * s = sym (subst (λ (n : ℕ). n * s + y % s ≡ y) e whole) ∙ rw first (omega arith) in
+    let cut : y - 1 ≡ q * s + (s - 1) = omega arith in
+    let less : s - 1 < s = omega arith in
+    let last : q ≡ y / s - 1 = omega arith in
+    ap (λ (n : ℕ). n / s) cut ∙ (div-mul-add q s (s - 1) less ∙ last)
+
+pub scaled_repeats_inside : (p : Picture) (s y : ℕ) → 0 < s → 0 < y % s → RepeatsRow (scaled p s) y
+scaled_repeats_inside p s y some inside x h = ap (p.dark (x / s)) (sym (inside_module y s some inside))
+
+zero_or_more : (n : ℕ) → (n ≡ 0) ⊎ (0 < n)
+zero_or_more zero = inl refl
+zero_or_more (suc n) = inr (omega arith)
+
+-- a row that begins a module, and is not the first
+row_of_modules : (y s : ℕ) → 0 < s → 0 < y → y % s ≡ 0 → 0 < y / s
+row_of_modules y s some above first = elim (zero_or_more (y / s)) [ inl none ↦ absurd (zero_row none) | inr more ↦ more ] where
+  zero_row : y / s ≡ 0 → ⊥
+  zero_row none = let whole : 0 * s + y % s ≡ y = subst (λ (n : ℕ). n * s + y % s ≡ y) none (div-add-mod' y s) in omega (arith, zero-mul s)
+
+pub scaled_repeats : (p : Picture) (s y : ℕ) → 0 < s → 0 < y → y % s ≡ 0 → RepeatsRow p (y / s) → RepeatsRow (scaled p s) y
+scaled_repeats p s y some above first same x h =
+    let q = y / s - 1 in
+    let row : y / s ≡ suc q = (let pos = row_of_modules y s some above first in omega arith) in
+    same (x / s) (div_below x s p.width some h) ∙ ap (p.dark (x / s)) (sym (first_of_module y s q some row first))
+
+map-range_false : (f : ℕ → Bool) (a n : ℕ) → ((x : ℕ) → a ≤ x → x < a + n → f x ≡ false) → map f (range_with_len a n) ≡ replicate n false
+map-range_false f a zero none = refl
+map-range_false f a (suc n) none =
+    ap (λ (b : Bool). b ∷ map f (range_with_len (a + 1) n)) (none a (omega arith) (omega arith))
+    ∙ ap (λ (bs : List Bool). false ∷ bs) (map-range_false f (a + 1) n (λ x low high. none x (omega arith) (omega arith)))
+
+-- the zones round a picture
+module _ (p : Picture) (zone : Zone) where
+  dark_left : (x y : ℕ) → x < zone.left → (framed p zone).dark x y ≡ false
+  dark_left x y h = grind (arith, nat_tests)
+
+  dark_right : (x y : ℕ) → zone.left + p.width ≤ x → (framed p zone).dark x y ≡ false
+  dark_right x y h = grind (arith, nat_tests)
+
+  dark_above : (x y : ℕ) → y < zone.top → (framed p zone).dark x y ≡ false
+  dark_above x y h = grind (arith, nat_tests)
+
+  dark_below : (x y : ℕ) → zone.top + p.height ≤ y → (framed p zone).dark x y ≡ false
+  dark_below x y h = grind (arith, nat_tests)
+
+  dark_inside : (x y : ℕ) → x < p.width → zone.top ≤ y → y < zone.top + p.height → (framed p zone).dark (zone.left + x) y ≡ p.dark x (y - zone.top)
+  dark_inside x y wide low high =
+      let row : y ≡ zone.top + (y - zone.top) = omega arith in
+      ap ((framed p zone).dark (zone.left + x)) row ∙ dark-framed p zone x (y - zone.top) wide (omega arith)
+
+  pub framed_row_above : (y : ℕ) → y < zone.top → replicate (zone.left + p.width + zone.right) false ≡ pixel_row (framed p zone) y
+  framed_row_above y h = sym (map-range_false (λ x. (framed p zone).dark x y) 0 (zone.left + p.width + zone.right) (λ x low high. dark_above x y h))
+
+  pub framed_row_below : (y : ℕ) → zone.top + p.height ≤ y → replicate (zone.left + p.width + zone.right) false ≡ pixel_row (framed p zone) y
+  framed_row_below y h = sym (map-range_false (λ x. (framed p zone).dark x y) 0 (zone.left + p.width + zone.right) (λ x low high. dark_below x y h))
+
+  pub framed_row : (y : ℕ) → zone.top ≤ y → y < zone.top + p.height → pixel_row (framed p zone) y ≡ replicate zone.left false ++ (pixel_row p (y - zone.top) ++ replicate zone.right false)
+  framed_row y low high =
+      let f : ℕ → Bool = λ x. (framed p zone).dark x y in
+      let end = zone.left + p.width in
+      let left : map f (below zone.left) ≡ replicate zone.left false = map-range_false f 0 zone.left (λ x _ h. dark_left x y (omega arith)) in
+      let right : map f (range_with_len end zone.right) ≡ replicate zone.right false = map-range_false f end zone.right (λ x h _. dark_right x y h) in
+      let inner : map f (range_with_len zone.left p.width) ≡ pixel_row p (y - zone.top) =
+      sym (map-from f zone.left 0 p.width ∙ ap (λ (k : ℕ). map f (range_with_len k p.width)) (add-zero zone.left))
+      ∙ map-range_same (λ x. f (zone.left + x)) (λ x. p.dark x (y - zone.top)) 0 p.width (λ x h. dark_inside x y (omega arith) low high) in
+      map-below_add f end zone.right
+      ∙ (ap (λ (t : List Bool). t ++ map f (range_with_len end zone.right)) (map-below_add f zone.left p.width)
+      ∙ (append_assoc (map f (below zone.left)) (map f (range_with_len zone.left p.width)) (map f (range_with_len end zone.right))
+      ∙ (ap (λ (t : List Bool). t ++ (map f (range_with_len zone.left p.width) ++ map f (range_with_len end zone.right))) left
+      ∙ ap (λ (t : List Bool). replicate zone.left false ++ t) (ap (λ (t : List Bool). t ++ map f (range_with_len end zone.right)) inner ∙ ap (λ (t : List Bool). pixel_row p (y - zone.top) ++ t) right))))
+
+-- each of the first pixels so many times
+scaled_row : (p : Picture) (s y : ℕ) (bs : List Bool) → 0 < s → length bs ≡ p.width * s → ((x : ℕ) → x < p.width → get_or bs x false ≡ p.dark x (y / s)) →
+    map (λ x. get_or bs (x / s) false) (below (length bs)) ≡ pixel_row (scaled p s) y
+scaled_row p s y bs some size each =
+    ap (λ (n : ℕ). map (λ x. get_or bs (x / s) false) (below n)) size
+    ∙ map-range_same (λ x. get_or bs (x / s) false) (λ x. p.dark (x / s) (y / s)) 0 (p.width * s) (λ x h. each (x / s) (div_below x s p.width some (omega arith)))
+
+-- a row of the picture, over light pixels
+pub framed_put : (p : Picture) (zone : Zone) (y : ℕ) (light row : List Bool) (w : ℕ) → light ≡ replicate (zone.left + p.width + zone.right) false → w ≡ p.width → zone.top ≤ y → y < zone.top + p.height → row ≡ pixel_row p (y - zone.top) →
+    put_mid zone.left (zone.left + w - zone.left) light row ≡ pixel_row (framed p zone) y
+framed_put p zone y light row w e width low high same =
+    let n = zone.left + p.width + zone.right in
+    let size : zone.left + w - zone.left ≡ p.width = omega arith in
+    let rest : n - zone.left - p.width ≡ zone.right = omega arith in
+    let front : take zone.left (replicate n false) ≡ replicate zone.left false = take-replicate zone.left n false (omega arith) in
+    let back : drop p.width (drop zone.left (replicate n false)) ≡ replicate zone.right false =
+    ap (drop p.width) (drop-replicate zone.left n false) ∙ (drop-replicate p.width (n - zone.left) false ∙ ap (λ (k : ℕ). replicate k false) rest) in
+    ap (λ (k : ℕ). put_mid zone.left k light row) size
+    ∙ (ap (λ (t : List Bool). put_mid zone.left p.width t row) e
+    ∙ (ap (λ (t : List Bool). t ++ (row ++ drop p.width (drop zone.left (replicate n false)))) front
+    ∙ (ap (λ (t : List Bool). replicate zone.left false ++ (row ++ t)) back
+    ∙ (ap (λ (t : List Bool). replicate zone.left false ++ (t ++ replicate zone.right false)) same ∙ sym (framed_row p zone y low high)))))
+
+-- a row of the picture, and what stood after it
+pub scaled_put : (p : Picture) (s y : ℕ) (row before : List Bool) (w : ℕ) → 0 < s → w ≡ p.width → length before ≡ p.width * s → row ≡ pixel_row p (y / s) →
+    map (λ x. get_or (row ++ drop w before) (x / s) false) (below (length (row ++ drop w before))) ≡ pixel_row (scaled p s) y
+scaled_put p s y row before w some width size same =
+    let columns : length row ≡ p.width = ap length same ∙ length-map-range_with_len (λ x. p.dark x (y / s)) 0 p.width in
+    let least : p.width * 1 ≤ p.width * s = mul-le p.width 1 p.width s (omega arith) (omega arith) in
+    scaled_row p s y (row ++ drop w before) some (length-append row (drop w before) ∙ omega (arith, length-drop w before))
+    (λ x h. get_or_append_left row (drop w before) false x (omega arith)
+    ∙ (ap (λ (t : List Bool). get_or t x false) same ∙ get_or-map-range_with_len (λ x. p.dark x (y / s)) 0 p.width x x false h (zero-add x)))

@@ -1,0 +1,43 @@
+-- The order of choices: fewer bits first, and of equally many the longer one.
+use Rattle.std.proofs.Common.{◌≡◌, ℕ, ◌<◌, ◌≤◌, refl, arith, inl, inr, ◌⊎◌}
+use Rattle.std.proofs.lemmas.Bool.{cases_lt, le-ltb, lt-ltb}
+use Rattle.std.proofs.lemmas.Bool.Decides.{eqb_tells}
+use Rattle.qrdata.specs.declared.table.Choice.{Choice}
+use Rattle.qrdata.specs.Table.{better_choice}
+
+-- a choice comes no later than one of so many bits and this length
+abbrev pub Beats : Choice → (bits len : ℕ) → Type 0
+Beats c bits len = (c.bits ≤ bits) × (c.segment.len < len → c.bits < bits)
+
+beats_then : (a b x l m n : ℕ) → a ≤ b → (l < m → a < b) → b ≤ x → (m < n → b < x) → (a ≤ x) × (l < n → a < x)
+beats_then a b x l m n h k h' k' = (omega arith, λ less. elim (cases_lt l m) [ inl first ↦ omega (arith, k first) | inr second ↦ omega (arith, k' (omega arith)) ])
+
+-- the better of two is one of them, and comes no later than the other
+better_tells : (c d : Choice) → ((better_choice c d ≡ d) × Beats d c.bits c.segment.len) ⊎ ((better_choice c d ≡ c) × Beats c d.bits d.segment.len)
+unfolding better_choice
+better_tells c d = elim (cases_lt d.bits c.bits) [
+  | inl less ↦ inl (rw (lt-ltb d.bits c.bits less) refl, (omega arith, λ k. less))
+  | inr more ↦ elim (eqb_tells d.bits c.bits) [
+    | inr differ ↦ inr (rw (le-ltb d.bits c.bits more, differ.0) refl, (more, λ k. omega (arith, differ.1)))
+    | inl same ↦ elim (cases_lt c.segment.len d.segment.len) [
+      | inl longer ↦ inl (rw (le-ltb d.bits c.bits more, same.0, lt-ltb c.segment.len d.segment.len longer) refl, (omega (arith, same.1), λ k. absurd (omega arith)))
+      | inr shorter ↦ inr (rw (le-ltb d.bits c.bits more, same.0, le-ltb c.segment.len d.segment.len shorter) refl, (more, λ k. absurd (omega arith)))
+    ]
+  ]
+]
+
+pub better-left : (c d : Choice) (bits len : ℕ) → Beats c bits len → Beats (better_choice c d) bits len
+better-left c d bits len h = elim (better_tells c d) [
+  | inl w ↦ rw w.0 (beats_then d.bits c.bits bits d.segment.len c.segment.len len w.1.0 w.1.1 h.0 h.1)
+  | inr w ↦ rw w.0 h
+]
+
+pub better-right : (c d : Choice) (bits len : ℕ) → Beats d bits len → Beats (better_choice c d) bits len
+better-right c d bits len h = elim (better_tells c d) [
+  | inl w ↦ rw w.0 h
+  | inr w ↦ rw w.0 (beats_then c.bits d.bits bits c.segment.len d.segment.len len w.1.0 w.1.1 h.0 h.1)
+]
+
+-- what holds of both holds of the better one
+pub better-one : (P : Choice → Type 0) (c d : Choice) → P c → P d → P (better_choice c d)
+better-one P c d h k = elim (better_tells c d) [ inl w ↦ rw w.0 k | inr w ↦ rw w.0 h ]

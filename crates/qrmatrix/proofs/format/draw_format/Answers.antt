@@ -1,0 +1,39 @@
+use Rattle.std.proofs.Common.{◌≡◌, ap, arith}
+use Rattle.qrdata.specs.Versions.{side_of}
+use Rattle.qrmatrix.specs.Drawing.{format_by}
+use Rattle.qrmatrix.specs.Functions.{role}
+use Rattle.qrmatrix.specs.Information.{format_word}
+use Rattle.qrmatrix.specs.Masks.{flip_if}
+use Rattle.qrmatrix.specs.Square.{value_at}
+use Rattle.qrmatrix.proofs.FunctionWords.{fits, row_shows}
+use Rattle.qrmatrix.proofs.Passes.{mapped_outside, row_turned}
+use Rattle.qrmatrix.proofs.RowBits.{above_bit}
+use Rattle.qrmatrix.proofs.format.draw_format.Goals as goal
+
+pub flip-requires-clause-word : goal.flip-requires-clause-word
+flip-requires-clause-word c =
+    let v = c.args.version in
+    let shows = row_shows v.number c.side-n.result c.format_word-word.result c.format_row.result c.args.level c.args.mask c.loop-y.y v.at_least v.at_most c.requires (omega arith) c.side-n.ensures c.format_word-word.ensures c.format_row.ensures in
+    fits v.number c.format_row.result v.at_most shows.narrow
+
+pub loop-y-preserved : goal.loop-y-preserved
+loop-y-preserved c =
+    let v = c.args.version.number in
+    let y = c.loop-y.y in
+    let shows = row_shows v c.side-n.result c.format_word-word.result c.format_row.result c.args.level c.args.mask y c.args.version.at_least c.args.version.at_most c.requires (omega arith) c.side-n.ensures c.format_word-word.ensures c.format_row.ensures in
+    record {
+      modules = row_turned (side_of v) y c.format_row.result c.args.modules.now c.loop-y.modules c.flip.new.self
+          (λ x y. flip_if (format_by (format_word c.args.level c.args.mask) (role v x y)) (value_at c.args.modules.now x y)) c.loop-y.invariant.modules c.flip.ensures
+          (λ x l. ap (λ z. flip_if z (value_at c.args.modules.now x y)) (shows.shown x l))
+          (λ x g. above_bit c.format_row.result (side_of v) x shows.narrow g);
+      width = c.loop-y.invariant.width;
+    }
+
+pub returns : goal.returns
+returns c =
+    let n = side_of c.args.version.number in
+    let e : n ≡ c.loop-y.y = omega arith in
+    record {
+      inside = λ x y lx ly. c.loop-y.invariant.modules.above x y lx (omega arith);
+      outside = mapped_outside n c.loop-y.y c.args.modules.now c.loop-y.modules _ c.loop-y.invariant.modules e;
+    }

@@ -1,0 +1,12 @@
+use Rattle.std.proofs.Common.{◌≡◌, sym, subst}
+use Rattle.qrmatrix.specs.Drawing.{HasFunctions}
+use Rattle.qrmatrix.specs.FunctionRows.{function_row}
+use Rattle.qrmatrix.proofs.FunctionWords.{all_patterns, function_row_is}
+use Rattle.qrmatrix.proofs.function.function_row.Goals as goal
+
+pub returns : goal.returns
+returns c =
+    let v = c.args.version.number in
+    let e : c.or_else-4.result ≡ function_row v c.args.y =
+    rw (c.or_else-4.ensures, c.or_else-3.ensures, c.or_else-2.ensures, c.or_else.ensures, c.finders.ensures, c.alignments.ensures, c.timing.ensures, c.formats.ensures, c.versions.ensures, c.side-n.ensures) (all_patterns v c.args.y) in
+    subst (HasFunctions v c.args.y) (sym e) (function_row_is v c.args.version.at_least c.args.version.at_most c.args.y c.requires)

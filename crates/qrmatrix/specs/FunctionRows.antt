@@ -1,0 +1,98 @@
+-- What the patterns of a symbol have of each row, as words: bit x is the module at column x (ISO/IEC 18004, 6.3, 7.9 and 7.10).
+use Rattle.std.specs.Prelude.{ℕ, ◌+◌, ◌-◌, ◌*◌, ◌/◌, ◌%◌, ◌^◌, ◌&&◌, ◌||◌, ◌==◌, nat_lt, nat_le, not, if◌then◌else◌, bit_and, bit_or, slice_index}
+use Rattle.std.specs.Int.{bit_not, reverse_bits, w32, w64}
+use Rattle.qrdata.specs.Versions.{side_of}
+use Rattle.qrmatrix.specs.Information.{version_word}
+use Rattle.qrmatrix.specs.declared.function.PatternRow.{PatternRow}
+use Rattle.qrmatrix.specs.declared.function.TheConstants.{CENTRES, EVERY_OTHER, FINDER}
+
+-- their modules, and those of them that are dark
+abbrev pub pattern_row : ℕ → ℕ → PatternRow
+pattern_row taken dark = record { taken = taken; dark = dark }
+
+-- a word moved up by k places
+abbrev pub up : ℕ → ℕ → ℕ
+up w k = w * 2 ^ k % 2 ^ 64
+
+-- the first of two patterns that has a module
+unfoldable pub or_else : PatternRow → PatternRow → PatternRow
+or_else a b =
+    pattern_row (bit_or a.taken b.taken) (bit_or a.dark (bit_and b.dark (bit_not w64 a.taken)))
+
+-- the finder patterns with their separators
+unfoldable pub finders : ℕ → ℕ → PatternRow
+finders n y =
+    if nat_lt y 8 then pattern_row (bit_or 0xFF (up 0xFF (n - 8))) (bit_or (slice_index FINDER y) (up (slice_index FINDER y) (n - 7)))
+    else (if nat_le (n - 8) y then pattern_row 0xFF (slice_index FINDER (n - 1 - y))
+    else pattern_row 0 0)
+
+-- the row of an alignment pattern that comes to lie in a row, where these are the centres
+unfoldable pub alignment_row : ℕ → ℕ → PatternRow
+alignment_row centres y =
+    let near = bit_and (up centres 2 / 2 ^ y) 31 in
+    if near == 0 then pattern_row 0 0
+    else (if near == 4 then pattern_row 31 21
+    else (if not (bit_and near 10 == 0) then pattern_row 31 17
+    else pattern_row 31 31))
+
+-- the left columns of the alignment patterns about a row, but for those with their centre in a finder pattern
+unfoldable pub left_columns : ℕ → ℕ → ℕ → ℕ
+left_columns n centres y =
+    let finders = if nat_lt y 9 then bit_or 0xFF (up 0xFF (n - 8)) else (if nat_le (n - 9) y then 0xFF else 0) in
+    bit_and centres (bit_not w64 finders) / 2 ^ 2
+
+-- the centres of a version
+unfoldable pub centres_of : ℕ → ℕ
+centres_of v = slice_index CENTRES (v - 1)
+
+-- the alignment patterns
+unfoldable pub alignments : ℕ → ℕ → PatternRow
+unfolding alignment_row left_columns centres_of
+alignments v y =
+    let row = alignment_row (centres_of v) y in
+    let columns = left_columns (side_of v) (centres_of v) y in
+    pattern_row (row.taken * columns) (row.dark * columns)
+
+-- the timing patterns
+unfoldable pub timing : ℕ → ℕ → PatternRow
+timing n y =
+    if y == 6 then pattern_row (2 ^ n - 1) (bit_and (2 ^ n - 1) EVERY_OTHER)
+    else (if y % 2 == 0 then pattern_row 64 64 else pattern_row 64 0)
+
+-- the modules of the format information, light, and the module that is always dark
+unfoldable pub formats : ℕ → ℕ → PatternRow
+formats n y =
+    if y == 8 then pattern_row (bit_or 0x1FF (up 0xFF (n - 8))) 0
+    else (if y == n - 8 then pattern_row 256 256
+    else (if nat_lt y 8 || nat_lt (n - 8) y then pattern_row 256 0
+    else pattern_row 0 0))
+
+-- the bits 0, 3, 6, .. of a word of 18 bits
+unfoldable pub every_third : ℕ → ℕ
+every_third w =
+    bit_or (bit_or (bit_or (bit_or (bit_or (bit_and w 1) (bit_and (w / 2 ^ 2) 2)) (bit_and (w / 2 ^ 4) 4)) (bit_and (w / 2 ^ 6) 8)) (bit_and (w / 2 ^ 8) 16)) (bit_and (w / 2 ^ 10) 32)
+
+-- the version information
+unfoldable pub versions : ℕ → ℕ → PatternRow
+unfolding version_word every_third
+versions v y =
+    let n = side_of v in
+    if nat_lt v 7 then pattern_row 0 0
+    else (if nat_lt y 6 then pattern_row (up 7 (n - 11)) (up (bit_and (version_word v / 2 ^ (3 * y)) 7) (n - 11))
+    else (if nat_le (n - 11) y && nat_lt y (n - 8) then pattern_row 63 (every_third (version_word v / 2 ^ (y - (n - 11))))
+    else pattern_row 0 0))
+
+-- the modules that the codewords do not choose, those of the format information light
+unfoldable pub function_row : ℕ → ℕ → PatternRow
+unfolding or_else finders alignments timing formats versions
+function_row v y =
+    or_else (or_else (or_else (or_else (finders (side_of v) y) (alignments v y)) (timing (side_of v) y)) (formats (side_of v) y)) (versions v y)
+
+-- the modules that show a one of the format word
+unfoldable pub format_row : ℕ → ℕ → ℕ → ℕ
+format_row n word y =
+    if y == 8 then (let across = reverse_bits w32 word / 2 ^ 17 in bit_or (bit_or (bit_and across 0x3F) (up (bit_and across 0xC0) 1)) (up (across / 2 ^ 7) (n - 8)))
+    else (if nat_lt y 6 then up (bit_and (word / 2 ^ y) 1) 8
+    else (if y == 7 then up (bit_and (word / 2 ^ 6) 1) 8
+    else (if nat_le (n - 7) y then up (bit_and (word / 2 ^ (y + 15 - n)) 1) 8
+    else 0)))

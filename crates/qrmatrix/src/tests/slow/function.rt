@@ -1,0 +1,180 @@
+//! The function patterns, the format information and the version information, each module asked what it is there for.
+ghost use Rattle.std.specs.Prelude.{◌+◌, ◌*◌, ◌<◌, ◌≤◌, IfSome};
+ghost use Rattle.qrdata.specs.Versions.{side_of};
+
+use crate::information::{format_word, version_word};
+use labelcore::Level;
+use qrdata::Version;
+
+/// How far two coordinates are from one another.
+fn distance(a: usize, b: usize) -> usize {
+    if a < b { b - a } else { a - b }
+}
+
+/// The square ring round the centre (`a`, `b`) on which the module at column `x` and row `y` lies, the centre being ring 0.
+fn ring(a: usize, b: usize, x: usize, y: usize) -> usize {
+    distance(a, x).max(distance(b, y))
+}
+
+/// The finder pattern with its separator that has its centre at (`a`, `b`).
+fn finder_at(a: usize, b: usize, x: usize, y: usize) -> Option<bool> {
+    let r = ring(a, b, x, y);
+    if r <= 4 { Some(r != 2 && r != 4) } else { None }
+}
+
+/// The finder pattern with its separator that has the module, in a symbol of `n` by `n` modules.
+fn finder(n: usize, x: usize, y: usize) -> Option<bool>
+    requires { 21 ≤ n }
+{
+    if let Some(dark) = finder_at(3, 3, x, y) {
+        return Some(dark);
+    }
+    if let Some(dark) = finder_at(n - 4, 3, x, y) {
+        return Some(dark);
+    }
+    finder_at(3, n - 4, x, y)
+}
+
+/// The alignment pattern that has its centre at (`a`, `b`).
+fn alignment_at(a: usize, b: usize, x: usize, y: usize) -> Option<bool> {
+    let r = ring(a, b, x, y);
+    if r <= 2 { Some(r != 1) } else { None }
+}
+
+/// The timing pattern that has the module.
+fn timing(x: usize, y: usize) -> Option<bool> {
+    if x == 6 {
+        Some(y % 2 == 0)
+    } else if y == 6 {
+        Some(x % 2 == 0)
+    } else {
+        None
+    }
+}
+
+/// The bit of the format word that stands at the module.
+fn format_bit(n: usize, x: usize, y: usize) -> Option<u8>
+    requires side { (21 ≤ n) × (n ≤ 57) }
+    requires column { x < n }
+    requires row { y < n }
+    ensures { IfSome result (λ i. i < 15) }
+{
+    if x == 8 {
+        if y < 6 {
+            Some(y as u8)
+        } else if y == 7 {
+            Some(6)
+        } else if y == 8 {
+            Some(7)
+        } else if n - 7 <= y {
+            Some((y + 15 - n) as u8)
+        } else {
+            None
+        }
+    } else if y == 8 {
+        if x < 6 {
+            Some((14 - x) as u8)
+        } else if x == 7 {
+            Some(8)
+        } else if n - 8 <= x {
+            Some((n - 1 - x) as u8)
+        } else {
+            None
+        }
+    } else {
+        None
+    }
+}
+
+/// The bit of the version word that stands at the module, in the versions that have one.
+fn version_bit(n: usize, x: usize, y: usize) -> Option<u8>
+    requires side { (21 ≤ n) × (n ≤ 57) }
+    ensures { IfSome result (λ i. i < 18) }
+{
+    if x < 6 && n - 11 <= y && y < n - 8 {
+        Some((3 * x + (y - (n - 11))) as u8)
+    } else if y < 6 && n - 11 <= x && x < n - 8 {
+        Some((3 * y + (x - (n - 11))) as u8)
+    } else {
+        None
+    }
+}
+
+/// The row and column coordinates of the centres of the alignment patterns (ISO/IEC 18004, Table E.1).
+fn alignment_coordinates(version: Version) -> &'static [usize] {
+    match version.number() {
+        2 => &[6, 18],
+        3 => &[6, 22],
+        4 => &[6, 26],
+        5 => &[6, 30],
+        6 => &[6, 34],
+        7 => &[6, 22, 38],
+        8 => &[6, 24, 42],
+        9 => &[6, 26, 46],
+        10 => &[6, 28, 50],
+        _ => &[],
+    }
+}
+
+/// The first alignment pattern with its centre in column `a` that has the module.
+fn alignment_in(n: usize, a: usize, rows: &[usize], x: usize, y: usize) -> Option<bool>
+    requires { 21 ≤ n }
+{
+    for b in rows {
+        if let Some(dark) = alignment_at(a, *b, x, y) {
+            if finder(n, a, *b).is_none() {
+                return Some(dark);
+            }
+        }
+    }
+    None
+}
+
+/// The first alignment pattern that has the module.
+fn alignment_over(n: usize, columns: &[usize], rows: &[usize], x: usize, y: usize) -> Option<bool>
+    requires { 21 ≤ n }
+{
+    for a in columns {
+        if let Some(dark) = alignment_in(n, *a, rows, x, y) {
+            return Some(dark);
+        }
+    }
+    None
+}
+
+/// The alignment pattern that has the module.
+fn alignment(version: Version, x: usize, y: usize) -> Option<bool> {
+    let coordinates = alignment_coordinates(version);
+    alignment_over(version.side(), coordinates, coordinates, x, y)
+}
+
+/// Whether the module at column `x` and row `y` is dark, where the codewords do not choose it (ISO/IEC 18004, 6.3, 7.9
+/// and 7.10).
+pub fn fixed(version: Version, level: Level, mask: u8, x: usize, y: usize) -> Option<bool>
+    requires column { x < side_of version.number }
+    requires row { y < side_of version.number }
+    requires mask { mask < 8 }
+{
+    let n = version.side();
+    if let Some(dark) = finder(n, x, y) {
+        return Some(dark);
+    }
+    if let Some(dark) = alignment(version, x, y) {
+        return Some(dark);
+    }
+    if let Some(dark) = timing(x, y) {
+        return Some(dark);
+    }
+    if let Some(i) = format_bit(n, x, y) {
+        return Some((format_word(level, mask) >> i) & 1 == 1);
+    }
+    if x == 8 && y == n - 8 {
+        return Some(true);
+    }
+    if version.number() >= 7 {
+        if let Some(i) = version_bit(n, x, y) {
+            return Some((version_word(version) >> i) & 1 == 1);
+        }
+    }
+    None
+}
