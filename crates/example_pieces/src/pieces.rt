@@ -1,0 +1,25 @@
+//! A filter that is fed in two pieces.
+ghost use Rattle.std.specs.Prelude.{◌≡◌, ◌++◌, true, IfOk, OnOk};
+ghost use Rattle.filter.specs.Output.{status_of};
+ghost use Rattle.labelcore.specs.Lines.{lines};
+
+use filter::{Filter, RunFault, Status};
+use labelcore::{Options, Sink};
+
+/// Draws the labels of a text that comes in two pieces, wherever it is cut. The answer is that of the whole text.
+pub fn draw_in_two<O: Sink, E: Sink>(
+    options: Options,
+    first: &[u8],
+    second: &[u8],
+    out: &mut O,
+    err: &mut E,
+) -> Result<Status, RunFault>
+    ensures status { IfOk result
+        (λ status. status ≡ status_of options (lines (first.now ++ second.now))) }
+    ensures flushed { OnOk result ((O.is_flushed out.new ≡ true) × (E.is_flushed err.new ≡ true)) }
+{
+    let mut filter = Filter::new(options);
+    filter.feed(first, out, err)?;
+    filter.feed(second, out, err)?;
+    filter.finish(out, err)
+}
