@@ -13,13 +13,13 @@ use Rattle.labelcore.specs.OptionValues.{OptionValues}
 
 module _ (options : OptionValues) where
   -- what two clauses say of one fault, and of one answer
-  pub at_err : {T E : Type 0} (r : Result T E) (A : T → Type 0) (P B Q : E → Type 0) → IfErr r P → MatchResult r A B → ((fault : E) → P fault → B fault → Q fault) → IfErr r Q
-  at_err (Ok x) A P B Q p b f = tt
-  at_err (Err e) A P B Q p b f = f e p b
+  pub at_err : {T E : Type 0} (r : Result T E) (A C : T → Type 0) (P B Q : E → Type 0) → MatchResult r A P → MatchResult r C B → ((fault : E) → P fault → B fault → Q fault) → IfErr r Q
+  at_err (Ok x) A C P B Q p b f = tt
+  at_err (Err e) A C P B Q p b f = f e p b
 
-  pub at_ok : {T E : Type 0} (r : Result T E) (P Q : T → Type 0) (B : Type 0) → IfOk r P → OnOk r B → ((x : T) → P x → B → Q x) → IfOk r Q
-  at_ok (Ok x) P Q B p b f = f x p b
-  at_ok (Err e) P Q B p b f = tt
+  pub at_ok : {T E : Type 0} (r : Result T E) (P B : T → Type 0) (S : E → Type 0) (Q : T → Type 0) → MatchResult r (λ x. P x × B x) S → ((x : T) → P x → B x → Q x) → IfOk r Q
+  at_ok (Ok x) P B S Q p f = f x p.0 p.1
+  at_ok (Err e) P B S Q p f = tt
 
   -- a fault in a line, as a run's
   pub RunStops-in_line : (took_out took_err : List ℕ → Type 0) (text : List ℕ) (fault : RunFault) → StopsInLine options took_out took_err 0 (lines text) fault → RunStops options took_out took_err text fault

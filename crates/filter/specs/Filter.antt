@@ -1,12 +1,13 @@
 -- Where a filter stands in its input, and what it does to its sinks (docs/SPECIFICATION.md, The filter as a library).
-use Rattle.std.specs.Prelude.{◌≡◌, ℕ, ◌+◌, ◌-◌, ◌^◌, min, Bool, false, ◌⊎◌, List, ◌∷◌, ◌++◌, length}
-use Rattle.labelcore.specs.Lines.{Held, held, ended_lines, open_line, unless_empty}
+use Rattle.std.specs.Prelude.{◌≡◌, ℕ, ◌+◌, ◌-◌, ◌^◌, min, Bool, false, ◌⊎◌, List, ◌∷◌, ◌++◌, length, Result, MatchResult}
+use Rattle.labelcore.specs.Lines.{Held, held, lines, ended_lines, open_line, unless_empty}
 use Rattle.labelcore.specs.OptionValues.{OptionValues}
-use Rattle.filter.specs.Output.{outcome, images, messages_after, line_number, any_refused}
+use Rattle.filter.specs.Output.{outcome, images, messages_after, line_number, any_refused, status_of}
 use Rattle.filter.specs.Line.{FailsInLine}
 use Rattle.filter.specs.Readback.{ReadsBack}
 use Rattle.std.specs.List.{AllByRecursion}
 use Rattle.filter.specs.declared.status.RunFault.{RunFault}
+use Rattle.filter.specs.declared.status.Status.{Status}
 
 -- what a filter keeps between pieces
 pub record FilterState : Type 0 where
@@ -56,3 +57,18 @@ abbrev pub StopsInFinish : OptionValues → (took_out took_err : List ℕ → Ty
 StopsInFinish options took_out took_err text fault =
     StopsInLine options took_out took_err (length (ended_lines text)) (unless_empty (open_line text)) fault
     ⊎ TookLines options took_out took_err (length (ended_lines text)) (unless_empty (open_line text))
+
+-- a piece after this text: at `Ok` the filter stands after both and the sinks took what the lines come to that the piece ends, at
+-- `Err` a sink failed in one of these
+abbrev pub FeedsPiece : {T : Type 0} → OptionValues → FilterState → (took_out took_err : List ℕ → Type 0) (text piece : List ℕ) → Result T RunFault → Type 0
+FeedsPiece options new took_out took_err text piece r =
+    MatchResult r (λ _. StandsAt options new (text ++ piece) × TookPiece options took_out took_err text piece)
+    (StopsInPiece options took_out took_err text piece)
+
+-- the end of this text: at `Ok` the status is that of the text's lines and the sinks took what the last one comes to, at `Err` a sink
+-- failed in it or in a flush
+abbrev pub EndsInput : OptionValues → (took_out took_err : List ℕ → Type 0) (text : List ℕ) → Result Status RunFault → Type 0
+EndsInput options took_out took_err text r =
+    MatchResult r (λ status. (status ≡ status_of options (lines text))
+    × TookLines options took_out took_err (length (ended_lines text)) (unless_empty (open_line text)))
+    (StopsInFinish options took_out took_err text)

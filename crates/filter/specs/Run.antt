@@ -10,24 +10,25 @@ use Rattle.filter.specs.Filter.{TookLines, StopsInLine}
 use Rattle.filter.specs.declared.status.RunFault.{RunFault}
 use Rattle.filter.specs.declared.status.RunFault.TheVariants.{Read, WriteOut, WriteMessages, Spent}
 
--- The first half of the headline: the sinks took the images and the messages of the text's lines, and the status is theirs.
-pub record WritesOutput (options : OptionValues) (took_out took_err : List ℕ → Type 0) (status : Status) (text : List ℕ) : Type 0 where
-  pub out : took_out (images options (lines text))
+-- The first half of the headline: the sinks took the stream and the messages of the text's lines, and the status is theirs.
+pub record WritesOutput (options : OptionValues) (took_out took_err : List ℕ → Type 0) (status : Status) (text stream : List ℕ) : Type 0 where
+  pub images_are : stream ≡ images options (lines text)
+  pub out : took_out stream
   pub err : took_err (messages options (lines text))
   pub status_is : status ≡ status_of options (lines text)
 
--- The second half: there is one image for each line that is drawn, in order, and each, cut from the stream, is read as the
--- full data of its line.
-abbrev pub ImagesAreRead : OptionValues → (text : List ℕ) → Type 0
-ImagesAreRead options text =
-    AreRead options.format options.scale (cut options.format (images options (lines text))) (accepted options (lines text))
+-- The second half: in the stream there is one image for each line that is drawn, in order, and each is read as the full data of its line.
+abbrev pub ImagesAreRead : OptionValues → (text stream : List ℕ) → Type 0
+ImagesAreRead options text stream =
+    AreRead options.format options.scale (cut options.format stream) (accepted options (lines text))
 
--- A whole run: both halves, of the one text that the source gave.
+-- A whole run: both halves, of the one text that the source gave and the one stream that the sink took.
 pub record RunsWhole (options : OptionValues) (gave took_out took_err : List ℕ → Type 0) (status : Status) : Type 0 where
   pub text : List ℕ
+  pub stream : List ℕ
   pub given : gave text
-  pub written : WritesOutput options took_out took_err status text
-  pub read : ImagesAreRead options text
+  pub written : WritesOutput options took_out took_err status text stream
+  pub read : ImagesAreRead options text stream
 
 -- a sink failed in one of the text's lines, or in a flush after them
 abbrev pub StopsInText : OptionValues → (took_out took_err : List ℕ → Type 0) (text : List ℕ) → RunFault → Type 0

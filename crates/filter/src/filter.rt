@@ -4,7 +4,7 @@ ghost use Rattle.labelcore.specs.Device.{Unflushed};
 ghost use Rattle.labelcore.specs.OptionValues.{OptionValues};
 ghost use Rattle.labelcore.specs.Lines.{lines, ended_lines, open_line, unless_empty};
 ghost use Rattle.filter.specs.Output.{any_refused, status_of};
-ghost use Rattle.filter.specs.Filter.{FilterState, StandsAt, TookLines, TookPiece, StopsInLine, StopsInPiece, StopsInFinish};
+ghost use Rattle.filter.specs.Filter.{FilterState, StandsAt, TookLines, StopsInLine, FeedsPiece, EndsInput};
 ghost use Rattle.filter.specs.Line.{CountsFault, FlushedImagesAtMost};
 
 use crate::line::finish_line;
@@ -57,14 +57,9 @@ impl Filter {
         out: &mut O,
         err: &mut E,
     ) -> Result<(), RunFault>
-        ensures stands { (options : OptionValues) (text : List ℕ) → StandsAt options self.old text
-            → OnOk result (StandsAt options self.new (text ++ byte ∷ [])) }
-        ensures took { (options : OptionValues) (text : List ℕ) → StandsAt options self.old text
-            → OnOk result (TookPiece options
-            (O.took out.old out.new) (E.took err.old err.new) text (byte ∷ [])) }
-        ensures stops { (options : OptionValues) (text : List ℕ) → StandsAt options self.old text
-            → IfErr result (StopsInPiece options
-            (O.took out.old out.new) (E.took err.old err.new) text (byte ∷ [])) }
+        ensures feeds { (options : OptionValues) (text : List ℕ) → StandsAt options self.old text
+            → FeedsPiece options self.new (O.took out.old out.new) (E.took err.old err.new)
+            text (byte ∷ []) result }
         ensures spent { OnErr result (self.new.is_spent ≡ true) }
         ensures counts { CountsFault (O.failures out.old) (O.failures out.new)
             (E.failures err.old) (E.failures err.new) result }
@@ -99,14 +94,9 @@ impl Filter {
         out: &mut O,
         err: &mut E,
     ) -> Result<(), RunFault>
-        ensures stands { (options : OptionValues) (text : List ℕ) → StandsAt options self.old text
-            → OnOk result (StandsAt options self.new (text ++ piece.now)) }
-        ensures took { (options : OptionValues) (text : List ℕ) → StandsAt options self.old text
-            → OnOk result (TookPiece options
-            (O.took out.old out.new) (E.took err.old err.new) text piece.now) }
-        ensures stops { (options : OptionValues) (text : List ℕ) → StandsAt options self.old text
-            → IfErr result (StopsInPiece options
-            (O.took out.old out.new) (E.took err.old err.new) text piece.now) }
+        ensures feeds { (options : OptionValues) (text : List ℕ) → StandsAt options self.old text
+            → FeedsPiece options self.new (O.took out.old out.new) (E.took err.old err.new)
+            text piece.now result }
         ensures counts { self.old.is_spent ≡ false
             → CountsFault (O.failures out.old) (O.failures out.new)
             (E.failures err.old) (E.failures err.new) result }
@@ -131,20 +121,13 @@ impl Filter {
     /// `WriteOut` and `WriteMessages` say which sink failed, in that line or in its flush. A filter that was spent answers
     /// `Spent` and calls no sink.
     pub fn finish<O: Sink, E: Sink>(self, out: &mut O, err: &mut E) -> Result<Status, RunFault>
-        ensures status { (options : OptionValues) (text : List ℕ) → StandsAt options self text
-            → IfOk result (λ status. status ≡ status_of options (lines text)) }
-        ensures took { (options : OptionValues) (text : List ℕ) → StandsAt options self text
-            → OnOk result (TookLines options
-            (O.took out.old out.new) (E.took err.old err.new)
-            (length (ended_lines text)) (unless_empty (open_line text))) }
+        ensures ends { (options : OptionValues) (text : List ℕ) → StandsAt options self text
+            → EndsInput options (O.took out.old out.new) (E.took err.old err.new) text result }
         ensures flushed { OnOk result
             ((O.is_flushed out.new ≡ true) × (E.is_flushed err.new ≡ true)) }
         ensures order { IfErr result (FlushedImagesAtMost
             (O.is_flushed out.old) (O.is_flushed out.new)
             (E.is_flushed err.old) (E.is_flushed err.new)) }
-        ensures stops { (options : OptionValues) (text : List ℕ) → StandsAt options self text
-            → IfErr result (StopsInFinish options
-            (O.took out.old out.new) (E.took err.old err.new) text) }
         ensures counts { self.is_spent ≡ false
             → CountsFault (O.failures out.old) (O.failures out.new)
             (E.failures err.old) (E.failures err.new) result }

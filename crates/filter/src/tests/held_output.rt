@@ -1,7 +1,10 @@
 //! Output that is held back, over writers in memory.
-use crate::tests::support::{EAN8, joined, low};
+ghost use Rattle.std.specs.Prelude.{◌<◌};
+
+use crate::tests::support::{EAN8, joined, low, repeated};
 use crate::{RunFault, Status, run};
 use labelcore::{FailAt, Held, IoFault, MemSink, MemSource, Sink, Source, StdSink};
+use std::alloc::Global;
 use std::cell::RefCell;
 use std::io::{self, ErrorKind, Write};
 use std::process::Abort;
@@ -114,4 +117,56 @@ fn output_that_fails_as_it_is_sent_out_is_a_failed_write(rt: HostRuntime) {
     assert_eq!(rt; out.held(), EAN8);
     assert_eq!(rt; out.send_on(), Ok(()));
     assert_eq!(rt; out.sink().device().bytes(), EAN8);
+}
+
+/// Lines that are drawn and refused in turn, each of 13 or 6 bytes.
+const IN_TURN: &[u8] = b"ean8 7351353\npdf x\nean8 7351353\npdf x\nean8 7351353\n";
+
+/// The messages of the refused lines.
+const REFUSED_IN_TURN: &[u8] = b"line 2: unknown symbology\nline 4: unknown symbology\n";
+
+/// A run over the lines, `piece` bytes a read, whose held output fails to go out at this call, after so many labels and
+/// messages went out. What was held goes out after it.
+fn assert_sending_fails(
+    rt: &impl Abort,
+    alloc: Global,
+    piece: usize,
+    call: u64,
+    labels: usize,
+    messages: usize,
+) -> Result<(), Fail>
+    requires { 0 < piece }
+{
+    let mut source = MemSource::new(IN_TURN, piece, false);
+    let mut out = Held::new(FailAt::new(MemSink::<273>::new(273, 273), call));
+    let mut err: MemSink<52> = MemSink::new(52, 52);
+    let answer = run(low(rt, false), &mut source, &mut out, &mut err);
+    assert_eq!(rt; answer, Err(RunFault::WriteOut));
+    let before = repeated(alloc, EAN8, labels)?;
+    assert!(rt; out.sink().device().bytes() == before.as_slice());
+    assert_eq!(rt; out.held(), EAN8);
+    assert_eq!(rt; err.bytes().len(), 26usize.saturating_mul(messages));
+    assert!(rt; REFUSED_IN_TURN.starts_with(err.bytes()));
+    assert_eq!(rt; out.send_on(), Ok(()));
+    assert!(rt; out.sink().device().bytes().starts_with(before.as_slice()));
+    assert!(rt; out.sink().device().bytes().ends_with(EAN8));
+    Ok(())
+}
+
+#[test]
+fn each_sending_before_a_read_fails(rt: HostRuntime) -> Result<(), Fail> {
+    let alloc = rt.alloc();
+    // A byte a read: each label goes out before the read after its line.
+    assert_sending_fails(&rt, alloc, 1, 1, 0, 0)?;
+    assert_sending_fails(&rt, alloc, 1, 2, 1, 1)?;
+    assert_sending_fails(&rt, alloc, 1, 3, 2, 2)
+}
+
+#[test]
+fn each_sending_before_a_message_fails(rt: HostRuntime) -> Result<(), Fail> {
+    let alloc = rt.alloc();
+    // All lines in one read: a label goes out before the message after it, the last one before the next read.
+    assert_sending_fails(&rt, alloc, 4096, 1, 0, 0)?;
+    assert_sending_fails(&rt, alloc, 4096, 2, 1, 1)?;
+    assert_sending_fails(&rt, alloc, 4096, 3, 2, 2)
 }

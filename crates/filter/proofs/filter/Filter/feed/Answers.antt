@@ -15,8 +15,8 @@ loop-byte-init g c = record {
   err_count = refl;
 }
 
-pub returns-in_err-feed_byte-clause-stops : goal.returns-in_err-feed_byte-clause-stops
-returns-in_err-feed_byte-clause-stops g c options text at =
+pub returns-in_err-feed_byte-clause-feeds : goal.returns-in_err-feed_byte-clause-feeds
+returns-in_err-feed_byte-clause-feeds g c options text at =
     let p = err_from_is_err_and c.from_residual.result c.from_residual.ensures.1 in
     let h = c.loop-byte.invariant in
     let i = c.loop-byte.byte-index in
@@ -27,7 +27,7 @@ returns-in_err-feed_byte-clause-stops g c options text at =
     (ap (λ (bs : List ℕ). bs ++ drop (i + 1) piece) (sym more) ∙ take-append-drop (i + 1) piece)
     (StopsInPiece-longer options _ _ text (take i piece ++ byte ∷ []) (drop (i + 1) piece) _
     (StopsInPiece-append options g.O.Sink.took g.E.Sink.took g.met.O.Sink.took_joined g.met.E.Sink.took_joined c.args.out.now c.loop-byte.out c.feed_byte.new.out c.args.err.now c.loop-byte.err c.feed_byte.new.err
-    text (take i piece) (byte ∷ []) (h.took options text at) _ (c.in_err-feed_byte.ensures.stops options (text ++ take i piece) (h.stands options text at)))))
+    text (take i piece) (byte ∷ []) (h.took options text at) _ (c.in_err-feed_byte.ensures.feeds options (text ++ take i piece) (h.stands options text at)))))
 
 pub loop-byte-preserved : goal.loop-byte-preserved
 loop-byte-preserved g c =
@@ -37,9 +37,9 @@ loop-byte-preserved g c =
     let byte = get_or piece i 0 in
     let more = take_more piece i 0 c.loop-byte-test.true in
     record {
-      stands = λ options text at. rw more (subst (λ (bs : List ℕ). StandsAt options c.feed_byte.new.self bs) (append_assoc text (take i piece) (byte ∷ [])) (c.in_ok-feed_byte.ensures.stands options (text ++ take i piece) (h.stands options text at)));
+      stands = λ options text at. rw more (subst (λ (bs : List ℕ). StandsAt options c.feed_byte.new.self bs) (append_assoc text (take i piece) (byte ∷ [])) (c.in_ok-feed_byte.ensures.feeds options (text ++ take i piece) (h.stands options text at)).0);
       took = λ options text at. rw more (TookPiece-append options g.O.Sink.took g.E.Sink.took g.met.O.Sink.took_joined g.met.E.Sink.took_joined c.args.out.now c.loop-byte.out c.feed_byte.new.out c.args.err.now c.loop-byte.err c.feed_byte.new.err
-          text (take i piece) (byte ∷ []) (h.took options text at) (c.in_ok-feed_byte.ensures.took options (text ++ take i piece) (h.stands options text at)));
+          text (take i piece) (byte ∷ []) (h.took options text at) (c.in_ok-feed_byte.ensures.feeds options (text ++ take i piece) (h.stands options text at)).1);
       out_unflushed = λ e. h.out_unflushed (c.in_ok-feed_byte.ensures.unflushed.0 e);
       err_unflushed = λ e. h.err_unflushed (c.in_ok-feed_byte.ensures.unflushed.1 e);
       out_count = c.in_ok-feed_byte.ensures.counts.0 ∙ h.out_count;
