@@ -12,4 +12,5 @@ pub mod GroupLaws
 pub mod Modules
 pub mod PatternLaws
 pub mod Switching
+pub mod TableLaws
 pub mod Tables
