@@ -12,8 +12,8 @@ use Rattle.linear.specs.Ean.{pattern}
 use Rattle.linear.specs.TableLaws.{PatternsDiffer, WidthsDiffer, CharactersHaveElevenModules, bar_widths, BarsAreEven}
 use Rattle.linear.specs.EanReading.{digit_in}
 use Rattle.linear.specs.Code128.{listed_widths, widths_of}
-use Rattle.linear.specs.CharacterLaws.{sum-widths_of}
-use Rattle.linear.specs.PatternLaws.{passes_at, is_value, value_from_test, none_from_test, digit_in-pattern, digit_in_a-pattern_b}
+use Rattle.linear.proofs.CharacterLaws.{sum-widths_of}
+use Rattle.linear.proofs.PatternLaws.{passes_at, is_value, value_from_test, none_from_test, digit_in-pattern, digit_in_a-pattern_b}
 
 -- the number set and the digit of a pattern
 identified : List Bool → Option (NumberSet × ℕ)

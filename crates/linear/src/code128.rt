@@ -80,7 +80,7 @@ fn push_code128(row: &mut Row, data: &[u8])
 }
 
 /// Whether data can be a symbol: at most 80 bytes, all of them ASCII.
-#[tactic(auto, using(crate::specs::Code128Laws::all_ascii_from_None))]
+#[tactic(auto, using(crate::proofs::Code128Laws::all_ascii_from_None))]
 fn check_data(data: &[u8]) -> Result<(), Fault>
     ensures answer { MatchResult result (λ _. full_code128 «data».now ≡ Ok «data».now)
         (λ fault. full_code128 «data».now ≡ Err fault) }
@@ -111,15 +111,12 @@ pub struct Code128;
 impl Linear for Code128 {
     ghost use Rattle.linear.specs.Code128.{full_code128, code128_bars};
     ghost use Rattle.linear.specs.Code128Reading.{read_code128};
-    ghost use Rattle.linear.specs.Code128Laws.{code128_reads_back};
 
     ghost full_data = { full_code128 };
 
     ghost bars = { code128_bars };
 
     ghost reading = { read_code128 };
-
-    ghost reads_back = { code128_reads_back };
 
     ghost QUIET_LEFT = { 10 };
 

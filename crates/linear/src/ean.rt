@@ -98,15 +98,12 @@ impl Linear for Ean8 {
     ghost use Rattle.linear.specs.Digits.{full_digits};
     ghost use Rattle.linear.specs.Ean.{ean8_bars};
     ghost use Rattle.linear.specs.EanReading.{read_ean8};
-    ghost use Rattle.linear.specs.EanLaws.{ean8_reads_back};
 
     ghost full_data = { full_digits 7 };
 
     ghost bars = { ean8_bars };
 
     ghost reading = { read_ean8 };
-
-    ghost reads_back = { ean8_reads_back };
 
     ghost QUIET_LEFT = { 7 };
 
@@ -147,15 +144,12 @@ impl Linear for Ean13 {
     ghost use Rattle.linear.specs.Digits.{full_digits};
     ghost use Rattle.linear.specs.Ean.{ean13_bars};
     ghost use Rattle.linear.specs.EanReading.{read_ean13};
-    ghost use Rattle.linear.specs.EanLaws.{ean13_reads_back};
 
     ghost full_data = { full_digits 12 };
 
     ghost bars = { ean13_bars };
 
     ghost reading = { read_ean13 };
-
-    ghost reads_back = { ean13_reads_back };
 
     ghost QUIET_LEFT = { 11 };
 
@@ -183,15 +177,12 @@ impl Linear for UpcA {
     ghost use Rattle.linear.specs.Digits.{full_digits};
     ghost use Rattle.linear.specs.Ean.{upca_bars};
     ghost use Rattle.linear.specs.EanReading.{read_upca};
-    ghost use Rattle.linear.specs.EanLaws.{upca_reads_back};
 
     ghost full_data = { full_digits 11 };
 
     ghost bars = { upca_bars };
 
     ghost reading = { read_upca };
-
-    ghost reads_back = { upca_reads_back };
 
     ghost QUIET_LEFT = { 9 };
 
