@@ -1,5 +1,11 @@
-pub mod Code128Rows
-pub mod EanRows
+pub mod CharacterLaws
+pub mod Code128Laws
+pub mod DigitLaws
+pub mod EanLaws
+pub mod Examples
+pub mod GroupLaws
+pub mod PatternLaws
 pub mod SwitchingLemmas
+pub mod TableForms
 pub mod TableLemmas
 pub mod WrittenLemmas

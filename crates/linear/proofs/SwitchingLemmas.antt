@@ -3,7 +3,7 @@ use Rattle.std.proofs.Common.{◌≡◌, ℕ, ◌+◌, ◌%◌, ◌<◌, ◌≤�
 use Rattle.std.proofs.lemmas.Bool.{cases_lt, and_parts, true≢false}
 use Rattle.std.proofs.lemmas.Bool.Decides.{nat_tests}
 use Rattle.std.specs.Char.{is_ascii_digit}
-use Rattle.linear.specs.Code128Laws.{even_run, picked_has}
+use Rattle.linear.proofs.Code128Laws.{even_run, picked_has}
 use Rattle.linear.specs.Switching.{Step, to_set, is_long_run, character_step, step, Writes, done, stepped, ValuesAreWrittenBySteps}
 use Rattle.std.specs.Prelude.{◌&&◌, ◌||◌, slice_index}
 use Rattle.std.specs.List.{AllByRecursion}

@@ -5,15 +5,15 @@ use Rattle.std.specs.Option.{option_or}
 use Rattle.std.specs.Str.{bytes_eq}
 use Rattle.std.proofs.lemmas.Bool.{cases_lt}
 use Rattle.std.proofs.lemmas.Bool.Decides.{Decides-eqb}
-use Rattle.linear.specs.declared.tables.TheConstants.{WIDTHS}
+use Rattle.linear.specs.Tables.{character_widths}
 use Rattle.linear.specs.declared.ean.NumberSet.{NumberSet}
 use Rattle.linear.specs.declared.ean.NumberSet.TheVariants.{A, B, C}
 use Rattle.linear.specs.Ean.{pattern}
-use Rattle.linear.specs.Tables.{PatternsDiffer, WidthsDiffer, CharactersHaveElevenModules, bar_widths, BarsAreEven}
+use Rattle.linear.specs.TableLaws.{PatternsDiffer, WidthsDiffer, CharactersHaveElevenModules, bar_widths, BarsAreEven}
 use Rattle.linear.specs.EanReading.{digit_in}
-use Rattle.linear.specs.Code128.{widths_of}
-use Rattle.linear.specs.CharacterLaws.{sum-widths_of}
-use Rattle.linear.specs.PatternLaws.{passes_at, is_value, value_from_test, none_from_test, digit_in-pattern, digit_in_a-pattern_b}
+use Rattle.linear.specs.Code128.{listed_widths, widths_of}
+use Rattle.linear.proofs.CharacterLaws.{sum-widths_of}
+use Rattle.linear.proofs.PatternLaws.{passes_at, is_value, value_from_test, none_from_test, digit_in-pattern, digit_in_a-pattern_b}
 
 -- the number set and the digit of a pattern
 identified : List Bool → Option (NumberSet × ℕ)
@@ -41,7 +41,7 @@ patterns_differ set other digit second h k e =
     (ap (λ (p : NumberSet × ℕ). p.0) pair, (let n : 48 + digit ≡ 48 + second = ap (λ (p : NumberSet × ℕ). p.1) pair in omega arith))
 
 value_of : List ℕ → Option ℕ
-value_of widths = position (λ row. bytes_eq row widths) WIDTHS
+value_of widths = position (λ text. bytes_eq (listed_widths text) widths) character_widths
 
 value_of-widths : (value : ℕ) → value < 106 → value_of (widths_of value) ≡ Some value
 unfolding value_of

@@ -1,8 +1,9 @@
 -- The data and the rows of Code 128 symbols (ISO/IEC 15417, symbol structure and check character).
-use Rattle.std.specs.Prelude.{ℕ, ◌+◌, ◌*◌, ◌%◌, nat_le, if◌then◌else◌, Bool, true, not, Option, Some, None, Result, Ok, Err, List, [], ◌∷◌, ◌++◌, length, replicate, position, flat_map, slice_index_or}
+use Rattle.std.specs.Prelude.{ℕ, ◌+◌, ◌*◌, ◌%◌, nat_le, if◌then◌else◌, Bool, true, not, Option, Some, None, Result, Ok, Err, List, [], ◌∷◌, ◌++◌, length, map, replicate, position, flat_map, slice_index_or}
 use Rattle.labelcore.specs.declared.fault.Fault.{Fault}
 use Rattle.labelcore.specs.declared.fault.Fault.TheVariants.{DataTooLong, NotAscii}
-use Rattle.linear.specs.declared.tables.TheConstants.{WIDTHS, STOP_WIDTHS}
+use Rattle.linear.specs.Digits.{digit_value}
+use Rattle.linear.specs.Tables.{character_widths, stop_widths}
 use Rattle.linear.specs.CodeSets.{start_value, start_set, written}
 
 -- the data itself, or the refusal of its first byte that is not ASCII
@@ -28,9 +29,13 @@ abbrev pub bars_and_spaces : Bool → List ℕ → List Bool
 bars_and_spaces dark [] = []
 bars_and_spaces dark (width ∷ widths) = replicate width dark ++ bars_and_spaces (not dark) widths
 
--- the modules of a value; 106 is the stop character
+-- the widths that a text as `212222` lists
+abbrev pub listed_widths : List ℕ → List ℕ
+listed_widths text = map digit_value text
+
+-- the widths of a value's bars and spaces; 106 is the stop character
 abbrev pub widths_of : ℕ → List ℕ
-widths_of value = slice_index_or WIDTHS value STOP_WIDTHS
+widths_of value = listed_widths (slice_index_or character_widths value stop_widths)
 
 -- the modules of a symbol character, from its widths
 abbrev pub character_bars : ℕ → List Bool

@@ -4,9 +4,9 @@ use Rattle.std.specs.Bool.{beq}
 use Rattle.std.specs.Str.{bytes_eq}
 use Rattle.linear.specs.declared.switching.CodeSet.{CodeSet}
 use Rattle.linear.specs.declared.switching.CodeSet.TheVariants.{A, B, C}
-use Rattle.linear.specs.declared.tables.TheConstants.{WIDTHS, STOP_WIDTHS}
+use Rattle.linear.specs.Tables.{character_widths}
 use Rattle.linear.specs.Modules.{groups, each_found}
-use Rattle.linear.specs.Code128.{check_value}
+use Rattle.linear.specs.Code128.{listed_widths, widths_of, check_value}
 
 -- one module more in the first run
 abbrev pub longer_first : List ℕ → List ℕ
@@ -27,11 +27,11 @@ is_dark_first (first ∷ rest) = first
 -- the value whose widths a group has, a bar first
 abbrev pub group_value : List Bool → Option ℕ
 group_value group =
-    if is_dark_first group then position (λ widths. bytes_eq widths (run_lengths group)) WIDTHS else None
+    if is_dark_first group then position (λ text. bytes_eq (listed_widths text) (run_lengths group)) character_widths else None
 
 -- whether the modules are the stop pattern
 abbrev pub is_stop : List Bool → Bool
-is_stop group = is_dark_first group && bytes_eq STOP_WIDTHS (run_lengths group)
+is_stop group = is_dark_first group && bytes_eq (widths_of 106) (run_lengths group)
 
 -- what a value stands for: text, a change of set that lasts, a shift of the next character alone to the other of A and B, or
 -- nothing that may stand between the start and the check value

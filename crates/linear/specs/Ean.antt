@@ -1,14 +1,14 @@
 -- The rows of EAN and UPC symbols (ISO/IEC 15420, symbol characters, guard patterns and symbol formats).
-use Rattle.std.specs.Prelude.{ℕ, Bool, List, [], ◌∷◌, ◌++◌, map, reverse, not, take, drop, replicate, slice_index_or, flat_map, codes}
-use Rattle.linear.specs.declared.tables.TheConstants.{NUMBER_SET_A, LEFT_SETS}
+use Rattle.std.specs.Prelude.{ℕ, Bool, List, [], ◌∷◌, ◌++◌, map, reverse, not, take, drop, replicate, slice_index_or, flat_map, codes, ◌==◌, if◌then◌else◌}
 use Rattle.linear.specs.declared.ean.NumberSet.{NumberSet}
 use Rattle.linear.specs.declared.ean.NumberSet.TheVariants.{A, B, C}
 use Rattle.linear.specs.Digits.{digit_value}
 use Rattle.linear.specs.Modules.{modules}
+use Rattle.linear.specs.Tables.{number_set_a, left_half_sets}
 
 -- a digit's modules in number set A
 abbrev pub pattern_a : ℕ → List Bool
-pattern_a digit = modules (slice_index_or NUMBER_SET_A digit [])
+pattern_a digit = modules (slice_index_or number_set_a digit [])
 
 -- a digit's modules in a number set: set C is the complement of A, and set B is C read backwards
 abbrev pub pattern : NumberSet → ℕ → List Bool
@@ -39,9 +39,13 @@ symbol sets left right =
 abbrev pub ean8_bars : List ℕ → List Bool
 ean8_bars full = symbol (replicate 4 A) (take 4 full) (drop 4 full)
 
+-- the number set of a letter of the table: 65 is `A`, 66 is `B`
+abbrev pub set_of_letter : ℕ → NumberSet
+set_of_letter letter = if letter == 65 then A else if letter == 66 then B else C
+
 -- the number sets of the left half of an EAN-13 symbol, by its first digit
 abbrev pub left_sets : ℕ → List NumberSet
-left_sets digit = slice_index_or LEFT_SETS digit []
+left_sets digit = map set_of_letter (slice_index_or left_half_sets digit [])
 
 -- EAN-13: the first digit picks the sets of the next six, and the last six are in set C
 abbrev pub ean13_bars : List ℕ → List Bool

@@ -20,7 +20,7 @@ is_framed half row =
     && same_modules (take 5 (drop (3 + 7 * half) row)) centre_guard
     && same_modules (drop (8 + 14 * half) row) normal_guard
 
--- the groups of seven modules of the two halves
+-- the groups of seven modules of the left half
 abbrev pub left_groups : ℕ → List Bool → List (List Bool)
 left_groups half row = groups 7 half (drop 3 row)
 

@@ -1,15 +1,10 @@
-pub mod CharacterLaws
 pub mod Code128
-pub mod Code128Laws
 pub mod Code128Reading
 pub mod CodeSets
-pub mod DigitLaws
 pub mod Digits
 pub mod Ean
-pub mod EanLaws
 pub mod EanReading
-pub mod GroupLaws
 pub mod Modules
-pub mod PatternLaws
 pub mod Switching
+pub mod TableLaws
 pub mod Tables

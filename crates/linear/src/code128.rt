@@ -1,12 +1,12 @@
 //! Code 128 symbols (ISO/IEC 15417).
-ghost use Rattle.std.specs.Prelude.{◌≡◌, [], ◌+◌, ◌*◌, ◌≤◌, ◌<◌, ◌++◌, All, Ok, Err, OnOk, MatchResult, length, sum, flat_map, position, nat_le, true};
+ghost use Rattle.std.specs.Prelude.{◌≡◌, [], ◌+◌, ◌*◌, ◌≤◌, ◌<◌, ◌++◌, All, Ok, Err, OnOk, MatchResult, length, flat_map, position, nat_le};
 ghost use Rattle.arrayvec.specs.ArrayVec.{array_vec_len};
-ghost use Rattle.linear.specs.Code128.{check_value, bars_and_spaces, widths_of, character_bars, full_code128, code128_bars};
+ghost use Rattle.linear.specs.Code128.{check_value, character_bars, full_code128, code128_bars};
 
 use crate::linear::Linear;
-use crate::row::{Row, push_run};
+use crate::row::{Row, push_modules};
 use crate::switching::{start_set, start_value, written};
-use crate::tables::{STOP_WIDTHS, WIDTHS};
+use crate::tables::{CHARACTERS, STOP};
 use labelcore::Fault;
 
 /// The check value of a start value and the values after it.
@@ -23,26 +23,12 @@ fn check_value(start: u8, values: &[u8]) -> u8
     (sum % 103) as u8
 }
 
-/// Appends bars and spaces of these widths in turn.
-fn push_widths(row: &mut Row, widths: &[u8])
-    requires { array_vec_len row.old + sum widths.now ≤ 1795 }
-    ensures drawn { row.new.items ≡ row.old.items ++ bars_and_spaces true widths.now }
-    ensures len { array_vec_len row.new ≡ array_vec_len row.old + sum widths.now }
-{
-    let mut dark = true;
-    for width in widths {
-        push_run(row, dark, *width);
-        dark = !dark;
-    }
-}
-
-/// The widths of a character, bar first: eleven modules.
-fn widths(value: u8) -> [u8; 6]
+/// The modules of a value before the stop character.
+fn modules_of(value: u8) -> [bool; 11]
     requires { value < 106 }
-    ensures widths { result ≡ widths_of value }
-    ensures sum { sum result ≡ 11 }
+    ensures { result ≡ character_bars value }
 {
-    WIDTHS[usize::from(value)]
+    CHARACTERS[usize::from(value)]
 }
 
 /// Appends the character of a value.
@@ -52,7 +38,7 @@ fn push_character(row: &mut Row, value: u8)
     ensures drawn { row.new.items ≡ row.old.items ++ character_bars value }
     ensures len { array_vec_len row.new ≡ array_vec_len row.old + 11 }
 {
-    push_widths(row, &widths(value));
+    push_modules(row, &modules_of(value));
 }
 
 /// Appends the characters of values.
@@ -65,6 +51,15 @@ fn push_characters(row: &mut Row, values: &[u8])
     for value in values {
         push_character(row, *value);
     }
+}
+
+/// Appends the stop character.
+fn push_stop(row: &mut Row)
+    requires { array_vec_len row.old + 13 ≤ 1795 }
+    ensures drawn { row.new.items ≡ row.old.items ++ character_bars 106 }
+    ensures len { array_vec_len row.new ≡ array_vec_len row.old + 13 }
+{
+    push_modules(row, &STOP);
 }
 
 /// Appends the symbol of data: start, values, check value and stop.
@@ -81,11 +76,11 @@ fn push_code128(row: &mut Row, data: &[u8])
     push_character(row, start);
     push_characters(row, &values);
     push_character(row, check_value(start, &values));
-    push_widths(row, &STOP_WIDTHS);
+    push_stop(row);
 }
 
 /// Whether data can be a symbol: at most 80 bytes, all of them ASCII.
-#[tactic(auto, using(crate::specs::Code128Laws::all_ascii_from_None))]
+#[tactic(auto, using(crate::proofs::Code128Laws::all_ascii_from_None))]
 fn check_data(data: &[u8]) -> Result<(), Fault>
     ensures answer { MatchResult result (λ _. full_code128 «data».now ≡ Ok «data».now)
         (λ fault. full_code128 «data».now ≡ Err fault) }
@@ -116,15 +111,12 @@ pub struct Code128;
 impl Linear for Code128 {
     ghost use Rattle.linear.specs.Code128.{full_code128, code128_bars};
     ghost use Rattle.linear.specs.Code128Reading.{read_code128};
-    ghost use Rattle.linear.specs.Code128Laws.{code128_reads_back};
 
     ghost full_data = { full_code128 };
 
     ghost bars = { code128_bars };
 
     ghost reading = { read_code128 };
-
-    ghost reads_back = { code128_reads_back };
 
     ghost QUIET_LEFT = { 10 };
 

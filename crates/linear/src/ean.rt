@@ -7,8 +7,8 @@ ghost use Rattle.linear.specs.Ean.{pattern, patterns, symbol, ean13_bars};
 
 use crate::digits::full_digits;
 use crate::linear::Linear;
-use crate::row::{Row, push_complement, push_modules};
-use crate::tables::{LEFT_SETS, NUMBER_SET_A};
+use crate::row::{Row, push_modules};
+use crate::tables::{CENTRE_GUARD, LEFT_SETS, NORMAL_GUARD, SET_A, SET_B, SET_C};
 use labelcore::Fault;
 
 /// A number set: each digit has a pattern of seven modules in each of the three.
@@ -19,6 +19,19 @@ pub enum NumberSet {
     C,
 }
 
+/// The modules of a digit in a number set.
+fn modules_of(set: NumberSet, digit: u8) -> [bool; 7]
+    requires digit { digit < 10 }
+    ensures { result ≡ pattern set digit }
+{
+    let index = usize::from(digit);
+    match set {
+        NumberSet::A => SET_A[index],
+        NumberSet::B => SET_B[index],
+        NumberSet::C => SET_C[index],
+    }
+}
+
 /// Appends a digit in a number set.
 fn push_digit(row: &mut Row, set: NumberSet, digit: u8)
     requires digit { digit < 10 }
@@ -26,15 +39,7 @@ fn push_digit(row: &mut Row, set: NumberSet, digit: u8)
     ensures drawn { row.new.items ≡ row.old.items ++ pattern set digit }
     ensures len { array_vec_len row.new ≡ array_vec_len row.old + 7 }
 {
-    let mut text = NUMBER_SET_A[usize::from(digit)];
-    match set {
-        NumberSet::A => push_modules(row, &text),
-        NumberSet::B => {
-            text.reverse();
-            push_complement(row, &text)
-        }
-        NumberSet::C => push_complement(row, &text),
-    }
+    push_modules(row, &modules_of(set, digit));
 }
 
 /// Appends digits, each in its number set.
@@ -76,11 +81,11 @@ fn push_symbol(row: &mut Row, sets: &[NumberSet], left: &[u8], right: &[u8])
     ensures drawn { row.new.items ≡ row.old.items ++ symbol sets.now left.now right.now }
     ensures len { array_vec_len row.new ≤ array_vec_len row.old + 95 }
 {
-    push_modules(row, b"101");
+    push_modules(row, &NORMAL_GUARD);
     push_left(row, sets, left);
-    push_modules(row, b"01010");
+    push_modules(row, &CENTRE_GUARD);
     push_right(row, right);
-    push_modules(row, b"101");
+    push_modules(row, &NORMAL_GUARD);
 }
 
 /// EAN-8 (ISO/IEC 15420): seven digits, or eight that end in the right check digit, as a row of 67 modules.
@@ -93,15 +98,12 @@ impl Linear for Ean8 {
     ghost use Rattle.linear.specs.Digits.{full_digits};
     ghost use Rattle.linear.specs.Ean.{ean8_bars};
     ghost use Rattle.linear.specs.EanReading.{read_ean8};
-    ghost use Rattle.linear.specs.EanLaws.{ean8_reads_back};
 
     ghost full_data = { full_digits 7 };
 
     ghost bars = { ean8_bars };
 
     ghost reading = { read_ean8 };
-
-    ghost reads_back = { ean8_reads_back };
 
     ghost QUIET_LEFT = { 7 };
 
@@ -142,15 +144,12 @@ impl Linear for Ean13 {
     ghost use Rattle.linear.specs.Digits.{full_digits};
     ghost use Rattle.linear.specs.Ean.{ean13_bars};
     ghost use Rattle.linear.specs.EanReading.{read_ean13};
-    ghost use Rattle.linear.specs.EanLaws.{ean13_reads_back};
 
     ghost full_data = { full_digits 12 };
 
     ghost bars = { ean13_bars };
 
     ghost reading = { read_ean13 };
-
-    ghost reads_back = { ean13_reads_back };
 
     ghost QUIET_LEFT = { 11 };
 
@@ -178,15 +177,12 @@ impl Linear for UpcA {
     ghost use Rattle.linear.specs.Digits.{full_digits};
     ghost use Rattle.linear.specs.Ean.{upca_bars};
     ghost use Rattle.linear.specs.EanReading.{read_upca};
-    ghost use Rattle.linear.specs.EanLaws.{upca_reads_back};
 
     ghost full_data = { full_digits 11 };
 
     ghost bars = { upca_bars };
 
     ghost reading = { read_upca };
-
-    ghost reads_back = { upca_reads_back };
 
     ghost QUIET_LEFT = { 9 };
 

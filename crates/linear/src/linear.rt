@@ -32,10 +32,7 @@ pub trait Linear {
         ensures accepted { IsOk result ↔ IsOk (full_data «data».now) }
         ensures drawn { IfOk (full_data «data».now) (λ full. row.new.items ≡ bars full) }
         ensures fits { IfOk (full_data «data».now) (λ full. length (bars full) ≤ 1795) }
+        ensures read { IfOk (full_data «data».now) (λ full. reading (bars full) ≡ Some full) }
         ensures refused { IfErr (full_data «data».now) (λ fault. result ≡ Err fault) }
         ensures empty { OnErr result (row.new.items ≡ []) };
-
-    /// What is drawn is read back as the full data.
-    ghost reads_back: { (bytes full : List ℕ) → full_data bytes ≡ Ok full
-        → reading (bars full) ≡ Some full };
 }

@@ -126,7 +126,10 @@ fn character_value(set: CodeSet, byte: u8) -> u8
     requires has { IsTrue (has_character set byte) }
     ensures { result ≡ character_value set byte }
 {
-    if byte < 32 { byte + 64 } else { byte - 32 }
+    match set {
+        CodeSet::A if byte < 32 => byte + 64,
+        _ => byte - 32,
+    }
 }
 
 /// Appends the value of two digits, after a change to set C where another one holds.
@@ -144,32 +147,28 @@ fn push_pair(values: &mut Values, set: CodeSet, first: u8, second: u8)
 }
 
 /// Appends the values of a byte after a change to a set that has it.
-fn push_changed(values: &mut Values, set: CodeSet, byte: u8) -> CodeSet
+fn push_changed(values: &mut Values, set: CodeSet, byte: u8)
     requires ascii { byte < 128 }
     requires has { IsTrue (has_character set byte) }
     requires room { array_vec_len values.old + 2 ≤ 160 }
     ensures items { values.new.items ≡ values.old.items ++ (changed_to set byte).values }
-    ensures set { result ≡ set }
     ensures len { array_vec_len values.new ≤ array_vec_len values.old + 2 }
 {
     values.push(change_value(set));
     values.push(character_value(set, byte));
-    set
 }
 
-/// Appends a shift and the value of a byte in the set that it stands for. The set that holds stays.
-fn push_shifted(values: &mut Values, set: CodeSet, shifted: CodeSet, byte: u8) -> CodeSet
+/// Appends a shift and the value of a byte in the set that it stands for.
+fn push_shifted(values: &mut Values, shifted: CodeSet, byte: u8)
     requires ascii { byte < 128 }
     requires has { IsTrue (has_character shifted byte) }
     requires room { array_vec_len values.old + 2 ≤ 160 }
     ensures items { values.new.items
         ≡ values.old.items ++ shift_value ∷ character_value shifted byte ∷ [] }
-    ensures set { result ≡ set }
     ensures len { array_vec_len values.new ≤ array_vec_len values.old + 2 }
 {
     values.push(SHIFT);
     values.push(character_value(shifted, byte));
-    set
 }
 
 /// Appends the values of a byte before `rest`, and gives the set that holds after them.
@@ -184,13 +183,21 @@ fn push_byte(values: &mut Values, set: CodeSet, byte: u8, rest: &[u8]) -> CodeSe
         values.push(character_value(set, byte));
         return set;
     }
-    match set {
-        CodeSet::A if is_control_next(rest) => push_shifted(values, set, CodeSet::B, byte),
-        CodeSet::A => push_changed(values, CodeSet::B, byte),
-        CodeSet::B if is_lower_next(rest) => push_shifted(values, set, CodeSet::A, byte),
-        CodeSet::B => push_changed(values, CodeSet::A, byte),
-        CodeSet::C => push_changed(values, picked_set_of(byte, rest), byte),
-    }
+    let next = match set {
+        CodeSet::A if is_control_next(rest) => {
+            push_shifted(values, CodeSet::B, byte);
+            return set;
+        }
+        CodeSet::A => CodeSet::B,
+        CodeSet::B if is_lower_next(rest) => {
+            push_shifted(values, CodeSet::A, byte);
+            return set;
+        }
+        CodeSet::B => CodeSet::A,
+        CodeSet::C => picked_set_of(byte, rest),
+    };
+    push_changed(values, next, byte);
+    next
 }
 
 /// The set to change to from C for a byte before `rest`.

@@ -1,6 +1,8 @@
 //! Worked rows, and each public call once.
 ghost use Rattle.std.specs.Prelude.{◌≢◌, []};
 
+mod listings;
+
 use crate::*;
 use labelcore::Fault;
 use std::process::Abort;

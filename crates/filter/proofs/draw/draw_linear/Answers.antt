@@ -8,7 +8,7 @@ returns-in_err-write_picture-clause-read g c =
     (rw c.height.ensures.value at c.height.ensures.low) (rw c.height.ensures.value at c.height.ensures.high) c.requires.reading c.requires.none
     (λ full e.
     let drawn : c.encode.new.row.items ≡ g.L.Linear.bars full = rw e at c.encode.ensures.drawn in
-    (omega (arith, ap length drawn, ap length c.as_slice.ensures.value, c.as_slice.ensures.fits), g.met.L.Linear.reads_back c.args.bytes.now full e))
+    (omega (arith, ap length drawn, ap length c.as_slice.ensures.value, c.as_slice.ensures.fits), rw e at c.encode.ensures.read))
 
 pub returns-clause-read : goal.returns-clause-read
 returns-clause-read g c =
@@ -16,4 +16,4 @@ returns-clause-read g c =
     (rw c.height.ensures.value at c.height.ensures.low) (rw c.height.ensures.value at c.height.ensures.high) c.requires.reading c.requires.none
     (λ full e.
     let drawn : c.encode.new.row.items ≡ g.L.Linear.bars full = rw e at c.encode.ensures.drawn in
-    (omega (arith, ap length drawn, ap length c.as_slice.ensures.value, c.as_slice.ensures.fits), g.met.L.Linear.reads_back c.args.bytes.now full e))
+    (omega (arith, ap length drawn, ap length c.as_slice.ensures.value, c.as_slice.ensures.fits), rw e at c.encode.ensures.read))

@@ -1,7 +1,7 @@
 use Rattle.std.proofs.Common.{◌≡◌, ◌+◌, ◌-◌, ◌++◌, ℕ, List, length, take, drop, get_or, sym, ap, ◌∙◌, append_assoc, append-nil, [], subst, ◌<◌, All, arith}
 use Rattle.std.proofs.lemmas.List.{take_all, drop_all, length-drop}
 use Rattle.std.proofs.lemmas.List.Elements.{All-from_recursion, recursion_from_All}
-use Rattle.linear.specs.Code128Laws.{written_characters}
+use Rattle.linear.proofs.Code128Laws.{written_characters}
 use Rattle.linear.specs.declared.switching.CodeSet.TheVariants.{C}
 use Rattle.linear.specs.CodeSets.{is_pair_next, pair_values, byte_written, written}
 use Rattle.linear.proofs.WrittenLemmas.{pair_at, byte_at}

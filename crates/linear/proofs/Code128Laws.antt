@@ -1,12 +1,12 @@
 -- What is drawn as Code 128 is read back (ISO/IEC 15417, symbol structure).
 use Rattle.std.proofs.Common.{◌≡◌, ℕ, ◌+◌, ◌-◌, ◌*◌, ◌/◌, ◌%◌, ◌<◌, ◌≤◌, ◌⊎◌, Bool, true, false, cond, Ok, Err, Some, None, Option, List, [], ◌∷◌, ◌++◌, ◌&&◌, length, take, drop, eqb, ltb, leb, refl, sym, ap, subst, ◌∙◌, arith, length-append, append_assoc, append-nil, eq-eqb, lt-ltb, le-ltb, le-leb, inl, inr, lit<}
-use Rattle.std.specs.Prelude.{option_map, option_and_then, flat_map, slice_index, get_or, position, All}
+use Rattle.std.specs.Prelude.{option_map, option_and_then, flat_map, slice_index, get_or, position, All, IfOk}
 use Rattle.std.specs.Char.{IsAsciiDigit, is_ascii_digit}
 use Rattle.std.specs.List.{AllByRecursion, prefix_len}
 use Rattle.std.proofs.lemmas.List.{get_or-append_right}
 use Rattle.std.proofs.lemmas.List.Elements.{recursion_from_All}
 use Rattle.labelcore.specs.declared.fault.Fault.TheVariants.{NotAscii}
-use Rattle.linear.specs.DigitLaws.{chosen, fails_from_None}
+use Rattle.linear.proofs.DigitLaws.{IfOk-from_each, chosen, fails_from_None}
 use Rattle.std.proofs.lemmas.Bool.{cases_lt}
 use Rattle.std.proofs.lemmas.Bool.Decides.{nat_tests}
 use Rattle.linear.specs.declared.switching.CodeSet.{CodeSet}
@@ -15,8 +15,8 @@ use Rattle.linear.specs.CodeSets.{character_value, pair_value, change_value, shi
 use Rattle.linear.specs.Code128.{character_bars, check_value, with_check, unless_not_ascii, full_code128, code128_bars}
 use Rattle.linear.specs.Code128Reading.{Meaning, meaning, other_set, read_values, group_value, is_stop, group_count, symbol_data, checked_values, started_set, read_code128}
 use Rattle.linear.specs.Modules.{groups, each_found}
-use Rattle.linear.specs.GroupLaws.{take-append, drop-append}
-use Rattle.linear.specs.CharacterLaws.{length-character_bars, group_value-character_bars}
+use Rattle.linear.proofs.GroupLaws.{take-append, drop-append}
+use Rattle.linear.proofs.CharacterLaws.{length-character_bars, group_value-character_bars}
 
 -- a character of set A stands for its byte
 meaning-a : (byte : ℕ) → byte < 96 → meaning A (character_value A byte) ≡ Meaning.text (byte ∷ [])
@@ -269,8 +269,8 @@ all_ascii_from_None bytes h = (λ k d lt. let e : leb 128 (get_or bytes k d) ≡
 ascii_from_None : (bytes : List ℕ) → position (λ byte. leb 128 byte) bytes ≡ None → AllByRecursion (λ byte. byte < 128) bytes
 ascii_from_None bytes h = recursion_from_All (λ byte. byte < 128) bytes (all_ascii_from_None bytes h)
 
-pub code128_reads_back : (bytes full : List ℕ) → full_code128 bytes ≡ Ok full → read_code128 (code128_bars full) ≡ Some full
-code128_reads_back bytes full h =
+code128_full : (bytes full : List ℕ) → full_code128 bytes ≡ Ok full → read_code128 (code128_bars full) ≡ Some full
+code128_full bytes full h =
     elim (chosen (leb (length bytes) 80) _ _ _ h) [
       | inl p ↦
           let parts = ascii_full (position (λ byte. leb 128 byte) bytes) bytes full p.1 in
@@ -278,3 +278,7 @@ code128_reads_back bytes full h =
           subst P parts.1 (code128_read bytes (ascii_from_None bytes parts.0))
       | inr p ↦ absurd (let e = p.1 in cc)
     ]
+
+-- what is drawn of data that is full is read back
+pub code128_read_back : (bytes : List ℕ) → IfOk (full_code128 bytes) (λ full. read_code128 (code128_bars full) ≡ Some full)
+code128_read_back bytes = IfOk-from_each (full_code128 bytes) _ (code128_full bytes)

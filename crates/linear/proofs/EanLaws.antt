@@ -1,6 +1,6 @@
 -- What is drawn as EAN or UPC is read back (ISO/IEC 15420, symbol formats).
 use Rattle.std.proofs.Common.{◌≡◌, ℕ, ◌+◌, ◌-◌, ◌*◌, ◌<◌, Bool, true, cond, Ok, Some, None, Option, List, [], ◌∷◌, ◌++◌, length, take, drop, refl, sym, ap, subst, ◌∙◌, arith, length-append, append_assoc, eq-eqb, inl, inr, map, ◌%◌, lit≤}
-use Rattle.std.specs.Prelude.{option_map, option_and_then, flat_map, replicate, slice_index, All}
+use Rattle.std.specs.Prelude.{option_map, option_and_then, flat_map, replicate, slice_index, All, IfOk}
 use Rattle.std.specs.Option.{option_zip}
 use Rattle.std.specs.Char.{IsAsciiDigit}
 use Rattle.std.specs.List.{AllByRecursion}
@@ -10,11 +10,11 @@ use Rattle.linear.specs.Digits.{digit_value, weighted_sum, full_digits, check_di
 use Rattle.linear.specs.Modules.{groups, each_found}
 use Rattle.linear.specs.Ean.{pattern, patterns, normal_guard, centre_guard, symbol, left_sets, ean8_bars, ean13_bars, upca_bars}
 use Rattle.linear.specs.EanReading.{digit_in, is_framed, left_groups, right_groups, read_halves, checked_digits, digit_in_a_or_b, first_digit, with_first_digit, without_zero, read_ean8, read_ean13, read_upca}
-use Rattle.linear.specs.PatternLaws.{length-pattern, digit_in-pattern, digit_in_a_or_b-pattern_a, digit_in_a_or_b-pattern_b, length-left_sets, first_digit-left_sets, IsAOrB, left_sets_a_or_b}
-use Rattle.linear.specs.DigitLaws.{IsFull, full_from_Ok}
+use Rattle.linear.proofs.PatternLaws.{length-pattern, digit_in-pattern, digit_in_a_or_b-pattern_a, digit_in_a_or_b-pattern_b, length-left_sets, first_digit-left_sets, IsAOrB, left_sets_a_or_b}
+use Rattle.linear.proofs.DigitLaws.{IfOk-from_each, IsFull, full_from_Ok}
 use Rattle.std.proofs.lemmas.List.{get_or-append_right, length-take-le, length-drop, take-append-drop}
 use Rattle.std.proofs.lemmas.List.Elements.{All-append, All-take, All-drop, All-from_recursion, recursion_from_All}
-use Rattle.linear.specs.GroupLaws.{take-append, drop-append, drop-append_more}
+use Rattle.linear.proofs.GroupLaws.{take-append, drop-append, drop-append_more}
 
 -- digits in number set C
 abbrev pub right_half : List ℕ → List Bool
@@ -165,8 +165,9 @@ ean8_full full f =
     ap (λ xs. xs ++ drop 4 full) (zipped_bytes sets (take 4 full) (sym long_left)) ∙ take-append-drop 4 full in
     ap (λ o. option_and_then (λ (halves : List ℕ × List ℕ). checked_digits (halves.0 ++ halves.1)) o) halves ∙ ap checked_digits whole ∙ full_checked 7 full f
 
-pub ean8_reads_back : (bytes full : List ℕ) → full_digits 7 bytes ≡ Ok full → read_ean8 (ean8_bars full) ≡ Some full
-ean8_reads_back bytes full h = ean8_full full (full_from_Ok 7 bytes full h)
+-- what is drawn of data that is full is read back
+pub ean8_read_back : (bytes : List ℕ) → IfOk (full_digits 7 bytes) (λ full. read_ean8 (ean8_bars full) ≡ Some full)
+ean8_read_back bytes = IfOk-from_each (full_digits 7 bytes) _ (λ full h. ean8_full full (full_from_Ok 7 bytes full h))
 
 -- EAN-13
 in_a_or_b : (set : NumberSet) (byte : ℕ) → IsAOrB set → IsAsciiDigit byte → digit_in_a_or_b (pattern set (digit_value byte)) ≡ Some (set, byte)
@@ -209,8 +210,8 @@ ean13_full (first ∷ rest) f =
     ∙ ap (λ o. option_and_then checked_digits (option_map (λ x. x ∷ (map (λ (found : NumberSet × ℕ). found.1) (zipped (λ set byte. (set, byte)) sets (take 6 rest)) ++ drop 6 rest)) o)) found
     ∙ ap (λ xs. checked_digits (first ∷ xs)) digits ∙ full_checked 12 (first ∷ rest) f
 
-pub ean13_reads_back : (bytes full : List ℕ) → full_digits 12 bytes ≡ Ok full → read_ean13 (ean13_bars full) ≡ Some full
-ean13_reads_back bytes full h = ean13_full full (full_from_Ok 12 bytes full h)
+pub ean13_read_back : (bytes : List ℕ) → IfOk (full_digits 12 bytes) (λ full. read_ean13 (ean13_bars full) ≡ Some full)
+ean13_read_back bytes = IfOk-from_each (full_digits 12 bytes) _ (λ full h. ean13_full full (full_from_Ok 12 bytes full h))
 
 -- UPC-A: a 0 before the digits leaves their check digit
 with_zero : (full : List ℕ) → IsFull 11 full → IsFull 12 (48 ∷ full)
@@ -224,5 +225,5 @@ with_zero full f = record {
   right = f.right ∙ (let e : weighted_sum (48 ∷ f.digits) ≡ weighted_sum f.digits = omega arith in ap (λ s. (10 - s % 10) % 10) (sym e));
 }
 
-pub upca_reads_back : (bytes full : List ℕ) → full_digits 11 bytes ≡ Ok full → read_upca (upca_bars full) ≡ Some full
-upca_reads_back bytes full h = ap (λ o. option_and_then without_zero o) (ean13_full (48 ∷ full) (with_zero full (full_from_Ok 11 bytes full h)))
+pub upca_read_back : (bytes : List ℕ) → IfOk (full_digits 11 bytes) (λ full. read_upca (upca_bars full) ≡ Some full)
+upca_read_back bytes = IfOk-from_each (full_digits 11 bytes) _ (λ full h. ap (λ o. option_and_then without_zero o) (ean13_full (48 ∷ full) (with_zero full (full_from_Ok 11 bytes full h))))

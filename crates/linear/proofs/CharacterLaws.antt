@@ -4,7 +4,7 @@ use Rattle.std.specs.Prelude.{sum}
 use Rattle.std.proofs.lemmas.Bool.Decides.{Decides-eqb}
 use Rattle.linear.specs.Code128.{widths_of, character_bars}
 use Rattle.linear.specs.Code128Reading.{group_value}
-use Rattle.linear.specs.PatternLaws.{passes_at, is_value, value_from_test}
+use Rattle.linear.proofs.PatternLaws.{passes_at, is_value, value_from_test}
 
 -- a character has eleven modules
 pub length-character_bars : (value : ℕ) → value < 106 → length (character_bars value) ≡ 11
