@@ -1,6 +1,6 @@
 //! Products and powers in the field of 256 elements (ISO/IEC 18004, 7.5.2).
 ghost use Rattle.gf256.specs.Field.{IsFieldProduct, alpha, field_power, field_product};
-ghost use Rattle.std.specs.Prelude.{◌≡◌, ◌+◌, ℕ};
+ghost use Rattle.std.specs.Prelude.{◌≡◌, ◌<◌, ℕ};
 
 use crate::tables::{LOGARITHMS, POWERS};
 
@@ -13,8 +13,7 @@ pub fn mul(a: u8, b: u8) -> u8
     if a == 0 || b == 0 {
         return 0;
     }
-    let sum = LOGARITHMS[a as usize] as usize + LOGARITHMS[b as usize] as usize;
-    POWERS[sum % 255]
+    product_of_powers(logarithm_of(a), logarithm_of(b))
 }
 
 /// The power alpha^i. The element alpha is 2, the polynomial x.
@@ -22,4 +21,19 @@ pub fn pow_alpha(i: usize) -> u8
     ensures { result ≡ field_power alpha i }
 {
     POWERS[i % 255]
+}
+
+/// The product of alpha^i and alpha^j.
+pub(crate) fn product_of_powers(i: u8, j: u8) -> u8
+    ensures { result ≡ field_product (field_power alpha i) (field_power alpha j) }
+{
+    POWERS[usize::from(i) + usize::from(j)]
+}
+
+/// The logarithm of an element, an i with alpha^i the element. The element 0 has none.
+pub(crate) fn logarithm_of(element: u8) -> u8
+    requires { 0 < element }
+    ensures { field_power alpha result ≡ element }
+{
+    LOGARITHMS[usize::from(element)]
 }

@@ -1,18 +1,17 @@
 //! Generator polynomials and the parity codewords of a block (ISO/IEC 18004, 7.5.2 and annex A).
-ghost use Rattle.gf256.specs.Field.{field_product};
+ghost use Rattle.gf256.specs.Field.{alpha, field_power, field_product};
 ghost use Rattle.gf256.specs.Parity.{HasRoots, IsRemainder, ParityIsRemainder, RemaindersAreCodewords, generator, parity_of};
 ghost use Rattle.gf256.specs.Polynomial.{zeros};
-ghost use Rattle.std.specs.Prelude.{◌≡◌, ◌+◌, ◌-◌, ◌<◌, ◌≤◌, ℕ, List, ◌∷◌, ◌++◌, length, slice_index, EachIndex, bit_xor};
+ghost use Rattle.std.specs.Prelude.{◌≡◌, ◌+◌, ◌<◌, ◌≤◌, ℕ, List, ◌∷◌, ◌++◌, length, map, slice_index, EachIndex, bit_xor};
 
-use crate::field::{mul, pow_alpha};
+use crate::field::{logarithm_of, product_of_powers};
+use crate::tables::GENERATORS;
 use std::marker::Model;
 
 /// The generator polynomial of blocks with a given number of parity codewords. Clauses see it as that number.
 #[derive(Drop)]
 pub struct Generator {
     count: usize,
-    /// The coefficients, the highest first. The highest is that of x^count, which is 1.
-    coefficients: [u8; 31],
 }
 
 impl Model for Generator {
@@ -20,9 +19,7 @@ impl Model for Generator {
 
     ghost view = { λ g. g.count };
 
-    ghost invariant = { λ g.
-        (1 ≤ g.count) × (g.count ≤ 30) × (g.coefficients
-        ≡ generator g.count ++ zeros (30 - g.count)) };
+    ghost invariant = { λ g. (1 ≤ g.count) × (g.count ≤ 30) };
 }
 
 impl Generator {
@@ -32,15 +29,7 @@ impl Generator {
         requires at_most_thirty { k ≤ 30 }
         ensures { result ≡ k }
     {
-        let mut coefficients = [0; 31];
-        coefficients[0] = 1;
-        for i in 0..k {
-            multiply_by_root(&mut coefficients, pow_alpha(i));
-        }
-        Generator {
-            count: k,
-            coefficients,
-        }
+        Generator { count: k }
     }
 
     /// Writes the parity codewords of a block into `out`, which has room for exactly these: the remainder of the block
@@ -55,44 +44,80 @@ impl Generator {
             → parity ≡ out.new }
         ensures codeword { HasRoots self.now (block.now ++ out.new) }
     {
-        out.fill(0);
+        let logarithms = logarithms_of(self.count);
+        clear(out);
         for &word in block {
-            shift(&self.coefficients[1..self.count + 1], out, word);
+            shift(logarithms, out, word);
         }
     }
 }
 
-/// Multiplies a polynomial, times a power of x, by x plus the root. The last coefficient of the polynomial is 0.
-fn multiply_by_root(coefficients: &mut [u8], root: u8)
-    ensures { EachIndex coefficients.new (λ j.
-        slice_index coefficients.new j
-        ≡ bit_xor (slice_index coefficients.old j)
-        (field_product root (slice_index (0 ∷ coefficients.old) j))) }
+/// The logarithms of the coefficients of a generator polynomial, from high to low, but for the highest, which is 1.
+fn logarithms_of(k: usize) -> &'static [u8]
+    requires at_least_one { 1 ≤ k }
+    requires at_most_thirty { k ≤ 30 }
+    ensures coefficients { generator k ≡ 1 ∷ map (field_power alpha) result.now }
+    ensures count { length result.now ≡ k }
 {
-    let mut previous = 0;
-    for coefficient in coefficients.iter_mut() {
-        let next = *coefficient;
-        *coefficient = next ^ mul(root, previous);
-        previous = next;
-    }
+    let first = k * (k - 1) / 2;
+    let all = &GENERATORS[..];
+    &all[first..first + k]
+}
+
+/// Writes zeros over the register.
+fn clear(register: &mut [u8])
+    ensures { register.new ≡ zeros (length register.old) }
+{
+    register.fill(0);
 }
 
 /// Moves each word of the register up by one place, and adds the multiple of the divisor that cancels the word that
-/// leaves the register and the new word. `low` is the coefficients of the divisor but the highest, which is 1.
-fn shift(low: &[u8], register: &mut [u8], word: u8)
-    requires some { 0 < length low.now }
-    requires same { length register.old ≡ length low.now }
+/// leaves the register and the new word. The divisor is given by the logarithms of its coefficients but the highest.
+fn shift(logarithms: &[u8], register: &mut [u8], word: u8)
+    requires some { 0 < length logarithms.now }
+    requires same { length register.old ≡ length logarithms.now }
     ensures { EachIndex register.new (λ j.
         slice_index register.new j
         ≡ bit_xor (slice_index register.old (j + 1))
-        (field_product (bit_xor (slice_index register.old 0) word) (slice_index low.now j))) }
+        (field_product (bit_xor (slice_index register.old 0) word)
+        (field_power alpha (slice_index logarithms.now j)))) }
 {
     let feedback = register[0] ^ word;
-    let last = low.len() - 1;
-    for j in 0..last {
-        register[j] = register[j + 1] ^ mul(feedback, low[j]);
+    if feedback == 0 {
+        move_up(register);
+    } else {
+        move_up_and_add(logarithm_of(feedback), logarithms, register);
     }
-    register[last] = mul(feedback, low[last]);
+}
+
+/// Moves each word of the register up by one place, and a 0 into the last.
+fn move_up(register: &mut [u8])
+    requires { 0 < length register.old }
+    ensures { EachIndex register.new (λ j.
+        slice_index register.new j ≡ slice_index register.old (j + 1)) }
+{
+    let last = register.len() - 1;
+    for j in 0..last {
+        register[j] = register[j + 1];
+    }
+    register[last] = 0;
+}
+
+/// Moves each word of the register up by one place, and adds the product of alpha^factor and a coefficient to each.
+fn move_up_and_add(factor: u8, logarithms: &[u8], register: &mut [u8])
+    requires some { 0 < length logarithms.now }
+    requires same { length register.old ≡ length logarithms.now }
+    ensures { EachIndex register.new (λ j.
+        slice_index register.new j
+        ≡ bit_xor (slice_index register.old (j + 1))
+        (field_product (field_power alpha factor)
+        (field_power alpha (slice_index logarithms.now j)))) }
+{
+    let last = logarithms.len() - 1;
+    for j in 0..last {
+        register[j] = register[j + 1] ^ product_of_powers(factor, logarithms[j]);
+    }
+    register[last] = product_of_powers(factor, logarithms[last]);
 }
 
 /// For crates above: whatever the block, the parity codewords of the definition are a remainder by the generator
