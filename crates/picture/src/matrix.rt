@@ -16,6 +16,13 @@ impl Grid for Matrix {
     }
 
     fn dark(&self, x: usize, y: usize) -> bool {
-        (self.rows()[y] >> x) & 1 == 1
+        Matrix::dark(self, x, y)
+    }
+
+    fn read_row(&self, y: usize, pixels: &mut [bool]) {
+        let row = self.rows()[y];
+        for x in 0..pixels.len() {
+            pixels[x] = (row >> x) & 1 == 1;
+        }
     }
 }

@@ -1,10 +1,10 @@
 -- The words of the function patterns and of the format information, computed for each version.
-use Rattle.std.proofs.Common.{◌≡◌, ℕ, ◌<◌, ◌≤◌, ◌^◌, refl, arith, Bool, true, not, ◌&&◌, List}
-use Rattle.std.specs.Prelude.{map, nat_lt}
+use Rattle.std.proofs.Common.{◌≡◌, ℕ, ◌<◌, ◌≤◌, ◌^◌, ◌-◌, refl, sym, ap, ◌∙◌, arith, Bool, true, not, ◌&&◌, List}
+use Rattle.std.specs.Prelude.{map, nat_lt, false}
 use Rattle.std.specs.Bool.{beq}
 use Rattle.std.specs.Int.{reverse_bits_onto}
 use Rattle.std.specs.List.{range_with_len, list_all}
-use Rattle.std.proofs.lemmas.Bool.{and_parts, ltb-true}
+use Rattle.std.proofs.lemmas.Bool.{and_parts, ltb-true, ne_eqb, le-ltb, lt-leb}
 use Rattle.std.proofs.Math.Pow.{pow_mono}
 use Rattle.labelcore.specs.declared.options.Level.{Level}
 use Rattle.labelcore.specs.declared.options.Level.TheVariants.{L, M, Q, H}
@@ -18,7 +18,7 @@ use Rattle.qrmatrix.specs.Information.{format_word, version_word}
 use Rattle.qrmatrix.specs.declared.function.PatternRow.{PatternRow}
 use Rattle.qrmatrix.proofs.EachVersion.{by_version}
 use Rattle.qrmatrix.proofs.LeastMask.{mapped_all}
-use Rattle.qrmatrix.proofs.RowBits.{same_beq}
+use Rattle.qrmatrix.proofs.RowBits.{above_bit, same_beq}
 use Rattle.qrmatrix.proofs.Sums.{all_below_at}
 
 -- ---- the function patterns
@@ -124,6 +124,16 @@ format_row_is v l h level mask y lm ly =
       shown = λ x lx. same_beq _ _ (mapped_all (format_word level) (format_place n y x (role v x y)) 0 8 (all_below_at n (λ x. format_places n y x words (role v x y)) parts.1 x lx) mask (omega arith) (omega arith));
       narrow = ltb-true _ _ (mapped_all (format_word level) (format_narrow n y) 0 8 parts.0 mask (omega arith) (omega arith));
     }
+
+between : (n word y : ℕ) → 9 ≤ y → y < n - 7 → format_row n word y ≡ 0
+unfolding format_row
+between n word y l h = rw (ne_eqb y 8 (λ e. omega arith), le-ltb y 6 (omega arith), ne_eqb y 7 (λ e. omega arith), lt-leb (n - 7) y h) refl
+
+-- no row between the finder patterns shows the format information
+pub format_between : (v : ℕ) → 1 ≤ v → v ≤ 10 → (level : Level) (mask x y : ℕ) → mask < 8 → x < side_of v → 9 ≤ y → y < side_of v - 7 → format_by (format_word level mask) (role v x y) ≡ false
+format_between v l h level mask x y lm lx low high =
+    let inside : y < side_of v = omega arith in
+    sym ((format_row_is v l h level mask y lm inside).shown x lx) ∙ ap (λ w. bit w x) (between (side_of v) (format_word level mask) y low high) ∙ above_bit 0 0 x (omega arith) (omega arith)
 
 -- the same at the values of a drawing
 pub row_shows : (v n word row : ℕ) (level : Level) (mask y : ℕ) → 1 ≤ v → v ≤ 10 → mask < 8 → y < n → n ≡ side_of v → word ≡ format_word level mask

@@ -13,19 +13,19 @@ use Rattle.qrmatrix.proofs.Passes.{Mapped, row_turned}
 use Rattle.qrmatrix.proofs.Sums.{all_below_at}
 use Rattle.qrmatrix.proofs.RowBits.{and_bit, not_bit, same_beq}
 
--- the word that the table of patterns gives for a row
+-- the word that the table of patterns gives
 abbrev pub mask_word : ℕ → ℕ → ℕ
-mask_word mask y = slice_index_or (slice_index_or {A = List ℕ} PATTERNS mask []) (y % 12) 0 * EVERY_SIXTH
+mask_word mask place = slice_index_or (slice_index_or {A = List ℕ} PATTERNS mask []) place 0 * EVERY_SIXTH
 
 right_word : ℕ → ℕ → ℕ → Bool
-right_word mask y x = beq (bit (mask_word mask y) x) (is_flipped mask x y)
+right_word mask y x = beq (bit (mask_word mask (y % 12)) x) (is_flipped mask x y)
 
 -- computed for each mask, row and column
 right_words : all_below 8 (λ mask. all_below 57 (λ y. all_below 57 (right_word mask y))) ≡ true
 unfolding is_flipped right_word
 right_words = refl
 
-pub mask_word_is : (mask y x : ℕ) → mask < 8 → y < 57 → x < 57 → bit (mask_word mask y) x ≡ is_flipped mask x y
+pub mask_word_is : (mask y x : ℕ) → mask < 8 → y < 57 → x < 57 → bit (mask_word mask (y % 12)) x ≡ is_flipped mask x y
 unfolding right_word
 mask_word_is mask y x lm ly lx =
     same_beq _ _ (all_below_at 57 (right_word mask y) (all_below_at 57 (λ y. all_below 57 (right_word mask y)) (all_below_at 8 (λ mask. all_below 57 (λ y. all_below 57 (right_word mask y))) right_words mask lm) y ly) x lx)

@@ -1,7 +1,7 @@
 -- How far a pass over a square has come, row by row.
 use Rattle.std.proofs.Common.{◌≡◌, ℕ, ◌+◌, ◌<◌, ◌≤◌, refl, sym, ap, ◌∙◌, arith, Bool, false, ◌&&◌, List, inl, inr}
 use Rattle.std.specs.Prelude.{◌==◌}
-use Rattle.std.proofs.lemmas.Bool.{cases_eq, eq-eqb, ne_eqb}
+use Rattle.std.proofs.lemmas.Bool.{cases_eq, cases_lt, eq-eqb, ne_eqb}
 use Rattle.qrmatrix.specs.Bits.{bit}
 use Rattle.qrmatrix.specs.Masks.{flip_if}
 use Rattle.qrmatrix.specs.Square.{value_at, SameOutside}
@@ -24,6 +24,27 @@ mapped_outside n row old new target p e =
         | inr other ↦ p.below x y (omega arith)
       ];
     }
+
+-- rows that keep their modules are passed over
+pub rows_kept : (n a b : ℕ) (old m : List (List Bool)) (target : ℕ → ℕ → Bool) → Mapped n old m target a 0 → a ≤ b
+    → ((x y : ℕ) → x < n → a ≤ y → y < b → target x y ≡ value_at old x y) → Mapped n old m target b 0
+rows_kept n a b old m target p l kept =
+    record {
+      above = λ x y lx ly. elim (cases_lt y a) [
+        | inl h ↦ p.above x y lx h
+        | inr g ↦ from x y g ∙ sym (kept x y lx g ly)
+      ];
+      left = λ x h. absurd (omega arith);
+      right = λ x h. from x b l;
+      below = λ x y h. from x y (omega arith);
+      beyond = p.beyond;
+    }
+  where
+    from : (x y : ℕ) → a ≤ y → value_at m x y ≡ value_at old x y
+    from x y g = elim (cases_eq y a) [
+      | inl e ↦ let z : 0 ≤ x = omega arith in ap (value_at m x) e ∙ p.right x z ∙ ap (value_at old x) (sym e)
+      | inr ne ↦ p.below x y (omega arith)
+    ]
 
 -- one more row is turned over by a word
 pub row_turned : (n row w : ℕ) (old m r : List (List Bool)) (target : ℕ → ℕ → Bool) → Mapped n old m target row 0

@@ -1,6 +1,7 @@
 -- The module under a mask: what was drawn for all masks, the format information of this one, and the mask.
 use Rattle.std.proofs.Common.{◌≡◌, ℕ, ◌<◌, refl, ap, Bool, true, false, not, List}
 use Rattle.std.specs.Prelude.{if◌then◌else◌}
+use Rattle.std.proofs.lemmas.Bool.{both_ways}
 use Rattle.labelcore.specs.declared.options.Level.{Level}
 use Rattle.qrdata.specs.Versions.{side_of}
 use Rattle.qrmatrix.specs.Drawing.{masked, drawn_by, format_by, IsUnmasked, ShowsFormat}
@@ -15,6 +16,13 @@ use Rattle.qrmatrix.specs.Square.{value_at}
 pub flip_light : (b : Bool) → flip_if b false ≡ b
 flip_light true = refl
 flip_light false = refl
+
+-- nothing is drawn where the codewords go
+pub free_is_light : (v : ℕ) (r : Role) → is_free_role r ≡ true → drawn_by v r ≡ false
+free_is_light v (Function b) h = absurd (both_ways _ refl h)
+free_is_light v (Format i) h = refl
+free_is_light v (Version i) h = absurd (both_ways _ refl h)
+free_is_light v Free h = refl
 
 -- the module of each role
 shown : (v : ℕ) (level : Level) (mask : ℕ) (r : Role) (f t chosen old : Bool) → f ≡ not (is_free_role r)

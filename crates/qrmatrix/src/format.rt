@@ -38,7 +38,11 @@ pub fn draw_format(version: Version, level: Level, mask: u8, modules: &mut Squar
 {
     let word = format_word(level, mask);
     let n = version.side();
-    for y in 0..n {
+    for y in 0..9 {
+        modules.flip(y, format_row(n, word, y));
+    }
+    // The rows between have none of them.
+    for y in n - 7..n {
         modules.flip(y, format_row(n, word, y));
     }
 }

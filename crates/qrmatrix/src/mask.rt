@@ -1,5 +1,5 @@
 //! The eight masks, one word a row.
-ghost use Rattle.std.specs.Prelude.{◌≡◌, ℕ, ◌*◌, ◌<◌, ◌≤◌};
+ghost use Rattle.std.specs.Prelude.{◌≡◌, ℕ, ◌*◌, ◌%◌, ◌<◌, ◌≤◌};
 ghost use Rattle.qrmatrix.specs.Bits.{bit};
 ghost use Rattle.qrmatrix.specs.Drawing.{masked};
 ghost use Rattle.qrmatrix.specs.Masks;
@@ -48,13 +48,14 @@ const PATTERNS: [[u64; 12]; 8] = [
 /// A one in every sixth place.
 const EVERY_SIXTH: u64 = 0x0041041041041041;
 
-/// The modules of row `y` that a mask flips.
-fn mask_word(mask: u8, y: usize) -> u64
+/// The modules of the rows `place`, `place` + 12, .. that a mask flips.
+fn mask_word(mask: u8, place: usize) -> u64
     requires mask { mask < 8 }
-    requires row { y < 57 }
-    ensures { (x : ℕ) → x < 57 → bit result x ≡ Masks.is_flipped mask x y }
+    requires place { place < 12 }
+    ensures { (x y : ℕ) → x < 57 → y < 57 → y % 12 ≡ place
+        → bit result x ≡ Masks.is_flipped mask x y }
 {
-    PATTERNS[usize::from(mask)][y % 12] * EVERY_SIXTH
+    PATTERNS[usize::from(mask)][place] * EVERY_SIXTH
 }
 
 /// Flips the free modules by the mask.
@@ -65,8 +66,10 @@ pub fn apply_mask(n: usize, mask: u8, function: &Square, modules: &mut Square)
         ≡ masked mask function.now modules.old x y }
     ensures outside { SameOutside n modules.old modules.new }
 {
+    let mut place = 0;
     for y in 0..n {
         let free = low_ones(n) & !function.row(y);
-        modules.flip(y, mask_word(mask, y) & free);
+        modules.flip(y, mask_word(mask, place) & free);
+        place = if place == 11 { 0 } else { place + 1 };
     }
 }

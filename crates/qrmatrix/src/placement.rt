@@ -1,10 +1,12 @@
 //! The placement of the codewords: a cursor goes along the strips and counts the free modules.
-ghost use Rattle.std.specs.Prelude.{◌≡◌, ℕ, ◌+◌, ◌-◌, ◌*◌, ◌/◌, ◌%◌, ◌^◌, ◌<◌, ◌≤◌, Bool, true, false, not, ◌&&◌, ◌==◌, if◌then◌else◌, IsTrue, IsFalse, nat_lt};
+ghost use Rattle.std.specs.Prelude.{◌≡◌, ℕ, ◌+◌, ◌-◌, ◌*◌, ◌/◌, ◌%◌, ◌^◌, ◌<◌, ◌≤◌, Bool, true, false, not, ◌&&◌, ◌==◌, if◌then◌else◌, IsTrue, IsFalse, nat_lt, List, length};
 ghost use Rattle.qrdata.specs.Versions.{side_of};
 ghost use Rattle.qrmatrix.specs.Functions.{is_free};
 ghost use Rattle.qrmatrix.specs.Placement;
 ghost use Rattle.qrmatrix.specs.Placement.{rank};
-ghost use Rattle.qrmatrix.specs.Square.{value_at, WritesAt, SameOutside};
+ghost use Rattle.qrmatrix.specs.Bits.{bit};
+ghost use Rattle.qrmatrix.specs.Square.{value_at, WritesAt, WritesTwo, SameOutside};
+ghost use Rattle.qrmatrix.specs.WordPairs.{ArePairs, ShowsTwo};
 ghost use Rattle.qrmatrix.specs.Drawing.{MarksFunctions};
 
 use crate::square::Square;
@@ -44,10 +46,60 @@ fn place_module(
     }
 }
 
+/// The numbers of 16 bits that each codeword makes with the next one; zeros follow the last.
+fn word_pairs(words: &[u8]) -> [u16; 400]
+    requires { length words.now ≤ 346 }
+    ensures { ArePairs words.now result }
+{
+    let mut pairs = [0; 400];
+    let count = words.len();
+    for i in 1..count {
+        pairs[i - 1] = u16::from(words[i - 1]) * 256 + u16::from(words[i]);
+    }
+    if 0 < count {
+        pairs[count - 1] = u16::from(words[count - 1]) * 256;
+    }
+    pairs
+}
+
+/// The bits `i` and `i + 1` of the codewords, the first one higher.
+fn two_bits(pairs: &[u16; 400], i: usize) -> u64
+    requires { i < 3200 }
+    ensures bits { (words : List ℕ) → ArePairs words pairs.now
+        → ShowsTwo result (Placement.codeword_bit words i) (Placement.codeword_bit words (i + 1)) }
+    ensures bound { result < 4 }
+{
+    u64::from((pairs[i / 8] >> (14 - i % 8)) & 3)
+}
+
+/// Whether no function module is at column `x` and at the next one.
+fn are_free(function: &Square, x: usize, y: usize) -> bool
+    requires column { x < 56 }
+    requires row { y < 57 }
+    ensures { IsTrue result → (value_at function.now x y ≡ false)
+        × (value_at function.now (x + 1) y ≡ false) }
+{
+    (function.row(y) >> x) & 3 == 0
+}
+
+/// Writes two bits on light modules, the lower one at column `x` and the other one at the next.
+fn place_two(two: u64, modules: &mut Square, x: usize, y: usize)
+    requires bits { two < 4 }
+    requires column { x < 56 }
+    requires row { y < 57 }
+    requires light { (value_at modules.old x y ≡ false)
+        × (value_at modules.old (x + 1) y ≡ false) }
+    ensures { WritesTwo modules.old modules.new x y (bit two 0) (bit two 1) }
+{
+    modules.flip(y, two << x);
+}
+
 /// Places the codewords on the free modules, strip after strip from the right, upwards and downwards in turn (ISO/IEC
 /// 18004, 7.7.3).
 pub fn place(version: Version, words: &Words, function: &Square, modules: &mut Square)
-    requires { MarksFunctions version.number function.now }
+    requires marked { MarksFunctions version.number function.now }
+    requires light { (x y : ℕ) → x < side_of version.number → y < side_of version.number
+        → is_free version.number x y ≡ true → value_at modules.old x y ≡ false }
     ensures placed { (x y : ℕ) → x < side_of version.number → y < side_of version.number
         → is_free version.number x y ≡ true → value_at modules.new x y
         ≡ Placement.codeword_bit words.now.items (rank version.number x y) }
@@ -56,6 +108,7 @@ pub fn place(version: Version, words: &Words, function: &Square, modules: &mut S
     ensures outside { SameOutside (side_of version.number) modules.old modules.new }
 {
     let n = version.side();
+    let pairs = word_pairs(words);
     let mut i = 0;
     for strip in 0..(n - 1) / 2 {
         let right = if strip < (n - 7) / 2 {
@@ -65,8 +118,13 @@ pub fn place(version: Version, words: &Words, function: &Square, modules: &mut S
         };
         for t in 0..n {
             let y = if strip % 2 == 0 { n - 1 - t } else { t };
-            i = place_module(words, function, modules, right, y, i);
-            i = place_module(words, function, modules, right - 1, y, i);
+            if are_free(function, right - 1, y) {
+                place_two(two_bits(&pairs, i), modules, right - 1, y);
+                i += 2;
+            } else {
+                i = place_module(words, function, modules, right, y, i);
+                i = place_module(words, function, modules, right - 1, y, i);
+            }
         }
     }
 }

@@ -1,10 +1,22 @@
 use Rattle.std.proofs.Common.{◌≡◌, ◌+◌, ◌-◌, ◌*◌, ◌/◌, ◌<◌}
 use Rattle.qrdata.specs.Versions.{side_of}
+use Rattle.qrmatrix.specs.Square.{value_at}
+use Rattle.qrmatrix.specs.WordPairs.{ArePairs}
 use Rattle.qrmatrix.proofs.CursorSteps.{Placed, right_column}
 use Rattle.qrmatrix.proofs.placement.place.Given as goal
 
 abbrev pub invariant-loop-t : goal.invariant-loop-t
-invariant-loop-t l = record { placed : Placed l.fn.version.number l.words.items l.fn.modules l.modules l.i (2 * side_of l.fn.version.number * l.strip + 2 * l.t); width : l.n ≡ side_of l.fn.version.number; right : l.right ≡ right_column (side_of l.fn.version.number) l.strip; inside : l.strip < (side_of l.fn.version.number - 1) / 2 }
+invariant-loop-t l = record {
+  placed : Placed l.fn.version.number l.words.items (value_at l.fn.modules) (value_at l.modules) l.i (2 * side_of l.fn.version.number * l.strip + 2 * l.t);
+  pairs : ArePairs l.words.items l.pairs;
+  width : l.n ≡ side_of l.fn.version.number;
+  right : l.right ≡ right_column (side_of l.fn.version.number) l.strip;
+  inside : l.strip < (side_of l.fn.version.number - 1) / 2;
+}
 
 abbrev pub invariant-loop-strip : goal.invariant-loop-strip
-invariant-loop-strip l = record { placed : Placed l.fn.version.number l.words.items l.fn.modules l.modules l.i (2 * side_of l.fn.version.number * l.strip); width : l.n ≡ side_of l.fn.version.number }
+invariant-loop-strip l = record {
+  placed : Placed l.fn.version.number l.words.items (value_at l.fn.modules) (value_at l.modules) l.i (2 * side_of l.fn.version.number * l.strip);
+  pairs : ArePairs l.words.items l.pairs;
+  width : l.n ≡ side_of l.fn.version.number;
+}
