@@ -1,13 +1,14 @@
 -- Rows of pixels, by their columns.
-use Rattle.std.proofs.Common.{◌≡◌, ℕ, suc, zero, ◌+◌, ◌-◌, ◌*◌, ◌/◌, ◌%◌, ◌<◌, ◌≤◌, Bool, false, List, ◌∷◌, ◌++◌, map, length, take, drop, append_assoc, length-append, length-drop, zero-add, refl, ap, sym, subst, ◌∙◌, arith, add-zero, suc-mul, zero-mul, ◌⊎◌, inl, inr}
+use Rattle.std.proofs.Common.{◌≡◌, ℕ, suc, zero, ◌+◌, ◌-◌, ◌*◌, ◌/◌, ◌%◌, ◌<◌, ◌≤◌, Bool, false, List, ◌∷◌, ◌++◌, map, length, take, drop, append_assoc, length-append, length-drop, zero-add, refl, ap, sym, ◌∙◌, arith, add-zero, inl, inr}
 use Rattle.std.proofs.Math.ListN.{get_or, replicate}
+use Rattle.std.proofs.lemmas.Bool.{cases_lt}
 use Rattle.std.proofs.lemmas.Bool.Decides.{nat_tests}
 use Rattle.std.specs.List.{range_with_len}
 use Rattle.std.proofs.lemmas.List.{take-replicate, drop-replicate, get_or_append_left}
 use borrow.Rule.Slice.PartMut.{put_mid}
-use Rattle.std.proofs.lemmas.Nat.{div-mul-add, div_below, div-add-mod', mul-le}
+use Rattle.std.proofs.lemmas.Nat.{div_below, div-add-mod', div-mul-add, le-div, mul-le}
 use Rattle.std.proofs.lemmas.List.FromFn.{fill_by_all, length-map-range_with_len, get_or-map-range_with_len}
-use Rattle.picture.specs.Picture.{Picture, RepeatsRow, Zone, framed, scaled}
+use Rattle.picture.specs.Picture.{AreEqualRows, Picture, Zone, framed, scaled}
 use Rattle.picture.specs.Read.{pixel_row}
 use Rattle.picture.specs.Text.{below}
 use Rattle.picture.proofs.SampleLemmas.{dark-framed}
@@ -19,9 +20,11 @@ map-range_same f g a (suc n) same =
     ap (λ (b : Bool). b ∷ map f (range_with_len (a + 1) n)) (same a (omega arith))
     ∙ ap (λ (bs : List Bool). g a ∷ bs) (map-range_same f g (a + 1) n (λ x h. same x (omega arith)))
 
--- a row that repeats the one above has its pixels
-pub pixel_row-repeats : (p : Picture) (y : ℕ) → RepeatsRow p y → pixel_row p (y - 1) ≡ pixel_row p y
-pixel_row-repeats p y same = sym (map-range_same (λ x. p.dark x y) (λ x. p.dark x (y - 1)) 0 p.width (λ x h. same x (omega arith)))
+-- a row that is known to be equal to another has its pixels
+pub pixel_row-equal : (p : Picture) (y count row : ℕ) → AreEqualRows p y count → y ≤ row → row < y + count → pixel_row p y ≡ pixel_row p row
+pixel_row-equal p y count row same low high =
+    let place : y + (row - y) ≡ row = omega arith in
+    sym (ap (pixel_row p) (sym place) ∙ map-range_same (λ x. p.dark x (y + (row - y))) (λ x. p.dark x y) 0 p.width (λ x h. same x (row - y) (omega arith) (omega arith)))
 
 -- the pixels from column x on, by their places
 pub map-from : (f : ℕ → Bool) (x a n : ℕ) → map (λ i. f (x + i)) (range_with_len a n) ≡ map f (range_with_len (x + a) n)
@@ -33,43 +36,25 @@ map-from f x a (suc n) =
 pub filled_from : (f : ℕ → Bool) (x : ℕ) (bs : List Bool) (n : ℕ) → length bs ≡ n → ((k : ℕ) → k < n → get_or bs k false ≡ f (x + k)) → bs ≡ map f (range_with_len x n)
 filled_from f x bs n size each = fill_by_all (λ i. f (x + i)) bs n false size each ∙ (map-from f x 0 n ∙ ap (λ (k : ℕ). map f (range_with_len k n)) (add-zero x))
 
--- inside a module, the row above belongs to the same row of modules
-inside_module : (y s : ℕ) → 0 < s → 0 < y % s → (y - 1) / s ≡ y / s
-inside_module y s some inside =
-    let whole = div-add-mod' y s in
-    let below : y % s - 1 < s = omega arith in
-    let cut : y - 1 ≡ y / s * s + (y % s - 1) = omega arith in
-    ap (λ (n : ℕ). n / s) cut ∙ div-mul-add (y / s) s (y % s - 1) below
+-- the rows of pixels of equal rows of modules, from the row y on
+pub scaled_equal : (p : Picture) (s y count : ℕ) → 0 < s → AreEqualRows p (y / s) count → AreEqualRows (scaled p s) y (count * s - y % s)
+scaled_equal p s y count some same x k wide inside =
+    let whole : y / s * s + y % s ≡ y = div-add-mod' y s in
+    let product : (y / s + count) * s ≡ y / s * s + count * s = omega arith in
+    let low : y / s ≤ (y + k) / s = le-div (y / s) (y + k) s some (omega arith) in
+    let high : (y + k) / s < y / s + count = div_below (y + k) s (y / s + count) some (omega arith) in
+    let place : (y + k) / s ≡ y / s + ((y + k) / s - y / s) = omega arith in
+    ap (p.dark (x / s)) place ∙ same (x / s) ((y + k) / s - y / s) (div_below x s p.width some wide) (omega arith)
 
--- at its first row, to the row of modules above
-first_of_module : (y s q : ℕ) → 0 < s → y / s ≡ suc q → y % s ≡ 0 → (y - 1) / s ≡ y / s - 1
-first_of_module y s q some e first =
-    let whole = div-add-mod' y s in
-    let product : suc q * s ≡ q * s + s = suc-mul q s in
-    let size : y ≡ suc q * s = sym (subst (λ (n : ℕ). n * s + y % s ≡ y) e whole) ∙ rw first (omega arith) in
-    let cut : y - 1 ≡ q * s + (s - 1) = omega arith in
-    let less : s - 1 < s = omega arith in
-    let last : q ≡ y / s - 1 = omega arith in
-    ap (λ (n : ℕ). n / s) cut ∙ (div-mul-add q s (s - 1) less ∙ last)
-
-pub scaled_repeats_inside : (p : Picture) (s y : ℕ) → 0 < s → 0 < y % s → RepeatsRow (scaled p s) y
-scaled_repeats_inside p s y some inside x h = ap (p.dark (x / s)) (sym (inside_module y s some inside))
-
-zero_or_more : (n : ℕ) → (n ≡ 0) ⊎ (0 < n)
-zero_or_more zero = inl refl
-zero_or_more (suc n) = inr (omega arith)
-
--- a row that begins a module, and is not the first
-row_of_modules : (y s : ℕ) → 0 < s → 0 < y → y % s ≡ 0 → 0 < y / s
-row_of_modules y s some above first = elim (zero_or_more (y / s)) [ inl none ↦ absurd (zero_row none) | inr more ↦ more ] where
-  zero_row : y / s ≡ 0 → ⊥
-  zero_row none = let whole : 0 * s + y % s ≡ y = subst (λ (n : ℕ). n * s + y % s ≡ y) none (div-add-mod' y s) in omega (arith, zero-mul s)
-
-pub scaled_repeats : (p : Picture) (s y : ℕ) → 0 < s → 0 < y → y % s ≡ 0 → RepeatsRow p (y / s) → RepeatsRow (scaled p s) y
-scaled_repeats p s y some above first same x h =
-    let q = y / s - 1 in
-    let row : y / s ≡ suc q = (let pos = row_of_modules y s some above first in omega arith) in
-    same (x / s) (div_below x s p.width some h) ∙ ap (p.dark (x / s)) (sym (first_of_module y s q some row first))
+-- so many rows of modules are so many rows of pixels, from the row y on
+pub scaled_rows_inside : (y s count height : ℕ) → 0 < s → 0 < count → y / s + count ≤ height → y + (count * s - y % s) ≤ height * s
+scaled_rows_inside y s count height some more inside =
+    let whole : y / s * s + y % s ≡ y = div-add-mod' y s in
+    let least : 1 * s ≤ count * s = mul-le 1 s count s (omega arith) (omega arith) in
+    let within : y % s < s = omega arith in
+    let product : (y / s + count) * s ≡ y / s * s + count * s = omega arith in
+    let most : (y / s + count) * s ≤ height * s = mul-le (y / s + count) s height s inside (omega arith) in
+    omega arith
 
 map-range_false : (f : ℕ → Bool) (a n : ℕ) → ((x : ℕ) → a ≤ x → x < a + n → f x ≡ false) → map f (range_with_len a n) ≡ replicate n false
 map-range_false f a zero none = refl
@@ -95,6 +80,11 @@ module _ (p : Picture) (zone : Zone) where
   dark_inside x y wide low high =
       let row : y ≡ zone.top + (y - zone.top) = omega arith in
       ap ((framed p zone).dark (zone.left + x)) row ∙ dark-framed p zone x (y - zone.top) wide (omega arith)
+
+  pub framed_equal : (y count : ℕ) → zone.top ≤ y → (y - zone.top) + count ≤ p.height → AreEqualRows p (y - zone.top) count → AreEqualRows (framed p zone) y count
+  framed_equal y count low inside same x k wide below =
+      let row : (y + k) - zone.top ≡ (y - zone.top) + k = omega arith in
+      grind (arith, nat_tests)
 
   pub framed_row_above : (y : ℕ) → y < zone.top → replicate (zone.left + p.width + zone.right) false ≡ pixel_row (framed p zone) y
   framed_row_above y h = sym (map-range_false (λ x. (framed p zone).dark x y) 0 (zone.left + p.width + zone.right) (λ x low high. dark_above x y h))
@@ -123,6 +113,22 @@ scaled_row : (p : Picture) (s y : ℕ) (bs : List Bool) → 0 < s → length bs 
 scaled_row p s y bs some size each =
     ap (λ (n : ℕ). map (λ x. get_or bs (x / s) false) (below n)) size
     ∙ map-range_same (λ x. get_or bs (x / s) false) (λ x. p.dark (x / s) (y / s)) 0 (p.width * s) (λ x h. each (x / s) (div_below x s p.width some (omega arith)))
+
+-- the squares of a column more
+module _ (before wide next : List Bool) (x s : ℕ) (some : 0 < s) (wider : (k : ℕ) → (x + 1) * s ≤ k → k < length before → get_or wide k false ≡ get_or before (k / s) false)
+    (same : (k : ℕ) → k < (x + 1) * s → get_or wide k false ≡ get_or before k false)
+    (square : (k : ℕ) → x * s ≤ k → k < (x + 1) * s → get_or next k false ≡ get_or wide x false) where
+  pub spread_square : (k : ℕ) → x * s ≤ k → k < (x + 1) * s → get_or next k false ≡ get_or before (k / s) false
+  spread_square k low high =
+      let product : (x + 1) * s ≡ x * s + s = omega arith in
+      let cut : k ≡ x * s + (k - x * s) = omega arith in
+      let column : k / s ≡ x = ap (λ (n : ℕ). n / s) cut ∙ div-mul-add x s (k - x * s) (omega arith) in
+      let least : (x + 1) * 1 ≤ (x + 1) * s = mul-le (x + 1) 1 (x + 1) s (omega arith) (omega arith) in
+      square k low high ∙ (same x (omega arith) ∙ ap (λ (n : ℕ). get_or before n false) (sym column))
+
+  pub spread_more : ((k : ℕ) → (x + 1) * s ≤ k → get_or next k false ≡ get_or wide k false) →
+      (k : ℕ) → x * s ≤ k → k < length before → get_or next k false ≡ get_or before (k / s) false
+  spread_more after k low size = elim (cases_lt k ((x + 1) * s)) [ inl h ↦ spread_square k low h | inr h ↦ after k h ∙ wider k h size ]
 
 -- a row of the picture, over light pixels
 pub framed_put : (p : Picture) (zone : Zone) (y : ℕ) (light row : List Bool) (w : ℕ) → light ≡ replicate (zone.left + p.width + zone.right) false → w ≡ p.width → zone.top ≤ y → y < zone.top + p.height → row ≡ pixel_row p (y - zone.top) →

@@ -8,9 +8,9 @@ pub record Picture : Type 0 where
   pub height : ℕ
   pub dark : ℕ → ℕ → Bool
 
--- the row y has the pixels of the row above it
-abbrev pub RepeatsRow : Picture → ℕ → Type 0
-RepeatsRow p y = (x : ℕ) → x < p.width → p.dark x y ≡ p.dark x (y - 1)
+-- so many rows from the row y on have its pixels
+abbrev pub AreEqualRows : Picture → ℕ → ℕ → Type 0
+AreEqualRows p y count = (x k : ℕ) → x < p.width → k < count → p.dark x (y + k) ≡ p.dark x y
 
 -- bars of one height, one for each module of the row
 abbrev pub bars : List Bool → ℕ → Picture

@@ -37,8 +37,8 @@ impl<'a> Grid for Bars<'a> {
         self.row[x]
     }
 
-    fn repeats(&self, y: usize) -> bool {
-        true
+    fn equal_rows(&self, y: usize) -> usize {
+        self.height - y
     }
 
     fn read_row(&self, y: usize, pixels: &mut [bool]) {

@@ -55,12 +55,14 @@ impl<G: Grid> Grid for Framed<G> {
             && self.grid.dark(x - self.left, y - self.top)
     }
 
-    fn repeats(&self, y: usize) -> bool {
-        let bottom = self.top + self.grid.height();
-        if y < self.top || bottom < y {
-            return true;
+    fn equal_rows(&self, y: usize) -> usize {
+        if y < self.top {
+            self.top - y
+        } else if y < self.top + self.grid.height() {
+            self.grid.equal_rows(y - self.top)
+        } else {
+            self.height() - y
         }
-        self.top < y && y < bottom && self.grid.repeats(y - self.top)
     }
 
     fn read_row(&self, y: usize, pixels: &mut [bool]) {

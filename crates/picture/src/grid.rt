@@ -1,6 +1,6 @@
 //! Pictures by coordinates.
-ghost use Rattle.std.specs.Prelude.{◌≡◌, ◌<◌, length, IsTrue};
-ghost use Rattle.picture.specs.Picture.{Picture, RepeatsRow};
+ghost use Rattle.std.specs.Prelude.{◌≡◌, ◌+◌, ◌<◌, ◌≤◌, length};
+ghost use Rattle.picture.specs.Picture.{AreEqualRows, Picture};
 ghost use Rattle.picture.specs.Read.{pixel_row};
 
 /// A picture, asked pixel by pixel: x counts columns from the left and y rows from the top, both from 0.
@@ -22,13 +22,14 @@ pub trait Grid {
         requires in_height { y < (picture self.now).height }
         ensures { result ≡ (picture self.now).dark x y };
 
-    /// Whether the row is known to have the pixels of the row above it. `false` promises nothing.
-    fn repeats(&self, y: usize) -> bool
-        requires above { 0 < y }
-        requires in_height { y < (picture self.now).height }
-        ensures { IsTrue result → RepeatsRow (picture self.now) y }
+    /// How many rows from this one on are known to have its pixels: itself at least.
+    fn equal_rows(&self, y: usize) -> usize
+        requires { y < (picture self.now).height }
+        ensures some { 0 < result }
+        ensures in_height { y + result ≤ (picture self.now).height }
+        ensures equal { AreEqualRows (picture self.now) y result }
     {
-        false
+        1
     }
 
     /// Puts the pixels of a row into `pixels`.

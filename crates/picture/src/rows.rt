@@ -81,23 +81,31 @@ fn write_kept_rows<T: PixelText, G: Grid, S: Sink>(
         (flat_map (row_text T.pixel T.row_end (G.picture grid.now))
         (below (G.picture grid.now).height)) result }
 {
+    let mut next = 0;
     for y in 0..grid.height() {
-        read_next_row(grid, y, pixels);
+        next = read_next_rows(grid, y, next, pixels);
         write_row::<T, S>(pixels, sink)?;
     }
     Ok(())
 }
 
-/// Puts the pixels of a row where those of the row above stand.
-fn read_next_row<G: Grid>(grid: &G, y: usize, pixels: &mut [bool])
+/// Puts the pixels of a row into `pixels`, where those up to `next` stand. Says up to which row they now stand there.
+fn read_next_rows<G: Grid>(grid: &G, y: usize, next: usize, pixels: &mut [bool]) -> usize
     requires in_height { y < (G.picture grid.now).height }
+    requires fits { (G.picture grid.now).height < 2 ^ 64 }
     requires whole { length pixels.old ≡ (G.picture grid.now).width }
-    requires above { 0 < y → pixels.old ≡ pixel_row (G.picture grid.now) (y - 1) }
-    ensures { pixels.new ≡ pixel_row (G.picture grid.now) y }
+    requires kept { (k : ℕ) → y ≤ k → k < next
+        → pixels.old ≡ pixel_row (G.picture grid.now) k }
+    ensures whole { length pixels.new ≡ (G.picture grid.now).width }
+    ensures further { y < result }
+    ensures kept { (k : ℕ) → y ≤ k → k < result
+        → pixels.new ≡ pixel_row (G.picture grid.now) k }
 {
-    if y == 0 || !grid.repeats(y) {
-        grid.read_row(y, pixels);
+    if y < next {
+        return next;
     }
+    grid.read_row(y, pixels);
+    y + grid.equal_rows(y)
 }
 
 /// Writes a row of these pixels.

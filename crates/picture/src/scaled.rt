@@ -1,5 +1,5 @@
 //! Pictures enlarged.
-ghost use Rattle.std.specs.Prelude.{◌≡◌, ◌*◌, ◌/◌, ◌≤◌, false, length, map, slice_index_or};
+ghost use Rattle.std.specs.Prelude.{◌≡◌, ℕ, ◌+◌, ◌*◌, ◌/◌, ◌<◌, ◌≤◌, false, length, map, slice_index_or};
 ghost use Rattle.picture.specs.Picture.{scaled};
 ghost use Rattle.picture.specs.Text.{below};
 
@@ -42,24 +42,46 @@ impl<G: Grid> Grid for Scaled<G> {
         self.grid.dark(x / self.scale, y / self.scale)
     }
 
-    fn repeats(&self, y: usize) -> bool {
-        y % self.scale != 0 || self.grid.repeats(y / self.scale)
+    fn equal_rows(&self, y: usize) -> usize {
+        self.grid.equal_rows(y / self.scale) * self.scale - y % self.scale
     }
 
     fn read_row(&self, y: usize, pixels: &mut [bool]) {
         let width = self.grid.width();
         self.grid.read_row(y / self.scale, &mut pixels[..width]);
-        spread(pixels, self.scale);
+        spread(pixels, width, self.scale);
     }
 }
 
 /// Puts each of the first pixels so many times, from the last one on, so that none is lost before it is read.
-fn spread(pixels: &mut [bool], scale: usize)
-    requires { 1 ≤ scale }
+fn spread(pixels: &mut [bool], width: usize, scale: usize)
+    requires some { 1 ≤ scale }
+    requires whole { length pixels.old ≡ width * scale }
     ensures { pixels.new ≡ map (λ x. slice_index_or pixels.old (x / scale) false)
         (below (length pixels.old)) }
 {
-    for x in (0..pixels.len()).rev() {
-        pixels[x] = pixels[x / scale];
+    if scale == 1 {
+        return;
+    }
+    for x in (0..width).rev() {
+        widen(pixels, x, scale);
+    }
+}
+
+/// Puts the pixel in column x where its square stands.
+fn widen(pixels: &mut [bool], x: usize, scale: usize)
+    requires some { 1 ≤ scale }
+    requires inside { (x + 1) * scale ≤ length pixels.old }
+    ensures size { length pixels.new ≡ length pixels.old }
+    ensures square { (k : ℕ) → x * scale ≤ k → k < (x + 1) * scale
+        → slice_index_or pixels.new k false ≡ slice_index_or pixels.old x false }
+    ensures before { (k : ℕ) → k < x * scale
+        → slice_index_or pixels.new k false ≡ slice_index_or pixels.old k false }
+    ensures after { (k : ℕ) → (x + 1) * scale ≤ k
+        → slice_index_or pixels.new k false ≡ slice_index_or pixels.old k false }
+{
+    let dark = pixels[x];
+    for i in 0..scale {
+        pixels[x * scale + i] = dark;
     }
 }

@@ -34,8 +34,8 @@ fn grids_are_asked(rt: HostRuntime) {
     assert_eq!(rt; (scaled.width(), scaled.height()), (14, 10));
     assert_eq!(rt; (scaled.dark(7, 5), scaled.dark(9, 5)), (false, true));
     assert_eq!(rt; (scaled.dark(9, 6), scaled.dark(10, 5)), (false, false));
-    assert_eq!(rt; (scaled.repeats(5), scaled.repeats(6)), (true, false));
-    assert_eq!(rt; (scaled.repeats(4), scaled.repeats(8)), (true, true));
+    assert_eq!(rt; (scaled.equal_rows(0), scaled.equal_rows(5)), (6, 1));
+    assert_eq!(rt; (scaled.equal_rows(6), scaled.equal_rows(9)), (4, 1));
     let mut pixels = [true; 14];
     scaled.read_row(5, &mut pixels);
     let dark = pixels.iter().filter(|pixel| **pixel).count();

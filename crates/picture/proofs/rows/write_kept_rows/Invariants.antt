@@ -1,13 +1,13 @@
-use Rattle.std.proofs.Common.{◌≡◌, ◌-◌, ◌<◌, flat_map}
+use Rattle.std.proofs.Common.{◌≡◌, ◌<◌, ◌≤◌, ℕ, flat_map}
 use Rattle.labelcore.specs.Device.{Unflushed}
 use Rattle.picture.specs.Read.{pixel_row}
 use Rattle.picture.specs.Text.{below, row_text}
 use Rattle.picture.proofs.rows.write_kept_rows.Given as goal
 
--- the rows so far were taken, and the last of them is kept
+-- the rows so far were taken, and those up to the next are kept
 abbrev pub invariant-loop-y : goal.invariant-loop-y
 invariant-loop-y g l = let p = g.G.Grid.picture l.grid in record {
-  kept : 0 < l.y → l.pixels ≡ pixel_row p (l.y - 1);
+  kept : (k : ℕ) → l.y ≤ k → k < l.next → l.pixels ≡ pixel_row p k;
   taken : g.S.Sink.took l.initial.sink l.sink
       (flat_map (row_text g.T.PixelText.pixel g.T.PixelText.row_end p) (below l.y));
   unflushed : Unflushed (g.S.Sink.is_flushed l.initial.sink) (g.S.Sink.is_flushed l.sink);
