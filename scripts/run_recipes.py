@@ -36,6 +36,9 @@ PAGES = ("README.md", "docs/INPUT.md", "docs/PRINTING.md", "docs/RECIPES.md")
 FOLDERS = ("man", "completions", "tools", "docs")
 BLOCK = re.compile(r"^```(sh|sh kit|sh long)\n(.*?)^```\n(?:\n*^```text\n(.*?)^```$)?", re.MULTILINE | re.DOTALL)
 
+# zbar's warnings of its reader of another symbology, which come in some runs and not in others
+DATABAR = re.compile(r"^WARNING: decoder/databar.*\n(?:\t.*\n)?", re.MULTILINE)
+
 
 def blocks_of(page):
     """The kind of each block of a page, its commands, and what they print."""
@@ -103,7 +106,7 @@ class Run:
                              stdout=subprocess.PIPE, stderr=subprocess.STDOUT, timeout=3600)
         if "--times" in self.words:
             print(f"{time.monotonic() - before:7.1f} s  {name}: {commands.splitlines()[0]}")
-        printed = ran.stdout.decode("utf-8", "backslashreplace")
+        printed = DATABAR.sub("", ran.stdout.decode("utf-8", "backslashreplace"))
         self.tell((ran.returncode == 0 or may_fail) and wanted in (None, printed),
                   f"{name}: status {ran.returncode} of:\n{commands}it printed:\n{printed}")
 
