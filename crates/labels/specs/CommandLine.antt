@@ -17,9 +17,9 @@ use Rattle.labelcore.specs.OptionValues.{OptionValues, level_named}
 
 -- ---- the command
 
--- `--name TEXT`
+-- `--name TEXT`; the help text calls the value by one name
 abbrev pub text_option : Text → Rule
-text_option name = record (new_rule name) { long = Some name }
+text_option name = record (new_rule name) { long = Some name; value_names = 1 }
 
 -- `--name NUMBER`, a whole number from low to high
 abbrev pub number_option : Text → ℕ → ℕ → Rule
@@ -29,6 +29,10 @@ number_option name low high =
 -- `--name`, with no value
 abbrev pub switch : Text → Rule
 switch name = record (new_rule name) { long = Some name; action = Some SetTrue }
+
+-- `FILE`; the help text calls it by one name
+abbrev pub file_argument : Rule
+file_argument = record (new_rule (codes "file")) { value_names = 1 }
 
 -- the command reads words with no program's name before them
 abbrev pub command_line : App
@@ -41,7 +45,7 @@ command_line = record {
         ∷ number_option (codes "min-version") 1 10
         ∷ number_option (codes "mask") 0 7
         ∷ switch (codes "escapes")
-        ∷ new_rule (codes "file")
+        ∷ file_argument
         ∷ [];
     no_binary_name = true;
   };

@@ -3,7 +3,7 @@ ghost use Rattle.std.specs.Prelude.{◌≡◌, IfOk, map, string_bytes, codes};
 ghost use Rattle.clap.specs.Words.{app_of, first_value, found_of, kind_of, one_text, rows_of};
 ghost use Rattle.labels.specs.CommandLine.{HoldsNumber, HoldsValues, command_line, format_of};
 ghost use Rattle.labels.specs.CommandLine.{number_of, invocation_refused, invocation_of, run_of};
-ghost use Rattle.labels.specs.CommandLine.{options_named, text_option};
+ghost use Rattle.labels.specs.CommandLine.{file_argument, options_named, switch, text_option};
 ghost use Rattle.clap.specs.Words.{built, rule_of};
 ghost use Rattle.labels.specs.Answers.{Answers, Refuses};
 ghost use Rattle.std.specs.Prelude.{Some, false, option_map};
@@ -33,18 +33,42 @@ pub enum WordsFault {
     Memory,
 }
 
-/// `--name TEXT`
-fn text_option<'a>(alloc: Global, name: &'a str, help: &'a str) -> Arg<'a>
+/// What stands before the usage in the help text.
+const ABOUT: &str =
+    "Draws EAN, UPC, Code 128 and QR Code labels: a picture for each line of the input.";
+
+/// What stands after the options in the help text.
+const AFTER_HELP: &str = "\
+Lines: NAME[,KEY=VALUE].. DATA, where NAME and DATA are
+  ean13 400638133393       12 digits, or 13 with the check digit
+  ean8 7351353             7 digits, or 8
+  upca 03600029145         11 digits, or 12
+  code128 SHELF-7          1 to 80 bytes of ASCII
+  qr https://example.com   any bytes that fit version 10
+and KEY is height, or for qr level, min-version or mask (0 to 7 or auto). Empty lines and
+lines that begin with # draw nothing. A refused line gives a message on standard error.
+
+Status: 0 no line was refused, 1 some line was refused, 2 bad words (of this command),
+3 reading, writing, opening FILE or memory failed.
+
+Example: echo 'ean13 400638133393' | labels --scale 4 --height 70 > pencil.pbm";
+
+/// `--name VALUE`
+fn text_option<'a>(alloc: Global, name: &'a str, value: &'a str, help: &'a str) -> Arg<'a>
     ensures rule { rule_of result ≡ text_option name.entry.now }
     ensures local { result.global ≡ false }
 {
-    Arg::new(alloc, name).long(name).help(help)
+    Arg::new(alloc, name)
+        .long(name)
+        .value_name(value)
+        .help(help)
 }
 
 /// `--name NUMBER`
 fn number_option<'a>(
     alloc: Global,
     name: &'a str,
+    value: &'a str,
     parser: ValueParser<'a>,
     help: &'a str,
 ) -> Arg<'a>
@@ -52,7 +76,28 @@ fn number_option<'a>(
         ≡ record (text_option name.entry.now) { parser = Some parser.entry } }
     ensures local { result.global ≡ false }
 {
-    text_option(alloc, name, help).value_parser(parser)
+    text_option(alloc, name, value, help).value_parser(parser)
+}
+
+/// `--name`
+fn switch<'a>(alloc: Global, name: &'a str, help: &'a str) -> Arg<'a>
+    ensures rule { rule_of result ≡ switch name.entry.now }
+    ensures local { result.global ≡ false }
+{
+    Arg::new(alloc, name)
+        .long(name)
+        .help(help)
+        .action(ArgAction::SetTrue)
+}
+
+/// The file that the words may name.
+fn file_argument<'a>(alloc: Global) -> Arg<'a>
+    ensures rule { rule_of result ≡ file_argument }
+    ensures local { result.global ≡ false }
+{
+    Arg::new(alloc, "file")
+        .value_name("FILE")
+        .help("The file to read; standard input where there is none")
 }
 
 /// The command line, built.
@@ -68,38 +113,51 @@ fn built_command<'a>(alloc: Global) -> Result<Command<'a>, AllocError>
 fn command<'a>(alloc: Global) -> Result<Command<'a>, AllocError>
     ensures { IfOk result (λ c. app_of c ≡ command_line) }
 {
-    let format = text_option(alloc, "format", "The picture format: pbm or ascii");
+    let format = text_option(
+        alloc,
+        "format",
+        "pbm|ascii",
+        "The pictures, as plain PBM or as text [default: pbm]",
+    );
     let scale = number_option(
         alloc,
         "scale",
+        "1-8",
         value_parser!(u8).range(1..=8),
-        "The pixels of a module's side, 1 to 8",
+        "The side of a module in pixels [default: 1]",
     );
     let height = number_option(
         alloc,
         "height",
+        "1-500",
         value_parser!(u16).range(1..=500),
-        "The height of linear symbols in modules, 1 to 500",
+        "The height of EAN, UPC and Code 128 symbols in modules [default: 50]",
     );
-    let level = text_option(alloc, "level", "The error correction level: L, M, Q or H");
+    let level = text_option(
+        alloc,
+        "level",
+        "L|M|Q|H",
+        "The error correction of QR symbols [default: M]",
+    );
     let min_version = number_option(
         alloc,
         "min-version",
+        "1-10",
         value_parser!(u8).range(1..=10),
-        "The least version of a QR symbol, 1 to 10",
+        "The least version of QR symbols [default: 1]",
     );
     let mask = number_option(
         alloc,
         "mask",
+        "0-7",
         value_parser!(u8).range(0..=7),
-        "The mask of a QR symbol, 0 to 7",
+        "The mask of QR symbols [default: the one of the least penalty]",
     );
-    let escapes = text_option(alloc, "escapes", "Read escapes in the data").action(
-        ArgAction::SetTrue,
-    );
-    let file = Arg::new(alloc, "file").help("The file to read");
+    let escapes = switch(alloc, "escapes", "Read \\\\, \\n and \\xHH in the data");
     Command::new(alloc, "labels")
         .no_binary_name(true)
+        .about(ABOUT)
+        .after_help(AFTER_HELP)
         .arg(format)?
         .arg(scale)?
         .arg(height)?
@@ -107,7 +165,7 @@ fn command<'a>(alloc: Global) -> Result<Command<'a>, AllocError>
         .arg(min_version)?
         .arg(mask)?
         .arg(escapes)?
-        .arg(file)
+        .arg(file_argument(alloc))
 }
 
 fn format_of(text: &str) -> Option<Format>
