@@ -2,8 +2,11 @@
 """What has to be believed: every definition that the clause `whole` of the filter's `run` rests on.
 
 usage: scripts/believed.py            prints the list in reading order, and the lines by crate
-       scripts/believed.py --write    writes the list into the first part of docs/DEFINITIONS.md
-       scripts/believed.py --check    compares that part with the list: status 1 where a definition is missing or one too many
+       scripts/believed.py --write    writes the lists of docs/DEFINITIONS.md
+       scripts/believed.py --check    compares that page with the lists: status 1 where a definition is missing or one too many
+
+The first list of the page has the definitions of the headline, the second the other words of specs/, but for the modules whose
+name begins with Private: only contracts inside a crate cite these. What the page says after `Why: ` of a file is kept.
 
 It reads the text of the files in crates/*/specs; no tool of the kit is needed. A definition is a block of lines between blank ones.
 It rests on a word that stands in it, where the word is defined in its file or brought in by a line `use`. A name that is bound in a
@@ -17,9 +20,9 @@ import sys
 TOP = os.path.dirname(os.path.dirname(os.path.abspath(__file__)))
 ROOT = ("filter", "Run", "RunsWhole")
 # The crates in the order in which a reader meets them, from the headline down.
-CRATES = ["filter", "labelcore", "picture", "linear", "qrmatrix", "qrdata", "gf256"]
+CRATES = ["filter", "labelcore", "picture", "linear", "qrmatrix", "qrdata", "gf256", "labels"]
 PAGE = os.path.join(TOP, "docs", "DEFINITIONS.md")
-BEGIN, END = "<!-- believed: begin -->", "<!-- believed: end -->"
+MARKS = [("<!-- believed: begin -->", "<!-- believed: end -->"), ("<!-- other: begin -->", "<!-- other: end -->")]
 
 NAME = r"[^\W\d][\w']*(?:-[\w']+)*"
 HEAD = re.compile(rf"^(?:(?:abbrev|unfoldable)\s+)?(?:pub\s+)?(?:record\s+|data\s+)?(◌\S+◌|{NAME})(?=[\s:(])")
@@ -165,49 +168,85 @@ def cell(text):
     return text.replace("|", "\\|")
 
 
-def part(files, reached):
-    """The first part of the page: the list, file by file."""
+def others(files, reached):
+    """The words of specs/ that the headline does not rest on, but for those of private contracts."""
+    keys = {one.key for one in reached}
+    return [
+        one
+        for (_, module), file in files.items()
+        if not module.startswith("Private")
+        for one in file.order
+        if one.key not in keys
+    ]
+
+
+def part(files, definitions, whys):
+    """A list as the page has it, file by file."""
     out = []
-    for crate, modules in by_file(reached):
+    for crate, modules in by_file(definitions):
         out += ["", f"### `{crate}`"]
-        for module, definitions in modules.items():
-            out += ["", f"**`{module}`**: {files[crate, module].about}", "", "| Word | What it says |", "|---|---|"]
-            out += [f"| `{one.key[2]}` | {cell(one.comment)} |" for one in definitions]
+        for module, inside in modules.items():
+            out += ["", f"**`{module}`**: {files[crate, module].about}", ""]
+            if (crate, module) in whys:
+                out += [whys[crate, module], ""]
+            out += ["| Word | What it says |", "|---|---|"]
+            out += [f"| `{one.key[2]}` | {cell(one.comment)} |" for one in inside]
     return "\n".join(out) + "\n"
 
 
-def listed(page):
-    """The words that the first part of the page lists, each with its crate and file."""
-    inside = page.partition(BEGIN)[2].partition(END)[0]
-    words, crate, module = set(), None, None
-    for line in inside.split("\n"):
+def between(page, marks):
+    return page.partition(marks[0])[2].partition(marks[1])[0]
+
+
+def read_part(text):
+    """The words that a list has, each with its crate and file, and what it says of the files after `Why: `."""
+    words, whys, crate, module = set(), {}, None, None
+    for line in text.split("\n"):
         if head := re.match(r"### `(\w+)`", line):
             crate = head.group(1)
         elif head := re.match(r"\*\*`([\w.]+)`\*\*", line):
             module = head.group(1)
+        elif line.startswith("Why: "):
+            whys[crate, module] = line
+        elif (crate, module) in whys and line and not line.startswith("|"):
+            whys[crate, module] += "\n" + line
         elif row := re.match(r"\| `([^`]+)` \|", line):
             words.add((crate, module, row.group(1)))
-    return words
+    return words, whys
+
+
+def check(page, lists):
+    """Whether the lists of the page are these, each difference printed."""
+    same = True
+    for marks, definitions in zip(MARKS, lists):
+        there, wanted = read_part(between(page, marks))[0], {one.key for one in definitions}
+        for crate, module, word in sorted(wanted - there):
+            print(f"docs/DEFINITIONS.md lacks {word} of crates/{crate}/specs/{module}.antt")
+        for crate, module, word in sorted(there - wanted):
+            print(f"docs/DEFINITIONS.md has {word} of crates/{crate}/specs/{module}.antt in a list where it does not belong")
+        same = same and there == wanted
+    return same
+
+
+def write(page, files, lists):
+    """The page with its lists made anew."""
+    for marks, definitions in zip(MARKS, lists):
+        before, _, rest = page.partition(marks[0])
+        old, _, after = rest.partition(marks[1])
+        page = before + marks[0] + "\n" + part(files, definitions, read_part(old)[1]) + "\n" + marks[1] + after
+    return page
 
 
 def main():
     files, reached, types = believed()
-    if sys.argv[1:] == ["--check"]:
-        with open(PAGE, encoding="utf-8") as page:
-            there = listed(page.read())
-        wanted = {one.key for one in reached}
-        for crate, module, word in sorted(wanted - there):
-            print(f"docs/DEFINITIONS.md lacks {word} of crates/{crate}/specs/{module}.antt")
-        for crate, module, word in sorted(there - wanted):
-            print(f"docs/DEFINITIONS.md lists {word} of crates/{crate}/specs/{module}.antt, which the headline does not rest on")
-        return 0 if wanted == there else 1
-    if sys.argv[1:] == ["--write"]:
-        with open(PAGE, encoding="utf-8") as page:
-            text = page.read()
-        before, _, rest = text.partition(BEGIN)
-        after = rest.partition(END)[2]
-        with open(PAGE, "w", encoding="utf-8") as page:
-            page.write(before + BEGIN + "\n" + part(files, reached) + "\n" + END + after)
+    lists = [reached, others(files, reached)]
+    if sys.argv[1:] in (["--check"], ["--write"]):
+        with open(PAGE, encoding="utf-8") as text:
+            page = text.read()
+        if sys.argv[1] == "--check":
+            return 0 if check(page, lists) else 1
+        with open(PAGE, "w", encoding="utf-8") as text:
+            text.write(write(page, files, lists))
         return 0
     if sys.argv[1:]:
         sys.exit(__doc__)
@@ -227,7 +266,8 @@ def main():
         print(f"    {crate}: {len(here)} definitions, {lines_of(here)} lines")
     print(f"    in all: {len(reached)} definitions, {total} lines in {len({one.key[:2] for one in reached})} files")
     every = [one for file in files.values() for one in file.order]
-    print(f"    not reached: {len(every) - len(reached)} definitions, {lines_of(every) - total} lines")
+    rest, private = lines_of(lists[1]), lines_of(every) - total - lines_of(lists[1])
+    print(f"    beside it: {len(lists[1])} definitions, {rest} lines; words of private contracts: {private} lines")
     return 0
 
 
