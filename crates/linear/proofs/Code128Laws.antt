@@ -22,30 +22,38 @@ use Rattle.linear.proofs.CharacterLaws.{length-character_bars, group_value-chara
 meaning-a : (byte : ℕ) → byte < 96 → meaning A (character_value A byte) ≡ Meaning.text (byte ∷ [])
 meaning-a byte h =
     elim (cases_lt byte 32) [
-      | inl low ↦ rw (lt-ltb byte 32 low, le-ltb (byte + 64) 64 (omega arith), lt-ltb (byte + 64) 96 (omega arith)) (ap (λ b. Meaning.text (b ∷ [])) (omega arith))
-      | inr high ↦ rw (le-ltb byte 32 high, lt-ltb (byte - 32) 64 (omega arith)) (ap (λ b. Meaning.text (b ∷ [])) (omega arith))
+      | inl low ↦ rw (lt-ltb byte 32 low, le-ltb (byte + 64) 64 (omega arith), lt-ltb (byte + 64) 96 (omega arith))
+          (ap (λ b. Meaning.text (b ∷ [])) (omega arith))
+      | inr high ↦ rw (le-ltb byte 32 high, lt-ltb (byte - 32) 64 (omega arith))
+          (ap (λ b. Meaning.text (b ∷ [])) (omega arith))
     ]
 
 meaning-b : (byte : ℕ) → 32 ≤ byte → byte < 128 → meaning B (character_value B byte) ≡ Meaning.text (byte ∷ [])
 meaning-b byte low h = rw (lt-ltb (byte - 32) 96 (omega arith)) (ap (λ b. Meaning.text (b ∷ [])) (omega arith))
 
-meaning-pair : (first second : ℕ) → IsAsciiDigit first → IsAsciiDigit second → meaning C (pair_value first second) ≡ Meaning.text (first ∷ second ∷ [])
+meaning-pair : (first second : ℕ) → IsAsciiDigit first → IsAsciiDigit second
+    → meaning C (pair_value first second) ≡ Meaning.text (first ∷ second ∷ [])
 meaning-pair first second d e =
     let tens : 48 + pair_value first second / 10 ≡ first = omega arith in
     let ones : 48 + pair_value first second % 10 ≡ second = omega arith in
     rw (lt-ltb (pair_value first second) 100 (omega arith), tens, ones) refl
 
 -- one value read
-text_read : (set : CodeSet) (value : ℕ) (bytes values : List ℕ) → meaning set value ≡ Meaning.text bytes → read_values set false (value ∷ values) ≡ option_map (λ rest. bytes ++ rest) (read_values set false values)
+text_read : (set : CodeSet) (value : ℕ) (bytes values : List ℕ) → meaning set value ≡ Meaning.text bytes
+    → read_values set false (value ∷ values) ≡ option_map (λ rest. bytes ++ rest) (read_values set false values)
 text_read set value bytes values e = rw (e, read_values) refl
 
-shifted_read : (set : CodeSet) (value : ℕ) (bytes values : List ℕ) → meaning (other_set set) value ≡ Meaning.text bytes → read_values set true (value ∷ values) ≡ option_map (λ rest. bytes ++ rest) (read_values set false values)
+shifted_read : (set : CodeSet) (value : ℕ) (bytes values : List ℕ)
+    → meaning (other_set set) value ≡ Meaning.text bytes
+    → read_values set true (value ∷ values) ≡ option_map (λ rest. bytes ++ rest) (read_values set false values)
 shifted_read set value bytes values e = rw (e, read_values) refl
 
-change_read : (set next : CodeSet) (value : ℕ) (values : List ℕ) → meaning set value ≡ Meaning.change next → read_values set false (value ∷ values) ≡ read_values next false values
+change_read : (set next : CodeSet) (value : ℕ) (values : List ℕ) → meaning set value ≡ Meaning.change next
+    → read_values set false (value ∷ values) ≡ read_values next false values
 change_read set next value values e = rw (e, read_values) refl
 
-shift_read : (set : CodeSet) (value : ℕ) (values : List ℕ) → meaning set value ≡ Meaning.shift → read_values set false (value ∷ values) ≡ read_values set true values
+shift_read : (set : CodeSet) (value : ℕ) (values : List ℕ) → meaning set value ≡ Meaning.shift
+    → read_values set false (value ∷ values) ≡ read_values set true values
 shift_read set value values e = rw (e, read_values) refl
 
 -- the set that is picked has the first byte
@@ -53,7 +61,8 @@ a_or_b : (b : Bool) → (cond b A B ≡ A) ⊎ (cond b A B ≡ B)
 a_or_b true = inl refl
 a_or_b false = inr refl
 
-pub picked_has : (byte : ℕ) (rest : List ℕ) → byte < 128 → ((picked_set (byte ∷ rest) ≡ A) × (byte < 96)) ⊎ ((picked_set (byte ∷ rest) ≡ B) × (32 ≤ byte))
+pub picked_has : (byte : ℕ) (rest : List ℕ) → byte < 128
+    → ((picked_set (byte ∷ rest) ≡ A) × (byte < 96)) ⊎ ((picked_set (byte ∷ rest) ≡ B) × (32 ≤ byte))
 picked_has byte rest h =
     elim (cases_lt byte 32) [
       | inl low ↦ inl (rw (lt-ltb byte 32 low) (rw (lt-ltb byte 32 low) refl), omega arith)
@@ -65,35 +74,64 @@ picked_has byte rest h =
 
 -- after the values of one byte, what follows is read in the set that they leave
 abbrev ReadsByte : CodeSet → ℕ → List ℕ → Written → Type 0
-ReadsByte set byte values step = read_values set false (step.values ++ values) ≡ option_map (λ rest. byte ∷ rest) (read_values step.set false values)
+ReadsByte set byte values step =
+    read_values set false (step.values ++ values) ≡ option_map (λ rest. byte ∷ rest) (read_values step.set false values)
 
-read_in_a : (byte : ℕ) (values : List ℕ) → byte < 96 → read_values A false (character_value A byte ∷ values) ≡ option_map (λ rest. byte ∷ rest) (read_values A false values)
+read_in_a : (byte : ℕ) (values : List ℕ) → byte < 96
+    → read_values A false (character_value A byte ∷ values)
+    ≡ option_map (λ rest. byte ∷ rest) (read_values A false values)
 read_in_a byte values h = text_read A (character_value A byte) (byte ∷ []) values (meaning-a byte h)
 
-read_in_b : (byte : ℕ) (values : List ℕ) → 32 ≤ byte → byte < 128 → read_values B false (character_value B byte ∷ values) ≡ option_map (λ rest. byte ∷ rest) (read_values B false values)
+read_in_b : (byte : ℕ) (values : List ℕ) → 32 ≤ byte → byte < 128
+    → read_values B false (character_value B byte ∷ values)
+    ≡ option_map (λ rest. byte ∷ rest) (read_values B false values)
 read_in_b byte values low h = text_read B (character_value B byte) (byte ∷ []) values (meaning-b byte low h)
 
-change_to_a : (byte : ℕ) (values : List ℕ) (set : CodeSet) → meaning set 101 ≡ Meaning.change A → byte < 96 → ReadsByte set byte values (changed_to A byte)
+change_to_a : (byte : ℕ) (values : List ℕ) (set : CodeSet) → meaning set 101 ≡ Meaning.change A → byte < 96
+    → ReadsByte set byte values (changed_to A byte)
 change_to_a byte values set e h = change_read set A 101 (character_value A byte ∷ values) e ∙ read_in_a byte values h
 
-change_to_b : (byte : ℕ) (values : List ℕ) (set : CodeSet) → meaning set 100 ≡ Meaning.change B → 32 ≤ byte → byte < 128 → ReadsByte set byte values (changed_to B byte)
-change_to_b byte values set e low h = change_read set B 100 (character_value B byte ∷ values) e ∙ read_in_b byte values low h
+change_to_b : (byte : ℕ) (values : List ℕ) (set : CodeSet) → meaning set 100 ≡ Meaning.change B → 32 ≤ byte
+    → byte < 128 → ReadsByte set byte values (changed_to B byte)
+change_to_b byte values set e low h = change_read set B 100 (character_value B byte ∷ values) e
+    ∙ read_in_b byte values low h
 
-shift_from_a : (byte : ℕ) (values : List ℕ) → 32 ≤ byte → byte < 128 → ReadsByte A byte values (record { values = shift_value ∷ character_value B byte ∷ []; set = A })
-shift_from_a byte values low h = shift_read A 98 (character_value B byte ∷ values) refl ∙ shifted_read A (character_value B byte) (byte ∷ []) values (meaning-b byte low h)
+shift_from_a : (byte : ℕ) (values : List ℕ) → 32 ≤ byte → byte < 128
+    → ReadsByte A byte values (record { values = shift_value ∷ character_value B byte ∷ []; set = A })
+shift_from_a byte values low h = shift_read A 98 (character_value B byte ∷ values) refl
+    ∙ shifted_read A (character_value B byte) (byte ∷ []) values (meaning-b byte low h)
 
-shift_from_b : (byte : ℕ) (values : List ℕ) → byte < 96 → ReadsByte B byte values (record { values = shift_value ∷ character_value A byte ∷ []; set = B })
-shift_from_b byte values h = shift_read B 98 (character_value A byte ∷ values) refl ∙ shifted_read B (character_value A byte) (byte ∷ []) values (meaning-a byte h)
+shift_from_b : (byte : ℕ) (values : List ℕ) → byte < 96
+    → ReadsByte B byte values (record { values = shift_value ∷ character_value A byte ∷ []; set = B })
+shift_from_b byte values h = shift_read B 98 (character_value A byte ∷ values) refl
+    ∙ shifted_read B (character_value A byte) (byte ∷ []) values (meaning-a byte h)
 
-byte_read : (set : CodeSet) (byte : ℕ) (rest values : List ℕ) → byte < 128 → ReadsByte set byte values (byte_written set byte rest)
+byte_read : (set : CodeSet) (byte : ℕ) (rest values : List ℕ) → byte < 128
+    → ReadsByte set byte values (byte_written set byte rest)
 byte_read A byte rest values h =
     elim (cases_lt byte 96) [
       | inl has ↦ rw (lt-ltb byte 96 has) (read_in_a byte values has)
-      | inr lacks ↦ rw (le-ltb byte 96 lacks) (let P : Bool → Type 0 = λ b. ReadsByte A byte values (cond b (record { values = shift_value ∷ character_value B byte ∷ []; set = A }) (changed_to B byte)) in let Q : (b : Bool) → P b = elim [ true ↦ shift_from_a byte values (omega arith) h | false ↦ change_to_b byte values A refl (omega arith) h ] in Q (is_control_next rest))
+      | inr lacks ↦ rw (le-ltb byte 96 lacks)
+          (let P : Bool → Type 0 =
+          λ b. ReadsByte A byte values
+          (cond b (record { values = shift_value ∷ character_value B byte ∷ []; set = A }) (changed_to B byte)) in
+          let Q : (b : Bool) → P b =
+          elim [
+            | true ↦ shift_from_a byte values (omega arith) h
+            | false ↦ change_to_b byte values A refl (omega arith) h
+          ] in Q (is_control_next rest))
     ]
 byte_read B byte rest values h =
     elim (cases_lt byte 32) [
-      | inl lacks ↦ rw (let e : leb 32 byte ≡ false = grind (arith, nat_tests) in e) (let P : Bool → Type 0 = λ b. ReadsByte B byte values (cond b (record { values = shift_value ∷ character_value A byte ∷ []; set = B }) (changed_to A byte)) in let Q : (b : Bool) → P b = elim [ true ↦ shift_from_b byte values (omega arith) | false ↦ change_to_a byte values B refl (omega arith) ] in Q (is_lower_next rest))
+      | inl lacks ↦ rw (let e : leb 32 byte ≡ false = grind (arith, nat_tests) in e)
+          (let P : Bool → Type 0 =
+          λ b. ReadsByte B byte values
+          (cond b (record { values = shift_value ∷ character_value A byte ∷ []; set = B }) (changed_to A byte)) in
+          let Q : (b : Bool) → P b =
+          elim [
+            | true ↦ shift_from_b byte values (omega arith)
+            | false ↦ change_to_a byte values B refl (omega arith)
+          ] in Q (is_lower_next rest))
       | inr has ↦ rw (le-leb 32 byte has) (read_in_b byte values has h)
     ]
 byte_read C byte rest values h =
@@ -106,42 +144,65 @@ digit_from_true : (byte : ℕ) → is_ascii_digit byte ≡ true → IsAsciiDigit
 digit_from_true byte h = grind (arith, nat_tests)
 
 -- two digits or more begin with two digits
-two_digits : (first second : ℕ) (rest : List ℕ) → 2 ≤ leading_digits (first ∷ second ∷ rest) → IsAsciiDigit first × IsAsciiDigit second
+two_digits : (first second : ℕ) (rest : List ℕ) → 2 ≤ leading_digits (first ∷ second ∷ rest)
+    → IsAsciiDigit first × IsAsciiDigit second
 two_digits first second rest h =
-    let on_second : (b : Bool) → is_ascii_digit second ≡ b → 2 ≤ 1 + cond b (1 + prefix_len is_ascii_digit rest) 0 → IsAsciiDigit second =
+    let on_second : (b : Bool) → is_ascii_digit second ≡ b → 2 ≤ 1 + cond b (1 + prefix_len is_ascii_digit rest) 0
+    → IsAsciiDigit second =
     elim [ true ↦ λ e k. digit_from_true second e | false ↦ λ e k. absurd (omega arith) ] in
-    let on_first : (b : Bool) → is_ascii_digit first ≡ b → 2 ≤ cond b (1 + prefix_len is_ascii_digit (second ∷ rest)) 0 → IsAsciiDigit first × IsAsciiDigit second =
-    elim [ true ↦ λ e k. (digit_from_true first e, on_second (is_ascii_digit second) refl k) | false ↦ λ e k. absurd (omega arith) ] in
+    let on_first : (b : Bool) → is_ascii_digit first ≡ b
+    → 2 ≤ cond b (1 + prefix_len is_ascii_digit (second ∷ rest)) 0 → IsAsciiDigit first × IsAsciiDigit second =
+    elim [
+      | true ↦ λ e k. (digit_from_true first e, on_second (is_ascii_digit second) refl k)
+      | false ↦ λ e k. absurd (omega arith)
+    ] in
     on_first (is_ascii_digit first) refl h
 
 pub even_run : (bytes : List ℕ) → is_even_run bytes ≡ true → 2 ≤ leading_digits bytes
 even_run bytes h = grind (arith, nat_tests)
 
-pub pair_digits : (set : CodeSet) (first second : ℕ) (rest : List ℕ) → is_pair_next set (first ∷ second ∷ rest) ≡ true → IsAsciiDigit first × IsAsciiDigit second
+pub pair_digits : (set : CodeSet) (first second : ℕ) (rest : List ℕ) → is_pair_next set (first ∷ second ∷ rest) ≡ true
+    → IsAsciiDigit first × IsAsciiDigit second
 pair_digits A first second rest h = two_digits first second rest (even_run (first ∷ second ∷ rest) h)
 pair_digits B first second rest h = two_digits first second rest (even_run (first ∷ second ∷ rest) h)
-pair_digits C first second rest h = two_digits first second rest (let k : leb 2 (leading_digits (first ∷ second ∷ rest)) ≡ true = h in grind (arith, nat_tests))
+pair_digits C first second rest h =
+    two_digits first second rest
+    (let k : leb 2 (leading_digits (first ∷ second ∷ rest)) ≡ true = h in grind (arith, nat_tests))
 
-pair_read : (set : CodeSet) (first second : ℕ) (values : List ℕ) → IsAsciiDigit first → IsAsciiDigit second → read_values set false (pair_values set first second ++ values) ≡ option_map (λ rest. first ∷ second ∷ rest) (read_values C false values)
-pair_read A first second values d e = change_read A C 99 (pair_value first second ∷ values) refl ∙ text_read C (pair_value first second) (first ∷ second ∷ []) values (meaning-pair first second d e)
-pair_read B first second values d e = change_read B C 99 (pair_value first second ∷ values) refl ∙ text_read C (pair_value first second) (first ∷ second ∷ []) values (meaning-pair first second d e)
-pair_read C first second values d e = text_read C (pair_value first second) (first ∷ second ∷ []) values (meaning-pair first second d e)
+pair_read : (set : CodeSet) (first second : ℕ) (values : List ℕ) → IsAsciiDigit first → IsAsciiDigit second
+    → read_values set false (pair_values set first second ++ values)
+    ≡ option_map (λ rest. first ∷ second ∷ rest) (read_values C false values)
+pair_read A first second values d e = change_read A C 99 (pair_value first second ∷ values) refl
+    ∙ text_read C (pair_value first second) (first ∷ second ∷ []) values (meaning-pair first second d e)
+pair_read B first second values d e = change_read B C 99 (pair_value first second ∷ values) refl
+    ∙ text_read C (pair_value first second) (first ∷ second ∷ []) values (meaning-pair first second d e)
+pair_read C first second values d e =
+    text_read C (pair_value first second) (first ∷ second ∷ []) values (meaning-pair first second d e)
 
 -- what is written from a set on is read from it on
-pub read_written : (set : CodeSet) (bytes : List ℕ) → AllByRecursion (λ byte. byte < 128) bytes → read_values set false (written set bytes) ≡ Some bytes
+pub read_written : (set : CodeSet) (bytes : List ℕ) → AllByRecursion (λ byte. byte < 128) bytes
+    → read_values set false (written set bytes) ≡ Some bytes
 read_written set [] d = refl
 read_written set (byte ∷ []) d =
     ap (read_values set false) (sym (append-nil (byte_written set byte []).values)) ∙ byte_read set byte [] [] d.0
 read_written set (first ∷ second ∷ rest) d =
     let step = byte_written set first (second ∷ rest) in
-    let values : Bool → List ℕ = λ b. elim b [ true ↦ pair_values set first second ++ written C rest | false ↦ step.values ++ written step.set (second ∷ rest) ] in
-    let by_case : (b : Bool) → is_pair_next set (first ∷ second ∷ rest) ≡ b → read_values set false (values b) ≡ Some (first ∷ second ∷ rest) =
+    let values : Bool → List ℕ =
+    λ b. elim b [
+      | true ↦ pair_values set first second ++ written C rest
+      | false ↦ step.values
+          ++ written step.set (second ∷ rest)
+    ] in
+    let by_case : (b : Bool) → is_pair_next set (first ∷ second ∷ rest) ≡ b
+    → read_values set false (values b) ≡ Some (first ∷ second ∷ rest) =
     elim [
       | true ↦ λ e.
           let digits = pair_digits set first second rest e in
-          pair_read set first second (written C rest) digits.0 digits.1 ∙ ap (option_map (λ after. first ∷ second ∷ after)) (read_written C rest d.1.1)
+          pair_read set first second (written C rest) digits.0 digits.1
+          ∙ ap (option_map (λ after. first ∷ second ∷ after)) (read_written C rest d.1.1)
       | false ↦ λ e.
-          byte_read set first (second ∷ rest) (written step.set (second ∷ rest)) d.0 ∙ ap (option_map (λ after. first ∷ after)) (read_written step.set (second ∷ rest) d.1)
+          byte_read set first (second ∷ rest) (written step.set (second ∷ rest)) d.0
+          ∙ ap (option_map (λ after. first ∷ after)) (read_written step.set (second ∷ rest) d.1)
     ] in
     by_case (is_pair_next set (first ∷ second ∷ rest)) refl
 
@@ -154,7 +215,11 @@ joined_characters [] ys a b = b
 joined_characters (x ∷ xs) ys a b = (a.0, joined_characters xs ys a.1 b)
 
 character_value_below : (set : CodeSet) (byte : ℕ) → byte < 128 → character_value set byte < 106
-character_value_below A byte h = elim (cases_lt byte 32) [ inl low ↦ rw (lt-ltb byte 32 low) (omega arith) | inr high ↦ rw (le-ltb byte 32 high) (omega arith) ]
+character_value_below A byte h =
+    elim (cases_lt byte 32) [
+      | inl low ↦ rw (lt-ltb byte 32 low) (omega arith)
+      | inr high ↦ rw (le-ltb byte 32 high) (omega arith)
+    ]
 character_value_below B byte h = omega arith
 character_value_below C byte h = lit< tt
 
@@ -163,78 +228,129 @@ change_value_below A = lit< tt
 change_value_below B = lit< tt
 change_value_below C = lit< tt
 
-step_characters : (set : CodeSet) (byte : ℕ) (rest : List ℕ) → byte < 128 → AreCharacters (byte_written set byte rest).values
+step_characters : (set : CodeSet) (byte : ℕ) (rest : List ℕ) → byte < 128
+    → AreCharacters (byte_written set byte rest).values
 step_characters A byte rest h =
-    let P : Bool → Bool → Type 0 = λ a b. AreCharacters (cond a (record { values = character_value A byte ∷ []; set = A }) (cond b (record { values = shift_value ∷ character_value B byte ∷ []; set = A }) (changed_to B byte))).values in
-    let Q : (a b : Bool) → P a b = elim [ true ↦ λ b. (character_value_below A byte h, tt) | false ↦ elim [ true ↦ (lit< tt, (character_value_below B byte h, tt)) | false ↦ (lit< tt, (character_value_below B byte h, tt)) ] ] in
+    let P : Bool → Bool → Type 0 =
+    λ a b. AreCharacters (cond a (record { values = character_value A byte ∷ []; set = A })
+    (cond b (record { values = shift_value ∷ character_value B byte ∷ []; set = A }) (changed_to B byte))).values in
+    let Q : (a b : Bool) → P a b =
+    elim [
+      | true ↦ λ b. (character_value_below A byte h, tt)
+      | false ↦ elim [
+        | true ↦ (lit< tt, (character_value_below B byte h, tt))
+        | false ↦ (lit< tt, (character_value_below B byte h, tt))
+      ]
+    ] in
     Q (ltb byte 96) (is_control_next rest)
 step_characters B byte rest h =
-    let P : Bool → Bool → Type 0 = λ a b. AreCharacters (cond a (record { values = character_value B byte ∷ []; set = B }) (cond b (record { values = shift_value ∷ character_value A byte ∷ []; set = B }) (changed_to A byte))).values in
-    let Q : (a b : Bool) → P a b = elim [ true ↦ λ b. (character_value_below B byte h, tt) | false ↦ elim [ true ↦ (lit< tt, (character_value_below A byte h, tt)) | false ↦ (lit< tt, (character_value_below A byte h, tt)) ] ] in
+    let P : Bool → Bool → Type 0 =
+    λ a b. AreCharacters (cond a (record { values = character_value B byte ∷ []; set = B })
+    (cond b (record { values = shift_value ∷ character_value A byte ∷ []; set = B }) (changed_to A byte))).values in
+    let Q : (a b : Bool) → P a b =
+    elim [
+      | true ↦ λ b. (character_value_below B byte h, tt)
+      | false ↦ elim [
+        | true ↦ (lit< tt, (character_value_below A byte h, tt))
+        | false ↦ (lit< tt, (character_value_below A byte h, tt))
+      ]
+    ] in
     Q (leb 32 byte) (is_lower_next rest)
-step_characters C byte rest h = (change_value_below (picked_set (byte ∷ rest)), (character_value_below (picked_set (byte ∷ rest)) byte h, tt))
+step_characters C byte rest h =
+    (change_value_below (picked_set (byte ∷ rest)), (character_value_below (picked_set (byte ∷ rest)) byte h, tt))
 
-pair_characters : (set : CodeSet) (first second : ℕ) → IsAsciiDigit first → IsAsciiDigit second → AreCharacters (pair_values set first second)
+pair_characters : (set : CodeSet) (first second : ℕ) → IsAsciiDigit first → IsAsciiDigit second
+    → AreCharacters (pair_values set first second)
 pair_characters A first second d e = (lit< tt, ((let k : pair_value first second < 106 = omega arith in k), tt))
 pair_characters B first second d e = (lit< tt, ((let k : pair_value first second < 106 = omega arith in k), tt))
 pair_characters C first second d e = ((let k : pair_value first second < 106 = omega arith in k), tt)
 
-pub written_characters : (set : CodeSet) (bytes : List ℕ) → AllByRecursion (λ byte. byte < 128) bytes → AreCharacters (written set bytes)
+pub written_characters : (set : CodeSet) (bytes : List ℕ) → AllByRecursion (λ byte. byte < 128) bytes
+    → AreCharacters (written set bytes)
 written_characters set [] d = tt
 written_characters set (byte ∷ []) d = step_characters set byte [] d.0
 written_characters set (first ∷ second ∷ rest) d =
     let step = byte_written set first (second ∷ rest) in
-    let values : Bool → List ℕ = λ b. elim b [ true ↦ pair_values set first second ++ written C rest | false ↦ step.values ++ written step.set (second ∷ rest) ] in
+    let values : Bool → List ℕ =
+    λ b. elim b [
+      | true ↦ pair_values set first second ++ written C rest
+      | false ↦ step.values
+          ++ written step.set (second ∷ rest)
+    ] in
     let by_case : (b : Bool) → is_pair_next set (first ∷ second ∷ rest) ≡ b → AreCharacters (values b) =
     elim [
       | true ↦ λ e.
           let digits = pair_digits set first second rest e in
-          joined_characters (pair_values set first second) (written C rest) (pair_characters set first second digits.0 digits.1) (written_characters C rest d.1.1)
-      | false ↦ λ e. joined_characters step.values (written step.set (second ∷ rest)) (step_characters set first (second ∷ rest) d.0) (written_characters step.set (second ∷ rest) d.1)
+          joined_characters (pair_values set first second) (written C rest)
+          (pair_characters set first second digits.0 digits.1) (written_characters C rest d.1.1)
+      | false ↦ λ e. joined_characters step.values (written step.set (second ∷ rest))
+          (step_characters set first (second ∷ rest) d.0) (written_characters step.set (second ∷ rest) d.1)
     ] in
     by_case (is_pair_next set (first ∷ second ∷ rest)) refl
 
 -- characters in a row
-pub length-characters : (values : List ℕ) → AreCharacters values → length (flat_map character_bars values) ≡ 11 * length values
+pub length-characters : (values : List ℕ) → AreCharacters values
+    → length (flat_map character_bars values) ≡ 11 * length values
 length-characters [] a = refl
 length-characters (value ∷ values) a =
     let first = length-character_bars value a.0 in
     let rest = length-characters values a.1 in
     length-append (character_bars value) (flat_map character_bars values) ∙ omega arith
 
-pub characters_found : (values : List ℕ) (after : List Bool) → AreCharacters values → each_found group_value (groups 11 (length values) (flat_map character_bars values ++ after)) ≡ Some values
+pub characters_found : (values : List ℕ) (after : List Bool) → AreCharacters values
+    → each_found group_value (groups 11 (length values) (flat_map character_bars values ++ after)) ≡ Some values
 characters_found [] after a = refl
 characters_found (value ∷ values) after a =
     let first = character_bars value in
     let eleven : length first ≡ 11 = length-character_bars value a.0 in
-    rw (append_assoc first (flat_map character_bars values) after, take-append 11 first (flat_map character_bars values ++ after) eleven, drop-append 11 first (flat_map character_bars values ++ after) eleven, group_value-character_bars value a.0, characters_found values after a.1) refl
+    rw (
+      append_assoc first (flat_map character_bars values) after,
+      take-append 11 first (flat_map character_bars values ++ after) eleven,
+      drop-append 11 first (flat_map character_bars values ++ after) eleven,
+      group_value-character_bars value a.0,
+      characters_found values after a.1,
+    ) refl
 
 -- a row of characters and the stop character is read as the characters' data
-pub row_read : (values : List ℕ) → AreCharacters values → read_code128 (flat_map character_bars values ++ character_bars 106) ≡ symbol_data values
+pub row_read : (values : List ℕ) → AreCharacters values
+    → read_code128 (flat_map character_bars values ++ character_bars 106) ≡ symbol_data values
 row_read values a =
     let row : List Bool = flat_map character_bars values ++ character_bars 106 in
     let front : length (flat_map character_bars values) ≡ 11 * length values = length-characters values a in
-    let long : length row ≡ 11 * length values + 13 = length-append (flat_map character_bars values) (character_bars 106) ∙ ap (λ k. k + 13) front in
+    let long : length row ≡ 11 * length values + 13 =
+    length-append (flat_map character_bars values) (character_bars 106) ∙ ap (λ k. k + 13) front in
     let count : group_count row ≡ length values = omega arith in
-    let stop : drop (11 * length values) row ≡ character_bars 106 = drop-append (11 * length values) (flat_map character_bars values) (character_bars 106) front in
-    let whole : ℕ → Option (List ℕ) = λ n. cond (eqb (length row) (11 * n + 13) && is_stop (drop (11 * n) row)) (option_and_then symbol_data (each_found group_value (groups 11 n row))) None in
+    let stop : drop (11 * length values) row ≡ character_bars 106 =
+    drop-append (11 * length values) (flat_map character_bars values) (character_bars 106) front in
+    let whole : ℕ → Option (List ℕ) =
+    λ n. cond (eqb (length row) (11 * n + 13) && is_stop (drop (11 * n) row))
+    (option_and_then symbol_data (each_found group_value (groups 11 n row))) None in
     ap whole count
-    ∙ ap (λ b. cond (b && is_stop (drop (11 * length values) row)) (option_and_then symbol_data (each_found group_value (groups 11 (length values) row))) None) (eq-eqb (length row) (11 * length values + 13) long)
-    ∙ ap (λ xs. cond (is_stop xs) (option_and_then symbol_data (each_found group_value (groups 11 (length values) row))) None) stop
+    ∙ ap (λ b. cond (b && is_stop (drop (11 * length values) row))
+    (option_and_then symbol_data (each_found group_value (groups 11 (length values) row))) None)
+    (eq-eqb (length row) (11 * length values + 13) long)
+    ∙ ap (λ xs. cond (is_stop xs)
+    (option_and_then symbol_data (each_found group_value (groups 11 (length values) row))) None) stop
     ∙ ap (option_and_then symbol_data) (characters_found values (character_bars 106) a)
 
 -- the check value stands last
-last_read : (start check : ℕ) (values : List ℕ) → symbol_data (start ∷ (values ++ check ∷ [])) ≡ checked_values start values check
+last_read : (start check : ℕ) (values : List ℕ)
+    → symbol_data (start ∷ (values ++ check ∷ [])) ≡ checked_values start values check
 last_read start check [] = refl
 last_read start check (value ∷ values) =
-    let count : length (values ++ check ∷ []) ≡ length (value ∷ values) = length-append values (check ∷ []) ∙ omega arith in
+    let count : length (values ++ check ∷ []) ≡ length (value ∷ values) = length-append values (check ∷ [])
+    ∙ omega arith in
     let front : take (length (values ++ check ∷ [])) (value ∷ (values ++ check ∷ [])) ≡ value ∷ values =
-    ap (λ k. take k (value ∷ (values ++ check ∷ []))) count ∙ take-append (length (value ∷ values)) (value ∷ values) (check ∷ []) refl in
+    ap (λ k. take k (value ∷ (values ++ check ∷ []))) count
+    ∙ take-append (length (value ∷ values)) (value ∷ values) (check ∷ []) refl in
     let last : slice_index (value ∷ (values ++ check ∷ [])) (length (values ++ check ∷ [])) ≡ check =
     ap (λ k. slice_index (value ∷ (values ++ check ∷ [])) k) count
-    ∙ get_or-append_right (value ∷ values) (check ∷ []) (length (value ∷ values)) (length (value ∷ values)) 0 refl (omega arith)
-    ∙ ap (λ k. slice_index (check ∷ []) k) (let z : length (value ∷ values) - length (value ∷ values) ≡ 0 = omega arith in z) in
-    ap (λ xs. checked_values start xs (slice_index (value ∷ (values ++ check ∷ [])) (length (values ++ check ∷ [])))) front ∙ ap (checked_values start (value ∷ values)) last
+    ∙ get_or-append_right (value ∷ values) (check ∷ []) (length (value ∷ values)) (length (value ∷ values)) 0 refl
+    (omega arith)
+    ∙ ap (λ k. slice_index (check ∷ []) k)
+    (let z : length (value ∷ values) - length (value ∷ values) ≡ 0 = omega arith in z) in
+    ap (λ xs. checked_values start xs (slice_index (value ∷ (values ++ check ∷ [])) (length (values ++ check ∷ []))))
+    front ∙ ap (checked_values start (value ∷ values)) last
 
 started : (set : CodeSet) → started_set (start_value set) ≡ Some set
 started A = refl
@@ -246,27 +362,35 @@ start_below A = lit< tt
 start_below B = lit< tt
 start_below C = lit< tt
 
-pub code128_read : (bytes : List ℕ) → AllByRecursion (λ byte. byte < 128) bytes → read_code128 (code128_bars bytes) ≡ Some bytes
+pub code128_read : (bytes : List ℕ) → AllByRecursion (λ byte. byte < 128) bytes
+    → read_code128 (code128_bars bytes) ≡ Some bytes
 code128_read bytes d =
     let set = start_set bytes in
     let start = start_value set in
     let values = written set bytes in
     let check = check_value start values in
     let below : check < 106 = omega arith in
-    let characters : AreCharacters (with_check start values) = (start_below set, joined_characters values (check ∷ []) (written_characters set bytes d) (below, tt)) in
+    let characters : AreCharacters (with_check start values) =
+    (start_below set, joined_characters values (check ∷ []) (written_characters set bytes d) (below, tt)) in
     row_read (with_check start values) characters ∙ last_read start check values
-    ∙ ap (λ b. cond b (option_and_then (λ s. read_values s false values) (started_set start)) None) (eq-eqb check check refl)
+    ∙ ap (λ b. cond b (option_and_then (λ s. read_values s false values) (started_set start)) None)
+    (eq-eqb check check refl)
     ∙ ap (option_and_then (λ s. read_values s false values)) (started set) ∙ read_written set bytes d
 
 -- full data is the data itself, of ASCII bytes
-ascii_full : (found : Option ℕ) (bytes full : List ℕ) → unless_not_ascii found bytes ≡ Ok full → (found ≡ None) × (bytes ≡ full)
+ascii_full : (found : Option ℕ) (bytes full : List ℕ) → unless_not_ascii found bytes ≡ Ok full
+    → (found ≡ None) × (bytes ≡ full)
 ascii_full None bytes full h = (refl, let e : unless_not_ascii None bytes ≡ Ok full = h in cc)
 ascii_full (Some index) bytes full h = absurd (let e : Err (NotAscii (index + 1)) ≡ Ok full = h in cc)
 
-pub all_ascii_from_None : (bytes : List ℕ) → position (λ byte. leb 128 byte) bytes ≡ None → All (λ byte. byte < 128) bytes
-all_ascii_from_None bytes h = (λ k d lt. let e : leb 128 (get_or bytes k d) ≡ false = fails_from_None (λ byte. leb 128 byte) bytes h k d lt in grind (arith, nat_tests))
+pub all_ascii_from_None : (bytes : List ℕ) → position (λ byte. leb 128 byte) bytes ≡ None
+    → All (λ byte. byte < 128) bytes
+all_ascii_from_None bytes h =
+    (λ k d lt. let e : leb 128 (get_or bytes k d) ≡ false = fails_from_None (λ byte. leb 128 byte) bytes h k d lt in
+    grind (arith, nat_tests))
 
-ascii_from_None : (bytes : List ℕ) → position (λ byte. leb 128 byte) bytes ≡ None → AllByRecursion (λ byte. byte < 128) bytes
+ascii_from_None : (bytes : List ℕ) → position (λ byte. leb 128 byte) bytes ≡ None
+    → AllByRecursion (λ byte. byte < 128) bytes
 ascii_from_None bytes h = recursion_from_All (λ byte. byte < 128) bytes (all_ascii_from_None bytes h)
 
 code128_full : (bytes full : List ℕ) → full_code128 bytes ≡ Ok full → read_code128 (code128_bars full) ≡ Some full
@@ -280,5 +404,6 @@ code128_full bytes full h =
     ]
 
 -- what is drawn of data that is full is read back
-pub code128_read_back : (bytes : List ℕ) → IfOk (full_code128 bytes) (λ full. read_code128 (code128_bars full) ≡ Some full)
+pub code128_read_back : (bytes : List ℕ)
+    → IfOk (full_code128 bytes) (λ full. read_code128 (code128_bars full) ≡ Some full)
 code128_read_back bytes = IfOk-from_each (full_code128 bytes) _ (code128_full bytes)

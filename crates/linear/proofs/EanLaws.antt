@@ -29,17 +29,20 @@ digit_again byte h = omega arith
 pub length-digit : (set : NumberSet) (byte : ℕ) → IsAsciiDigit byte → length (pattern set (digit_value byte)) ≡ 7
 length-digit set byte h = length-pattern set (digit_value byte) (digit_below byte h)
 
-pub digit_found : (set : NumberSet) (byte : ℕ) → IsAsciiDigit byte → digit_in set (pattern set (digit_value byte)) ≡ Some byte
+pub digit_found : (set : NumberSet) (byte : ℕ) → IsAsciiDigit byte
+    → digit_in set (pattern set (digit_value byte)) ≡ Some byte
 digit_found set byte h = digit_in-pattern set (digit_value byte) (digit_below byte h) ∙ ap Some (digit_again byte h)
 
-pub length-right_half : (bytes : List ℕ) → AllByRecursion IsAsciiDigit bytes → length (right_half bytes) ≡ 7 * length bytes
+pub length-right_half : (bytes : List ℕ) → AllByRecursion IsAsciiDigit bytes
+    → length (right_half bytes) ≡ 7 * length bytes
 length-right_half [] d = refl
 length-right_half (byte ∷ bytes) d =
     let first = length-digit C byte d.0 in
     let rest = length-right_half bytes d.1 in
     length-append (pattern C (digit_value byte)) (right_half bytes) ∙ omega arith
 
-pub length-patterns : (sets : List NumberSet) (bytes : List ℕ) → length sets ≡ length bytes → AllByRecursion IsAsciiDigit bytes → length (patterns sets bytes) ≡ 7 * length bytes
+pub length-patterns : (sets : List NumberSet) (bytes : List ℕ) → length sets ≡ length bytes
+    → AllByRecursion IsAsciiDigit bytes → length (patterns sets bytes) ≡ 7 * length bytes
 length-patterns [] [] e d = refl
 length-patterns [] (byte ∷ bytes) e d = absurd (omega arith)
 length-patterns (set ∷ sets) [] e d = absurd (omega arith)
@@ -49,12 +52,19 @@ length-patterns (set ∷ sets) (byte ∷ bytes) e d =
     length-append (pattern set (digit_value byte)) (patterns sets bytes) ∙ omega arith
 
 -- each group of the right half is found in set C
-pub right_found : (bytes : List ℕ) (after : List Bool) → AllByRecursion IsAsciiDigit bytes → each_found (digit_in C) (groups 7 (length bytes) (right_half bytes ++ after)) ≡ Some bytes
+pub right_found : (bytes : List ℕ) (after : List Bool) → AllByRecursion IsAsciiDigit bytes
+    → each_found (digit_in C) (groups 7 (length bytes) (right_half bytes ++ after)) ≡ Some bytes
 right_found [] after d = refl
 right_found (byte ∷ bytes) after d =
     let first = pattern C (digit_value byte) in
     let seven : length first ≡ 7 = length-digit C byte d.0 in
-    rw (append_assoc first (right_half bytes) after, take-append 7 first (right_half bytes ++ after) seven, drop-append 7 first (right_half bytes ++ after) seven, digit_found C byte d.0, right_found bytes after d.1) refl
+    rw (
+      append_assoc first (right_half bytes) after,
+      take-append 7 first (right_half bytes ++ after) seven,
+      drop-append 7 first (right_half bytes ++ after) seven,
+      digit_found C byte d.0,
+      right_found bytes after d.1,
+    ) refl
 
 -- two lists, element by element
 abbrev pub zipped : {Y : Type 0} → (NumberSet → ℕ → Y) → List NumberSet → List ℕ → List Y
@@ -63,17 +73,30 @@ zipped g (set ∷ sets) [] = []
 zipped g (set ∷ sets) (byte ∷ bytes) = g set byte ∷ zipped g sets bytes
 
 -- what a reader finds for each group of a left half, from what it finds for one digit in one of its sets
-pub left_found : {Y : Type 0} (found : List Bool → Option Y) (g : NumberSet → ℕ → Y) (P : NumberSet → Type 0) → ((set : NumberSet) (byte : ℕ) → P set → IsAsciiDigit byte → found (pattern set (digit_value byte)) ≡ Some (g set byte)) → (sets : List NumberSet) (bytes : List ℕ) (after : List Bool) → AllByRecursion P sets → length sets ≡ length bytes → AllByRecursion IsAsciiDigit bytes → each_found found (groups 7 (length bytes) (patterns sets bytes ++ after)) ≡ Some (zipped g sets bytes)
+pub left_found : {Y : Type 0} (found : List Bool → Option Y) (g : NumberSet → ℕ → Y) (P : NumberSet → Type 0)
+    → ((set : NumberSet) (byte : ℕ) → P set → IsAsciiDigit byte
+    → found (pattern set (digit_value byte)) ≡ Some (g set byte))
+    → (sets : List NumberSet) (bytes : List ℕ) (after : List Bool) → AllByRecursion P sets
+    → length sets ≡ length bytes → AllByRecursion IsAsciiDigit bytes
+    → each_found found (groups 7 (length bytes) (patterns sets bytes ++ after)) ≡ Some (zipped g sets bytes)
 left_found found g P one [] [] after s e d = refl
 left_found found g P one [] (byte ∷ bytes) after s e d = absurd (omega arith)
 left_found found g P one (set ∷ sets) [] after s e d = absurd (omega arith)
 left_found found g P one (set ∷ sets) (byte ∷ bytes) after s e d =
     let first = pattern set (digit_value byte) in
     let seven : length first ≡ 7 = length-digit set byte d.0 in
-    rw (append_assoc first (patterns sets bytes) after, take-append 7 first (patterns sets bytes ++ after) seven, drop-append 7 first (patterns sets bytes ++ after) seven, one set byte s.0 d.0, left_found found g P one sets bytes after s.1 (omega arith) d.1) refl
+    rw (
+      append_assoc first (patterns sets bytes) after,
+      take-append 7 first (patterns sets bytes ++ after) seven,
+      drop-append 7 first (patterns sets bytes ++ after) seven,
+      one set byte s.0 d.0,
+      left_found found g P one sets bytes after s.1 (omega arith) d.1,
+    ) refl
 
 -- a symbol with halves of n digits
-module _ (n : ℕ) (sets : List NumberSet) (left right : List ℕ) (as_many : length sets ≡ n) (long_left : length left ≡ n) (long_right : length right ≡ n) (digits_left : AllByRecursion IsAsciiDigit left) (digits_right : AllByRecursion IsAsciiDigit right) where
+module _ (n : ℕ) (sets : List NumberSet) (left right : List ℕ) (as_many : length sets ≡ n)
+    (long_left : length left ≡ n) (long_right : length right ≡ n) (digits_left : AllByRecursion IsAsciiDigit left)
+    (digits_right : AllByRecursion IsAsciiDigit right) where
   long_patterns : length (patterns sets left) ≡ 7 * n
   long_patterns = length-patterns sets left (as_many ∙ sym long_left) digits_left ∙ ap (λ k. 7 * k) long_left
 
@@ -82,18 +105,22 @@ module _ (n : ℕ) (sets : List NumberSet) (left right : List ℕ) (as_many : le
 
   -- what follows the left half, the centre guard and the right half
   from_centre : drop (3 + 7 * n) (symbol sets left right) ≡ centre_guard ++ (right_half right ++ normal_guard)
-  from_centre = drop-append_more 3 (7 * n) normal_guard _ refl ∙ drop-append (7 * n) (patterns sets left) _ long_patterns
+  from_centre = drop-append_more 3 (7 * n) normal_guard _ refl
+      ∙ drop-append (7 * n) (patterns sets left) _ long_patterns
 
   from_right : drop (8 + 7 * n) (symbol sets left right) ≡ right_half right ++ normal_guard
   from_right =
       ap (λ k. drop k (symbol sets left right)) (let e : 8 + 7 * n ≡ 3 + (7 * n + 5) = omega arith in e)
-      ∙ drop-append_more 3 (7 * n + 5) normal_guard _ refl ∙ drop-append_more (7 * n) 5 (patterns sets left) _ long_patterns
+      ∙ drop-append_more 3 (7 * n + 5) normal_guard _ refl
+      ∙ drop-append_more (7 * n) 5 (patterns sets left) _ long_patterns
 
   from_end : drop (8 + 14 * n) (symbol sets left right) ≡ normal_guard
   from_end =
       ap (λ k. drop k (symbol sets left right)) (let e : 8 + 14 * n ≡ 3 + (7 * n + (5 + 7 * n)) = omega arith in e)
-      ∙ drop-append_more 3 (7 * n + (5 + 7 * n)) normal_guard _ refl ∙ drop-append_more (7 * n) (5 + 7 * n) (patterns sets left) _ long_patterns
-      ∙ drop-append_more 5 (7 * n) centre_guard _ refl ∙ drop-append (7 * n) (right_half right) normal_guard long_right_half
+      ∙ drop-append_more 3 (7 * n + (5 + 7 * n)) normal_guard _ refl
+      ∙ drop-append_more (7 * n) (5 + 7 * n) (patterns sets left) _ long_patterns
+      ∙ drop-append_more 5 (7 * n) centre_guard _ refl
+      ∙ drop-append (7 * n) (right_half right) normal_guard long_right_half
 
   long_symbol : length (symbol sets left right) ≡ 14 * n + 11
   long_symbol =
@@ -108,26 +135,37 @@ module _ (n : ℕ) (sets : List NumberSet) (left right : List ℕ) (as_many : le
 
   pub symbol_right_read : each_found (digit_in C) (right_groups n (symbol sets left right)) ≡ Some right
   symbol_right_read =
-      rw (from_right) (let P : ℕ → Type 0 = λ k. each_found (digit_in C) (groups 7 k (right_half right ++ normal_guard)) ≡ Some right in subst P long_right (right_found right normal_guard digits_right))
+      rw (from_right) (let P : ℕ → Type 0 =
+      λ k. each_found (digit_in C) (groups 7 k (right_half right ++ normal_guard)) ≡ Some right in
+      subst P long_right (right_found right normal_guard digits_right))
 
   -- the two halves are read
-  pub halves_read : {Y : Type 0} (found : List Bool → Option Y) (g : NumberSet → ℕ → Y) (P : NumberSet → Type 0) → ((set : NumberSet) (byte : ℕ) → P set → IsAsciiDigit byte → found (pattern set (digit_value byte)) ≡ Some (g set byte)) → AllByRecursion P sets → read_halves n found (symbol sets left right) ≡ Some (zipped g sets left, right)
+  pub halves_read : {Y : Type 0} (found : List Bool → Option Y) (g : NumberSet → ℕ → Y) (P : NumberSet → Type 0)
+      → ((set : NumberSet) (byte : ℕ) → P set → IsAsciiDigit byte
+      → found (pattern set (digit_value byte)) ≡ Some (g set byte)) → AllByRecursion P sets
+      → read_halves n found (symbol sets left right) ≡ Some (zipped g sets left, right)
   halves_read {Y} found g P one in_sets =
       let after = centre_guard ++ (right_half right ++ normal_guard) in
       let on_left : each_found found (left_groups n (symbol sets left right)) ≡ Some (zipped g sets left) =
-      let Q : ℕ → Type 0 = λ k. each_found found (groups 7 k (patterns sets left ++ after)) ≡ Some (zipped g sets left) in
+      let Q : ℕ → Type 0 = λ k. each_found found (groups 7 k (patterns sets left ++ after))
+      ≡ Some (zipped g sets left) in
       subst Q long_left (left_found found g P one sets left after in_sets (as_many ∙ sym long_left) digits_left) in
-      ap (λ b. cond b (option_zip (each_found found (left_groups n (symbol sets left right))) (each_found (digit_in C) (right_groups n (symbol sets left right)))) None) symbol_framed
+      ap (λ b. cond b (option_zip (each_found found (left_groups n (symbol sets left right)))
+      (each_found (digit_in C) (right_groups n (symbol sets left right)))) None) symbol_framed
       ∙ ap (λ o. option_zip o (each_found (digit_in C) (right_groups n (symbol sets left right)))) on_left
       ∙ ap (λ o. option_zip (Some (zipped g sets left)) o) symbol_right_read
 
 -- full data has the right check digit
 pub full_checked : (count : ℕ) (full : List ℕ) → IsFull count full → checked_digits full ≡ Some full
 full_checked count full f =
-    let long_full : length full ≡ count + 1 = ap length f.whole ∙ length-append f.digits (f.last ∷ []) ∙ ap (λ k. k + 1) f.long in
+    let long_full : length full ≡ count + 1 = ap length f.whole ∙ length-append f.digits (f.last ∷ [])
+    ∙ ap (λ k. k + 1) f.long in
     let long : length full - 1 ≡ count = omega arith in
-    let at_last : slice_index full count ≡ f.last = ap (λ xs. slice_index xs count) f.whole ∙ get_or-append_right f.digits (f.last ∷ []) count count 0 f.long (omega arith) ∙ (let z : count - count ≡ 0 = omega arith in ap (λ k. slice_index (f.last ∷ []) k) z) in
-    let front : take count full ≡ f.digits = ap (λ xs. take count xs) f.whole ∙ take-append count f.digits (f.last ∷ []) f.long in
+    let at_last : slice_index full count ≡ f.last = ap (λ xs. slice_index xs count) f.whole
+    ∙ get_or-append_right f.digits (f.last ∷ []) count count 0 f.long (omega arith)
+    ∙ (let z : count - count ≡ 0 = omega arith in ap (λ k. slice_index (f.last ∷ []) k) z) in
+    let front : take count full ≡ f.digits = ap (λ xs. take count xs) f.whole
+    ∙ take-append count f.digits (f.last ∷ []) f.long in
     rw (long, at_last, front, eq-eqb (digit_value f.last) (check_digit f.digits) f.right) refl
 
 pub all_full : (count : ℕ) (full : List ℕ) → IsFull count full → All IsAsciiDigit full
@@ -143,10 +181,12 @@ all_in : (full : List ℕ) → All IsAsciiDigit full → AllByRecursion IsAsciiD
 all_in full d = recursion_from_All IsAsciiDigit full d
 
 -- EAN-8
-in_a : (set : NumberSet) (byte : ℕ) → set ≡ A → IsAsciiDigit byte → digit_in A (pattern set (digit_value byte)) ≡ Some byte
+in_a : (set : NumberSet) (byte : ℕ) → set ≡ A → IsAsciiDigit byte
+    → digit_in A (pattern set (digit_value byte)) ≡ Some byte
 in_a set byte e d = rw (e) (digit_found A byte d)
 
-zipped_bytes : (sets : List NumberSet) (bytes : List ℕ) → length sets ≡ length bytes → zipped (λ set byte. byte) sets bytes ≡ bytes
+zipped_bytes : (sets : List NumberSet) (bytes : List ℕ) → length sets ≡ length bytes
+    → zipped (λ set byte. byte) sets bytes ≡ bytes
 zipped_bytes [] [] e = refl
 zipped_bytes [] (byte ∷ bytes) e = absurd (omega arith)
 zipped_bytes (set ∷ sets) [] e = absurd (omega arith)
@@ -158,29 +198,40 @@ ean8_full full f =
     let long : length full ≡ 8 = length-full 7 full f in
     let long_left : length (take 4 full) ≡ 4 = length-take-le 4 full (omega arith) in
     let long_right : length (drop 4 full) ≡ 4 = length-drop 4 full ∙ omega arith in
-    let d_left : AllByRecursion IsAsciiDigit (take 4 full) = all_in (take 4 full) (All-take IsAsciiDigit 4 full (all_full 7 full f)) in
-    let d_right : AllByRecursion IsAsciiDigit (drop 4 full) = all_in (drop 4 full) (All-drop IsAsciiDigit 4 full (all_full 7 full f)) in
-    let halves = halves_read 4 sets (take 4 full) (drop 4 full) refl long_left long_right d_left d_right (digit_in A) (λ set byte. byte) (λ set. set ≡ A) in_a (refl, (refl, (refl, (refl, tt)))) in
+    let d_left : AllByRecursion IsAsciiDigit (take 4 full) =
+    all_in (take 4 full) (All-take IsAsciiDigit 4 full (all_full 7 full f)) in
+    let d_right : AllByRecursion IsAsciiDigit (drop 4 full) =
+    all_in (drop 4 full) (All-drop IsAsciiDigit 4 full (all_full 7 full f)) in
+    let halves = halves_read 4 sets (take 4 full) (drop 4 full) refl long_left long_right d_left d_right (digit_in A)
+    (λ set byte. byte) (λ set. set ≡ A) in_a (refl, (refl, (refl, (refl, tt)))) in
     let whole : zipped (λ set byte. byte) sets (take 4 full) ++ drop 4 full ≡ full =
     ap (λ xs. xs ++ drop 4 full) (zipped_bytes sets (take 4 full) (sym long_left)) ∙ take-append-drop 4 full in
-    ap (λ o. option_and_then (λ (halves : List ℕ × List ℕ). checked_digits (halves.0 ++ halves.1)) o) halves ∙ ap checked_digits whole ∙ full_checked 7 full f
+    ap (λ o. option_and_then (λ (halves : List ℕ × List ℕ). checked_digits (halves.0 ++ halves.1)) o) halves
+    ∙ ap checked_digits whole ∙ full_checked 7 full f
 
 -- what is drawn of data that is full is read back
 pub ean8_read_back : (bytes : List ℕ) → IfOk (full_digits 7 bytes) (λ full. read_ean8 (ean8_bars full) ≡ Some full)
 ean8_read_back bytes = IfOk-from_each (full_digits 7 bytes) _ (λ full h. ean8_full full (full_from_Ok 7 bytes full h))
 
 -- EAN-13
-in_a_or_b : (set : NumberSet) (byte : ℕ) → IsAOrB set → IsAsciiDigit byte → digit_in_a_or_b (pattern set (digit_value byte)) ≡ Some (set, byte)
-in_a_or_b set byte (inl e) d = rw (e) (digit_in_a_or_b-pattern_a (digit_value byte) (digit_below byte d) ∙ ap (λ (b : ℕ). Some (A, b)) (digit_again byte d))
-in_a_or_b set byte (inr e) d = rw (e) (digit_in_a_or_b-pattern_b (digit_value byte) (digit_below byte d) ∙ ap (λ (b : ℕ). Some (B, b)) (digit_again byte d))
+in_a_or_b : (set : NumberSet) (byte : ℕ) → IsAOrB set → IsAsciiDigit byte
+    → digit_in_a_or_b (pattern set (digit_value byte)) ≡ Some (set, byte)
+in_a_or_b set byte (inl e) d =
+    rw (e) (digit_in_a_or_b-pattern_a (digit_value byte) (digit_below byte d)
+    ∙ ap (λ (b : ℕ). Some (A, b)) (digit_again byte d))
+in_a_or_b set byte (inr e) d =
+    rw (e) (digit_in_a_or_b-pattern_b (digit_value byte) (digit_below byte d)
+    ∙ ap (λ (b : ℕ). Some (B, b)) (digit_again byte d))
 
-zipped_firsts : (sets : List NumberSet) (bytes : List ℕ) → length sets ≡ length bytes → map (λ (found : NumberSet × ℕ). found.0) (zipped (λ set byte. (set, byte)) sets bytes) ≡ sets
+zipped_firsts : (sets : List NumberSet) (bytes : List ℕ) → length sets ≡ length bytes
+    → map (λ (found : NumberSet × ℕ). found.0) (zipped (λ set byte. (set, byte)) sets bytes) ≡ sets
 zipped_firsts [] [] e = refl
 zipped_firsts [] (byte ∷ bytes) e = absurd (omega arith)
 zipped_firsts (set ∷ sets) [] e = absurd (omega arith)
 zipped_firsts (set ∷ sets) (byte ∷ bytes) e = ap (λ xs. set ∷ xs) (zipped_firsts sets bytes (omega arith))
 
-zipped_seconds : (sets : List NumberSet) (bytes : List ℕ) → length sets ≡ length bytes → map (λ (found : NumberSet × ℕ). found.1) (zipped (λ set byte. (set, byte)) sets bytes) ≡ bytes
+zipped_seconds : (sets : List NumberSet) (bytes : List ℕ) → length sets ≡ length bytes
+    → map (λ (found : NumberSet × ℕ). found.1) (zipped (λ set byte. (set, byte)) sets bytes) ≡ bytes
 zipped_seconds [] [] e = refl
 zipped_seconds [] (byte ∷ bytes) e = absurd (omega arith)
 zipped_seconds (set ∷ sets) [] e = absurd (omega arith)
@@ -198,20 +249,31 @@ ean13_full (first ∷ rest) f =
     let six : length sets ≡ 6 = length-left_sets (digit_value first) below in
     let long_left : length (take 6 rest) ≡ 6 = length-take-le 6 rest (omega arith) in
     let long_right : length (drop 6 rest) ≡ 6 = length-drop 6 rest ∙ omega arith in
-    let d_left : AllByRecursion IsAsciiDigit (take 6 rest) = all_in (take 6 rest) (All-take IsAsciiDigit 6 rest d_rest) in
-    let d_right : AllByRecursion IsAsciiDigit (drop 6 rest) = all_in (drop 6 rest) (All-drop IsAsciiDigit 6 rest d_rest) in
+    let d_left : AllByRecursion IsAsciiDigit (take 6 rest) =
+    all_in (take 6 rest) (All-take IsAsciiDigit 6 rest d_rest) in
+    let d_right : AllByRecursion IsAsciiDigit (drop 6 rest) =
+    all_in (drop 6 rest) (All-drop IsAsciiDigit 6 rest d_rest) in
     let same : length sets ≡ length (take 6 rest) = six ∙ sym long_left in
-    let halves = halves_read 6 sets (take 6 rest) (drop 6 rest) six long_left long_right d_left d_right digit_in_a_or_b (λ set byte. (set, byte)) IsAOrB in_a_or_b (left_sets_a_or_b (digit_value first) below) in
-    let found : first_digit (map (λ (found : NumberSet × ℕ). found.0) (zipped (λ set byte. (set, byte)) sets (take 6 rest))) ≡ Some first =
-    ap first_digit (zipped_firsts sets (take 6 rest) same) ∙ first_digit-left_sets (digit_value first) below ∙ ap Some (digit_again first d.0) in
-    let digits : map (λ (found : NumberSet × ℕ). found.1) (zipped (λ set byte. (set, byte)) sets (take 6 rest)) ++ drop 6 rest ≡ rest =
+    let halves = halves_read 6 sets (take 6 rest)
+    (drop 6 rest) six long_left long_right d_left d_right digit_in_a_or_b
+    (λ set byte. (set, byte)) IsAOrB in_a_or_b (left_sets_a_or_b (digit_value first) below) in
+    let found : first_digit
+    (map (λ (found : NumberSet × ℕ). found.0) (zipped (λ set byte. (set, byte)) sets (take 6 rest))) ≡ Some first =
+    ap first_digit (zipped_firsts sets (take 6 rest) same) ∙ first_digit-left_sets (digit_value first) below
+    ∙ ap Some (digit_again first d.0) in
+    let digits : map (λ (found : NumberSet × ℕ). found.1) (zipped (λ set byte. (set, byte)) sets (take 6 rest))
+    ++ drop 6 rest ≡ rest =
     ap (λ xs. xs ++ drop 6 rest) (zipped_seconds sets (take 6 rest) same) ∙ take-append-drop 6 rest in
     ap (λ o. option_and_then checked_digits (option_and_then with_first_digit o)) halves
-    ∙ ap (λ o. option_and_then checked_digits (option_map (λ x. x ∷ (map (λ (found : NumberSet × ℕ). found.1) (zipped (λ set byte. (set, byte)) sets (take 6 rest)) ++ drop 6 rest)) o)) found
+    ∙ ap (λ o. option_and_then checked_digits
+    (option_map (λ x. x ∷
+    (map (λ (found : NumberSet × ℕ). found.1) (zipped (λ set byte. (set, byte)) sets (take 6 rest))
+    ++ drop 6 rest)) o)) found
     ∙ ap (λ xs. checked_digits (first ∷ xs)) digits ∙ full_checked 12 (first ∷ rest) f
 
 pub ean13_read_back : (bytes : List ℕ) → IfOk (full_digits 12 bytes) (λ full. read_ean13 (ean13_bars full) ≡ Some full)
-ean13_read_back bytes = IfOk-from_each (full_digits 12 bytes) _ (λ full h. ean13_full full (full_from_Ok 12 bytes full h))
+ean13_read_back bytes =
+    IfOk-from_each (full_digits 12 bytes) _ (λ full h. ean13_full full (full_from_Ok 12 bytes full h))
 
 -- UPC-A: a 0 before the digits leaves their check digit
 with_zero : (full : List ℕ) → IsFull 11 full → IsFull 12 (48 ∷ full)
@@ -222,8 +284,12 @@ with_zero full f = record {
   long = (let e = f.long in omega arith);
   all = All-from_recursion IsAsciiDigit (48 ∷ f.digits) ((lit≤ tt, lit≤ tt), all_in f.digits f.all);
   last_digit = f.last_digit;
-  right = f.right ∙ (let e : weighted_sum (48 ∷ f.digits) ≡ weighted_sum f.digits = omega arith in ap (λ s. (10 - s % 10) % 10) (sym e));
+  right = f.right ∙ (let e : weighted_sum (48 ∷ f.digits) ≡ weighted_sum f.digits = omega arith in
+      ap (λ s. (10 - s % 10) % 10) (sym e));
 }
 
 pub upca_read_back : (bytes : List ℕ) → IfOk (full_digits 11 bytes) (λ full. read_upca (upca_bars full) ≡ Some full)
-upca_read_back bytes = IfOk-from_each (full_digits 11 bytes) _ (λ full h. ap (λ o. option_and_then without_zero o) (ean13_full (48 ∷ full) (with_zero full (full_from_Ok 11 bytes full h))))
+upca_read_back bytes =
+    IfOk-from_each (full_digits 11 bytes) _
+    (λ full h. ap (λ o. option_and_then without_zero o)
+    (ean13_full (48 ∷ full) (with_zero full (full_from_Ok 11 bytes full h))))

@@ -25,7 +25,8 @@ wrong_ean8 = refl
 letter_ean8 : full_digits 7 (codes "73x1353") ≡ Err (NotADigit 3)
 letter_ean8 = refl
 
-row_ean8 : ean8_bars (codes "73513537") ≡ modules (codes "1010111011011110101100010011001010101000010100111010000101000100101")
+row_ean8 : ean8_bars (codes "73513537")
+    ≡ modules (codes "1010111011011110101100010011001010101000010100111010000101000100101")
 row_ean8 = refl
 
 read_row_ean8 : read_ean8 (ean8_bars (codes "73513537")) ≡ Some (codes "73513537")
@@ -41,7 +42,8 @@ full_ean13 = refl
 wrong_ean13 : full_digits 12 (codes "4006381333932") ≡ Err (WrongCheckDigit 2 1)
 wrong_ean13 = refl
 
-row_ean13 : ean13_bars (codes "4006381333931") ≡ modules (codes "10100011010100111010111101111010001001011001101010100001010000101000010111010010000101100110101")
+row_ean13 : ean13_bars (codes "4006381333931")
+    ≡ modules (codes "10100011010100111010111101111010001001011001101010100001010000101000010111010010000101100110101")
 row_ean13 = refl
 
 read_row_ean13 : read_ean13 (ean13_bars (codes "4006381333931")) ≡ Some (codes "4006381333931")

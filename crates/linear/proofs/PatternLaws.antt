@@ -1,4 +1,5 @@
--- Laws of the tables of patterns (ISO/IEC 15420, symbol characters): each is a test that is computed over the whole table once, and then
+-- Laws of the tables of patterns (ISO/IEC 15420, symbol characters): each is a test that is computed over the whole
+-- table once, and then
 -- holds at each place.
 use Rattle.std.proofs.Common.{◌≡◌, ℕ, zero, suc, ◌+◌, ◌<◌, Bool, true, false, ◌&&◌, Some, None, Option, List, [], ◌∷◌, length, eqb, refl, arith, ap, sym, ◌∙◌, subst, inl, inr}
 use Rattle.std.specs.Prelude.{option_map, is_none, ◌⊎◌}
@@ -21,7 +22,10 @@ pub passes_at : (test : ℕ → Bool) (n k : ℕ) → passes_below test n ≡ tr
 passes_at test zero k all h = absurd (omega arith)
 passes_at test (suc n) k all h =
     let parts = and_parts (test n) (passes_below test n) all in
-    elim (cases_eq k n) [ inl e ↦ subst (λ x. test x ≡ true) (sym e) parts.0 | inr ne ↦ passes_at test n k parts.1 (omega arith) ]
+    elim (cases_eq k n) [
+      | inl e ↦ subst (λ x. test x ≡ true) (sym e) parts.0
+      | inr ne ↦ passes_at test n k parts.1 (omega arith)
+    ]
 
 -- whether there is a value, and it is this one
 abbrev pub is_value : Option ℕ → ℕ → Bool
@@ -44,9 +48,12 @@ length-pattern C digit h = (Decides-eqb _ 7).0 (passes_at (λ d. eqb (length (pa
 
 -- a digit is found in its set
 pub digit_in-pattern : (set : NumberSet) (digit : ℕ) → digit < 10 → digit_in set (pattern set digit) ≡ Some (48 + digit)
-digit_in-pattern A digit h = value_from_test _ _ (passes_at (λ d. is_value (digit_in A (pattern A d)) (48 + d)) 10 digit refl h)
-digit_in-pattern B digit h = value_from_test _ _ (passes_at (λ d. is_value (digit_in B (pattern B d)) (48 + d)) 10 digit refl h)
-digit_in-pattern C digit h = value_from_test _ _ (passes_at (λ d. is_value (digit_in C (pattern C d)) (48 + d)) 10 digit refl h)
+digit_in-pattern A digit h =
+    value_from_test _ _ (passes_at (λ d. is_value (digit_in A (pattern A d)) (48 + d)) 10 digit refl h)
+digit_in-pattern B digit h =
+    value_from_test _ _ (passes_at (λ d. is_value (digit_in B (pattern B d)) (48 + d)) 10 digit refl h)
+digit_in-pattern C digit h =
+    value_from_test _ _ (passes_at (λ d. is_value (digit_in C (pattern C d)) (48 + d)) 10 digit refl h)
 
 -- no pattern of set B is one of set A
 pub digit_in_a-pattern_b : (digit : ℕ) → digit < 10 → digit_in A (pattern B digit) ≡ None
@@ -54,11 +61,14 @@ digit_in_a-pattern_b digit h = none_from_test _ (passes_at (λ d. is_none (digit
 
 -- a left digit is found in its set
 pub digit_in_a_or_b-pattern_a : (digit : ℕ) → digit < 10 → digit_in_a_or_b (pattern A digit) ≡ Some (A, 48 + digit)
-digit_in_a_or_b-pattern_a digit h = ap (λ o. option_or (option_map (λ byte. (A, byte)) o) (option_map (λ byte. (B, byte)) (digit_in B (pattern A digit)))) (digit_in-pattern A digit h)
+digit_in_a_or_b-pattern_a digit h =
+    ap (λ o. option_or (option_map (λ byte. (A, byte)) o)
+    (option_map (λ byte. (B, byte)) (digit_in B (pattern A digit)))) (digit_in-pattern A digit h)
 
 pub digit_in_a_or_b-pattern_b : (digit : ℕ) → digit < 10 → digit_in_a_or_b (pattern B digit) ≡ Some (B, 48 + digit)
 digit_in_a_or_b-pattern_b digit h =
-    ap (λ o. option_or (option_map (λ byte. (A, byte)) o) (option_map (λ byte. (B, byte)) (digit_in B (pattern B digit)))) (digit_in_a-pattern_b digit h)
+    ap (λ o. option_or (option_map (λ byte. (A, byte)) o)
+    (option_map (λ byte. (B, byte)) (digit_in B (pattern B digit)))) (digit_in_a-pattern_b digit h)
     ∙ ap (λ o. option_map (λ (byte : ℕ). (B, byte)) o) (digit_in-pattern B digit h)
 
 -- the sets of a left half are six, each A or B, and give the first digit
@@ -66,7 +76,8 @@ pub length-left_sets : (digit : ℕ) → digit < 10 → length (left_sets digit)
 length-left_sets digit h = (Decides-eqb _ 6).0 (passes_at (λ d. eqb (length (left_sets d)) 6) 10 digit refl h)
 
 pub first_digit-left_sets : (digit : ℕ) → digit < 10 → first_digit (left_sets digit) ≡ Some (48 + digit)
-first_digit-left_sets digit h = value_from_test _ _ (passes_at (λ d. is_value (first_digit (left_sets d)) (48 + d)) 10 digit refl h)
+first_digit-left_sets digit h =
+    value_from_test _ _ (passes_at (λ d. is_value (first_digit (left_sets d)) (48 + d)) 10 digit refl h)
 
 abbrev pub IsAOrB : NumberSet → Type 0
 IsAOrB set = (set ≡ A) ⊎ (set ≡ B)
@@ -90,4 +101,5 @@ all_from_test (set ∷ sets) h =
 
 pub left_sets_a_or_b : (digit : ℕ) → digit < 10 → AllByRecursion IsAOrB (left_sets digit)
 unfolding is_a_or_b
-left_sets_a_or_b digit h = all_from_test (left_sets digit) (passes_at (λ d. list_all is_a_or_b (left_sets d)) 10 digit refl h)
+left_sets_a_or_b digit h =
+    all_from_test (left_sets digit) (passes_at (λ d. list_all is_a_or_b (left_sets d)) 10 digit refl h)

@@ -12,8 +12,11 @@ pub stop : STOP ≡ character_bars 106
 stop = refl
 
 -- what is read at an index of a table that lists a function's values
-read : {X : Type 0} (table : List X) (f : ℕ → X) (n i k : ℕ) (d : X) → table ≡ map f (range_with_len 0 n) → i ≡ k → k < n → get_or table i d ≡ f k
-read table f n i k d e same h = ap (λ xs. get_or xs i d) e ∙ get_or-map-range_with_len f 0 n i k d (omega arith) (omega arith)
+read : {X : Type 0} (table : List X) (f : ℕ → X) (n i k : ℕ) (d : X) → table ≡ map f (range_with_len 0 n) → i ≡ k
+    → k < n → get_or table i d ≡ f k
+read table f n i k d e same h = ap (λ xs. get_or xs i d) e
+    ∙ get_or-map-range_with_len f 0 n i k d (omega arith) (omega arith)
 
-pub read_character : (i value : ℕ) (d : List Bool) → i ≡ value → value < 106 → get_or CHARACTERS i d ≡ character_bars value
+pub read_character : (i value : ℕ) (d : List Bool) → i ≡ value → value < 106
+    → get_or CHARACTERS i d ≡ character_bars value
 read_character i value d = read CHARACTERS character_bars 106 i value d characters

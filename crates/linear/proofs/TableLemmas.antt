@@ -17,10 +17,12 @@ use Rattle.linear.proofs.PatternLaws.{passes_at, is_value, value_from_test, none
 
 -- the number set and the digit of a pattern
 identified : List Bool → Option (NumberSet × ℕ)
-identified group = option_or (option_map (λ byte. (A, byte)) (digit_in A group)) (option_or (option_map (λ byte. (B, byte)) (digit_in B group)) (option_map (λ byte. (C, byte)) (digit_in C group)))
+identified group = option_or (option_map (λ byte. (A, byte)) (digit_in A group))
+    (option_or (option_map (λ byte. (B, byte)) (digit_in B group)) (option_map (λ byte. (C, byte)) (digit_in C group)))
 
 of_three : Option ℕ → Option ℕ → Option ℕ → Option (NumberSet × ℕ)
-of_three a b c = option_or (option_map (λ byte. (A, byte)) a) (option_or (option_map (λ byte. (B, byte)) b) (option_map (λ byte. (C, byte)) c))
+of_three a b c = option_or (option_map (λ byte. (A, byte)) a)
+    (option_or (option_map (λ byte. (B, byte)) b) (option_map (λ byte. (C, byte)) c))
 
 in_a-pattern_c : (digit : ℕ) → digit < 10 → digit_in A (pattern C digit) ≡ None
 in_a-pattern_c digit h = none_from_test _ (passes_at (λ d. is_none (digit_in A (pattern C d))) 10 digit refl h)
@@ -28,17 +30,26 @@ in_a-pattern_c digit h = none_from_test _ (passes_at (λ d. is_none (digit_in A 
 in_b-pattern_c : (digit : ℕ) → digit < 10 → digit_in B (pattern C digit) ≡ None
 in_b-pattern_c digit h = none_from_test _ (passes_at (λ d. is_none (digit_in B (pattern C d))) 10 digit refl h)
 
-identified-pattern : (set : NumberSet) (digit : ℕ) → digit < 10 → identified (pattern set digit) ≡ Some (set, 48 + digit)
+identified-pattern : (set : NumberSet) (digit : ℕ) → digit < 10
+    → identified (pattern set digit) ≡ Some (set, 48 + digit)
 unfolding identified of_three
-identified-pattern A digit h = ap (λ o. of_three o (digit_in B (pattern A digit)) (digit_in C (pattern A digit))) (digit_in-pattern A digit h)
-identified-pattern B digit h = ap (λ o. of_three o (digit_in B (pattern B digit)) (digit_in C (pattern B digit))) (digit_in_a-pattern_b digit h) ∙ ap (λ o. of_three None o (digit_in C (pattern B digit))) (digit_in-pattern B digit h)
-identified-pattern C digit h = ap (λ o. of_three o (digit_in B (pattern C digit)) (digit_in C (pattern C digit))) (in_a-pattern_c digit h) ∙ ap (λ o. of_three None o (digit_in C (pattern C digit))) (in_b-pattern_c digit h) ∙ ap (λ o. of_three None None o) (digit_in-pattern C digit h)
+identified-pattern A digit h =
+    ap (λ o. of_three o (digit_in B (pattern A digit)) (digit_in C (pattern A digit))) (digit_in-pattern A digit h)
+identified-pattern B digit h =
+    ap (λ o. of_three o (digit_in B (pattern B digit)) (digit_in C (pattern B digit))) (digit_in_a-pattern_b digit h)
+    ∙ ap (λ o. of_three None o (digit_in C (pattern B digit))) (digit_in-pattern B digit h)
+identified-pattern C digit h =
+    ap (λ o. of_three o (digit_in B (pattern C digit)) (digit_in C (pattern C digit))) (in_a-pattern_c digit h)
+    ∙ ap (λ o. of_three None o (digit_in C (pattern C digit))) (in_b-pattern_c digit h)
+    ∙ ap (λ o. of_three None None o) (digit_in-pattern C digit h)
 
 pub patterns_differ : PatternsDiffer
 patterns_differ set other digit second h k e =
     let same = sym (identified-pattern set digit h) ∙ ap identified e ∙ identified-pattern other second k in
-    let pair = ap (λ (o : Option (NumberSet × ℕ)). unwrap_or o (A, 0)) same in
-    (ap (λ (p : NumberSet × ℕ). p.0) pair, (let n : 48 + digit ≡ 48 + second = ap (λ (p : NumberSet × ℕ). p.1) pair in omega arith))
+    let pair = ap (λ (o : Option (NumberSet × ℕ)). unwrap_or o (A, 0)) same in (
+      ap (λ (p : NumberSet × ℕ). p.0) pair,
+      (let n : 48 + digit ≡ 48 + second = ap (λ (p : NumberSet × ℕ). p.1) pair in omega arith),
+    )
 
 value_of : List ℕ → Option ℕ
 value_of widths = position (λ text. bytes_eq (listed_widths text) widths) character_widths
@@ -55,11 +66,17 @@ pub widths_differ : WidthsDiffer
 widths_differ value other h k e =
     elim (cases_lt value 106) [
       | inl below ↦ elim (cases_lt other 106) [
-        | inl other_below ↦ (let same : Some value ≡ Some other = sym (value_of-widths value below) ∙ ap value_of e ∙ value_of-widths other other_below in cc)
-        | inr past ↦ absurd (let stop : other ≡ 106 = omega arith in let same : Some value ≡ None = sym (value_of-widths value below) ∙ ap value_of e ∙ ap (λ w. value_of (widths_of w)) stop ∙ value_of-stop in cc)
+        | inl other_below ↦ (let same : Some value ≡ Some other = sym (value_of-widths value below) ∙ ap value_of e
+            ∙ value_of-widths other other_below in cc)
+        | inr past ↦ absurd (let stop : other ≡ 106 = omega arith in let same : Some value ≡ None =
+            sym (value_of-widths value below) ∙ ap value_of e ∙ ap (λ w. value_of (widths_of w)) stop
+            ∙ value_of-stop in cc)
       ]
       | inr past ↦ elim (cases_lt other 106) [
-        | inl other_below ↦ absurd (let stop : value ≡ 106 = omega arith in let same : Some other ≡ None = sym (value_of-widths other other_below) ∙ ap value_of (sym e) ∙ ap (λ w. value_of (widths_of w)) stop ∙ value_of-stop in cc)
+        | inl other_below ↦ absurd
+            (let stop : value ≡ 106 = omega arith in let same : Some other ≡ None =
+            sym (value_of-widths other other_below) ∙ ap value_of (sym e) ∙ ap (λ w. value_of (widths_of w)) stop
+            ∙ value_of-stop in cc)
         | inr other_past ↦ omega arith
       ]
     ]

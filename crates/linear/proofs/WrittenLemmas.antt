@@ -32,7 +32,11 @@ pub record PairFirst (set : CodeSet) (bytes : List ℕ) : Type 0 where
 by_case : CodeSet → ℕ → ℕ → List ℕ → Bool → List ℕ
 by_case set first second rest b =
     let step = byte_written set first (second ∷ rest) in
-    elim b [ true ↦ pair_values set first second ++ written C rest | false ↦ step.values ++ written step.set (second ∷ rest) ]
+    elim b [
+      | true ↦ pair_values set first second ++ written C rest
+      | false ↦ step.values
+          ++ written step.set (second ∷ rest)
+    ]
 
 pair_first : (set : CodeSet) (bytes : List ℕ) → is_pair_next set bytes ≡ true → PairFirst set bytes
 unfolding by_case
@@ -42,7 +46,8 @@ pair_first set (first ∷ second ∷ rest) h =
     let digits = pair_digits set first second rest h in
     record { within = omega arith; first = digits.0; second = digits.1; values = ap (by_case set first second rest) h }
 
-byte_first : (set : CodeSet) (byte : ℕ) (rest : List ℕ) → is_pair_next set (byte ∷ rest) ≡ false → written set (byte ∷ rest) ≡ (byte_written set byte rest).values ++ written (byte_written set byte rest).set rest
+byte_first : (set : CodeSet) (byte : ℕ) (rest : List ℕ) → is_pair_next set (byte ∷ rest) ≡ false
+    → written set (byte ∷ rest) ≡ (byte_written set byte rest).values ++ written (byte_written set byte rest).set rest
 unfolding by_case
 byte_first set byte [] h = sym (append-nil (byte_written set byte []).values)
 byte_first set first (second ∷ rest) h = ap (by_case set first second rest) h
@@ -52,24 +57,31 @@ pub record PairAt (set : CodeSet) (bytes : List ℕ) (i : ℕ) : Type 0 where
   pub within : i + 2 ≤ length bytes
   pub first : IsAsciiDigit (get_or bytes i 0)
   pub second : IsAsciiDigit (get_or bytes (i + 1) 0)
-  pub values : written set (drop i bytes) ≡ pair_values set (get_or bytes i 0) (get_or bytes (i + 1) 0) ++ written C (drop (i + 2) bytes)
+  pub values : written set (drop i bytes) ≡ pair_values set (get_or bytes i 0) (get_or bytes (i + 1) 0)
+      ++ written C (drop (i + 2) bytes)
 
-pub pair_at : (set : CodeSet) (bytes : List ℕ) (i : ℕ) → i ≤ length bytes → is_pair_next set (drop i bytes) ≡ true → PairAt set bytes i
+pub pair_at : (set : CodeSet) (bytes : List ℕ) (i : ℕ) → i ≤ length bytes → is_pair_next set (drop i bytes) ≡ true
+    → PairAt set bytes i
 pair_at set bytes i le h =
     let p = pair_first set (drop i bytes) h in
     let long = length-drop i bytes in
-    let at_first : get_or (drop i bytes) 0 0 ≡ get_or bytes i 0 = get_or-drop i bytes 0 0 ∙ ap (λ k. get_or bytes k 0) (omega arith) in
+    let at_first : get_or (drop i bytes) 0 0 ≡ get_or bytes i 0 = get_or-drop i bytes 0 0
+    ∙ ap (λ k. get_or bytes k 0) (omega arith) in
     let at_second : get_or (drop i bytes) 1 0 ≡ get_or bytes (i + 1) 0 = get_or-drop i bytes 1 0 in
     record {
       within = (let w = p.within in omega arith);
       first = subst IsAsciiDigit at_first p.first;
       second = subst IsAsciiDigit at_second p.second;
-      values = p.values ∙ ap (λ x. pair_values set x (get_or (drop i bytes) 1 0) ++ written C (drop 2 (drop i bytes))) at_first
+      values = p.values ∙ ap
+          (λ x. pair_values set x (get_or (drop i bytes) 1 0) ++ written C (drop 2 (drop i bytes))) at_first
           ∙ ap (λ x. pair_values set (get_or bytes i 0) x ++ written C (drop 2 (drop i bytes))) at_second
-          ∙ ap (λ xs. pair_values set (get_or bytes i 0) (get_or bytes (i + 1) 0) ++ written C xs) (drop-drop 2 i bytes);
+          ∙ ap (λ xs. pair_values set (get_or bytes i 0) (get_or bytes (i + 1) 0) ++ written C xs)
+          (drop-drop 2 i bytes);
     }
 
-pub byte_at : (set : CodeSet) (bytes : List ℕ) (i : ℕ) → i < length bytes → is_pair_next set (drop i bytes) ≡ false → written set (drop i bytes) ≡ (byte_written set (get_or bytes i 0) (drop (i + 1) bytes)).values ++ written (byte_written set (get_or bytes i 0) (drop (i + 1) bytes)).set (drop (i + 1) bytes)
+pub byte_at : (set : CodeSet) (bytes : List ℕ) (i : ℕ) → i < length bytes → is_pair_next set (drop i bytes) ≡ false
+    → written set (drop i bytes) ≡ (byte_written set (get_or bytes i 0) (drop (i + 1) bytes)).values
+    ++ written (byte_written set (get_or bytes i 0) (drop (i + 1) bytes)).set (drop (i + 1) bytes)
 byte_at set bytes i lt h =
     let e : drop i bytes ≡ get_or bytes i 0 ∷ drop (i + 1) bytes = rw (add-one) (drop-cons bytes i 0 lt) in
     ap (written set) e ∙ byte_first set (get_or bytes i 0) (drop (i + 1) bytes) (ap (is_pair_next set) (sym e) ∙ h)

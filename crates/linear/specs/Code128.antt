@@ -13,7 +13,10 @@ unless_not_ascii (Some index) bytes = Err (NotAscii (index + 1))
 
 -- the full data of a symbol: at most 80 bytes, each of them ASCII
 abbrev pub full_code128 : List ℕ → Result (List ℕ) Fault
-full_code128 bytes = if nat_le (length bytes) 80 then unless_not_ascii (position (λ byte. nat_le 128 byte) bytes) bytes else Err DataTooLong
+full_code128 bytes =
+    if nat_le (length bytes) 80
+    then unless_not_ascii (position (λ byte. nat_le 128 byte) bytes) bytes
+    else Err DataTooLong
 
 -- the values, each times its place, counted from this one on
 abbrev pub weighted_from : ℕ → List ℕ → ℕ
@@ -47,4 +50,6 @@ with_check start values = start ∷ (values ++ check_value start values ∷ [])
 
 -- the row of data: its values, the check value and the stop character
 abbrev pub code128_bars : List ℕ → List Bool
-code128_bars bytes = flat_map character_bars (with_check (start_value (start_set bytes)) (written (start_set bytes) bytes)) ++ character_bars 106
+code128_bars bytes =
+    flat_map character_bars (with_check (start_value (start_set bytes)) (written (start_set bytes) bytes))
+    ++ character_bars 106

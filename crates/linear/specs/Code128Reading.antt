@@ -17,7 +17,8 @@ longer_first (width ∷ widths) = (width + 1) ∷ widths
 abbrev pub run_lengths : List Bool → List ℕ
 run_lengths [] = []
 run_lengths (one ∷ []) = 1 ∷ []
-run_lengths (one ∷ next ∷ rest) = if beq one next then longer_first (run_lengths (next ∷ rest)) else 1 ∷ run_lengths (next ∷ rest)
+run_lengths (one ∷ next ∷ rest) =
+    if beq one next then longer_first (run_lengths (next ∷ rest)) else 1 ∷ run_lengths (next ∷ rest)
 
 -- whether the first module is dark
 abbrev pub is_dark_first : List Bool → Bool
@@ -27,14 +28,16 @@ is_dark_first (first ∷ rest) = first
 -- the value whose widths a group has, a bar first
 abbrev pub group_value : List Bool → Option ℕ
 group_value group =
-    if is_dark_first group then position (λ text. bytes_eq (listed_widths text) (run_lengths group)) character_widths else None
+    if is_dark_first group
+    then position (λ text. bytes_eq (listed_widths text) (run_lengths group)) character_widths
+    else None
 
 -- whether the modules are the stop pattern
 abbrev pub is_stop : List Bool → Bool
 is_stop group = is_dark_first group && bytes_eq (widths_of 106) (run_lengths group)
 
--- what a value stands for: text, a change of set that lasts, a shift of the next character alone to the other of A and B, or
--- nothing that may stand between the start and the check value
+-- what a value stands for: text, a change of set that lasts, a shift of the next character alone to the other of A
+-- and B, or nothing that may stand between the start and the check value
 pub data Meaning : Type 0 where
   text : List ℕ → Meaning
   change : CodeSet → Meaning
@@ -91,7 +94,11 @@ read_values set true (value ∷ values) =
 
 -- the set that a start value starts in
 abbrev pub started_set : ℕ → Option CodeSet
-started_set value = if value == 103 then Some A else if value == 104 then Some B else if value == 105 then Some C else None
+started_set value =
+    if value == 103 then Some A
+    else if value == 104 then Some B
+    else if value == 105 then Some C
+    else None
 
 -- the data of a start value, the values after it and a check value, if that is right
 abbrev pub checked_values : ℕ → List ℕ → ℕ → Option (List ℕ)

@@ -1,4 +1,5 @@
--- Code sets A, B and C of Code 128, and the values that data is written in (ISO/IEC 15417, code sets and symbol characters).
+-- Code sets A, B and C of Code 128, and the values that data is written in (ISO/IEC 15417, code sets and symbol
+-- characters).
 use Rattle.std.specs.Prelude.{ℕ, ◌+◌, ◌-◌, ◌*◌, ◌%◌, ◌==◌, nat_lt, nat_le, if◌then◌else◌, Bool, true, false, ◌&&◌, ◌||◌, Option, List, [], ◌∷◌, ◌++◌, length, find}
 use Rattle.std.specs.List.{prefix_len}
 use Rattle.std.specs.Char.{is_ascii_digit}
@@ -86,8 +87,8 @@ pair_values C first second = pair_value first second ∷ []
 abbrev pub changed_to : CodeSet → ℕ → Written
 changed_to set byte = record { values = change_value set ∷ character_value set byte ∷ []; set = set }
 
--- one byte before others: in the set itself where it has the byte, else by a shift where the next special byte is of this set,
--- and else after a change; from C after a change to the picked set
+-- one byte before others: in the set itself where it has the byte, else by a shift where the next special byte is of
+-- this set, and else after a change; from C after a change to the picked set
 abbrev pub byte_written : CodeSet → ℕ → List ℕ → Written
 byte_written A byte rest =
     if has_character A byte then record { values = character_value A byte ∷ []; set = A }
@@ -112,4 +113,6 @@ written set (first ∷ second ∷ rest) =
 -- the set to start in: C for four digits or more, and for two digits alone
 abbrev pub start_set : List ℕ → CodeSet
 start_set bytes =
-    if nat_le 4 (leading_digits bytes) || (leading_digits bytes == 2 && (length bytes == 2)) then C else picked_set bytes
+    if nat_le 4 (leading_digits bytes) || (leading_digits bytes == 2 && (length bytes == 2))
+    then C
+    else picked_set bytes

@@ -40,7 +40,7 @@ abbrev pub unless_refused : Option ℕ → Result (List ℕ) Fault → Result (L
 unless_refused None result = result
 unless_refused (Some index) result = Err (NotADigit (index + 1))
 
--- the full data of a symbol that has this many digits and a check digit: bytes that are no digits are refused first, then
--- a wrong number of digits, then a wrong check digit
+-- the full data of a symbol that has this many digits and a check digit: bytes that are no digits are refused first,
+-- then a wrong number of digits, then a wrong check digit
 abbrev pub full_digits : ℕ → List ℕ → Result (List ℕ) Fault
 full_digits count bytes = unless_refused (position (λ byte. not (is_ascii_digit byte)) bytes) (completed count bytes)

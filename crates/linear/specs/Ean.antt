@@ -33,7 +33,8 @@ centre_guard = modules (codes "01010")
 -- a symbol: a left half in these sets, and a right half in set C, between guards
 abbrev pub symbol : List NumberSet → List ℕ → List ℕ → List Bool
 symbol sets left right =
-    normal_guard ++ (patterns sets left ++ (centre_guard ++ (flat_map (λ byte. pattern C (digit_value byte)) right ++ normal_guard)))
+    normal_guard ++ (patterns sets left
+    ++ (centre_guard ++ (flat_map (λ byte. pattern C (digit_value byte)) right ++ normal_guard)))
 
 -- EAN-8: four digits in set A and four in set C
 abbrev pub ean8_bars : List ℕ → List Bool

@@ -31,9 +31,12 @@ right_groups half row = groups 7 half (drop (8 + 7 * half) row)
 -- the digits, if the last is the check digit of the others
 abbrev pub checked_digits : List ℕ → Option (List ℕ)
 checked_digits digits =
-    if digit_value (slice_index digits (length digits - 1)) == check_digit (take (length digits - 1) digits) then Some digits else None
+    if digit_value (slice_index digits (length digits - 1)) == check_digit (take (length digits - 1) digits)
+    then Some digits
+    else None
 
--- what is found for the left groups, and the digits of the right groups in set C, if the row is framed and all are found
+-- what is found for the left groups, and the digits of the right groups in set C, if the row is framed and all are
+-- found
 abbrev pub read_halves : {Y : Type 0} → ℕ → (List Bool → Option Y) → List Bool → Option (List Y × List ℕ)
 read_halves half found row =
     if is_framed half row
@@ -46,7 +49,8 @@ read_ean8 row = option_and_then (λ halves. checked_digits (halves.0 ++ halves.1
 
 -- the number set, A or B, in which a left group is found, and its digit there
 abbrev pub digit_in_a_or_b : List Bool → Option (NumberSet × ℕ)
-digit_in_a_or_b group = option_or (option_map (λ byte. (A, byte)) (digit_in A group)) (option_map (λ byte. (B, byte)) (digit_in B group))
+digit_in_a_or_b group =
+    option_or (option_map (λ byte. (A, byte)) (digit_in A group)) (option_map (λ byte. (B, byte)) (digit_in B group))
 
 -- whether two number sets are the same
 abbrev pub same_set : NumberSet → NumberSet → Bool
@@ -62,7 +66,8 @@ first_digit sets = find (λ byte. pointwise same_set (left_sets (digit_value byt
 -- EAN-13: the sets in which the left groups are found give the first digit
 abbrev pub with_first_digit : List (NumberSet × ℕ) × List ℕ → Option (List ℕ)
 with_first_digit halves =
-    option_map (λ first. first ∷ (map (λ found. found.1) halves.0 ++ halves.1)) (first_digit (map (λ found. found.0) halves.0))
+    option_map (λ first. first ∷ (map (λ found. found.1) halves.0 ++ halves.1))
+    (first_digit (map (λ found. found.0) halves.0))
 
 -- the thirteen digits of a row of modules
 abbrev pub read_ean13 : List Bool → Option (List ℕ)

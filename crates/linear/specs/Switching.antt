@@ -1,4 +1,5 @@
--- The switching rule of Code 128 as it is said, step by step (in the manner of ISO/IEC 15417's annex on the use of code sets).
+-- The switching rule of Code 128 as it is said, step by step (in the manner of ISO/IEC 15417's annex on the use of code
+-- sets).
 use Rattle.std.specs.Prelude.{ℕ, ◌<◌, ◌%◌, ◌==◌, nat_le, if◌then◌else◌, Bool, ◌&&◌, ◌||◌, List, [], ◌∷◌, ◌++◌, length, drop, slice_index, All}
 use Rattle.linear.specs.declared.switching.CodeSet.{CodeSet}
 use Rattle.linear.specs.declared.switching.CodeSet.TheVariants.{A, B, C}
@@ -23,11 +24,13 @@ is_long_run bytes =
 abbrev pub character_step : CodeSet → ℕ → List ℕ → Step
 character_step A byte rest =
     if has_character A byte then record { values = character_value A byte ∷ []; set = A; rest = rest }
-    else if is_control_next rest then record { values = shift_value ∷ character_value B byte ∷ []; set = A; rest = rest }
+    else if is_control_next rest
+    then record { values = shift_value ∷ character_value B byte ∷ []; set = A; rest = rest }
     else to_set B (byte ∷ rest)
 character_step B byte rest =
     if has_character B byte then record { values = character_value B byte ∷ []; set = B; rest = rest }
-    else if is_lower_next rest then record { values = shift_value ∷ character_value A byte ∷ []; set = B; rest = rest }
+    else if is_lower_next rest
+    then record { values = shift_value ∷ character_value A byte ∷ []; set = B; rest = rest }
     else to_set A (byte ∷ rest)
 character_step C byte rest = to_set (picked_set (byte ∷ rest)) (byte ∷ rest)
 
@@ -49,8 +52,11 @@ step C byte rest =
 -- the steps from a set and data on, until nothing is left, write these values
 pub data Writes : CodeSet → List ℕ → List ℕ → Type 0 where
   done : {set : CodeSet} → Writes set [] []
-  stepped : {set : CodeSet} {byte : ℕ} {rest values : List ℕ} → Writes (step set byte rest).set (step set byte rest).rest values → Writes set (byte ∷ rest) ((step set byte rest).values ++ values)
+  stepped : {set : CodeSet} {byte : ℕ} {rest values : List ℕ}
+      → Writes (step set byte rest).set (step set byte rest).rest values
+      → Writes set (byte ∷ rest) ((step set byte rest).values ++ values)
 
 -- the switching rule's steps write the values of each list of ASCII bytes
 abbrev pub ValuesAreWrittenBySteps : Type 0
-ValuesAreWrittenBySteps = (set : CodeSet) (bytes : List ℕ) → All (λ byte. byte < 128) bytes → Writes set bytes (written set bytes)
+ValuesAreWrittenBySteps =
+    (set : CodeSet) (bytes : List ℕ) → All (λ byte. byte < 128) bytes → Writes set bytes (written set bytes)

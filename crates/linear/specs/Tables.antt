@@ -1,5 +1,5 @@
--- The tables of the standards, as the standards print them (ISO/IEC 15420 and 15417, symbol characters). All drawing and
--- all reading rests on these rows.
+-- The tables of the standards, as the standards print them (ISO/IEC 15420 and 15417, symbol characters). All drawing
+-- and all reading rests on these rows.
 use Rattle.std.specs.Prelude.{ℕ, List, [], ◌∷◌, codes}
 
 -- ISO/IEC 15420: the modules of the digits 0 to 9 in number set A, `1` where dark

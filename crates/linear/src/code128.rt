@@ -1,8 +1,10 @@
 //! Code 128 symbols (ISO/IEC 15417).
 ghost use Rattle.std.specs.Prelude.{◌≡◌, [], ◌+◌, ◌*◌, ◌≤◌, ◌<◌, ◌++◌, All, Ok, Err, OnOk, MatchResult, length, flat_map, position, nat_le};
 ghost use Rattle.arrayvec.specs.ArrayVec.{array_vec_len};
+ghost use Rattle.linear.specs.declared.limits.TheConstants.{MAX_BYTES, MAX_VALUES, MAX_MODULES};
 ghost use Rattle.linear.specs.Code128.{check_value, character_bars, full_code128, code128_bars};
 
+use crate::limits::MAX_BYTES;
 use crate::linear::Linear;
 use crate::row::{Row, push_modules};
 use crate::switching::{start_set, start_value, written};
@@ -11,7 +13,7 @@ use labelcore::Fault;
 
 /// The check value of a start value and the values after it.
 fn check_value(start: u8, values: &[u8]) -> u8
-    requires { length values.now ≤ 160 }
+    requires { length values.now ≤ MAX_VALUES }
     ensures { result ≡ check_value start values.now }
 {
     let mut sum = u32::from(start);
@@ -34,7 +36,7 @@ fn modules_of(value: u8) -> [bool; 11]
 /// Appends the character of a value.
 fn push_character(row: &mut Row, value: u8)
     requires value { value < 106 }
-    requires room { array_vec_len row.old + 11 ≤ 1795 }
+    requires room { array_vec_len row.old + 11 ≤ MAX_MODULES }
     ensures drawn { row.new.items ≡ row.old.items ++ character_bars value }
     ensures len { array_vec_len row.new ≡ array_vec_len row.old + 11 }
 {
@@ -44,7 +46,7 @@ fn push_character(row: &mut Row, value: u8)
 /// Appends the characters of values.
 fn push_characters(row: &mut Row, values: &[u8])
     requires values { All (λ value. value < 106) values.now }
-    requires room { array_vec_len row.old + 11 * length values.now ≤ 1795 }
+    requires room { array_vec_len row.old + 11 * length values.now ≤ MAX_MODULES }
     ensures drawn { row.new.items ≡ row.old.items ++ flat_map character_bars values.now }
     ensures len { array_vec_len row.new ≡ array_vec_len row.old + 11 * length values.now }
 {
@@ -55,7 +57,7 @@ fn push_characters(row: &mut Row, values: &[u8])
 
 /// Appends the stop character.
 fn push_stop(row: &mut Row)
-    requires { array_vec_len row.old + 13 ≤ 1795 }
+    requires { array_vec_len row.old + 13 ≤ MAX_MODULES }
     ensures drawn { row.new.items ≡ row.old.items ++ character_bars 106 }
     ensures len { array_vec_len row.new ≡ array_vec_len row.old + 13 }
 {
@@ -65,10 +67,10 @@ fn push_stop(row: &mut Row)
 /// Appends the symbol of data: start, values, check value and stop.
 fn push_code128(row: &mut Row, data: &[u8])
     requires ascii { All (λ byte. byte < 128) «data».now }
-    requires few { length «data».now ≤ 80 }
+    requires few { length «data».now ≤ MAX_BYTES }
     requires blank { row.old.items ≡ [] }
     ensures drawn { row.new.items ≡ code128_bars «data».now }
-    ensures len { array_vec_len row.new ≤ 1795 }
+    ensures len { array_vec_len row.new ≤ MAX_MODULES }
 {
     let set = start_set(data);
     let start = start_value(set);
@@ -85,9 +87,9 @@ fn check_data(data: &[u8]) -> Result<(), Fault>
     ensures answer { MatchResult result (λ _. full_code128 «data».now ≡ Ok «data».now)
         (λ fault. full_code128 «data».now ≡ Err fault) }
     ensures ascii { OnOk result (All (λ byte. byte < 128) «data».now) }
-    ensures few { OnOk result (length «data».now ≤ 80) }
+    ensures few { OnOk result (length «data».now ≤ MAX_BYTES) }
 {
-    if data.len() > 80 {
+    if data.len() > MAX_BYTES {
         return Err(Fault::DataTooLong);
     }
     if let Some(index) = first_not_ascii(data) {

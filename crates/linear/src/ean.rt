@@ -2,6 +2,7 @@
 ghost use Rattle.std.specs.Prelude.{◌≡◌, ◌+◌, ◌*◌, ◌≤◌, ◌<◌, ◌++◌, All, length, flat_map};
 ghost use Rattle.std.specs.Char.{IsAsciiDigit};
 ghost use Rattle.arrayvec.specs.ArrayVec.{array_vec_len};
+ghost use Rattle.linear.specs.declared.limits.TheConstants.{MAX_MODULES};
 ghost use Rattle.linear.specs.Digits.{digit_value};
 ghost use Rattle.linear.specs.Ean.{pattern, patterns, symbol, ean13_bars};
 
@@ -35,7 +36,7 @@ fn modules_of(set: NumberSet, digit: u8) -> [bool; 7]
 /// Appends a digit in a number set.
 fn push_digit(row: &mut Row, set: NumberSet, digit: u8)
     requires digit { digit < 10 }
-    requires room { array_vec_len row.old + 7 ≤ 1795 }
+    requires room { array_vec_len row.old + 7 ≤ MAX_MODULES }
     ensures drawn { row.new.items ≡ row.old.items ++ pattern set digit }
     ensures len { array_vec_len row.new ≡ array_vec_len row.old + 7 }
 {
@@ -47,7 +48,7 @@ fn push_left(row: &mut Row, sets: &[NumberSet], digits: &[u8])
     requires same { length sets.now ≡ length digits.now }
     requires digits { All IsAsciiDigit digits.now }
     requires few { length digits.now ≤ 6 }
-    requires room { array_vec_len row.old + 42 ≤ 1795 }
+    requires room { array_vec_len row.old + 42 ≤ MAX_MODULES }
     ensures drawn { row.new.items ≡ row.old.items ++ patterns sets.now digits.now }
     ensures len { array_vec_len row.new ≡ array_vec_len row.old + 7 * length digits.now }
 {
@@ -60,7 +61,7 @@ fn push_left(row: &mut Row, sets: &[NumberSet], digits: &[u8])
 fn push_right(row: &mut Row, digits: &[u8])
     requires digits { All IsAsciiDigit digits.now }
     requires few { length digits.now ≤ 6 }
-    requires room { array_vec_len row.old + 42 ≤ 1795 }
+    requires room { array_vec_len row.old + 42 ≤ MAX_MODULES }
     ensures drawn { row.new.items
         ≡ row.old.items ++ flat_map (λ byte. pattern NumberSet.C (digit_value byte)) digits.now }
     ensures len { array_vec_len row.new ≡ array_vec_len row.old + 7 * length digits.now }
@@ -77,7 +78,7 @@ fn push_symbol(row: &mut Row, sets: &[NumberSet], left: &[u8], right: &[u8])
     requires right { All IsAsciiDigit right.now }
     requires few_left { length left.now ≤ 6 }
     requires few_right { length right.now ≤ 6 }
-    requires room { array_vec_len row.old + 95 ≤ 1795 }
+    requires room { array_vec_len row.old + 95 ≤ MAX_MODULES }
     ensures drawn { row.new.items ≡ row.old.items ++ symbol sets.now left.now right.now }
     ensures len { array_vec_len row.new ≤ array_vec_len row.old + 95 }
 {
@@ -126,7 +127,7 @@ impl Linear for Ean8 {
 fn push_ean13(row: &mut Row, full: &[u8])
     requires digits { All IsAsciiDigit full.now }
     requires len { length full.now ≡ 13 }
-    requires room { array_vec_len row.old + 95 ≤ 1795 }
+    requires room { array_vec_len row.old + 95 ≤ MAX_MODULES }
     ensures drawn { row.new.items ≡ row.old.items ++ ean13_bars full.now }
     ensures len { array_vec_len row.new ≤ array_vec_len row.old + 95 }
 {

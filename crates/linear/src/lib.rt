@@ -4,6 +4,7 @@
 mod code128;
 mod digits;
 mod ean;
+mod limits;
 mod linear;
 mod row;
 mod switching;
@@ -13,6 +14,7 @@ mod tests;
 
 pub use code128::Code128;
 pub use ean::{Ean8, Ean13, UpcA};
+pub use limits::MAX_MODULES;
 pub use linear::Linear;
 pub use row::Row;
 pub use switching::switching_law;

@@ -1,5 +1,6 @@
 //! What every linear symbology does.
 ghost use Rattle.std.specs.Prelude.{◌≡◌, ◌≢◌, ◌≤◌, ◌↔◌, ℕ, Bool, Option, Result, Ok, Err, Some, List, [], IsOk, IfOk, IfErr, OnErr, length};
+ghost use Rattle.linear.specs.declared.limits.TheConstants.{MAX_MODULES};
 ghost use Rattle.labelcore.specs.declared.fault.Fault.{Fault as Refusal};
 
 use crate::row::Row;
@@ -31,7 +32,7 @@ pub trait Linear {
         requires { «data».now ≢ [] }
         ensures accepted { IsOk result ↔ IsOk (full_data «data».now) }
         ensures drawn { IfOk (full_data «data».now) (λ full. row.new.items ≡ bars full) }
-        ensures fits { IfOk (full_data «data».now) (λ full. length (bars full) ≤ 1795) }
+        ensures fits { IfOk (full_data «data».now) (λ full. length (bars full) ≤ MAX_MODULES) }
         ensures read { IfOk (full_data «data».now) (λ full. reading (bars full) ≡ Some full) }
         ensures refused { IfErr (full_data «data».now) (λ fault. result ≡ Err fault) }
         ensures empty { OnErr result (row.new.items ≡ []) };

@@ -2,9 +2,11 @@
 ghost use Rattle.std.specs.Prelude.{◌≡◌, [], ◌∷◌, ◌+◌, ◌≤◌, ◌<◌, ◌++◌, All, length, IsTrue};
 ghost use Rattle.std.specs.Char.{IsAsciiDigit};
 ghost use Rattle.arrayvec.specs.ArrayVec.{array_vec_len};
+ghost use Rattle.linear.specs.declared.limits.TheConstants.{MAX_BYTES, MAX_VALUES};
 ghost use Rattle.linear.specs.CodeSets.{has_character, character_value, start_value, change_value, shift_value, leading_digits, is_control_next, is_lower_next, next_special, picked_set, is_pair_next, pair_values, changed_to, byte_written, written, start_set};
 ghost use Rattle.linear.specs.Switching.{ValuesAreWrittenBySteps};
 
+use crate::limits::MAX_VALUES;
 use arrayvec::ArrayVec;
 
 /// A code set of Code 128: A has the control characters, B the lower case, and C pairs of digits.
@@ -16,7 +18,7 @@ pub enum CodeSet {
 }
 
 /// The values of a symbol between its start and check value.
-pub type Values = ArrayVec<u8, 160>;
+pub type Values = ArrayVec<u8, MAX_VALUES>;
 
 /// The value that shifts the next character alone to the other of sets A and B.
 const SHIFT: u8 = 98;
@@ -136,7 +138,7 @@ fn character_value(set: CodeSet, byte: u8) -> u8
 fn push_pair(values: &mut Values, set: CodeSet, first: u8, second: u8)
     requires first { IsAsciiDigit first }
     requires second { IsAsciiDigit second }
-    requires room { array_vec_len values.old + 2 ≤ 160 }
+    requires room { array_vec_len values.old + 2 ≤ MAX_VALUES }
     ensures items { values.new.items ≡ values.old.items ++ pair_values set first second }
     ensures len { array_vec_len values.new ≤ array_vec_len values.old + 2 }
 {
@@ -150,7 +152,7 @@ fn push_pair(values: &mut Values, set: CodeSet, first: u8, second: u8)
 fn push_changed(values: &mut Values, set: CodeSet, byte: u8)
     requires ascii { byte < 128 }
     requires has { IsTrue (has_character set byte) }
-    requires room { array_vec_len values.old + 2 ≤ 160 }
+    requires room { array_vec_len values.old + 2 ≤ MAX_VALUES }
     ensures items { values.new.items ≡ values.old.items ++ (changed_to set byte).values }
     ensures len { array_vec_len values.new ≤ array_vec_len values.old + 2 }
 {
@@ -162,7 +164,7 @@ fn push_changed(values: &mut Values, set: CodeSet, byte: u8)
 fn push_shifted(values: &mut Values, shifted: CodeSet, byte: u8)
     requires ascii { byte < 128 }
     requires has { IsTrue (has_character shifted byte) }
-    requires room { array_vec_len values.old + 2 ≤ 160 }
+    requires room { array_vec_len values.old + 2 ≤ MAX_VALUES }
     ensures items { values.new.items
         ≡ values.old.items ++ shift_value ∷ character_value shifted byte ∷ [] }
     ensures len { array_vec_len values.new ≤ array_vec_len values.old + 2 }
@@ -174,7 +176,7 @@ fn push_shifted(values: &mut Values, shifted: CodeSet, byte: u8)
 /// Appends the values of a byte before `rest`, and gives the set that holds after them.
 fn push_byte(values: &mut Values, set: CodeSet, byte: u8, rest: &[u8]) -> CodeSet
     requires ascii { byte < 128 }
-    requires room { array_vec_len values.old + 2 ≤ 160 }
+    requires room { array_vec_len values.old + 2 ≤ MAX_VALUES }
     ensures items { values.new.items ≡ values.old.items ++ (byte_written set byte rest.now).values }
     ensures set { result ≡ (byte_written set byte rest.now).set }
     ensures len { array_vec_len values.new ≤ array_vec_len values.old + 2 }
@@ -219,7 +221,7 @@ fn picked_set_of(byte: u8, rest: &[u8]) -> CodeSet
 #[tactic(auto, using(crate::proofs::WrittenLemmas::pair_at, crate::proofs::WrittenLemmas::byte_at))]
 pub fn written(data: &[u8], start: CodeSet) -> Values
     requires ascii { All (λ byte. byte < 128) «data».now }
-    requires few { length «data».now ≤ 80 }
+    requires few { length «data».now ≤ MAX_BYTES }
     ensures items { result.items ≡ written start «data».now }
     ensures characters { All (λ value. value < 106) result.items }
 {

@@ -5,9 +5,9 @@ use super::{assert_drawn, assert_widths};
 use crate::{Ean8, Ean13};
 use arrayvec::ArrayVec;
 
-/// The widths of the values 0 to 105, as `zint -b 20 --dump` and, for 102, `zint -b 16 --dump` draw them: 0 to 99 and 105
-/// in the symbols of two digits, 103 in that of bytes 1 and 2, 104 in that of `ab`, 101 in that of `ab` and the bytes
-/// 1, 2 and 3, 100 in that of `1234ab`, and 102 in that of `[01]12345678901231`.
+/// The widths of the values 0 to 105, as `zint -b 20 --dump` and, for 102, `zint -b 16 --dump` draw them: 0 to 99 and
+/// 105 in the symbols of two digits, 103 in that of bytes 1 and 2, 104 in that of `ab`, 101 in that of `ab` and the
+/// bytes 1, 2 and 3, 100 in that of `1234ab`, and 102 in that of `[01]12345678901231`.
 static WIDTHS: [&[u8; 6]; 106] = [
     b"212222", b"222122", b"222221", b"121223", b"121322", b"131222", b"122213", b"122312",
     b"132212", b"221213", b"221312", b"231212", b"112232", b"122132", b"122231", b"113222",

@@ -9,5 +9,6 @@ use Rattle.linear.proofs.ean.push_right.Given as goal
 abbrev pub invariant-loop-digit : goal.invariant-loop-digit
 invariant-loop-digit l = record {
   room : length l.row.items ≡ length l.initial.row.items + 7 * l.digit-index;
-  drawn : l.row.items ≡ l.initial.row.items ++ flat_map (λ byte. pattern C (digit_value byte)) (take l.digit-index l.digits);
+  drawn : l.row.items ≡ l.initial.row.items
+      ++ flat_map (λ byte. pattern C (digit_value byte)) (take l.digit-index l.digits);
 }

@@ -15,7 +15,8 @@ pub push_pair-requires-clause-second : goal.push_pair-requires-clause-second
 push_pair-requires-clause-second c =
     let i = c.loop-i.i in
     let xs = c.args.data.now in
-    let pair = ap (is_pair_next c.loop-i.set) (sym (rest_is xs i)) ∙ sym c.is_pair_next.ensures ∙ c.if-is_pair_next.true in
+    let pair = ap (is_pair_next c.loop-i.set) (sym (rest_is xs i)) ∙ sym c.is_pair_next.ensures
+    ∙ c.if-is_pair_next.true in
     (pair_at c.loop-i.set xs i c.loop-i.invariant.within pair).second
 
 pub loop-i-preserved-then-is_pair_next : goal.loop-i-preserved-then-is_pair_next
@@ -30,7 +31,8 @@ loop-i-preserved-then-is_pair_next c =
     record {
       within = p.within;
       room = omega arith;
-      whole = ap (λ ys. ys ++ after) c.push_pair.ensures.items ∙ append_assoc before (pair_values set (get_or xs i 0) (get_or xs (i + 1) 0)) after
+      whole = ap (λ ys. ys ++ after) c.push_pair.ensures.items
+          ∙ append_assoc before (pair_values set (get_or xs i 0) (get_or xs (i + 1) 0)) after
           ∙ ap (λ ys. before ++ ys) (sym p.values) ∙ c.loop-i.invariant.whole;
     }
 
@@ -44,13 +46,17 @@ loop-i-preserved c =
     let e = byte_at set xs i c.loop-i-test.true single in
     let rest = rest_is xs (i + 1) in
     let step = byte_written set (get_or xs i 0) (drop (i + 1) xs) in
-    let items : c.push_byte-set.new.values.items ≡ before ++ step.values = c.push_byte-set.ensures.items ∙ ap (λ ys. before ++ (byte_written set (get_or xs i 0) ys).values) rest in
-    let after : c.push_byte-set.result ≡ step.set = c.push_byte-set.ensures.set ∙ ap (λ ys. (byte_written set (get_or xs i 0) ys).set) rest in
+    let items : c.push_byte-set.new.values.items ≡ before ++ step.values = c.push_byte-set.ensures.items
+    ∙ ap (λ ys. before ++ (byte_written set (get_or xs i 0) ys).values) rest in
+    let after : c.push_byte-set.result ≡ step.set = c.push_byte-set.ensures.set
+    ∙ ap (λ ys. (byte_written set (get_or xs i 0) ys).set) rest in
     record {
       within = omega arith;
       room = omega arith;
-      whole = ap (λ ys. ys ++ written c.push_byte-set.result (drop (i + 1) xs)) items ∙ ap (λ s. (before ++ step.values) ++ written s (drop (i + 1) xs)) after
-          ∙ append_assoc before step.values (written step.set (drop (i + 1) xs)) ∙ ap (λ ys. before ++ ys) (sym e) ∙ c.loop-i.invariant.whole;
+      whole = ap (λ ys. ys ++ written c.push_byte-set.result (drop (i + 1) xs)) items
+          ∙ ap (λ s. (before ++ step.values) ++ written s (drop (i + 1) xs)) after
+          ∙ append_assoc before step.values (written step.set (drop (i + 1) xs)) ∙ ap (λ ys. before ++ ys) (sym e)
+          ∙ c.loop-i.invariant.whole;
     }
 
 pub returns-clause-characters : goal.returns-clause-characters
@@ -58,6 +64,8 @@ returns-clause-characters c =
     let xs = c.args.data.now in
     let done : drop c.loop-i.i xs ≡ [] = drop_all c.loop-i.i xs c.loop-i-test.false in
     let e : c.loop-i.values.items ≡ written c.args.start xs =
-    sym (append-nil c.loop-i.values.items) ∙ ap (λ ys. c.loop-i.values.items ++ written c.loop-i.set ys) (sym done) ∙ c.loop-i.invariant.whole in
+    sym (append-nil c.loop-i.values.items) ∙ ap (λ ys. c.loop-i.values.items ++ written c.loop-i.set ys) (sym done)
+    ∙ c.loop-i.invariant.whole in
     let P : List ℕ → Type 0 = λ ys. All (λ value. value < 106) ys in
-    subst P (sym e) (All-from_recursion (λ value. value < 106) (written c.args.start xs) (written_characters c.args.start xs (recursion_from_All (λ byte. byte < 128) xs c.requires.ascii)))
+    subst P (sym e) (All-from_recursion (λ value. value < 106) (written c.args.start xs)
+    (written_characters c.args.start xs (recursion_from_All (λ byte. byte < 128) xs c.requires.ascii)))
