@@ -1,8 +1,38 @@
 //! QR symbols as pictures.
+ghost use Rattle.std.specs.Prelude.{◌≡◌, ◌+◌, ◌<◌, ℕ, false, slice_index_or};
+ghost use Rattle.qrmatrix.specs.Bits.{bit};
 ghost use Rattle.picture.specs.Picture.{symbol_picture};
 
 use crate::grid::Grid;
 use qrmatrix::Matrix;
+
+/// The four lowest bits of each number below 16, the lowest first. A reference, so that no call builds the table anew.
+const FOUR: &[[bool; 4]; 16] = &[
+    [false, false, false, false],
+    [true, false, false, false],
+    [false, true, false, false],
+    [true, true, false, false],
+    [false, false, true, false],
+    [true, false, true, false],
+    [false, true, true, false],
+    [true, true, true, false],
+    [false, false, false, true],
+    [true, false, false, true],
+    [false, true, false, true],
+    [true, true, false, true],
+    [false, false, true, true],
+    [true, false, true, true],
+    [false, true, true, true],
+    [true, true, true, true],
+];
+
+/// The bits `x` to `x + 3` of a row.
+fn four_bits(row: u64, x: usize) -> [bool; 4]
+    requires { x < 64 }
+    ensures { (j : ℕ) → j < 4 → slice_index_or result j false ≡ bit row (x + j) }
+{
+    FOUR[((row >> x) & 15) as usize]
+}
 
 impl Grid for Matrix {
     ghost picture = { symbol_picture };
@@ -21,7 +51,15 @@ impl Grid for Matrix {
 
     fn read_row(&self, y: usize, pixels: &mut [bool]) {
         let row = self.rows()[y];
-        for x in 0..pixels.len() {
+        let fours = pixels.len() / 4;
+        for k in 0..fours {
+            let four = four_bits(row, 4 * k);
+            pixels[4 * k] = four[0];
+            pixels[4 * k + 1] = four[1];
+            pixels[4 * k + 2] = four[2];
+            pixels[4 * k + 3] = four[3];
+        }
+        for x in 4 * fours..pixels.len() {
             pixels[x] = (row >> x) & 1 == 1;
         }
     }

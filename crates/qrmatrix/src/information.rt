@@ -2,7 +2,7 @@
 ghost use Rattle.std.specs.Prelude.{◌≡◌, ◌+◌, ◌*◌, ◌^◌, ◌<◌, ◌≤◌};
 ghost use Rattle.gf256.specs.BinaryPolynomial.{binary_remainder};
 ghost use Rattle.qrmatrix.specs.Information;
-ghost use Rattle.qrmatrix.specs.Information.{FormatWordsAreListed, VersionWordsAreListed};
+ghost use Rattle.qrmatrix.specs.Information.{FormatWordsAreListed, FormatWordsAreCodewords, VersionWordsAreListed, VersionWordsAreCodewords};
 
 use labelcore::Level;
 use qrdata::Version;
@@ -60,9 +60,11 @@ pub fn version_word(version: Version) -> u32
     message + remainder(12, 0x1F25, 6, message)
 }
 
-/// The words that the standard lists are those that are computed: format words (ISO/IEC 18004, Annex C) and version words
-/// (Annex D).
+/// The words that the standard lists are those that are computed: all 32 format words (ISO/IEC 18004, Annex C) and the
+/// version words of the versions 7 to 10 (Annex D). Each is a multiple of its code's generator.
 pub fn information_laws()
     ensures format { FormatWordsAreListed }
+    ensures format_code { FormatWordsAreCodewords }
     ensures version { VersionWordsAreListed }
+    ensures version_code { VersionWordsAreCodewords }
 {}

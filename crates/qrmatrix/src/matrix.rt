@@ -32,6 +32,7 @@ impl Model for Matrix {
     ghost invariant = { λ m. record {
       least : 21 ≤ m.side;
       most : m.side ≤ 57;
+      mask : m.mask < 8;
       within : IsWithin m.side m.modules;
     } };
 }
@@ -101,7 +102,8 @@ impl Matrix {
 
     /// The mask, 0 to 7.
     pub fn mask(&self) -> u8
-        ensures { result ≡ self.now.mask }
+        ensures value { result ≡ self.now.mask }
+        ensures bound { result < 8 }
     {
         self.mask
     }

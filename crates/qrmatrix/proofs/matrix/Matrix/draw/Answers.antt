@@ -13,6 +13,9 @@ use Rattle.qrmatrix.proofs.matrix.Matrix.draw.Goals.{in-Some, in-None}
 shown : (c : goal.After-under) (x y : ℕ) → value_at c.under.result x y ≡ module_at c.args.version.number c.args.level c.match-mask.mask c.args.words.now.items x y
 shown c = rw (c.draw-unmasked.ensures.version, c.draw-unmasked.ensures.level) at (c.under.ensures c.args.words.now.items c.draw-unmasked.ensures.placed)
 
+below : (c : goal.After-under) → c.match-mask.mask < 8
+below c = elim c.match-mask.branch [ in-Some w ↦ search rules | in-None w ↦ search rules ]
+
 -- the modules outside of the side
 light : (c : goal.After-under) (x y : ℕ) → is_inside c.side.result x y ≡ false → value_at c.under.result x y ≡ false
 light c x y out =
@@ -39,10 +42,9 @@ returns-clause-reads c =
     let v = c.args.version.number in
     let words = c.args.words.now.items in
     let mask = c.match-mask.mask in
-    let below : mask < 8 = elim c.match-mask.branch [ in-Some w ↦ search rules | in-None w ↦ search rules ] in
     let bytes : All (λ w. w < 256) words = rw c.deref.ensures.0 at c.are_bytes.ensures in
     let same : value_at c.under.result ≡ module_at v c.args.level mask words = fun_ext (λ x. fun_ext (λ y. shown c x y)) in
-    rw (same, c.side.ensures) (reads_back v c.args.level mask words c.args.version.at_least c.args.version.at_most below c.requires.count bytes)
+    rw (same, c.side.ensures) (reads_back v c.args.level mask words c.args.version.at_least c.args.version.at_most (below c) c.requires.count bytes)
 
 pub returns-clause-room : goal.returns-clause-room
 returns-clause-room c =
@@ -53,5 +55,6 @@ invariant_of-result c =
     record {
       least = let a = c.args.version.at_least in omega arith;
       most = let a = c.args.version.at_most in omega arith;
+      mask = below c;
       within = light c;
     }
