@@ -20,8 +20,8 @@ use Rattle.qrmatrix.specs.Modules.{is_inside}
 use Rattle.qrmatrix.specs.Reading.{read_matrix}
 use Rattle.qrmatrix.specs.Square.{value_at}
 use Rattle.picture.specs.Picture.{Picture, bars}
-use Rattle.picture.specs.Text.{below}
-use Rattle.picture.specs.Read.{raster, pixel_row}
+use Rattle.picture.specs.Text.{below, pixel_row}
+use Rattle.picture.specs.Read.{raster}
 use Rattle.picture.specs.RoundTrip.{IsDrawable, PbmFilesAreTexts, AsciiFilesAreTexts, PbmTextsAreRead, AsciiTextsAreRead, PixelsAreThePicture, ModulesAreSampled, BarsAreOneRow}
 use Rattle.filter.specs.Label.{Label, quiet_zone, linear_label}
 use Rattle.filter.specs.Output.{Outcome, skipped, refused, drawn, outcome, outcome_of_label, image_of, images, picture_of, text_of}

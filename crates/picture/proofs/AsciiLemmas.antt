@@ -10,8 +10,8 @@ use Rattle.labelcore.specs.Lines.{lines}
 use Rattle.std.proofs.lemmas.List.Elements.{recursion_from_All}
 use Rattle.picture.specs.Picture.{Picture}
 use Rattle.picture.specs.RoundTrip.{AsciiFilesAreTexts, AsciiTextsAreRead}
-use Rattle.picture.specs.Text.{below, ascii_pixel, ascii_row, ascii_text}
-use Rattle.picture.specs.Read.{raster, pixel_row, ascii_line, ascii_lines, ascii_pixels, first_length, cut_after, is_line_feed, whole_lines, ascii_files}
+use Rattle.picture.specs.Text.{below, ascii_pixel, ascii_row, ascii_text, pixel_row}
+use Rattle.picture.specs.Read.{raster, ascii_line, ascii_lines, ascii_pixels, first_length, cut_after, is_line_feed, whole_lines, ascii_files}
 use Rattle.picture.proofs.LineLemmas.{has_no_line_feed, lines-line, lines-nil}
 use Rattle.picture.proofs.CutLemmas.{cut_after-at, cut_after-part}
 

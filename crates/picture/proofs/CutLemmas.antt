@@ -11,7 +11,8 @@ use Rattle.std.proofs.lemmas.Str.Parse.{digit_from_value}
 use Rattle.std.proofs.lemmas.List.Elements.{recursion_from_All}
 use Rattle.picture.specs.Picture.{Picture}
 use Rattle.picture.specs.RoundTrip.{IsDrawable, PbmFilesAreTexts}
-use Rattle.picture.specs.Text.{below, pbm_digit, pbm_line_end, pbm_pixel, pbm_row, pbm_text, pbm_header}
+use Rattle.picture.specs.Text.{below, pbm_digit, pbm_header}
+use Rattle.picture.proofs.ColumnLemmas.{pbm_line_end, pbm_pixel, pbm_columns, columns_text, texts_by_columns, map_by_columns}
 use Rattle.picture.specs.Read.{cut_after, cut_before, begins_part, onto_parts, is_line_feed, whole_lines, pbm_files}
 
 -- a list that is not empty
@@ -138,9 +139,9 @@ pixels_no_P p y (x ∷ xs) =
     digit_no_P (p.dark x y) (pbm_line_end p.width x ++ flat_map (pbm_pixel p y) xs)
     (list_all-append (λ b. not (b == 80)) (pbm_line_end p.width x) (flat_map (pbm_pixel p y) xs) ∙ rw (end_no_P ((x + 1) % 70 == 0 || x + 1 == p.width), pixels_no_P p y xs) refl)
 
-rows_no_P : (p : Picture) (ys : List ℕ) → has_no_P (flat_map (pbm_row p) ys) ≡ true
+rows_no_P : (p : Picture) (ys : List ℕ) → has_no_P (flat_map (pbm_columns p) ys) ≡ true
 rows_no_P p [] = refl
-rows_no_P p (y ∷ ys) = list_all-append (λ b. not (b == 80)) (pbm_row p y) (flat_map (pbm_row p) ys) ∙ rw (pixels_no_P p y (below p.width), rows_no_P p ys) refl
+rows_no_P p (y ∷ ys) = list_all-append (λ b. not (b == 80)) (pbm_columns p y) (flat_map (pbm_columns p) ys) ∙ rw (pixels_no_P p y (below p.width), rows_no_P p ys) refl
 
 digits_no_P : (ds : List ℕ) → AllDigits 10 ds → has_no_P ds ≡ true
 digits_no_P [] all = refl
@@ -151,34 +152,34 @@ pixels_whole p y zero a e =
     (pbm_digit (p.dark a y) ∷ [], rw (or_right ((a + 1) % 70 == 0) (a + 1 == p.width) (eq-eqb (a + 1) p.width (omega arith))) refl)
 pixels_whole p y (suc n) a e = whole_after (pbm_pixel p y a) (flat_map (pbm_pixel p y) (range_with_len (a + 1) (suc n))) (pixels_whole p y n (a + 1) (omega arith))
 
-row_whole : (p : Picture) (y n : ℕ) → suc n ≡ p.width → IsWhole (pbm_row p y)
+row_whole : (p : Picture) (y n : ℕ) → suc n ≡ p.width → IsWhole (pbm_columns p y)
 row_whole p y n e = subst (λ (k : ℕ). IsWhole (flat_map (pbm_pixel p y) (range_with_len 0 k))) e (pixels_whole p y n 0 (omega arith))
 
-whole_rows : (p : Picture) (n : ℕ) (s : List ℕ) (ys : List ℕ) → suc n ≡ p.width → IsWhole s → IsWhole (s ++ flat_map (pbm_row p) ys)
+whole_rows : (p : Picture) (n : ℕ) (s : List ℕ) (ys : List ℕ) → suc n ≡ p.width → IsWhole s → IsWhole (s ++ flat_map (pbm_columns p) ys)
 whole_rows p n s [] e h = rw (append-nil s) h
 whole_rows p n s (y ∷ ys) e h =
-    subst IsWhole (append_assoc s (pbm_row p y) (flat_map (pbm_row p) ys)) (whole_rows p n (s ++ pbm_row p y) ys e (whole_after s (pbm_row p y) (row_whole p y n e)))
+    subst IsWhole (append_assoc s (pbm_columns p y) (flat_map (pbm_columns p) ys)) (whole_rows p n (s ++ pbm_columns p y) ys e (whole_after s (pbm_columns p y) (row_whole p y n e)))
 
-pub IsFile-pbm_text : (p : Picture) (n : ℕ) → suc n ≡ p.width → p.width < 2 ^ 64 → p.height < 2 ^ 64 → IsFile (pbm_text p)
-IsFile-pbm_text p n e wide high = record {
-  rest = ((decimal p.width ++ 32 ∷ []) ++ decimal p.height) ++ 10 ∷ [] ++ flat_map (pbm_row p) (below p.height);
+pub IsFile-columns_text : (p : Picture) (n : ℕ) → suc n ≡ p.width → p.width < 2 ^ 64 → p.height < 2 ^ 64 → IsFile (columns_text p)
+IsFile-columns_text p n e wide high = record {
+  rest = ((decimal p.width ++ 32 ∷ []) ++ decimal p.height) ++ 10 ∷ [] ++ flat_map (pbm_columns p) (below p.height);
   begins = refl;
   whole = whole_rows p n (pbm_header p.width p.height) (below p.height) e (80 ∷ 49 ∷ 10 ∷ ((decimal p.width ++ 32 ∷ []) ++ decimal p.height), refl);
   plain = simp (list_all-append (λ b. not (b == 80))) (rw (digits_no_P (decimal p.width) (decimal_is_IsNumeral p.width wide).0.1, digits_no_P (decimal p.height) (decimal_is_IsNumeral p.height high).0.1, rows_no_P p (below p.height)) refl);
 }
 
-begins_or_ends : (ps : List Picture) → (flat_map pbm_text ps ≡ []) ⊎ ((rest : List ℕ) × (flat_map pbm_text ps ≡ 80 ∷ 49 ∷ 10 ∷ rest))
+begins_or_ends : (ps : List Picture) → (flat_map columns_text ps ≡ []) ⊎ ((rest : List ℕ) × (flat_map columns_text ps ≡ 80 ∷ 49 ∷ 10 ∷ rest))
 begins_or_ends [] = inl refl
 begins_or_ends (p ∷ ps) = inr (_, refl)
 
 -- a stream of the texts of pictures is cut into these texts
-cut_again : (ps : List Picture) → AllByRecursion IsDrawable ps → pbm_files (flat_map pbm_text ps) ≡ map pbm_text ps
+cut_again : (ps : List Picture) → AllByRecursion IsDrawable ps → pbm_files (flat_map columns_text ps) ≡ map columns_text ps
 cut_again [] all = refl
 cut_again (p ∷ ps) all =
     let columns : suc (p.width - 1) ≡ p.width = (let some = all.0.some in omega arith) in
-    let file = IsFile-pbm_text p (p.width - 1) columns all.0.wide all.0.high in
-    pbm_files-file (pbm_text p) (flat_map pbm_text ps) file (first_cut (pbm_text p) (flat_map pbm_text ps) file (begins_or_ends ps))
-    ∙ ap (λ (xs : List (List ℕ)). pbm_text p ∷ xs) (cut_again ps all.1)
+    let file = IsFile-columns_text p (p.width - 1) columns all.0.wide all.0.high in
+    pbm_files-file (columns_text p) (flat_map columns_text ps) file (first_cut (columns_text p) (flat_map columns_text ps) file (begins_or_ends ps))
+    ∙ ap (λ (xs : List (List ℕ)). columns_text p ∷ xs) (cut_again ps all.1)
 
 pub pbm_files-flat_map : PbmFilesAreTexts
-pbm_files-flat_map ps all = cut_again ps (recursion_from_All IsDrawable ps all)
+pbm_files-flat_map ps all = ap pbm_files (texts_by_columns ps) ∙ (cut_again ps (recursion_from_All IsDrawable ps all) ∙ sym (map_by_columns ps))

@@ -9,8 +9,7 @@ use borrow.Rule.Slice.PartMut.{put_mid}
 use Rattle.std.proofs.lemmas.Nat.{div_below, div-add-mod', div-mul-add, le-div, mul-le}
 use Rattle.std.proofs.lemmas.List.FromFn.{fill_by_all, length-map-range_with_len, get_or-map-range_with_len}
 use Rattle.picture.specs.Picture.{AreEqualRows, Picture, Zone, framed, scaled}
-use Rattle.picture.specs.Read.{pixel_row}
-use Rattle.picture.specs.Text.{below}
+use Rattle.picture.specs.Text.{below, pixel_row}
 use Rattle.picture.proofs.SampleLemmas.{dark-framed}
 use Rattle.picture.proofs.WritingLemmas.{map-below_add}
 

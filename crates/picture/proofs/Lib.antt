@@ -1,4 +1,5 @@
 pub mod AsciiLemmas
+pub mod ColumnLemmas
 pub mod CutLemmas
 pub mod GridLemmas
 pub mod HeaderLemmas

@@ -1,13 +1,13 @@
 -- A plain PBM file reads back as the picture's pixels.
 use Rattle.std.proofs.Common.{◌≡◌, ℕ, suc, ◌-◌, ◌^◌, ◌<◌, true, List, [], ◌∷◌, ◌++◌, length, take, drop, map, flat_map, refl, ap, sym, ◌∙◌, arith, codes, decimal, Some, append_assoc}
 use Rattle.std.specs.Str.{bytes_eq}
-use Rattle.std.proofs.lemmas.List.{append-nil}
 use Rattle.std.proofs.lemmas.Bool.{eq-eqb}
 use Rattle.std.proofs.lemmas.List.FromFn.{length-range_with_len}
 use Rattle.picture.specs.Picture.{Picture}
 use Rattle.picture.specs.RoundTrip.{PbmTextsAreRead}
-use Rattle.picture.specs.Text.{below, pbm_text, pbm_pixel_text, pbm_row, row_text}
-use Rattle.picture.specs.Read.{raster, raster_of, pbm_pixels, has_short_lines, after_white, after_one_white, number_at, pixel_row}
+use Rattle.picture.specs.Text.{below, pixel_row}
+use Rattle.picture.proofs.ColumnLemmas.{columns_text, pbm_columns, text_by_columns}
+use Rattle.picture.specs.Read.{raster, raster_of, pbm_pixels, has_short_lines, after_white, after_one_white, number_at}
 use Rattle.picture.proofs.RasterLemmas.{strip, row_digits, strip-pbm_rows, list_all-row_digits, length-row_digits, rows_of-row_digits}
 use Rattle.picture.proofs.HeaderLemmas.{number_at-decimal, after_white-decimal}
 use Rattle.picture.proofs.ShortLineLemmas.{short_rows, short_header}
@@ -28,9 +28,9 @@ raster_of-digits p ys e =
 grouped : (w h body : List ℕ) → ((((80 ∷ 49 ∷ 10 ∷ []) ++ w) ++ (32 ∷ [])) ++ h) ++ (10 ∷ []) ++ body ≡ 80 ∷ 49 ∷ 10 ∷ (w ++ 32 ∷ (h ++ 10 ∷ body))
 grouped w h body = simp append_assoc
 
-read_back : (p : Picture) (n : ℕ) → suc n ≡ p.width → p.width < 2 ^ 64 → p.height < 2 ^ 64 → pbm_pixels (pbm_text p) ≡ Some (raster p)
+read_back : (p : Picture) (n : ℕ) → suc n ≡ p.width → p.width < 2 ^ 64 → p.height < 2 ^ 64 → pbm_pixels (columns_text p) ≡ Some (raster p)
 read_back p n e wide high =
-    let body = flat_map (pbm_row p) (below p.height) in
+    let body = flat_map (pbm_columns p) (below p.height) in
     let w = decimal p.width in
     let h = decimal p.height in
     let text = 80 ∷ 49 ∷ 10 ∷ (w ++ 32 ∷ (h ++ 10 ∷ body)) in
@@ -45,11 +45,4 @@ read_back p n e wide high =
 
 -- a plain PBM file of some column reads back as the picture's pixels
 pub pbm_pixels-pbm_text : PbmTextsAreRead
-pbm_pixels-pbm_text p h = read_back p (p.width - 1) (let some = h.some in omega arith) h.wide h.high
-
--- the rows of a walker that writes digits and line ends, and ends a row with nothing
-pub flat_map-pbm_rows : (p : Picture) (ys : List ℕ) → flat_map (row_text pbm_pixel_text [] p) ys ≡ flat_map (pbm_row p) ys
-flat_map-pbm_rows p [] = refl
-flat_map-pbm_rows p (y ∷ ys) =
-    ap (λ (row : List ℕ). row ++ flat_map (row_text pbm_pixel_text [] p) ys) (append-nil (pbm_row p y))
-    ∙ ap (λ (rest : List ℕ). pbm_row p y ++ rest) (flat_map-pbm_rows p ys)
+pbm_pixels-pbm_text p h = ap pbm_pixels (text_by_columns p) ∙ read_back p (p.width - 1) (let some = h.some in omega arith) h.wide h.high

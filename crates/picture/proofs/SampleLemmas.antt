@@ -9,8 +9,8 @@ use Rattle.std.proofs.lemmas.Bool.{le-leb, lt-ltb, le-ltb, and_from, cases_lt}
 use Rattle.std.proofs.Math.Nat.{mul-mod_left}
 use Rattle.picture.specs.Picture.{Picture, Zone, bars, framed, scaled}
 use Rattle.picture.specs.RoundTrip.{PixelsAreThePicture, ModulesAreSampled, BarsAreOneRow}
-use Rattle.picture.specs.Text.{below}
-use Rattle.picture.specs.Read.{raster, pixel, pixel_row, cell, has_colour, is_inside, are_cells, sample, linear_row}
+use Rattle.picture.specs.Text.{below, pixel_row}
+use Rattle.picture.specs.Read.{raster, pixel, cell, has_colour, is_inside, are_cells, sample, linear_row}
 
 -- the pixels of a raster are those of its picture
 pub pixel-raster : PixelsAreThePicture

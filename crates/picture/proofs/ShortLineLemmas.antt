@@ -7,7 +7,8 @@ use Rattle.std.proofs.lemmas.List.Folds.{list_all-append}
 use Rattle.std.proofs.lemmas.Fmt.{decimal_is_IsNumeral, length-decimal-le}
 use Rattle.std.proofs.lemmas.Str.Parse.{digit_from_value}
 use Rattle.picture.specs.Picture.{Picture}
-use Rattle.picture.specs.Text.{pbm_digit, pbm_pixel, pbm_row}
+use Rattle.picture.specs.Text.{pbm_digit}
+use Rattle.picture.proofs.ColumnLemmas.{pbm_pixel, pbm_columns}
 use Rattle.picture.specs.Read.{has_short_lines, is_line_feed}
 use Rattle.picture.proofs.LineLemmas.{has_no_line_feed, lines-line, lines-nil}
 
@@ -49,13 +50,13 @@ short_from p y (suc n) a line rest e none size fine =
       next_column : (a : ℕ) → length line ≡ a % 70 → (a + 1) % 70 ≢ 0 → length line + 1 ≡ (a + 1) % 70
       next_column a size inside = omega arith
 
-short_row : (p : Picture) (y n : ℕ) (rest : List ℕ) → suc n ≡ p.width → has_short_lines rest ≡ true → has_short_lines (pbm_row p y ++ rest) ≡ true
+short_row : (p : Picture) (y n : ℕ) (rest : List ℕ) → suc n ≡ p.width → has_short_lines rest ≡ true → has_short_lines (pbm_columns p y ++ rest) ≡ true
 short_row p y n rest e fine =
     subst (λ k. has_short_lines (flat_map (pbm_pixel p y) (range_with_len 0 k) ++ rest) ≡ true) e (short_from p y n 0 [] rest (omega arith) refl refl fine)
 
-pub short_rows : (p : Picture) (n : ℕ) (ys : List ℕ) → suc n ≡ p.width → has_short_lines (flat_map (pbm_row p) ys) ≡ true
+pub short_rows : (p : Picture) (n : ℕ) (ys : List ℕ) → suc n ≡ p.width → has_short_lines (flat_map (pbm_columns p) ys) ≡ true
 short_rows p n [] e = ap (λ (ls : List (List ℕ)). list_all (λ line. nat_le (length line) 70) ls) lines-nil
-short_rows p n (y ∷ ys) e = short_row p y n (flat_map (pbm_row p) ys) e (short_rows p n ys e)
+short_rows p n (y ∷ ys) e = short_row p y n (flat_map (pbm_columns p) ys) e (short_rows p n ys e)
 
 no_line_feed_digits : (ds : List ℕ) → AllDigits 10 ds → has_no_line_feed ds ≡ true
 no_line_feed_digits [] all = refl

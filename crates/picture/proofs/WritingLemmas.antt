@@ -1,17 +1,19 @@
 -- Rows that go to a sink, line by line.
-use Rattle.std.proofs.Common.{◌≡◌, ℕ, suc, zero, ◌+◌, ◌-◌, ◌<◌, ◌≤◌, Bool, List, [], ◌∷◌, ◌++◌, Result, refl, ap, sym, subst, ◌∙◌, arith, append_assoc, flat_map, map, length, take, drop, length-append, zero-add, add-zero}
+use Rattle.std.proofs.Common.{◌≡◌, ℕ, suc, zero, ◌+◌, ◌-◌, ◌*◌, ◌<◌, ◌≤◌, min, Bool, List, [], ◌∷◌, ◌++◌, Result, refl, ap, sym, subst, ◌∙◌, arith, append_assoc, flat_map, map, length, take, drop, zero-add, add-zero, inl, inr}
+use Rattle.std.specs.Int.{div_ceil}
 use Rattle.std.specs.List.{range_with_len}
 use Rattle.std.specs.Prelude.{slice_range}
-use Rattle.std.proofs.lemmas.List.{append-nil, map-append, take-append-drop, take_at, length-take-le}
-use Rattle.std.proofs.lemmas.List.Edits.{split_between, length-between}
+use Rattle.std.proofs.lemmas.Bool.{cases_lt}
+use Rattle.std.proofs.lemmas.List.{append-nil, map-append, take_at, drop_at, take_all, take-take, drop-take, length-take}
+use Rattle.std.proofs.lemmas.Slice.{between_is}
 use Rattle.std.proofs.lemmas.Grind.{flat_map-append}
 use Rattle.std.proofs.lemmas.List.FromFn.{length-map-range_with_len}
 use Rattle.std.specs.Result.{IsErr}
 use Rattle.std.proofs.lemmas.Result.{MatchResult-from_err, MatchResult-weaker}
 use Rattle.labelcore.specs.Device.{TakesBeginning, Writes}
 use Rattle.picture.specs.Picture.{Picture}
-use Rattle.picture.specs.Read.{pixel_row}
-use Rattle.picture.specs.Text.{below, pixels_text, row_text}
+use Rattle.picture.specs.PrivateRows.{row_text}
+use Rattle.picture.specs.Text.{below, piece, pixel_row, pbm_line, pbm_row, ascii_pixel, ascii_row}
 
 module _ {S : Type 0} (took : S → S → List ℕ → Type 0) (took_joined : (s t u : S) (xs ys : List ℕ) → took s t xs → took t u ys → took s u (xs ++ ys)) where
   -- a beginning of what follows a text that was taken
@@ -66,71 +68,89 @@ flat_map-below_front f k n h =
           ∙ ap (λ (xs : List ℕ). xs ++ flat_map f (range_with_len (0 + (k + 1)) r)) (flat_map-below_more f k))),
     )
 
-take_line : (ps : List Bool) (x n : ℕ) → x + n ≤ length ps → take (x + n) ps ≡ take x ps ++ slice_range ps x (x + n)
-take_line ps x n h =
-    let front = take x ps in
-    let line = slice_range ps x (x + n) in
-    let size : length (front ++ line) ≡ x + n = length-append front line ∙ omega (arith, length-take-le x ps (omega arith), length-between ps x (x + n) h) in
-    let cut : ps ≡ (front ++ line) ++ drop (x + n) ps = split_between ps x (x + n) (omega arith) ∙ sym (append_assoc front line (drop (x + n) ps)) in
-    ap (take (x + n)) cut ∙ take_at (front ++ line) (drop (x + n) ps) (x + n) size
-
 -- the pixels below x + n
 pub map-below_add : (dark : ℕ → Bool) (x n : ℕ) → map dark (below (x + n)) ≡ map dark (below x) ++ map dark (range_with_len x n)
 map-below_add dark x n =
     ap (map dark) (range_with_len-add 0 x n)
     ∙ (map-append dark (below x) (range_with_len (0 + x) n) ∙ ap (λ (k : ℕ). map dark (below x) ++ map dark (range_with_len k n)) (zero-add x))
 
-module _ (pixel : ℕ → ℕ → Bool → List ℕ) (width : ℕ) where
-  pub pixels_text-append : (x : ℕ) (front more : List Bool) → pixels_text pixel width x (front ++ more) ≡ pixels_text pixel width x front ++ pixels_text pixel width (x + length front) more
-  pixels_text-append x [] more = rw (add-zero x) refl
-  pixels_text-append x (dark ∷ front) more =
-      let next : (x + 1) + length front ≡ x + suc (length front) = omega arith in
-      ap (λ (t : List ℕ). pixel width x dark ++ t) (pixels_text-append (x + 1) front more)
-      ∙ (ap (λ (k : ℕ). pixel width x dark ++ (pixels_text pixel width (x + 1) front ++ pixels_text pixel width k more)) next
-      ∙ sym (append_assoc (pixel width x dark) (pixels_text pixel width (x + 1) front) (pixels_text pixel width (x + suc (length front)) more)))
+take_add : {X : Type 0} → (n m : ℕ) (xs : List X) → take (n + m) xs ≡ take n xs ++ take m (drop n xs)
+take_add {X} zero m xs = rw (zero-add m) refl
+take_add {X} (suc n) m [] = rw (take_all {A = X} (suc n + m) [] (omega arith), take_all {A = X} m [] (omega arith)) refl
+take_add {X} (suc n) m (x ∷ xs) = let more : suc n + m ≡ suc (n + m) = omega arith in rw (more, take_add n m xs) refl
 
-  -- a line after the first x pixels
-  pub pixels_text-line : (x : ℕ) (front line : List Bool) → length front ≡ x → pixels_text pixel width 0 (front ++ line) ≡ pixels_text pixel width 0 front ++ pixels_text pixel width x line
-  pixels_text-line x front line e =
-      pixels_text-append 0 front line ∙ ap (λ (k : ℕ). pixels_text pixel width 0 front ++ pixels_text pixel width k line) (zero-add (length front) ∙ e)
+-- the pixels before a piece, and the piece
+pub take_piece : (row : List Bool) (k : ℕ) → take (70 * (k + 1)) row ≡ take (70 * k) row ++ piece row k
+take_piece row k = let place : 70 * (k + 1) ≡ 70 * k + 70 = omega arith in ap (λ (n : ℕ). take n row) place ∙ take_add (70 * k) 70 row
 
-  text_front : (front rest all : List Bool) (end text : List ℕ) → all ≡ front ++ rest → pixels_text pixel width 0 front ≡ text → (after : List ℕ) × (pixels_text pixel width 0 all ++ end ≡ text ++ after)
-  text_front front rest all end text cut e =
-      let after = pixels_text pixel width (0 + length front) rest in (
-        after ++ end,
-        ap (λ (t : List ℕ). t ++ end) (ap (pixels_text pixel width 0) cut ∙ (pixels_text-append 0 front rest ∙ ap (λ (t : List ℕ). t ++ after) e)) ∙ append_assoc text after end,
-      )
+-- all pieces of a row are the row
+all_pieces : (row : List Bool) → take (70 * div_ceil (length row) 70) row ≡ row
+all_pieces row = take_all (70 * div_ceil (length row) 70) row (omega arith)
 
-  -- a line of pixels that are held
-  pub line_more : (ps : List Bool) (x n : ℕ) → x + n ≤ length ps → pixels_text pixel width 0 (take (x + n) ps) ≡ pixels_text pixel width 0 (take x ps) ++ pixels_text pixel width x (slice_range ps x (x + n))
-  line_more ps x n h =
-      ap (pixels_text pixel width 0) (take_line ps x n h) ∙ pixels_text-line x (take x ps) (slice_range ps x (x + n)) (length-take-le x ps (omega arith))
+-- a piece of a row at the front of a room
+pub piece_held : (room : List Bool) (width k n : ℕ) → 70 * k < width → width ≤ length room → n ≡ min 70 (width - 70 * k) → take n (slice_range room (70 * k) (70 * k + 70)) ≡ piece (take width room) k
+piece_held room width k n some fits size =
+    let x = 70 * k in
+    let m = width - x in
+    let d = drop x room in
+    let whole : width ≡ x + m = omega arith in
+    let left : take n (slice_range room x (x + 70)) ≡ take n d =
+    ap (take n) (between_is room x (x + 70) ∙ drop-take x 70 room) ∙ take-take n 70 d (omega arith) in
+    let right : piece (take width room) k ≡ take 70 (take m d) = ap (λ (w : ℕ). take 70 (drop x (take w room))) whole ∙ ap (take 70) (drop-take x m room) in
+    left ∙ (elim (cases_lt m 70) [
+      | inl less ↦ (let same : n ≡ m = omega arith in ap (λ (w : ℕ). take w d) same ∙ sym (take_all 70 (take m d) (omega (arith, length-take m d))))
+      | inr more ↦ (let same : n ≡ 70 = omega arith in ap (λ (w : ℕ). take w d) same ∙ sym (take-take 70 m d more))
+    ] ∙ sym right)
 
-  pub line_front : (ps : List Bool) (x n : ℕ) (end : List ℕ) → x + n ≤ length ps →
-      (after : List ℕ) × (pixels_text pixel width 0 ps ++ end ≡ (pixels_text pixel width 0 (take x ps) ++ pixels_text pixel width x (slice_range ps x (x + n))) ++ after)
-  line_front ps x n end h =
-      text_front (take (x + n) ps) (drop (x + n) ps) ps end (pixels_text pixel width 0 (take x ps) ++ pixels_text pixel width x (slice_range ps x (x + n))) (sym (take-append-drop (x + n) ps)) (line_more ps x n h)
+-- a piece of a row that is asked
+pub piece_asked : (dark : ℕ → Bool) (width k n : ℕ) → 70 * k < width → n ≡ min 70 (width - 70 * k) → map dark (range_with_len (70 * k) n) ≡ piece (map dark (below width)) k
+piece_asked dark width k n some size =
+    let x = 70 * k in
+    let r = width - (x + n) in
+    let line = map dark (range_with_len x n) in
+    let rest = map dark (range_with_len (x + n) r) in
+    let whole : width ≡ (x + n) + r = omega arith in
+    let cut : map dark (below width) ≡ map dark (below x) ++ (line ++ rest) =
+    ap (λ (w : ℕ). map dark (below w)) whole
+    ∙ (map-below_add dark (x + n) r
+    ∙ (ap (λ (t : List Bool). t ++ rest) (map-below_add dark x n) ∙ append_assoc (map dark (below x)) line rest)) in
+    sym (ap (λ (t : List Bool). take 70 (drop x t)) cut
+    ∙ (ap (take 70) (drop_at (map dark (below x)) (line ++ rest) x (length-map-range_with_len dark 0 x))
+    ∙ elim (cases_lt n 70) [
+      | inl less ↦ (let none : r ≡ 0 = omega arith in
+          ap (λ (w : ℕ). take 70 (line ++ map dark (range_with_len (x + n) w))) none
+          ∙ (ap (take 70) (append-nil line) ∙ take_all 70 line (omega (arith, length-map-range_with_len dark x n))))
+      | inr more ↦ take_at line rest 70 (length-map-range_with_len dark x n ∙ omega arith)
+    ]))
 
-  -- the pixels of a picture's row
-  pub pixels_text-map : (dark : ℕ → Bool) (x n : ℕ) → pixels_text pixel width x (map dark (range_with_len x n)) ≡ flat_map (λ x. pixel width x (dark x)) (range_with_len x n)
-  pixels_text-map dark x zero = refl
-  pixels_text-map dark x (suc n) = ap (λ (t : List ℕ). pixel width x (dark x) ++ t) (pixels_text-map dark (x + 1) n)
+-- the rows of plain PBM files end with nothing
+pub pbm_rows : (p : Picture) (ys : List ℕ) → flat_map (λ y. row_text pbm_line [] (pixel_row p y)) ys ≡ flat_map (pbm_row p) ys
+pbm_rows p [] = refl
+pbm_rows p (y ∷ ys) =
+    let row = pixel_row p y in
+    let size : length row ≡ p.width = length-map-range_with_len (λ x. p.dark x y) 0 p.width in
+    rw (append-nil (flat_map (λ k. pbm_line (piece row k)) (below (div_ceil (length row) 70))), pbm_rows p ys)
+    (ap (λ (w : ℕ). flat_map (λ k. pbm_line (piece row k)) (below (div_ceil w 70)) ++ flat_map (pbm_row p) ys) size)
 
-  -- a line of pixels that are asked
-  pub asked_more : (dark : ℕ → Bool) (x n : ℕ) → pixels_text pixel width 0 (map dark (below (x + n))) ≡ pixels_text pixel width 0 (map dark (below x)) ++ pixels_text pixel width x (map dark (range_with_len x n))
-  asked_more dark x n =
-      ap (pixels_text pixel width 0) (map-below_add dark x n) ∙ pixels_text-line x (map dark (below x)) (map dark (range_with_len x n)) (length-map-range_with_len dark 0 x)
+letters_of_pieces : (row : List Bool) (k : ℕ) → flat_map (λ k. flat_map ascii_pixel (piece row k)) (below k) ≡ flat_map ascii_pixel (take (70 * k) row)
+letters_of_pieces row zero = refl
+letters_of_pieces row (suc k) =
+    let next : suc k ≡ k + 1 = omega arith in
+    ap (λ (n : ℕ). flat_map (λ k. flat_map ascii_pixel (piece row k)) (below n)) next
+    ∙ (flat_map-below_more (λ k. flat_map ascii_pixel (piece row k)) k
+    ∙ (ap (λ (t : List ℕ). t ++ flat_map ascii_pixel (piece row k)) (letters_of_pieces row k)
+    ∙ (sym (flat_map-append ascii_pixel (take (70 * k) row) (piece row k))
+    ∙ (ap (flat_map ascii_pixel) (sym (take_piece row k)) ∙ ap (λ (n : ℕ). flat_map ascii_pixel (take (70 * n) row)) (sym next)))))
 
-  pub asked_front : (dark : ℕ → Bool) (x n all : ℕ) (end : List ℕ) → x + n ≤ all →
-      (after : List ℕ) × (flat_map (λ x. pixel width x (dark x)) (below all) ++ end ≡ (pixels_text pixel width 0 (map dark (below x)) ++ pixels_text pixel width x (map dark (range_with_len x n))) ++ after)
-  asked_front dark x n all end h =
-      let size : all ≡ (x + n) + (all - (x + n)) = omega arith in
-      let cut : map dark (below all) ≡ map dark (below (x + n)) ++ map dark (range_with_len (x + n) (all - (x + n))) = ap (λ (k : ℕ). map dark (below k)) size ∙ map-below_add dark (x + n) (all - (x + n)) in
-      let front = text_front (map dark (below (x + n))) (map dark (range_with_len (x + n) (all - (x + n)))) (map dark (below all)) end (pixels_text pixel width 0 (map dark (below x)) ++ pixels_text pixel width x (map dark (range_with_len x n))) cut (asked_more dark x n) in
-      (front.0, ap (λ (t : List ℕ). t ++ end) (sym (pixels_text-map dark 0 all)) ∙ front.1)
+letters_of_row : (dark : ℕ → Bool) (xs : List ℕ) → flat_map ascii_pixel (map dark xs) ≡ flat_map (λ x. ascii_pixel (dark x)) xs
+letters_of_row dark [] = refl
+letters_of_row dark (x ∷ xs) = rw (letters_of_row dark xs) refl
 
--- the text of a row that is held
-pub row_held : (pixel : ℕ → ℕ → Bool → List ℕ) (end : List ℕ) (p : Picture) (y : ℕ) (ps : List Bool) → ps ≡ pixel_row p y → pixels_text pixel (length ps) 0 ps ++ end ≡ row_text pixel end p y
-row_held pixel end p y ps e =
-    let size : length ps ≡ p.width = ap length e ∙ length-map-range_with_len (λ x. p.dark x y) 0 p.width in
-    ap (λ (t : List ℕ). t ++ end) (ap (λ (n : ℕ). pixels_text pixel n 0 ps) size ∙ (ap (pixels_text pixel p.width 0) e ∙ pixels_text-map pixel p.width (λ x. p.dark x y) 0 p.width))
+-- the letters of a row are those of its pieces
+pub ascii_rows : (p : Picture) (ys : List ℕ) → flat_map (λ y. row_text (λ pixels. flat_map ascii_pixel pixels) (10 ∷ []) (pixel_row p y)) ys ≡ flat_map (ascii_row p) ys
+ascii_rows p [] = refl
+ascii_rows p (y ∷ ys) =
+    let row = pixel_row p y in
+    let letters : flat_map (λ k. flat_map ascii_pixel (piece row k)) (below (div_ceil (length row) 70)) ≡ flat_map (λ x. ascii_pixel (p.dark x y)) (below p.width) =
+    letters_of_pieces row (div_ceil (length row) 70) ∙ (ap (flat_map ascii_pixel) (all_pieces row) ∙ letters_of_row (λ x. p.dark x y) (below p.width)) in
+    rw (letters, ascii_rows p ys) refl

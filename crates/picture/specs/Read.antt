@@ -8,17 +8,13 @@ use Rattle.std.specs.Str.Parse.{digits_value}
 use Rattle.std.specs.Char.{is_digit}
 use Rattle.labelcore.specs.Lines.{LF, lines}
 use Rattle.picture.specs.Picture.{Picture, Zone}
-use Rattle.picture.specs.Text.{below}
+use Rattle.picture.specs.Text.{below, pixel_row}
 
 -- the pixels of a picture, row by row
 pub record Raster : Type 0 where
   pub width : ℕ
   pub height : ℕ
   pub rows : List (List Bool)
-
--- the pixels of the row y
-abbrev pub pixel_row : Picture → ℕ → List Bool
-pixel_row p y = map (λ x. p.dark x y) (below p.width)
 
 -- the pixels of a picture
 abbrev pub raster : Picture → Raster

@@ -1,5 +1,6 @@
 -- Pictures as text: plain PBM files (pbm(5), the plain format), and text pictures.
-use Rattle.std.specs.Prelude.{ℕ, ◌+◌, ◌%◌, Bool, ◌||◌, List, [], ◌∷◌, ◌++◌, flat_map, codes, decimal, ◌==◌, if◌then◌else◌}
+use Rattle.std.specs.Prelude.{ℕ, ◌*◌, Bool, List, [], ◌∷◌, ◌++◌, map, flat_map, take, drop, codes, decimal, if◌then◌else◌}
+use Rattle.std.specs.Int.{div_ceil}
 use Rattle.std.specs.List.{range_with_len}
 use Rattle.labelcore.specs.Lines.{LF}
 use Rattle.picture.specs.Picture.{Picture}
@@ -12,21 +13,21 @@ below n = range_with_len 0 n
 abbrev pub pbm_digit : Bool → ℕ
 pbm_digit dark = if dark then 49 else 48
 
--- a line ends after each 70 pixels, and at the row's end
-abbrev pub pbm_line_end : ℕ → ℕ → List ℕ
-pbm_line_end width x = if (x + 1) % 70 == 0 || x + 1 == width then LF ∷ [] else []
+-- the pixels of the row y
+abbrev pub pixel_row : Picture → ℕ → List Bool
+pixel_row p y = map (λ x. p.dark x y) (below p.width)
 
--- a pixel, and the end of its line
-abbrev pub pbm_pixel_text : ℕ → ℕ → Bool → List ℕ
-pbm_pixel_text width x dark = pbm_digit dark ∷ pbm_line_end width x
+-- a row's pieces of 70 pixels, counted from 0; the last one may be shorter
+abbrev pub piece : List Bool → ℕ → List Bool
+piece row k = take 70 (drop (70 * k) row)
 
--- the pixel in column x
-abbrev pub pbm_pixel : Picture → ℕ → ℕ → List ℕ
-pbm_pixel p y x = pbm_pixel_text p.width x (p.dark x y)
+-- a piece, with its line end
+abbrev pub pbm_line : List Bool → List ℕ
+pbm_line pixels = map pbm_digit pixels ++ LF ∷ []
 
--- the row y: its pixels and their line ends
+-- the row y: its pieces, as many as it takes, each with its line end
 abbrev pub pbm_row : Picture → ℕ → List ℕ
-pbm_row p y = flat_map (pbm_pixel p y) (below p.width)
+pbm_row p y = flat_map (λ k. pbm_line (piece (pixel_row p y) k)) (below (div_ceil p.width 70))
 
 -- the two lines before the rows
 abbrev pub pbm_header : ℕ → ℕ → List ℕ
@@ -40,9 +41,6 @@ pbm_text p = pbm_header p.width p.height ++ flat_map (pbm_row p) (below p.height
 abbrev pub ascii_pixel : Bool → List ℕ
 ascii_pixel dark = if dark then codes "##" else codes "  "
 
-abbrev pub ascii_pixel_text : ℕ → ℕ → Bool → List ℕ
-ascii_pixel_text width x dark = ascii_pixel dark
-
 -- the row y: its letters, and the line's end
 abbrev pub ascii_row : Picture → ℕ → List ℕ
 ascii_row p y = flat_map (λ x. ascii_pixel (p.dark x y)) (below p.width) ++ LF ∷ []
@@ -50,12 +48,3 @@ ascii_row p y = flat_map (λ x. ascii_pixel (p.dark x y)) (below p.width) ++ LF 
 -- rows of letters, and an empty line
 abbrev pub ascii_text : Picture → List ℕ
 ascii_text p = flat_map (ascii_row p) (below p.height) ++ LF ∷ []
-
--- a row of pixels, each written by the row's width, its column and its colour, and the row's end
-abbrev pub row_text : (ℕ → ℕ → Bool → List ℕ) → List ℕ → Picture → ℕ → List ℕ
-row_text pixel row_end p y = flat_map (λ x. pixel p.width x (p.dark x y)) (below p.width) ++ row_end
-
--- the pixels of a row of this width from a column on, each written so
-abbrev pub pixels_text : (ℕ → ℕ → Bool → List ℕ) → ℕ → ℕ → List Bool → List ℕ
-pixels_text pixel width x [] = []
-pixels_text pixel width x (dark ∷ more) = pixel width x dark ++ pixels_text pixel width (x + 1) more

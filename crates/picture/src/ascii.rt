@@ -2,7 +2,7 @@
 ghost use Rattle.std.specs.Prelude.{◌≡◌, ◌*◌, ◌<◌, ◌≤◌, Some, [], ◌∷◌, flat_map, length, take};
 ghost use Rattle.labelcore.specs.Device.{CountsFailure, Unflushed, Writes};
 ghost use Rattle.picture.specs.Read.{ascii_pixels, raster};
-ghost use Rattle.picture.specs.Text.{ascii_pixel, ascii_pixel_text, ascii_text};
+ghost use Rattle.picture.specs.Text.{ascii_pixel, ascii_text};
 
 use crate::grid::Grid;
 use crate::rows::{PixelText, write_rows};
@@ -26,22 +26,18 @@ pub fn write_ascii<G: Grid, S: Sink>(grid: &G, sink: &mut S) -> Result<(), IoFau
 struct AsciiPixels;
 
 impl PixelText for AsciiPixels {
+    ghost use Rattle.std.specs.Prelude.{flat_map};
     ghost use Rattle.labelcore.specs.Lines.{LF};
 
-    ghost pixel = { ascii_pixel_text };
+    ghost line = { λ pixels. flat_map ascii_pixel pixels };
 
     ghost row_end = { LF ∷ [] };
 
     // In two halves, so that no text is longer than 70 bytes.
-    fn write_line<S: Sink>(
-        _width: usize,
-        _x: usize,
-        pixels: &[bool],
-        sink: &mut S,
-    ) -> Result<(), IoFault> {
-        let half = pixels.len() / 2;
+    fn write_line<S: Sink>(pixels: &[bool], len: usize, sink: &mut S) -> Result<(), IoFault> {
+        let half = len / 2;
         write_letters(&pixels[..half], sink)?;
-        write_letters(&pixels[half..], sink)
+        write_letters(&pixels[half..len], sink)
     }
 
     fn row_end() -> &'static [u8] {

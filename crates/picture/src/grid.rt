@@ -1,7 +1,7 @@
 //! Pictures by coordinates.
 ghost use Rattle.std.specs.Prelude.{◌≡◌, ◌+◌, ◌<◌, ◌≤◌, length};
 ghost use Rattle.picture.specs.Picture.{AreEqualRows, Picture};
-ghost use Rattle.picture.specs.Read.{pixel_row};
+ghost use Rattle.picture.specs.Text.{pixel_row};
 
 /// A picture, asked pixel by pixel: x counts columns from the left and y rows from the top, both from 0.
 pub trait Grid {

@@ -1,5 +1,5 @@
 //! Plain PBM files, pbm(5).
-ghost use Rattle.std.specs.Prelude.{◌≡◌, ◌+◌, ◌<◌, ◌≤◌, Some, ◌++◌, ◌∷◌, [], length, map, take};
+ghost use Rattle.std.specs.Prelude.{◌≡◌, ◌+◌, ◌<◌, ◌≤◌, Some, ◌++◌, ◌∷◌, [], length, map};
 ghost use Rattle.labelcore.specs.Device.{CountsFailure, Unflushed, Writes};
 ghost use Rattle.picture.specs.Read.{pbm_pixels, raster};
 ghost use Rattle.labelcore.specs.Lines.{LF};
@@ -48,25 +48,21 @@ fn append(bytes: &[u8], text: &mut ArrayVec<u8, 128>)
     let _ = text.try_extend_from_slice(bytes);
 }
 
-/// A digit for each pixel, and a line end after each 70 of a row and after its last.
+/// A digit for each pixel, and a line feed.
 struct PbmPixels;
 
 impl PixelText for PbmPixels {
     ghost use Rattle.std.specs.Prelude.{[]};
-    ghost use Rattle.picture.specs.Text.{pbm_pixel_text};
+    ghost use Rattle.picture.specs.Text.{pbm_line};
 
-    ghost pixel = { pbm_pixel_text };
+    ghost line = { pbm_line };
 
     ghost row_end = { [] };
 
-    fn write_line<S: Sink>(
-        _width: usize,
-        _x: usize,
-        pixels: &[bool],
-        sink: &mut S,
-    ) -> Result<(), IoFault> {
-        let text = digits(pixels);
-        write_whole(&text[..pixels.len() + 1], sink)
+    fn write_line<S: Sink>(pixels: &[bool], len: usize, sink: &mut S) -> Result<(), IoFault> {
+        let mut text = digits(pixels);
+        text[len] = b'\n';
+        write_whole(&text[..len + 1], sink)
     }
 
     fn row_end() -> &'static [u8] {
@@ -74,13 +70,13 @@ impl PixelText for PbmPixels {
     }
 }
 
-/// A digit for each pixel, and then line feeds.
+/// A digit for each of 70 pixels, and a line feed.
 fn digits(pixels: &[bool]) -> [u8; 71]
-    requires { length pixels.now ≤ 70 }
-    ensures { take (length pixels.now + 1) result ≡ map pbm_digit pixels.now ++ LF ∷ [] }
+    requires { length pixels.now ≡ 70 }
+    ensures { result ≡ map pbm_digit pixels.now ++ LF ∷ [] }
 {
     let mut text = [b'\n'; 71];
-    for i in 0..pixels.len() {
+    for i in 0..70 {
         text[i] = digit(pixels[i]);
     }
     text

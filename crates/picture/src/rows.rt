@@ -1,9 +1,9 @@
-//! The rows of a grid as text.
-ghost use Rattle.std.specs.Prelude.{◌≡◌, ℕ, ◌+◌, ◌-◌, ◌%◌, ◌^◌, ◌<◌, ◌≤◌, Bool, List, ◌++◌, length, map, flat_map};
+//! The rows of a grid as text, in lines of 70 pixels.
+ghost use Rattle.std.specs.Prelude.{◌≡◌, ℕ, ◌+◌, ◌*◌, ◌%◌, ◌^◌, ◌<◌, ◌≤◌, Bool, List, length, map, flat_map, take};
 ghost use Rattle.std.specs.List.{range_with_len};
 ghost use Rattle.labelcore.specs.Device.{CountsFailure, Unflushed, Writes};
-ghost use Rattle.picture.specs.Read.{pixel_row};
-ghost use Rattle.picture.specs.Text.{below, pixels_text, row_text};
+ghost use Rattle.picture.specs.PrivateRows.{row_text};
+ghost use Rattle.picture.specs.Text.{below, piece, pixel_row};
 
 use crate::grid::Grid;
 use labelcore::{IoFault, Sink, write_whole};
@@ -11,7 +11,7 @@ use labelcore::{IoFault, Sink, write_whole};
 /// The most pixels of a line, which are written at once.
 const LINE: usize = 70;
 
-/// Pixels of a row that are kept, in whole lines: as many as a label at scale 1 has, and as many as any label has. A small
+/// Pixels of a row that are kept: 16 lines, as many as a label at scale 1 has, or 208, as many as any label has. A small
 /// room costs less to clear.
 const SMALL_ROOM: usize = 1120;
 
@@ -19,108 +19,107 @@ const ROOM: usize = 14560;
 
 /// How a row of pixels is written.
 pub trait PixelText {
-    /// The text of a pixel, by its row's width, its column and its colour.
-    ghost pixel: { ℕ → ℕ → Bool → List ℕ };
+    /// The text of a line of pixels.
+    ghost line: { List Bool → List ℕ };
 
-    /// The text after a row's pixels.
+    /// The text after a row's lines.
     ghost row_end: { List ℕ };
 
-    /// Writes a line: 70 pixels of a row from a column on, or its last ones.
-    fn write_line<S: Sink>(
-        width: usize,
-        x: usize,
-        pixels: &[bool],
-        sink: &mut S,
-    ) -> Result<(), IoFault>
-        requires begins { x % 70 ≡ 0 }
-        requires some { 0 < length pixels.now }
-        requires short { length pixels.now ≤ 70 }
-        requires inside { x + length pixels.now ≤ width }
-        requires last { length pixels.now < 70 → x + length pixels.now ≡ width }
+    /// Writes a line of so many pixels, the first of these 70. It is the same work for each line.
+    fn write_line<S: Sink>(pixels: &[bool], len: usize, sink: &mut S) -> Result<(), IoFault>
+        requires whole { length pixels.now ≡ 70 }
+        requires some { 0 < len }
+        requires short { len ≤ 70 }
         ensures count { CountsFailure (S.failures sink.old) (S.failures sink.new) result }
         ensures unflushed { Unflushed (S.is_flushed sink.old) (S.is_flushed sink.new) }
-        ensures bytes { Writes S.took sink.old sink.new
-            (pixels_text pixel width x pixels.now) result };
+        ensures bytes { Writes S.took sink.old sink.new (line (take len pixels.now)) result };
 
-    /// The text after a row's pixels.
+    /// The text after a row's lines.
     fn row_end() -> &'static [u8]
         ensures { result.now ≡ row_end };
 }
 
-/// Writes the rows of the grid, and holds at most one line of them. An error is the sink's, and leaves a beginning of
-/// them written.
+/// Writes the rows of the grid, and holds at most one line of their text. An error is the sink's, and leaves a beginning
+/// of them written.
 pub fn write_rows<T: PixelText, G: Grid, S: Sink>(grid: &G, sink: &mut S) -> Result<(), IoFault>
     ensures count { CountsFailure (S.failures sink.old) (S.failures sink.new) result }
     ensures unflushed { Unflushed (S.is_flushed sink.old) (S.is_flushed sink.new) }
     ensures bytes { Writes S.took sink.old sink.new
-        (flat_map (row_text T.pixel T.row_end (G.picture grid.now))
+        (flat_map (λ y. row_text T.line T.row_end (pixel_row (G.picture grid.now) y))
         (below (G.picture grid.now).height)) result }
 {
     let width = grid.width();
     if width <= SMALL_ROOM {
         let mut room = [false; SMALL_ROOM];
-        write_kept_rows::<T, G, S>(grid, &mut room[..width], sink)
+        write_kept_rows::<T, G, S>(grid, &mut room[..], sink)
     } else if width <= ROOM {
         let mut room = [false; ROOM];
-        write_kept_rows::<T, G, S>(grid, &mut room[..width], sink)
+        write_kept_rows::<T, G, S>(grid, &mut room[..], sink)
     } else {
         write_wide_rows::<T, G, S>(grid, sink)
     }
 }
 
-/// Writes the rows of the grid, and keeps each in `pixels` for the rows that repeat it.
+/// Writes the rows of the grid, and keeps each at the front of `room` for the rows that equal it.
 fn write_kept_rows<T: PixelText, G: Grid, S: Sink>(
     grid: &G,
-    pixels: &mut [bool],
+    room: &mut [bool],
     sink: &mut S,
 ) -> Result<(), IoFault>
-    requires { length pixels.old ≡ (G.picture grid.now).width }
+    requires fits { (G.picture grid.now).width ≤ length room.old }
+    requires lines { length room.old % 70 ≡ 0 }
     ensures count { CountsFailure (S.failures sink.old) (S.failures sink.new) result }
     ensures unflushed { Unflushed (S.is_flushed sink.old) (S.is_flushed sink.new) }
     ensures bytes { Writes S.took sink.old sink.new
-        (flat_map (row_text T.pixel T.row_end (G.picture grid.now))
+        (flat_map (λ y. row_text T.line T.row_end (pixel_row (G.picture grid.now) y))
         (below (G.picture grid.now).height)) result }
 {
+    let width = grid.width();
     let mut next = 0;
     for y in 0..grid.height() {
-        next = read_next_rows(grid, y, next, pixels);
-        write_row::<T, S>(pixels, sink)?;
+        next = read_next_rows(grid, y, next, room);
+        write_row::<T, S>(room, width, sink)?;
     }
     Ok(())
 }
 
-/// Puts the pixels of a row into `pixels`, where those up to `next` stand. Says up to which row they now stand there.
-fn read_next_rows<G: Grid>(grid: &G, y: usize, next: usize, pixels: &mut [bool]) -> usize
+/// Puts the pixels of a row at the front of `room`, where those of the rows up to `next` stand. Says up to which row
+/// they stand there now.
+fn read_next_rows<G: Grid>(grid: &G, y: usize, next: usize, room: &mut [bool]) -> usize
     requires in_height { y < (G.picture grid.now).height }
-    requires fits { (G.picture grid.now).height < 2 ^ 64 }
-    requires whole { length pixels.old ≡ (G.picture grid.now).width }
+    requires in_range { (G.picture grid.now).height < 2 ^ 64 }
+    requires fits { (G.picture grid.now).width ≤ length room.old }
     requires kept { (k : ℕ) → y ≤ k → k < next
-        → pixels.old ≡ pixel_row (G.picture grid.now) k }
-    ensures whole { length pixels.new ≡ (G.picture grid.now).width }
+        → take (G.picture grid.now).width room.old ≡ pixel_row (G.picture grid.now) k }
+    ensures size { length room.new ≡ length room.old }
     ensures further { y < result }
     ensures kept { (k : ℕ) → y ≤ k → k < result
-        → pixels.new ≡ pixel_row (G.picture grid.now) k }
+        → take (G.picture grid.now).width room.new ≡ pixel_row (G.picture grid.now) k }
 {
     if y < next {
         return next;
     }
-    grid.read_row(y, pixels);
+    let width = grid.width();
+    grid.read_row(y, &mut room[..width]);
     y + grid.equal_rows(y)
 }
 
-/// Writes a row of these pixels.
-fn write_row<T: PixelText, S: Sink>(pixels: &[bool], sink: &mut S) -> Result<(), IoFault>
+/// Writes the row of so many pixels that stands at the front of `room`.
+fn write_row<T: PixelText, S: Sink>(
+    room: &[bool],
+    width: usize,
+    sink: &mut S,
+) -> Result<(), IoFault>
+    requires fits { width ≤ length room.now }
+    requires lines { length room.now % 70 ≡ 0 }
     ensures count { CountsFailure (S.failures sink.old) (S.failures sink.new) result }
     ensures unflushed { Unflushed (S.is_flushed sink.old) (S.is_flushed sink.new) }
     ensures bytes { Writes S.took sink.old sink.new
-        (pixels_text T.pixel (length pixels.now) 0 pixels.now ++ T.row_end) result }
+        (row_text T.line T.row_end (take width room.now)) result }
 {
-    let width = pixels.len();
-    let mut x = 0;
-    while x < width {
-        let count = LINE.min(width - x);
-        T::write_line(width, x, &pixels[x..x + count], sink)?;
-        x += count;
+    for k in 0..width.div_ceil(LINE) {
+        let x = LINE * k;
+        T::write_line(&room[x..x + LINE], LINE.min(width - x), sink)?;
     }
     write_whole(T::row_end(), sink)
 }
@@ -130,7 +129,7 @@ fn write_wide_rows<T: PixelText, G: Grid, S: Sink>(grid: &G, sink: &mut S) -> Re
     ensures count { CountsFailure (S.failures sink.old) (S.failures sink.new) result }
     ensures unflushed { Unflushed (S.is_flushed sink.old) (S.is_flushed sink.new) }
     ensures bytes { Writes S.took sink.old sink.new
-        (flat_map (row_text T.pixel T.row_end (G.picture grid.now))
+        (flat_map (λ y. row_text T.line T.row_end (pixel_row (G.picture grid.now) y))
         (below (G.picture grid.now).height)) result }
 {
     for y in 0..grid.height() {
@@ -149,14 +148,10 @@ fn write_wide_row<T: PixelText, G: Grid, S: Sink>(
     ensures count { CountsFailure (S.failures sink.old) (S.failures sink.new) result }
     ensures unflushed { Unflushed (S.is_flushed sink.old) (S.is_flushed sink.new) }
     ensures bytes { Writes S.took sink.old sink.new
-        (row_text T.pixel T.row_end (G.picture grid.now) y) result }
+        (row_text T.line T.row_end (pixel_row (G.picture grid.now) y)) result }
 {
-    let width = grid.width();
-    let mut x = 0;
-    while x < width {
-        let count = LINE.min(width - x);
-        write_wide_line::<T, G, S>(grid, y, x, count, sink)?;
-        x += count;
+    for k in 0..grid.width().div_ceil(LINE) {
+        write_wide_line::<T, G, S>(grid, y, k, sink)?;
     }
     write_whole(T::row_end(), sink)
 }
@@ -165,26 +160,22 @@ fn write_wide_row<T: PixelText, G: Grid, S: Sink>(
 fn write_wide_line<T: PixelText, G: Grid, S: Sink>(
     grid: &G,
     y: usize,
-    x: usize,
-    count: usize,
+    k: usize,
     sink: &mut S,
 ) -> Result<(), IoFault>
     requires in_height { y < (G.picture grid.now).height }
-    requires begins { x % 70 ≡ 0 }
-    requires some { 0 < count }
-    requires short { count ≤ 70 }
-    requires inside { x + count ≤ (G.picture grid.now).width }
-    requires last { count < 70 → x + count ≡ (G.picture grid.now).width }
+    requires in_width { 70 * k < (G.picture grid.now).width }
     ensures count { CountsFailure (S.failures sink.old) (S.failures sink.new) result }
     ensures unflushed { Unflushed (S.is_flushed sink.old) (S.is_flushed sink.new) }
     ensures bytes { Writes S.took sink.old sink.new
-        (pixels_text T.pixel (G.picture grid.now).width x
-        (map (λ x. (G.picture grid.now).dark x y) (range_with_len x count))) result }
+        (T.line (piece (pixel_row (G.picture grid.now) y) k)) result }
 {
     let width = grid.width();
+    let x = LINE * k;
+    let len = LINE.min(width - x);
     let mut line = [false; LINE];
-    read_line(grid, y, x, &mut line[..count]);
-    T::write_line(width, x, &line[..count], sink)
+    read_line(grid, y, x, &mut line[..len]);
+    T::write_line(&line[..], len, sink)
 }
 
 /// Puts pixels of a row from a column on into `pixels`.
