@@ -1,10 +1,4 @@
-pub mod Example
-pub mod FilterLemmas
-pub mod LineLemmas
 pub mod Named
 pub mod OneKind
-pub mod OutputLemmas
 pub mod Parsed
-pub mod ReadLemmas
-pub mod RunLemmas
 pub mod WordsRows

@@ -2,8 +2,8 @@
 use Rattle.std.specs.Prelude.{ℕ, List, [], ◌∷◌, ◌++◌, Ok, Err, codes}
 use Rattle.labels.specs.declared.end.End.{End}
 use Rattle.labels.specs.declared.end.End.TheVariants.{Ran, Helped, BadWords, NoFile, NoMemory}
-use Rattle.labels.specs.declared.status.RunFault.TheVariants.{Read, WriteOut, WriteMessages, Spent}
-use Rattle.labels.specs.declared.status.Status.TheVariants.{Clean, Refused}
+use Rattle.filter.specs.declared.status.RunFault.TheVariants.{Read, WriteOut, WriteMessages, Spent}
+use Rattle.filter.specs.declared.status.Status.TheVariants.{Clean, Refused}
 
 -- the status: 0 for a clean run or help, 1 for a run with refused lines, 2 for bad words, 3 for
 -- what failed

@@ -2,7 +2,7 @@
 ghost use Rattle.std.specs.Prelude.{◌≡◌};
 ghost use Rattle.labels.specs.End.{line_of, exit_status};
 
-use crate::status::{RunFault, Status};
+use filter::{RunFault, Status};
 
 /// How the program ends.
 #[derive(Clone, Copy, Debug)]

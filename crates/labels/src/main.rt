@@ -1,23 +1,16 @@
 //! The program `labels`: reads its words, runs the filter over a file or standard input, and ends.
 #![tactic(auto)]
 
-mod draw;
 mod end;
-mod engine;
 mod file;
-mod filter;
-mod line;
-mod status;
 #[cfg(test)]
 mod tests;
 mod words;
 
 pub use end::End;
-pub use engine::run;
 pub use file::{OpenFault, open_file};
-pub use filter::Filter;
+use filter::{RunFault, run};
 use labelcore::{Held, Sink, Source, StdSink, StdSource};
-pub use status::{RunFault, Status};
 use std::alloc::Global;
 use std::env;
 use std::io::{ErrorKind, Write};

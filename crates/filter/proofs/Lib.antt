@@ -1,0 +1,6 @@
+pub mod Example
+pub mod FilterLemmas
+pub mod LineLemmas
+pub mod OutputLemmas
+pub mod ReadLemmas
+pub mod RunLemmas

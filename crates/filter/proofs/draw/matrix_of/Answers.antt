@@ -1,0 +1,9 @@
+use Rattle.std.proofs.Common.{arith}
+use Rattle.qrmatrix.specs.Symbol.{is_dark}
+use Rattle.filter.proofs.ReadLemmas.{qr_readable}
+use Rattle.filter.proofs.draw.matrix_of.Goals as goal
+
+pub returns-clause-read : goal.returns-clause-read
+returns-clause-read c =
+    qr_readable c.modules_of_pixels.ensures.pixel c.draw.result.side (is_dark c.draw.result) c.draw.ensures.outside c.version.result.number c.level.result c.codewords.new.words.items c.args.bytes.now
+    (omega (arith, c.draw.ensures.side)) (omega (arith, c.draw.ensures.side, c.version.result.at_most)) c.draw.ensures.reads (rw (c.version.ensures, c.level.ensures) c.codewords.ensures.read)

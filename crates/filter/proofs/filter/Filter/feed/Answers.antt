@@ -1,0 +1,47 @@
+use Rattle.std.proofs.Common.{ℕ, List, [], ◌∷◌, ◌++◌, ◌+◌, refl, ap, sym, ◌∙◌, subst, append_assoc, take, drop, get_or, take-append-drop}
+use Rattle.std.proofs.lemmas.List.{append-nil, take_more}
+use Rattle.std.proofs.lemmas.Result.{err_from_is_err_and}
+use Rattle.filter.specs.Filter.{StandsAt, StopsInPiece}
+use Rattle.filter.proofs.FilterLemmas.{TookPiece-none, TookPiece-append, StopsInPiece-append, StopsInPiece-longer}
+use Rattle.filter.proofs.filter.Filter.feed.Goals as goal
+
+pub loop-byte-init : goal.loop-byte-init
+loop-byte-init g c = record {
+  stands = λ options text at. subst (λ (bs : List ℕ). StandsAt options c.args.self.now bs) (sym (append-nil text)) at;
+  took = λ options text at. TookPiece-none options _ _ text (g.met.O.Sink.took_none _) (g.met.E.Sink.took_none _);
+  out_unflushed = λ e. e;
+  err_unflushed = λ e. e;
+  out_count = refl;
+  err_count = refl;
+}
+
+pub returns-in_err-feed_byte-clause-stops : goal.returns-in_err-feed_byte-clause-stops
+returns-in_err-feed_byte-clause-stops g c options text at =
+    let p = err_from_is_err_and c.from_residual.result c.from_residual.ensures.1 in
+    let h = c.loop-byte.invariant in
+    let i = c.loop-byte.byte-index in
+    let piece = c.args.piece.now in
+    let byte = get_or piece i 0 in
+    let more = take_more piece i 0 c.loop-byte-test.true in
+    rw (p.1, p.2) (subst (λ (bs : List ℕ). StopsInPiece options (g.O.Sink.took c.args.out.now c.feed_byte.new.out) (g.E.Sink.took c.args.err.now c.feed_byte.new.err) text bs c.in_err-feed_byte.field-0.0)
+    (ap (λ (bs : List ℕ). bs ++ drop (i + 1) piece) (sym more) ∙ take-append-drop (i + 1) piece)
+    (StopsInPiece-longer options _ _ text (take i piece ++ byte ∷ []) (drop (i + 1) piece) _
+    (StopsInPiece-append options g.O.Sink.took g.E.Sink.took g.met.O.Sink.took_joined g.met.E.Sink.took_joined c.args.out.now c.loop-byte.out c.feed_byte.new.out c.args.err.now c.loop-byte.err c.feed_byte.new.err
+    text (take i piece) (byte ∷ []) (h.took options text at) _ (c.in_err-feed_byte.ensures.stops options (text ++ take i piece) (h.stands options text at)))))
+
+pub loop-byte-preserved : goal.loop-byte-preserved
+loop-byte-preserved g c =
+    let h = c.loop-byte.invariant in
+    let i = c.loop-byte.byte-index in
+    let piece = c.args.piece.now in
+    let byte = get_or piece i 0 in
+    let more = take_more piece i 0 c.loop-byte-test.true in
+    record {
+      stands = λ options text at. rw more (subst (λ (bs : List ℕ). StandsAt options c.feed_byte.new.self bs) (append_assoc text (take i piece) (byte ∷ [])) (c.in_ok-feed_byte.ensures.stands options (text ++ take i piece) (h.stands options text at)));
+      took = λ options text at. rw more (TookPiece-append options g.O.Sink.took g.E.Sink.took g.met.O.Sink.took_joined g.met.E.Sink.took_joined c.args.out.now c.loop-byte.out c.feed_byte.new.out c.args.err.now c.loop-byte.err c.feed_byte.new.err
+          text (take i piece) (byte ∷ []) (h.took options text at) (c.in_ok-feed_byte.ensures.took options (text ++ take i piece) (h.stands options text at)));
+      out_unflushed = λ e. h.out_unflushed (c.in_ok-feed_byte.ensures.unflushed.0 e);
+      err_unflushed = λ e. h.err_unflushed (c.in_ok-feed_byte.ensures.unflushed.1 e);
+      out_count = c.in_ok-feed_byte.ensures.counts.0 ∙ h.out_count;
+      err_count = c.in_ok-feed_byte.ensures.counts.1 ∙ h.err_count;
+    }

@@ -1,0 +1,58 @@
+-- Where a filter stands in its input, and what it does to its sinks (docs/SPECIFICATION.md, The filter as a library).
+use Rattle.std.specs.Prelude.{◌≡◌, ℕ, ◌+◌, ◌-◌, ◌^◌, min, Bool, false, ◌⊎◌, List, ◌∷◌, ◌++◌, length}
+use Rattle.labelcore.specs.Lines.{Held, held, ended_lines, open_line, unless_empty}
+use Rattle.labelcore.specs.OptionValues.{OptionValues}
+use Rattle.filter.specs.Output.{outcome, images, messages_after, line_number, any_refused}
+use Rattle.filter.specs.Line.{FailsInLine}
+use Rattle.filter.specs.Readback.{ReadsBack}
+use Rattle.std.specs.List.{AllByRecursion}
+use Rattle.filter.specs.declared.status.RunFault.{RunFault}
+
+-- what a filter keeps between pieces
+pub record FilterState : Type 0 where
+  pub options : OptionValues
+  pub line : Held
+  pub line_count : ℕ
+  pub is_refused : Bool
+  pub is_spent : Bool
+
+-- the filter has these options and was fed this text
+pub record StandsAt (options : OptionValues) (state : FilterState) (text : List ℕ) : Type 0 where
+  pub options_are : state.options ≡ options
+  pub line : state.line ≡ held (open_line text)
+  pub line_count : state.line_count ≡ min (length (ended_lines text)) (2 ^ 64 - 1)
+  pub is_refused : state.is_refused ≡ any_refused options (ended_lines text)
+  pub is_spent : state.is_spent ≡ false
+
+-- the sinks took the images and the messages of these lines, which so many lines stand before, and their symbols read back
+pub record TookLines (options : OptionValues) (took_out took_err : List ℕ → Type 0) (before : ℕ) (lines : List (List ℕ)) : Type 0 where
+  pub out : took_out (images options lines)
+  pub err : took_err (messages_after options before lines)
+  pub read : AllByRecursion (λ line. ReadsBack (outcome options line)) lines
+
+-- of these lines the earlier ones' images and messages are whole, and the sink that failed took a beginning of one line's
+pub record StopsInLine (options : OptionValues) (took_out took_err : List ℕ → Type 0) (before : ℕ) (lines : List (List ℕ)) (fault : RunFault) : Type 0 where
+  pub earlier : List (List ℕ)
+  pub line : List ℕ
+  pub later : List (List ℕ)
+  pub cut : lines ≡ earlier ++ line ∷ later
+  pub wrote : FailsInLine options (λ bytes. took_out (images options earlier ++ bytes)) (λ bytes. took_err (messages_after options before earlier ++ bytes))
+      (line_number (before + length earlier)) (outcome options line) fault
+
+-- the sinks took what the lines come to that the piece ends
+pub record TookPiece (options : OptionValues) (took_out took_err : List ℕ → Type 0) (text piece : List ℕ) : Type 0 where
+  pub added : List (List ℕ)
+  pub grown : ended_lines (text ++ piece) ≡ ended_lines text ++ added
+  pub took : TookLines options took_out took_err (length (ended_lines text)) added
+
+-- a sink failed in one of the lines that the piece ends
+pub record StopsInPiece (options : OptionValues) (took_out took_err : List ℕ → Type 0) (text piece : List ℕ) (fault : RunFault) : Type 0 where
+  pub added : List (List ℕ)
+  pub grown : ended_lines (text ++ piece) ≡ ended_lines text ++ added
+  pub stops : StopsInLine options took_out took_err (length (ended_lines text)) added fault
+
+-- a sink failed in the last line, which no LF ends, or in a flush after it
+abbrev pub StopsInFinish : OptionValues → (took_out took_err : List ℕ → Type 0) (text : List ℕ) → RunFault → Type 0
+StopsInFinish options took_out took_err text fault =
+    StopsInLine options took_out took_err (length (ended_lines text)) (unless_empty (open_line text)) fault
+    ⊎ TookLines options took_out took_err (length (ended_lines text)) (unless_empty (open_line text))

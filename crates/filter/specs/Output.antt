@@ -1,0 +1,92 @@
+-- The images, the messages and the status of a text, line by line (docs/SPECIFICATION.md, Lines, Statuses).
+use Rattle.std.specs.Prelude.{ℕ, ◌+◌, ◌-◌, ◌^◌, min, Bool, true, false, if◌then◌else◌, List, [], ◌∷◌, ◌++◌, Result, Ok, Err}
+use Rattle.std.specs.List.{flat_map, list_any}
+use Rattle.labelcore.specs.declared.fault.Fault.{Fault}
+use Rattle.labelcore.specs.declared.options.Format.{Format}
+use Rattle.labelcore.specs.declared.options.Format.TheVariants.{Pbm, Ascii}
+use Rattle.labelcore.specs.declared.symbology.Symbology.{Symbology}
+use Rattle.labelcore.specs.OptionValues.{OptionValues}
+use Rattle.labelcore.specs.LineItem.{LineItem, skip, refuse, draw, item}
+use Rattle.labelcore.specs.Message.{message}
+use Rattle.picture.specs.Picture.{Picture, framed, scaled}
+use Rattle.picture.specs.Text.{pbm_text, ascii_text}
+use Rattle.filter.specs.Label.{Label, label_of, quiet_zone}
+use Rattle.filter.specs.declared.status.Status.{Status}
+use Rattle.filter.specs.declared.status.Status.TheVariants.{Clean, Refused}
+
+-- what a line comes to
+pub data Outcome : Type 0 where
+  skipped : Outcome
+  refused : Fault → Outcome
+  drawn : Label → Outcome
+
+-- a label is drawn, and a fault refused
+abbrev pub outcome_of_label : Result Label Fault → Outcome
+outcome_of_label (Ok label) = drawn label
+outcome_of_label (Err fault) = refused fault
+
+-- what data comes to under the options of its line
+abbrev pub outcome_of_data : OptionValues → Symbology → List ℕ → Outcome
+outcome_of_data own symbology bytes = outcome_of_label (label_of own symbology bytes)
+
+-- what an item comes to
+abbrev pub outcome_of_item : LineItem → Outcome
+outcome_of_item skip = skipped
+outcome_of_item (refuse fault) = refused fault
+outcome_of_item (draw asked) = outcome_of_data asked.options asked.symbology asked.bytes
+
+-- what a line comes to
+unfoldable pub outcome : OptionValues → List ℕ → Outcome
+outcome options line = outcome_of_item (item options line)
+
+-- the symbol in its quiet zone, each module a square of pixels
+abbrev pub picture_of : OptionValues → Label → Picture
+picture_of options label = scaled (framed label.modules (quiet_zone label.symbology)) options.scale
+
+-- the text of a picture in a format
+abbrev pub text_of : Format → Picture → List ℕ
+text_of Pbm p = pbm_text p
+text_of Ascii p = ascii_text p
+
+-- the image that is drawn, or none
+abbrev pub image_of : OptionValues → Outcome → List ℕ
+image_of options skipped = []
+image_of options (refused fault) = []
+image_of options (drawn label) = text_of options.format (picture_of options label)
+
+-- the message of a refusal, or none
+abbrev pub message_of : ℕ → Outcome → List ℕ
+message_of number skipped = []
+message_of number (refused fault) = message number fault
+message_of number (drawn label) = []
+
+-- whether the line is refused
+abbrev pub is_refusal : Outcome → Bool
+is_refusal skipped = false
+is_refusal (refused fault) = true
+is_refusal (drawn label) = false
+
+-- the number of a line that so many lines stand before; it stops at the greatest `u64`
+abbrev pub line_number : ℕ → ℕ
+line_number before = min (before + 1) (2 ^ 64 - 1)
+
+-- the images of lines, joined
+unfoldable pub images : OptionValues → List (List ℕ) → List ℕ
+images options lines = flat_map (λ line. image_of options (outcome options line)) lines
+
+-- the messages of lines that so many lines stand before, joined
+unfoldable pub messages_after : OptionValues → ℕ → List (List ℕ) → List ℕ
+messages_after options before [] = []
+messages_after options before (line ∷ lines) = message_of (line_number before) (outcome options line) ++ messages_after options (before + 1) lines
+
+-- the messages of a text's lines, or of its first lines, joined
+abbrev pub messages : OptionValues → List (List ℕ) → List ℕ
+messages options lines = messages_after options 0 lines
+
+-- whether some line is refused
+unfoldable pub any_refused : OptionValues → List (List ℕ) → Bool
+any_refused options lines = list_any (λ line. is_refusal (outcome options line)) lines
+
+-- the status of a run over these lines
+abbrev pub status_of : OptionValues → List (List ℕ) → Status
+status_of options lines = if any_refused options lines then Refused else Clean

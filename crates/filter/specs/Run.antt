@@ -1,0 +1,55 @@
+-- A run over a whole input: the headline, and what stands where the run stops before the end (docs/SPECIFICATION.md, The filter as a library).
+use Rattle.std.specs.Prelude.{◌≡◌, ℕ, ◌-◌, ◌^◌, ◌≤◌, ◌⊎◌, List, length}
+use Rattle.labelcore.specs.Device.{Rises}
+use Rattle.labelcore.specs.OptionValues.{OptionValues}
+use Rattle.labelcore.specs.Lines.{lines, ended_lines}
+use Rattle.filter.specs.Output.{images, messages, status_of}
+use Rattle.filter.specs.Readback.{AreRead, accepted, cut}
+use Rattle.filter.specs.declared.status.Status.{Status}
+use Rattle.filter.specs.Filter.{TookLines, StopsInLine}
+use Rattle.filter.specs.declared.status.RunFault.{RunFault}
+use Rattle.filter.specs.declared.status.RunFault.TheVariants.{Read, WriteOut, WriteMessages, Spent}
+
+-- The first half of the headline: the sinks took the images and the messages of the text's lines, and the status is theirs.
+pub record WritesOutput (options : OptionValues) (took_out took_err : List ℕ → Type 0) (status : Status) (text : List ℕ) : Type 0 where
+  pub out : took_out (images options (lines text))
+  pub err : took_err (messages options (lines text))
+  pub status_is : status ≡ status_of options (lines text)
+
+-- The second half: there is one image for each line that is drawn, in order, and each, cut from the stream, is read as the
+-- full data of its line.
+abbrev pub ImagesAreRead : OptionValues → (text : List ℕ) → Type 0
+ImagesAreRead options text =
+    AreRead options.format options.scale (cut options.format (images options (lines text))) (accepted options (lines text))
+
+-- A whole run: both halves, of the one text that the source gave.
+pub record RunsWhole (options : OptionValues) (gave took_out took_err : List ℕ → Type 0) (status : Status) : Type 0 where
+  pub text : List ℕ
+  pub given : gave text
+  pub written : WritesOutput options took_out took_err status text
+  pub read : ImagesAreRead options text
+
+-- a sink failed in one of the text's lines, or in a flush after them
+abbrev pub StopsInText : OptionValues → (took_out took_err : List ℕ → Type 0) (text : List ℕ) → RunFault → Type 0
+StopsInText options took_out took_err text fault = StopsInLine options took_out took_err 0 (lines text) fault ⊎ TookLines options took_out took_err 0 (lines text)
+
+-- what the sinks took of the text that the source gave
+abbrev pub RunStops : OptionValues → (took_out took_err : List ℕ → Type 0) (text : List ℕ) → RunFault → Type 0
+RunStops options took_out took_err text Read = TookLines options took_out took_err 0 (ended_lines text)
+RunStops options took_out took_err text WriteOut = StopsInText options took_out took_err text WriteOut
+RunStops options took_out took_err text WriteMessages = StopsInText options took_out took_err text WriteMessages
+RunStops options took_out took_err text Spent = ⊥
+
+-- as many reads gave bytes as a run makes
+abbrev pub GaveTooMuch : (List ℕ → Type 0) → Type 0
+GaveTooMuch gave = (text : List ℕ) × gave text × (2 ^ 64 - 1 ≤ length text)
+
+-- the count of the device that failed rises, and no other; at the bound on reads none does
+abbrev pub RunRaises : (too_much : Type 0) (source_old source_new out_old out_new err_old err_new : ℕ) → RunFault → Type 0
+RunRaises too_much source_old source_new out_old out_new err_old err_new Read =
+    (Rises source_old source_new ⊎ ((source_new ≡ source_old) × too_much)) × (out_new ≡ out_old) × (err_new ≡ err_old)
+RunRaises too_much source_old source_new out_old out_new err_old err_new WriteOut =
+    (source_new ≡ source_old) × Rises out_old out_new × (err_new ≡ err_old)
+RunRaises too_much source_old source_new out_old out_new err_old err_new WriteMessages =
+    (source_new ≡ source_old) × (out_new ≡ out_old) × Rises err_old err_new
+RunRaises too_much source_old source_new out_old out_new err_old err_new Spent = ⊥

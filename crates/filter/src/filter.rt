@@ -1,0 +1,215 @@
+//! The filter, fed piece by piece.
+ghost use Rattle.std.specs.Prelude.{◌≡◌, ℕ, Bool, true, false, List, [], ◌∷◌, ◌++◌, length, Err, OnOk, OnErr, IfOk, IfErr};
+ghost use Rattle.labelcore.specs.Device.{Unflushed};
+ghost use Rattle.labelcore.specs.OptionValues.{OptionValues};
+ghost use Rattle.labelcore.specs.Lines.{lines, ended_lines, open_line, unless_empty};
+ghost use Rattle.filter.specs.Output.{any_refused, status_of};
+ghost use Rattle.filter.specs.Filter.{FilterState, StandsAt, TookLines, TookPiece, StopsInLine, StopsInPiece, StopsInFinish};
+ghost use Rattle.filter.specs.Line.{CountsFault, FlushedImagesAtMost};
+
+use crate::line::finish_line;
+use crate::status::{RunFault, Status};
+use labelcore::{LineBuf, Options, Sink};
+use std::marker::Model;
+
+/// What is held of the open line, and what the lines before it came to.
+#[derive(Drop)]
+pub struct Filter {
+    options: Options,
+    line: LineBuf,
+    line_count: u64,
+    is_refused: bool,
+    is_spent: bool,
+}
+
+impl Model for Filter {
+    ghost use Rattle.filter.specs.Filter.{FilterState};
+
+    ghost Value = { FilterState };
+
+    ghost view = { λ f. record {
+      options = f.options;
+      line = f.line;
+      line_count = f.line_count;
+      is_refused = f.is_refused;
+      is_spent = f.is_spent;
+    } };
+}
+
+impl Filter {
+    /// A filter of these options that was fed nothing.
+    pub fn new(options: Options) -> Self
+        ensures { StandsAt options result [] }
+    {
+        Filter {
+            options,
+            line: LineBuf::new(),
+            line_count: 0,
+            is_refused: false,
+            is_spent: false,
+        }
+    }
+
+    /// Takes one byte.
+    fn feed_byte<O: Sink, E: Sink>(
+        &mut self,
+        byte: u8,
+        out: &mut O,
+        err: &mut E,
+    ) -> Result<(), RunFault>
+        ensures stands { (options : OptionValues) (text : List ℕ) → StandsAt options self.old text
+            → OnOk result (StandsAt options self.new (text ++ byte ∷ [])) }
+        ensures took { (options : OptionValues) (text : List ℕ) → StandsAt options self.old text
+            → OnOk result (TookPiece options
+            (O.took out.old out.new) (E.took err.old err.new) text (byte ∷ [])) }
+        ensures stops { (options : OptionValues) (text : List ℕ) → StandsAt options self.old text
+            → IfErr result (StopsInPiece options
+            (O.took out.old out.new) (E.took err.old err.new) text (byte ∷ [])) }
+        ensures spent { OnErr result (self.new.is_spent ≡ true) }
+        ensures counts { CountsFault (O.failures out.old) (O.failures out.new)
+            (E.failures err.old) (E.failures err.new) result }
+        ensures unflushed { Unflushed (O.is_flushed out.old) (O.is_flushed out.new)
+            × Unflushed (E.is_flushed err.old) (E.is_flushed err.new) }
+    {
+        if byte != b'\n' {
+            self.line.push(byte);
+            return Ok(());
+        }
+        self.line_count = self.line_count.saturating_add(1);
+        match finish_line(&self.options, &self.line, self.line_count, out, err) {
+            Ok(refused) => {
+                self.is_refused = self.is_refused || refused;
+                self.line.clear();
+                Ok(())
+            }
+            Err(fault) => {
+                self.is_spent = true;
+                Err(fault)
+            }
+        }
+    }
+
+    /// Takes the next piece of the input: writes what the lines come to that it ends, flushes nothing, and holds the rest.
+    ///
+    /// `WriteOut` and `WriteMessages` say which sink failed, in one of these lines: earlier lines' texts are whole, and
+    /// its own is a beginning. From then on the filter is spent, and every call answers `Spent` and calls no sink.
+    pub fn feed<O: Sink, E: Sink>(
+        &mut self,
+        piece: &[u8],
+        out: &mut O,
+        err: &mut E,
+    ) -> Result<(), RunFault>
+        ensures stands { (options : OptionValues) (text : List ℕ) → StandsAt options self.old text
+            → OnOk result (StandsAt options self.new (text ++ piece.now)) }
+        ensures took { (options : OptionValues) (text : List ℕ) → StandsAt options self.old text
+            → OnOk result (TookPiece options
+            (O.took out.old out.new) (E.took err.old err.new) text piece.now) }
+        ensures stops { (options : OptionValues) (text : List ℕ) → StandsAt options self.old text
+            → IfErr result (StopsInPiece options
+            (O.took out.old out.new) (E.took err.old err.new) text piece.now) }
+        ensures counts { self.old.is_spent ≡ false
+            → CountsFault (O.failures out.old) (O.failures out.new)
+            (E.failures err.old) (E.failures err.new) result }
+        ensures spent { OnErr result (self.new.is_spent ≡ true) }
+        ensures unflushed { Unflushed (O.is_flushed out.old) (O.is_flushed out.new)
+            × Unflushed (E.is_flushed err.old) (E.is_flushed err.new) }
+        ensures spent_before { self.old.is_spent ≡ true
+            → (result ≡ Err RunFault.Spent) × (self.new ≡ self.old)
+            × (out.new ≡ out.old) × (err.new ≡ err.old) }
+    {
+        if self.is_spent {
+            return Err(RunFault::Spent);
+        }
+        for byte in piece {
+            self.feed_byte(*byte, out, err)?;
+        }
+        Ok(())
+    }
+
+    /// Ends the input: the last line is written, if no LF ends it, and then both sinks are flushed, the images first.
+    ///
+    /// `WriteOut` and `WriteMessages` say which sink failed, in that line or in its flush. A filter that was spent answers
+    /// `Spent` and calls no sink.
+    pub fn finish<O: Sink, E: Sink>(self, out: &mut O, err: &mut E) -> Result<Status, RunFault>
+        ensures status { (options : OptionValues) (text : List ℕ) → StandsAt options self text
+            → IfOk result (λ status. status ≡ status_of options (lines text)) }
+        ensures took { (options : OptionValues) (text : List ℕ) → StandsAt options self text
+            → OnOk result (TookLines options
+            (O.took out.old out.new) (E.took err.old err.new)
+            (length (ended_lines text)) (unless_empty (open_line text))) }
+        ensures flushed { OnOk result
+            ((O.is_flushed out.new ≡ true) × (E.is_flushed err.new ≡ true)) }
+        ensures order { IfErr result (FlushedImagesAtMost
+            (O.is_flushed out.old) (O.is_flushed out.new)
+            (E.is_flushed err.old) (E.is_flushed err.new)) }
+        ensures stops { (options : OptionValues) (text : List ℕ) → StandsAt options self text
+            → IfErr result (StopsInFinish options
+            (O.took out.old out.new) (E.took err.old err.new) text) }
+        ensures counts { self.is_spent ≡ false
+            → CountsFault (O.failures out.old) (O.failures out.new)
+            (E.failures err.old) (E.failures err.new) result }
+        ensures spent { self.is_spent ≡ true → (result ≡ Err RunFault.Spent)
+            × (out.new ≡ out.old) × (err.new ≡ err.old) }
+    {
+        if self.is_spent {
+            return Err(RunFault::Spent);
+        }
+        let refused = self.finish_open_line(out, err)?;
+        flush_both(out, err)?;
+        Ok(if refused {
+            Status::Refused
+        } else {
+            Status::Clean
+        })
+    }
+
+    /// Writes what the last line comes to, if no LF ends it, and says whether any line is refused.
+    fn finish_open_line<O: Sink, E: Sink>(&self, out: &mut O, err: &mut E) -> Result<bool, RunFault>
+        ensures refused { (options : OptionValues) (text : List ℕ) → StandsAt options self.now text
+            → IfOk result (λ r. r ≡ any_refused options (lines text)) }
+        ensures took { (options : OptionValues) (text : List ℕ) → StandsAt options self.now text
+            → OnOk result (TookLines options
+            (O.took out.old out.new) (E.took err.old err.new)
+            (length (ended_lines text)) (unless_empty (open_line text))) }
+        ensures stops { (options : OptionValues) (text : List ℕ) → StandsAt options self.now text
+            → IfErr result (StopsInLine options
+            (O.took out.old out.new) (E.took err.old err.new)
+            (length (ended_lines text)) (unless_empty (open_line text))) }
+        ensures counts { CountsFault (O.failures out.old) (O.failures out.new)
+            (E.failures err.old) (E.failures err.new) result }
+        ensures unflushed { Unflushed (O.is_flushed out.old) (O.is_flushed out.new)
+            × Unflushed (E.is_flushed err.old) (E.is_flushed err.new) }
+    {
+        if self.line.is_empty() {
+            return Ok(self.is_refused);
+        }
+        let number = self.line_count.saturating_add(1);
+        match finish_line(&self.options, &self.line, number, out, err) {
+            Ok(refused) => {
+                let any_refused = self.is_refused || refused;
+                Ok(any_refused)
+            }
+            Err(fault) => Err(fault),
+        }
+    }
+}
+
+/// Flushes the images, and then the messages.
+fn flush_both<O: Sink, E: Sink>(out: &mut O, err: &mut E) -> Result<(), RunFault>
+    ensures out_takes_none { O.took out.old out.new [] }
+    ensures err_takes_none { E.took err.old err.new [] }
+    ensures flushed { OnOk result ((O.is_flushed out.new ≡ true) × (E.is_flushed err.new ≡ true)) }
+    ensures order { IfErr result (FlushedImagesAtMost
+        (O.is_flushed out.old) (O.is_flushed out.new)
+        (E.is_flushed err.old) (E.is_flushed err.new)) }
+    ensures counts { CountsFault (O.failures out.old) (O.failures out.new)
+        (E.failures err.old) (E.failures err.new) result }
+{
+    if out.flush().is_err() {
+        return Err(RunFault::WriteOut);
+    }
+    if err.flush().is_err() {
+        return Err(RunFault::WriteMessages);
+    }
+    Ok(())
+}

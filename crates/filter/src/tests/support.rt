@@ -1,0 +1,209 @@
+//! What the tests share: runs over memory, and the texts that they compare with.
+ghost use Rattle.std.specs.Prelude.{◌<◌};
+
+use crate::{Filter, RunFault, Status, run};
+use labelcore::{Format, Level, MemSource, Options, StdSink};
+use std::alloc::{AllocError, Global};
+use std::process::Abort;
+
+/// The image of `ean8 7351353`, one module high.
+pub const EAN8: &[u8] =
+    b"P1\n81 1\n0000000101011101101111010110001001100101010100001010011101000010100010\n01010000000\n";
+
+/// A row of pixels of `ean13 4006381333931`, in its quiet zone.
+pub const EAN13_ROW: &[u8] =
+    b"0000000000010100011010100111010111101111010001001011001101010100001010\n0001010000101110100100001011001101010000000\n";
+
+/// What lines of each refusal that no setting makes are told, with `--escapes`.
+pub const REFUSALS: &[u8] =
+    b"line 1: not a digit at byte 3\nline 2: wrong number of digits: 3\nline 3: no data\nline 4: no data\nline 5: unknown symbology\nline 6: bad escape at byte 2\nline 7: byte 1 is not ASCII\nline 8: data is longer than 80 bytes\n";
+
+/// What a run came to.
+#[derive(Drop)]
+pub struct RunResult {
+    pub answer: Result<Status, RunFault>,
+    pub out: Vec<u8>,
+    pub err: Vec<u8>,
+}
+
+/// The options of a row, each at its default where the row names no other.
+#[derive(Clone, Copy, Drop)]
+pub struct Named {
+    pub format: Format,
+    pub scale: u8,
+    pub height: u16,
+    pub level: Level,
+    pub min_version: u8,
+    pub mask: Option<u8>,
+    pub escapes: bool,
+}
+
+/// The defaults.
+pub const DEFAULT: Named = Named {
+    format: Format::Pbm,
+    scale: 1,
+    height: 50,
+    level: Level::M,
+    min_version: 1,
+    mask: None,
+    escapes: false,
+};
+
+/// The options of pictures one module high.
+pub const LOW: Named = Named {
+    height: 1,
+    ..DEFAULT
+};
+
+/// The options of level L.
+pub const LEVEL_L: Named = Named {
+    level: Level::L,
+    ..DEFAULT
+};
+
+impl Named {
+    /// These options.
+    pub fn options(self, rt: &impl Abort) -> Options {
+        Options::new(
+            self.format,
+            self.scale,
+            self.height,
+            self.level,
+            self.min_version,
+            self.mask,
+            self.escapes,
+        )
+        .expect(rt, "options in range")
+    }
+}
+
+/// The options of pictures one module high, with escapes or without.
+pub fn low(rt: &impl Abort, escapes: bool) -> Options {
+    Named { escapes, ..LOW }.options(rt)
+}
+
+/// Runs over the input, `piece` bytes a read.
+pub fn run_by(alloc: Global, options: Options, input: &[u8], piece: usize) -> RunResult
+    requires { 0 < piece }
+{
+    let mut out = Vec::new(alloc);
+    let mut err = Vec::new(alloc);
+    let mut source = MemSource::new(input, piece, false);
+    let answer = run(
+        options,
+        &mut source,
+        &mut StdSink::new(&mut out),
+        &mut StdSink::new(&mut err),
+    );
+    RunResult { answer, out, err }
+}
+
+/// Feeds the input in two pieces.
+pub fn fed(alloc: Global, options: Options, first: &[u8], second: &[u8]) -> RunResult {
+    let mut out = Vec::new(alloc);
+    let mut err = Vec::new(alloc);
+    let answer = fed_into(
+        options,
+        first,
+        second,
+        &mut StdSink::new(&mut out),
+        &mut StdSink::new(&mut err),
+    );
+    RunResult { answer, out, err }
+}
+
+/// Feeds the input in two pieces to a filter over these sinks.
+fn fed_into(
+    options: Options,
+    first: &[u8],
+    second: &[u8],
+    out: &mut StdSink<&mut Vec<u8>>,
+    err: &mut StdSink<&mut Vec<u8>>,
+) -> Result<Status, RunFault> {
+    let mut filter = Filter::new(options);
+    filter.feed(first, out, err)?;
+    filter.feed(second, out, err)?;
+    filter.finish(out, err)
+}
+
+/// Text that stands so many times.
+pub fn repeated(alloc: Global, text: &[u8], times: usize) -> Result<Vec<u8>, AllocError> {
+    let mut all = Vec::new(alloc);
+    for _ in 0..times {
+        all.extend_from_slice(text)?;
+    }
+    Ok(all)
+}
+
+/// Texts, joined.
+pub fn joined(alloc: Global, texts: &[&[u8]]) -> Result<Vec<u8>, AllocError> {
+    let mut all = Vec::new(alloc);
+    for text in texts {
+        all.extend_from_slice(text)?;
+    }
+    Ok(all)
+}
+
+/// The lines that `REFUSALS` tells of.
+pub fn refused_lines(alloc: Global) -> Result<Vec<u8>, AllocError> {
+    let mut lines = Vec::new(alloc);
+    lines.extend_from_slice(
+        b"ean8 73x1353\nean13 123\nqr\nqr \n qr x\ncode128 a\\q\ncode128 \xC3\xA9\ncode128 ",
+    )?;
+    for _ in 0..81 {
+        lines.push(b'a')?;
+    }
+    lines.push(b'\n')?;
+    Ok(lines)
+}
+
+/// A header, and then the text of one row of pixels for each of the rows.
+pub fn bars(alloc: Global, header: &[u8], row: &[u8], rows: usize) -> Result<Vec<u8>, AllocError> {
+    let pixels = repeated(alloc, row, rows)?;
+    joined(alloc, &[header, pixels.as_slice()])
+}
+
+/// The text picture of rows of pixels, each written as `0` and `1`.
+pub fn letters(alloc: Global, rows: &[&[u8]]) -> Result<Vec<u8>, AllocError> {
+    let mut text = Vec::new(alloc);
+    for row in rows {
+        for pixel in *row {
+            text.extend_from_slice(if *pixel == b'1' { b"##" } else { b"  " })?;
+        }
+        text.push(b'\n')?;
+    }
+    text.push(b'\n')?;
+    Ok(text)
+}
+
+/// The run came to these images and messages, and nothing failed.
+pub fn assert_came_to(rt: &impl Abort, came: &RunResult, out: &[u8], err: &[u8]) {
+    let status = if err.is_empty() {
+        Status::Clean
+    } else {
+        Status::Refused
+    };
+    assert!(rt; came.out.as_slice() == out);
+    assert!(rt; came.err.as_slice() == err);
+    assert_eq!(rt; came.answer, Ok(status));
+}
+
+/// Over the input, read in pieces of several sizes and fed in two at each cut, a run comes to these images and messages.
+pub fn assert_row(
+    rt: &impl Abort,
+    alloc: Global,
+    options: Options,
+    input: &[u8],
+    out: &[u8],
+    err: &[u8],
+) {
+    assert_came_to(rt, &run_by(alloc, options, input, 1), out, err);
+    assert_came_to(rt, &run_by(alloc, options, input, 2), out, err);
+    assert_came_to(rt, &run_by(alloc, options, input, 7), out, err);
+    assert_came_to(rt, &run_by(alloc, options, input, 4096), out, err);
+    for at in 0..input.len() {
+        let (first, second) = input.split_at(at);
+        assert_came_to(rt, &fed(alloc, options, first, second), out, err);
+    }
+    assert_came_to(rt, &fed(alloc, options, input, b""), out, err);
+}
