@@ -25,6 +25,7 @@ PAGE = os.path.join(TOP, "docs", "DEFINITIONS.md")
 MARKS = [("<!-- believed: begin -->", "<!-- believed: end -->"), ("<!-- other: begin -->", "<!-- other: end -->")]
 
 NAME = r"[^\W\d][\w']*(?:-[\w']+)*"
+NO_WORDS = {"infixl", "infixr", "unfolding", "module"}
 HEAD = re.compile(rf"^(?:(?:abbrev|unfoldable)\s+)?(?:pub\s+)?(?:record\s+|data\s+)?(◌\S+◌|{NAME})(?=[\s:(])")
 WORD = re.compile(rf"{NAME}(?:\.{NAME})*")
 
@@ -58,19 +59,24 @@ class File:
 
     def take(self, block):
         """A block: lines `use`, or a definition with its comment."""
+        if block[0].startswith("abbrev mutual"):
+            block = block[1:]
+        if all(line.startswith("  ") for line in block):
+            # One of several definitions that call one another stands indented.
+            block = [line[2:] for line in block]
         comment = [line.removeprefix("--").strip() for line in block if line.startswith("--")]
         code = [line for line in block if not line.startswith("--")]
         for line in (line for line in code if line.startswith("use ")):
             self.bring_in(line[4:].strip())
         code = [line for line in code if not line.startswith("use ")]
-        head = next((match for match in map(HEAD.match, code) if match and match.group(1) not in ("infixl", "infixr", "unfolding", "module")), None)
+        head = next((match for match in map(HEAD.match, code) if match and match.group(1) not in NO_WORDS), None)
         if not head:
             return
         word = head.group(1)
         definition = Definition((self.crate, self.module, word), " ".join(comment), code)
         self.order.append(definition)
         self.of_name[word] = definition
-        if re.match(r"^(?:pub\s+)?data\s", next(line for line in code if HEAD.match(line))):
+        if re.match(r"^(?:pub\s+)?data\s", head.string):
             for line in code[1:]:
                 constructor = re.match(rf"^\s+({NAME})\s*:", line)
                 if constructor:
