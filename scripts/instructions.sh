@@ -8,6 +8,7 @@
 # COUNT (20) equal labels are drawn in one run, and a run over none is subtracted, for zint and GNU barcode one over a single label, for
 # qrencode, which draws one label a run, one that prints its version. So a row says what one label more costs. Every tool writes to /dev/null.
 set -euo pipefail
+shopt -s inherit_errexit
 
 top=$(cd "$(dirname "$0")/.." && pwd)
 labels=$(realpath "${1:-$top/crates/labels/out/labels}")
@@ -22,24 +23,31 @@ has valgrind || { echo "$0: valgrind is not installed" >&2; exit 3; }
 
 # The instructions of a command.
 instructions_of() {
-    valgrind --tool=callgrind --callgrind-out-file=/dev/null "$@" 2>&1 > /dev/null | awk '/ Collected : / { print $4 }'
+    valgrind --tool=callgrind --callgrind-out-file=/dev/null "$@" 2>&1 > /dev/null |
+        awk '/ Collected : / { print $4; found = 1 } END { exit !found }' || {
+        echo "$0: no count of: $*" >&2
+        return 3
+    }
 }
 
 # The text $1, $2 times, each on a line.
 times() { for ((i = 0; i < $2; i++)); do printf '%s\n' "$1"; done; }
 
-# What a label more costs, rounded to hundreds: the instructions $1 of a run over so many labels $3, less those $2 of one without.
+# What a label more costs, rounded to hundreds: the instructions $1 of a run over so many labels $3, less those $2 of one without them.
 each() { awk -v all="$1" -v start="$2" -v n="$3" 'BEGIN { printf "%d", 100 * int((all - start) / n / 100 + 0.5) }'; }
 
 # A number with a comma after its thousands.
-shown() { sed -E ':a; s/^([0-9]+)([0-9]{3})/\1,\2/; ta' <<< "$1"; }
+shown() { sed -E ':a; s/^([0-9]+)([0-9]{3})/\1,\2/; ta'; }
 
 # The line $1 under the words after it, by labels.
 by_labels() {
     local line=$1
     shift
     times "$line" "$count" > lines
-    each "$(instructions_of "$labels" "$@" lines)" "$(instructions_of "$labels" "$@" /dev/null)" "$count"
+    local all start
+    all=$(instructions_of "$labels" "$@" lines)
+    start=$(instructions_of "$labels" "$@" /dev/null)
+    each "$all" "$start" "$count"
 }
 
 # The data $1 under the words after it, by zint; its own text of a picture, letters of hexadecimal digits.
@@ -48,7 +56,10 @@ by_zint() {
     shift
     times "$data" 1 > one
     times "$data" $((count + 1)) > many
-    each "$(instructions_of zint "$@" --batch --dump -i many)" "$(instructions_of zint "$@" --batch --dump -i one)" "$count"
+    local all start
+    all=$(instructions_of zint "$@" --batch --dump -i many)
+    start=$(instructions_of zint "$@" --batch --dump -i one)
+    each "$all" "$start" "$count"
 }
 
 # The data $1 under the words after it, by GNU barcode, as PostScript.
@@ -57,27 +68,39 @@ by_barcode() {
     shift
     times "$data" 1 > one
     times "$data" $((count + 1)) > many
-    each "$(instructions_of barcode "$@" -i many -o /dev/null)" "$(instructions_of barcode "$@" -i one -o /dev/null)" "$count"
+    local all start
+    all=$(instructions_of barcode "$@" -i many -o /dev/null)
+    start=$(instructions_of barcode "$@" -i one -o /dev/null)
+    each "$all" "$start" "$count"
 }
 
 # The data $1 under the words after it, by qrencode, as text.
 by_qrencode() {
     local data=$1
     shift
-    each "$(instructions_of qrencode "$@" -t ASCII -o /dev/null "$data")" "$(instructions_of qrencode -V)" 1
+    local all start
+    all=$(instructions_of qrencode "$@" -t ASCII -o /dev/null "$data")
+    start=$(instructions_of qrencode -V)
+    each "$all" "$start" 1
 }
 
 # A cell: the count by tool $1, if it is installed and has words for it.
 cell() {
-    if [ $# -gt 2 ] && has "$1"; then shown "$("by_$1" "${@:2}")"; else printf -- '-'; fi
+    if [ $# -gt 2 ] && has "$1"; then "by_$1" "${@:2}" | shown; else printf -- '-'; fi
 }
 
 # A row with name $1 for the labels' line $2, their words $3, the data $4, and each tool's words.
 row() {
     local name=$1 line=$2 words=$3 data=$4 zint=$5 barcode=$6 qrencode=$7
+    local ours
     # shellcheck disable=SC2086  # words are several words
-    printf '| %s | %s | %s | %s | %s |\n' "$name" "$(shown "$(by_labels "$line" $words)")" \
-        "$(cell zint "$data" $zint)" "$(cell barcode "$data" $barcode)" "$(cell qrencode "$data" $qrencode)"
+    {
+        ours=$(by_labels "$line" $words | shown)
+        zint=$(cell zint "$data" $zint)
+        barcode=$(cell barcode "$data" $barcode)
+        qrencode=$(cell qrencode "$data" $qrencode)
+    }
+    printf '| %s | %s | %s | %s | %s |\n' "$name" "$ours" "$zint" "$barcode" "$qrencode"
 }
 
 # The first $1 characters of the text $2 over and over.
