@@ -10,7 +10,7 @@ use arrayvec::ArrayVec;
 /// symbol of 80 bytes.
 pub type Row = ArrayVec<bool, MAX_MODULES>;
 
-/// Appends modules.
+/// Appends modules. It is inlined, so that a copy has a length that is known when it is compiled.
 #[inline(always)]
 pub fn push_modules(row: &mut Row, modules: &[bool])
     requires { array_vec_len row.old + length modules.now ≤ MAX_MODULES }
