@@ -25,3 +25,4 @@ pub mod FirstLeast
 pub mod Choosing
 pub mod SmallChoices
 pub mod Tables
+pub mod CharacterValues

@@ -7,3 +7,4 @@ pub mod Versions
 pub mod PlanView
 pub mod Table
 pub mod LeastPlan
+pub mod BitsInWords

@@ -135,11 +135,16 @@ fn plan_between(lowest: u8, highest: u8, level: Level, bytes: &[u8]) -> Option<P
     ensures some { IfSome result (IsLeastPlan lowest highest level bytes.now) }
     ensures none { IfNone result (NoPlan lowest highest level bytes.now) }
 {
+    let widest = Version { number: highest };
+    // Three bytes have ten bits at least.
+    if 10 * bytes.len() > 24 * widest.data_words(level) {
+        return None;
+    }
     let mut firsts = [Segment {
         mode: Mode::Byte,
         len: 0,
     }; 653];
-    let bits = fill(Version { number: highest }, bytes, &mut firsts);
+    let bits = fill(widest, bytes, &mut firsts);
     for number in lowest..highest + 1 {
         let version = Version { number };
         if bits <= 8 * version.data_words(level) {
