@@ -11,7 +11,7 @@ pub mod Padding
 pub mod PayloadSteps
 pub mod Payloads
 pub mod RoundTrip
-pub mod Rows
+pub mod Examples
 pub mod SegmentsRead
 pub mod VersionSearch
 pub mod Writing

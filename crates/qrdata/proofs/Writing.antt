@@ -12,7 +12,7 @@ use Rattle.qrdata.specs.declared.mode.Mode.{Mode}
 use Rattle.qrdata.specs.declared.mode.Mode.TheVariants.{Numeric}
 use Rattle.qrdata.specs.declared.mode.Segment.{Segment}
 use Rattle.qrdata.specs.declared.bits.Bits.{Bits}
-use Rattle.qrdata.specs.BitsInWords.{bits_in}
+use Rattle.qrdata.specs.Private.BitsInWords.{bits_in}
 use Rattle.qrdata.specs.Bits.{bits_of, codewords_of, number_of}
 use Rattle.qrdata.specs.Codewords.{largest, split_by}
 use Rattle.qrdata.specs.Segments.{IsSegmentation, alphanumeric_bits, alphanumeric_value, byte_bits, cost, count_width, segment_bits, segment_length, segment_of, segments_bits}

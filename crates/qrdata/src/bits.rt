@@ -42,7 +42,7 @@ fn power_of_two(n: usize) -> u32
 }
 
 impl Bits {
-    ghost use Rattle.qrdata.specs.BitsInWords.{bits_in};
+    ghost use Rattle.qrdata.specs.Private.BitsInWords.{bits_in};
 
     /// No bits.
     pub(crate) fn new() -> Bits

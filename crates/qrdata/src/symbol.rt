@@ -1,6 +1,6 @@
 //! The codewords of a symbol (ISO/IEC 18004, 7.4 to 7.6).
 ghost use Rattle.arrayvec.specs.ArrayVec.{array_vec_len};
-ghost use Rattle.qrdata.specs.BitsInWords.{bits_in};
+ghost use Rattle.qrdata.specs.Private.BitsInWords.{bits_in};
 ghost use Rattle.qrdata.specs.Codewords.{data_of, final_message, symbol_codewords};
 ghost use Rattle.qrdata.specs.Versions.{capacity};
 ghost use Rattle.qrdata.specs.Reading.{data_in};

@@ -3,8 +3,8 @@ use Rattle.labelcore.specs.declared.options.Level.{Level}
 use Rattle.std.proofs.lemmas.Bool.{cases_lt}
 use Rattle.qrdata.specs.Fewest.{chosen_segments}
 use Rattle.qrdata.specs.Segments.{cost}
-use Rattle.qrdata.specs.LeastPlan.{DoNotFit, SameWidths}
-use Rattle.qrdata.specs.Table.{fewest_bits}
+use Rattle.qrdata.specs.Private.LeastPlan.{DoNotFit, SameWidths}
+use Rattle.qrdata.specs.Private.Table.{fewest_bits}
 use Rattle.qrdata.specs.Versions.{capacity}
 use Rattle.qrdata.proofs.Bounds.{few_segments, third}
 use Rattle.qrdata.proofs.FewestBits.{chosen_segments-is}

@@ -1,6 +1,6 @@
 use Rattle.std.proofs.Common.{◌≡◌, ◌*◌, ◌/◌, length, arith, ap, refl, ◌∙◌}
 use Rattle.qrdata.specs.Bits.{codewords_of}
-use Rattle.qrdata.specs.BitsInWords.{bits_in}
+use Rattle.qrdata.specs.Private.BitsInWords.{bits_in}
 use Rattle.qrdata.specs.Codewords.{aligned, terminated, filled, padded, data_of}
 use Rattle.qrdata.specs.Segments.{segments_bits}
 use Rattle.qrdata.specs.Versions.{data_codewords}

@@ -1,7 +1,7 @@
 use Rattle.std.proofs.Common.{◌≡◌, ◌-◌, ◌*◌, ◌%◌, ◌<◌, ◌++◌, length, length-append, replicate, arith, ap, refl, ◌∙◌, false, min, Bool}
 use Rattle.std.proofs.lemmas.List.Elements.{recursion_from_All}
 use Rattle.qrdata.specs.Bits.{bits_of}
-use Rattle.qrdata.specs.BitsInWords.{bits_in}
+use Rattle.qrdata.specs.Private.BitsInWords.{bits_in}
 use Rattle.qrdata.specs.Codewords.{aligned, terminated}
 use Rattle.qrdata.proofs.BitStrings.{length-bits_of}
 use Rattle.qrdata.proofs.Padding.{aligned_is}

@@ -1,6 +1,6 @@
 use Rattle.std.proofs.Common.{◌≡◌, ◌+◌, ◌*◌, ◌^◌, ◌<◌, ◌≤◌, ◌++◌, length}
 use Rattle.qrdata.specs.Bits.{bits_of}
-use Rattle.qrdata.specs.BitsInWords.{bits_in}
+use Rattle.qrdata.specs.Private.BitsInWords.{bits_in}
 use Rattle.qrdata.specs.Segments.{byte_bits}
 use Rattle.qrdata.proofs.bits.Bits.push_number.Given as goal
 

@@ -1,5 +1,5 @@
 use Rattle.std.proofs.Common.{◌≡◌, ◌+◌, ◌-◌, ◌++◌, drop, take, length, get_or, append_assoc, append-nil, arith, ap, length-append}
-use Rattle.qrdata.specs.BitsInWords.{bits_in}
+use Rattle.qrdata.specs.Private.BitsInWords.{bits_in}
 use Rattle.qrdata.specs.Segments.{segment_bits}
 use Rattle.std.proofs.lemmas.List.{drop-drop, length-drop}
 use Rattle.qrdata.proofs.Writing.{default_segment, IsSegmentation-next, length-segment_bits_front, cost-next, segments_bits-next, segments_bits-none_left}
