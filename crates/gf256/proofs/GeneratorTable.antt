@@ -12,13 +12,13 @@ use Rattle.gf256.proofs.AllBelow.{all_below, all_below-at}
 use Rattle.gf256.proofs.LogarithmTables.{exp, field_power-table}
 
 -- whether two lists of numbers are the same
-abbrev same_numbers : List ℕ → List ℕ → Bool
+abbrev pub same_numbers : List ℕ → List ℕ → Bool
 same_numbers [] [] = true
 same_numbers [] (y ∷ ys) = false
 same_numbers (x ∷ xs) [] = false
 same_numbers (x ∷ xs) (y ∷ ys) = (x == y) && same_numbers xs ys
 
-same_numbers-is : (xs ys : List ℕ) → same_numbers xs ys ≡ true → xs ≡ ys
+pub same_numbers-is : (xs ys : List ℕ) → same_numbers xs ys ≡ true → xs ≡ ys
 same_numbers-is [] [] h = refl
 same_numbers-is [] (y ∷ ys) h = absurd (false≢true h)
 same_numbers-is (x ∷ xs) [] h = absurd (false≢true h)

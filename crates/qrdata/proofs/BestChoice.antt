@@ -10,7 +10,7 @@ use Rattle.qrdata.specs.declared.table.Choice.{Choice}
 use Rattle.qrdata.specs.declared.table.Choices.{Choices}
 use Rattle.qrdata.specs.declared.table.TheConstants.{ABSENT}
 use Rattle.qrdata.specs.Segments.{IsSegmentation, cost, has_character, segment_length}
-use Rattle.qrdata.specs.Table.{best_choice, better_choice, choices_of, fewest_bits, next_choices}
+use Rattle.qrdata.specs.Private.Table.{best_choice, better_choice, choices_of, fewest_bits, next_choices}
 use Rattle.qrdata.proofs.Runs.{run_byte, run_length, run_nothing, run_tells}
 use Rattle.qrdata.proofs.SmallChoices.{short_bits}
 use Rattle.qrdata.proofs.ChoiceOrder.{Beats, better-left, better-one, better-right}

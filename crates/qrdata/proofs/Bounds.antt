@@ -55,7 +55,7 @@ first_ten Numeric n h = omega arith
 first_ten Alphanumeric n h = omega arith
 first_ten Byte n h = omega arith
 
-third : (version : ℕ) (segments : List Segment) (bytes : List ℕ) → IsSegmentation version segments bytes → 10 * length bytes ≤ 3 * cost version segments
+pub third : (version : ℕ) (segments : List Segment) (bytes : List ℕ) → IsSegmentation version segments bytes → 10 * length bytes ≤ 3 * cost version segments
 third version [] bytes cut = rw cut (omega arith)
 third version (s ∷ segments) bytes cut =
     omega (arith, sum_by-cons (segment_length version) s segments, payload_third s.mode s.len, third version segments (drop s.len bytes) cut.1, length-drop s.len bytes, cut.0.inside)

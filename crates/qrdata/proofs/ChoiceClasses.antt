@@ -10,7 +10,7 @@ use Rattle.qrdata.specs.declared.table.Digits.{Digits}
 use Rattle.qrdata.specs.declared.table.Characters.{Characters}
 use Rattle.qrdata.specs.declared.table.TheConstants.{ABSENT}
 use Rattle.qrdata.specs.Segments.{has_character, payload_length, segment_length, segment_of}
-use Rattle.qrdata.specs.Table.{absent_choice, better_choice, choices_of, fewest_bits, longer_choice, next_characters, next_choices, next_digits, short_choice}
+use Rattle.qrdata.specs.Private.Table.{absent_choice, better_choice, choices_of, fewest_bits, longer_choice, next_characters, next_choices, next_digits, short_choice}
 use Rattle.qrdata.proofs.Runs.{run_length, run_more, run_none, run_nothing}
 use Rattle.qrdata.proofs.ChoiceOrder.{Beats, better-left, better-one, better-right}
 

@@ -3,7 +3,7 @@ use Rattle.std.proofs.Common.{◌≡◌, ℕ, ◌<◌, ◌≤◌, refl, arith, i
 use Rattle.std.proofs.lemmas.Bool.{cases_lt, le-ltb, lt-ltb}
 use Rattle.std.proofs.lemmas.Bool.Decides.{eqb_tells}
 use Rattle.qrdata.specs.declared.table.Choice.{Choice}
-use Rattle.qrdata.specs.Table.{better_choice}
+use Rattle.qrdata.specs.Private.Table.{better_choice}
 
 -- a choice comes no later than one of so many bits and this length
 abbrev pub Beats : Choice → (bits len : ℕ) → Type 0

@@ -9,7 +9,7 @@ use Rattle.qrdata.specs.declared.mode.Mode.TheVariants.{Numeric, Alphanumeric, B
 use Rattle.qrdata.specs.declared.mode.Segment.{Segment}
 use Rattle.qrdata.specs.Fewest.{chosen_segments, first_segments, is_first}
 use Rattle.qrdata.specs.Segments.{cost, count_width, has_character, segment_length, segment_of}
-use Rattle.qrdata.specs.Table.{choices_of, fewest_bits}
+use Rattle.qrdata.specs.Private.Table.{choices_of, fewest_bits}
 use Rattle.qrdata.proofs.BestChoice.{best-front, best-least, fewest_bits-least}
 use Rattle.qrdata.proofs.Runs.{run_length, run_length-le, run_tells}
 use Rattle.qrdata.proofs.BestLaw.{chosen_segments-cons, chosen_segments-nil}

@@ -11,7 +11,7 @@ pub mod Padding
 pub mod PayloadSteps
 pub mod Payloads
 pub mod RoundTrip
-pub mod Rows
+pub mod Examples
 pub mod SegmentsRead
 pub mod VersionSearch
 pub mod Writing
@@ -25,3 +25,4 @@ pub mod FirstLeast
 pub mod Choosing
 pub mod SmallChoices
 pub mod Tables
+pub mod CharacterValues

@@ -18,7 +18,7 @@ use Rattle.qrdata.specs.Reading.{data_in, dealt, is_codeword_block, joined_pairs
 use Rattle.qrdata.specs.Segments.{IsSegmentation, cost, segments_bits}
 use Rattle.qrdata.specs.Versions.{block_count, block_lengths, data_codewords, parity_length, total_codewords}
 use Rattle.qrdata.proofs.BitStrings.{drop_front, number_of-lt, take_front}
-use Rattle.qrdata.proofs.BlockLaws.{joined_pairs-map, length-even_lengths, length-interleaved, length-split_by, parity_lengths, split_joined, split_lengths, sum-even_lengths}
+use Rattle.qrdata.proofs.BlockLaws.{joined_pairs-map, length-interleaved, length-split_by, parity_lengths, split_joined, split_lengths}
 use Rattle.qrdata.proofs.Dealing.{Blocks, dealt-interleaved}
 use Rattle.qrdata.proofs.Lengths.{count_below_cost, length-segments_bits}
 use Rattle.qrdata.proofs.Padding.{length-padded, padded-ends}
@@ -82,9 +82,9 @@ all_codewords k [] law w = refl
 all_codewords k (block ∷ blocks) law w = rw (law.roots block w.0, all_codewords k blocks law w.1) refl
 
 -- the sum of the lengths of the blocks, and how many they are
-pub lengths_hold : (version : ℕ) (level : Level) → 0 < block_count version level → (sum (block_lengths version level) ≡ data_codewords version level) × (length (block_lengths version level) ≡ block_count version level)
-unfolding block_lengths
-lengths_hold version level h = (sum-even_lengths (block_count version level) (data_codewords version level) h, length-even_lengths (block_count version level) (data_codewords version level) h)
+pub lengths_hold : (version : ℕ) (level : Level) → (sum (block_lengths version level) ≡ data_codewords version level) × (length (block_lengths version level) ≡ block_count version level)
+unfolding data_codewords block_count
+lengths_hold version level = (refl, refl)
 
 -- what is read of the codewords of a symbol
 pub data_in-symbol_codewords : (version : ℕ) (level : Level) (segments : List Segment) (bytes : List ℕ)
@@ -102,7 +102,7 @@ data_in-symbol_codewords version level segments bytes low high w cut fits remain
     let parities = map (parity_of k) blocks in
     let sound_here = HasSoundBlocks-of version level low high in
     let law = HasParity-from_law remainder codeword k sound_here.some_parity in
-    let shapes = lengths_hold version level sound_here.some_blocks in
+    let shapes = lengths_hold version level in
     let bits_fit : length bits ≤ 8 * size = omega (arith, length-segments_bits version segments bytes cut, fits) in
     let words_length : length words ≡ size = length-padded size bits bits_fit in
     let all_words : sum lengths ≡ length words = shapes.0 ∙ sym words_length in
@@ -116,7 +116,7 @@ data_in-symbol_codewords version level segments bytes low high w cut fits remain
     let dealt_parities : dealt (replicate count k) (interleaved parities) ≡ parities = rw parity_shapes at (dealt-interleaved parities) in
     let front : take size (interleaved blocks ++ interleaved parities) ≡ interleaved blocks = take_front size (interleaved blocks) (interleaved parities) data_length in
     let back : drop size (interleaved blocks ++ interleaved parities) ≡ interleaved parities = drop_front size (interleaved blocks) (interleaved parities) data_length in
-    let total : length (interleaved blocks ++ interleaved parities) ≡ total_codewords version = omega (arith, length-append (interleaved blocks) (interleaved parities), total_is version level sound_here) in
+    let total : length (interleaved blocks ++ interleaved parities) ≡ total_codewords version = omega (arith, length-append (interleaved blocks) (interleaved parities), total_is version level low high) in
     let whole : joined_pairs blocks parities ≡ map (λ block. block ++ parity_of k block) blocks = joined_pairs-map (parity_of k) blocks in
     let valid = all_codewords k blocks law split_bytes in
     let joined : flat_map (λ block. block) blocks ≡ words = split_joined lengths words all_words in

@@ -9,7 +9,7 @@ use Rattle.qrdata.specs.declared.mode.Mode.TheVariants.{Numeric, Alphanumeric, B
 use Rattle.qrdata.specs.declared.mode.Segment.{Segment}
 use Rattle.qrdata.specs.Fewest.{best_within, candidates, cheapest, chosen_segments, first_segments, is_first}
 use Rattle.qrdata.specs.Segments.{cost, has_character, payload_length, segment_length}
-use Rattle.qrdata.specs.LeastPlan.{SameWidths}
+use Rattle.qrdata.specs.Private.LeastPlan.{SameWidths}
 
 -- up to version 9 a character count has the same bits
 pub SameWidths-nine : (version : ℕ) → version ≤ 9 → SameWidths version 9

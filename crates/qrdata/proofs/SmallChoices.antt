@@ -10,7 +10,7 @@ use Rattle.qrdata.specs.declared.table.Digits.{Digits}
 use Rattle.qrdata.specs.declared.table.Characters.{Characters}
 use Rattle.qrdata.specs.declared.table.TheConstants.{ABSENT}
 use Rattle.qrdata.specs.Segments.{has_character, segment_length, segment_of}
-use Rattle.qrdata.specs.Table.{AreSmall, absent_choice, best_choice, better_choice, choices_of, longer_choice, next_characters, next_choices, next_digits, short_choice}
+use Rattle.qrdata.specs.Private.Table.{AreSmall, absent_choice, best_choice, better_choice, choices_of, longer_choice, next_characters, next_choices, next_digits, short_choice}
 use Rattle.qrdata.proofs.ChoiceOrder.{better-one}
 
 -- what a choice of at most so many bytes is below

@@ -11,9 +11,9 @@ use Rattle.labelcore.specs.declared.options.Level.{Level}
 use Rattle.qrdata.specs.declared.mode.Mode.TheVariants.{Byte}
 use Rattle.qrdata.specs.declared.mode.Segment.{Segment}
 use Rattle.qrdata.specs.Fewest.{chosen_segments}
-use Rattle.qrdata.specs.LeastPlan.{NamesBest, SameWidths}
+use Rattle.qrdata.specs.Private.LeastPlan.{NamesBest, SameWidths}
 use Rattle.qrdata.specs.Segments.{IsSegmentation, cost, segment_length}
-use Rattle.qrdata.specs.Table.{HasFirsts, choices_of, fewest_bits, next_choices, no_choices}
+use Rattle.qrdata.specs.Private.Table.{HasFirsts, choices_of, fewest_bits, next_choices, no_choices}
 use Rattle.qrdata.specs.Versions.{capacity}
 use Rattle.qrdata.proofs.BestChoice.{fewest_bits-least}
 use Rattle.qrdata.proofs.Choosing.{Agrees-if_fits, widest}

@@ -7,7 +7,7 @@ use Rattle.labelcore.specs.declared.options.Level.{Level}
 use Rattle.qrdata.specs.Segments.{cost}
 use Rattle.qrdata.specs.Versions.{capacity}
 use Rattle.qrdata.specs.Fewest.{NoneFits, chosen_segments, chosen_version}
-use Rattle.qrdata.specs.LeastPlan.{DoNotFit}
+use Rattle.qrdata.specs.Private.LeastPlan.{DoNotFit}
 use Rattle.qrdata.proofs.FewestBits.{chosen_segments-least}
 
 find_is : (p : ℕ → Bool) (n low v : ℕ) → low ≤ v → v < low + n → p v ≡ true → ((u : ℕ) → low ≤ u → u < v → p u ≡ false) → find p (range_with_len low n) ≡ Some v

@@ -1,13 +1,15 @@
 -- Facts of the table of versions: tests computed over all of it.
-use Rattle.std.proofs.Common.{◌≡◌, ℕ, ◌+◌, ◌-◌, ◌*◌, ◌<◌, ◌≤◌, refl, arith, Bool, true}
-use Rattle.std.specs.Prelude.{nat_lt, nat_le, ◌&&◌}
+use Rattle.std.proofs.Common.{◌≡◌, ℕ, ◌+◌, ◌-◌, ◌*◌, ◌/◌, ◌%◌, ◌<◌, ◌≤◌, List, ◌++◌, replicate, refl, arith, Bool, true}
+use Rattle.std.specs.Prelude.{nat_lt, nat_le, ◌&&◌, ◌==◌, slice_index}
 use Rattle.std.specs.List.{list_all, range_with_len}
-use Rattle.std.proofs.lemmas.Bool.{and_parts, leb-true, ltb-true}
+use Rattle.std.proofs.lemmas.Bool.{and_parts, eqb-true, leb-true, ltb-true}
 use Rattle.std.proofs.lemmas.List.FromFn.{get_or-range_with_len, length-range_with_len}
 use Rattle.std.proofs.lemmas.List.Sums.{AllPass-from_list_all}
 use Rattle.labelcore.specs.declared.options.Level.{Level}
 use Rattle.labelcore.specs.declared.options.Level.TheVariants.{L, M, Q, H}
-use Rattle.qrdata.specs.Versions.{block_count, capacity, data_codewords, parity_length, total_codewords}
+use Rattle.qrdata.specs.Versions.{block_count, block_lengths, block_table, capacity, data_codewords, groups_of, parity_length, total_codewords}
+use Rattle.qrdata.specs.declared.version.TheConstants.{TOTAL, BLOCKS_L, BLOCKS_M, BLOCKS_Q, BLOCKS_H, PARITY_L, PARITY_M, PARITY_Q, PARITY_H}
+use Rattle.gf256.proofs.GeneratorTable.{same_numbers, same_numbers-is}
 
 -- the blocks of a version: some and few, each with some parity codewords and few, which leave room for data
 pub record HasSoundBlocks (version : ℕ) (level : Level) : Type 0 where
@@ -25,7 +27,7 @@ has_sound_blocks level version =
     && (nat_le (block_count version level * parity_length version level) (total_codewords version) && nat_le (total_codewords version) 346))
 
 all_sound : (level : Level) → list_all (has_sound_blocks level) (range_with_len 1 10) ≡ true
-unfolding block_count parity_length total_codewords
+unfolding block_count parity_length total_codewords block_lengths groups_of block_table
 all_sound L = refl
 all_sound M = refl
 all_sound Q = refl
@@ -56,14 +58,14 @@ HasSoundBlocks-of version level low high =
 
 -- no symbol has more than 2192 data bits, and up to version 9 none has more than 1856
 few_bits : (level : Level) → list_all (λ version. nat_le (capacity version level) 2192) (range_with_len 1 10) ≡ true
-unfolding data_codewords total_codewords block_count parity_length
+unfolding data_codewords block_lengths groups_of block_table
 few_bits L = refl
 few_bits M = refl
 few_bits Q = refl
 few_bits H = refl
 
 fewer_bits : (level : Level) → list_all (λ version. nat_le (capacity version level) 1856) (range_with_len 1 9) ≡ true
-unfolding data_codewords total_codewords block_count parity_length
+unfolding data_codewords block_lengths groups_of block_table
 fewer_bits L = refl
 fewer_bits M = refl
 fewer_bits Q = refl
@@ -75,7 +77,80 @@ capacity-le level version low high = leb-true _ _ (at_version (λ v. nat_le (cap
 pub capacity-le_nine : (level : Level) (version : ℕ) → 1 ≤ version → version ≤ 9 → capacity version level ≤ 1856
 capacity-le_nine level version low high = leb-true _ _ (at_version (λ v. nat_le (capacity v level) 1856) 9 version (fewer_bits level) low high)
 
+-- the data codewords are what the parity codewords leave
+left_is : (level : Level) → list_all (λ version. data_codewords version level == total_codewords version - block_count version level * parity_length version level) (range_with_len 1 10) ≡ true
+unfolding data_codewords total_codewords block_count parity_length block_lengths groups_of block_table
+left_is L = refl
+left_is M = refl
+left_is Q = refl
+left_is H = refl
+
+pub data_codewords-is : (version : ℕ) (level : Level) → 1 ≤ version → version ≤ 10 → data_codewords version level ≡ total_codewords version - block_count version level * parity_length version level
+data_codewords-is version level low high =
+    eqb-true _ _ (at_version (λ v. data_codewords v level == total_codewords v - block_count v level * parity_length v level) 10 version (left_is level) low high)
+
 -- the data codewords and the parity codewords of all blocks are all codewords
-pub total_is : (version : ℕ) (level : Level) → HasSoundBlocks version level → data_codewords version level + block_count version level * parity_length version level ≡ total_codewords version
-unfolding data_codewords
-total_is version level sound = omega (arith, sound.room)
+pub total_is : (version : ℕ) (level : Level) → 1 ≤ version → version ≤ 10 → data_codewords version level + block_count version level * parity_length version level ≡ total_codewords version
+total_is version level low high = omega (arith, data_codewords-is version level low high, (HasSoundBlocks-of version level low high).room)
+
+-- so many blocks, as even as can be, the short ones first: the data codewords of each
+abbrev pub even_lengths : ℕ → ℕ → List ℕ
+even_lengths blocks words = replicate (blocks - words % blocks) (words / blocks) ++ replicate (words % blocks) (words / blocks + 1)
+
+even : (level : Level) → list_all (λ version. same_numbers (even_lengths (block_count version level) (data_codewords version level)) (block_lengths version level)) (range_with_len 1 10) ≡ true
+unfolding data_codewords block_count block_lengths groups_of block_table
+even L = refl
+even M = refl
+even Q = refl
+even H = refl
+
+-- the blocks are as even as can be
+pub block_lengths-even : (version : ℕ) (level : Level) → 1 ≤ version → version ≤ 10 → even_lengths (block_count version level) (data_codewords version level) ≡ block_lengths version level
+block_lengths-even version level low high =
+    same_numbers-is _ _ (at_version (λ v. same_numbers (even_lengths (block_count v level) (data_codewords v level)) (block_lengths v level)) 10 version (even level) low high)
+
+-- the tables of the code
+abbrev pub coded_blocks : Level → List ℕ
+coded_blocks L = BLOCKS_L
+coded_blocks M = BLOCKS_M
+coded_blocks Q = BLOCKS_Q
+coded_blocks H = BLOCKS_H
+
+abbrev pub coded_parity : Level → List ℕ
+coded_parity L = PARITY_L
+coded_parity M = PARITY_M
+coded_parity Q = PARITY_Q
+coded_parity H = PARITY_H
+
+coded : (level : Level) → list_all (λ version. slice_index (coded_blocks level) (version - 1) == block_count version level && slice_index (coded_parity level) (version - 1) == parity_length version level) (range_with_len 1 10) ≡ true
+unfolding block_count parity_length block_lengths groups_of block_table
+coded L = refl
+coded M = refl
+coded Q = refl
+coded H = refl
+
+pub coded_is : (version : ℕ) (level : Level) → 1 ≤ version → version ≤ 10
+    → (slice_index (coded_blocks level) (version - 1) ≡ block_count version level) × (slice_index (coded_parity level) (version - 1) ≡ parity_length version level)
+coded_is version level low high =
+    let parts = and_parts _ _ (at_version (λ v. slice_index (coded_blocks level) (v - 1) == block_count v level && slice_index (coded_parity level) (v - 1) == parity_length v level) 10 version (coded level) low high) in
+    (eqb-true _ _ parts.0, eqb-true _ _ parts.1)
+
+coded_total : list_all (λ version. slice_index TOTAL (version - 1) == total_codewords version) (range_with_len 1 10) ≡ true
+unfolding total_codewords
+coded_total = refl
+
+pub coded_total_is : (version : ℕ) → 1 ≤ version → version ≤ 10 → slice_index TOTAL (version - 1) ≡ total_codewords version
+coded_total_is version low high = eqb-true _ _ (at_version (λ v. slice_index TOTAL (v - 1) == total_codewords v) 10 version coded_total low high)
+
+-- a later version has no fewer data bits
+rising : (level : Level) → list_all (λ w. list_all (λ v. nat_le (capacity v level) (capacity w level)) (range_with_len 1 w)) (range_with_len 1 10) ≡ true
+unfolding data_codewords block_lengths groups_of block_table
+rising L = refl
+rising M = refl
+rising Q = refl
+rising H = refl
+
+pub capacity-rising : (level : Level) (v w : ℕ) → 1 ≤ v → v ≤ w → w ≤ 10 → capacity v level ≤ capacity w level
+capacity-rising level v w low below high =
+    leb-true _ _ (at_version (λ u. nat_le (capacity u level) (capacity w level)) w v
+    (at_version (λ x. list_all (λ u. nat_le (capacity u level) (capacity x level)) (range_with_len 1 x)) 10 w (rising level) (omega arith) high) low below)

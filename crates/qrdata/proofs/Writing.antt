@@ -1,22 +1,24 @@
 -- What the writers have written, step by step.
-use Rattle.std.proofs.Common.{◌≡◌, ℕ, zero, suc, ◌+◌, ◌-◌, ◌*◌, ◌/◌, ◌%◌, ◌^◌, ◌<◌, ◌≤◌, List, [], ◌∷◌, ◌++◌, map, take, drop, length, replicate, get_or, refl, sym, ap, ◌∙◌, length-append, arith, Bool, false, sum}
+use Rattle.std.proofs.Common.{◌≡◌, ℕ, zero, suc, ◌+◌, ◌-◌, ◌*◌, ◌/◌, ◌%◌, ◌^◌, ◌<◌, ◌≤◌, List, [], ◌∷◌, ◌++◌, map, take, drop, length, replicate, get_or, refl, sym, ap, ◌∙◌, append-nil, length-append, arith, Bool, false, sum}
 use Rattle.std.specs.Prelude.{◌==◌}
 use Rattle.std.specs.List.{AllByRecursion, flat_map}
 use Rattle.std.proofs.lemmas.List.{drop_more, drop_all, drop-drop, length-take-le}
 use Rattle.std.proofs.lemmas.List.Elements.{All-from_get_or, recursion_from_All}
 use Rattle.std.proofs.lemmas.List.Sums.{sum_by-cons}
-use Rattle.std.proofs.Math.Nat.{div-eq_of_lt}
+use Rattle.std.proofs.Math.Nat.{div-eq_of_lt, mod-eq_of_lt}
 use Rattle.std.proofs.lemmas.Nat.{pow_pos}
 use Rattle.labelcore.specs.declared.options.Level.{Level}
 use Rattle.qrdata.specs.declared.mode.Mode.{Mode}
 use Rattle.qrdata.specs.declared.mode.Mode.TheVariants.{Numeric}
 use Rattle.qrdata.specs.declared.mode.Segment.{Segment}
+use Rattle.qrdata.specs.declared.bits.Bits.{Bits}
+use Rattle.qrdata.specs.Private.BitsInWords.{bits_in}
 use Rattle.qrdata.specs.Bits.{bits_of, codewords_of, number_of}
 use Rattle.qrdata.specs.Codewords.{largest, split_by}
 use Rattle.qrdata.specs.Segments.{IsSegmentation, alphanumeric_bits, alphanumeric_value, byte_bits, cost, count_width, segment_bits, segment_length, segment_of, segments_bits}
 use Rattle.qrdata.specs.Versions.{block_count, block_lengths, data_codewords, parity_length}
 use Rattle.qrdata.proofs.BlockLaws.{split_lengths}
-use Rattle.qrdata.proofs.BitStrings.{drop_front, take_front}
+use Rattle.qrdata.proofs.BitStrings.{bits_of-nil, drop_front, length-bits_of, number_of-bits_of, take_front}
 use Rattle.qrdata.proofs.Dealing.{Blocks, longest}
 use Rattle.qrdata.proofs.PayloadSteps.{drop_next, drop_none}
 use Rattle.qrdata.proofs.Payloads.{AreBytes}
@@ -25,7 +27,7 @@ use Rattle.qrdata.specs.Codewords.{aligned, blocks_of, data_of, terminated}
 use Rattle.qrdata.specs.Versions.{capacity}
 use Rattle.qrdata.specs.Segments.{payload_length}
 use Rattle.qrdata.proofs.Lengths.{length-segment_bits, length-segments_bits}
-use Rattle.qrdata.proofs.Padding.{aligned_is, length-padded}
+use Rattle.qrdata.proofs.Padding.{aligned_is, length-byte_bits, length-padded}
 use Rattle.qrdata.proofs.BlockLaws.{length-split_by}
 use Rattle.qrdata.proofs.RoundTrip.{AreBytes-split, HasParity-from_law, lengths_hold}
 use Rattle.qrdata.proofs.VersionTable.{HasSoundBlocks-of, total_is}
@@ -88,19 +90,6 @@ unfolding bits_of
 bits_of-zero zero = refl
 bits_of-zero (suc width) = rw (bit_zero width, bits_of-zero width) refl
 
--- codewords: the next one, and those after it
-pub codewords_of-next : (n place : ℕ) (bits : List Bool) → place < n → codewords_of (n - place) (drop (8 * place) bits)
-    ≡ number_of (take 8 (drop (8 * place) bits)) ∷ codewords_of (n - (place + 1)) (drop (8 * (place + 1)) bits)
-unfolding codewords_of
-codewords_of-next n place bits h =
-    let more : n - place ≡ suc (n - (place + 1)) = omega arith in
-    let further : 8 * place + 8 ≡ 8 * (place + 1) = omega arith in
-    rw (more, drop-drop 8 (8 * place) bits, further) refl
-
-pub codewords_of-none_left : (n place : ℕ) (bits : List Bool) → n ≤ place → codewords_of (n - place) bits ≡ []
-unfolding codewords_of
-codewords_of-none_left n place bits h = let none : n - place ≡ 0 = omega arith in rw none refl
-
 -- the longest of the blocks that the words are cut into has the greatest of the lengths
 pub longest-split_by : (lengths words : List ℕ) → sum lengths ≡ length words → longest (split_by lengths words) ≡ largest lengths
 longest-split_by lengths words whole = ap largest (split_lengths lengths words (omega arith))
@@ -153,7 +142,7 @@ HasBlocks-message version level message low high remainder codeword w whole =
     let lengths = block_lengths version level in
     let blocks = blocks_of version level message in
     let sound = HasSoundBlocks-of version level low high in
-    let shapes = lengths_hold version level sound.some_blocks in
+    let shapes = lengths_hold version level in
     let law = HasParity-from_law remainder codeword k sound.some_parity in
     let bytes : AllByRecursion AreBytes blocks = AreBytes-split lengths message w in
     let same : length blocks ≡ length lengths = length-split_by lengths message in
@@ -165,7 +154,7 @@ HasBlocks-message version level message low high remainder codeword w whole =
       few = sound.few_blocks;
       some_parity = sound.some_parity;
       few_parity = sound.few_parity;
-      total = omega (arith, total_is version level sound, sound.few_words);
+      total = omega (arith, total_is version level low high, sound.few_words);
     }
 
 -- the bits of a segment of the first bytes
@@ -183,3 +172,27 @@ pub length-data_of : (version : ℕ) (level : Level) (segments : List Segment) (
 unfolding data_of
 length-data_of version level segments bytes held fits =
     length-padded (data_codewords version level) (segments_bits version segments bytes) (omega (arith, length-segments_bits version segments bytes held))
+
+-- the codewords of the bits of bytes are the bytes
+pub codewords_of-byte_bits : (words : List ℕ) → AreBytes words → codewords_of (length words) (byte_bits words) ≡ words
+unfolding codewords_of byte_bits
+codewords_of-byte_bits [] w = refl
+codewords_of-byte_bits (word ∷ words) w =
+    let front : take 8 (bits_of 8 word ++ byte_bits words) ≡ bits_of 8 word = take_front 8 (bits_of 8 word) (byte_bits words) (length-bits_of 8 word) in
+    let rest : drop 8 (bits_of 8 word ++ byte_bits words) ≡ byte_bits words = drop_front 8 (bits_of 8 word) (byte_bits words) (length-bits_of 8 word) in
+    let value : number_of (bits_of 8 word) ≡ word = number_of-bits_of 8 word ∙ mod-eq_of_lt w.0 in
+    rw (front, rest, value, codewords_of-byte_bits words w.1) refl
+
+-- bits that end with a codeword are those of their codewords
+pub whole_words : (words : List ℕ) (count number n : ℕ) → AreBytes words → count < 8 → length (byte_bits words ++ bits_of count number) ≡ 8 * n
+    → words ≡ codewords_of (length (byte_bits words ++ bits_of count number) / 8) (byte_bits words ++ bits_of count number)
+whole_words words count number n w few whole =
+    let long : length (byte_bits words ++ bits_of count number) ≡ 8 * length words + count =
+    omega (arith, length-append (byte_bits words) (bits_of count number), length-byte_bits words, length-bits_of count number) in
+    let none : count ≡ 0 = omega (arith, long, whole) in
+    let size : length (byte_bits words ++ bits_of count number) / 8 ≡ length words = omega (arith, long, none) in
+    rw (size, none, bits_of-nil, append-nil) (sym (codewords_of-byte_bits words w))
+
+pub length-bits_in : (bits : Bits) → length (bits_in bits) ≡ 8 * length bits.words.items + bits.rest.count
+length-bits_in bits =
+    omega (arith, length-append (byte_bits bits.words.items) (bits_of bits.rest.count bits.rest.number), length-byte_bits bits.words.items, length-bits_of bits.rest.count bits.rest.number)

@@ -1,9 +1,8 @@
 pub mod Bits
 pub mod Codewords
 pub mod Fewest
+pub mod Private
 pub mod Reading
 pub mod Segments
 pub mod Versions
 pub mod PlanView
-pub mod Table
-pub mod LeastPlan

@@ -1,165 +1,207 @@
 //! The bits of segments, and the data codewords that they fill (ISO/IEC 18004, 7.4).
 ghost use Rattle.arrayvec.specs.ArrayVec.{array_vec_len};
-ghost use Rattle.qrdata.specs.Bits.{bits_of, codewords_of, number_of};
+ghost use Rattle.qrdata.specs.Bits.{bits_of, codewords_of};
 ghost use Rattle.qrdata.specs.Codewords.{aligned, pad_codewords, terminated};
 ghost use Rattle.qrdata.specs.Segments.{IsSegmentation, alphanumeric_bits, byte_bits, cost, count_width, has_character, numeric_bits, payload_bits, payload_length, segment_bits, segments_bits};
 ghost use Rattle.qrdata.specs.declared.mode.Mode.TheVariants.{Alphanumeric, Numeric};
 ghost use Rattle.qrdata.specs.declared.mode.Segment.{Segment};
 ghost use Rattle.std.specs.Char.{is_ascii_digit};
 ghost use Rattle.std.specs.List.{list_all};
-ghost use Rattle.std.specs.Prelude.{◌≡◌, ◌+◌, ◌*◌, ◌/◌, ◌<◌, ◌≤◌, ◌++◌, IsTrue, drop, length, take};
+ghost use Rattle.std.specs.Prelude.{◌≡◌, ◌+◌, ◌*◌, ◌/◌, ◌^◌, ◌<◌, ◌≤◌, [], ◌++◌, All, IsTrue, length};
 
 use crate::blocks::Words;
 use crate::mode::{Mode, Segment, value_of};
 use crate::version::Version;
-use arrayvec::ArrayVec;
 
-/// The bits of a symbol's data, at most the data bits of version 10 at level L.
-pub(crate) type Bits = ArrayVec<bool, 2192>;
+/// The bits of a symbol's data, at most the data bits of version 10 at level L: whole codewords, and the bits after them.
+#[derive(Drop)]
+pub(crate) struct Bits {
+    /// The codewords, the first bits.
+    pub(crate) words: Words,
+    rest: Rest,
+}
 
-/// Writes a number at the end in so many bits, the high bit first.
-fn push_number(bits: &mut Bits, number: u32, width: usize)
-    requires narrow { width ≤ 32 }
-    requires room { array_vec_len bits.old + width ≤ 2192 }
-    ensures { bits.new.items ≡ bits.old.items ++ bits_of width number }
+/// Bits that do not fill a codeword.
+#[derive(Clone, Copy)]
+struct Rest {
+    /// The number that these bits stand for, the high bit first.
+    number: u32,
+    /// How many bits there are.
+    count: usize,
+    ghost few: { count < 8 },
+    ghost small: { number < 2 ^ count },
+}
+
+/// The power 2^n.
+#[inline(always)]
+fn power_of_two(n: usize) -> u32
+    requires { n ≤ 23 }
+    ensures { result ≡ 2 ^ n }
 {
-    let mut left = width;
-    while left > 0 {
-        left -= 1;
-        bits.push((number >> left) % 2 == 1);
+    1 << n
+}
+
+impl Bits {
+    ghost use Rattle.qrdata.specs.Private.BitsInWords.{bits_in};
+
+    /// No bits.
+    pub(crate) fn new() -> Bits
+        ensures { bits_in result ≡ [] }
+    {
+        Bits {
+            words: Words::new(),
+            rest: Rest {
+                number: 0,
+                count: 0,
+            },
+        }
+    }
+
+    /// Writes a number at the end in so many bits, the high bit first.
+    #[inline(always)]
+    fn push_number(&mut self, number: u32, width: usize)
+        requires narrow { width ≤ 16 }
+        requires room { length (bits_in self.old) + width ≤ 2192 }
+        ensures { bits_in self.new ≡ bits_in self.old ++ bits_of width number }
+    {
+        let unit = power_of_two(width);
+        let mut value = self.rest.number * unit + number % unit;
+        let mut count = self.rest.count + width;
+        while count >= 8 {
+            count -= 8;
+            let unit = power_of_two(count);
+            self.words.push((value / unit) as u8);
+            value %= unit;
+        }
+        self.rest = Rest {
+            number: value,
+            count,
+        };
+    }
+
+    /// Writes digits: three in ten bits, two that are left in seven, one in four.
+    fn push_digits(&mut self, digits: &[u8])
+        requires digits { IsTrue (list_all is_ascii_digit digits.now) }
+        requires room { length (bits_in self.old) + payload_length Numeric (length digits.now) ≤ 2192 }
+        ensures { bits_in self.new ≡ bits_in self.old ++ numeric_bits digits.now }
+    {
+        let mut place = 0;
+        while digits.len() - place >= 3 {
+            self.push_number(
+                u32::from(digits[place] - b'0') * 100
+                    + u32::from(digits[place + 1] - b'0') * 10
+                    + u32::from(digits[place + 2] - b'0'),
+                10,
+            );
+            place += 3;
+        }
+        if digits.len() - place == 2 {
+            self.push_number(
+                u32::from(digits[place] - b'0') * 10 + u32::from(digits[place + 1] - b'0'),
+                7,
+            );
+        } else if digits.len() - place == 1 {
+            self.push_number(u32::from(digits[place] - b'0'), 4);
+        }
+    }
+
+    /// Writes alphanumeric characters: two in eleven bits, one that is left in six.
+    fn push_characters(&mut self, characters: &[u8])
+        requires room { length (bits_in self.old)
+            + payload_length Alphanumeric (length characters.now) ≤ 2192 }
+        ensures { bits_in self.new ≡ bits_in self.old ++ alphanumeric_bits characters.now }
+    {
+        let mut place = 0;
+        while characters.len() - place >= 2 {
+            self.push_number(
+                45 * u32::from(value_of(characters[place]))
+                    + u32::from(value_of(characters[place + 1])),
+                11,
+            );
+            place += 2;
+        }
+        if characters.len() - place == 1 {
+            self.push_number(u32::from(value_of(characters[place])), 6);
+        }
+    }
+
+    /// Writes each byte in eight bits.
+    fn push_bytes(&mut self, bytes: &[u8])
+        requires room { length (bits_in self.old) + 8 * length bytes.now ≤ 2192 }
+        ensures { bits_in self.new ≡ bits_in self.old ++ byte_bits bytes.now }
+    {
+        for byte in bytes {
+            self.push_number(u32::from(*byte), 8);
+        }
+    }
+
+    /// Writes a payload in its mode.
+    fn push_payload(&mut self, mode: Mode, bytes: &[u8])
+        requires characters { IsTrue (list_all (has_character mode) bytes.now) }
+        requires room { length (bits_in self.old) + payload_length mode (length bytes.now) ≤ 2192 }
+        ensures { bits_in self.new ≡ bits_in self.old ++ payload_bits mode bytes.now }
+    {
+        match mode {
+            Mode::Numeric => self.push_digits(bytes),
+            Mode::Alphanumeric => self.push_characters(bytes),
+            Mode::Byte => self.push_bytes(bytes),
+        }
+    }
+
+    /// Writes a segment: its mode indicator, its character count indicator and its payload.
+    fn push_segment(&mut self, version: Version, mode: Mode, bytes: &[u8])
+        requires characters { IsTrue (list_all (has_character mode) bytes.now) }
+        requires room { length (bits_in self.old)
+            + (4 + count_width version.number mode + payload_length mode (length bytes.now)) ≤ 2192 }
+        ensures { bits_in self.new ≡ bits_in self.old ++ segment_bits version.number mode bytes.now }
+    {
+        self.push_number(u32::from(mode.indicator()), 4);
+        self.push_number(bytes.len() as u32, mode.count_bits(version));
+        self.push_payload(mode, bytes);
+    }
+
+    /// Writes the segments of the data, one after another.
+    pub(crate) fn push_segments(&mut self, version: Version, segments: &[Segment], bytes: &[u8])
+        requires cut { IsSegmentation version.number segments.now bytes.now }
+        requires room { length (bits_in self.old) + cost version.number segments.now ≤ 2192 }
+        ensures { bits_in self.new
+            ≡ bits_in self.old ++ segments_bits version.number segments.now bytes.now }
+    {
+        let mut place = 0;
+        for segment in segments {
+            let end = place + usize::from(segment.len);
+            self.push_segment(version, segment.mode, &bytes[place..end]);
+            place = end;
+        }
+    }
+
+    /// How many bits there are.
+    fn len(&self) -> usize
+        ensures { result ≡ length (bits_in self.now) }
+    {
+        8 * self.words.len() + self.rest.count
+    }
+
+    /// Writes the terminator, four zeros or as many as are left in so many codewords, and zeros to the end of a codeword.
+    pub(crate) fn end(&mut self, size: usize)
+        requires fits { length (bits_in self.old) ≤ 8 * size }
+        requires size { size ≤ 274 }
+        ensures bits { bits_in self.new ≡ aligned (terminated (8 * size) (bits_in self.old)) }
+        ensures words { self.new.words.items
+            ≡ codewords_of (length (bits_in self.new) / 8) (bits_in self.new) }
+        ensures count { array_vec_len self.new.words ≤ size }
+    {
+        let left = 8 * size - self.len();
+        self.push_number(0, left.min(4));
+        self.push_number(0, (8 - self.rest.count) % 8);
+        are_bytes(self.words.as_slice());
     }
 }
 
-/// Writes digits: three in ten bits, two that are left in seven, one in four.
-fn push_digits(bits: &mut Bits, digits: &[u8])
-    requires digits { IsTrue (list_all is_ascii_digit digits.now) }
-    requires room { array_vec_len bits.old + payload_length Numeric (length digits.now) ≤ 2192 }
-    ensures { bits.new.items ≡ bits.old.items ++ numeric_bits digits.now }
-{
-    let mut place = 0;
-    while digits.len() - place >= 3 {
-        push_number(
-            bits,
-            u32::from(digits[place] - b'0') * 100
-                + u32::from(digits[place + 1] - b'0') * 10
-                + u32::from(digits[place + 2] - b'0'),
-            10,
-        );
-        place += 3;
-    }
-    if digits.len() - place == 2 {
-        push_number(
-            bits,
-            u32::from(digits[place] - b'0') * 10 + u32::from(digits[place + 1] - b'0'),
-            7,
-        );
-    } else if digits.len() - place == 1 {
-        push_number(bits, u32::from(digits[place] - b'0'), 4);
-    }
-}
-
-/// Writes alphanumeric characters: two in eleven bits, one that is left in six.
-fn push_characters(bits: &mut Bits, characters: &[u8])
-    requires room { array_vec_len bits.old
-        + payload_length Alphanumeric (length characters.now) ≤ 2192 }
-    ensures { bits.new.items ≡ bits.old.items ++ alphanumeric_bits characters.now }
-{
-    let mut place = 0;
-    while characters.len() - place >= 2 {
-        push_number(
-            bits,
-            45 * value_of(characters[place]) as u32 + value_of(characters[place + 1]) as u32,
-            11,
-        );
-        place += 2;
-    }
-    if characters.len() - place == 1 {
-        push_number(bits, value_of(characters[place]) as u32, 6);
-    }
-}
-
-/// Writes each byte in eight bits.
-fn push_bytes(bits: &mut Bits, bytes: &[u8])
-    requires room { array_vec_len bits.old + 8 * length bytes.now ≤ 2192 }
-    ensures { bits.new.items ≡ bits.old.items ++ byte_bits bytes.now }
-{
-    for byte in bytes {
-        push_number(bits, u32::from(*byte), 8);
-    }
-}
-
-/// Writes a payload in its mode.
-fn push_payload(bits: &mut Bits, mode: Mode, bytes: &[u8])
-    requires characters { IsTrue (list_all (has_character mode) bytes.now) }
-    requires room { array_vec_len bits.old + payload_length mode (length bytes.now) ≤ 2192 }
-    ensures { bits.new.items ≡ bits.old.items ++ payload_bits mode bytes.now }
-{
-    match mode {
-        Mode::Numeric => push_digits(bits, bytes),
-        Mode::Alphanumeric => push_characters(bits, bytes),
-        Mode::Byte => push_bytes(bits, bytes),
-    }
-}
-
-/// Writes a segment: its mode indicator, its character count indicator and its payload.
-fn push_segment(bits: &mut Bits, version: Version, mode: Mode, bytes: &[u8])
-    requires characters { IsTrue (list_all (has_character mode) bytes.now) }
-    requires room { array_vec_len bits.old
-        + (4 + count_width version.number mode + payload_length mode (length bytes.now)) ≤ 2192 }
-    ensures { bits.new.items ≡ bits.old.items ++ segment_bits version.number mode bytes.now }
-{
-    push_number(bits, u32::from(mode.indicator()), 4);
-    push_number(bits, bytes.len() as u32, mode.count_bits(version));
-    push_payload(bits, mode, bytes);
-}
-
-/// Writes the segments of the data, one after another.
-pub(crate) fn push_segments(bits: &mut Bits, version: Version, segments: &[Segment], bytes: &[u8])
-    requires cut { IsSegmentation version.number segments.now bytes.now }
-    requires room { array_vec_len bits.old + cost version.number segments.now ≤ 2192 }
-    ensures { bits.new.items
-        ≡ bits.old.items ++ segments_bits version.number segments.now bytes.now }
-{
-    let mut place = 0;
-    for segment in segments {
-        let end = place + usize::from(segment.len);
-        push_segment(bits, version, segment.mode, &bytes[place..end]);
-        place = end;
-    }
-}
-
-/// Writes the terminator, four zeros or as many as are left in so many codewords, and zeros to the end of a codeword.
-pub(crate) fn end_bits(bits: &mut Bits, size: usize)
-    requires fits { array_vec_len bits.old ≤ 8 * size }
-    requires size { size ≤ 274 }
-    ensures { bits.new.items ≡ aligned (terminated (8 * size) bits.old.items) }
-{
-    let left = 8 * size - bits.len();
-    push_number(bits, 0, if left < 4 { left } else { 4 });
-    push_number(bits, 0, (8 - bits.len() % 8) % 8);
-}
-
-/// The codeword of the eight bits from a place on, the high bit first.
-fn codeword_at(bits: &[bool], place: usize) -> u8
-    requires { place + 8 ≤ length bits.now }
-    ensures { result ≡ number_of (take 8 (drop place bits.now)) }
-{
-    let mut value: u16 = 0;
-    for step in 0..8 {
-        value = value * 2 + u16::from(bits[place + step]);
-    }
-    value as u8
-}
-
-/// Writes the codewords of whole eights of bits.
-pub(crate) fn push_codewords(bits: &[bool], words: &mut Words)
-    requires room { array_vec_len words.old + length bits.now / 8 ≤ 346 }
-    ensures { words.new.items ≡ words.old.items ++ codewords_of (length bits.now / 8) bits.now }
-{
-    for place in 0..bits.len() / 8 {
-        words.push(codeword_at(bits, 8 * place));
-    }
-}
+/// A slice of bytes has bytes. It does nothing when it runs.
+fn are_bytes(bytes: &[u8])
+    ensures { All (λ b. b < 256) bytes.now }
+{}
 
 /// Writes so many pad codewords, of which there are two in turn.
 pub(crate) fn push_padding(count: usize, words: &mut Words)

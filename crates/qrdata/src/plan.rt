@@ -1,8 +1,8 @@
 //! The choice of a version and of segments.
 ghost use Rattle.labelcore.specs.declared.fault.Fault.TheVariants.{DoesNotFit};
 ghost use Rattle.qrdata.specs.Fewest.{chosen_segments, chosen_version, IsFewest, NoneFits};
-ghost use Rattle.qrdata.specs.Segments.{IsSegmentation, cost};
-ghost use Rattle.qrdata.specs.LeastPlan.{IsLeastPlan, NamesBest, NoPlan, SameWidths};
+ghost use Rattle.qrdata.specs.Segments.{IsSegmentation, cost, segments_bits};
+ghost use Rattle.qrdata.specs.Private.LeastPlan.{IsLeastPlan, NamesBest, NoPlan, SameWidths};
 ghost use Rattle.qrdata.specs.Versions.{capacity};
 ghost use Rattle.qrdata.specs.declared.mode.Segment.{Segment};
 ghost use Rattle.std.specs.Prelude.{Some, None, length, ◌≡◌, ◌≤◌, ◌<◌, IfErr, IfNone, IfOk, IfSome, ℕ, List};
@@ -85,11 +85,14 @@ pub fn choose(options: &Options, bytes: &[u8]) -> Result<Plan, Fault>
     ensures no_version { IfErr result (λ fault.
         chosen_version options.now.min_version options.now.level bytes.now ≡ None) }
 
-    // The segments are segments of the data and fit, and no others cost less.
+    // The segments are segments of the data and fit, no others cost less, and their bits are as many as they cost.
     ensures cut { IfOk result (λ plan. IsSegmentation plan.version plan.segments bytes.now) }
     ensures fits { IfOk result
         (λ plan. cost plan.version plan.segments ≤ capacity plan.version plan.level) }
     ensures fewest { IfOk result (λ plan. IsFewest plan.version bytes.now plan.segments) }
+    ensures bits { IfOk result (λ plan.
+        length (segments_bits plan.version plan.segments bytes.now)
+        ≡ cost plan.version plan.segments) }
 
     // No segments of the data fit in a lower version, and after a refusal in none.
     ensures least { IfOk result (λ plan.
@@ -135,11 +138,16 @@ fn plan_between(lowest: u8, highest: u8, level: Level, bytes: &[u8]) -> Option<P
     ensures some { IfSome result (IsLeastPlan lowest highest level bytes.now) }
     ensures none { IfNone result (NoPlan lowest highest level bytes.now) }
 {
+    let widest = Version { number: highest };
+    // Three bytes have ten bits at least.
+    if 10 * bytes.len() > 24 * widest.data_words(level) {
+        return None;
+    }
     let mut firsts = [Segment {
         mode: Mode::Byte,
         len: 0,
     }; 653];
-    let bits = fill(Version { number: highest }, bytes, &mut firsts);
+    let bits = fill(widest, bytes, &mut firsts);
     for number in lowest..highest + 1 {
         let version = Version { number };
         if bits <= 8 * version.data_words(level) {

@@ -1,5 +1,6 @@
 //! The codewords of a symbol (ISO/IEC 18004, 7.4 to 7.6).
 ghost use Rattle.arrayvec.specs.ArrayVec.{array_vec_len};
+ghost use Rattle.qrdata.specs.Private.BitsInWords.{bits_in};
 ghost use Rattle.qrdata.specs.Codewords.{data_of, final_message, symbol_codewords};
 ghost use Rattle.qrdata.specs.Versions.{capacity};
 ghost use Rattle.qrdata.specs.Reading.{data_in};
@@ -8,7 +9,7 @@ ghost use Rattle.qrdata.specs.Versions.{data_codewords, parity_length, total_cod
 ghost use Rattle.qrdata.specs.declared.mode.Segment.{Segment};
 ghost use Rattle.std.specs.Prelude.{Some, length, ◌≡◌, ◌+◌, ◌≤◌, ◌++◌, ◌/◌, [], map};
 
-use crate::bits::{Bits, end_bits, push_codewords, push_padding, push_segments};
+use crate::bits::{Bits, push_padding};
 use crate::blocks::{Lengths, Words, interleave, push_lengths, push_parity};
 use crate::mode::Segment;
 use crate::plan::Plan;
@@ -31,31 +32,23 @@ pub fn codewords(plan: &Plan, bytes: &[u8], words: &mut Words)
 {
     let version = plan.version();
     let level = plan.level();
-    let mut message = Words::new();
+    let mut message = Bits::new();
     push_data(version, level, plan.segments(), bytes, &mut message);
-    write_symbol(version, level, message.as_slice(), words);
+    write_symbol(version, level, message.words.as_slice(), words);
     gf256::parity_is_sound();
 }
 
 /// Writes the data codewords of the segments.
-fn push_data(
-    version: Version,
-    level: Level,
-    segments: &[Segment],
-    bytes: &[u8],
-    message: &mut Words,
-)
-    requires empty { message.old.items ≡ [] }
+fn push_data(version: Version, level: Level, segments: &[Segment], bytes: &[u8], message: &mut Bits)
+    requires empty { bits_in message.old ≡ [] }
     requires cut { IsSegmentation version.number segments.now bytes.now }
     requires fits { cost version.number segments.now ≤ capacity version.number level }
-    ensures { message.new.items ≡ data_of version.number level segments.now bytes.now }
+    ensures { message.new.words.items ≡ data_of version.number level segments.now bytes.now }
 {
     let size = version.data_words(level);
-    let mut bits = Bits::new();
-    push_segments(&mut bits, version, segments, bytes);
-    end_bits(&mut bits, size);
-    push_codewords(bits.as_slice(), message);
-    push_padding(size - bits.len() / 8, message);
+    message.push_segments(version, segments, bytes);
+    message.end(size);
+    push_padding(size - message.words.len(), &mut message.words);
 }
 
 /// Writes the blocks of the data codewords interleaved, and then their parity codewords interleaved.

@@ -1,5 +1,5 @@
 //! A table of the best first segment of each rest of the bytes, filled from the end.
-ghost use Rattle.qrdata.specs.Table.{HasFirsts, IsSmall, AreSmallDigits, AreSmallCharacters, AreSmall, absent_choice, better_choice, best_choice, fewest_bits, longer_choice, next_characters, next_choices, next_digits, no_choices, short_choice};
+ghost use Rattle.qrdata.specs.Private.Table.{HasFirsts, IsSmall, AreSmallDigits, AreSmallCharacters, AreSmall, absent_choice, better_choice, best_choice, fewest_bits, longer_choice, next_characters, next_choices, next_digits, no_choices, short_choice};
 ghost use Rattle.std.specs.Prelude.{length, ◌≡◌, ◌^◌, ◌≤◌, ◌<◌};
 
 use crate::mode::{Mode, Segment, value_of};
@@ -82,7 +82,7 @@ fn longer(choice: &Choice, added: usize) -> Choice
 }
 
 /// The choice of fewer bits, of equally many the longer segment, and of equally long ones the first.
-#[tactic(auto, unfolding(crate::specs::Table::better_choice))]
+#[tactic(auto, unfolding(crate::specs::Private::Table::better_choice))]
 fn better(first: Choice, second: Choice) -> Choice
     ensures { result ≡ better_choice first second }
 {
@@ -97,7 +97,7 @@ fn better(first: Choice, second: Choice) -> Choice
 
 /// The choices in numeric mode of a byte and a rest, whose best segments have `after` bits. The second of three digits
 /// adds three bits, and so does the third.
-#[tactic(auto, unfolding(crate::specs::Table::next_digits))]
+#[tactic(auto, unfolding(crate::specs::Private::Table::next_digits))]
 fn with_digit(version: Version, byte: u8, rest: &Digits, after: usize) -> Digits
     requires rest { AreSmallDigits rest.now }
     requires after { after < 2 ^ 20 }
@@ -122,7 +122,7 @@ fn with_digit(version: Version, byte: u8, rest: &Digits, after: usize) -> Digits
 }
 
 /// The choices in alphanumeric mode of a byte and a rest, whose best segments have `after` bits.
-#[tactic(auto, unfolding(crate::specs::Table::next_characters))]
+#[tactic(auto, unfolding(crate::specs::Private::Table::next_characters))]
 fn with_character(version: Version, byte: u8, rest: &Characters, after: usize) -> Characters
     requires rest { AreSmallCharacters rest.now }
     requires after { after < 2 ^ 20 }
@@ -145,7 +145,7 @@ fn with_character(version: Version, byte: u8, rest: &Characters, after: usize) -
 }
 
 /// The best of the choices in all modes.
-#[tactic(auto, unfolding(crate::specs::Table::best_choice))]
+#[tactic(auto, unfolding(crate::specs::Private::Table::best_choice))]
 fn best_of(digits: &Digits, characters: &Characters, bytes: Choice) -> Choice
     ensures { result ≡ best_choice digits.now characters.now bytes }
 {
@@ -155,7 +155,7 @@ fn best_of(digits: &Digits, characters: &Characters, bytes: Choice) -> Choice
 }
 
 /// The choices of a byte and a rest.
-#[tactic(auto, unfolding(crate::specs::Table::next_choices))]
+#[tactic(auto, unfolding(crate::specs::Private::Table::next_choices))]
 fn with_byte(version: Version, byte: u8, rest: &Choices) -> Choices
     requires { AreSmall rest.now }
     ensures { result ≡ next_choices version.number byte rest.now }

@@ -70,7 +70,6 @@ impl Version {
     }
 
     /// The codewords of a symbol, data and parity.
-    #[tactic(auto, unfolding(crate::specs::Versions::total_codewords))]
     pub fn total_words(self) -> usize
         ensures { result ≡ total_codewords self.number }
     {
@@ -85,7 +84,6 @@ impl Version {
     }
 
     /// The blocks of a symbol at a level.
-    #[tactic(auto, unfolding(crate::specs::Versions::block_count))]
     pub(crate) fn blocks(self, level: Level) -> usize
         ensures { result ≡ block_count self.number level }
     {
@@ -99,7 +97,6 @@ impl Version {
     }
 
     /// The parity codewords of each block at a level.
-    #[tactic(auto, unfolding(crate::specs::Versions::parity_length))]
     pub(crate) fn parity(self, level: Level) -> usize
         ensures { result ≡ parity_length self.number level }
     {

@@ -1,5 +1,6 @@
-use Rattle.qrdata.specs.LeastPlan.{IsLeastPlan, NoPlan}
+use Rattle.qrdata.specs.Private.LeastPlan.{IsLeastPlan, NoPlan}
 use Rattle.qrdata.proofs.FewestBits.{chosen_segments-is, chosen_segments-least}
+use Rattle.qrdata.proofs.Lengths.{length-segments_bits}
 use Rattle.qrdata.proofs.VersionSearch.{NoneFits-from_chosen, chosen_version-is, chosen_version-none}
 use Rattle.qrdata.proofs.plan.choose.Goals as goal
 
@@ -13,6 +14,11 @@ returns-in-Some-clause-cut c = rw c.in-Some.ensures.some.same_segments (chosen_s
 
 pub returns-in-Some-clause-fewest : goal.returns-in-Some-clause-fewest
 returns-in-Some-clause-fewest c = rw c.in-Some.ensures.some.same_segments (chosen_segments-least c.in-Some.plan.version c.args.bytes.now)
+
+pub returns-in-Some-clause-bits : goal.returns-in-Some-clause-bits
+returns-in-Some-clause-bits c =
+    let plan = c.in-Some.plan in
+    length-segments_bits plan.version plan.segments c.args.bytes.now (returns-in-Some-clause-cut c)
 
 pub returns-in-Some-clause-least : goal.returns-in-Some-clause-least
 returns-in-Some-clause-least c =

@@ -1,7 +1,7 @@
 use Rattle.std.proofs.Common.{◌-◌, ◌<◌, ◌≡◌, drop, length, get_or, arith, sym, ap, ◌∙◌}
 use Rattle.std.proofs.lemmas.List.{length-drop}
 use Rattle.qrdata.specs.declared.table.Choices.{Choices}
-use Rattle.qrdata.specs.Table.{choices_of, next_choices}
+use Rattle.qrdata.specs.Private.Table.{choices_of, next_choices}
 use Rattle.qrdata.proofs.SmallChoices.{AreSmall-of}
 use Rattle.qrdata.proofs.Tables.{HasFirsts-end, HasFirsts-set, choices_of-next, choices_of-none}
 use Rattle.qrdata.proofs.table.fill.Goals as goal

@@ -1,5 +1,5 @@
 use Rattle.std.proofs.Common.{◌≡◌, ◌≤◌, drop, length}
-use Rattle.qrdata.specs.Table.{HasFirsts, choices_of}
+use Rattle.qrdata.specs.Private.Table.{HasFirsts, choices_of}
 use Rattle.qrdata.proofs.table.fill.Given as goal
 
 -- the table is filled from here on, and these are the choices of the bytes from here on

@@ -1,6 +1,5 @@
-use Rattle.std.proofs.Common.{◌≤◌, ◌*◌, arith, refl}
-use Rattle.qrdata.specs.Versions.{data_codewords}
-use Rattle.qrdata.proofs.VersionTable.{HasSoundBlocks-of}
+use Rattle.std.proofs.Common.{◌≤◌, ◌*◌, arith, sym}
+use Rattle.qrdata.proofs.VersionTable.{HasSoundBlocks-of, data_codewords-is}
 use Rattle.qrdata.proofs.version.Version.data_words.Goals as goal
 
 pub overflow_sub-result : goal.overflow_sub-result
@@ -13,5 +12,5 @@ overflow_mul-result c =
     omega (arith, within, c.total_words.type_inv)
 
 pub returns : goal.returns
-unfolding data_codewords
-returns c = rw (c.total_words.ensures, c.blocks-2.ensures, c.parity.ensures) refl
+returns c =
+    rw (c.total_words.ensures, c.blocks-2.ensures, c.parity.ensures) (sym (data_codewords-is c.args.self.number c.args.level c.args.self.at_least c.args.self.at_most))

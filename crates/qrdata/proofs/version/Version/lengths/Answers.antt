@@ -1,8 +1,7 @@
-use Rattle.std.proofs.Common.{◌-◌, ◌/◌, ◌%◌, ◌<◌, length, replicate, arith, ap, refl, length-append}
+use Rattle.std.proofs.Common.{◌-◌, ◌/◌, ◌%◌, ◌<◌, length, replicate, arith, ap, length-append}
 use Rattle.std.proofs.Math.Nat.{mod-lt, div-le_self}
-use Rattle.qrdata.specs.Versions.{block_lengths}
 use Rattle.std.proofs.lemmas.List.{length-replicate}
-use Rattle.qrdata.proofs.VersionTable.{capacity-le, HasSoundBlocks-of}
+use Rattle.qrdata.proofs.VersionTable.{block_lengths-even, capacity-le, HasSoundBlocks-of}
 use Rattle.qrdata.proofs.version.Version.lengths.Goals as goal
 
 pub nonzero_rem-words : goal.nonzero_rem-words
@@ -38,8 +37,8 @@ push_lengths-requires-2 c =
     }
 
 pub returns : goal.returns
-unfolding block_lengths
-returns c = rw (c.push_lengths-2.ensures, c.push_lengths.ensures, c.new-lengths.ensures, c.blocks-blocks.ensures, c.data_words-words.ensures) refl
+returns c =
+    rw (c.push_lengths-2.ensures, c.push_lengths.ensures, c.new-lengths.ensures, c.blocks-blocks.ensures, c.data_words-words.ensures) (block_lengths-even c.args.self.number c.args.level c.args.self.at_least c.args.self.at_most)
 
 pub nonzero_div-words : goal.nonzero_div-words
 nonzero_div-words c = omega (arith, c.blocks-blocks.ensures, (HasSoundBlocks-of c.args.self.number c.args.level c.args.self.at_least c.args.self.at_most).some_blocks)

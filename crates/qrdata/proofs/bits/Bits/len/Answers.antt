@@ -1,0 +1,6 @@
+use Rattle.std.proofs.Common.{arith}
+use Rattle.qrdata.proofs.Writing.{length-bits_in}
+use Rattle.qrdata.proofs.bits.Bits.len.Goals as goal
+
+pub returns : goal.returns
+returns c = omega (arith, c.len.ensures.value, length-bits_in c.args.self.now)
