@@ -7,11 +7,12 @@ use Rattle.std.proofs.lemmas.List.Elements.{All-head, All-tail}
 use Rattle.qrmatrix.specs.Counting.{all_below}
 use Rattle.qrmatrix.specs.Bits.{bit}
 use Rattle.qrmatrix.specs.Placement.{codeword_bit}
-use Rattle.qrmatrix.specs.Reading.{high_first, by_eights}
+use Rattle.qrdata.specs.Bits.{number_of, codewords_of}
 use Rattle.qrmatrix.proofs.Sums.{all_below_at}
 
 spelled : ℕ → ℕ
-spelled w = high_first (bit w 7 ∷ bit w 6 ∷ bit w 5 ∷ bit w 4 ∷ bit w 3 ∷ bit w 2 ∷ bit w 1 ∷ bit w 0 ∷ [])
+unfolding number_of
+spelled w = number_of (bit w 7 ∷ bit w 6 ∷ bit w 5 ∷ bit w 4 ∷ bit w 3 ∷ bit w 2 ∷ bit w 1 ∷ bit w 0 ∷ [])
 
 -- computed for each byte
 byte : (w : ℕ) → w < 256 → spelled w ≡ w
@@ -35,14 +36,15 @@ data_bit_shift w ws i =
     rw (q, r)
 
 first_word : (w : ℕ) (ws : List ℕ) (k m : ℕ) → w < 256
-    → by_eights (suc k) (map (codeword_bit (w ∷ ws)) (range_with_len 0 (suc (suc (suc (suc (suc (suc (suc (suc m)))))))))) ≡ w ∷ by_eights k (map (codeword_bit ws) (range_with_len 0 m))
-unfolding spelled
+    → codewords_of (suc k) (map (codeword_bit (w ∷ ws)) (range_with_len 0 (suc (suc (suc (suc (suc (suc (suc (suc m)))))))))) ≡ w ∷ codewords_of k (map (codeword_bit ws) (range_with_len 0 m))
+unfolding spelled codewords_of number_of
 first_word w ws k m h =
     let a = byte w h in
     let b = map_shift (codeword_bit (w ∷ ws)) (codeword_bit ws) 8 (data_bit_shift w ws) 0 m in
     cc
 
-pub words_of_bits : (ws : List ℕ) (r : ℕ) → All (λ w. w < 256) ws → by_eights (length ws) (map (codeword_bit ws) (range_with_len 0 (8 * length ws + r))) ≡ ws
+pub words_of_bits : (ws : List ℕ) (r : ℕ) → All (λ w. w < 256) ws → codewords_of (length ws) (map (codeword_bit ws) (range_with_len 0 (8 * length ws + r))) ≡ ws
+unfolding codewords_of
 words_of_bits [] r h = refl
 words_of_bits (w ∷ ws) r h =
     let n : 8 * suc (length ws) + r ≡ suc (suc (suc (suc (suc (suc (suc (suc (8 * length ws + r)))))))) = omega arith in

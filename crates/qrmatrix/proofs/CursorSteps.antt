@@ -7,9 +7,10 @@ use Rattle.qrdata.specs.Versions.{side_of}
 use Rattle.qrmatrix.specs.Functions.{is_free}
 use Rattle.qrmatrix.specs.Placement.{key, free_below, rank, codeword_bit, columns_right}
 use Rattle.qrmatrix.specs.Bits.{bit}
-use Rattle.qrmatrix.specs.Square.{value_at, WritesAt, WritesTwo}
-use Rattle.qrmatrix.specs.WordPairs.{ShowsTwo}
-use Rattle.qrmatrix.specs.Drawing.{MarksFunctions}
+use Rattle.qrmatrix.specs.Square.{value_at}
+use Rattle.qrmatrix.specs.Private.Squares.{WritesAt, WritesTwo}
+use Rattle.qrmatrix.specs.Private.WordPairs.{ShowsTwo}
+use Rattle.qrmatrix.specs.Private.Drawing.{MarksFunctions}
 use Rattle.qrmatrix.proofs.EachVersion.{Computed}
 use Rattle.qrmatrix.proofs.Ranks.{free_below_more, free_below_none, unique}
 

@@ -11,8 +11,8 @@ use Rattle.labelcore.specs.declared.options.Level.TheVariants.{L, M, Q, H}
 use Rattle.qrdata.specs.Versions.{side_of}
 use Rattle.qrmatrix.specs.Bits.{bit}
 use Rattle.qrmatrix.specs.Counting.{all_below}
-use Rattle.qrmatrix.specs.Drawing.{drawn_by, format_by, HasFunctions}
-use Rattle.qrmatrix.specs.FunctionRows.{alignments, finders, format_row, formats, function_row, or_else, timing, versions}
+use Rattle.qrmatrix.specs.Private.Drawing.{drawn_by, format_by, HasFunctions}
+use Rattle.qrmatrix.specs.Private.FunctionRows.{alignments, finders, format_row, formats, function_row, or_else, timing, versions}
 use Rattle.qrmatrix.specs.Functions.{Role, role, is_free, is_free_role}
 use Rattle.qrmatrix.specs.Information.{format_word, version_word}
 use Rattle.qrmatrix.specs.declared.function.PatternRow.{PatternRow}

@@ -1,16 +1,17 @@
 -- What is computed of the format and version information.
 use Rattle.std.proofs.Common.{◌≡◌, ℕ, zero, suc, ◌<◌, ◌≤◌, List, refl, arith, Bool, true, Some}
-use Rattle.std.specs.Prelude.{map, nat_le}
+use Rattle.std.specs.Prelude.{map, nat_le, reverse}
 use Rattle.std.specs.List.{range_with_len, list_all}
 use Rattle.gf256.specs.BinaryPolynomial.{binary_remainder}
 use Rattle.labelcore.specs.declared.options.Level.{Level}
 use Rattle.qrmatrix.specs.Functions.{Role, Format, Version, role}
 use Rattle.labelcore.specs.declared.options.Level.TheVariants.{L, M, Q, H}
+use Rattle.qrdata.specs.Bits.{number_of}
 use Rattle.qrdata.specs.Versions.{side_of}
 use Rattle.qrmatrix.specs.Bits.{bit}
 use Rattle.qrmatrix.specs.Information.{format_word, version_word}
 use Rattle.qrmatrix.specs.Modules.{is_inside}
-use Rattle.qrmatrix.specs.Reading.{format_copy_1, format_copy_2, version_copy_1, version_copy_2, word_at, low_first, read_format_word, shows_version}
+use Rattle.qrmatrix.specs.Reading.{format_copy_1, format_copy_2, version_copy_1, version_copy_2, word_at, read_format_word, shows_version}
 use Rattle.qrmatrix.proofs.EachVersion.{by_version}
 
 -- a fact on each mask
@@ -28,10 +29,10 @@ by_mask P p0 p1 p2 p3 p4 p5 p6 p7 (suc (suc (suc (suc (suc (suc (suc (suc n)))))
 -- the format word of a level and a mask is the number of its bits, and is read as that level and mask
 abbrev pub FormatRead : Level → ℕ → Type 0
 FormatRead level mask =
-    (low_first (map (bit (format_word level mask)) (range_with_len 0 15)) ≡ format_word level mask) × (read_format_word (format_word level mask) ≡ Some (level, mask))
+    (number_of (reverse (map (bit (format_word level mask)) (range_with_len 0 15))) ≡ format_word level mask) × (read_format_word (format_word level mask) ≡ Some (level, mask))
 
 pub format_read : (level : Level) (mask : ℕ) → mask < 8 → FormatRead level mask
-unfolding format_word binary_remainder
+unfolding format_word binary_remainder number_of
 format_read L = by_mask (FormatRead L) (refl, refl) (refl, refl) (refl, refl) (refl, refl) (refl, refl) (refl, refl) (refl, refl) (refl, refl)
 format_read M = by_mask (FormatRead M) (refl, refl) (refl, refl) (refl, refl) (refl, refl) (refl, refl) (refl, refl) (refl, refl) (refl, refl)
 format_read Q = by_mask (FormatRead Q) (refl, refl) (refl, refl) (refl, refl) (refl, refl) (refl, refl) (refl, refl) (refl, refl) (refl, refl)
@@ -66,14 +67,14 @@ version_copies =
 
 -- a symbol whose copies of the version information hold the bits of its version word shows its version
 abbrev pub HoldsVersion : ℕ → (ℕ → ℕ → Bool) → List (ℕ × ℕ) → Type 0
-HoldsVersion v m places = word_at m places ≡ low_first (map (bit (version_word v)) (range_with_len 0 18))
+HoldsVersion v m places = word_at m places ≡ number_of (reverse (map (bit (version_word v)) (range_with_len 0 18)))
 
 abbrev pub VersionShown : ℕ → Type 0
 VersionShown v =
     (m : ℕ → ℕ → Bool) → (nat_le 7 v ≡ true → HoldsVersion v m (version_copy_1 (side_of v)) × HoldsVersion v m (version_copy_2 (side_of v))) → shows_version v (side_of v) m ≡ true
 
 pub version_shown : (v : ℕ) → 1 ≤ v → v ≤ 10 → VersionShown v
-unfolding version_word shows_version
+unfolding version_word shows_version number_of
 version_shown =
     by_version VersionShown
     (λ m h. refl) (λ m h. refl) (λ m h. refl) (λ m h. refl) (λ m h. refl) (λ m h. refl)

@@ -8,7 +8,7 @@ use Rattle.qrmatrix.specs.Counting.{all_below}
 use Rattle.qrmatrix.specs.Bits.{bit}
 use Rattle.qrmatrix.specs.Masks.{is_flipped, flip_if}
 use Rattle.qrmatrix.specs.Square.{value_at}
-use Rattle.qrmatrix.specs.Drawing.{masked}
+use Rattle.qrmatrix.specs.Private.Drawing.{masked}
 use Rattle.qrmatrix.proofs.Passes.{Mapped, row_turned}
 use Rattle.qrmatrix.proofs.Sums.{all_below_at}
 use Rattle.qrmatrix.proofs.RowBits.{and_bit, not_bit, same_beq}

@@ -4,7 +4,8 @@ use Rattle.std.specs.Prelude.{◌==◌}
 use Rattle.std.proofs.lemmas.Bool.{cases_eq, cases_lt, eq-eqb, ne_eqb}
 use Rattle.qrmatrix.specs.Bits.{bit}
 use Rattle.qrmatrix.specs.Masks.{flip_if}
-use Rattle.qrmatrix.specs.Square.{value_at, SameOutside}
+use Rattle.qrmatrix.specs.Square.{value_at}
+use Rattle.qrmatrix.specs.Private.Squares.{SameOutside}
 
 -- the places before column and row have their targets, and the others are as they were
 pub record Mapped (n : ℕ) (old new : List (List Bool)) (target : ℕ → ℕ → Bool) (row column : ℕ) : Type 0 where

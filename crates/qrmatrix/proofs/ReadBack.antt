@@ -1,18 +1,19 @@
 -- Reading inverts drawing.
 use Rattle.std.proofs.Common.{◌≡◌, ℕ, ◌+◌, ◌-◌, ◌*◌, ◌/◌, ◌<◌, ◌≤◌, refl, ap, ◌∙◌, arith, Bool, true, false, cond, List, [], ◌∷◌, length, Option, Some, None, eq-eqb}
-use Rattle.std.specs.Prelude.{map, nat_lt, All}
+use Rattle.std.specs.Prelude.{map, nat_lt, reverse, All}
 use Rattle.std.specs.List.{range_with_len, filter, list_all}
 use Rattle.std.proofs.lemmas.Bool.{and_from, and_parts, lt-ltb, le-leb}
 use Rattle.labelcore.specs.declared.options.Level.{Level}
 use Rattle.qrmatrix.specs.Functions.{Role, Function, Format, Version, Free, is_free, is_free_role, role, fixed, fixed_by}
 use Rattle.qrmatrix.specs.Counting.{all_below}
+use Rattle.qrdata.specs.Bits.{number_of, codewords_of}
 use Rattle.qrdata.specs.Versions.{side_of, total_codewords}
 use Rattle.qrmatrix.specs.Bits.{bit}
 use Rattle.qrmatrix.specs.Information.{format_word, version_word}
 use Rattle.qrmatrix.specs.Modules.{module_at, is_inside, fixed_or}
 use Rattle.qrmatrix.specs.Masks.{flip_if, is_flipped}
 use Rattle.qrmatrix.specs.Placement.{codeword_bit, rank, remainder_bits}
-use Rattle.qrmatrix.specs.Reading.{walk, read_bits, read_matrix, by_eights, format_copy_1, format_copy_2, version_copy_1, version_copy_2, word_at, low_first, read_format, shows_version, shows_functions, agrees}
+use Rattle.qrmatrix.specs.Reading.{walk, read_bits, read_matrix, format_copy_1, format_copy_2, version_copy_1, version_copy_2, word_at, read_format, shows_version, shows_functions, agrees}
 use Rattle.qrmatrix.proofs.Sums.{all_below_from}
 use Rattle.qrmatrix.proofs.EachVersion.{Computed, computed}
 use Rattle.qrmatrix.proofs.WalkRanks.{walk_ranks}
@@ -77,7 +78,7 @@ module _ (v : ℕ) (level : Level) (mask : ℕ) (words : List ℕ) where
       ∙ ap (map (codeword_bit words)) (walk_ranks v c)
 
   pub words_read : Computed v → length words ≡ total_codewords v → All (λ w. w < 256) words
-      → by_eights (total_codewords v) (read_bits v mask (module_at v level mask words)) ≡ words
+      → codewords_of (total_codewords v) (read_bits v mask (module_at v level mask words)) ≡ words
   words_read c n h =
       rw (bits_read c, ← n) (words_of_bits words (remainder_bits v) h)
 
@@ -116,8 +117,8 @@ module _ (v : ℕ) (level : Level) (mask : ℕ) (words : List ℕ) where
   module _ (at_least : 1 ≤ v) (at_most : v ≤ 10) (mask_below : mask < 8) where
     -- the word that stands at places where its bits have their roles
     word_shown : (places : List (ℕ × ℕ)) (kind : ℕ → Role) (word count : ℕ) → ((i : ℕ) → fixed_by v level mask (kind i) ≡ Some (bit word i))
-        → StandsAt v kind count places → word_at (module_at v level mask words) places ≡ low_first (map (bit word) (range_with_len 0 count))
-    word_shown places kind word count by stands = ap low_first (modules_at_role places kind word (range_with_len 0 count) by stands.1 stands.0)
+        → StandsAt v kind count places → word_at (module_at v level mask words) places ≡ number_of (reverse (map (bit word) (range_with_len 0 count)))
+    word_shown places kind word count by stands = ap (λ bits. number_of (reverse bits)) (modules_at_role places kind word (range_with_len 0 count) by stands.1 stands.0)
 
     pub format_shown : read_format (side_of v) (module_at v level mask words) ≡ Some (level, mask)
     unfolding read_format

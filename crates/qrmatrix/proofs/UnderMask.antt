@@ -4,7 +4,7 @@ use Rattle.std.specs.Prelude.{if◌then◌else◌}
 use Rattle.std.proofs.lemmas.Bool.{both_ways}
 use Rattle.labelcore.specs.declared.options.Level.{Level}
 use Rattle.qrdata.specs.Versions.{side_of}
-use Rattle.qrmatrix.specs.Drawing.{masked, drawn_by, format_by, IsUnmasked, ShowsFormat}
+use Rattle.qrmatrix.specs.Private.Drawing.{masked, drawn_by, format_by, IsUnmasked, ShowsFormat}
 use Rattle.qrmatrix.specs.Functions.{Role, Function, Format, Version, Free, fixed, fixed_by, role, is_free, is_free_role}
 use Rattle.qrmatrix.specs.Information.{format_word}
 use Rattle.qrmatrix.specs.Masks.{flip_if, is_flipped}

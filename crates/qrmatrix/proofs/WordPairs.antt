@@ -11,8 +11,9 @@ use Rattle.std.proofs.lemmas.Nat.Bits.{bit_at_cat_high, bit_at_cat_low, bit_at-z
 use Rattle.qrmatrix.specs.Bits.{bit}
 use Rattle.qrmatrix.specs.Masks.{flip_if}
 use Rattle.qrmatrix.specs.Placement.{codeword_bit}
-use Rattle.qrmatrix.specs.Square.{value_at, WritesTwo}
-use Rattle.qrmatrix.specs.WordPairs.{ArePairs, ShowsTwo}
+use Rattle.qrmatrix.specs.Square.{value_at}
+use Rattle.qrmatrix.specs.Private.Squares.{WritesTwo}
+use Rattle.qrmatrix.specs.Private.WordPairs.{ArePairs, ShowsTwo}
 use Rattle.qrmatrix.proofs.RowBits.{and_bit, shr_bit, mod_bit, above_bit}
 
 and_all : (b : Bool) → (b && true) ≡ b
@@ -76,18 +77,18 @@ two_clear w x e =
     )
 
 -- the bits of a number below 4 that is moved up
-up_bit : (two x a : ℕ) → two < 4 → x < 56 → a < 64 → x ≤ a → bit (two * 2 ^ x % 2 ^ 64) a ≡ bit two (a - x)
+up_bit : (two x a : ℕ) → two < 4 → x + 1 < 57 → a < 64 → x ≤ a → bit (two * 2 ^ x % 2 ^ 64) a ≡ bit two (a - x)
 up_bit two x a h l la g =
     let e : two * 2 ^ x ≡ two * 2 ^ x + 0 = omega arith in
     let p = pow_pos x in
     mod_bit 64 (two * 2 ^ x) a la ∙ ap (λ z. z == 1) (ap (λ z. bit_at z a) e ∙ bit_at_cat_high two x 0 a p g)
 
-below_bit : (two x a : ℕ) → x < 56 → a < x → bit (two * 2 ^ x % 2 ^ 64) a ≡ false
+below_bit : (two x a : ℕ) → x + 1 < 57 → a < x → bit (two * 2 ^ x % 2 ^ 64) a ≡ false
 below_bit two x a l h =
     let e : two * 2 ^ x ≡ two * 2 ^ x + 0 = omega arith in
     mod_bit 64 (two * 2 ^ x) a (omega arith) ∙ ap (λ z. z == 1) (ap (λ z. bit_at z a) e ∙ bit_at_cat_low two x 0 a h ∙ bit_at-zero a)
 
-pub up_narrow : (two x : ℕ) → two < 4 → x < 56 → two * 2 ^ x % 2 ^ 64 < 2 ^ 57
+pub up_narrow : (two x : ℕ) → two < 4 → x + 1 < 57 → two * 2 ^ x % 2 ^ 64 < 2 ^ 57
 up_narrow two x h l =
     let small : x ≤ 55 = omega arith in
     let p : 2 ^ x ≤ 2 ^ 55 = pow_mono small in
@@ -96,7 +97,7 @@ up_narrow two x h l =
     omega arith
 
 -- which bits of a number below 4 that is moved up are set
-moved : (two x a : ℕ) → two < 4 → x < 56 → bit (two * 2 ^ x % 2 ^ 64) a ≡ (if a == x then bit two 0 else (if a == x + 1 then bit two 1 else false))
+moved : (two x a : ℕ) → two < 4 → x + 1 < 57 → bit (two * 2 ^ x % 2 ^ 64) a ≡ (if a == x then bit two 0 else (if a == x + 1 then bit two 1 else false))
 moved two x a h l =
     elim (cases_lt a 57) [
       | inr g ↦
@@ -127,7 +128,7 @@ flip_light true = refl
 flip_light false = refl
 
 -- two values come to stand on light modules
-pub two_written : (old new : List (List Bool)) (two x y : ℕ) → two < 4 → x < 56 → (value_at old x y ≡ false) × (value_at old (x + 1) y ≡ false)
+pub two_written : (old new : List (List Bool)) (two x y : ℕ) → two < 4 → x + 1 < 57 → (value_at old x y ≡ false) × (value_at old (x + 1) y ≡ false)
     → ((a b : ℕ) → value_at new a b ≡ flip_if ((b == y) && bit (two * 2 ^ x % 2 ^ 64) a) (value_at old a b))
     → WritesTwo old new x y (bit two 0) (bit two 1)
 two_written old new two x y h l light flipped a b =
@@ -181,7 +182,7 @@ pairs_more words pairs i value p size some few e =
     }
 
 -- the last codeword, with nothing after it
-pub pairs_last : (words pairs : List ℕ) (i value : ℕ) → PairsBelow words pairs i → length pairs ≡ 400 → i ≡ length words → 1 ≤ i → i ≤ 346
+pub pairs_last : (words pairs : List ℕ) (i value : ℕ) → PairsBelow words pairs i → length pairs ≡ 400 → i ≡ length words → 1 ≤ i → i < 400
     → value ≡ slice_index words (i - 1) * 256 → ((j : ℕ) → slice_index words j < 256) → ArePairs words (set pairs (i - 1) value)
 pairs_last words pairs i value p size whole some few e bytes =
     let inside : i - 1 < length pairs = omega arith in

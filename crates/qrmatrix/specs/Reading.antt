@@ -1,23 +1,15 @@
 -- The reading of a symbol's modules, m x y being the module at column x and row y of n by n (ISO/IEC 18004, 12).
-use Rattle.std.specs.Prelude.{ℕ, zero, suc, ◌+◌, ◌-◌, ◌*◌, ◌/◌, ◌%◌, ◌^◌, Bool, true, not, ◌&&◌, ◌||◌, ◌==◌, nat_le, if◌then◌else◌, List, [], ◌∷◌, ◌++◌, map, reverse, take, drop, Option, None, Some, bit_xor}
+use Rattle.std.specs.Prelude.{ℕ, ◌+◌, ◌-◌, ◌*◌, ◌/◌, ◌%◌, ◌^◌, Bool, true, not, ◌&&◌, ◌||◌, ◌==◌, nat_le, if◌then◌else◌, List, [], ◌∷◌, ◌++◌, map, reverse, Option, None, Some, bit_xor}
 use Rattle.std.specs.Bool.{beq}
 use Rattle.std.specs.List.{range_with_len, filter}
 use Rattle.gf256.specs.BinaryPolynomial.{binary_remainder}
 use Rattle.labelcore.specs.declared.options.Level.{Level}
 use Rattle.labelcore.specs.declared.options.Level.TheVariants.{L, M, Q, H}
+use Rattle.qrdata.specs.Bits.{number_of, codewords_of}
 use Rattle.qrdata.specs.Versions.{total_codewords, side_of}
-use Rattle.qrmatrix.specs.Counting.{all_below, one_if}
+use Rattle.qrmatrix.specs.Counting.{all_below}
 use Rattle.qrmatrix.specs.Functions.{fixed, is_free}
 use Rattle.qrmatrix.specs.Masks.{is_flipped, flip_if}
-
--- the number of bits that are listed lowest first
-abbrev pub low_first : List Bool → ℕ
-low_first [] = 0
-low_first (b ∷ bs) = one_if b + 2 * low_first bs
-
--- the number of bits that are listed highest first
-abbrev pub high_first : List Bool → ℕ
-high_first bits = low_first (reverse bits)
 
 -- the places of the bits of the format word, bit 0 first, in each of its two copies
 abbrev pub format_copy_1 : List (ℕ × ℕ)
@@ -37,9 +29,9 @@ version_copy_1 n = map (λ i. (n - 11 + i % 3, i / 3)) (range_with_len 0 18)
 abbrev pub version_copy_2 : ℕ → List (ℕ × ℕ)
 version_copy_2 n = map (λ i. (i / 3, n - 11 + i % 3)) (range_with_len 0 18)
 
--- the word that stands at a list of places
+-- the word that stands at a list of places, its bit 0 at the first
 abbrev pub word_at : (ℕ → ℕ → Bool) → List (ℕ × ℕ) → ℕ
-word_at m places = low_first (map (λ (p : ℕ × ℕ). m p.0 p.1) places)
+word_at m places = number_of (reverse (map (λ (p : ℕ × ℕ). m p.0 p.1) places))
 
 -- the level that an error correction level indicator stands for
 abbrev pub level_of : ℕ → Level
@@ -53,13 +45,13 @@ read_format_word word =
 
 -- the level and the mask, where both copies of the format information agree
 unfoldable pub read_format : ℕ → (ℕ → ℕ → Bool) → Option (Level × ℕ)
-unfolding binary_remainder
+unfolding binary_remainder number_of
 read_format n m =
     if word_at m format_copy_1 == word_at m (format_copy_2 n) then read_format_word (word_at m format_copy_1) else None
 
 -- whether both copies of the version information, where the version has it, are its codeword
 unfoldable pub shows_version : ℕ → ℕ → (ℕ → ℕ → Bool) → Bool
-unfolding binary_remainder
+unfolding binary_remainder number_of
 shows_version v n m =
     let first = word_at m (version_copy_1 n) in
     let second = word_at m (version_copy_2 n) in
@@ -100,11 +92,6 @@ unfolding is_free walk is_flipped
 read_bits v mask m =
     map (λ (p : ℕ × ℕ). flip_if (is_flipped mask p.0 p.1) (m p.0 p.1)) (filter (λ (p : ℕ × ℕ). is_free v p.0 p.1) (walk (side_of v)))
 
--- the first k groups of eight bits as words
-abbrev pub by_eights : ℕ → List Bool → List ℕ
-by_eights zero bits = []
-by_eights (suc k) bits = high_first (take 8 bits) ∷ by_eights k (drop 8 bits)
-
 -- what the modules say
 pub record Reading : Type 0 where
   pub version : ℕ
@@ -116,12 +103,12 @@ abbrev pub read_with : ℕ → (ℕ → ℕ → Bool) → Option (Level × ℕ) 
 read_with v m None = None
 read_with v m (Some format) =
     if shows_version v (side_of v) m && shows_functions v format.0 format.1 m
-    then Some (record { version = v; level = format.0; words = by_eights (total_codewords v) (read_bits v format.1 m) })
+    then Some (record { version = v; level = format.0; words = codewords_of (total_codewords v) (read_bits v format.1 m) })
     else None
 
 -- the version, the level and the words of a symbol; there is no reading where any check fails
 unfoldable pub read_matrix : ℕ → (ℕ → ℕ → Bool) → Option Reading
-unfolding total_codewords read_format shows_version shows_functions read_bits
+unfolding total_codewords read_format shows_version shows_functions read_bits codewords_of number_of
 read_matrix n m =
     let v = (n - 17) / 4 in
     if (n == side_of v) && (nat_le 1 v && nat_le v 10) then read_with v m (read_format n m) else None

@@ -1,18 +1,18 @@
 //! The format information of a symbol.
 ghost use Rattle.std.specs.Prelude.{◌≡◌, ◌^◌, ◌<◌, ◌≤◌};
-ghost use Rattle.qrmatrix.specs.Drawing.{ShowsFormat};
-ghost use Rattle.qrmatrix.specs.FunctionRows;
+ghost use Rattle.qrmatrix.specs.Private.Drawing.{ShowsFormat};
+ghost use Rattle.qrmatrix.specs.Private.FunctionRows;
 
 use crate::information::format_word;
-use crate::square::Square;
+use crate::square::{SIDE, Square};
 use labelcore::Level;
 use qrdata::Version;
 
 /// The modules of row `y` that show a one of the format word, in either of its two copies (ISO/IEC 18004, 7.9). Outside of
 /// row 8 they are in column 8.
-#[tactic(auto, unfolding(crate::specs::FunctionRows::format_row))]
+#[tactic(auto, unfolding(crate::specs::Private::FunctionRows::format_row))]
 fn format_row(n: usize, word: u32, y: usize) -> u64
-    requires side { (21 ≤ n) × (n ≤ 57) }
+    requires side { (21 ≤ n) × (n ≤ SIDE) }
     requires row { y < n }
     ensures { result ≡ FunctionRows.format_row n word y }
 {

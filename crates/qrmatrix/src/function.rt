@@ -1,11 +1,12 @@
 //! The function patterns row by row, as words: bit x of a word is the module at column x.
-ghost use Rattle.std.specs.Prelude.{◌≡◌, ◌^◌, ◌<◌, ◌≤◌};
+ghost use Rattle.std.specs.Prelude.{◌≡◌, ◌-◌, ◌^◌, ◌<◌, ◌≤◌};
 ghost use Rattle.qrdata.specs.Versions.{side_of};
-ghost use Rattle.qrmatrix.specs.Drawing.{HasFunctions};
-ghost use Rattle.qrmatrix.specs.FunctionRows;
+ghost use Rattle.qrmatrix.specs.Private.Drawing.{HasFunctions};
+ghost use Rattle.qrmatrix.specs.Private.FunctionRows;
 
 use crate::information::version_word;
 use crate::row::low_ones;
+use crate::square::SIDE;
 use qrdata::Version;
 
 /// What patterns have of a row.
@@ -45,7 +46,7 @@ const EVERY_OTHER: u64 = 0x5555555555555555;
 
 impl PatternRow {
     /// The first of two patterns that has a module.
-    #[tactic(auto, unfolding(crate::specs::FunctionRows::or_else))]
+    #[tactic(auto, unfolding(crate::specs::Private::FunctionRows::or_else))]
     fn or_else(self, other: PatternRow) -> PatternRow
         ensures { result ≡ FunctionRows.or_else self other }
     {
@@ -57,9 +58,9 @@ impl PatternRow {
 }
 
 /// The finder patterns with their separators.
-#[tactic(auto, unfolding(crate::specs::FunctionRows::finders))]
+#[tactic(auto, unfolding(crate::specs::Private::FunctionRows::finders))]
 fn finders(n: usize, y: usize) -> PatternRow
-    requires side { (21 ≤ n) × (n ≤ 57) }
+    requires side { (21 ≤ n) × (n ≤ SIDE) }
     requires row { y < n }
     ensures { result ≡ FunctionRows.finders n y }
 {
@@ -79,9 +80,9 @@ fn finders(n: usize, y: usize) -> PatternRow
 }
 
 /// The row of an alignment pattern that comes to lie in row `y`, from the left module of the pattern on.
-#[tactic(auto, unfolding(crate::specs::FunctionRows::alignment_row))]
+#[tactic(auto, unfolding(crate::specs::Private::FunctionRows::alignment_row))]
 fn alignment_row(centres: u64, y: usize) -> PatternRow
-    requires { y < 57 }
+    requires { y < SIDE }
     ensures { result ≡ FunctionRows.alignment_row centres y }
 {
     // Bit k says whether row y + k - 2 has centres. Of five rows at most one has.
@@ -107,12 +108,12 @@ fn alignment_row(centres: u64, y: usize) -> PatternRow
 }
 
 /// The left columns of the alignment patterns that row `y` may have. None has its centre in a finder pattern.
-#[tactic(auto, unfolding(crate::specs::FunctionRows::left_columns))]
+#[tactic(auto, unfolding(crate::specs::Private::FunctionRows::left_columns))]
 fn left_columns(n: usize, centres: u64, y: usize) -> u64
-    requires side { (21 ≤ n) × (n ≤ 57) }
-    requires centres { centres < 2 ^ 57 }
+    requires side { (21 ≤ n) × (n ≤ SIDE) }
+    requires centres { centres < 2 ^ SIDE }
     ensures value { result ≡ FunctionRows.left_columns n centres y }
-    ensures bound { result < 2 ^ 55 }
+    ensures bound { result < 2 ^ (SIDE - 2) }
 {
     // Patterns with their centres in row 6 reach down to row 8, those with their centres in row n - 7 up to row n - 9.
     let finders = if y < 9 {
@@ -126,9 +127,9 @@ fn left_columns(n: usize, centres: u64, y: usize) -> u64
 }
 
 /// The alignment patterns.
-#[tactic(auto, unfolding(crate::specs::FunctionRows::alignments))]
+#[tactic(auto, unfolding(crate::specs::Private::FunctionRows::alignments))]
 fn alignments(version: Version, y: usize) -> PatternRow
-    requires { y < 57 }
+    requires { y < SIDE }
     ensures { result ≡ FunctionRows.alignments version.number y }
 {
     let centres = CENTRES[usize::from(version.number()) - 1];
@@ -141,9 +142,9 @@ fn alignments(version: Version, y: usize) -> PatternRow
 }
 
 /// The timing patterns.
-#[tactic(auto, unfolding(crate::specs::FunctionRows::timing))]
+#[tactic(auto, unfolding(crate::specs::Private::FunctionRows::timing))]
 fn timing(n: usize, y: usize) -> PatternRow
-    requires { n ≤ 57 }
+    requires { n ≤ SIDE }
     ensures { result ≡ FunctionRows.timing n y }
 {
     if y == 6 {
@@ -166,9 +167,9 @@ fn timing(n: usize, y: usize) -> PatternRow
 }
 
 /// The modules of the format information, which are light here, and the module that is always dark.
-#[tactic(auto, unfolding(crate::specs::FunctionRows::formats))]
+#[tactic(auto, unfolding(crate::specs::Private::FunctionRows::formats))]
 fn formats(n: usize, y: usize) -> PatternRow
-    requires { (21 ≤ n) × (n ≤ 57) }
+    requires { (21 ≤ n) × (n ≤ SIDE) }
     ensures { result ≡ FunctionRows.formats n y }
 {
     if y == 8 {
@@ -192,7 +193,7 @@ fn formats(n: usize, y: usize) -> PatternRow
 }
 
 /// The bits 0, 3, 6, .. of a word of 18 bits side by side.
-#[tactic(auto, unfolding(crate::specs::FunctionRows::every_third))]
+#[tactic(auto, unfolding(crate::specs::Private::FunctionRows::every_third))]
 fn every_third(word: u64) -> u64
     ensures { result ≡ FunctionRows.every_third word }
 {
@@ -205,7 +206,7 @@ fn every_third(word: u64) -> u64
 }
 
 /// The version information, in the versions that have one.
-#[tactic(auto, unfolding(crate::specs::FunctionRows::versions))]
+#[tactic(auto, unfolding(crate::specs::Private::FunctionRows::versions))]
 fn versions(version: Version, y: usize) -> PatternRow
     ensures { result ≡ FunctionRows.versions version.number y }
 {

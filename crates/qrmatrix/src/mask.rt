@@ -1,12 +1,13 @@
 //! The eight masks, one word a row.
 ghost use Rattle.std.specs.Prelude.{◌≡◌, ℕ, ◌*◌, ◌%◌, ◌<◌, ◌≤◌};
 ghost use Rattle.qrmatrix.specs.Bits.{bit};
-ghost use Rattle.qrmatrix.specs.Drawing.{masked};
+ghost use Rattle.qrmatrix.specs.Private.Drawing.{masked};
 ghost use Rattle.qrmatrix.specs.Masks;
-ghost use Rattle.qrmatrix.specs.Square.{value_at, SameOutside};
+ghost use Rattle.qrmatrix.specs.Square.{value_at};
+ghost use Rattle.qrmatrix.specs.Private.Squares.{SameOutside};
 
 use crate::row::low_ones;
-use crate::square::Square;
+use crate::square::{SIDE, Square};
 
 /// Of each mask, which of the first six modules it flips in each of the first twelve rows, the first module lowest. The
 /// masks repeat after six columns and twelve rows.
@@ -52,7 +53,7 @@ const EVERY_SIXTH: u64 = 0x0041041041041041;
 fn mask_word(mask: u8, place: usize) -> u64
     requires mask { mask < 8 }
     requires place { place < 12 }
-    ensures { (x y : ℕ) → x < 57 → y < 57 → y % 12 ≡ place
+    ensures { (x y : ℕ) → x < SIDE → y < SIDE → y % 12 ≡ place
         → bit result x ≡ Masks.is_flipped mask x y }
 {
     PATTERNS[usize::from(mask)][place] * EVERY_SIXTH
@@ -60,7 +61,7 @@ fn mask_word(mask: u8, place: usize) -> u64
 
 /// Flips the free modules by the mask.
 pub fn apply_mask(n: usize, mask: u8, function: &Square, modules: &mut Square)
-    requires side { n ≤ 57 }
+    requires side { n ≤ SIDE }
     requires mask { mask < 8 }
     ensures masked { (x y : ℕ) → x < n → y < n → value_at modules.new x y
         ≡ masked mask function.now modules.old x y }

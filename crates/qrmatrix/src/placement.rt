@@ -5,12 +5,16 @@ ghost use Rattle.qrmatrix.specs.Functions.{is_free};
 ghost use Rattle.qrmatrix.specs.Placement;
 ghost use Rattle.qrmatrix.specs.Placement.{rank};
 ghost use Rattle.qrmatrix.specs.Bits.{bit};
-ghost use Rattle.qrmatrix.specs.Square.{value_at, WritesAt, WritesTwo, SameOutside};
-ghost use Rattle.qrmatrix.specs.WordPairs.{ArePairs, ShowsTwo};
-ghost use Rattle.qrmatrix.specs.Drawing.{MarksFunctions};
+ghost use Rattle.qrmatrix.specs.Square.{value_at};
+ghost use Rattle.qrmatrix.specs.Private.Squares.{WritesAt, WritesTwo, SameOutside};
+ghost use Rattle.qrmatrix.specs.Private.WordPairs.{ArePairs, ShowsTwo};
+ghost use Rattle.qrmatrix.specs.Private.Drawing.{MarksFunctions};
 
-use crate::square::Square;
+use crate::square::{SIDE, Square};
 use qrdata::{Version, Words};
+
+/// Numbers of two codewords: enough for a bit of each module of the largest symbol.
+const PAIRS: usize = 400;
 
 /// Bit `i` of the codewords, the high bit of each first, and light past their end.
 fn codeword_bit(words: &Words, i: usize) -> bool
@@ -31,8 +35,8 @@ fn place_module(
     y: usize,
     i: usize,
 ) -> usize
-    requires column { x < 57 }
-    requires row { y < 57 }
+    requires column { x < SIDE }
+    requires row { y < SIDE }
     requires count { i < 2 ^ 32 }
     ensures free { IsFalse (value_at function.now x y) → (result ≡ i + 1)
         × WritesAt modules.old modules.new x y (Placement.codeword_bit words.now.items i) }
@@ -47,11 +51,11 @@ fn place_module(
 }
 
 /// The numbers of 16 bits that each codeword makes with the next one; zeros follow the last.
-fn word_pairs(words: &[u8]) -> [u16; 400]
-    requires { length words.now ≤ 346 }
+fn word_pairs(words: &[u8]) -> [u16; PAIRS]
+    requires { length words.now < PAIRS }
     ensures { ArePairs words.now result }
 {
-    let mut pairs = [0; 400];
+    let mut pairs = [0; PAIRS];
     let count = words.len();
     for i in 1..count {
         pairs[i - 1] = u16::from(words[i - 1]) * 256 + u16::from(words[i]);
@@ -63,8 +67,8 @@ fn word_pairs(words: &[u8]) -> [u16; 400]
 }
 
 /// The bits `i` and `i + 1` of the codewords, the first one higher.
-fn two_bits(pairs: &[u16; 400], i: usize) -> u64
-    requires { i < 3200 }
+fn two_bits(pairs: &[u16; PAIRS], i: usize) -> u64
+    requires { i < 8 * PAIRS }
     ensures bits { (words : List ℕ) → ArePairs words pairs.now
         → ShowsTwo result (Placement.codeword_bit words i) (Placement.codeword_bit words (i + 1)) }
     ensures bound { result < 4 }
@@ -74,8 +78,8 @@ fn two_bits(pairs: &[u16; 400], i: usize) -> u64
 
 /// Whether no function module is at column `x` and at the next one.
 fn are_free(function: &Square, x: usize, y: usize) -> bool
-    requires column { x < 56 }
-    requires row { y < 57 }
+    requires column { x + 1 < SIDE }
+    requires row { y < SIDE }
     ensures { IsTrue result → (value_at function.now x y ≡ false)
         × (value_at function.now (x + 1) y ≡ false) }
 {
@@ -85,8 +89,8 @@ fn are_free(function: &Square, x: usize, y: usize) -> bool
 /// Writes two bits on light modules, the lower one at column `x` and the other one at the next.
 fn place_two(two: u64, modules: &mut Square, x: usize, y: usize)
     requires bits { two < 4 }
-    requires column { x < 56 }
-    requires row { y < 57 }
+    requires column { x + 1 < SIDE }
+    requires row { y < SIDE }
     requires light { (value_at modules.old x y ≡ false)
         × (value_at modules.old (x + 1) y ≡ false) }
     ensures { WritesTwo modules.old modules.new x y (bit two 0) (bit two 1) }

@@ -5,19 +5,21 @@ ghost use Rattle.qrmatrix.specs.Counting.{sum_below, count_below};
 ghost use Rattle.qrmatrix.specs.Bits.{bit};
 ghost use Rattle.qrmatrix.specs.Penalty.{begins_run};
 
+use crate::square::SIDE;
+
 /// The word of ones in the lowest `n` places.
 pub fn low_ones(n: usize) -> u64
-    requires { n ≤ 57 }
+    requires { n ≤ SIDE }
     ensures value { result ≡ 2 ^ n - 1 }
     ensures bits { (i : ℕ) → bit result i ≡ nat_lt i n }
-    ensures bound { result < 2 ^ 57 }
+    ensures bound { result < 2 ^ SIDE }
 {
     (1 << n) - 1
 }
 
 /// How many of the lowest `n` places have a one.
 pub fn ones_below(word: u64, n: usize) -> u32
-    requires { n ≤ 57 }
+    requires { n ≤ SIDE }
     ensures value { result ≡ count_below n (bit word) }
     ensures bound { result ≤ n }
 {
@@ -56,7 +58,7 @@ pub fn run_starts(word: u64) -> u64
 
 /// The penalty of runs, where `uniform` has the places of windows of one colour and `begins` those at which a run begins.
 pub fn run_points(uniform: u64, begins: u64, n: usize) -> u32
-    requires { n ≤ 57 }
+    requires { n ≤ SIDE }
     ensures value { result
         ≡ sum_below n (λ i. if bit uniform i then 1 + (if bit begins i then 2 else 0) else 0) }
     ensures bound { result ≤ 3 * n }

@@ -2,31 +2,35 @@
 ghost use Rattle.std.specs.Prelude.{◌≡◌, ℕ, ◌^◌, ◌<◌, Bool, ◌&&◌, ◌==◌, if◌then◌else◌, List, [], false, map, slice_index, All};
 ghost use Rattle.qrmatrix.specs.Bits.{bit};
 ghost use Rattle.qrmatrix.specs.Masks.{flip_if};
-ghost use Rattle.qrmatrix.specs.RowWords.{bits_of, AreRows};
-ghost use Rattle.qrmatrix.specs.Square.{value_at, WritesAt};
+ghost use Rattle.qrmatrix.specs.Private.Words.{low_bits, AreRows};
+ghost use Rattle.qrmatrix.specs.Square.{value_at};
+ghost use Rattle.qrmatrix.specs.Private.Squares.{WritesAt};
 
 use std::marker::Model;
+
+/// The modules of a side of the largest symbol, version 10 (ISO/IEC 18004, Table 1).
+pub const SIDE: usize = 57;
 
 /// A truth value for each column and row: bit x of word y is that at column x and row y.
 #[derive(Drop)]
 pub struct Square {
-    rows: [u64; 57],
+    rows: [u64; SIDE],
 }
 
 impl Model for Square {
     ghost Value = { List (List Bool) };
 
-    ghost view = { λ s. map bits_of s.rows };
+    ghost view = { λ s. map low_bits s.rows };
 
     ghost invariant = { λ s. AreRows s.rows };
 }
 
 /// The word with one bit written.
 fn with_bit(word: u64, x: usize, value: bool) -> u64
-    requires word { word < 2 ^ 57 }
-    requires place { x < 57 }
+    requires word { word < 2 ^ SIDE }
+    requires place { x < SIDE }
     ensures bits { (a : ℕ) → bit result a ≡ (if a == x then value else bit word a) }
-    ensures bound { result < 2 ^ 57 }
+    ensures bound { result < 2 ^ SIDE }
 {
     if value {
         word | (1 << x)
@@ -40,7 +44,7 @@ impl Square {
     pub fn new() -> Square
         ensures { (x y : ℕ) → value_at result x y ≡ false }
     {
-        Square { rows: [0; 57] }
+        Square { rows: [0; SIDE] }
     }
 
     /// The same square again.
@@ -52,8 +56,8 @@ impl Square {
 
     /// The value at column `x` and row `y`.
     pub fn get(&self, x: usize, y: usize) -> bool
-        requires column { x < 57 }
-        requires row { y < 57 }
+        requires column { x < SIDE }
+        requires row { y < SIDE }
         ensures { result ≡ value_at self.now x y }
     {
         (self.rows[y] >> x) & 1 == 1
@@ -61,8 +65,8 @@ impl Square {
 
     /// Writes one value.
     pub fn set(&mut self, x: usize, y: usize, value: bool)
-        requires column { x < 57 }
-        requires row { y < 57 }
+        requires column { x < SIDE }
+        requires row { y < SIDE }
         ensures { WritesAt self.old self.new x y value }
     {
         self.rows[y] = with_bit(self.rows[y], x, value);
@@ -70,17 +74,17 @@ impl Square {
 
     /// The word of row `y`.
     pub fn row(&self, y: usize) -> u64
-        requires { y < 57 }
+        requires { y < SIDE }
         ensures bits { (x : ℕ) → bit result x ≡ value_at self.now x y }
-        ensures bound { result < 2 ^ 57 }
+        ensures bound { result < 2 ^ SIDE }
     {
         self.rows[y]
     }
 
     /// Turns the modules of row `y` over that have a bit in the word.
     pub fn flip(&mut self, y: usize, word: u64)
-        requires row { y < 57 }
-        requires word { word < 2 ^ 57 }
+        requires row { y < SIDE }
+        requires word { word < 2 ^ SIDE }
         ensures { (a b : ℕ) → value_at self.new a b
             ≡ flip_if (b == y && bit word a) (value_at self.old a b) }
     {
@@ -88,9 +92,9 @@ impl Square {
     }
 
     /// The words, one a row.
-    pub fn rows(&self) -> &[u64; 57]
+    pub fn rows(&self) -> &[u64; SIDE]
         ensures bits { (x y : ℕ) → bit (slice_index result.now y) x ≡ value_at self.now x y }
-        ensures narrow { All (λ w. w < 2 ^ 57) result.now }
+        ensures narrow { All (λ w. w < 2 ^ SIDE) result.now }
     {
         &self.rows
     }

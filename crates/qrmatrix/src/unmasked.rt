@@ -1,12 +1,13 @@
 //! A symbol before its mask: what stays under all eight masks is drawn once.
 ghost use Rattle.std.specs.Prelude.{◌≡◌, ℕ, ◌<◌, false, List};
 ghost use Rattle.qrdata.specs.Versions.{side_of};
-ghost use Rattle.qrmatrix.specs.Drawing.{drawn_by, MarksFunctions, Places};
+ghost use Rattle.qrmatrix.specs.Private.Drawing.{drawn_by, MarksFunctions, Places};
 ghost use Rattle.qrmatrix.specs.Functions.{role};
 ghost use Rattle.qrmatrix.specs.MaskChoice.{least_place, penalties};
 ghost use Rattle.qrmatrix.specs.Modules.{module_at};
 ghost use Rattle.qrmatrix.specs.Penalty;
-ghost use Rattle.qrmatrix.specs.Square.{value_at, SameOutside};
+ghost use Rattle.qrmatrix.specs.Square.{value_at};
+ghost use Rattle.qrmatrix.specs.Private.Squares.{SameOutside};
 
 use crate::format::draw_format;
 use crate::function::function_row;

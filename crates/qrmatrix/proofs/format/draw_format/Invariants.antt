@@ -1,6 +1,6 @@
 use Rattle.std.proofs.Common.{◌≡◌}
 use Rattle.qrdata.specs.Versions.{side_of}
-use Rattle.qrmatrix.specs.Drawing.{format_by}
+use Rattle.qrmatrix.specs.Private.Drawing.{format_by}
 use Rattle.qrmatrix.specs.Functions.{role}
 use Rattle.qrmatrix.specs.Information.{format_word}
 use Rattle.qrmatrix.specs.Masks.{flip_if}

@@ -1,6 +1,6 @@
 use Rattle.std.proofs.Common.{◌≡◌, ◌%◌}
 use Rattle.qrmatrix.proofs.Passes.{Mapped}
-use Rattle.qrmatrix.specs.Drawing.{masked}
+use Rattle.qrmatrix.specs.Private.Drawing.{masked}
 use Rattle.qrmatrix.proofs.mask.apply_mask.Given as goal
 
 abbrev pub invariant-loop-y : goal.invariant-loop-y

@@ -1,7 +1,7 @@
 use Rattle.std.proofs.Common.{◌≡◌, ◌+◌, ◌-◌, ◌*◌, ◌/◌, ◌<◌, arith, subst, sym}
 use Rattle.qrdata.specs.Versions.{side_of}
 use Rattle.qrmatrix.specs.Square.{value_at}
-use Rattle.qrmatrix.specs.WordPairs.{ArePairs}
+use Rattle.qrmatrix.specs.Private.WordPairs.{ArePairs}
 use Rattle.qrmatrix.proofs.CursorSteps.{AtRow, Placed, row_of, row_up, row_down, placed_none, placed_pair, placed_two, light_ahead}
 use Rattle.qrmatrix.proofs.EachVersion.{computed}
 use Rattle.qrmatrix.proofs.Ranks.{outside_at, below_at}

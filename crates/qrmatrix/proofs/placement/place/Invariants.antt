@@ -1,7 +1,7 @@
 use Rattle.std.proofs.Common.{◌≡◌, ◌+◌, ◌-◌, ◌*◌, ◌/◌, ◌<◌}
 use Rattle.qrdata.specs.Versions.{side_of}
 use Rattle.qrmatrix.specs.Square.{value_at}
-use Rattle.qrmatrix.specs.WordPairs.{ArePairs}
+use Rattle.qrmatrix.specs.Private.WordPairs.{ArePairs}
 use Rattle.qrmatrix.proofs.CursorSteps.{Placed, right_column}
 use Rattle.qrmatrix.proofs.placement.place.Given as goal
 

@@ -1,6 +1,6 @@
 use Rattle.std.proofs.Common.{ℕ, ◌+◌, subst, sym}
 use Rattle.qrmatrix.specs.Placement.{codeword_bit}
-use Rattle.qrmatrix.specs.WordPairs.{ShowsTwo}
+use Rattle.qrmatrix.specs.Private.WordPairs.{ShowsTwo}
 use Rattle.qrmatrix.proofs.WordPairs.{two_shown}
 use Rattle.qrmatrix.proofs.placement.two_bits.Goals as goal
 

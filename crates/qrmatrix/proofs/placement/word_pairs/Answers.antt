@@ -1,5 +1,5 @@
 use Rattle.std.proofs.Common.{◌≡◌, ◌*◌, ◌-◌, length, subst, ap, arith, refl}
-use Rattle.qrmatrix.specs.WordPairs.{ArePairs}
+use Rattle.qrmatrix.specs.Private.WordPairs.{ArePairs}
 use Rattle.std.specs.Prelude.{slice_set}
 use Rattle.qrmatrix.proofs.WordPairs.{no_pairs, pairs_last}
 use Rattle.qrmatrix.proofs.placement.word_pairs.Goals as goal

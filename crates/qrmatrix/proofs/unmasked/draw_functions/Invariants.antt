@@ -1,6 +1,6 @@
 use Rattle.std.proofs.Common.{◌≡◌, not}
 use Rattle.qrdata.specs.Versions.{side_of}
-use Rattle.qrmatrix.specs.Drawing.{drawn_by}
+use Rattle.qrmatrix.specs.Private.Drawing.{drawn_by}
 use Rattle.qrmatrix.specs.Functions.{is_free, role}
 use Rattle.qrmatrix.proofs.Passes.{Mapped}
 use Rattle.qrmatrix.proofs.unmasked.draw_functions.Given as goal

@@ -1,6 +1,6 @@
 use Rattle.std.proofs.Common.{ℕ, ◌<◌, List}
 use Rattle.qrdata.specs.Versions.{side_of}
-use Rattle.qrmatrix.specs.Drawing.{IsUnmasked}
+use Rattle.qrmatrix.specs.Private.Drawing.{IsUnmasked}
 use Rattle.qrmatrix.specs.Modules.{module_at}
 use Rattle.qrmatrix.specs.Penalty.{penalty}
 use Rattle.qrmatrix.proofs.LeastMask.{Found}

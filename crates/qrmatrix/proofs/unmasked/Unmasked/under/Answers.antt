@@ -2,7 +2,7 @@ use Rattle.std.proofs.Common.{◌∙◌, sym, subst, arith, ◌<◌, ◌≤◌, 
 use Rattle.std.proofs.lemmas.Bool.{cases_lt, and_left, and_right, le-ltb}
 use Rattle.std.specs.Prelude.{nat_lt}
 use Rattle.qrdata.specs.Versions.{side_of}
-use Rattle.qrmatrix.specs.Drawing.{ShowsFormat}
+use Rattle.qrmatrix.specs.Private.Drawing.{ShowsFormat}
 use Rattle.qrmatrix.proofs.UnderMask.{under}
 use Rattle.qrmatrix.proofs.ReadBack.{inside_from, module_inside, module_outside}
 use Rattle.qrmatrix.proofs.unmasked.Unmasked.under.Goals as goal

@@ -7,7 +7,8 @@ use Rattle.qrmatrix.specs.Functions.{Role, Function, Format, Version, Free, role
 use Rattle.qrmatrix.specs.Information.{format_word, version_word}
 use Rattle.qrmatrix.specs.Masks.{is_flipped, flip_if}
 use Rattle.qrmatrix.specs.Placement.{codeword_bit, rank}
-use Rattle.qrmatrix.specs.Square.{value_at, SameOutside}
+use Rattle.qrmatrix.specs.Square.{value_at}
+use Rattle.qrmatrix.specs.Private.Squares.{SameOutside}
 use Rattle.qrmatrix.specs.declared.function.PatternRow.{PatternRow}
 use Rattle.qrmatrix.specs.declared.unmasked.Unmasked.{Unmasked}
 

@@ -1,14 +1,15 @@
 -- A symbol of version 1 at level M with the digits 01234567 (the example of ISO/IEC 18004, Annex I), computed by the
 -- definitions: its modules and its penalty under mask 2, its penalties under all masks, and its reading.
 use Rattle.std.proofs.Common.{◌≡◌, ℕ, refl, List, [], ◌∷◌, map, Option, None, Some}
-use Rattle.std.specs.Prelude.{slice_index, slice_set}
+use Rattle.std.specs.Prelude.{slice_index, slice_set, reverse}
 use Rattle.std.specs.List.{range_with_len}
 use Rattle.labelcore.specs.declared.options.Level.TheVariants.{M}
+use Rattle.qrdata.specs.Bits.{number_of}
 use Rattle.qrmatrix.specs.Bits.{bit}
 use Rattle.qrmatrix.specs.MaskChoice.{penalties}
 use Rattle.qrmatrix.specs.Modules.{module_at}
 use Rattle.qrmatrix.specs.Penalty.{penalty}
-use Rattle.qrmatrix.specs.Reading.{Reading, low_first, read_matrix}
+use Rattle.qrmatrix.specs.Reading.{Reading, read_matrix}
 
 codewords : List ℕ
 codewords =
@@ -23,8 +24,8 @@ rows =
     ∷ 0x078210 ∷ 0x0129F8 ∷ 0x067D00 ∷ 0x00D67F ∷ 0x147D41 ∷ 0x06915D ∷ 0x00935D ∷ 0x052D5D ∷ 0x0D8041 ∷ 0x052F7F ∷ []
 
 row : ℕ → ℕ → ℕ
-unfolding module_at codewords
-row mask y = low_first (map (λ x. module_at 1 M mask codewords x y) (range_with_len 0 21))
+unfolding module_at codewords number_of
+row mask y = number_of (reverse (map (λ x. module_at 1 M mask codewords x y) (range_with_len 0 21)))
 
 modules : map (row 2) (range_with_len 0 21) ≡ rows
 unfolding row rows

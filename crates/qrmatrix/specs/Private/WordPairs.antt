@@ -1,10 +1,11 @@
 -- How the codewords lie ready for placement, two bits at a time (ISO/IEC 18004, 7.7.3).
 use Rattle.std.specs.Prelude.{◌≡◌, ℕ, ◌+◌, ◌*◌, ◌<◌, Bool, List, slice_index}
 use Rattle.qrmatrix.specs.Bits.{bit}
+use Rattle.qrmatrix.specs.declared.placement.TheConstants.{PAIRS}
 
 -- each number has a codeword as its high byte and the next one as its low byte, zeros past the last
 pub record ArePairs (words pairs : List ℕ) : Type 0 where
-  pub each : (j : ℕ) → j < 400 → slice_index pairs j ≡ slice_index words j * 256 + slice_index words (j + 1)
+  pub each : (j : ℕ) → j < PAIRS → slice_index pairs j ≡ slice_index words j * 256 + slice_index words (j + 1)
   pub narrow : (j : ℕ) → slice_index words j < 256
 
 -- the bits of a number below 4, the first one higher

@@ -1,0 +1,19 @@
+-- What an operation changes of a square of truth values.
+use Rattle.std.specs.Prelude.{◌≡◌, ◌≤◌, ◌+◌, ℕ, Bool, List, if◌then◌else◌, ◌==◌, ◌&&◌}
+use Rattle.qrmatrix.specs.Square.{value_at}
+
+-- new is old with a value written at column x and row y
+abbrev pub WritesAt : List (List Bool) → List (List Bool) → ℕ → ℕ → Bool → Type 0
+WritesAt old new x y value =
+    (a b : ℕ) → value_at new a b ≡ (if (a == x) && (b == y) then value else value_at old a b)
+
+-- new is old with values written in row y, at column x and at the next one
+abbrev pub WritesTwo : List (List Bool) → List (List Bool) → ℕ → ℕ → Bool → Bool → Type 0
+WritesTwo old new x y value next =
+    (a b : ℕ) → value_at new a b
+    ≡ (if (a == x) && (b == y) then value else (if (a == x + 1) && (b == y) then next else value_at old a b))
+
+-- the places outside n columns and rows are as they were
+pub record SameOutside (n : ℕ) (old new : List (List Bool)) : Type 0 where
+  pub columns : (x y : ℕ) → n ≤ x → value_at new x y ≡ value_at old x y
+  pub rows : (x y : ℕ) → n ≤ y → value_at new x y ≡ value_at old x y
