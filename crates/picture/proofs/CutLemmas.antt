@@ -1,7 +1,6 @@
 -- Streams of files, cut again.
-use Rattle.std.proofs.Common.{◌≡◌, ℕ, suc, zero, ◌+◌, ◌-◌, ◌%◌, ◌^◌, ◌<◌, Bool, true, false, not, ◌||◌, ◌==◌, ◌⊎◌, inl, inr, List, [], ◌∷◌, ◌++◌, map, refl, ap, sym, subst, ◌∙◌, arith, flat_map, decimal, codes, append_assoc, if◌then◌else◌}
+use Rattle.std.proofs.Common.{◌≡◌, ℕ, suc, zero, ◌+◌, ◌-◌, ◌%◌, ◌^◌, ◌<◌, Bool, true, false, not, ◌||◌, ◌==◌, ◌⊎◌, inl, inr, List, [], ◌∷◌, ◌++◌, map, refl, ap, sym, subst, ◌∙◌, arith, flat_map, decimal, append_assoc, if◌then◌else◌}
 use Rattle.std.specs.List.{list_all, concat, range_with_len, AllByRecursion}
-use Rattle.std.specs.Str.{bytes_eq}
 use Rattle.std.specs.Str.Parse.{AllDigits}
 use Rattle.std.proofs.lemmas.List.{append-nil}
 use Rattle.std.proofs.lemmas.List.Folds.{list_all-append}
@@ -13,7 +12,7 @@ use Rattle.picture.specs.Picture.{Picture}
 use Rattle.picture.specs.RoundTrip.{IsDrawable, PbmFilesAreTexts}
 use Rattle.picture.specs.Text.{below, pbm_digit, pbm_header}
 use Rattle.picture.proofs.ColumnLemmas.{pbm_line_end, pbm_pixel, pbm_columns, columns_text, texts_by_columns, map_by_columns}
-use Rattle.picture.specs.Read.{cut_after, cut_before, begins_part, onto_parts, is_line_feed, whole_lines, pbm_files}
+use Rattle.picture.specs.Read.{cut_after, cut_before, begins_part, onto_parts, is_line_feed, is_magic, whole_lines, pbm_files}
 
 -- a list that is not empty
 data IsSome {X : Type 0} : List X → Type 0 where
@@ -87,9 +86,6 @@ whole_lines-append s t h =
 -- a text without the letter P
 abbrev has_no_P : List ℕ → Bool
 has_no_P text = list_all (λ b. not (b == 80)) text
-
-abbrev is_magic : List ℕ → Bool
-is_magic line = bytes_eq line (codes "P1\n")
 
 not_magic : (line : List ℕ) → has_no_P line ≡ true → is_magic line ≡ false
 not_magic [] none = refl

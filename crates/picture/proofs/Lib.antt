@@ -1,12 +1,12 @@
 pub mod AsciiLemmas
 pub mod ColumnLemmas
 pub mod CutLemmas
+pub mod Examples
 pub mod GridLemmas
 pub mod HeaderLemmas
 pub mod LetterLemmas
 pub mod LineLemmas
 pub mod PbmLemmas
-pub mod PictureRows
 pub mod RasterLemmas
 pub mod SampleLemmas
 pub mod ShortLineLemmas

@@ -137,9 +137,13 @@ is_line_feed b = b == LF
 abbrev pub whole_lines : List ℕ → List (List ℕ)
 whole_lines stream = cut_after is_line_feed stream
 
+-- the line `P1`, with its line feed or, at a stream's end, without one
+abbrev pub is_magic : List ℕ → Bool
+is_magic line = bytes_eq line (codes "P1\n") || bytes_eq line (codes "P1")
+
 -- the files of a stream: each begins with a line `P1`
 abbrev pub pbm_files : List ℕ → List (List ℕ)
-pbm_files stream = map concat (cut_before (λ line. bytes_eq line (codes "P1\n")) (whole_lines stream))
+pbm_files stream = map concat (cut_before is_magic (whole_lines stream))
 
 -- the text pictures of a stream: each ends with an empty line
 abbrev pub ascii_files : List ℕ → List (List ℕ)

@@ -1,4 +1,6 @@
 //! Worked texts, and each public call once.
+mod widths;
+
 use crate::*;
 use labelcore::{IoFault, MemSink};
 use std::process::Abort;
@@ -97,63 +99,6 @@ fn pbm_of_full_lines(rt: HostRuntime) {
     }
     assert_line(&rt, lines.next(), b'\n', 0);
     assert_eq!(rt; lines.next(), None);
-}
-
-/// Every third column is dark, from the first in row 0 and from the second in row 1.
-#[derive(Drop)]
-struct Stripes {
-    width: usize,
-}
-
-impl Grid for Stripes {
-    ghost use Rattle.std.specs.Prelude.{◌%◌, ◌==◌};
-
-    ghost picture = { λ s. record { width = s.width; height = 2; dark = λ x y. x % 3 == y } };
-
-    fn width(&self) -> usize {
-        self.width
-    }
-
-    fn height(&self) -> usize {
-        2
-    }
-
-    fn dark(&self, x: usize, y: usize) -> bool {
-        x % 3 == y
-    }
-}
-
-/// A line of so many pixels, from a column on.
-fn assert_stripe(rt: &impl Abort, line: &[u8], x: usize, y: usize, count: usize) {
-    assert_eq!(rt; line.len(), count);
-    for i in 0..line.len() {
-        assert_eq!(rt; line[i] == b'1', (x % 3 + i % 3) % 3 == y);
-    }
-}
-
-/// The two rows of stripes, in lines of 70 pixels.
-fn assert_stripes(rt: &impl Abort, width: usize) {
-    let mut sink = MemSink::<40000>::new(4096, 40000);
-    assert_eq!(rt; write_pbm(&Stripes { width }, &mut sink), Ok(()));
-    let mut lines = sink.bytes().split(|byte| *byte == b'\n').skip(2);
-    for y in 0..2 {
-        for x in 0..width {
-            if x % 70 == 0 {
-                assert_stripe(rt, lines.next().unwrap_or(b""), x, y, (width - x).min(70));
-            }
-        }
-    }
-    assert_eq!(rt; lines.next(), Some(b"".as_slice()));
-    assert_eq!(rt; lines.next(), None);
-}
-
-#[test]
-fn rows_of_every_width(rt: HostRuntime) {
-    for width in [
-        1, 69, 70, 71, 140, 1119, 1120, 1121, 14559, 14560, 14561, 15000,
-    ] {
-        assert_stripes(&rt, width);
-    }
 }
 
 #[test]

@@ -1,0 +1,97 @@
+//! Rows at the widths where their form changes, against the slow form, which asks for each pixel.
+use crate::*;
+use labelcore::{IoFault, MemSink, Sink, write_whole};
+use std::process::Abort;
+
+/// About a line, the room for a row at scale 1, and the room for any label's row.
+const WIDTHS: [usize; 13] = [
+    1, 69, 70, 71, 140, 1119, 1120, 1121, 14520, 14559, 14560, 14561, 15000,
+];
+
+/// Every third column is dark, from the first in row 0 and from the second in row 1. It says of no rows that they are
+/// equal.
+#[derive(Drop)]
+struct Stripes {
+    width: usize,
+}
+
+impl Grid for Stripes {
+    ghost use Rattle.std.specs.Prelude.{◌%◌, ◌==◌};
+
+    ghost picture = { λ s. record { width = s.width; height = 2; dark = λ x y. x % 3 == y } };
+
+    fn width(&self) -> usize {
+        self.width
+    }
+
+    fn height(&self) -> usize {
+        2
+    }
+
+    fn dark(&self, x: usize, y: usize) -> bool {
+        x % 3 == y
+    }
+}
+
+/// The rows of a plain PBM file, a pixel at a time.
+fn write_pbm_slowly<G: Grid, S: Sink>(grid: &G, sink: &mut S) -> Result<(), IoFault> {
+    let width = grid.width();
+    for y in 0..grid.height() {
+        for x in 0..width {
+            write_whole(if grid.dark(x, y) { b"1" } else { b"0" }, sink)?;
+            if x % 70 == 69 || x == width - 1 {
+                write_whole(b"\n", sink)?;
+            }
+        }
+    }
+    Ok(())
+}
+
+/// A text picture, a pixel at a time.
+fn write_ascii_slowly<G: Grid, S: Sink>(grid: &G, sink: &mut S) -> Result<(), IoFault> {
+    for y in 0..grid.height() {
+        for x in 0..grid.width() {
+            write_whole(if grid.dark(x, y) { b"##" } else { b"  " }, sink)?;
+        }
+        write_whole(b"\n", sink)?;
+    }
+    write_whole(b"\n", sink)
+}
+
+/// Both texts of the grid, of at most four rows.
+fn assert_texts<G: Grid>(rt: &impl Abort, grid: &G) {
+    let mut sink = MemSink::<61000>::new(4096, 61000);
+    let mut slow = MemSink::<61000>::new(4096, 61000);
+    assert_eq!(rt; write_pbm(grid, &mut sink), Ok(()));
+    assert_eq!(rt; write_pbm_slowly(grid, &mut slow), Ok(()));
+    assert!(rt; sink.bytes().starts_with(b"P1\n"));
+    assert!(rt; sink.bytes().ends_with(slow.bytes()));
+    let header = sink.bytes().iter().position(|byte| *byte == b' ');
+    assert!(rt; header.is_some_and(|at| sink.bytes().len() == at + 3 + slow.bytes().len()));
+    let mut sink = MemSink::<121000>::new(4096, 121000);
+    let mut slow = MemSink::<121000>::new(4096, 121000);
+    assert_eq!(rt; write_ascii(grid, &mut sink), Ok(()));
+    assert_eq!(rt; write_ascii_slowly(grid, &mut slow), Ok(()));
+    assert!(rt; sink.bytes() == slow.bytes());
+}
+
+#[test]
+fn rows_that_are_not_known_to_be_equal(rt: HostRuntime) {
+    for width in WIDTHS {
+        assert_texts(&rt, &Stripes { width });
+    }
+}
+
+/// A light row, two rows that are equal, and a light row.
+#[test]
+fn rows_that_are_known_to_be_equal(rt: HostRuntime) {
+    let mut modules = [false; 15000];
+    for i in 0..15000 {
+        modules[i] = i % 5 == 0 || i % 7 == 3;
+    }
+    for width in WIDTHS {
+        let all = &modules[..];
+        let bars = Bars::new(&all[..width.min(15000)], 2);
+        assert_texts(&rt, &Framed::new(bars, 0, 0, 1, 1));
+    }
+}
