@@ -120,7 +120,7 @@ class Run:
             self.tell(pixels[0] and pixels[0] == pixels[1], f"docs/pictures/{name} is not what the page makes")
 
     def try_man_page(self):
-        """Lets mandoc and groff read the man page, and looks for each option of the help in it and in the completion."""
+        """Lets mandoc and groff read the man page, and looks for each option of the help in it and the completion."""
         page = f"{TOP}/man/labels.1"
         for words in (["mandoc", "-Tlint", page], ["groff", "-ww", "-man", "-z", page],
                       ["groff", "-ww", "-man", "-Tascii", "-z", page]):
