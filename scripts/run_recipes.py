@@ -3,22 +3,23 @@
 
 usage: scripts/run_recipes.py [--kit] [--long] [--times] [PROGRAM]
 
-The documents are README.md, docs/INPUT.md, docs/PRINTING.md, docs/RECIPES.md and the examples of man/labels.1. PROGRAM is
-crates/labels/out/labels where none is given: the proved program, which `rt run` in crates/labels leaves there.
+The documents are README.md, docs/INPUT.md, docs/PRINTING.md, docs/RECIPES.md and the examples of man/labels.1. PROGRAM
+is crates/labels/out/labels where none is given: the proved program, which `rt run` in crates/labels leaves there.
 
-In a page a block ```sh holds commands, and the block ```text right after it, if there is one, what they print on standard
-output and standard error together; where there is none, they print nothing. A block has to end with status 0. The blocks of
-a page run in their order, each by its own `sh`, at the top of a new copy of the repository's files, with the program, as
-`labels`, and the programs of tools on the path, and with a home of their own. In the man page an example with a prompt `$ `
-may end with any status; one without it has to end with status 0 and may print anything.
+In a page a block ```sh holds commands, and the block ```text right after it, if there is one, what they print on
+standard output and standard error together; where there is none, they print nothing. A block has to end with status 0.
+The blocks of a page run in their order, each by its own `sh`, at the top of a new copy of the repository's files, with
+the program, as `labels`, and the programs of tools on the path, and with a home of their own. In the man page an
+example with a prompt `$ ` may end with any status; one without it has to end with status 0 and may print anything.
 
 A block ```sh kit calls the kit, which proves for minutes, and may print anything; --kit runs it too, in a fresh clone,
-README.md first, and the other pages with the program that it builds. A block ```sh long takes minutes; --long runs it. A block ```sh gate is the merge gate, and never runs here.
+README.md first, and the other pages with the program that it builds. A block ```sh long takes minutes; --long runs it.
 --times tells the seconds of each block.
 
-The pictures that RECIPES.md makes must be those of docs/pictures, pixel for pixel. mandoc and groff must find nothing in the
-man page, and each option of the help text must stand in it and in the completion. The last line is `N of N as printed`;
-where one is not, the status is 1. Where a tool of the pages is missing, the script says so and ends with status 0.
+The pictures that RECIPES.md makes must be those of docs/pictures, pixel for pixel. mandoc and groff must find nothing
+in the man page, and each option of the help text must stand in it and in the completion. The last line is `N of N as
+printed`; where one is not, the status is 1. Where a tool of the pages is missing, the script says so and ends with
+status 0.
 """
 import os
 import re
@@ -29,8 +30,8 @@ import tempfile
 import time
 
 TOP = os.path.dirname(os.path.dirname(os.path.abspath(__file__)))
-TOOLS = ("man", "csplit", "awk", "iconv", "basenc", "bash", "pamfile", "pnmpad", "pnmcat", "pbmtext", "pnmtopng", "pnmtops",
-         "zbarimg", "gs", "convert", "pdftoppm", "pv", "parallel", "mandoc", "groff")
+TOOLS = ("man", "csplit", "awk", "iconv", "basenc", "bash", "pamfile", "pnmpad", "pnmcat", "pbmtext", "pnmtopng",
+         "pnmtops", "zbarimg", "gs", "convert", "pdftoppm", "pv", "parallel", "mandoc", "groff")
 PROGRAM = "crates/labels/out/labels"
 PAGES = ("README.md", "docs/INPUT.md", "docs/PRINTING.md", "docs/RECIPES.md")
 FOLDERS = ("man", "completions", "tools", "docs")
@@ -90,7 +91,8 @@ class Run:
             if self.program:
                 shutil.copy(self.program, f"{work}/{PROGRAM}")
             os.symlink(f"{work}/{PROGRAM}", f"{folder}/bin/labels")
-            environment = {**os.environ, "HOME": f"{folder}/home", "PATH": f"{folder}/bin:{TOP}/tools:{os.environ['PATH']}"}
+            environment = {**os.environ, "HOME": f"{folder}/home",
+                           "PATH": f"{folder}/bin:{TOP}/tools:{os.environ['PATH']}"}
             for commands, wanted, may_fail in blocks:
                 self.try_block(name, commands, wanted, may_fail, work, environment)
             if not self.program:
@@ -118,9 +120,10 @@ class Run:
             self.tell(pixels[0] and pixels[0] == pixels[1], f"docs/pictures/{name} is not what the page makes")
 
     def try_man_page(self):
-        """Lets mandoc and groff read the man page, and looks for each option of the help text in it and in the completion."""
+        """Lets mandoc and groff read the man page, and looks for each option of the help in it and the completion."""
         page = f"{TOP}/man/labels.1"
-        for words in (["mandoc", "-Tlint", page], ["groff", "-ww", "-man", "-Tutf8", "-z", page]):
+        for words in (["mandoc", "-Tlint", page], ["groff", "-ww", "-man", "-z", page],
+                      ["groff", "-ww", "-man", "-Tascii", "-z", page]):
             ran = subprocess.run(words, capture_output=True, text=True)
             self.tell(not ran.stdout + ran.stderr, f"{' '.join(words)}:\n{ran.stdout}{ran.stderr}")
         text = subprocess.run([self.program, "--help"], capture_output=True, text=True).stdout

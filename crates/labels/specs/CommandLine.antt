@@ -1,4 +1,5 @@
--- The command line `labels [options] [FILE]`: which words it takes, and what they ask for (docs/SPECIFICATION.md, Options).
+-- The command line `labels [options] [FILE]`: which words it takes, and what they ask for
+-- (docs/SPECIFICATION.md, Options).
 use Rattle.std.specs.Prelude.{◌≡◌, ◌≤◌, ◌⊎◌, ℕ, Bool, true, false, List, [], ◌∷◌, Option, Some, None, pos, codes, if◌then◌else◌, option_map, option_and_then, unwrap_or, IfSome}
 use Rattle.std.specs.Option.{option_map_or}
 use Rattle.std.specs.Str.{bytes_eq}

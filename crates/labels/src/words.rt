@@ -242,8 +242,8 @@ fn fault_of(alloc: Global, error: &clap::Error) -> WordsFault
 
 /// What the words after the program's name ask for.
 ///
-/// `Help` has the text that `-h` or `--help` asks for, `Bad` comes for words that the command does not take, and `Memory`
-/// where memory ran out.
+/// `Help` has the text that `-h` or `--help` asks for, `Bad` comes for words that the command does not take, and
+/// `Memory` where memory ran out.
 pub fn options_of(alloc: Global, words: &[String]) -> Result<Choice, WordsFault>
     ensures { Answers (invocation_of (map string_bytes words.now)) result }
 {
