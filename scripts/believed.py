@@ -16,6 +16,7 @@ definition and means something else in its file counts as that word: the list ma
 import os
 import re
 import sys
+import textwrap
 
 TOP = os.path.dirname(os.path.dirname(os.path.abspath(__file__)))
 ROOT = ("filter", "Run", "RunsWhole")
@@ -45,7 +46,7 @@ class File:
 
     def __init__(self, crate, module, text):
         self.crate, self.module = crate, module
-        self.names, self.modules, self.operators = {}, {}, {}
+        self.names, self.modules = {}, {}
         self.of_name, self.order = {}, []
         lines = text.split("\n")
         self.about = lines[0].removeprefix("-- ") if lines and lines[0].startswith("-- ") else ""
@@ -192,7 +193,8 @@ def part(files, definitions, whys):
     for crate, modules in by_file(definitions):
         out += ["", f"### `{crate}`"]
         for module, inside in modules.items():
-            out += ["", f"**`{module}`**: {files[crate, module].about}", ""]
+            about = f"**`{module}`**: {files[crate, module].about}"
+            out += ["", *textwrap.wrap(about, 118, break_long_words=False, break_on_hyphens=False), ""]
             if (crate, module) in whys:
                 out += [whys[crate, module], ""]
             out += ["| Word | What it says |", "|---|---|"]
