@@ -203,7 +203,7 @@ fn without_bytes() -> Choices
 /// is the bits of the best segments of all the bytes. The limits of the character counts are left out, for they bind no
 /// segments that fit. Its time grows with the number of bytes.
 pub(crate) fn fill(version: Version, bytes: &[u8], firsts: &mut [Segment]) -> usize
-    requires few { length bytes.now ≤ 652 }
+    requires few { length bytes.now ≤ MAX_BYTES }
     requires firsts { length firsts.old ≡ 653 }
     ensures bits { result ≡ fewest_bits version.number bytes.now }
     ensures firsts { HasFirsts version.number bytes.now 0 firsts.new }
