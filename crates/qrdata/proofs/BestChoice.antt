@@ -6,7 +6,7 @@ use Rattle.std.proofs.lemmas.List.Sums.{sum_by-cons}
 use Rattle.qrdata.specs.declared.mode.Mode.{Mode}
 use Rattle.qrdata.specs.declared.mode.Mode.TheVariants.{Numeric, Alphanumeric, Byte}
 use Rattle.qrdata.specs.declared.mode.Segment.{Segment}
-use Rattle.qrdata.specs.declared.table.Choice.{Choice}
+use Rattle.qrdata.specs.Private.ChoiceView.{ChoiceView}
 use Rattle.qrdata.specs.declared.table.Choices.{Choices}
 use Rattle.qrdata.specs.declared.table.TheConstants.{ABSENT}
 use Rattle.qrdata.specs.Segments.{IsSegmentation, cost, has_character, segment_length}
@@ -66,22 +66,22 @@ best-least version (b ∷ bytes) mode n some inside =
     rw (best_is version b bytes) (best_beats version (b ∷ bytes) (choices_of version (b ∷ bytes)) (AreBest-of version (b ∷ bytes)) mode n some inside)
 
 -- a choice of a first segment of the bytes
-pub record IsFront (version : ℕ) (bytes : List ℕ) (c : Choice) : Type 0 where
+pub record IsFront (version : ℕ) (bytes : List ℕ) (c : ChoiceView) : Type 0 where
   pub some : 0 < c.segment.len
   pub inside : c.segment.len ≤ run_length (has_character c.segment.mode) bytes
   pub sum : c.bits ≡ total version bytes c.segment.mode c.segment.len
 
-abbrev IsNoneOrFront : (version : ℕ) (bytes : List ℕ) (c : Choice) → Type 0
+abbrev IsNoneOrFront : (version : ℕ) (bytes : List ℕ) (c : ChoiceView) → Type 0
 IsNoneOrFront version bytes c = (ABSENT ≤ c.bits) ⊎ IsFront version bytes c
 
-front_of : (version : ℕ) (bytes : List ℕ) (mode : Mode) (class : ℕ) (c : Choice) → IsNoneOrReal version bytes mode class c → IsNoneOrFront version bytes c
+front_of : (version : ℕ) (bytes : List ℕ) (mode : Mode) (class : ℕ) (c : ChoiceView) → IsNoneOrReal version bytes mode class c → IsNoneOrFront version bytes c
 front_of version bytes mode class c (inl none) = inl none
 front_of version bytes mode class c (inr r) = inr (record { some = r.some; inside = rw r.same_mode r.inside; sum = rw r.same_mode r.sum })
 
 best_front : (version : ℕ) (bytes : List ℕ) (choices : Choices) → AreBest version bytes choices → IsNoneOrFront version bytes (best_choice choices.digits choices.characters choices.bytes)
 unfolding best_choice
 best_front version bytes choices are =
-    let P : Choice → Type 0 = IsNoneOrFront version bytes in
+    let P : ChoiceView → Type 0 = IsNoneOrFront version bytes in
     let a = choices.digits.none_over in
     let b = choices.digits.one_over in
     let c = choices.digits.two_over in

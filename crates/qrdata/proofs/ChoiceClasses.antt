@@ -4,7 +4,7 @@ use Rattle.std.proofs.lemmas.Bool.{cases_lt}
 use Rattle.std.specs.Char.{is_ascii_digit}
 use Rattle.qrdata.specs.declared.mode.Mode.{Mode}
 use Rattle.qrdata.specs.declared.mode.Mode.TheVariants.{Numeric, Alphanumeric, Byte}
-use Rattle.qrdata.specs.declared.table.Choice.{Choice}
+use Rattle.qrdata.specs.Private.ChoiceView.{ChoiceView}
 use Rattle.qrdata.specs.declared.table.Choices.{Choices}
 use Rattle.qrdata.specs.declared.table.Digits.{Digits}
 use Rattle.qrdata.specs.declared.table.Characters.{Characters}
@@ -25,7 +25,7 @@ class_of Alphanumeric n = n % 2
 class_of Byte n = 0
 
 -- a choice of a segment of the bytes
-pub record IsReal (version : ℕ) (bytes : List ℕ) (mode : Mode) (class : ℕ) (c : Choice) : Type 0 where
+pub record IsReal (version : ℕ) (bytes : List ℕ) (mode : Mode) (class : ℕ) (c : ChoiceView) : Type 0 where
   pub same_mode : c.segment.mode ≡ mode
   pub some : 0 < c.segment.len
   pub inside : c.segment.len ≤ run_length (has_character mode) bytes
@@ -33,11 +33,11 @@ pub record IsReal (version : ℕ) (bytes : List ℕ) (mode : Mode) (class : ℕ)
   pub sum : c.bits ≡ total version bytes mode c.segment.len
 
 -- there is no such choice, or it is one
-abbrev pub IsNoneOrReal : (version : ℕ) (bytes : List ℕ) (mode : Mode) (class : ℕ) (c : Choice) → Type 0
+abbrev pub IsNoneOrReal : (version : ℕ) (bytes : List ℕ) (mode : Mode) (class : ℕ) (c : ChoiceView) → Type 0
 IsNoneOrReal version bytes mode class c = (ABSENT ≤ c.bits) ⊎ IsReal version bytes mode class c
 
 -- a best choice of a mode and a class of lengths, if none of at most `from` bytes count
-pub record IsClass (version : ℕ) (bytes : List ℕ) (mode : Mode) (class from : ℕ) (c : Choice) : Type 0 where
+pub record IsClass (version : ℕ) (bytes : List ℕ) (mode : Mode) (class from : ℕ) (c : ChoiceView) : Type 0 where
   pub real : IsNoneOrReal version bytes mode class c
   pub least : (n : ℕ) → from < n → n ≤ run_length (has_character mode) bytes → class_of mode n ≡ class → Beats c (total version bytes mode n) n
 
@@ -50,7 +50,7 @@ pub record Steps (mode : Mode) (class next added : ℕ) : Type 0 where
   pub back : (n : ℕ) → class_of mode (suc n) ≡ next → class_of mode n ≡ class
   pub adds : (n : ℕ) → 0 < n → class_of mode n ≡ class → payload_length mode (suc n) ≡ payload_length mode n + added
 
-least_longer : (version b : ℕ) (bytes : List ℕ) (mode : Mode) (class next added : ℕ) (c : Choice) → has_character mode b ≡ true → Steps mode class next added → IsClass version bytes mode class 0 c
+least_longer : (version b : ℕ) (bytes : List ℕ) (mode : Mode) (class next added : ℕ) (c : ChoiceView) → has_character mode b ≡ true → Steps mode class next added → IsClass version bytes mode class 0 c
     → (n : ℕ) → 1 < n → n ≤ run_length (has_character mode) (b ∷ bytes) → class_of mode n ≡ next → Beats (longer_choice c added) (total version (b ∷ bytes) mode n) n
 least_longer version b bytes mode class next added c t steps old zero more inside same = absurd (omega arith)
 least_longer version b bytes mode class next added c t steps old (suc n) more inside same =
@@ -59,7 +59,7 @@ least_longer version b bytes mode class next added c t steps old (suc n) more in
     let adds = steps.adds n (omega arith) here in
     (omega arith, λ less. omega (arith, before.1 (omega arith)))
 
-real_longer : (version b : ℕ) (bytes : List ℕ) (mode : Mode) (class next added : ℕ) (c : Choice) → has_character mode b ≡ true → Steps mode class next added → IsNoneOrReal version bytes mode class c
+real_longer : (version b : ℕ) (bytes : List ℕ) (mode : Mode) (class next added : ℕ) (c : ChoiceView) → has_character mode b ≡ true → Steps mode class next added → IsNoneOrReal version bytes mode class c
     → IsNoneOrReal version (b ∷ bytes) mode next (longer_choice c added)
 real_longer version b bytes mode class next added c t steps (inl none) = inl (omega arith)
 real_longer version b bytes mode class next added c t steps (inr r) = inr (record {
@@ -71,7 +71,7 @@ real_longer version b bytes mode class next added c t steps (inr r) = inr (recor
 })
 
 -- the best choice of more than one byte
-IsClass-longer : (version b : ℕ) (bytes : List ℕ) (mode : Mode) (class next added : ℕ) (c : Choice) → has_character mode b ≡ true → Steps mode class next added → IsClass version bytes mode class 0 c
+IsClass-longer : (version b : ℕ) (bytes : List ℕ) (mode : Mode) (class next added : ℕ) (c : ChoiceView) → has_character mode b ≡ true → Steps mode class next added → IsClass version bytes mode class 0 c
     → IsClass version (b ∷ bytes) mode next 1 (longer_choice c added)
 IsClass-longer version b bytes mode class next added c t steps old = record {
   real = real_longer version b bytes mode class next added c t steps old.real;
@@ -79,7 +79,7 @@ IsClass-longer version b bytes mode class next added c t steps old = record {
 }
 
 -- where no segment of one byte is of the class
-IsClass-whole : (version : ℕ) (bytes : List ℕ) (mode : Mode) (class : ℕ) (c : Choice) → (class_of mode 1 ≡ class → ⊥) → IsClass version bytes mode class 1 c → IsClass version bytes mode class 0 c
+IsClass-whole : (version : ℕ) (bytes : List ℕ) (mode : Mode) (class : ℕ) (c : ChoiceView) → (class_of mode 1 ≡ class → ⊥) → IsClass version bytes mode class 1 c → IsClass version bytes mode class 0 c
 IsClass-whole version bytes mode class c other old = record {
   real = old.real;
   least = λ n some inside same. elim (cases_lt 1 n) [
@@ -89,7 +89,7 @@ IsClass-whole version bytes mode class c other old = record {
 }
 
 -- where one is
-IsClass-short : (version b : ℕ) (bytes : List ℕ) (mode : Mode) (class : ℕ) (c : Choice) → has_character mode b ≡ true → class_of mode 1 ≡ class → IsClass version (b ∷ bytes) mode class 1 c
+IsClass-short : (version b : ℕ) (bytes : List ℕ) (mode : Mode) (class : ℕ) (c : ChoiceView) → has_character mode b ≡ true → class_of mode 1 ≡ class → IsClass version (b ∷ bytes) mode class 1 c
     → IsClass version (b ∷ bytes) mode class 0 (better_choice c (short_choice version mode (fewest_bits version bytes)))
 IsClass-short version b bytes mode class c t one old =
     let s = short_choice version mode (fewest_bits version bytes) in record {

@@ -4,7 +4,7 @@ use Rattle.std.specs.Char.{is_ascii_digit}
 use Rattle.std.specs.Prelude.{nat_lt}
 use Rattle.qrdata.specs.declared.mode.Mode.{Mode}
 use Rattle.qrdata.specs.declared.mode.Mode.TheVariants.{Numeric, Alphanumeric, Byte}
-use Rattle.qrdata.specs.declared.table.Choice.{Choice}
+use Rattle.qrdata.specs.Private.ChoiceView.{ChoiceView}
 use Rattle.qrdata.specs.declared.table.Choices.{Choices}
 use Rattle.qrdata.specs.declared.table.Digits.{Digits}
 use Rattle.qrdata.specs.declared.table.Characters.{Characters}
@@ -14,7 +14,7 @@ use Rattle.qrdata.specs.Private.Table.{AreSmall, absent_choice, best_choice, bet
 use Rattle.qrdata.proofs.ChoiceOrder.{better-one}
 
 -- what a choice of at most so many bytes is below
-abbrev IsWithin : ℕ → Choice → Type 0
+abbrev IsWithin : ℕ → ChoiceView → Type 0
 IsWithin n c = (c.segment.len ≤ n) × (c.bits ≤ ABSENT + 28 * n)
 
 abbrev AreWithinDigits : ℕ → Digits → Type 0
@@ -29,7 +29,7 @@ pub record AreWithin (n : ℕ) (choices : Choices) : Type 0 where
   pub byte : IsWithin n choices.bytes
   pub best : IsWithin n choices.best
 
-within_longer : (n added : ℕ) (c : Choice) → added ≤ 28 → IsWithin n c → IsWithin (suc n) (longer_choice c added)
+within_longer : (n added : ℕ) (c : ChoiceView) → added ≤ 28 → IsWithin n c → IsWithin (suc n) (longer_choice c added)
 within_longer n added c little h = (omega arith, omega arith)
 
 -- one byte has at most 28 bits
@@ -41,7 +41,7 @@ short_bits version Byte = elim (nat_lt version 10) as (λ t. 4 + cond t 8 16 + 8
 within_short : (version : ℕ) (mode : Mode) (n after : ℕ) → after ≤ ABSENT + 28 * n → IsWithin (suc n) (short_choice version mode after)
 within_short version mode n after h = (omega arith, omega (arith, short_bits version mode))
 
-within_better : (n : ℕ) (c d : Choice) → IsWithin n c → IsWithin n d → IsWithin n (better_choice c d)
+within_better : (n : ℕ) (c d : ChoiceView) → IsWithin n c → IsWithin n d → IsWithin n (better_choice c d)
 within_better n c d h k = better-one (IsWithin n) c d h k
 
 within_digits : (version b after n : ℕ) (rest : Digits) → AreWithinDigits n rest → after ≤ ABSENT + 28 * n → AreWithinDigits (suc n) (next_digits version b after rest)
@@ -71,7 +71,7 @@ within_characters version b after n rest h k =
       | false ↦ ((omega arith, omega arith), (omega arith, omega arith))
     ]
 
-within_best : (n : ℕ) (digits : Digits) (characters : Characters) (byte : Choice) → AreWithinDigits n digits → AreWithinCharacters n characters → IsWithin n byte → IsWithin n (best_choice digits characters byte)
+within_best : (n : ℕ) (digits : Digits) (characters : Characters) (byte : ChoiceView) → AreWithinDigits n digits → AreWithinCharacters n characters → IsWithin n byte → IsWithin n (best_choice digits characters byte)
 unfolding best_choice
 within_best n digits characters byte h k l =
     let two = better_choice digits.none_over digits.one_over in

@@ -9,11 +9,14 @@ ghost use Rattle.std.specs.Char.{is_ascii_digit};
 ghost use Rattle.std.specs.List.{list_all};
 ghost use Rattle.std.specs.Prelude.{◌≡◌, ◌+◌, ◌*◌, ◌/◌, ◌^◌, ◌<◌, ◌≤◌, [], ◌++◌, All, IsTrue, length};
 
-use crate::blocks::Words;
+use crate::blocks::{MAX_WORDS, Words};
 use crate::mode::{Mode, Segment, value_of};
 use crate::version::Version;
 
-/// The bits of a symbol's data, at most the data bits of version 10 at level L: whole codewords, and the bits after them.
+/// The most data bits of a symbol, those of version 10 at level L.
+const MAX_BITS: usize = 2192;
+
+/// The bits of a symbol's data: whole codewords, and the bits after them.
 #[derive(Drop)]
 pub(crate) struct Bits {
     /// The codewords, the first bits.
@@ -61,7 +64,7 @@ impl Bits {
     #[inline(always)]
     fn push_number(&mut self, number: u32, width: usize)
         requires narrow { width ≤ 16 }
-        requires room { length (bits_in self.old) + width ≤ 2192 }
+        requires room { length (bits_in self.old) + width ≤ MAX_BITS }
         ensures { bits_in self.new ≡ bits_in self.old ++ bits_of width number }
     {
         let unit = power_of_two(width);
@@ -82,7 +85,8 @@ impl Bits {
     /// Writes digits: three in ten bits, two that are left in seven, one in four.
     fn push_digits(&mut self, digits: &[u8])
         requires digits { IsTrue (list_all is_ascii_digit digits.now) }
-        requires room { length (bits_in self.old) + payload_length Numeric (length digits.now) ≤ 2192 }
+        requires room { length (bits_in self.old)
+            + payload_length Numeric (length digits.now) ≤ MAX_BITS }
         ensures { bits_in self.new ≡ bits_in self.old ++ numeric_bits digits.now }
     {
         let mut place = 0;
@@ -108,7 +112,7 @@ impl Bits {
     /// Writes alphanumeric characters: two in eleven bits, one that is left in six.
     fn push_characters(&mut self, characters: &[u8])
         requires room { length (bits_in self.old)
-            + payload_length Alphanumeric (length characters.now) ≤ 2192 }
+            + payload_length Alphanumeric (length characters.now) ≤ MAX_BITS }
         ensures { bits_in self.new ≡ bits_in self.old ++ alphanumeric_bits characters.now }
     {
         let mut place = 0;
@@ -127,7 +131,7 @@ impl Bits {
 
     /// Writes each byte in eight bits.
     fn push_bytes(&mut self, bytes: &[u8])
-        requires room { length (bits_in self.old) + 8 * length bytes.now ≤ 2192 }
+        requires room { length (bits_in self.old) + 8 * length bytes.now ≤ MAX_BITS }
         ensures { bits_in self.new ≡ bits_in self.old ++ byte_bits bytes.now }
     {
         for byte in bytes {
@@ -138,7 +142,8 @@ impl Bits {
     /// Writes a payload in its mode.
     fn push_payload(&mut self, mode: Mode, bytes: &[u8])
         requires characters { IsTrue (list_all (has_character mode) bytes.now) }
-        requires room { length (bits_in self.old) + payload_length mode (length bytes.now) ≤ 2192 }
+        requires room { length (bits_in self.old)
+            + payload_length mode (length bytes.now) ≤ MAX_BITS }
         ensures { bits_in self.new ≡ bits_in self.old ++ payload_bits mode bytes.now }
     {
         match mode {
@@ -152,7 +157,7 @@ impl Bits {
     fn push_segment(&mut self, version: Version, mode: Mode, bytes: &[u8])
         requires characters { IsTrue (list_all (has_character mode) bytes.now) }
         requires room { length (bits_in self.old)
-            + (4 + count_width version.number mode + payload_length mode (length bytes.now)) ≤ 2192 }
+            + (4 + count_width version.number mode + payload_length mode (length bytes.now)) ≤ MAX_BITS }
         ensures { bits_in self.new ≡ bits_in self.old ++ segment_bits version.number mode bytes.now }
     {
         self.push_number(u32::from(mode.indicator()), 4);
@@ -163,7 +168,7 @@ impl Bits {
     /// Writes the segments of the data, one after another.
     pub(crate) fn push_segments(&mut self, version: Version, segments: &[Segment], bytes: &[u8])
         requires cut { IsSegmentation version.number segments.now bytes.now }
-        requires room { length (bits_in self.old) + cost version.number segments.now ≤ 2192 }
+        requires room { length (bits_in self.old) + cost version.number segments.now ≤ MAX_BITS }
         ensures { bits_in self.new
             ≡ bits_in self.old ++ segments_bits version.number segments.now bytes.now }
     {
@@ -185,7 +190,7 @@ impl Bits {
     /// Writes the terminator, four zeros or as many as are left in so many codewords, and zeros to the end of a codeword.
     pub(crate) fn end(&mut self, size: usize)
         requires fits { length (bits_in self.old) ≤ 8 * size }
-        requires size { size ≤ 274 }
+        requires size { size ≤ MAX_BITS / 8 }
         ensures bits { bits_in self.new ≡ aligned (terminated (8 * size) (bits_in self.old)) }
         ensures words { self.new.words.items
             ≡ codewords_of (length (bits_in self.new) / 8) (bits_in self.new) }
@@ -205,7 +210,7 @@ fn are_bytes(bytes: &[u8])
 
 /// Writes so many pad codewords, of which there are two in turn.
 pub(crate) fn push_padding(count: usize, words: &mut Words)
-    requires room { array_vec_len words.old + count ≤ 346 }
+    requires room { array_vec_len words.old + count ≤ MAX_WORDS }
     ensures { words.new.items ≡ words.old.items ++ pad_codewords count }
 {
     let mut left = count;

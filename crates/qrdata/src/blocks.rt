@@ -8,14 +8,17 @@ ghost use Rattle.std.specs.Prelude.{length, ◌≡◌, ◌+◌, ◌≤◌, ◌<�
 use arrayvec::ArrayVec;
 use gf256::Generator;
 
-/// The codewords of a symbol, at most the 346 of version 10.
-pub type Words = ArrayVec<u8, 346>;
+/// The most codewords of a symbol, those of version 10.
+pub(crate) const MAX_WORDS: usize = 346;
+
+/// The codewords of a symbol.
+pub type Words = ArrayVec<u8, MAX_WORDS>;
 
 /// Writes the words at one place of the blocks, block by block. The blocks have these lengths, one after another.
 fn push_place(lengths: &[usize], words: &[u8], place: usize, out: &mut Words)
     requires whole { sum lengths.now ≡ length words.now }
     requires room { array_vec_len out.old
-        + length (words_at (split_by lengths.now words.now) place) ≤ 346 }
+        + length (words_at (split_by lengths.now words.now) place) ≤ MAX_WORDS }
     ensures { out.new.items ≡ out.old.items ++ words_at (split_by lengths.now words.now) place }
 {
     let mut start = 0;
@@ -43,7 +46,7 @@ fn greatest(lengths: &[usize]) -> usize
 /// Writes the words of the blocks in the order of their places, and at one place in the order of the blocks.
 pub(crate) fn interleave(lengths: &[usize], words: &[u8], out: &mut Words)
     requires whole { sum lengths.now ≡ length words.now }
-    requires room { array_vec_len out.old + length words.now ≤ 346 }
+    requires room { array_vec_len out.old + length words.now ≤ MAX_WORDS }
     ensures { out.new.items ≡ out.old.items ++ interleaved (split_by lengths.now words.now) }
 {
     let rounds = greatest(lengths);
@@ -69,7 +72,7 @@ pub(crate) fn push_lengths(lengths: &mut Lengths, count: usize, size: usize)
 
 /// Writes words at the end.
 fn push_words(out: &mut Words, words: &[u8])
-    requires room { array_vec_len out.old + length words.now ≤ 346 }
+    requires room { array_vec_len out.old + length words.now ≤ MAX_WORDS }
     ensures { out.new.items ≡ out.old.items ++ words.now }
 {
     for word in words {
@@ -82,7 +85,7 @@ fn push_block_parity(generator: &Generator, count: usize, block: &[u8], out: &mu
     requires count { generator.now ≡ count }
     requires low { 1 ≤ count }
     requires high { count ≤ 30 }
-    requires room { array_vec_len out.old + count ≤ 346 }
+    requires room { array_vec_len out.old + count ≤ MAX_WORDS }
     ensures words { out.new.items ≡ out.old.items ++ parity_of count block.now }
     ensures len { array_vec_len out.new ≡ array_vec_len out.old + count }
 {

@@ -15,6 +15,8 @@ mod table_tests;
 #[cfg(test)]
 mod tests;
 mod version;
+#[cfg(test)]
+mod version_tests;
 
 pub use blocks::Words;
 pub use mode::{Mode, Segment};

@@ -130,7 +130,7 @@ fn plan_from(lowest: u8, level: Level, bytes: &[u8]) -> Option<Plan>
 /// The plan of the least version from the lowest one to the highest one. In all of these a character count has the same
 /// bits, so that the best segments are the same.
 fn plan_between(lowest: u8, highest: u8, level: Level, bytes: &[u8]) -> Option<Plan>
-    requires few { length bytes.now ≤ 652 }
+    requires few { length bytes.now ≤ MAX_BYTES }
     requires low { 1 ≤ lowest }
     requires some { lowest ≤ highest }
     requires high { highest ≤ 10 }
@@ -159,7 +159,7 @@ fn plan_between(lowest: u8, highest: u8, level: Level, bytes: &[u8]) -> Option<P
 
 /// The plan of the segments that a table names, from the front of the data. They have this many bits.
 fn plan_of(version: Version, level: Level, bytes: &[u8], firsts: &[Segment], bits: u32) -> Plan
-    requires few { length bytes.now ≤ 652 }
+    requires few { length bytes.now ≤ MAX_BYTES }
     requires size { length firsts.now ≡ 653 }
     requires firsts { NamesBest version.number bytes.now bits firsts.now }
     requires short { length (chosen_segments version.number bytes.now) ≤ 109 }

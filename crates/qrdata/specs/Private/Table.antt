@@ -2,7 +2,7 @@
 -- this crate's own way). The limits of the character counts are left out.
 use Rattle.std.specs.Prelude.{◌≡◌, ℕ, suc, ◌+◌, ◌^◌, ◌<◌, ◌≤◌, List, [], ◌∷◌, length, drop, nat_lt, slice_get, if◌then◌else◌, ◌==◌, ◌&&◌, ◌||◌, Some}
 use Rattle.std.specs.Char.{is_ascii_digit}
-use Rattle.qrdata.specs.declared.table.Choice.{Choice}
+use Rattle.qrdata.specs.Private.ChoiceView.{ChoiceView}
 use Rattle.qrdata.specs.declared.table.Digits.{Digits}
 use Rattle.qrdata.specs.declared.table.Characters.{Characters}
 use Rattle.qrdata.specs.declared.table.Choices.{Choices}
@@ -13,23 +13,35 @@ use Rattle.qrdata.specs.declared.mode.Segment.{Segment}
 use Rattle.qrdata.specs.Segments.{has_character, segment_length, segment_of}
 
 -- no choice of a mode
-abbrev pub absent_choice : Mode → Choice
+abbrev pub absent_choice : Mode → ChoiceView
 absent_choice mode = record { segment = segment_of mode 0; bits = ABSENT }
 
 -- the choice of one byte, after which come the best segments of this many bits
-abbrev pub short_choice : (version : ℕ) → Mode → (after : ℕ) → Choice
+abbrev pub short_choice : (version : ℕ) → Mode → (after : ℕ) → ChoiceView
 short_choice version mode after =
     record { segment = segment_of mode 1; bits = segment_length version (segment_of mode 1) + after }
 
 -- a choice with one byte more, which adds so many bits
-abbrev pub longer_choice : Choice → (added : ℕ) → Choice
+abbrev pub longer_choice : ChoiceView → (added : ℕ) → ChoiceView
 longer_choice c added =
     record { segment = segment_of c.segment.mode (suc c.segment.len); bits = c.bits + added }
 
 -- the choice of fewer bits, of equally many the longer one, and of equally long ones the first
-unfoldable pub better_choice : Choice → Choice → Choice
+unfoldable pub better_choice : ChoiceView → ChoiceView → ChoiceView
 better_choice c d =
     if nat_lt d.bits c.bits || (d.bits == c.bits && nat_lt c.segment.len d.segment.len) then d else c
+
+-- no choices in numeric mode
+abbrev pub absent_digits : Digits
+absent_digits = record {
+  none_over = absent_choice Numeric;
+  one_over = absent_choice Numeric;
+  two_over = absent_choice Numeric;
+}
+
+-- no choices in alphanumeric mode
+abbrev pub absent_characters : Characters
+absent_characters = record { none_over = absent_choice Alphanumeric; one_over = absent_choice Alphanumeric }
 
 -- the choices in numeric mode of a byte and a rest, whose best segments have this many bits
 unfoldable pub next_digits : (version byte after : ℕ) → Digits → Digits
@@ -38,11 +50,7 @@ next_digits version byte after rest =
       none_over = longer_choice rest.two_over 3;
       one_over = better_choice (longer_choice rest.none_over 4) (short_choice version Numeric after);
       two_over = longer_choice rest.one_over 3;
-    } else record {
-      none_over = absent_choice Numeric;
-      one_over = absent_choice Numeric;
-      two_over = absent_choice Numeric;
-    }
+    } else absent_digits
 
 -- the choices in alphanumeric mode of a byte and a rest
 unfoldable pub next_characters : (version byte after : ℕ) → Characters → Characters
@@ -50,20 +58,17 @@ next_characters version byte after rest =
     if has_character Alphanumeric byte then record {
       none_over = longer_choice rest.one_over 5;
       one_over = better_choice (longer_choice rest.none_over 6) (short_choice version Alphanumeric after);
-    } else record {
-      none_over = absent_choice Alphanumeric;
-      one_over = absent_choice Alphanumeric;
-    }
+    } else absent_characters
 
 -- the best of the choices in all modes
-unfoldable pub best_choice : Digits → Characters → Choice → Choice
+unfoldable pub best_choice : Digits → Characters → ChoiceView → ChoiceView
 best_choice digits characters byte =
     better_choice (better_choice
     (better_choice (better_choice digits.none_over digits.one_over) digits.two_over)
     (better_choice characters.none_over characters.one_over)) byte
 
 -- choices with the best of them
-abbrev pub choices_with_best : Digits → Characters → Choice → Choices
+abbrev pub choices_with_best : Digits → Characters → ChoiceView → Choices
 choices_with_best digits characters byte = record {
   digits = digits;
   characters = characters;
@@ -81,15 +86,8 @@ next_choices version byte rest =
 -- the choices of no bytes
 abbrev pub no_choices : Choices
 no_choices = record {
-  digits = record {
-    none_over = absent_choice Numeric;
-    one_over = absent_choice Numeric;
-    two_over = absent_choice Numeric;
-  };
-  characters = record {
-    none_over = absent_choice Alphanumeric;
-    one_over = absent_choice Alphanumeric;
-  };
+  digits = absent_digits;
+  characters = absent_characters;
   bytes = absent_choice Byte;
   best = record { segment = segment_of Byte 0; bits = 0 };
 }
@@ -110,7 +108,7 @@ HasFirsts version bytes from firsts =
     → first ≡ (choices_of version (drop k bytes)).best.segment
 
 -- there is room for a byte more
-abbrev pub IsSmall : Choice → Type 0
+abbrev pub IsSmall : ChoiceView → Type 0
 IsSmall c = (c.segment.len ≤ 652) × (c.bits < 2 ^ 20)
 
 abbrev pub AreSmallDigits : Digits → Type 0

@@ -26,6 +26,6 @@ loop-place-preserved c =
     let next : c.with_byte-choices.result ≡ choices_of version (drop (c.loop-place.place - 1) bytes) =
     c.with_byte-choices.ensures ∙ (ap (next_choices version (get_or bytes (c.loop-place.place - 1) 0)) c.loop-place.invariant.2 ∙ choices_of-next version bytes c.loop-place.place c.loop-place-test.true c.loop-place.invariant.0) in (
       omega (arith, c.loop-place.invariant.0),
-      HasFirsts-set version bytes c.loop-place.firsts c.loop-place.place c.with_byte-choices.result.best.segment c.loop-place-test.true c.loop-place.invariant.0 room (ap (λ (choices : Choices). choices.best.segment) next) c.loop-place.invariant.1,
+      HasFirsts-set version bytes c.loop-place.firsts c.loop-place.place c.segment.result c.loop-place-test.true c.loop-place.invariant.0 room (c.segment.ensures ∙ ap (λ (choices : Choices). choices.best.segment) next) c.loop-place.invariant.1,
       next,
     )
