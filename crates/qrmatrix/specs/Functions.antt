@@ -1,13 +1,16 @@
 -- What each module of a QR symbol is there for (ISO/IEC 18004, 6.3, 7.9, 7.10 and Annex E).
--- A pattern is `Some true` where it has a dark module, `Some false` where it has a light one, and `None` where it has none.
-use Rattle.std.specs.Prelude.{ℕ, ◌+◌, ◌-◌, ◌*◌, ◌%◌, max, Bool, true, false, not, ◌&&◌, ◌==◌, nat_lt, nat_le, if◌then◌else◌, List, [], ◌∷◌, Option, None, Some, is_none, slice_index_or}
+-- A pattern is `Some true` where it has a dark module, `Some false` where it has a light one, and `None` where it has
+-- none.
+use Rattle.std.specs.Prelude.{ℕ, ◌+◌, ◌-◌, ◌*◌, ◌%◌, max, Bool, true, false, not, ◌&&◌, ◌==◌, nat_lt, nat_le}
+use Rattle.std.specs.Prelude.{if◌then◌else◌, List, [], ◌∷◌, Option, None, Some, is_none, slice_index_or}
 use Rattle.std.specs.Option.{option_or, option_map_or}
 use Rattle.labelcore.specs.declared.options.Level.{Level}
 use Rattle.qrdata.specs.Versions.{side_of}
 use Rattle.qrmatrix.specs.Bits.{bit}
 use Rattle.qrmatrix.specs.Information.{format_word, version_word}
 
--- what a module is there for: a function pattern, dark where true; a bit of the format word; a bit of the version word; or
+-- what a module is there for: a function pattern, dark where true; a bit of the format word; a bit of the version
+-- word; or
 -- the codewords
 pub data Role : Type 0 where
   Function : (dark : Bool) → Role
