@@ -1,6 +1,6 @@
 -- Reading inverts drawing.
 use Rattle.std.proofs.Common.{◌≡◌, ℕ, ◌+◌, ◌-◌, ◌*◌, ◌/◌, ◌<◌, ◌≤◌, refl, ap, ◌∙◌, arith, Bool, true, false, cond, List, [], ◌∷◌, length, Option, Some, None, eq-eqb}
-use Rattle.std.specs.Prelude.{map, nat_lt, reverse, All}
+use Rattle.std.specs.Prelude.{unwrap_or, map, nat_lt, reverse, All}
 use Rattle.std.specs.List.{range_with_len, filter, list_all}
 use Rattle.std.proofs.lemmas.Bool.{and_from, and_parts, lt-ltb, le-leb}
 use Rattle.labelcore.specs.declared.options.Level.{Level}
@@ -10,7 +10,7 @@ use Rattle.qrdata.specs.Bits.{number_of, codewords_of}
 use Rattle.qrdata.specs.Versions.{side_of, total_codewords}
 use Rattle.qrmatrix.specs.Bits.{bit}
 use Rattle.qrmatrix.specs.Information.{format_word, version_word}
-use Rattle.qrmatrix.specs.Modules.{module_at, is_inside, fixed_or}
+use Rattle.qrmatrix.specs.Modules.{module_at, is_inside}
 use Rattle.qrmatrix.specs.Masks.{flip_if, is_flipped}
 use Rattle.qrmatrix.specs.Placement.{codeword_bit, rank, remainder_bits}
 use Rattle.qrmatrix.specs.Reading.{walk, read_bits, read_matrix, format_copy_1, format_copy_2, version_copy_1, version_copy_2, word_at, read_format, shows_version, shows_functions, agrees}
@@ -43,7 +43,7 @@ flip_twice true true = refl
 flip_twice true false = refl
 flip_twice false d = refl
 
-pub free_is_data : (v : ℕ) (level : Level) (mask : ℕ) (r : Role) (d : Bool) → is_free_role r ≡ true → fixed_or (fixed_by v level mask r) d ≡ d
+pub free_is_data : (v : ℕ) (level : Level) (mask : ℕ) (r : Role) (d : Bool) → is_free_role r ≡ true → unwrap_or (fixed_by v level mask r) d ≡ d
 free_is_data v level mask Free d h = refl
 free_is_data v level mask (Function b) d h = cc
 free_is_data v level mask (Format i) d h = cc
@@ -55,7 +55,7 @@ inside_from n x y lx ly = and_from (nat_lt x n) (nat_lt y n) (lt-ltb x n lx) (lt
 module _ (v : ℕ) (level : Level) (mask : ℕ) (words : List ℕ) where
   -- a module in the square
   pub module_inside : (x y : ℕ) → is_inside (side_of v) x y ≡ true
-      → module_at v level mask words x y ≡ fixed_or (fixed v level mask x y) (flip_if (is_flipped mask x y) (codeword_bit words (rank v x y)))
+      → module_at v level mask words x y ≡ unwrap_or (fixed v level mask x y) (flip_if (is_flipped mask x y) (codeword_bit words (rank v x y)))
   unfolding module_at
   module_inside x y h = rw h
 
@@ -84,7 +84,7 @@ module _ (v : ℕ) (level : Level) (mask : ℕ) (words : List ℕ) where
 
   -- ---- the function patterns
 
-  agrees_itself : (o : Option Bool) (d : Bool) → agrees o (fixed_or o d) ≡ true
+  agrees_itself : (o : Option Bool) (d : Bool) → agrees o (unwrap_or o d) ≡ true
   agrees_itself None d = refl
   agrees_itself (Some true) d = refl
   agrees_itself (Some false) d = refl
@@ -109,7 +109,7 @@ module _ (v : ℕ) (level : Level) (mask : ℕ) (words : List ℕ) where
       let here : role v p.0 p.1 ≡ kind i = cc in
       let there : map (λ (p : ℕ × ℕ). role v p.0 p.1) ps ≡ map kind is_ = cc in
       let parts = and_parts (is_inside (side_of v) p.0 p.1) (list_all (λ (p : ℕ × ℕ). is_inside (side_of v) p.0 p.1) ps) z in
-      let m : fixed_or (fixed_by v level mask (role v p.0 p.1)) (flip_if (is_flipped mask p.0 p.1) (codeword_bit words (rank v p.0 p.1))) ≡ bit word i = rw (here, h i) in
+      let m : unwrap_or (fixed_by v level mask (role v p.0 p.1)) (flip_if (is_flipped mask p.0 p.1) (codeword_bit words (rank v p.0 p.1))) ≡ bit word i = rw (here, h i) in
       let at = module_inside p.0 p.1 parts.0 ∙ m in
       let rest = modules_at_role ps kind word is_ h parts.1 there in
       cc

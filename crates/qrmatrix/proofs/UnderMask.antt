@@ -1,6 +1,6 @@
 -- The module under a mask: what was drawn for all masks, the format information of this one, and the mask.
 use Rattle.std.proofs.Common.{◌≡◌, ℕ, ◌<◌, refl, ap, Bool, true, false, not, List}
-use Rattle.std.specs.Prelude.{if◌then◌else◌}
+use Rattle.std.specs.Prelude.{unwrap_or, if◌then◌else◌}
 use Rattle.std.proofs.lemmas.Bool.{both_ways}
 use Rattle.labelcore.specs.declared.options.Level.{Level}
 use Rattle.qrdata.specs.Versions.{side_of}
@@ -8,7 +8,6 @@ use Rattle.qrmatrix.specs.Private.Drawing.{masked, drawn_by, format_by, IsUnmask
 use Rattle.qrmatrix.specs.Functions.{Role, Function, Format, Version, Free, fixed, fixed_by, role, is_free, is_free_role}
 use Rattle.qrmatrix.specs.Information.{format_word}
 use Rattle.qrmatrix.specs.Masks.{flip_if, is_flipped}
-use Rattle.qrmatrix.specs.Modules.{fixed_or}
 use Rattle.qrmatrix.specs.Placement.{codeword_bit, rank}
 use Rattle.qrmatrix.specs.Square.{value_at}
 
@@ -27,7 +26,7 @@ free_is_light v Free h = refl
 -- the module of each role
 shown : (v : ℕ) (level : Level) (mask : ℕ) (r : Role) (f t chosen old : Bool) → f ≡ not (is_free_role r)
     → (is_free_role r ≡ true → old ≡ chosen) → (is_free_role r ≡ false → old ≡ drawn_by v r)
-    → (if f then flip_if (format_by (format_word level mask) r) old else flip_if t (flip_if (format_by (format_word level mask) r) old)) ≡ fixed_or (fixed_by v level mask r) (flip_if t chosen)
+    → (if f then flip_if (format_by (format_word level mask) r) old else flip_if t (flip_if (format_by (format_word level mask) r) old)) ≡ unwrap_or (fixed_by v level mask r) (flip_if t chosen)
 shown v level mask (Function b) f t chosen old e free taken = rw e (taken refl)
 shown v level mask (Format i) f t chosen old e free taken = rw (e, taken refl) (flip_light _)
 shown v level mask (Version i) f t chosen old e free taken = rw e (taken refl)
@@ -35,7 +34,7 @@ shown v level mask Free f t chosen old e free taken = rw e (ap (flip_if t) (free
 
 pub under : (v : ℕ) (level : Level) (mask : ℕ) (words : List ℕ) (function old m : List (List Bool)) → IsUnmasked v words function old
     → ShowsFormat v level mask old m → (x y : ℕ) → x < side_of v → y < side_of v
-    → masked mask function m x y ≡ fixed_or (fixed v level mask x y) (flip_if (is_flipped mask x y) (codeword_bit words (rank v x y)))
+    → masked mask function m x y ≡ unwrap_or (fixed v level mask x y) (flip_if (is_flipped mask x y) (codeword_bit words (rank v x y)))
 unfolding fixed is_free
 under v level mask words function old m u s x y lx ly =
     rw (s.inside x y lx ly) (shown v level mask (role v x y) (value_at function x y) (is_flipped mask x y) (codeword_bit words (rank v x y)) (value_at old x y) (u.marked x y lx ly) (u.free x y lx ly) (u.taken x y lx ly))

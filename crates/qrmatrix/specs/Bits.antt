@@ -1,4 +1,5 @@
--- The binary digits of numbers, from which ISO/IEC 18004 makes codewords (7.4) and format and version information (7.9 and 7.10).
+-- The binary digits of numbers, from which ISO/IEC 18004 makes codewords (7.4) and format and version information
+-- (7.9 and 7.10).
 use Rattle.std.specs.Prelude.{ℕ, ◌/◌, ◌%◌, ◌^◌, ◌==◌, Bool}
 
 -- whether bit i of n is set, bit 0 being the lowest

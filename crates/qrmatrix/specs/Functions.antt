@@ -1,23 +1,22 @@
 -- What each module of a QR symbol is there for (ISO/IEC 18004, 6.3, 7.9, 7.10 and Annex E).
--- A pattern is `Some true` where it has a dark module, `Some false` where it has a light one, and `None` where it has none.
-use Rattle.std.specs.Prelude.{ℕ, ◌+◌, ◌-◌, ◌*◌, ◌%◌, max, Bool, true, false, not, ◌&&◌, ◌==◌, nat_lt, nat_le, if◌then◌else◌, List, [], ◌∷◌, Option, None, Some, is_none, slice_index_or}
+-- A pattern is `Some true` where it has a dark module, `Some false` where it has a light one, and `None` where it has
+-- none.
+use Rattle.std.specs.Prelude.{ℕ, ◌+◌, ◌-◌, ◌*◌, ◌%◌, max, Bool, true, false, not, ◌&&◌, ◌==◌, nat_lt, nat_le}
+use Rattle.std.specs.Prelude.{if◌then◌else◌, List, [], ◌∷◌, Option, None, Some, is_none, slice_index_or}
+use Rattle.std.specs.Option.{option_or, option_map_or}
 use Rattle.labelcore.specs.declared.options.Level.{Level}
 use Rattle.qrdata.specs.Versions.{side_of}
 use Rattle.qrmatrix.specs.Bits.{bit}
 use Rattle.qrmatrix.specs.Information.{format_word, version_word}
 
--- what a module is there for: a function pattern, dark where true; a bit of the format word; a bit of the version word; or
+-- what a module is there for: a function pattern, dark where true; a bit of the format word; a bit of the version
+-- word; or
 -- the codewords
 pub data Role : Type 0 where
   Function : (dark : Bool) → Role
   Format : (i : ℕ) → Role
   Version : (i : ℕ) → Role
   Free : Role
-
--- the first of two patterns that has a module
-abbrev pub or_else : Option Bool → Option Bool → Option Bool
-or_else (Some b) other = Some b
-or_else None other = other
 
 -- how far two coordinates are from one another
 abbrev pub distance : ℕ → ℕ → ℕ
@@ -34,7 +33,7 @@ finder_at a b x y =
 
 -- the three finder patterns of a symbol of n by n modules
 unfoldable pub finder : ℕ → ℕ → ℕ → Option Bool
-finder n x y = or_else (finder_at 3 3 x y) (or_else (finder_at (n - 4) 3 x y) (finder_at 3 (n - 4) x y))
+finder n x y = option_or (finder_at 3 3 x y) (option_or (finder_at (n - 4) 3 x y) (finder_at 3 (n - 4) x y))
 
 -- an alignment pattern of 5x5 modules, dark but for the ring 1
 abbrev pub alignment_at : ℕ → ℕ → ℕ → ℕ → Option Bool
@@ -55,7 +54,7 @@ alignment_off_finders n a b x y = if is_none (finder n a b) then alignment_at a 
 -- the first pattern that has a module, among those at the coordinates
 abbrev pub first_some : (ℕ → Option Bool) → List ℕ → Option Bool
 first_some at [] = None
-first_some at (a ∷ rest) = or_else (at a) (first_some at rest)
+first_some at (a ∷ rest) = option_or (at a) (first_some at rest)
 
 -- the alignment patterns with their centres in column a
 abbrev pub alignment_in : ℕ → ℕ → List ℕ → ℕ → ℕ → Option Bool
@@ -101,21 +100,16 @@ version_bit n x y =
 unfoldable pub is_dark_module : ℕ → ℕ → ℕ → Bool
 is_dark_module n x y = (x == 8) && (y == n - 8)
 
--- the role that a pattern gives, where it has the module, else another
-abbrev pub role_or : {A : Type 0} → (A → Role) → Option A → Role → Role
-role_or kind None other = other
-role_or kind (Some a) other = kind a
-
--- the role of the module at column x and row y in version v
+-- the role of the module at column x and row y in version v: that of the first pattern that has the module
 unfoldable pub role : ℕ → ℕ → ℕ → Role
 unfolding finder alignment timing format_bit version_bit is_dark_module
 role v x y =
-    role_or Function (finder (side_of v) x y)
-    (role_or Function (alignment v x y)
-    (role_or Function (timing x y)
-    (role_or Format (format_bit (side_of v) x y)
+    option_map_or Function (finder (side_of v) x y)
+    (option_map_or Function (alignment v x y)
+    (option_map_or Function (timing x y)
+    (option_map_or Format (format_bit (side_of v) x y)
     (if is_dark_module (side_of v) x y then Function true
-    else (if nat_le 7 v then role_or Version (version_bit (side_of v) x y) Free else Free)))))
+    else (if nat_le 7 v then option_map_or Version (version_bit (side_of v) x y) Free else Free)))))
 
 -- the module that a role fixes for a version, a level and a mask
 abbrev pub fixed_by : ℕ → Level → ℕ → Role → Option Bool

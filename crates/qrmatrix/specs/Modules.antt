@@ -1,15 +1,10 @@
 -- The modules of a symbol by their coordinates (ISO/IEC 18004, 7.7 to 7.10).
-use Rattle.std.specs.Prelude.{ℕ, Bool, ◌&&◌, nat_lt, List, Option, None, Some}
+use Rattle.std.specs.Prelude.{ℕ, Bool, ◌&&◌, nat_lt, List, unwrap_or}
 use Rattle.labelcore.specs.declared.options.Level.{Level}
 use Rattle.qrdata.specs.Versions.{side_of}
 use Rattle.qrmatrix.specs.Functions.{fixed}
 use Rattle.qrmatrix.specs.Masks.{is_flipped, flip_if}
 use Rattle.qrmatrix.specs.Placement.{codeword_bit, rank}
-
--- the fixed module, else another
-abbrev pub fixed_or : Option Bool → Bool → Bool
-fixed_or (Some b) other = b
-fixed_or None other = other
 
 -- whether column x and row y are in a square of n by n
 abbrev pub is_inside : ℕ → ℕ → ℕ → Bool
@@ -20,4 +15,5 @@ is_inside n x y = nat_lt x n && nat_lt y n
 unfoldable pub module_at : ℕ → Level → ℕ → List ℕ → ℕ → ℕ → Bool
 unfolding fixed rank is_flipped
 module_at v level mask words x y =
-    is_inside (side_of v) x y && fixed_or (fixed v level mask x y) (flip_if (is_flipped mask x y) (codeword_bit words (rank v x y)))
+    let chosen = flip_if (is_flipped mask x y) (codeword_bit words (rank v x y)) in
+    is_inside (side_of v) x y && unwrap_or (fixed v level mask x y) chosen

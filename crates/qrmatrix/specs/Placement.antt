@@ -1,5 +1,6 @@
 -- The order in which the codewords are placed on the free modules (ISO/IEC 18004, 7.7.3 and Table 1).
-use Rattle.std.specs.Prelude.{ℕ, ◌+◌, ◌-◌, ◌*◌, ◌/◌, ◌%◌, Bool, ◌&&◌, ◌==◌, nat_lt, if◌then◌else◌, List, [], ◌∷◌, slice_index}
+use Rattle.std.specs.Prelude.{ℕ, ◌+◌, ◌-◌, ◌*◌, ◌/◌, ◌%◌, Bool, ◌&&◌, ◌==◌, nat_lt, if◌then◌else◌, List, [], ◌∷◌}
+use Rattle.std.specs.Prelude.{slice_index}
 use Rattle.qrdata.specs.Versions.{side_of}
 use Rattle.qrmatrix.specs.Bits.{bit}
 use Rattle.qrmatrix.specs.Counting.{sum_below, count_below}
@@ -20,7 +21,9 @@ key n x y =
 -- how many free modules have a key below k
 unfoldable pub free_below : ℕ → ℕ → ℕ
 unfolding is_free key
-free_below v k = sum_below (side_of v) (λ y. count_below (side_of v) (λ x. is_free v x y && nat_lt (key (side_of v) x y) k))
+free_below v k =
+    let n = side_of v in
+    sum_below n (λ y. count_below n (λ x. is_free v x y && nat_lt (key n x y) k))
 
 -- how many free modules are placed before the module
 unfoldable pub rank : ℕ → ℕ → ℕ → ℕ

@@ -1,5 +1,6 @@
 -- The reading of a symbol's modules, m x y being the module at column x and row y of n by n (ISO/IEC 18004, 12).
-use Rattle.std.specs.Prelude.{ℕ, ◌+◌, ◌-◌, ◌*◌, ◌/◌, ◌%◌, ◌^◌, Bool, true, not, ◌&&◌, ◌||◌, ◌==◌, nat_le, if◌then◌else◌, List, [], ◌∷◌, ◌++◌, map, reverse, Option, None, Some, bit_xor}
+use Rattle.std.specs.Prelude.{ℕ, ◌+◌, ◌-◌, ◌*◌, ◌/◌, ◌%◌, ◌^◌, Bool, true, not, ◌&&◌, ◌||◌, ◌==◌, nat_le, if◌then◌else◌}
+use Rattle.std.specs.Prelude.{List, [], ◌∷◌, ◌++◌, map, reverse, Option, None, Some, bit_xor}
 use Rattle.std.specs.Bool.{beq}
 use Rattle.std.specs.List.{range_with_len, filter}
 use Rattle.gf256.specs.BinaryPolynomial.{binary_remainder}
@@ -41,7 +42,8 @@ level_of indicator = if indicator == 0 then M else (if indicator == 1 then L els
 abbrev pub read_format_word : ℕ → Option (Level × ℕ)
 read_format_word word =
     let codeword = bit_xor word 0x5412 in
-    if binary_remainder 10 0x537 5 codeword == 0 then Some (level_of (codeword / 2 ^ 13), codeword / 2 ^ 10 % 8) else None
+    if binary_remainder 10 0x537 5 codeword == 0
+    then Some (level_of (codeword / 2 ^ 13), codeword / 2 ^ 10 % 8) else None
 
 -- the level and the mask, where both copies of the format information agree
 unfoldable pub read_format : ℕ → (ℕ → ℕ → Bool) → Option (Level × ℕ)
@@ -90,7 +92,8 @@ walk n = strips (right_columns n) (reverse (range_with_len 0 n)) (range_with_len
 unfoldable pub read_bits : ℕ → ℕ → (ℕ → ℕ → Bool) → List Bool
 unfolding is_free walk is_flipped
 read_bits v mask m =
-    map (λ (p : ℕ × ℕ). flip_if (is_flipped mask p.0 p.1) (m p.0 p.1)) (filter (λ (p : ℕ × ℕ). is_free v p.0 p.1) (walk (side_of v)))
+    map (λ (p : ℕ × ℕ). flip_if (is_flipped mask p.0 p.1) (m p.0 p.1))
+    (filter (λ (p : ℕ × ℕ). is_free v p.0 p.1) (walk (side_of v)))
 
 -- what the modules say
 pub record Reading : Type 0 where
@@ -103,7 +106,9 @@ abbrev pub read_with : ℕ → (ℕ → ℕ → Bool) → Option (Level × ℕ) 
 read_with v m None = None
 read_with v m (Some format) =
     if shows_version v (side_of v) m && shows_functions v format.0 format.1 m
-    then Some (record { version = v; level = format.0; words = codewords_of (total_codewords v) (read_bits v format.1 m) })
+    then
+    (let words = codewords_of (total_codewords v) (read_bits v format.1 m) in
+    Some (record { version = v; level = format.0; words = words }))
     else None
 
 -- the version, the level and the words of a symbol; there is no reading where any check fails

@@ -26,7 +26,8 @@ const FINDER: [u64; 8] = [
     0b1111111, 0b1000001, 0b1011101, 0b1011101, 0b1011101, 0b1000001, 0b1111111, 0b0000000,
 ];
 
-/// The coordinates of the centres of the alignment patterns (ISO/IEC 18004, Table E.1): bit k says whether k is one. The
+/// The coordinates of the centres of the alignment patterns (ISO/IEC 18004, Table E.1): bit k says whether k is one.
+/// The
 /// first word is for version 1.
 const CENTRES: [u64; 10] = [
     0,
@@ -229,7 +230,8 @@ fn versions(version: Version, y: usize) -> PatternRow
     }
 }
 
-/// The modules of row `y` that the codewords do not choose (ISO/IEC 18004, 6.3 and 7.10). Those of the format information
+/// The modules of row `y` that the codewords do not choose (ISO/IEC 18004, 6.3 and 7.10). Those of the format
+/// information
 /// are light.
 pub fn function_row(version: Version, y: usize) -> PatternRow
     requires { y < side_of version.number }

@@ -2,7 +2,8 @@
 ghost use Rattle.std.specs.Prelude.{◌≡◌, ◌+◌, ◌*◌, ◌^◌, ◌<◌, ◌≤◌};
 ghost use Rattle.gf256.specs.BinaryPolynomial.{binary_remainder};
 ghost use Rattle.qrmatrix.specs.Information;
-ghost use Rattle.qrmatrix.specs.Information.{FormatWordsAreListed, FormatWordsAreCodewords, VersionWordsAreListed, VersionWordsAreCodewords};
+ghost use Rattle.qrmatrix.specs.Information.{FormatWordsAreListed, FormatWordsAreCodewords, VersionWordsAreListed};
+ghost use Rattle.qrmatrix.specs.Information.{VersionWordsAreCodewords};
 
 use labelcore::Level;
 use qrdata::Version;

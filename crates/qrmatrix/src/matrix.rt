@@ -1,5 +1,6 @@
 //! A drawn symbol.
-ghost use Rattle.std.specs.Prelude.{◌≡◌, ℕ, ◌+◌, ◌*◌, ◌<◌, ◌≤◌, ◌&&◌, All, Bool, false, IfSome, length, List, Some, slice_index};
+ghost use Rattle.std.specs.Prelude.{◌≡◌, ℕ, ◌+◌, ◌*◌, ◌<◌, ◌≤◌, ◌&&◌, All, Bool, false, IfSome, length, List, Some};
+ghost use Rattle.std.specs.Prelude.{slice_index};
 ghost use Rattle.qrdata.specs.Versions.{side_of, total_codewords};
 ghost use Rattle.qrmatrix.specs.Bits.{bit};
 ghost use Rattle.qrmatrix.specs.MaskChoice.{chosen_mask};
@@ -44,7 +45,8 @@ fn are_bytes(bytes: &[u8])
 
 impl Matrix {
     /// Draws the codewords of a symbol under the given mask, 0 to 7, or else under the mask of the least penalty, the
-    /// first of several (ISO/IEC 18004, 7.7 to 7.10). The modules read back as the version, the level and the codewords.
+    /// first of several (ISO/IEC 18004, 7.7 to 7.10). The modules read back as the version, the level and the
+    /// codewords.
     pub fn draw(version: Version, level: Level, mask: Option<u8>, words: &Words) -> Matrix
         requires count { length words.now.items ≡ total_codewords version.number }
         requires mask { IfSome mask (λ k. k < 8) }

@@ -1,5 +1,7 @@
-//! The placement of the codewords: a cursor goes along the strips and counts the free modules.
-ghost use Rattle.std.specs.Prelude.{◌≡◌, ℕ, ◌+◌, ◌-◌, ◌*◌, ◌/◌, ◌%◌, ◌^◌, ◌<◌, ◌≤◌, Bool, true, false, not, ◌&&◌, ◌==◌, if◌then◌else◌, IsTrue, IsFalse, nat_lt, List, length};
+//! The placement of the codewords: a cursor goes along the strips and counts the free modules, both modules of a strip's
+//! row at once where both are free.
+ghost use Rattle.std.specs.Prelude.{◌≡◌, ℕ, ◌+◌, ◌-◌, ◌*◌, ◌/◌, ◌%◌, ◌^◌, ◌<◌, ◌≤◌, Bool, true, false, not, ◌&&◌, ◌==◌};
+ghost use Rattle.std.specs.Prelude.{if◌then◌else◌, IsTrue, IsFalse, nat_lt, List, length};
 ghost use Rattle.qrdata.specs.Versions.{side_of};
 ghost use Rattle.qrmatrix.specs.Functions.{is_free};
 ghost use Rattle.qrmatrix.specs.Placement;
@@ -13,7 +15,7 @@ ghost use Rattle.qrmatrix.specs.Private.Drawing.{MarksFunctions};
 use crate::square::{SIDE, Square};
 use qrdata::{Version, Words};
 
-/// Numbers of two codewords: enough for a bit of each module of the largest symbol.
+/// How many numbers of two codewords there are: enough that each module of the largest symbol has a bit.
 const PAIRS: usize = 400;
 
 /// Bit `i` of the codewords, the high bit of each first, and light past their end.

@@ -56,7 +56,8 @@ pub fn run_starts(word: u64) -> u64
     ((word ^ (word >> 1)) << 1) | 1
 }
 
-/// The penalty of runs, where `uniform` has the places of windows of one colour and `begins` those at which a run begins.
+/// The penalty of runs, where `uniform` has the places of windows of one colour and `begins` those at which a run
+/// begins.
 pub fn run_points(uniform: u64, begins: u64, n: usize) -> u32
     requires { n ≤ SIDE }
     ensures value { result

@@ -1,5 +1,6 @@
 //! A square of truth values, one word a row.
-ghost use Rattle.std.specs.Prelude.{◌≡◌, ℕ, ◌^◌, ◌<◌, Bool, ◌&&◌, ◌==◌, if◌then◌else◌, List, [], false, map, slice_index, All};
+ghost use Rattle.std.specs.Prelude.{◌≡◌, ℕ, ◌^◌, ◌<◌, Bool, ◌&&◌, ◌==◌, if◌then◌else◌, List, [], false, map};
+ghost use Rattle.std.specs.Prelude.{slice_index, All};
 ghost use Rattle.qrmatrix.specs.Bits.{bit};
 ghost use Rattle.qrmatrix.specs.Masks.{flip_if};
 ghost use Rattle.qrmatrix.specs.Private.Words.{low_bits, AreRows};

@@ -46,8 +46,10 @@ format_by word Free = false
 -- a symbol that has no format information and no mask laid over
 pub record IsUnmasked (v : ℕ) (words : List ℕ) (function modules : List (List Bool)) : Type 0 where
   pub marked : MarksFunctions v function
-  pub free : (x y : ℕ) → x < side_of v → y < side_of v → is_free v x y ≡ true → value_at modules x y ≡ codeword_bit words (rank v x y)
-  pub taken : (x y : ℕ) → x < side_of v → y < side_of v → is_free v x y ≡ false → value_at modules x y ≡ drawn_by v (role v x y)
+  pub free : (x y : ℕ) → x < side_of v → y < side_of v → is_free v x y ≡ true
+      → value_at modules x y ≡ codeword_bit words (rank v x y)
+  pub taken : (x y : ℕ) → x < side_of v → y < side_of v → is_free v x y ≡ false
+      → value_at modules x y ≡ drawn_by v (role v x y)
   pub columns : (x y : ℕ) → side_of v ≤ x → value_at modules x y ≡ false
   pub rows : (x y : ℕ) → side_of v ≤ y → value_at modules x y ≡ false
 
@@ -57,5 +59,6 @@ Places unmasked words = IsUnmasked unmasked.version.number words unmasked.functi
 
 -- the modules of the format information are drawn for a mask, where they were light
 pub record ShowsFormat (v : ℕ) (level : Level) (mask : ℕ) (old new : List (List Bool)) : Type 0 where
-  pub inside : (x y : ℕ) → x < side_of v → y < side_of v → value_at new x y ≡ flip_if (format_by (format_word level mask) (role v x y)) (value_at old x y)
+  pub inside : (x y : ℕ) → x < side_of v → y < side_of v
+      → value_at new x y ≡ flip_if (format_by (format_word level mask) (role v x y)) (value_at old x y)
   pub outside : SameOutside (side_of v) old new

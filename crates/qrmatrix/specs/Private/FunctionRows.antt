@@ -1,5 +1,7 @@
--- What the patterns of a symbol have of each row, as words: bit x is the module at column x (ISO/IEC 18004, 6.3, 7.9 and 7.10).
-use Rattle.std.specs.Prelude.{ℕ, ◌+◌, ◌-◌, ◌*◌, ◌/◌, ◌%◌, ◌^◌, ◌&&◌, ◌||◌, ◌==◌, nat_lt, nat_le, not, if◌then◌else◌, bit_and, bit_or, slice_index}
+-- What the patterns of a symbol have of each row, as words: bit x is the module at column x (ISO/IEC 18004, 6.3, 7.9
+-- and 7.10).
+use Rattle.std.specs.Prelude.{ℕ, ◌+◌, ◌-◌, ◌*◌, ◌/◌, ◌%◌, ◌^◌, ◌&&◌, ◌||◌, ◌==◌, nat_lt, nat_le, not, if◌then◌else◌}
+use Rattle.std.specs.Prelude.{bit_and, bit_or, slice_index}
 use Rattle.std.specs.Int.{bit_not, reverse_bits, w32, w64}
 use Rattle.qrdata.specs.Versions.{side_of}
 use Rattle.qrmatrix.specs.Information.{version_word}
@@ -22,7 +24,9 @@ or_else a b =
 -- the finder patterns with their separators
 unfoldable pub finders : ℕ → ℕ → PatternRow
 finders n y =
-    if nat_lt y 8 then pattern_row (bit_or 0xFF (up 0xFF (n - 8))) (bit_or (slice_index FINDER y) (up (slice_index FINDER y) (n - 7)))
+    if nat_lt y 8
+    then pattern_row (bit_or 0xFF (up 0xFF (n - 8)))
+    (bit_or (slice_index FINDER y) (up (slice_index FINDER y) (n - 7)))
     else (if nat_le (n - 8) y then pattern_row 0xFF (slice_index FINDER (n - 1 - y))
     else pattern_row 0 0)
 
@@ -70,7 +74,8 @@ formats n y =
 -- the bits 0, 3, 6, .. of a word of 18 bits
 unfoldable pub every_third : ℕ → ℕ
 every_third w =
-    bit_or (bit_or (bit_or (bit_or (bit_or (bit_and w 1) (bit_and (w / 2 ^ 2) 2)) (bit_and (w / 2 ^ 4) 4)) (bit_and (w / 2 ^ 6) 8)) (bit_and (w / 2 ^ 8) 16)) (bit_and (w / 2 ^ 10) 32)
+    let low_three = bit_or (bit_or (bit_and w 1) (bit_and (w / 2 ^ 2) 2)) (bit_and (w / 2 ^ 4) 4) in
+    bit_or (bit_or (bit_or low_three (bit_and (w / 2 ^ 6) 8)) (bit_and (w / 2 ^ 8) 16)) (bit_and (w / 2 ^ 10) 32)
 
 -- the version information
 unfoldable pub versions : ℕ → ℕ → PatternRow
@@ -79,19 +84,23 @@ versions v y =
     let n = side_of v in
     if nat_lt v 7 then pattern_row 0 0
     else (if nat_lt y 6 then pattern_row (up 7 (n - 11)) (up (bit_and (version_word v / 2 ^ (3 * y)) 7) (n - 11))
-    else (if nat_le (n - 11) y && nat_lt y (n - 8) then pattern_row 63 (every_third (version_word v / 2 ^ (y - (n - 11))))
+    else (if nat_le (n - 11) y && nat_lt y (n - 8)
+    then pattern_row 63 (every_third (version_word v / 2 ^ (y - (n - 11))))
     else pattern_row 0 0))
 
 -- the modules that the codewords do not choose, those of the format information light
 unfoldable pub function_row : ℕ → ℕ → PatternRow
 unfolding or_else finders alignments timing formats versions
 function_row v y =
-    or_else (or_else (or_else (or_else (finders (side_of v) y) (alignments v y)) (timing (side_of v) y)) (formats (side_of v) y)) (versions v y)
+    let n = side_of v in
+    or_else (or_else (or_else (or_else (finders n y) (alignments v y)) (timing n y)) (formats n y)) (versions v y)
 
 -- the modules that show a one of the format word
 unfoldable pub format_row : ℕ → ℕ → ℕ → ℕ
 format_row n word y =
-    if y == 8 then (let across = reverse_bits w32 word / 2 ^ 17 in bit_or (bit_or (bit_and across 0x3F) (up (bit_and across 0xC0) 1)) (up (across / 2 ^ 7) (n - 8)))
+    if y == 8
+    then (let across = reverse_bits w32 word / 2 ^ 17 in
+    bit_or (bit_or (bit_and across 0x3F) (up (bit_and across 0xC0) 1)) (up (across / 2 ^ 7) (n - 8)))
     else (if nat_lt y 6 then up (bit_and (word / 2 ^ y) 1) 8
     else (if y == 7 then up (bit_and (word / 2 ^ 6) 1) 8
     else (if nat_le (n - 7) y then up (bit_and (word / 2 ^ (y + 15 - n)) 1) 8

@@ -2,16 +2,55 @@
 ghost use Rattle.std.specs.Prelude.{◌+◌, ◌*◌, ◌<◌, ◌≤◌, IfSome};
 ghost use Rattle.qrdata.specs.Versions.{side_of};
 
-use crate::information::{format_word, version_word};
 use labelcore::Level;
 use qrdata::Version;
+
+/// The format words of the masks 0 to 7 at the levels L, M, Q and H (ISO/IEC 18004, Table C.1).
+const FORMAT_WORDS: [[u32; 8]; 4] = [
+    [
+        0x77C4, 0x72F3, 0x7DAA, 0x789D, 0x662F, 0x6318, 0x6C41, 0x6976,
+    ],
+    [
+        0x5412, 0x5125, 0x5E7C, 0x5B4B, 0x45F9, 0x40CE, 0x4F97, 0x4AA0,
+    ],
+    [
+        0x355F, 0x3068, 0x3F31, 0x3A06, 0x24B4, 0x2183, 0x2EDA, 0x2BED,
+    ],
+    [
+        0x1689, 0x13BE, 0x1CE7, 0x19D0, 0x0762, 0x0255, 0x0D0C, 0x083B,
+    ],
+];
+
+/// The format word of a level and a mask.
+fn format_word(level: Level, mask: u8) -> u32
+    requires { mask < 8 }
+{
+    let words = match level {
+        Level::L => FORMAT_WORDS[0],
+        Level::M => FORMAT_WORDS[1],
+        Level::Q => FORMAT_WORDS[2],
+        Level::H => FORMAT_WORDS[3],
+    };
+    words[usize::from(mask)]
+}
+
+/// The version word of a version from 7 on (ISO/IEC 18004, Table D.1).
+fn version_word(version: Version) -> u32 {
+    match version.number() {
+        7 => 0x07C94,
+        8 => 0x085BC,
+        9 => 0x09A99,
+        _ => 0x0A4D3,
+    }
+}
 
 /// How far two coordinates are from one another.
 fn distance(a: usize, b: usize) -> usize {
     if a < b { b - a } else { a - b }
 }
 
-/// The square ring round the centre (`a`, `b`) on which the module at column `x` and row `y` lies, the centre being ring 0.
+/// The square ring round the centre (`a`, `b`) on which the module at column `x` and row `y` lies, the centre being
+/// ring 0.
 fn ring(a: usize, b: usize, x: usize, y: usize) -> usize {
     distance(a, x).max(distance(b, y))
 }
