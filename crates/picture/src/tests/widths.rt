@@ -58,6 +58,10 @@ fn write_ascii_slowly<G: Grid, S: Sink>(grid: &G, sink: &mut S) -> Result<(), Io
     write_whole(b"\n", sink)
 }
 
+fn line_ends(text: &[u8]) -> usize {
+    text.iter().filter(|byte| **byte == b'\n').count()
+}
+
 /// Both texts of the grid, of at most four rows.
 fn assert_texts<G: Grid>(rt: &impl Abort, grid: &G) {
     let mut sink = MemSink::<61000>::new(4096, 61000);
@@ -66,8 +70,10 @@ fn assert_texts<G: Grid>(rt: &impl Abort, grid: &G) {
     assert_eq!(rt; write_pbm_slowly(grid, &mut slow), Ok(()));
     assert!(rt; sink.bytes().starts_with(b"P1\n"));
     assert!(rt; sink.bytes().ends_with(slow.bytes()));
-    let header = sink.bytes().iter().position(|byte| *byte == b' ');
-    assert!(rt; header.is_some_and(|at| sink.bytes().len() == at + 3 + slow.bytes().len()));
+    assert_eq!(rt;
+        line_ends(sink.bytes()),
+        line_ends(slow.bytes()).wrapping_add(2)
+    );
     let mut sink = MemSink::<121000>::new(4096, 121000);
     let mut slow = MemSink::<121000>::new(4096, 121000);
     assert_eq!(rt; write_ascii(grid, &mut sink), Ok(()));

@@ -1,0 +1,25 @@
+-- What the private contracts of reading a line say: no public clause cites these words.
+use Rattle.std.specs.Prelude.{ℕ, ◌+◌, ◌<◌, ◌≤◌, ◌≡◌, List, length, drop, Err, if◌then◌else◌}
+use Rattle.labelcore.specs.declared.fault.Fault.TheVariants.{LineTooLong}
+use Rattle.labelcore.specs.OptionValues.{OptionValues}
+use Rattle.labelcore.specs.Lines.{Held}
+use Rattle.labelcore.specs.LineItem.{LineItem, skip, refuse, is_skipped, item_of_request, request}
+use Rattle.labelcore.specs.Escapes.{naming, unescaped_from}
+
+-- what a line asks for, by what is held of it
+abbrev pub item_of_held : OptionValues → Held → LineItem
+item_of_held options line =
+    if is_skipped line.bytes then skip
+    else if line.is_too_long then refuse LineTooLong
+    else item_of_request (request options line.bytes)
+
+-- a unit of this size, which names the byte, stands at the front
+pub record IsFirstUnit (text : List ℕ) (byte size : ℕ) : Type 0 where
+  pub some : 0 < size
+  pub within : size ≤ length text
+  pub small : byte < 256
+  pub read : (place : ℕ) → unescaped_from place text ≡ naming byte (unescaped_from (place + size) (drop size text))
+
+-- the text begins with a backslash, and with no unit
+abbrev pub BeginsNoUnit : List ℕ → Type 0
+BeginsNoUnit text = (place : ℕ) → unescaped_from place text ≡ Err place
