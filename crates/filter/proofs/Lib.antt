@@ -1,4 +1,4 @@
-pub mod Example
+pub mod Examples
 pub mod FilterLemmas
 pub mod LineLemmas
 pub mod OutputLemmas
