@@ -103,21 +103,21 @@ fn move_up(register: &mut [u8])
     register[last] = 0;
 }
 
-/// Moves each word of the register up by one place, and adds the product of alpha^factor and a coefficient to each.
-fn move_up_and_add(factor: u8, logarithms: &[u8], register: &mut [u8])
+/// Moves each word of the register up by one place, and adds to each the product of alpha^logarithm and a coefficient.
+fn move_up_and_add(logarithm: u8, logarithms: &[u8], register: &mut [u8])
     requires some { 0 < length logarithms.now }
     requires same { length register.old ≡ length logarithms.now }
     ensures { EachIndex register.new (λ j.
         slice_index register.new j
         ≡ bit_xor (slice_index register.old (j + 1))
-        (field_product (field_power alpha factor)
+        (field_product (field_power alpha logarithm)
         (field_power alpha (slice_index logarithms.now j)))) }
 {
     let last = logarithms.len() - 1;
     for j in 0..last {
-        register[j] = register[j + 1] ^ product_of_powers(factor, logarithms[j]);
+        register[j] = register[j + 1] ^ product_of_powers(logarithm, logarithms[j]);
     }
-    register[last] = product_of_powers(factor, logarithms[last]);
+    register[last] = product_of_powers(logarithm, logarithms[last]);
 }
 
 /// For crates above: whatever the block, the parity codewords of the definition are a remainder by the generator

@@ -1,6 +1,7 @@
 //! Powers and logarithms in the field of 256 elements.
 
-/// The powers of alpha, which is 2: place i holds alpha^i. They begin again after 255 places. The sum of two bytes is a place.
+/// The powers of alpha, which is 2: place i holds alpha^i. They begin again after 255 places. The sum of two bytes is
+/// a place.
 pub(crate) const POWERS: [u8; 511] = [
     1, 2, 4, 8, 16, 32, 64, 128, 29, 58, 116, 232, 205, 135, 19, 38, 76, 152, 45, 90, 180, 117,
     234, 201, 143, 3, 6, 12, 24, 48, 96, 192, 157, 39, 78, 156, 37, 74, 148, 53, 106, 212, 181,
@@ -47,8 +48,8 @@ pub(crate) const LOGARITHMS: [u8; 256] = [
     214, 244, 234, 168, 80, 88, 175,
 ];
 
-/// The generator polynomials of 1 to 30 parity codewords, one after another (annex A). Each is given by the logarithms of its
-/// coefficients, from high to low, but for the highest, which is 1.
+/// The generator polynomials of 1 to 30 parity codewords, one after another (annex A). Each is given by the
+/// logarithms of its coefficients, from high to low, but for the highest, which is 1.
 pub(crate) const GENERATORS: [u8; 465] = [
     // 1
     0,

@@ -29,7 +29,8 @@ abbrev pub cheapest : ℕ → List (List Segment) → List Segment
 cheapest version [] = []
 cheapest version (segments ∷ lists) = best_of (λ s t. nat_lt (cost version s) (cost version t)) segments lists
 
--- Of the lists of a first segment and the best segments of the rest, the first of least cost. There are n bytes at most.
+-- Of the lists of a first segment and the best segments of the rest, the first of least cost. There are n bytes at
+-- most.
 unfoldable pub best_within : ℕ → ℕ → List ℕ → List Segment
 best_within version zero bytes = []
 best_within version (suc n) bytes =

@@ -187,7 +187,8 @@ impl Bits {
         8 * self.words.len() + self.rest.count
     }
 
-    /// Writes the terminator, four zeros or as many as are left in so many codewords, and zeros to the end of a codeword.
+    /// Writes the terminator, four zeros or as many as are left in so many codewords, and zeros to the end of a
+    /// codeword.
     pub(crate) fn end(&mut self, size: usize)
         requires fits { length (bits_in self.old) ≤ 8 * size }
         requires size { size ≤ MAX_BITS / 8 }

@@ -1,4 +1,5 @@
-//! From bytes to the codewords of a QR Code symbol (ISO/IEC 18004): versions 1 to 10, segments, blocks and interleaving.
+//! From bytes to the codewords of a QR Code symbol (ISO/IEC 18004): versions 1 to 10, segments, blocks and
+//! interleaving.
 //!
 //! [`choose`] makes a [`Plan`] of the data, the version and the segments of the symbol, and [`codewords`] writes the
 //! codewords of that plan. Neither takes memory.

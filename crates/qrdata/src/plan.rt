@@ -69,10 +69,10 @@ impl Plan {
     }
 }
 
-/// Chooses the least version, from that of the options to 10, in which some segments of the data fit the data codewords
-/// of the options' level, and in it the segments of the fewest bits (ISO/IEC 18004, 7.4.1). Of lists of equally few bits it
-/// is that of the longest first segment, then of the mode numeric before alphanumeric before byte, and likewise for the
-/// segments after it. Empty data has no segments.
+/// Chooses the least version, from that of the options to 10, in which some segments of the data fit the data
+/// codewords of the options' level, and in it the segments of the fewest bits (ISO/IEC 18004, 7.4.1). Of lists of
+/// equally few bits it is that of the longest first segment, then of the mode numeric before alphanumeric before
+/// byte, and likewise for the segments after it. Empty data has no segments.
 ///
 /// Data that fits none of these versions is refused by [`Fault::DoesNotFit`] with the level.
 pub fn choose(options: &Options, bytes: &[u8]) -> Result<Plan, Fault>

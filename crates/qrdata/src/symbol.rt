@@ -16,9 +16,9 @@ use crate::plan::Plan;
 use crate::version::Version;
 use labelcore::Level;
 
-/// Writes the codewords of the symbol of a plan into `words`, in the order in which they are placed: the data codewords of
-/// its blocks interleaved, then their parity codewords interleaved (ISO/IEC 18004, 7.6). The plan is one for these bytes,
-/// as [`crate::choose`] gives it. What `words` held is dropped.
+/// Writes the codewords of the symbol of a plan into `words`, in the order in which they are placed: the data
+/// codewords of its blocks interleaved, then their parity codewords interleaved (ISO/IEC 18004, 7.6). The plan is one
+/// for these bytes, as [`crate::choose`] gives it. What `words` held is dropped.
 pub fn codewords(plan: &Plan, bytes: &[u8], words: &mut Words)
     requires cut { IsSegmentation plan.now.version plan.now.segments bytes.now }
     requires fits { cost plan.now.version plan.now.segments

@@ -12,7 +12,8 @@ pub(crate) const MAX_BYTES: usize = 652;
 /// The bits of a choice that there is not: more than the best segments of so few bytes have.
 const ABSENT: usize = 65536;
 
-/// A first segment of a rest of the bytes, and the bits of the list of it and of the best segments of what comes after it.
+/// A first segment of a rest of the bytes, and the bits of the list of it and of the best segments of what comes
+/// after it.
 #[derive(Drop)]
 struct Choice {
     mode: Mode,
@@ -65,8 +66,8 @@ impl Choice {
     }
 }
 
-/// The best choices in numeric mode, by how many digits are over threes: what one digit more costs depends on it, and adding
-/// it to all choices of a kind leaves their order as it is.
+/// The best choices in numeric mode, by how many digits are over threes: what one digit more costs depends on it, and
+/// adding it to all choices of a kind leaves their order as it is.
 #[derive(Drop)]
 struct Digits {
     none_over: Choice,
@@ -242,9 +243,9 @@ fn without_bytes() -> Choices
     }
 }
 
-/// Fills a table from its end: at each place stands the first of the best segments of the bytes from there on. The result
-/// is the bits of the best segments of all the bytes. The limits of the character counts are left out, for they bind no
-/// segments that fit. Its time grows with the number of bytes.
+/// Fills a table from its end: at each place stands the first of the best segments of the bytes from there on. The
+/// result is the bits of the best segments of all the bytes. The limits of the character counts are left out, for
+/// they bind no segments that fit. Its time grows with the number of bytes.
 pub(crate) fn fill(version: Version, bytes: &[u8], firsts: &mut [Segment]) -> usize
     requires few { length bytes.now ≤ MAX_BYTES }
     requires firsts { length firsts.old ≡ 653 }

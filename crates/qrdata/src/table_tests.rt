@@ -1,4 +1,5 @@
-//! The choice beside its slow form: a table in which each place tries every length, with the limits of the character counts.
+//! The choice beside its slow form: a table in which each place tries every length, with the limits of the character
+//! counts.
 ghost use Rattle.std.specs.Prelude.{length, ◌≤◌, ◌<◌};
 
 use crate::mode::{Mode, Segment, value_of};
@@ -188,7 +189,8 @@ impl Numbers {
         (self.state / 65_536 % u32::from(limit)) as u8
     }
 
-    /// Writes stretches of digits, of capital letters and of small letters. A stretch has so many characters on average.
+    /// Writes stretches of digits, of capital letters and of small letters. A stretch has so many characters on
+    /// average.
     fn write_text(&mut self, stretch: u8, text: &mut [u8])
         requires { 0 < stretch }
     {

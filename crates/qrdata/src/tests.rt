@@ -295,8 +295,8 @@ fn empty_data(rt: HostRuntime) {
     expect_words(&rt, &words_of(&plan, b""), 0, &[0, 0xEC, 0x11]);
 }
 
-/// The bits of a list of segments in versions 1 to 9. The data is cut after each byte whose bit in `cuts` is set, and the
-/// modes of the pieces are the digits of `modes` to the base 3. There is none if a mode lacks a byte.
+/// The bits of a list of segments in versions 1 to 9. The data is cut after each byte whose bit in `cuts` is set, and
+/// the modes of the pieces are the digits of `modes` to the base 3. There is none if a mode lacks a byte.
 fn listed(data: &[u8], cuts: u32, modes: u32) -> Option<u32> {
     let mut total: u32 = 0;
     let mut len: u32 = 0;

@@ -6,7 +6,8 @@ use crate::blocks::{Lengths, push_lengths};
 use arrayvec::ArrayVec;
 use labelcore::Level;
 
-/// The codewords of a symbol, data and parity. In each of these tables place 0 is version 1.
+/// The codewords of a symbol, data and parity. In each of these tables place 0 is version 1. They are proved to hold what
+/// `specs/Versions.antt` lists in the standard's notation.
 const TOTAL: [usize; 10] = [26, 44, 70, 100, 134, 172, 196, 242, 292, 346];
 
 /// The blocks of a symbol at level L.
