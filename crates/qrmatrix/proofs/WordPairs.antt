@@ -14,6 +14,7 @@ use Rattle.qrmatrix.specs.Placement.{codeword_bit}
 use Rattle.qrmatrix.specs.Square.{value_at}
 use Rattle.qrmatrix.specs.Private.Squares.{WritesTwo}
 use Rattle.qrmatrix.specs.Private.WordPairs.{ArePairs, ShowsTwo}
+use Rattle.qrmatrix.proofs.UnderMask.{flip_light}
 use Rattle.qrmatrix.proofs.RowBits.{and_bit, shr_bit, mod_bit, above_bit}
 
 and_all : (b : Bool) → (b && true) ≡ b
@@ -123,10 +124,6 @@ moved two x a h l =
           ]
         ]
 
-flip_light : (b : Bool) → flip_if b false ≡ b
-flip_light true = refl
-flip_light false = refl
-
 -- two values come to stand on light modules
 pub two_written : (old new : List (List Bool)) (two x y : ℕ) → two < 4 → x + 1 < 57 → (value_at old x y ≡ false) × (value_at old (x + 1) y ≡ false)
     → ((a b : ℕ) → value_at new a b ≡ flip_if ((b == y) && bit (two * 2 ^ x % 2 ^ 64) a) (value_at old a b))
@@ -165,21 +162,6 @@ no_pairs n i words e = record { made = λ j l. absurd (omega arith); none = λ j
   zeros zero j = refl
   zeros (suc n) zero = refl
   zeros (suc n) (suc j) = zeros n j
-
--- one more pair
-pub pairs_more : (words pairs : List ℕ) (i value : ℕ) → PairsBelow words pairs i → length pairs ≡ 400 → 1 ≤ i → i < 400
-    → value ≡ slice_index words (i - 1) * 256 + slice_index words i → PairsBelow words (set pairs (i - 1) value) (i + 1)
-pairs_more words pairs i value p size some few e =
-    let inside : i - 1 < length pairs = omega arith in
-    record {
-      made = λ j l. elim (cases_eq j (i - 1)) [
-        | inl same ↦
-            let next : i ≡ j + 1 = omega arith in
-            rw (same, get_or-set_same pairs (i - 1) value 0 inside) (e ∙ ap (λ z. slice_index words (i - 1) * 256 + slice_index words z) (next ∙ ap (λ z. z + 1) same))
-        | inr ne ↦ get_or-set_other pairs (i - 1) j value 0 ne ∙ p.made j (omega arith)
-      ];
-      none = λ j l. get_or-set_other pairs (i - 1) j value 0 (λ same. omega arith) ∙ p.none j (omega arith);
-    }
 
 -- the last codeword, with nothing after it
 pub pairs_last : (words pairs : List ℕ) (i value : ℕ) → PairsBelow words pairs i → length pairs ≡ 400 → i ≡ length words → 1 ≤ i → i < 400
