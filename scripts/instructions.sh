@@ -41,44 +41,35 @@ shown() { sed -E ':a; s/^([0-9]+)([0-9]{3})/\1,\2/; ta'; }
 
 # The line $1 under the words after it, by labels.
 by_labels() {
-    local line=$1
+    local line=$1 all start
     shift
     times "$line" "$count" > lines
-    local all start
     all=$(instructions_of "$labels" "$@" lines)
     start=$(instructions_of "$labels" "$@" /dev/null)
     each "$all" "$start" "$count"
 }
 
-# The data $1 under the words after it, by zint; its own text of a picture, letters of hexadecimal digits.
-by_zint() {
-    local data=$1
+# The data $1 by the command after it, which takes a file of data last: a run over many less a run over one.
+by_file() {
+    local data=$1 all start
     shift
     times "$data" 1 > one
     times "$data" $((count + 1)) > many
-    local all start
-    all=$(instructions_of zint "$@" --batch --dump -i many)
-    start=$(instructions_of zint "$@" --batch --dump -i one)
+    all=$(instructions_of "$@" many)
+    start=$(instructions_of "$@" one)
     each "$all" "$start" "$count"
 }
 
+# The data $1 under the words after it, by zint; its own text of a picture, letters of hexadecimal digits.
+by_zint() { by_file "$1" zint "${@:2}" --batch --dump -i; }
+
 # The data $1 under the words after it, by GNU barcode, as PostScript.
-by_barcode() {
-    local data=$1
-    shift
-    times "$data" 1 > one
-    times "$data" $((count + 1)) > many
-    local all start
-    all=$(instructions_of barcode "$@" -i many -o /dev/null)
-    start=$(instructions_of barcode "$@" -i one -o /dev/null)
-    each "$all" "$start" "$count"
-}
+by_barcode() { by_file "$1" barcode "${@:2}" -o /dev/null -i; }
 
 # The data $1 under the words after it, by qrencode, as text.
 by_qrencode() {
-    local data=$1
+    local data=$1 all start
     shift
-    local all start
     all=$(instructions_of qrencode "$@" -t ASCII -o /dev/null "$data")
     start=$(instructions_of qrencode -V)
     each "$all" "$start" 1
