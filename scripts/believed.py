@@ -13,6 +13,7 @@ It rests on a word that stands in it, where the word is defined in its file or b
 definition and means something else in its file counts as that word: the list may be too long by that, never too short.
 """
 
+import itertools
 import os
 import re
 import sys
@@ -49,9 +50,10 @@ class File:
         self.names, self.modules = {}, {}
         self.of_name, self.order = {}, []
         lines = text.split("\n")
-        self.about = lines[0].removeprefix("-- ") if lines and lines[0].startswith("-- ") else ""
+        head = list(itertools.takewhile(lambda line: line.startswith("--"), lines))
+        self.about = " ".join(line.removeprefix("--").strip() for line in head)
         block = []
-        for line in lines[1 if self.about else 0:] + [""]:
+        for line in lines[len(head):] + [""]:
             if line.strip():
                 block.append(line)
             elif block:
