@@ -10,8 +10,6 @@ mod engine;
 mod filter;
 mod line;
 mod status;
-#[cfg(test)]
-mod tests;
 
 pub use engine::run;
 pub use filter::Filter;

@@ -7,8 +7,6 @@
 mod field;
 mod generator;
 mod tables;
-#[cfg(test)]
-mod tests;
 
 pub use field::{mul, pow_alpha};
 pub use generator::{Generator, parity_is_sound};

@@ -9,8 +9,6 @@ mod linear;
 mod row;
 mod switching;
 mod tables;
-#[cfg(test)]
-mod tests;
 
 pub use code128::Code128;
 pub use ean::{Ean8, Ean13, UpcA};

@@ -10,8 +10,6 @@ mod matrix;
 mod pbm;
 mod rows;
 mod scaled;
-#[cfg(test)]
-mod tests;
 
 pub use ascii::write_ascii;
 pub use bars::Bars;

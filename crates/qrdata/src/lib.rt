@@ -11,13 +11,7 @@ mod mode;
 mod plan;
 mod symbol;
 mod table;
-#[cfg(test)]
-mod table_tests;
-#[cfg(test)]
-mod tests;
 mod version;
-#[cfg(test)]
-mod version_tests;
 
 pub use blocks::Words;
 pub use mode::{Mode, Segment};

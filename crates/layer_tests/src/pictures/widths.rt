@@ -1,6 +1,6 @@
 //! Rows at the widths where their form changes, against the slow form, which asks for each pixel.
-use crate::*;
 use labelcore::{IoFault, MemSink, Sink, write_whole};
+use picture::{Bars, Framed, Grid, write_ascii, write_pbm};
 use std::process::Abort;
 
 /// About a line, the room for a row at scale 1, and the room for any label's row.

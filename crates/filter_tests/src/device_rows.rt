@@ -1,8 +1,8 @@
 //! Runs over devices that stop, fail or take little, and the filter piece by piece.
 ghost use Rattle.std.specs.Prelude.{◌<◌};
 
-use crate::tests::support::{EAN8, joined, low};
-use crate::{Filter, RunFault, Status, run};
+use crate::support::{EAN8, joined, low};
+use filter::{Filter, RunFault, Status, run};
 use labelcore::{Format, Level, MemSink, MemSource, Options, StdSink, StdSource};
 use std::process::Abort;
 use std::test::Fail;

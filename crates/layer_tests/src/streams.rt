@@ -1,5 +1,5 @@
 //! What no clause says of the devices over std: which calls reach the reader and the writer.
-use crate::*;
+use labelcore::{IoFault, Sink, Source, StdSink, StdSource, write_whole};
 use std::cell::Cell;
 use std::io::{self, ErrorKind, Read, Write};
 

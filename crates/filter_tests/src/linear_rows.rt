@@ -1,9 +1,9 @@
 //! Worked labels of EAN-13, EAN-8, UPC-A and Code 128, and the lines that they refuse.
-use crate::Status;
-use crate::tests::support::{
+use crate::support::{
     DEFAULT, EAN8, EAN13_ROW, LOW, Named, REFUSALS, assert_row, bars, joined, letters, low,
     refused_lines, repeated, run_by,
 };
+use filter::Status;
 use labelcore::{Format, Options};
 use std::alloc::Global;
 use std::process::Abort;

@@ -1,8 +1,8 @@
 //! Output that is held back, over writers in memory.
 ghost use Rattle.std.specs.Prelude.{◌<◌};
 
-use crate::tests::support::{EAN8, joined, low, repeated};
-use crate::{RunFault, Status, run};
+use crate::support::{EAN8, joined, low, repeated};
+use filter::{RunFault, Status, run};
 use labelcore::{FailAt, Held, IoFault, MemSink, MemSource, Sink, Source, StdSink};
 use std::alloc::Global;
 use std::cell::RefCell;

@@ -3,9 +3,8 @@ ghost use Rattle.qrdata.specs.Segments.{IsSegmentation, cost};
 ghost use Rattle.qrdata.specs.Versions.{capacity};
 ghost use Rattle.std.specs.Prelude.{◌≤◌};
 
-use super::*;
-use crate::blocks::interleave;
 use labelcore::{Fault, Format, Level, Options};
+use qrdata::{Mode, Plan, Segment, Version, Words, choose, codewords};
 use std::process::Abort;
 
 fn options(rt: &impl Abort, level: Level, min_version: u8) -> Options {
@@ -205,25 +204,35 @@ fn uneven_blocks(rt: HostRuntime) {
     expect_words(&rt, &words, 56, &[0x16, 0x16, 0xEC, 0xEC, 0x11, 0x11]);
 }
 
+/// The data word of each place in `interleaving_order`: the place itself, but for the first two, which begin with the
+/// mode and the count, and the last, which ends with the terminator.
+fn placed_word(place: u8) -> u8 {
+    match place {
+        0 => 0x43,
+        1 => 0xC1,
+        61 => 0x30,
+        _ => place,
+    }
+}
+
 #[test]
 fn interleaving_order(rt: HostRuntime) {
-    let mut places = [0; 62];
-    for (place, word) in places.iter_mut().enumerate() {
-        *word = place as u8;
+    let mut data = [0; 60];
+    for place in 0..60u8 {
+        data[usize::from(place)] = (place + 1) % 16 * 16 + (place + 2) / 16;
     }
-    let mut words = Words::new();
-    interleave(&[15, 15, 16, 16], &places, &mut words);
-    assert_eq!(rt; words.len(), 62);
+    let plan = planned(&rt, Level::Q, 5, &data);
+    expect_segments(&rt, &plan, &[segment(Mode::Byte, 60)]);
+    let words = words_of(&plan, &data);
+    assert_eq!(rt; words.len(), 62 + 72);
     for place in 0..15u8 {
-        let from = 4 * usize::from(place);
-        expect_words(
-            &rt,
-            &words,
-            from,
-            &[place, 15 + place, 30 + place, 46 + place],
-        );
+        let row = [place, 15 + place, 30 + place, 46 + place];
+        for (block, index) in row.iter().enumerate() {
+            let at = usize::from(place).saturating_mul(4).saturating_add(block);
+            assert_eq!(rt; words.as_slice().get(at), Some(&placed_word(*index)));
+        }
     }
-    expect_words(&rt, &words, 60, &[45, 61]);
+    expect_words(&rt, &words, 60, &[placed_word(45), placed_word(61)]);
 }
 
 const fn segment(mode: Mode, len: u16) -> Segment {
@@ -356,6 +365,40 @@ fn no_list_costs_less(rt: HostRuntime) {
             let text = text_of(number);
             let plan = planned(&rt, Level::M, 1, &text[..shorter + 1]);
             assert_eq!(rt; plan.bits(), fewest_bits(&text[..shorter + 1]));
+        }
+    }
+}
+
+#[test]
+fn values_of_characters(rt: HostRuntime) {
+    for byte in 0u8..=255 {
+        let value = match byte {
+            b'0'..=b'9' => byte - b'0',
+            b'A'..=b'Z' => byte - b'A' + 10,
+            b' ' => 36,
+            b'$' => 37,
+            b'%' => 38,
+            b'*' => 39,
+            b'+' => 40,
+            b'-' => 41,
+            b'.' => 42,
+            b'/' => 43,
+            b':' => 44,
+            _ => 45,
+        };
+        // The pair of an `A` and the byte, whose values make a number of 11 bits, or two bytes.
+        let data = [b'A', byte];
+        let words = words_of(&planned(&rt, Level::L, 1, &data), &data);
+        if value == 45 {
+            expect_words(&rt, &words, 0, &[0x40, 0x24]);
+        } else {
+            let pair = 450 + u16::from(value);
+            expect_words(
+                &rt,
+                &words,
+                0,
+                &[0x20, 0x10 + (pair / 256) as u8, (pair % 256) as u8],
+            );
         }
     }
 }

@@ -1,7 +1,7 @@
 //! What the tests share: runs over memory, and the texts that they compare with.
 ghost use Rattle.std.specs.Prelude.{◌<◌};
 
-use crate::{Filter, RunFault, Status, run};
+use filter::{Filter, RunFault, Status, run};
 use labelcore::{Format, Level, MemSource, Options, StdSink};
 use std::alloc::{AllocError, Global};
 use std::process::Abort;

@@ -1,5 +1,5 @@
 //! Bytes that are held back: how many, which calls they go on at, and what a failure leaves.
-use crate::*;
+use labelcore::{FailAt, Held, IoFault, MemSink, Sink, Source, write_whole};
 use std::process::Abort;
 
 #[test]

@@ -4,10 +4,10 @@ ghost use Rattle.qrdata.specs.Versions.{side_of, total_codewords};
 
 mod slow;
 
-use crate::{Matrix, information_laws};
 use arrayvec::ArrayVec;
 use labelcore::Level;
 use qrdata::{Version, Words};
+use qrmatrix::{Matrix, information_laws};
 
 /// The codewords of the digits 01234567 in version 1 at level M (ISO/IEC 18004, Annex I).
 const CODEWORDS: [u8; 26] = [

@@ -2,11 +2,8 @@
 //! counts.
 ghost use Rattle.std.specs.Prelude.{length, ◌≤◌, ◌<◌};
 
-use crate::mode::{Mode, Segment, value_of};
-use crate::plan::{Plan, choose};
-use crate::table::MAX_BYTES;
-use crate::version::Version;
 use labelcore::{Format, Level, Options};
+use qrdata::{Mode, Plan, Segment, Version, choose};
 use std::process::Abort;
 
 /// A first segment of a rest of the data, and the bits of the list that it begins.
@@ -34,6 +31,32 @@ fn count_limit(version: Version, mode: Mode) -> usize {
     }
 }
 
+/// The bits of the character count.
+fn count_bits(version: Version, mode: Mode) -> usize {
+    let short = version.number() < 10;
+    match mode {
+        Mode::Numeric => if short { 10 } else { 12 },
+        Mode::Alphanumeric => if short { 9 } else { 11 },
+        Mode::Byte => if short { 8 } else { 16 },
+    }
+}
+
+/// The bits of so many characters, group by group (ISO/IEC 18004, data encodation).
+fn payload_bits(mode: Mode, len: usize) -> usize
+    requires { len ≤ 652 }
+{
+    match mode {
+        Mode::Numeric => len / 3 * 10 + [0, 4, 7][len % 3],
+        Mode::Alphanumeric => len / 2 * 11 + len % 2 * 6,
+        Mode::Byte => len * 8,
+    }
+}
+
+/// Whether a byte is one of the 45 characters of the alphanumeric mode.
+fn is_character(byte: u8) -> bool {
+    byte.is_ascii_digit() || byte.is_ascii_uppercase() || b" $%*+-./:".contains(&byte)
+}
+
 /// The candidate of a mode and a length, if it is a segment and its list costs less, and else the choice so far.
 fn cheaper(
     version: Version,
@@ -45,10 +68,9 @@ fn cheaper(
 ) -> SlowChoice
     requires { len ≤ 652 }
 {
-    let payload = mode.payload_bits(len);
-    let bits = payload
+    let bits = payload_bits(mode, len)
         .saturating_add(4)
-        .saturating_add(mode.count_bits(version))
+        .saturating_add(count_bits(version, mode))
         .saturating_add(after);
     if len > run || len >= count_limit(version, mode) || bits >= so_far.bits {
         return so_far;
@@ -103,7 +125,7 @@ fn slow_table(version: Version, data: &[u8]) -> [SlowChoice; 653]
         } else {
             0
         };
-        characters = if value_of(byte) < 45 {
+        characters = if is_character(byte) {
             characters.saturating_add(1)
         } else {
             0
@@ -149,9 +171,12 @@ fn expect_same_segments(rt: &impl Abort, plan: &Plan, data: &[u8], table: &[Slow
 
 /// Chooses for the data at each level from each of some versions on, and expects what the slow tables say.
 fn expect_same(rt: &impl Abort, data: &[u8]) {
-    assert!(rt; data.len() <= MAX_BYTES);
-    let short = slow_table(Version { number: 9 }, data);
-    let long = slow_table(Version { number: 10 }, data);
+    assert!(rt; data.len() <= 652);
+    let (Some(nine), Some(ten)) = (Version::new(9), Version::new(10)) else {
+        panic!(rt; "there are such versions")
+    };
+    let short = slow_table(nine, data);
+    let long = slow_table(ten, data);
     for level in [Level::L, Level::M, Level::Q, Level::H] {
         for lowest in [1, 9, 10] {
             let Some(options) = Options::new(Format::Pbm, 1, 50, level, lowest, None, false) else {

@@ -2,8 +2,8 @@
 ghost use Rattle.std.specs.Prelude.{◌≢◌, []};
 
 use super::{assert_drawn, assert_widths};
-use crate::{Ean8, Ean13};
 use arrayvec::ArrayVec;
+use linear::{Ean8, Ean13};
 
 /// The widths of the values 0 to 105, as `zint -b 20 --dump` and, for 102, `zint -b 16 --dump` draw them: 0 to 99 and
 /// 105 in the symbols of two digits, 103 in that of bytes 1 and 2, 104 in that of `ab`, 101 in that of `ab` and the

@@ -3,8 +3,8 @@ ghost use Rattle.std.specs.Prelude.{◌≢◌, []};
 
 mod listings;
 
-use crate::*;
 use labelcore::Fault;
+use linear::{Code128, Ean8, Ean13, Linear, Row, UpcA, switching_law, table_laws};
 use std::process::Abort;
 
 /// What a symbology draws of data, through the trait.

@@ -1,7 +1,5 @@
 //! Worked labels of QR.
-use crate::tests::support::{
-    DEFAULT, LEVEL_L, Named, assert_row, joined, letters, repeated, run_by,
-};
+use crate::support::{DEFAULT, LEVEL_L, Named, assert_row, joined, letters, repeated, run_by};
 use labelcore::{Format, Level};
 use std::alloc::{AllocError, Global};
 use std::process::Abort;

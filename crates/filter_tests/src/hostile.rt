@@ -1,8 +1,8 @@
 //! Hostile use: devices that fail at each call or at each byte, very long lines, every byte, and input that breaks off.
-use crate::tests::support::{
+use crate::support::{
     EAN8, REFUSALS, assert_came_to, joined, low, refused_lines, repeated, run_by,
 };
-use crate::{RunFault, Status, run};
+use filter::{RunFault, Status, run};
 use labelcore::{FailAt, MemSink, MemSource, Options};
 use std::alloc::{AllocError, Global};
 use std::process::Abort;

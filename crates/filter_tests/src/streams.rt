@@ -1,6 +1,6 @@
 //! Readers and writers of std that move one byte a call, break off once, or take nothing once.
-use crate::tests::support::{EAN8, EAN13_ROW, REFUSALS, bars, refused_lines};
-use crate::{RunFault, Status, run};
+use crate::support::{EAN8, EAN13_ROW, REFUSALS, bars, refused_lines};
+use filter::{RunFault, Status, run};
 use labelcore::{Format, Level, Options, StdSink, StdSource};
 use std::alloc::Global;
 use std::io::{self, ErrorKind, Read, Write};

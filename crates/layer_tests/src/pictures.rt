@@ -1,8 +1,11 @@
 //! Worked texts, and each public call once.
 mod widths;
 
-use crate::*;
 use labelcore::{IoFault, MemSink};
+use picture::{
+    Bars, Framed, Grid, Scaled, files_of_texts, modules_of_pixels, pixels_of_texts, write_ascii,
+    write_pbm,
+};
 use std::process::Abort;
 
 /// The modules of the symbol of `ean8 7351353`.
