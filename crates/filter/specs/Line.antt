@@ -10,9 +10,8 @@ use Rattle.filter.specs.declared.status.RunFault.TheVariants.{Read, WriteOut, Wr
 
 -- why the line is refused, if it is
 abbrev pub refusal_of : Outcome → Option Fault
-refusal_of skipped = None
 refusal_of (refused fault) = Some fault
-refusal_of (drawn label) = None
+refusal_of other = None
 
 -- the sinks took the image and the message of a line that comes to this, and its symbol reads back
 pub record EndsLine (options : OptionValues) (took_out took_err : List ℕ → Type 0) (number : ℕ) (outcome : Outcome) (is_refused : Bool) : Type 0 where
@@ -23,24 +22,21 @@ pub record EndsLine (options : OptionValues) (took_out took_err : List ℕ → T
 
 -- the sink that failed took a beginning of its text, and the other took nothing
 abbrev pub FailsInLine : OptionValues → (took_out took_err : List ℕ → Type 0) (number : ℕ) → Outcome → RunFault → Type 0
-FailsInLine options took_out took_err number outcome Read = ⊥
 FailsInLine options took_out took_err number outcome WriteOut = Begins took_out (image_of options outcome) × took_err []
 FailsInLine options took_out took_err number outcome WriteMessages = took_out [] × Begins took_err (message_of number outcome)
-FailsInLine options took_out took_err number outcome Spent = ⊥
+FailsInLine options took_out took_err number outcome other = ⊥
 
 -- before a message nothing more was taken, or a beginning of it was
 abbrev pub FailsInMessage : (took_err : List ℕ → Type 0) (text : List ℕ) → RunFault → Type 0
-FailsInMessage took_err text Read = ⊥
 FailsInMessage took_err text WriteOut = took_err []
 FailsInMessage took_err text WriteMessages = Begins took_err text
-FailsInMessage took_err text Spent = ⊥
+FailsInMessage took_err text other = ⊥
 
 -- the count of the sink that failed rises, and no other
 abbrev pub RaisesOneCount : (out_old out_new err_old err_new : ℕ) → RunFault → Type 0
-RaisesOneCount out_old out_new err_old err_new Read = ⊥
 RaisesOneCount out_old out_new err_old err_new WriteOut = Rises out_old out_new × (err_new ≡ err_old)
 RaisesOneCount out_old out_new err_old err_new WriteMessages = (out_new ≡ out_old) × Rises err_old err_new
-RaisesOneCount out_old out_new err_old err_new Spent = ⊥
+RaisesOneCount out_old out_new err_old err_new other = ⊥
 
 -- no count rises at `Ok`, and one at `Err`
 abbrev pub CountsFault : {T : Type 0} → (out_old out_new err_old err_new : ℕ) → Result T RunFault → Type 0
@@ -50,7 +46,5 @@ CountsFault out_old out_new err_old err_new r =
 -- where a call stops no sink stands flushed that did not before, but the images where it is the messages that failed: the
 -- images are flushed first
 abbrev pub FlushedImagesAtMost : (out_old out_new err_old err_new : Bool) → RunFault → Type 0
-FlushedImagesAtMost out_old out_new err_old err_new Read = Unflushed out_old out_new × Unflushed err_old err_new
-FlushedImagesAtMost out_old out_new err_old err_new WriteOut = Unflushed out_old out_new × Unflushed err_old err_new
 FlushedImagesAtMost out_old out_new err_old err_new WriteMessages = Unflushed err_old err_new
-FlushedImagesAtMost out_old out_new err_old err_new Spent = Unflushed out_old out_new × Unflushed err_old err_new
+FlushedImagesAtMost out_old out_new err_old err_new other = Unflushed out_old out_new × Unflushed err_old err_new

@@ -50,21 +50,18 @@ text_of Ascii p = ascii_text p
 
 -- the image that is drawn, or none
 abbrev pub image_of : OptionValues → Outcome → List ℕ
-image_of options skipped = []
-image_of options (refused fault) = []
 image_of options (drawn label) = text_of options.format (picture_of options label)
+image_of options other = []
 
 -- the message of a refusal, or none
 abbrev pub message_of : ℕ → Outcome → List ℕ
-message_of number skipped = []
 message_of number (refused fault) = message number fault
-message_of number (drawn label) = []
+message_of number other = []
 
 -- whether the line is refused
 abbrev pub is_refusal : Outcome → Bool
-is_refusal skipped = false
 is_refusal (refused fault) = true
-is_refusal (drawn label) = false
+is_refusal other = false
 
 -- the number of a line that so many lines stand before; it stops at the greatest `u64`
 abbrev pub line_number : ℕ → ℕ

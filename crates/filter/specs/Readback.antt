@@ -57,9 +57,8 @@ read_image format scale symbology text = do
 
 -- with the symbol of a line that is drawn
 abbrev pub with_label : Outcome → List Label → List Label
-with_label skipped labels = labels
-with_label (refused fault) labels = labels
 with_label (drawn label) labels = label ∷ labels
+with_label other labels = labels
 
 -- the symbols of the lines that are drawn, in order
 unfoldable pub accepted : OptionValues → List (List ℕ) → List Label
@@ -69,10 +68,9 @@ accepted options (line ∷ lines) = with_label (outcome options line) (accepted 
 -- there is one image for each symbol, in order, and it is read as the symbol's full data
 unfoldable pub AreRead : Format → ℕ → List (List ℕ) → List Label → Type 0
 AreRead format scale [] [] = ⊤
-AreRead format scale [] (label ∷ labels) = ⊥
-AreRead format scale (image ∷ images) [] = ⊥
 AreRead format scale (image ∷ images) (label ∷ labels) =
     (read_image format scale label.symbology image ≡ Some label.full) × AreRead format scale images labels
+AreRead format scale images labels = ⊥
 
 -- modules of some size that are read as the full data
 pub record IsReadable (label : Label) : Type 0 where

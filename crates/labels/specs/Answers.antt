@@ -14,7 +14,6 @@ Refuses _ _ = ⊥
 
 -- the answer is what the words ask for, or memory ran out
 abbrev pub Answers : Invocation → Result Choice WordsFault → Type 0
-Answers (run settings name) (Ok choice) =
-    (choice.options ≡ settings) × (option_map string_bytes choice.file ≡ name)
+Answers (run settings name) (Ok choice) = (choice.options ≡ settings) × (option_map string_bytes choice.file ≡ name)
 Answers _ (Ok choice) = ⊥
 Answers request (Err fault) = Refuses request fault

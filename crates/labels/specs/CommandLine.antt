@@ -24,8 +24,7 @@ text_option name = record (new_rule name) { long = Some name; value_names = 1 }
 
 -- `--name NUMBER`, a whole number from low to high
 abbrev pub number_option : Text → ℕ → ℕ → Rule
-number_option name low high =
-    record (text_option name) { parser = Some (parser.Signed (pos low) (pos high)) }
+number_option name low high = record (text_option name) { parser = Some (parser.Signed (pos low) (pos high)) }
 
 -- `--name`, with no value
 abbrev pub switch : Text → Rule
@@ -69,8 +68,8 @@ is_on id rows = option_map_or (λ text. bytes_eq text (codes "true")) (one_of id
 
 -- the format of this name
 abbrev pub format_of : Text → Option Format
-format_of text = if bytes_eq text (codes "pbm") then Some Pbm
-    else (if bytes_eq text (codes "ascii") then Some Ascii else None)
+format_of text =
+    if bytes_eq text (codes "pbm") then Some Pbm else if bytes_eq text (codes "ascii") then Some Ascii else None
 
 -- the format given, or the default
 abbrev pub format_in : List Row → Option Format
@@ -92,16 +91,14 @@ options_with rows format level = record {
   escapes = is_on (codes "escapes") rows;
 }
 
--- the settings that the matches name, each of the others at its default; none where the format or
--- the level is not listed
+-- the settings that the matches name, each of the others at its default; none where the format or the level is not listed
 abbrev pub options_named : List Row → Option OptionValues
 options_named rows = option_and_then (λ format.
     option_map (λ level. options_with rows format level) (level_in rows)) (format_in rows)
 
 -- ---- what the words ask for
 
--- a run with settings over a file or standard input, the help text, or nothing that the command
--- takes
+-- a run with settings over a file or standard input, the help text, or nothing that the command takes
 pub data Invocation : Type 0 where
   run : OptionValues → Option Text → Invocation
   help : Invocation
@@ -129,8 +126,7 @@ invocation_of words = invocation_by (fault_of command_line words) (matches_of co
 
 -- a numeral from low to high
 abbrev pub IsNumberIn : ℕ → ℕ → Text → Type 0
-IsNumberIn low high text = IsNumeral 10 (without_leading_plus text) × (low ≤ number_of text)
-    × (number_of text ≤ high)
+IsNumberIn low high text = IsNumeral 10 (without_leading_plus text) × (low ≤ number_of text) × (number_of text ≤ high)
 
 -- an option that was given holds a number from low to high
 abbrev pub HoldsNumber : ℕ → ℕ → Text → Found → Type 0
