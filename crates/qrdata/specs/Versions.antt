@@ -1,8 +1,12 @@
 -- The sizes of versions 1 to 10 (ISO/IEC 18004, tables 1 and 9).
-use Rattle.std.specs.Prelude.{ℕ, ◌+◌, ◌-◌, ◌*◌, List, [], ◌∷◌, length, slice_get, slice_index, sum, unwrap_or, replicate}
+use Rattle.std.specs.Prelude.{ℕ, ◌+◌, ◌-◌, ◌*◌, ◌≤◌, List, [], ◌∷◌, length, slice_get, slice_index, sum, unwrap_or, replicate}
 use Rattle.std.specs.List.{flat_map}
 use Rattle.labelcore.specs.declared.options.Level.{Level}
 use Rattle.labelcore.specs.declared.options.Level.TheVariants.{L, M, Q, H}
+
+-- the numbers of versions
+abbrev pub IsVersion : ℕ → Type 0
+IsVersion version = (1 ≤ version) × (version ≤ 10)
 
 -- the modules of a side
 abbrev pub side_of : ℕ → ℕ

@@ -150,8 +150,8 @@ fn expect_same_segments(rt: &impl Abort, plan: &Plan, data: &[u8], table: &[Slow
 /// Chooses for the data at each level from each of some versions on, and expects what the slow tables say.
 fn expect_same(rt: &impl Abort, data: &[u8]) {
     assert!(rt; data.len() <= MAX_BYTES);
-    let short = slow_table(Version { number: 9 }, data);
-    let long = slow_table(Version { number: 10 }, data);
+    let short = slow_table(Version::of(9), data);
+    let long = slow_table(Version::of(10), data);
     for level in [Level::L, Level::M, Level::Q, Level::H] {
         for lowest in [1, 9, 10] {
             let Some(options) = Options::new(Format::Pbm, 1, 50, level, lowest, None, false) else {

@@ -48,20 +48,20 @@ impl Matrix {
     /// first of several (ISO/IEC 18004, 7.7 to 7.10). The modules read back as the version, the level and the
     /// codewords.
     pub fn draw(version: Version, level: Level, mask: Option<u8>, words: &Words) -> Matrix
-        requires count { length words.now.items ≡ total_codewords version.number }
+        requires count { length words.now.items ≡ total_codewords version }
         requires mask { IfSome mask (λ k. k < 8) }
-        ensures side { result.side ≡ side_of version.number }
-        ensures mask { result.mask ≡ chosen_mask version.number level mask words.now.items }
+        ensures side { result.side ≡ side_of version }
+        ensures mask { result.mask ≡ chosen_mask version level mask words.now.items }
         ensures modules { (x y : ℕ) → is_dark result x y
-            ≡ module_at version.number level result.mask words.now.items x y }
+            ≡ module_at version level result.mask words.now.items x y }
         ensures outside { (x y : ℕ) → is_inside result.side x y ≡ false
             → is_dark result x y ≡ false }
         ensures reads { read_matrix result.side (is_dark result)
-            ≡ Some (record { version = version.number; level = level; words = words.now.items }) }
+            ≡ Some (record { version = version; level = level; words = words.now.items }) }
 
         // No codeword is left out, and only the remainder bits hold none.
-        ensures room { free_count version.number
-            ≡ 8 * length words.now.items + remainder_bits version.number }
+        ensures room { free_count version
+            ≡ 8 * length words.now.items + remainder_bits version }
     {
         are_bytes(words);
         let unmasked = Unmasked::draw(version, level, words);

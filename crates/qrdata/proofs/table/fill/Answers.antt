@@ -9,18 +9,18 @@ use Rattle.qrdata.proofs.table.fill.Goals as goal
 pub loop-place-init : goal.loop-place-init
 loop-place-init c = (
   omega arith,
-  HasFirsts-end c.args.version.number c.args.bytes.now c.args.firsts.now,
-  c.without_bytes-choices.ensures ∙ sym (choices_of-none c.args.version.number c.args.bytes.now),
+  HasFirsts-end c.args.version c.args.bytes.now c.args.firsts.now,
+  c.without_bytes-choices.ensures ∙ sym (choices_of-none c.args.version c.args.bytes.now),
 )
 
 pub with_byte-choices-requires : goal.with_byte-choices-requires
 with_byte-choices-requires c =
-    let small = AreSmall-of c.args.version.number (drop c.loop-place.place c.args.bytes.now) (omega (arith, length-drop c.loop-place.place c.args.bytes.now, c.requires.few)) in
+    let small = AreSmall-of c.args.version (drop c.loop-place.place c.args.bytes.now) (omega (arith, length-drop c.loop-place.place c.args.bytes.now, c.requires.few)) in
     rw c.loop-place.invariant.2 small
 
 pub loop-place-preserved : goal.loop-place-preserved
 loop-place-preserved c =
-    let version = c.args.version.number in
+    let version = c.args.version in
     let bytes = c.args.bytes.now in
     let room : length bytes < length c.loop-place.firsts = omega (arith, c.loop-place.auto.firsts, c.requires.firsts, c.requires.few) in
     let next : c.with_byte-choices.result ≡ choices_of version (drop (c.loop-place.place - 1) bytes) =
