@@ -14,12 +14,16 @@ use arrayvec::ArrayVec;
 use labelcore::{Fault, Level, Options};
 use std::marker::Model;
 
+/// The most segments that fit a symbol: in version 10 each has 20 bits or more, and there are 2192 data bits at most.
+/// Fewer fit the other versions.
+const MAX_SEGMENTS: usize = 109;
+
 /// What is chosen for a symbol: its version, its level and the segments of its data.
 #[derive(Drop)]
 pub struct Plan {
     version: Version,
     level: Level,
-    segments: ArrayVec<Segment, 109>,
+    segments: ArrayVec<Segment, MAX_SEGMENTS>,
     bits: u32,
 }
 
@@ -149,7 +153,7 @@ fn plan_between(lowest: u8, highest: u8, level: Level, bytes: &[u8]) -> Option<P
     let mut firsts = [Segment {
         mode: Mode::Byte,
         len: 0,
-    }; 653];
+    }; MAX_BYTES];
     let bits = fill(widest, bytes, &mut firsts);
     for number in lowest..highest + 1 {
         let version = Version::of(number);
@@ -163,9 +167,9 @@ fn plan_between(lowest: u8, highest: u8, level: Level, bytes: &[u8]) -> Option<P
 /// The plan of the segments that a table names, from the front of the data. They have this many bits.
 fn plan_of(version: Version, level: Level, bytes: &[u8], firsts: &[Segment], bits: u32) -> Plan
     requires few { length bytes.now ≤ MAX_BYTES }
-    requires size { length firsts.now ≡ 653 }
+    requires size { length firsts.now ≡ MAX_BYTES }
     requires firsts { NamesBest version bytes.now bits firsts.now }
-    requires short { length (chosen_segments version bytes.now) ≤ 109 }
+    requires short { length (chosen_segments version bytes.now) ≤ MAX_SEGMENTS }
     requires bits { bits ≡ cost version (chosen_segments version bytes.now) }
     ensures { result ≡ record {
       version = version;

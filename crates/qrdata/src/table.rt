@@ -248,7 +248,7 @@ fn without_bytes() -> Choices
 /// they bind no segments that fit. Its time grows with the number of bytes.
 pub(crate) fn fill(version: Version, bytes: &[u8], firsts: &mut [Segment]) -> usize
     requires few { length bytes.now ≤ MAX_BYTES }
-    requires firsts { length firsts.old ≡ 653 }
+    requires firsts { length firsts.old ≡ MAX_BYTES }
     ensures bits { result ≡ fewest_bits version bytes.now }
     ensures firsts { HasFirsts version bytes.now 0 firsts.new }
 {

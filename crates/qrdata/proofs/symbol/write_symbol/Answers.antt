@@ -1,5 +1,5 @@
 use Rattle.std.proofs.Common.{◌≡◌, ◌*◌, length, replicate, arith, ap, refl, sym, ◌∙◌}
-use Rattle.qrdata.specs.Codewords.{final_message, blocks_of}
+use Rattle.qrdata.specs.Codewords.{final_message, split_by}
 use Rattle.qrdata.specs.Versions.{block_lengths, parity_length}
 use Rattle.std.specs.List.{flat_map}
 use Rattle.gf256.specs.Parity.{parity_of}
@@ -37,7 +37,7 @@ pub interleave-requires-2-clause-whole : goal.interleave-requires-2-clause-whole
 interleave-requires-2-clause-whole c =
     let k = parity_length c.args.version c.args.level in
     let lengths = block_lengths c.args.version c.args.level in
-    let all = blocks_of c.args.version c.args.level c.args.message.now in
+    let all = split_by (block_lengths c.args.version c.args.level) c.args.message.now in
     let blocks = HasBlocks-message c.args.version c.args.level c.args.message.now c.known.ensures.0 c.known.ensures.1 c.parity_is_sound.ensures.remainder c.parity_is_sound.ensures.codeword (AreBytes-slice c.args.message.now (λ i. omega (arith, c.type_inv.message i))) c.requires.whole in
     let rooms : c.as_slice-3.result.now ≡ replicate (length lengths) k = rw (c.as_slice-3.ensures.value, c.push_lengths.ensures, c.new-parity_lengths.ensures, c.len.ensures.value, c.lengths-lengths.ensures, c.parity-count.ensures) refl in
     let words : c.as_slice-4.result.now ≡ flat_map (parity_of k) all = rw (c.as_slice-4.ensures.value, c.push_parity.ensures, c.new-parity.ensures, c.as_slice.ensures.value, c.lengths-lengths.ensures, c.parity-count.ensures) refl in
@@ -47,7 +47,7 @@ pub interleave-requires-2-clause-room : goal.interleave-requires-2-clause-room
 interleave-requires-2-clause-room c =
     let k = parity_length c.args.version c.args.level in
     let lengths = block_lengths c.args.version c.args.level in
-    let all = blocks_of c.args.version c.args.level c.args.message.now in
+    let all = split_by (block_lengths c.args.version c.args.level) c.args.message.now in
     let blocks = HasBlocks-message c.args.version c.args.level c.args.message.now c.known.ensures.0 c.known.ensures.1 c.parity_is_sound.ensures.remainder c.parity_is_sound.ensures.codeword (AreBytes-slice c.args.message.now (λ i. omega (arith, c.type_inv.message i))) c.requires.whole in
     let rooms : c.as_slice-3.result.now ≡ replicate (length lengths) k = rw (c.as_slice-3.ensures.value, c.push_lengths.ensures, c.new-parity_lengths.ensures, c.len.ensures.value, c.lengths-lengths.ensures, c.parity-count.ensures) refl in
     let words : c.as_slice-4.result.now ≡ flat_map (parity_of k) all = rw (c.as_slice-4.ensures.value, c.push_parity.ensures, c.new-parity.ensures, c.as_slice.ensures.value, c.lengths-lengths.ensures, c.parity-count.ensures) refl in
@@ -60,7 +60,7 @@ unfolding final_message
 returns c =
     let k = parity_length c.args.version c.args.level in
     let lengths = block_lengths c.args.version c.args.level in
-    let all = blocks_of c.args.version c.args.level c.args.message.now in
+    let all = split_by (block_lengths c.args.version c.args.level) c.args.message.now in
     let blocks = HasBlocks-message c.args.version c.args.level c.args.message.now c.known.ensures.0 c.known.ensures.1 c.parity_is_sound.ensures.remainder c.parity_is_sound.ensures.codeword (AreBytes-slice c.args.message.now (λ i. omega (arith, c.type_inv.message i))) c.requires.whole in
     let rooms : c.as_slice-3.result.now ≡ replicate (length lengths) k = rw (c.as_slice-3.ensures.value, c.push_lengths.ensures, c.new-parity_lengths.ensures, c.len.ensures.value, c.lengths-lengths.ensures, c.parity-count.ensures) refl in
     let words : c.as_slice-4.result.now ≡ flat_map (parity_of k) all = rw (c.as_slice-4.ensures.value, c.push_parity.ensures, c.new-parity.ensures, c.as_slice.ensures.value, c.lengths-lengths.ensures, c.parity-count.ensures) refl in
