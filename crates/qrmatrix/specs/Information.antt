@@ -49,8 +49,7 @@ pub record IsCodeword (degree generator terms message word : ℕ) : Type 0 where
 
 -- each format word, its mask taken off, is a codeword by x^10 + x^8 + x^5 + x^4 + x^2 + x + 1 (Annex C)
 abbrev pub FormatWordsAreCodewords : Type 0
-FormatWordsAreCodewords =
-    (level : Level) (mask : ℕ) → mask < 8
+FormatWordsAreCodewords = (level : Level) (mask : ℕ) → mask < 8
     → IsCodeword 10 0x537 5 (level_indicator level * 8 + mask) (bit_xor 0x5412 (format_word level mask))
 
 -- each version word is a codeword by x^12 + x^11 + x^10 + x^9 + x^8 + x^5 + x^2 + 1 (Annex D)

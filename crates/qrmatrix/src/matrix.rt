@@ -11,7 +11,7 @@ ghost use Rattle.qrmatrix.specs.Reading.{read_matrix};
 ghost use Rattle.qrmatrix.specs.Symbol.{Symbol, is_dark, IsWithin};
 
 use crate::penalty::penalty;
-use crate::square::Square;
+use crate::square::{SIDE, Square};
 use crate::unmasked::Unmasked;
 use labelcore::Level;
 use qrdata::{Version, Words};
@@ -32,13 +32,14 @@ impl Model for Matrix {
 
     ghost invariant = { λ m. record {
       least : 21 ≤ m.side;
-      most : m.side ≤ 57;
+      most : m.side ≤ side_of 10;
       mask : m.mask < 8;
       within : IsWithin m.side m.modules;
     } };
 }
 
-/// What the type of bytes says of each of them.
+/// A slice of bytes has numbers below 256, which the type of an `ArrayVec` does not tell a proof. It does nothing when it
+/// runs.
 fn are_bytes(bytes: &[u8])
     ensures { All (λ b. b < 256) bytes.now }
 {}
@@ -86,10 +87,10 @@ impl Matrix {
     }
 
     /// The rows as words: bit x of word y is the module at column x and row y, and the bits from the side on are 0.
-    pub fn rows(&self) -> &[u64; 57]
+    pub fn rows(&self) -> &[u64; SIDE]
         ensures bits { (x y : ℕ) → bit (slice_index result.now y) x
             ≡ (is_inside self.now.side x y && is_dark self.now x y) }
-        ensures bound { self.now.side ≤ 57 }
+        ensures bound { self.now.side ≤ side_of 10 }
     {
         self.modules.rows()
     }
@@ -97,7 +98,7 @@ impl Matrix {
     /// The number of modules on a side.
     pub fn side(&self) -> usize
         ensures value { result ≡ self.now.side }
-        ensures bound { result ≤ 57 }
+        ensures bound { result ≤ side_of 10 }
     {
         self.side
     }
