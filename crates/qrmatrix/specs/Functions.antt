@@ -94,7 +94,6 @@ fixed_by v level mask Free = None
 
 -- the module at column x and row y, where the codewords do not choose it
 unfoldable pub fixed : ℕ → Level → ℕ → ℕ → ℕ → Option Bool
-unfolding role format_word version_word
 fixed v level mask x y = fixed_by v level mask (role v x y)
 
 -- whether the codewords choose the module
@@ -104,5 +103,4 @@ is_free_role other = false
 
 -- whether the codewords choose the module
 unfoldable pub is_free : ℕ → ℕ → ℕ → Bool
-unfolding role
 is_free v x y = is_free_role (role v x y)

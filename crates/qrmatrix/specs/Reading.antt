@@ -46,13 +46,11 @@ read_format_word word =
 
 -- the level and the mask, where both copies of the format information agree
 unfoldable pub read_format : ℕ → (ℕ → ℕ → Bool) → Option (Level × ℕ)
-unfolding binary_remainder number_of
 read_format n m =
     if word_at m format_copy_1 == word_at m (format_copy_2 n) then read_format_word (word_at m format_copy_1) else None
 
 -- whether both copies of the version information, where the version has it, are its codeword
 unfoldable pub shows_version : ℕ → ℕ → (ℕ → ℕ → Bool) → Bool
-unfolding binary_remainder number_of
 shows_version v n m =
     let first = word_at m (version_copy_1 n) in
     let second = word_at m (version_copy_2 n) in
@@ -65,7 +63,6 @@ agrees (Some a) b = beq a b
 
 -- whether every module that the codewords do not choose is right
 unfoldable pub shows_functions : ℕ → Level → ℕ → (ℕ → ℕ → Bool) → Bool
-unfolding fixed
 shows_functions v level mask m =
     all_below (side_of v) (λ y. all_below (side_of v) (λ x. agrees (fixed v level mask x y) (m x y)))
 
@@ -89,7 +86,6 @@ walk n = strips (right_columns n) (reverse (range_with_len 0 n)) (range_with_len
 
 -- the bits of the codewords: the free modules in the order of reading, with the mask taken off
 unfoldable pub read_bits : ℕ → ℕ → (ℕ → ℕ → Bool) → List Bool
-unfolding is_free walk is_flipped
 read_bits v mask m = map (λ (p : ℕ × ℕ). flip_if (is_flipped mask p.0 p.1) (m p.0 p.1))
     (filter (λ (p : ℕ × ℕ). is_free v p.0 p.1) (walk (side_of v)))
 
@@ -108,7 +104,6 @@ read_with v m format =
 
 -- the version, the level and the words of a symbol; there is no reading where any check fails
 unfoldable pub read_matrix : ℕ → (ℕ → ℕ → Bool) → Option Reading
-unfolding total_codewords read_format shows_version shows_functions read_bits codewords_of number_of
 read_matrix n m =
     let v = (n - 17) / 4 in
     if (n == side_of v) && (nat_le 1 v && nat_le v 10) then read_format n m >>= read_with v m else None

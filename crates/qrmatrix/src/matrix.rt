@@ -8,7 +8,8 @@ ghost use Rattle.qrmatrix.specs.Modules.{is_inside, module_at};
 ghost use Rattle.qrmatrix.specs.Penalty;
 ghost use Rattle.qrmatrix.specs.Placement.{free_count, remainder_bits};
 ghost use Rattle.qrmatrix.specs.Reading.{read_matrix};
-ghost use Rattle.qrmatrix.specs.Symbol.{Symbol, is_dark, IsWithin};
+ghost use Rattle.qrmatrix.specs.Symbol.{Symbol, is_dark};
+ghost use Rattle.qrmatrix.specs.Private.Squares.{IsWithin};
 
 use crate::penalty::penalty;
 use crate::square::{SIDE, Square};
