@@ -126,7 +126,7 @@ impl Filling {
 
 /// Whether the symbol has the modules, the mask and the penalty of the slow form.
 fn agrees(version: Version, level: Level, mask: Option<u8>, words: &Words) -> bool
-    requires count { length words.now.items ≡ total_codewords version.number }
+    requires count { length words.now.items ≡ total_codewords version }
     requires mask { IfSome mask (λ k. k < 8) }
 {
     let matrix = Matrix::draw(version, level, mask, words);

@@ -1,7 +1,7 @@
 -- What is read of the codewords of a symbol is its data.
 use Rattle.std.proofs.Common.{◌≡◌, ℕ, zero, suc, ◌+◌, ◌-◌, ◌*◌, ◌/◌, ◌<◌, ◌≤◌, List, [], ◌∷◌, ◌++◌, map, take, drop, length, replicate, refl, sym, ap, ◌∙◌, length-append, arith, Bool, true, false, sum}
 use Rattle.std.specs.Prelude.{if◌then◌else◌, None, Some, Option, ◌&&◌, ◌==◌}
-use Rattle.std.specs.List.{AllByRecursion, flat_map, list_all, range_with_len}
+use Rattle.std.specs.List.{AllByRecursion, concat, list_all, range_with_len, zip}
 use Rattle.std.proofs.lemmas.Bool.{eq-eqb, eqb-true}
 use Rattle.std.proofs.lemmas.List.{length-take}
 use Rattle.std.proofs.Math.Nat.{pow-le-pow_right}
@@ -14,11 +14,11 @@ use Rattle.labelcore.specs.declared.options.Level.{Level}
 use Rattle.qrdata.specs.declared.mode.Segment.{Segment}
 use Rattle.qrdata.specs.Bits.{number_of, codewords_of}
 use Rattle.qrdata.specs.Codewords.{aligned, data_of, filled, final_message, interleaved, pad_codewords, padded, split_by, symbol_codewords, terminated}
-use Rattle.qrdata.specs.Reading.{data_in, dealt, is_codeword_block, joined_pairs, segments_at}
+use Rattle.qrdata.specs.Reading.{data_in, dealt, is_codeword, segments_at}
 use Rattle.qrdata.specs.Segments.{IsSegmentation, cost, segments_bits}
 use Rattle.qrdata.specs.Versions.{block_count, block_lengths, data_codewords, parity_length, total_codewords}
 use Rattle.qrdata.proofs.BitStrings.{drop_front, number_of-lt, take_front}
-use Rattle.qrdata.proofs.BlockLaws.{joined_pairs-map, length-interleaved, length-split_by, parity_lengths, split_joined, split_lengths}
+use Rattle.qrdata.proofs.BlockLaws.{length-interleaved, length-split_by, parity_lengths, split_joined, split_lengths}
 use Rattle.qrdata.proofs.Dealing.{Blocks, dealt-interleaved}
 use Rattle.qrdata.proofs.Lengths.{count_below_cost, length-segments_bits}
 use Rattle.qrdata.proofs.Padding.{length-padded, padded-ends}
@@ -29,7 +29,7 @@ use Rattle.qrdata.proofs.SegmentsRead.{AreBytes-take, AreBytes-drop, segments_at
 -- the parity codewords of a block: as many as they should be, and with them the block is a codeword
 pub record HasParity (k : ℕ) : Type 0 where
   pub count : (block : List ℕ) → AreBytes block → length (parity_of k block) ≡ k
-  pub roots : (block : List ℕ) → AreBytes block → is_codeword_block k (block ++ parity_of k block) ≡ true
+  pub roots : (block : List ℕ) → AreBytes block → is_codeword k (block, parity_of k block) ≡ true
 
 roots_pass : (p : List ℕ) (n low : ℕ) → ((i : ℕ) → i < low + n → evaluate p (field_power alpha i) ≡ 0)
     → list_all (λ i. evaluate p (field_power alpha i) == 0) (range_with_len low n) ≡ true
@@ -77,7 +77,7 @@ unfolding split_by
 AreBytes-split [] words w = tt
 AreBytes-split (n ∷ lengths) words w = (AreBytes-take n words w, AreBytes-split lengths (drop n words) (AreBytes-drop n words w))
 
-all_codewords : (k : ℕ) (blocks : Blocks) → HasParity k → AllByRecursion AreBytes blocks → list_all (is_codeword_block k) (map (λ block. block ++ parity_of k block) blocks) ≡ true
+all_codewords : (k : ℕ) (blocks : Blocks) → HasParity k → AllByRecursion AreBytes blocks → list_all (is_codeword k) (zip blocks (map (parity_of k) blocks)) ≡ true
 all_codewords k [] law w = refl
 all_codewords k (block ∷ blocks) law w = rw (law.roots block w.0, all_codewords k blocks law w.1) refl
 
@@ -117,14 +117,13 @@ data_in-symbol_codewords version level segments bytes low high w cut fits remain
     let front : take size (interleaved blocks ++ interleaved parities) ≡ interleaved blocks = take_front size (interleaved blocks) (interleaved parities) data_length in
     let back : drop size (interleaved blocks ++ interleaved parities) ≡ interleaved parities = drop_front size (interleaved blocks) (interleaved parities) data_length in
     let total : length (interleaved blocks ++ interleaved parities) ≡ total_codewords version = omega (arith, length-append (interleaved blocks) (interleaved parities), total_is version level low high) in
-    let whole : joined_pairs blocks parities ≡ map (λ block. block ++ parity_of k block) blocks = joined_pairs-map (parity_of k) blocks in
     let valid = all_codewords k blocks law split_bytes in
-    let joined : flat_map (λ block. block) blocks ≡ words = split_joined lengths words all_words in
+    let joined : concat blocks ≡ words = split_joined lengths words all_words in
     let ends = padded-ends size bits bits_fit in
     let read : segments_at version (8 * size) (bits ++ ends.0) ≡ Some bytes =
     segments_at-segments_bits version segments bytes (8 * size) ends.0 w cut (omega (arith, count_below_cost version segments, fits)) ends.2 in
     let same : (total_codewords version == total_codewords version) ≡ true = eq-eqb (total_codewords version) (total_codewords version) refl in
-    rw (front, back, total, dealt_blocks, dealt_parities, whole, valid, same, joined, ends.1) read
+    rw (front, back, total, dealt_blocks, dealt_parities, valid, same, joined, ends.1) read
 
 both_pass : {A : Type 0} (a b : Bool) (x : Option A) (y : A) → (if a && b then x else None) ≡ Some y → a ≡ true
 both_pass true b x y h = refl

@@ -1,16 +1,17 @@
 -- Segments are read back, and reading stops where they end.
 use Rattle.std.proofs.Common.{◌≡◌, ℕ, zero, suc, ◌^◌, ◌<◌, ◌≤◌, List, [], ◌∷◌, ◌++◌, take, drop, length, refl, append_assoc, length-append, arith, Bool, true, false}
-use Rattle.std.specs.Prelude.{Some}
-use Rattle.std.specs.List.{list_all}
+use Rattle.std.specs.Prelude.{Some, ◌==◌}
+use Rattle.std.specs.List.{find, list_all}
 use Rattle.std.proofs.Math.Nat.{mod-eq_of_lt}
 use Rattle.std.proofs.lemmas.Bool.Decides.{nat_tests}
 use Rattle.std.proofs.lemmas.List.{take-append-drop, length-take-le}
 use Rattle.qrdata.specs.declared.mode.Mode.{Mode}
 use Rattle.qrdata.specs.declared.mode.Mode.TheVariants.{Numeric, Alphanumeric, Byte}
 use Rattle.qrdata.specs.declared.mode.Segment.{Segment}
+use Rattle.labelcore.specs.Steps.{◌>>=◌}
 use Rattle.qrdata.specs.Bits.{bits_of, number_of}
-use Rattle.qrdata.specs.Segments.{IsSegmentation, count_width, has_character, mode_indicator, payload_bits, segment_bits, segments_bits}
-use Rattle.qrdata.specs.Reading.{is_end, mode_named, segment_at, segments_at, ◌>>=◌}
+use Rattle.qrdata.specs.Segments.{IsSegmentation, count_width, has_character, mode_indicator, modes, payload_bits, segment_bits, segments_bits}
+use Rattle.qrdata.specs.Reading.{is_end, segment_at, segments_at}
 use Rattle.qrdata.proofs.BitStrings.{number_at-bits_of, number_of-bits_of, take_front, length-bits_of}
 use Rattle.qrdata.proofs.Payloads.{AreBytes, payload_at-payload_bits}
 
@@ -19,7 +20,7 @@ indicator_below Numeric = omega arith
 indicator_below Alphanumeric = omega arith
 indicator_below Byte = omega arith
 
-mode_named-indicator : (mode : Mode) → mode_named (mode_indicator mode) ≡ Some mode
+mode_named-indicator : (mode : Mode) → find (λ m. mode_indicator m == mode_indicator mode) modes ≡ Some mode
 mode_named-indicator Numeric = refl
 mode_named-indicator Alphanumeric = refl
 mode_named-indicator Byte = refl

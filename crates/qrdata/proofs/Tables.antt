@@ -40,7 +40,7 @@ HasFirsts-end version bytes firsts = λ k from to. absurd (omega arith)
 found_is : (firsts : List Segment) (k : ℕ) (first : Segment) → k < length firsts → slice_get firsts k ≡ Some first → first ≡ get_or firsts k default_segment
 found_is firsts k first h found = let at_k = slice_get-get_or firsts k default_segment h in cc
 
-pub HasFirsts-set : (version : ℕ) (bytes : List ℕ) (firsts : List Segment) (place : ℕ) (s : Segment) → 0 < place → place ≤ length bytes → length bytes < length firsts
+pub HasFirsts-set : (version : ℕ) (bytes : List ℕ) (firsts : List Segment) (place : ℕ) (s : Segment) → 0 < place → place ≤ length bytes → length bytes ≤ length firsts
     → s ≡ (choices_of version (drop (place - 1) bytes)).best.segment → HasFirsts version bytes place firsts
     → HasFirsts version bytes (place - 1) (set firsts (place - 1) s)
 HasFirsts-set version bytes firsts place s some inside room e old = λ k from to first found.
@@ -95,7 +95,7 @@ pub record IsNamed (version : ℕ) (bytes : List ℕ) (place limit : ℕ) (s : S
   pub next : chosen_segments version (drop place bytes) ≡ s ∷ chosen_segments version (drop (place + s.len) bytes)
   pub small : cost version (chosen_segments version (drop (place + s.len) bytes)) ≤ limit
 
-pub IsNamed-first : (version : ℕ) (bytes : List ℕ) (limit : ℕ) (firsts : List Segment) (place : ℕ) → place < length bytes → length bytes < length firsts → NamesBest version bytes limit firsts
+pub IsNamed-first : (version : ℕ) (bytes : List ℕ) (limit : ℕ) (firsts : List Segment) (place : ℕ) → place < length bytes → length bytes ≤ length firsts → NamesBest version bytes limit firsts
     → cost version (chosen_segments version (drop place bytes)) ≤ limit → IsNamed version bytes place limit (get_or firsts place default_segment)
 IsNamed-first version bytes limit firsts place h room known fits =
     let s = get_or firsts place default_segment in

@@ -23,7 +23,7 @@ use Rattle.qrdata.proofs.Dealing.{Blocks, longest}
 use Rattle.qrdata.proofs.PayloadSteps.{drop_next, drop_none}
 use Rattle.qrdata.proofs.Payloads.{AreBytes}
 use Rattle.gf256.specs.Parity.{parity_of, ParityIsRemainder, RemaindersAreCodewords}
-use Rattle.qrdata.specs.Codewords.{aligned, blocks_of, data_of, terminated}
+use Rattle.qrdata.specs.Codewords.{aligned, data_of, terminated}
 use Rattle.qrdata.specs.Versions.{capacity}
 use Rattle.qrdata.specs.Segments.{payload_length}
 use Rattle.qrdata.proofs.Lengths.{length-segment_bits, length-segments_bits}
@@ -127,9 +127,9 @@ AreBytes-slice bytes each = recursion_from_All (λ b. b < 256) bytes (All-from_g
 pub record HasBlocks (version : ℕ) (level : Level) (message : List ℕ) : Type 0 where
   pub count : length (block_lengths version level) ≡ block_count version level
   pub whole : sum (block_lengths version level) ≡ length message
-  pub parities : length (flat_map (parity_of (parity_length version level)) (blocks_of version level message)) ≡ block_count version level * parity_length version level
-  pub cut : split_by (replicate (length (block_lengths version level)) (parity_length version level)) (flat_map (parity_of (parity_length version level)) (blocks_of version level message))
-      ≡ map (parity_of (parity_length version level)) (blocks_of version level message)
+  pub parities : length (flat_map (parity_of (parity_length version level)) (split_by (block_lengths version level) message)) ≡ block_count version level * parity_length version level
+  pub cut : split_by (replicate (length (block_lengths version level)) (parity_length version level)) (flat_map (parity_of (parity_length version level)) (split_by (block_lengths version level) message))
+      ≡ map (parity_of (parity_length version level)) (split_by (block_lengths version level) message)
   pub few : block_count version level ≤ 8
   pub some_parity : 1 ≤ parity_length version level
   pub few_parity : parity_length version level ≤ 30
@@ -140,7 +140,7 @@ pub HasBlocks-message : (version : ℕ) (level : Level) (message : List ℕ) →
 HasBlocks-message version level message low high remainder codeword w whole =
     let k = parity_length version level in
     let lengths = block_lengths version level in
-    let blocks = blocks_of version level message in
+    let blocks = split_by (block_lengths version level) message in
     let sound = HasSoundBlocks-of version level low high in
     let shapes = lengths_hold version level in
     let law = HasParity-from_law remainder codeword k sound.some_parity in

@@ -32,8 +32,7 @@ padded size bits = filled size (aligned (terminated (8 * size) bits))
 
 -- the data codewords of the segments
 unfoldable pub data_of : ℕ → Level → List Segment → List ℕ → List ℕ
-data_of version level segments bytes =
-    padded (data_codewords version level) (segments_bits version segments bytes)
+data_of version level segments bytes = padded (data_codewords version level) (segments_bits version segments bytes)
 
 -- words cut into blocks of these lengths
 unfoldable pub split_by : List ℕ → List ℕ → List (List ℕ)
@@ -53,17 +52,12 @@ largest (n ∷ ns) = max n (largest ns)
 unfoldable pub interleaved : List (List ℕ) → List ℕ
 interleaved blocks = flat_map (words_at blocks) (range_with_len 0 (largest (map length blocks)))
 
--- the blocks of the data codewords
-abbrev pub blocks_of : ℕ → Level → List ℕ → List (List ℕ)
-blocks_of version level words = split_by (block_lengths version level) words
-
 -- the codewords of a symbol: the blocks of its data codewords interleaved, then their parity codewords interleaved
 unfoldable pub final_message : ℕ → Level → List ℕ → List ℕ
 final_message version level words =
-    let blocks = blocks_of version level words in
+    let blocks = split_by (block_lengths version level) words in
     interleaved blocks ++ interleaved (map (parity_of (parity_length version level)) blocks)
 
 -- the codewords of the symbol of segments of the data
 unfoldable pub symbol_codewords : ℕ → Level → List Segment → List ℕ → List ℕ
-symbol_codewords version level segments bytes =
-    final_message version level (data_of version level segments bytes)
+symbol_codewords version level segments bytes = final_message version level (data_of version level segments bytes)

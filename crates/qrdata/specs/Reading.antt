@@ -1,21 +1,15 @@
 -- Reading the codewords of a symbol, with no correction (ISO/IEC 18004, 12).
-use Rattle.std.specs.Prelude.{ℕ, zero, suc, ◌+◌, ◌-◌, ◌*◌, ◌/◌, ◌%◌, ◌^◌, List, [], ◌∷◌, ◌++◌, map, length, take, drop, replicate, slice_index, nat_lt, nat_le, ◌==◌, if◌then◌else◌, ◌&&◌, ◌||◌, Bool, Option, Some, None}
-use Rattle.std.specs.List.{flat_map, find, list_all, range_with_len}
+use Rattle.std.specs.Prelude.{ℕ, zero, suc, ◌+◌, ◌-◌, ◌*◌, ◌/◌, ◌%◌, ◌^◌, List, [], ◌∷◌, ◌++◌, map, length, take, drop, replicate, slice_index, min, nat_lt, nat_le, ◌==◌, if◌then◌else◌, ◌&&◌, ◌||◌, Bool, Option, Some, None}
+use Rattle.std.specs.List.{concat, count_by, find, list_all, range_with_len, sum_by, zip}
 use Rattle.gf256.specs.Field.{alpha, field_power}
 use Rattle.gf256.specs.Polynomial.{evaluate}
 use Rattle.labelcore.specs.declared.options.Level.{Level}
+use Rattle.labelcore.specs.Steps.{◌>>=◌}
 use Rattle.qrdata.specs.declared.mode.Mode.{Mode}
 use Rattle.qrdata.specs.declared.mode.Mode.TheVariants.{Numeric, Alphanumeric, Byte}
 use Rattle.qrdata.specs.Bits.{number_of}
-use Rattle.qrdata.specs.Codewords.{largest}
 use Rattle.qrdata.specs.Segments.{alphanumeric_characters, byte_bits, count_width, mode_indicator, modes}
 use Rattle.qrdata.specs.Versions.{block_count, block_lengths, data_codewords, parity_length, total_codewords}
-
--- where there is a value, what is made of it
-infixl 10 ◌>>=◌
-abbrev pub ◌>>=◌ : {A B : Type 0} → Option A → (A → Option B) → Option B
-None >>= f = None
-(Some x) >>= f = f x
 
 -- the number in the first bits, if it is below a limit, and the bits after it
 unfoldable pub number_at : ℕ → ℕ → List Bool → Option (ℕ × List Bool)
@@ -26,16 +20,10 @@ number_at limit width bits =
 -- so many digits, and the bits after them
 unfoldable pub digits_at : ℕ → List Bool → Option (List ℕ × List Bool)
 digits_at zero bits = Some ([], bits)
-digits_at (suc zero) bits = do
-  n ← number_at 10 4 bits
-  Some ((48 + n.0) ∷ [], n.1)
-digits_at (suc (suc zero)) bits = do
-  n ← number_at 100 7 bits
-  Some ((48 + n.0 / 10) ∷ (48 + n.0 % 10) ∷ [], n.1)
-digits_at (suc (suc (suc count))) bits = do
-  n ← number_at 1000 10 bits
-  others ← digits_at count n.1
-  Some ((48 + n.0 / 100) ∷ (48 + n.0 / 10 % 10) ∷ (48 + n.0 % 10) ∷ others.0, others.1)
+digits_at (suc zero) bits = number_at 10 4 bits >>= λ n. Some ((48 + n.0) ∷ [], n.1)
+digits_at (suc (suc zero)) bits = number_at 100 7 bits >>= λ n. Some ((48 + n.0 / 10) ∷ (48 + n.0 % 10) ∷ [], n.1)
+digits_at (suc (suc (suc count))) bits = number_at 1000 10 bits >>= λ n. digits_at count n.1 >>= λ others.
+    Some ((48 + n.0 / 100) ∷ (48 + n.0 / 10 % 10) ∷ (48 + n.0 % 10) ∷ others.0, others.1)
 
 -- the character of an alphanumeric value
 abbrev pub alphanumeric_character : ℕ → ℕ
@@ -44,21 +32,15 @@ alphanumeric_character value = slice_index alphanumeric_characters value
 -- so many alphanumeric characters, and the bits after them
 unfoldable pub characters_at : ℕ → List Bool → Option (List ℕ × List Bool)
 characters_at zero bits = Some ([], bits)
-characters_at (suc zero) bits = do
-  n ← number_at 45 6 bits
-  Some (alphanumeric_character n.0 ∷ [], n.1)
-characters_at (suc (suc count)) bits = do
-  n ← number_at 2025 11 bits
-  others ← characters_at count n.1
-  Some (alphanumeric_character (n.0 / 45) ∷ alphanumeric_character (n.0 % 45) ∷ others.0, others.1)
+characters_at (suc zero) bits = number_at 45 6 bits >>= λ n. Some (alphanumeric_character n.0 ∷ [], n.1)
+characters_at (suc (suc count)) bits = number_at 2025 11 bits >>= λ n. characters_at count n.1 >>= λ others.
+    Some (alphanumeric_character (n.0 / 45) ∷ alphanumeric_character (n.0 % 45) ∷ others.0, others.1)
 
 -- so many bytes, and the bits after them
 unfoldable pub bytes_at : ℕ → List Bool → Option (List ℕ × List Bool)
 bytes_at zero bits = Some ([], bits)
-bytes_at (suc count) bits = do
-  n ← number_at 256 8 bits
-  others ← bytes_at count n.1
-  Some (n.0 ∷ others.0, others.1)
+bytes_at (suc count) bits = number_at 256 8 bits >>= λ n. bytes_at count n.1 >>= λ others.
+    Some (n.0 ∷ others.0, others.1)
 
 -- the payload of so many bytes, and the bits after it
 abbrev pub payload_at : Mode → ℕ → List Bool → Option (List ℕ × List Bool)
@@ -66,15 +48,11 @@ payload_at Numeric count bits = digits_at count bits
 payload_at Alphanumeric count bits = characters_at count bits
 payload_at Byte count bits = bytes_at count bits
 
--- the mode that four bits name
-abbrev pub mode_named : ℕ → Option Mode
-mode_named n = find (λ mode. mode_indicator mode == n) modes
-
 -- the payload of the segment at the front, and the bits after it
 unfoldable pub segment_at : ℕ → List Bool → Option (List ℕ × List Bool)
 segment_at version bits = do
   indicator ← number_at 16 4 bits
-  mode ← mode_named indicator.0
+  mode ← find (λ mode. mode_indicator mode == indicator.0) modes
   count ← number_at (2 ^ count_width version mode) (count_width version mode) indicator.1
   payload_at mode count.0 count.1
 
@@ -90,35 +68,20 @@ segments_at version (suc n) bits = if is_end bits then Some [] else do
   others ← segments_at version n first.1
   Some (first.0 ++ others)
 
--- One round of dealing: a word to each block that has room, and the words that are left. A full block is passed over.
-unfoldable pub dealt_round : List ℕ → List ℕ → List (List ℕ) × List ℕ
-dealt_round [] words = ([], words)
-dealt_round (zero ∷ rooms) words =
-    let others = dealt_round rooms words in ([] ∷ others.0, others.1)
-dealt_round (suc room ∷ rooms) words =
-    let others = dealt_round rooms (drop 1 words) in (take 1 words ∷ others.0, others.1)
-
--- each list followed by its partner
-unfoldable pub joined_pairs : List (List ℕ) → List (List ℕ) → List (List ℕ)
-joined_pairs [] ys = []
-joined_pairs (x ∷ xs) [] = x ∷ xs
-joined_pairs (x ∷ xs) (y ∷ ys) = (x ++ y) ∷ joined_pairs xs ys
-
--- the words dealt in so many rounds to blocks that have this much room
-unfoldable pub dealt_within : ℕ → List ℕ → List ℕ → List (List ℕ)
-dealt_within zero rooms words = map (λ room. []) rooms
-dealt_within (suc rounds) rooms words =
-    let round = dealt_round rooms words in
-    joined_pairs round.0 (dealt_within rounds (map (λ room. room - 1) rooms) round.1)
+-- Where word i of block b stands among words that are dealt in turn to blocks of these lengths: after the words of the
+-- rounds before it, and in its own round after those of the blocks before it. A full block is passed over.
+abbrev pub dealt_place : List ℕ → ℕ → ℕ → ℕ
+dealt_place lengths b i = sum_by (min i) lengths + count_by (nat_lt i) (take b lengths)
 
 -- the words dealt in turn to blocks of these lengths
 unfoldable pub dealt : List ℕ → List ℕ → List (List ℕ)
-dealt lengths words = dealt_within (largest lengths) lengths words
+dealt lengths words =
+    map (λ b. map (λ i. slice_index words (dealt_place lengths b i)) (range_with_len 0 (slice_index lengths b)))
+    (range_with_len 0 (length lengths))
 
--- whether a block's polynomial is 0 at alpha^0 to alpha^(k-1)
-abbrev pub is_codeword_block : ℕ → List ℕ → Bool
-is_codeword_block k block =
-    list_all (λ i. evaluate block (field_power alpha i) == 0) (range_with_len 0 k)
+-- whether the polynomial of a block and its parity is 0 at alpha^0 to alpha^(k-1)
+abbrev pub is_codeword : ℕ → List ℕ × List ℕ → Bool
+is_codeword k block = list_all (λ i. evaluate (block.0 ++ block.1) (field_power alpha i) == 0) (range_with_len 0 k)
 
 -- The data that the codewords of a symbol hold: dealt to blocks, each block a codeword of its parity, and the
 -- data codewords joined and read as segments.
@@ -128,6 +91,5 @@ data_in version level words =
     let parity = parity_length version level in
     let blocks = dealt (block_lengths version level) (take size words) in
     let parities = dealt (replicate (block_count version level) parity) (drop size words) in
-    if length words == total_codewords version
-    && list_all (is_codeword_block parity) (joined_pairs blocks parities)
-    then segments_at version (8 * size) (byte_bits (flat_map (λ block. block) blocks)) else None
+    if length words == total_codewords version && list_all (is_codeword parity) (zip blocks parities)
+    then segments_at version (8 * size) (byte_bits (concat blocks)) else None

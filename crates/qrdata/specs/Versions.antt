@@ -1,8 +1,12 @@
 -- The sizes of versions 1 to 10 (ISO/IEC 18004, tables 1 and 9).
-use Rattle.std.specs.Prelude.{ℕ, ◌+◌, ◌-◌, ◌*◌, List, [], ◌∷◌, length, slice_get, slice_index, sum, unwrap_or, replicate}
+use Rattle.std.specs.Prelude.{ℕ, ◌+◌, ◌-◌, ◌*◌, ◌≤◌, List, [], ◌∷◌, length, map, slice_get, slice_index, sum, unwrap_or, replicate}
 use Rattle.std.specs.List.{flat_map}
 use Rattle.labelcore.specs.declared.options.Level.{Level}
 use Rattle.labelcore.specs.declared.options.Level.TheVariants.{L, M, Q, H}
+
+-- the numbers of versions
+abbrev pub IsVersion : ℕ → Type 0
+IsVersion version = (1 ≤ version) × (version ≤ 10)
 
 -- the modules of a side
 abbrev pub side_of : ℕ → ℕ
@@ -16,53 +20,21 @@ total_codewords version = slice_index (26 ∷ 44 ∷ 70 ∷ 100 ∷ 134 ∷ 172 
 -- these are data codewords.
 unfoldable pub block_table : Level → List (List (ℕ × ℕ × ℕ))
 block_table L =
-    ((1, 26, 19) ∷ []) ∷
-    ((1, 44, 34) ∷ []) ∷
-    ((1, 70, 55) ∷ []) ∷
-    ((1, 100, 80) ∷ []) ∷
-    ((1, 134, 108) ∷ []) ∷
-    ((2, 86, 68) ∷ []) ∷
-    ((2, 98, 78) ∷ []) ∷
-    ((2, 121, 97) ∷ []) ∷
-    ((2, 146, 116) ∷ []) ∷
-    ((2, 86, 68) ∷ (2, 87, 69) ∷ []) ∷
-    []
+    ((1, 26, 19) ∷ []) ∷ ((1, 44, 34) ∷ []) ∷ ((1, 70, 55) ∷ []) ∷ ((1, 100, 80) ∷ []) ∷ ((1, 134, 108) ∷ []) ∷
+    ((2, 86, 68) ∷ []) ∷ ((2, 98, 78) ∷ []) ∷ ((2, 121, 97) ∷ []) ∷ ((2, 146, 116) ∷ []) ∷
+    ((2, 86, 68) ∷ (2, 87, 69) ∷ []) ∷ []
 block_table M =
-    ((1, 26, 16) ∷ []) ∷
-    ((1, 44, 28) ∷ []) ∷
-    ((1, 70, 44) ∷ []) ∷
-    ((2, 50, 32) ∷ []) ∷
-    ((2, 67, 43) ∷ []) ∷
-    ((4, 43, 27) ∷ []) ∷
-    ((4, 49, 31) ∷ []) ∷
-    ((2, 60, 38) ∷ (2, 61, 39) ∷ []) ∷
-    ((3, 58, 36) ∷ (2, 59, 37) ∷ []) ∷
-    ((4, 69, 43) ∷ (1, 70, 44) ∷ []) ∷
-    []
+    ((1, 26, 16) ∷ []) ∷ ((1, 44, 28) ∷ []) ∷ ((1, 70, 44) ∷ []) ∷ ((2, 50, 32) ∷ []) ∷ ((2, 67, 43) ∷ []) ∷
+    ((4, 43, 27) ∷ []) ∷ ((4, 49, 31) ∷ []) ∷ ((2, 60, 38) ∷ (2, 61, 39) ∷ []) ∷ ((3, 58, 36) ∷ (2, 59, 37) ∷ []) ∷
+    ((4, 69, 43) ∷ (1, 70, 44) ∷ []) ∷ []
 block_table Q =
-    ((1, 26, 13) ∷ []) ∷
-    ((1, 44, 22) ∷ []) ∷
-    ((2, 35, 17) ∷ []) ∷
-    ((2, 50, 24) ∷ []) ∷
-    ((2, 33, 15) ∷ (2, 34, 16) ∷ []) ∷
-    ((4, 43, 19) ∷ []) ∷
-    ((2, 32, 14) ∷ (4, 33, 15) ∷ []) ∷
-    ((4, 40, 18) ∷ (2, 41, 19) ∷ []) ∷
-    ((4, 36, 16) ∷ (4, 37, 17) ∷ []) ∷
-    ((6, 43, 19) ∷ (2, 44, 20) ∷ []) ∷
-    []
+    ((1, 26, 13) ∷ []) ∷ ((1, 44, 22) ∷ []) ∷ ((2, 35, 17) ∷ []) ∷ ((2, 50, 24) ∷ []) ∷
+    ((2, 33, 15) ∷ (2, 34, 16) ∷ []) ∷ ((4, 43, 19) ∷ []) ∷ ((2, 32, 14) ∷ (4, 33, 15) ∷ []) ∷
+    ((4, 40, 18) ∷ (2, 41, 19) ∷ []) ∷ ((4, 36, 16) ∷ (4, 37, 17) ∷ []) ∷ ((6, 43, 19) ∷ (2, 44, 20) ∷ []) ∷ []
 block_table H =
-    ((1, 26, 9) ∷ []) ∷
-    ((1, 44, 16) ∷ []) ∷
-    ((2, 35, 13) ∷ []) ∷
-    ((4, 25, 9) ∷ []) ∷
-    ((2, 33, 11) ∷ (2, 34, 12) ∷ []) ∷
-    ((4, 43, 15) ∷ []) ∷
-    ((4, 39, 13) ∷ (1, 40, 14) ∷ []) ∷
-    ((4, 40, 14) ∷ (2, 41, 15) ∷ []) ∷
-    ((4, 36, 12) ∷ (4, 37, 13) ∷ []) ∷
-    ((6, 43, 15) ∷ (2, 44, 16) ∷ []) ∷
-    []
+    ((1, 26, 9) ∷ []) ∷ ((1, 44, 16) ∷ []) ∷ ((2, 35, 13) ∷ []) ∷ ((4, 25, 9) ∷ []) ∷ ((2, 33, 11) ∷ (2, 34, 12) ∷ []) ∷
+    ((4, 43, 15) ∷ []) ∷ ((4, 39, 13) ∷ (1, 40, 14) ∷ []) ∷ ((4, 40, 14) ∷ (2, 41, 15) ∷ []) ∷
+    ((4, 36, 12) ∷ (4, 37, 13) ∷ []) ∷ ((6, 43, 15) ∷ (2, 44, 16) ∷ []) ∷ []
 
 -- the blocks of a symbol, those of one length together
 unfoldable pub groups_of : ℕ → Level → List (ℕ × ℕ × ℕ)
@@ -70,8 +42,7 @@ groups_of version level = unwrap_or (slice_get (block_table level) (version - 1)
 
 -- the data codewords of each block
 unfoldable pub block_lengths : ℕ → Level → List ℕ
-block_lengths version level =
-    flat_map (λ (group : ℕ × ℕ × ℕ). replicate group.0 group.2) (groups_of version level)
+block_lengths version level = flat_map (λ (group : ℕ × ℕ × ℕ). replicate group.0 group.2) (groups_of version level)
 
 -- how many blocks a symbol has
 unfoldable pub block_count : ℕ → Level → ℕ
@@ -81,14 +52,10 @@ block_count version level = length (block_lengths version level)
 unfoldable pub data_codewords : ℕ → Level → ℕ
 data_codewords version level = sum (block_lengths version level)
 
--- the parity codewords of the first block, which are as many in each
-abbrev pub parity_of_groups : List (ℕ × ℕ × ℕ) → ℕ
-parity_of_groups [] = 0
-parity_of_groups (group ∷ groups) = group.1 - group.2
-
--- how many parity codewords each block has
+-- how many parity codewords each block has, the first as many as the others
 unfoldable pub parity_length : ℕ → Level → ℕ
-parity_length version level = parity_of_groups (groups_of version level)
+parity_length version level =
+    slice_index (map (λ (group : ℕ × ℕ × ℕ). group.1 - group.2) (groups_of version level)) 0
 
 -- the data bits of a symbol
 abbrev pub capacity : ℕ → Level → ℕ

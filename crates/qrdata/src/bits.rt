@@ -157,8 +157,8 @@ impl Bits {
     fn push_segment(&mut self, version: Version, mode: Mode, bytes: &[u8])
         requires characters { IsTrue (list_all (has_character mode) bytes.now) }
         requires room { length (bits_in self.old)
-            + (4 + count_width version.number mode + payload_length mode (length bytes.now)) ≤ MAX_BITS }
-        ensures { bits_in self.new ≡ bits_in self.old ++ segment_bits version.number mode bytes.now }
+            + (4 + count_width version mode + payload_length mode (length bytes.now)) ≤ MAX_BITS }
+        ensures { bits_in self.new ≡ bits_in self.old ++ segment_bits version mode bytes.now }
     {
         self.push_number(u32::from(mode.indicator()), 4);
         self.push_number(bytes.len() as u32, mode.count_bits(version));
@@ -167,10 +167,10 @@ impl Bits {
 
     /// Writes the segments of the data, one after another.
     pub(crate) fn push_segments(&mut self, version: Version, segments: &[Segment], bytes: &[u8])
-        requires cut { IsSegmentation version.number segments.now bytes.now }
-        requires room { length (bits_in self.old) + cost version.number segments.now ≤ MAX_BITS }
+        requires cut { IsSegmentation version segments.now bytes.now }
+        requires room { length (bits_in self.old) + cost version segments.now ≤ MAX_BITS }
         ensures { bits_in self.new
-            ≡ bits_in self.old ++ segments_bits version.number segments.now bytes.now }
+            ≡ bits_in self.old ++ segments_bits version segments.now bytes.now }
     {
         let mut place = 0;
         for segment in segments {
@@ -204,7 +204,8 @@ impl Bits {
     }
 }
 
-/// A slice of bytes has bytes. It does nothing when it runs.
+/// A slice of bytes has numbers below 256, which the type of an `ArrayVec` does not tell a proof. It does nothing when it
+/// runs.
 fn are_bytes(bytes: &[u8])
     ensures { All (λ b. b < 256) bytes.now }
 {}

@@ -39,9 +39,9 @@ impl Mode {
 
     /// The bits of the character count indicator in a version.
     pub(crate) fn count_bits(self, version: Version) -> usize
-        ensures { result ≡ count_width version.number self }
+        ensures { result ≡ count_width version self }
     {
-        let short = version.number < 10;
+        let short = version.number() < 10;
         match self {
             Mode::Numeric => if short { 10 } else { 12 },
             Mode::Alphanumeric => if short { 9 } else { 11 },

@@ -3,7 +3,7 @@ ghost use Rattle.labelcore.specs.declared.fault.Fault.TheVariants.{DoesNotFit};
 ghost use Rattle.qrdata.specs.Fewest.{chosen_segments, chosen_version, IsFewest, NoneFits};
 ghost use Rattle.qrdata.specs.Segments.{IsSegmentation, cost, segments_bits};
 ghost use Rattle.qrdata.specs.Private.LeastPlan.{IsLeastPlan, NamesBest, NoPlan, SameWidths};
-ghost use Rattle.qrdata.specs.Versions.{capacity};
+ghost use Rattle.qrdata.specs.Versions.{IsVersion, capacity};
 ghost use Rattle.qrdata.specs.declared.mode.Segment.{Segment};
 ghost use Rattle.std.specs.Prelude.{Some, None, length, ◌≡◌, ◌≤◌, ◌<◌, IfErr, IfNone, IfOk, IfSome, ℕ, List};
 
@@ -14,12 +14,16 @@ use arrayvec::ArrayVec;
 use labelcore::{Fault, Level, Options};
 use std::marker::Model;
 
+/// The most segments that fit a symbol: in version 10 each has 20 bits or more, and there are 2192 data bits at most.
+/// Fewer fit the other versions.
+const MAX_SEGMENTS: usize = 109;
+
 /// What is chosen for a symbol: its version, its level and the segments of its data.
 #[derive(Drop)]
 pub struct Plan {
     version: Version,
     level: Level,
-    segments: ArrayVec<Segment, 109>,
+    segments: ArrayVec<Segment, MAX_SEGMENTS>,
     bits: u32,
 }
 
@@ -31,20 +35,23 @@ impl Model for Plan {
     ghost Value = { PlanView };
 
     ghost view = { λ p. record {
-      version = p.version.number;
+      version = p.version;
       level = p.level;
       segments = p.segments.items;
     } };
 
-    ghost invariant = { λ p. p.bits ≡ cost p.version.number p.segments.items };
+    ghost invariant = { λ p. p.bits ≡ cost p.version p.segments.items };
 }
 
 impl Plan {
     /// The version of the symbol.
     pub fn version(&self) -> Version
-        ensures { result.number ≡ self.now.version }
+        ensures value { result ≡ self.now.version }
+        ensures known { IsVersion result }
     {
-        self.version
+        let version = self.version;
+        version.known();
+        version
     }
 
     /// The error correction level of the symbol.
@@ -138,7 +145,7 @@ fn plan_between(lowest: u8, highest: u8, level: Level, bytes: &[u8]) -> Option<P
     ensures some { IfSome result (IsLeastPlan lowest highest level bytes.now) }
     ensures none { IfNone result (NoPlan lowest highest level bytes.now) }
 {
-    let widest = Version { number: highest };
+    let widest = Version::of(highest);
     // Three bytes have ten bits at least.
     if 10 * bytes.len() > 24 * widest.data_words(level) {
         return None;
@@ -146,10 +153,10 @@ fn plan_between(lowest: u8, highest: u8, level: Level, bytes: &[u8]) -> Option<P
     let mut firsts = [Segment {
         mode: Mode::Byte,
         len: 0,
-    }; 653];
+    }; MAX_BYTES];
     let bits = fill(widest, bytes, &mut firsts);
     for number in lowest..highest + 1 {
-        let version = Version { number };
+        let version = Version::of(number);
         if bits <= 8 * version.data_words(level) {
             return Some(plan_of(version, level, bytes, &firsts, bits as u32));
         }
@@ -160,14 +167,14 @@ fn plan_between(lowest: u8, highest: u8, level: Level, bytes: &[u8]) -> Option<P
 /// The plan of the segments that a table names, from the front of the data. They have this many bits.
 fn plan_of(version: Version, level: Level, bytes: &[u8], firsts: &[Segment], bits: u32) -> Plan
     requires few { length bytes.now ≤ MAX_BYTES }
-    requires size { length firsts.now ≡ 653 }
-    requires firsts { NamesBest version.number bytes.now bits firsts.now }
-    requires short { length (chosen_segments version.number bytes.now) ≤ 109 }
-    requires bits { bits ≡ cost version.number (chosen_segments version.number bytes.now) }
+    requires size { length firsts.now ≡ MAX_BYTES }
+    requires firsts { NamesBest version bytes.now bits firsts.now }
+    requires short { length (chosen_segments version bytes.now) ≤ MAX_SEGMENTS }
+    requires bits { bits ≡ cost version (chosen_segments version bytes.now) }
     ensures { result ≡ record {
-      version = version.number;
+      version = version;
       level = level;
-      segments = chosen_segments version.number bytes.now;
+      segments = chosen_segments version bytes.now;
     } }
 {
     let mut segments = ArrayVec::new();

@@ -41,10 +41,11 @@ pub fn codewords(plan: &Plan, bytes: &[u8], words: &mut Words)
 /// Writes the data codewords of the segments.
 fn push_data(version: Version, level: Level, segments: &[Segment], bytes: &[u8], message: &mut Bits)
     requires empty { bits_in message.old ≡ [] }
-    requires cut { IsSegmentation version.number segments.now bytes.now }
-    requires fits { cost version.number segments.now ≤ capacity version.number level }
-    ensures { message.new.words.items ≡ data_of version.number level segments.now bytes.now }
+    requires cut { IsSegmentation version segments.now bytes.now }
+    requires fits { cost version segments.now ≤ capacity version level }
+    ensures { message.new.words.items ≡ data_of version level segments.now bytes.now }
 {
+    version.known();
     let size = version.data_words(level);
     message.push_segments(version, segments, bytes);
     message.end(size);
@@ -53,10 +54,11 @@ fn push_data(version: Version, level: Level, segments: &[Segment], bytes: &[u8],
 
 /// Writes the blocks of the data codewords interleaved, and then their parity codewords interleaved.
 fn write_symbol(version: Version, level: Level, message: &[u8], words: &mut Words)
-    requires whole { length message.now ≡ data_codewords version.number level }
-    ensures { words.new.items ≡ final_message version.number level message.now }
+    requires whole { length message.now ≡ data_codewords version level }
+    ensures { words.new.items ≡ final_message version level message.now }
 {
     gf256::parity_is_sound();
+    version.known();
     let count = version.parity(level);
     let lengths = version.lengths(level);
     let mut parity_lengths = Lengths::new();

@@ -105,7 +105,7 @@ fn absent(mode: Mode) -> Choice
 /// The choice of one byte, where the best segments of what comes after it have `after` bits.
 fn short(version: Version, mode: Mode, after: usize) -> Choice
     requires { after < 2 ^ 20 }
-    ensures { result ≡ short_choice version.number mode after }
+    ensures { result ≡ short_choice version mode after }
 {
     Choice {
         mode,
@@ -143,7 +143,7 @@ fn better(first: &Choice, second: &Choice) -> Choice
 fn with_digit(version: Version, byte: u8, rest: &Digits, after: usize) -> Digits
     requires rest { AreSmallDigits rest.now }
     requires after { after < 2 ^ 20 }
-    ensures { result ≡ next_digits version.number byte after rest.now }
+    ensures { result ≡ next_digits version byte after rest.now }
 {
     if !byte.is_ascii_digit() {
         return no_digits();
@@ -163,7 +163,7 @@ fn with_digit(version: Version, byte: u8, rest: &Digits, after: usize) -> Digits
 fn with_character(version: Version, byte: u8, rest: &Characters, after: usize) -> Characters
     requires rest { AreSmallCharacters rest.now }
     requires after { after < 2 ^ 20 }
-    ensures { result ≡ next_characters version.number byte after rest.now }
+    ensures { result ≡ next_characters version byte after rest.now }
 {
     if value_of(byte) >= 45 {
         return no_characters();
@@ -192,7 +192,7 @@ fn best_of(digits: &Digits, characters: &Characters, bytes: &Choice) -> Choice
 #[tactic(auto, unfolding(crate::specs::Private::Table::next_choices))]
 fn with_byte(version: Version, byte: u8, rest: &Choices) -> Choices
     requires { AreSmall rest.now }
-    ensures { result ≡ next_choices version.number byte rest.now }
+    ensures { result ≡ next_choices version byte rest.now }
 {
     let after = rest.best.bits();
     let digits = with_digit(version, byte, &rest.digits, after);
@@ -248,9 +248,9 @@ fn without_bytes() -> Choices
 /// they bind no segments that fit. Its time grows with the number of bytes.
 pub(crate) fn fill(version: Version, bytes: &[u8], firsts: &mut [Segment]) -> usize
     requires few { length bytes.now ≤ MAX_BYTES }
-    requires firsts { length firsts.old ≡ 653 }
-    ensures bits { result ≡ fewest_bits version.number bytes.now }
-    ensures firsts { HasFirsts version.number bytes.now 0 firsts.new }
+    requires firsts { length firsts.old ≡ MAX_BYTES }
+    ensures bits { result ≡ fewest_bits version bytes.now }
+    ensures firsts { HasFirsts version bytes.now 0 firsts.new }
 {
     let mut choices = without_bytes();
     let mut place = bytes.len();

@@ -1,10 +1,11 @@
 //! The sizes of versions 1 to 10 (ISO/IEC 18004, tables 1, 7 and 9).
-ghost use Rattle.qrdata.specs.Versions.{block_count, block_lengths, data_codewords, parity_length, side_of, total_codewords};
-ghost use Rattle.std.specs.Prelude.{None, Some, ◌≡◌, ◌+◌, ◌*◌, ◌/◌, ◌<◌, ◌≤◌, ◌↔◌, ◌⊎◌, IfSome, IsNone};
+ghost use Rattle.qrdata.specs.Versions.{IsVersion, block_count, block_lengths, data_codewords, parity_length, side_of, total_codewords};
+ghost use Rattle.std.specs.Prelude.{None, Some, ◌≡◌, ◌+◌, ◌*◌, ◌/◌, ◌<◌, ◌≤◌, ◌↔◌, ◌⊎◌, IfSome, IsNone, ℕ};
 
 use crate::blocks::{Lengths, push_lengths};
 use arrayvec::ArrayVec;
 use labelcore::Level;
+use std::marker::Model;
 
 /// The codewords of a symbol, data and parity. In each of these tables place 0 is version 1. They are proved to hold what
 /// `specs/Versions.antt` lists in the standard's notation.
@@ -34,19 +35,26 @@ const PARITY_Q: [usize; 10] = [13, 22, 18, 26, 18, 24, 18, 22, 20, 24];
 /// The parity codewords of each block at level H.
 const PARITY_H: [usize; 10] = [17, 28, 22, 16, 22, 28, 26, 26, 24, 28];
 
-/// A version of a symbol, 1 to 10.
-#[derive(Clone, Copy, Debug, PartialEq, Eq)]
+/// A version of a symbol, 1 to 10. Clauses see it as that number.
+#[derive(Clone, Copy, Debug, PartialEq, Eq, Drop)]
 pub struct Version {
-    /// The number of the version.
-    pub number: u8,
-    ghost at_least: { 1 ≤ number },
-    ghost at_most: { number ≤ 10 },
+    number: u8,
+}
+
+impl Model for Version {
+    ghost Value = { ℕ };
+
+    ghost view = { λ v. v.number };
+
+    ghost invariant = { λ v. IsVersion v.number };
+
+    ghost inverse = { λ number. record { number = number } };
 }
 
 impl Version {
     /// The version of a number. There is none outside 1 to 10.
     pub fn new(number: u8) -> Option<Version>
-        ensures some { IfSome result (λ version. version.number ≡ number) }
+        ensures some { IfSome result (λ version. version ≡ number) }
         ensures none { IsNone result ↔ ((number < 1) ⊎ (10 < number)) }
     {
         if 1 <= number && number <= 10 {
@@ -56,37 +64,55 @@ impl Version {
         }
     }
 
-    /// The number of the version, 1 to 10.
+    /// The version of a number that is one.
+    pub(crate) fn of(number: u8) -> Version
+        requires { IsVersion number }
+        ensures { result ≡ number }
+    {
+        Version { number }
+    }
+
+    /// Whatever the version, it is one of 1 to 10. It does nothing when it runs.
+    pub fn known(self)
+        ensures { IsVersion self }
+    {
+        let _ = &self.number;
+    }
+
+    /// The number of the version.
     pub fn number(self) -> u8
-        ensures { result ≡ self.number }
+        ensures value { result ≡ self }
+        ensures known { IsVersion self }
     {
         self.number
     }
 
     /// The modules of a side, without the quiet zone.
     pub fn side(self) -> usize
-        ensures { result ≡ side_of self.number }
+        ensures value { result ≡ side_of self }
+        ensures known { IsVersion self }
     {
         17 + 4 * usize::from(self.number)
     }
 
     /// The codewords of a symbol, data and parity.
     pub fn total_words(self) -> usize
-        ensures { result ≡ total_codewords self.number }
+        ensures { result ≡ total_codewords self }
     {
         TOTAL[usize::from(self.number) - 1]
     }
 
     /// The data codewords of a symbol at a level, of all its blocks.
     pub fn data_words(self, level: Level) -> usize
-        ensures { result ≡ data_codewords self.number level }
+        ensures { result ≡ data_codewords self level }
     {
+        self.known();
         self.total_words() - self.blocks(level) * self.parity(level)
     }
 
     /// The blocks of a symbol at a level.
     pub(crate) fn blocks(self, level: Level) -> usize
-        ensures { result ≡ block_count self.number level }
+        ensures { result ≡ block_count self level }
     {
         let place = usize::from(self.number) - 1;
         match level {
@@ -99,7 +125,7 @@ impl Version {
 
     /// The parity codewords of each block at a level.
     pub(crate) fn parity(self, level: Level) -> usize
-        ensures { result ≡ parity_length self.number level }
+        ensures { result ≡ parity_length self level }
     {
         let place = usize::from(self.number) - 1;
         match level {
@@ -112,8 +138,9 @@ impl Version {
 
     /// The data codewords of each block at a level, the short blocks first.
     pub(crate) fn lengths(self, level: Level) -> Lengths
-        ensures { result.items ≡ block_lengths self.number level }
+        ensures { result.items ≡ block_lengths self level }
     {
+        self.known();
         let blocks = self.blocks(level);
         let words = self.data_words(level);
         let mut lengths = Lengths::new();

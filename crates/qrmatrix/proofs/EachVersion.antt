@@ -4,7 +4,7 @@ use Rattle.std.specs.Prelude.{map, Bool, true, cond, not, ◌&&◌, ◌||◌, �
 use Rattle.std.specs.List.{range_with_len, list_all, filter}
 use Rattle.qrmatrix.specs.Counting.{all_below}
 use Rattle.qrdata.specs.Versions.{side_of, total_codewords}
-use Rattle.qrmatrix.specs.Functions.{is_free}
+use Rattle.qrmatrix.specs.Functions.{is_free, role}
 use Rattle.qrmatrix.specs.Placement.{key, free_count, remainder_bits}
 use Rattle.qrmatrix.specs.Modules.{is_inside}
 use Rattle.qrmatrix.specs.Reading.{walk}
@@ -63,7 +63,7 @@ pub record Computed (v : ℕ) : Type 0 where
   pub area : length (filter (λ (p : ℕ × ℕ). is_free v p.0 p.1) (walk (side_of v))) ≡ 8 * total_codewords v + remainder_bits v
 
 pub computed : (v : ℕ) → 1 ≤ v → v ≤ 10 → Computed v
-unfolding walk key is_found is_below is_outside is_walked is_free free_count total_codewords remainder_bits
+unfolding walk key is_found is_below is_outside is_walked is_free role free_count total_codewords remainder_bits
 computed =
     by_version Computed
     (record { keys = refl; found = refl; below = refl; outside = refl; walked = refl; inside = refl; count = refl; area = refl })

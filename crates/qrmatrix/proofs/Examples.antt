@@ -3,13 +3,19 @@
 use Rattle.std.proofs.Common.{◌≡◌, ℕ, refl, List, [], ◌∷◌, map, Option, None, Some}
 use Rattle.std.specs.Prelude.{slice_index, slice_set, reverse}
 use Rattle.std.specs.List.{range_with_len}
+use Rattle.gf256.specs.BinaryPolynomial.{binary_remainder}
 use Rattle.labelcore.specs.declared.options.Level.TheVariants.{M}
-use Rattle.qrdata.specs.Bits.{number_of}
+use Rattle.qrdata.specs.Bits.{codewords_of, number_of}
+use Rattle.qrdata.specs.Versions.{total_codewords}
 use Rattle.qrmatrix.specs.Bits.{bit}
+use Rattle.qrmatrix.specs.Functions.{fixed, is_free, role}
+use Rattle.qrmatrix.specs.Information.{format_word, version_word}
+use Rattle.qrmatrix.specs.Masks.{is_flipped}
 use Rattle.qrmatrix.specs.MaskChoice.{penalties}
 use Rattle.qrmatrix.specs.Modules.{module_at}
-use Rattle.qrmatrix.specs.Penalty.{penalty}
-use Rattle.qrmatrix.specs.Reading.{Reading, read_matrix}
+use Rattle.qrmatrix.specs.Penalty.{balance_penalty, dark_count, finder_penalty, penalty, run_penalty, square_penalty}
+use Rattle.qrmatrix.specs.Placement.{free_below, key, rank}
+use Rattle.qrmatrix.specs.Reading.{Reading, read_bits, read_format, read_matrix, shows_functions, shows_version, walk}
 
 codewords : List ℕ
 codewords =
@@ -24,7 +30,7 @@ rows =
     ∷ 0x078210 ∷ 0x0129F8 ∷ 0x067D00 ∷ 0x00D67F ∷ 0x147D41 ∷ 0x06915D ∷ 0x00935D ∷ 0x052D5D ∷ 0x0D8041 ∷ 0x052F7F ∷ []
 
 row : ℕ → ℕ → ℕ
-unfolding module_at codewords number_of
+unfolding codewords number_of module_at fixed role rank free_below is_free key is_flipped format_word version_word binary_remainder
 row mask y = number_of (reverse (map (λ x. module_at 1 M mask codewords x y) (range_with_len 0 21)))
 
 modules : map (row 2) (range_with_len 0 21) ≡ rows
@@ -32,7 +38,7 @@ unfolding row rows
 modules = refl
 
 penalty_of_rows : ℕ → List ℕ → ℕ
-unfolding penalty
+unfolding penalty run_penalty finder_penalty square_penalty dark_count balance_penalty
 penalty_of_rows n rows = penalty n (λ x y. bit (slice_index rows y) x)
 
 penalty_under_mask_2 : penalty_of_rows 21 rows ≡ 397
@@ -40,11 +46,13 @@ unfolding penalty_of_rows rows
 penalty_under_mask_2 = refl
 
 penalties_under_all_masks : penalties 1 M codewords ≡ 297 ∷ 533 ∷ 397 ∷ 452 ∷ 570 ∷ 637 ∷ 419 ∷ 406 ∷ []
-unfolding penalties codewords
+unfolding codewords penalties penalty run_penalty finder_penalty square_penalty dark_count balance_penalty
+    module_at fixed role rank free_below is_free key is_flipped format_word version_word binary_remainder
 penalties_under_all_masks = refl
 
 read_rows : ℕ → List ℕ → Option Reading
-unfolding read_matrix
+unfolding read_matrix total_codewords read_format shows_version shows_functions read_bits walk codewords_of number_of
+    fixed role is_free is_flipped format_word version_word binary_remainder
 read_rows n rows = read_matrix n (λ x y. bit (slice_index rows y) x)
 
 reading : read_rows 21 rows ≡ Some (record { version = 1; level = M; words = codewords })

@@ -6,6 +6,7 @@ use Rattle.std.specs.Int.{reverse_bits_onto}
 use Rattle.std.specs.List.{range_with_len, list_all}
 use Rattle.std.proofs.lemmas.Bool.{and_parts, ltb-true, ne_eqb, le-ltb, lt-leb}
 use Rattle.std.proofs.Math.Pow.{pow_mono}
+use Rattle.gf256.specs.BinaryPolynomial.{binary_remainder}
 use Rattle.labelcore.specs.declared.options.Level.{Level}
 use Rattle.labelcore.specs.declared.options.Level.TheVariants.{L, M, Q, H}
 use Rattle.qrdata.specs.Versions.{side_of}
@@ -37,7 +38,7 @@ right_rows v = all_below (side_of v) (λ y. right_row v y (function_row v y))
 
 -- computed for each row and column
 rows_right : (v : ℕ) → 1 ≤ v → v ≤ 10 → right_rows v ≡ true
-unfolding right_rows version_word
+unfolding right_rows version_word binary_remainder
 rows_right = by_version (λ v. right_rows v ≡ true) refl refl refl refl refl refl refl refl refl refl
 
 pub function_row_is : (v : ℕ) → 1 ≤ v → v ≤ 10 → (y : ℕ) → y < side_of v → HasFunctions v y (function_row v y)
@@ -95,7 +96,7 @@ FormatRows v =
     (format_rows v (words_of L) ≡ true) × (format_rows v (words_of M) ≡ true) × (format_rows v (words_of Q) ≡ true) × (format_rows v (words_of H) ≡ true)
 
 format_rows_right : (v : ℕ) → 1 ≤ v → v ≤ 10 → FormatRows v
-unfolding format_rows format_word reverse_bits_onto
+unfolding format_rows format_word binary_remainder reverse_bits_onto
 format_rows_right =
     by_version FormatRows
     (refl, refl, refl, refl) (refl, refl, refl, refl) (refl, refl, refl, refl) (refl, refl, refl, refl) (refl, refl, refl, refl)

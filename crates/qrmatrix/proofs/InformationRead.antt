@@ -74,7 +74,7 @@ VersionShown v =
     (m : ℕ → ℕ → Bool) → (nat_le 7 v ≡ true → HoldsVersion v m (version_copy_1 (side_of v)) × HoldsVersion v m (version_copy_2 (side_of v))) → shows_version v (side_of v) m ≡ true
 
 pub version_shown : (v : ℕ) → 1 ≤ v → v ≤ 10 → VersionShown v
-unfolding version_word shows_version number_of
+unfolding version_word shows_version binary_remainder number_of
 version_shown =
     by_version VersionShown
     (λ m h. refl) (λ m h. refl) (λ m h. refl) (λ m h. refl) (λ m h. refl) (λ m h. refl)

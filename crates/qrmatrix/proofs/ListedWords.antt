@@ -1,7 +1,7 @@
 -- The format and version words that ISO/IEC 18004 lists (Annexes C and D), computed, and their quotients.
 use Rattle.std.proofs.Common.{◌≡◌, ℕ, ◌*◌, ◌+◌, ◌/◌, ◌^◌, refl}
 use Rattle.std.specs.Prelude.{bit_xor}
-use Rattle.gf256.specs.BinaryPolynomial.{binary_product}
+use Rattle.gf256.specs.BinaryPolynomial.{binary_product, binary_remainder}
 use Rattle.gf256.proofs.ProductRemainders.{binary_quotient, binary_quotient-lt}
 use Rattle.labelcore.specs.declared.options.Level.{Level}
 use Rattle.labelcore.specs.declared.options.Level.TheVariants.{L, M, Q, H}
@@ -10,11 +10,11 @@ use Rattle.qrmatrix.proofs.EachVersion.{by_version}
 use Rattle.qrmatrix.proofs.InformationRead.{by_mask}
 
 pub listed_format_words : FormatWordsAreListed
-unfolding format_word
-listed_format_words = record { low = refl; medium = refl; quartile = refl; high = refl }
+unfolding format_word binary_remainder
+listed_format_words = refl
 
 pub listed_version_words : VersionWordsAreListed
-unfolding version_word
+unfolding version_word binary_remainder
 listed_version_words = refl
 
 -- a word whose division by the generator leaves nothing
@@ -37,7 +37,7 @@ abbrev FormatCode : Level → ℕ → Type 0
 FormatCode level mask = IsCodeword 10 0x537 5 (level_indicator level * 8 + mask) (bit_xor 0x5412 (format_word level mask))
 
 pub format_codewords : FormatWordsAreCodewords
-unfolding format_word binary_product binary_quotient
+unfolding format_word binary_remainder binary_product binary_quotient
 format_codewords L =
     by_mask (FormatCode L) (format_code L 0 refl refl) (format_code L 1 refl refl) (format_code L 2 refl refl) (format_code L 3 refl refl)
     (format_code L 4 refl refl) (format_code L 5 refl refl) (format_code L 6 refl refl) (format_code L 7 refl refl)
@@ -56,7 +56,7 @@ version_code : (v : ℕ) → version_word v / 2 ^ 12 ≡ v → version_word v �
 version_code v = divided 12 0x1F25 6 v (version_word v)
 
 pub version_codewords : VersionWordsAreCodewords
-unfolding version_word binary_product binary_quotient
+unfolding version_word binary_remainder binary_product binary_quotient
 version_codewords =
     by_version (λ v. IsCodeword 12 0x1F25 6 v (version_word v))
     (version_code 1 refl refl) (version_code 2 refl refl) (version_code 3 refl refl) (version_code 4 refl refl) (version_code 5 refl refl)

@@ -2,7 +2,8 @@
 -- A pattern is `Some true` where it has a dark module, `Some false` where it has a light one, and `None` where it has
 -- none.
 use Rattle.std.specs.Prelude.{ℕ, ◌+◌, ◌-◌, ◌*◌, ◌%◌, max, Bool, true, false, not, ◌&&◌, ◌==◌, nat_lt, nat_le}
-use Rattle.std.specs.Prelude.{if◌then◌else◌, List, [], ◌∷◌, Option, None, Some, is_none, slice_index_or}
+use Rattle.std.specs.Prelude.{if◌then◌else◌, List, [], ◌∷◌, Option, None, Some, is_none, slice_get, slice_index_or}
+use Rattle.std.specs.List.{filter_map, flat_map}
 use Rattle.std.specs.Option.{option_or, option_map_or}
 use Rattle.labelcore.specs.declared.options.Level.{Level}
 use Rattle.qrdata.specs.Versions.{side_of}
@@ -10,8 +11,7 @@ use Rattle.qrmatrix.specs.Bits.{bit}
 use Rattle.qrmatrix.specs.Information.{format_word, version_word}
 
 -- what a module is there for: a function pattern, dark where true; a bit of the format word; a bit of the version
--- word; or
--- the codewords
+-- word; or the codewords
 pub data Role : Type 0 where
   Function : (dark : Bool) → Role
   Format : (i : ℕ) → Role
@@ -28,8 +28,7 @@ ring a b x y = max (distance a x) (distance b y)
 
 -- a finder pattern of 7x7 modules with its separator, dark but for the rings 2 and 4
 abbrev pub finder_at : ℕ → ℕ → ℕ → ℕ → Option Bool
-finder_at a b x y =
-    let r = ring a b x y in if nat_le r 4 then Some (not (r == 2) && not (r == 4)) else None
+finder_at a b x y = let r = ring a b x y in if nat_le r 4 then Some (not (r == 2) && not (r == 4)) else None
 
 -- the three finder patterns of a symbol of n by n modules
 unfoldable pub finder : ℕ → ℕ → ℕ → Option Bool
@@ -42,59 +41,36 @@ alignment_at a b x y = let r = ring a b x y in if nat_le r 2 then Some (not (r =
 -- the row and column coordinates of the centres of the alignment patterns (Table E.1)
 unfoldable pub alignment_coordinates : ℕ → List ℕ
 alignment_coordinates v =
-    slice_index_or
-    ([] ∷ [] ∷ (6 ∷ 18 ∷ []) ∷ (6 ∷ 22 ∷ []) ∷ (6 ∷ 26 ∷ []) ∷ (6 ∷ 30 ∷ []) ∷ (6 ∷ 34 ∷ [])
-    ∷ (6 ∷ 22 ∷ 38 ∷ []) ∷ (6 ∷ 24 ∷ 42 ∷ []) ∷ (6 ∷ 26 ∷ 46 ∷ []) ∷ (6 ∷ 28 ∷ 50 ∷ []) ∷ [])
-    v []
+    slice_index_or ([] ∷ [] ∷ (6 ∷ 18 ∷ []) ∷ (6 ∷ 22 ∷ []) ∷ (6 ∷ 26 ∷ []) ∷ (6 ∷ 30 ∷ []) ∷ (6 ∷ 34 ∷ [])
+    ∷ (6 ∷ 22 ∷ 38 ∷ []) ∷ (6 ∷ 24 ∷ 42 ∷ []) ∷ (6 ∷ 26 ∷ 46 ∷ []) ∷ (6 ∷ 28 ∷ 50 ∷ []) ∷ []) v []
 
--- the alignment pattern with its centre at (a, b), if no finder pattern has that module
-abbrev pub alignment_off_finders : ℕ → ℕ → ℕ → ℕ → ℕ → Option Bool
-alignment_off_finders n a b x y = if is_none (finder n a b) then alignment_at a b x y else None
-
--- the first pattern that has a module, among those at the coordinates
-abbrev pub first_some : (ℕ → Option Bool) → List ℕ → Option Bool
-first_some at [] = None
-first_some at (a ∷ rest) = option_or (at a) (first_some at rest)
-
--- the alignment patterns with their centres in column a
-abbrev pub alignment_in : ℕ → ℕ → List ℕ → ℕ → ℕ → Option Bool
-alignment_in n a rows x y = first_some (λ b. alignment_off_finders n a b x y) rows
-
--- the alignment patterns with their centres in these columns and rows
-abbrev pub alignment_over : ℕ → List ℕ → List ℕ → ℕ → ℕ → Option Bool
-alignment_over n columns rows x y = first_some (λ a. alignment_in n a rows x y) columns
-
--- the alignment patterns of a version
+-- the alignment patterns of a version: one about each place of two of the coordinates that no finder pattern has
 unfoldable pub alignment : ℕ → ℕ → ℕ → Option Bool
 unfolding alignment_coordinates finder
-alignment v x y = alignment_over (side_of v) (alignment_coordinates v) (alignment_coordinates v) x y
+alignment v x y =
+    let lines = alignment_coordinates v in
+    let at = λ (a b : ℕ). if is_none (finder (side_of v) a b) then alignment_at a b x y else None in
+    slice_get (flat_map (λ a. filter_map (at a) lines) lines) 0
 
 -- the timing patterns in column 6 and row 6, dark at even places
 unfoldable pub timing : ℕ → ℕ → Option Bool
-timing x y = if x == 6 then Some (y % 2 == 0) else (if y == 6 then Some (x % 2 == 0) else None)
+timing x y = if x == 6 then Some (y % 2 == 0) else if y == 6 then Some (x % 2 == 0) else None
 
 -- which bit of the format word stands at a place, in either of its two copies
 unfoldable pub format_bit : ℕ → ℕ → ℕ → Option ℕ
 format_bit n x y =
     if x == 8 then
-    (if nat_lt y 6 then Some y
-    else (if y == 7 then Some 6
-    else (if y == 8 then Some 7
-    else (if nat_le (n - 7) y then Some (y + 15 - n)
-    else None))))
-    else (if y == 8 then
-    (if nat_lt x 6 then Some (14 - x)
-    else (if x == 7 then Some 8
-    else (if nat_le (n - 8) x then Some (n - 1 - x)
-    else None)))
-    else None)
+    (if nat_lt y 6 then Some y else if y == 7 then Some 6 else if y == 8 then Some 7
+    else if nat_le (n - 7) y then Some (y + 15 - n) else None)
+    else if y == 8 then
+    (if nat_lt x 6 then Some (14 - x) else if x == 7 then Some 8 else if nat_le (n - 8) x then Some (n - 1 - x) else None)
+    else None
 
 -- which bit of the version word stands at a place, in either of its two copies
 unfoldable pub version_bit : ℕ → ℕ → ℕ → Option ℕ
 version_bit n x y =
     if nat_lt x 6 && (nat_le (n - 11) y && nat_lt y (n - 8)) then Some (3 * x + (y - (n - 11)))
-    else (if nat_lt y 6 && (nat_le (n - 11) x && nat_lt x (n - 8)) then Some (3 * y + (x - (n - 11)))
-    else None)
+    else if nat_lt y 6 && (nat_le (n - 11) x && nat_lt x (n - 8)) then Some (3 * y + (x - (n - 11))) else None
 
 -- the module beside the lower left finder pattern that is always dark
 unfoldable pub is_dark_module : ℕ → ℕ → ℕ → Bool
@@ -104,12 +80,10 @@ is_dark_module n x y = (x == 8) && (y == n - 8)
 unfoldable pub role : ℕ → ℕ → ℕ → Role
 unfolding finder alignment timing format_bit version_bit is_dark_module
 role v x y =
-    option_map_or Function (finder (side_of v) x y)
-    (option_map_or Function (alignment v x y)
-    (option_map_or Function (timing x y)
-    (option_map_or Format (format_bit (side_of v) x y)
+    option_map_or Function (finder (side_of v) x y) (option_map_or Function (alignment v x y)
+    (option_map_or Function (timing x y) (option_map_or Format (format_bit (side_of v) x y)
     (if is_dark_module (side_of v) x y then Function true
-    else (if nat_le 7 v then option_map_or Version (version_bit (side_of v) x y) Free else Free)))))
+    else if nat_le 7 v then option_map_or Version (version_bit (side_of v) x y) Free else Free))))
 
 -- the module that a role fixes for a version, a level and a mask
 abbrev pub fixed_by : ℕ → Level → ℕ → Role → Option Bool
@@ -120,17 +94,13 @@ fixed_by v level mask Free = None
 
 -- the module at column x and row y, where the codewords do not choose it
 unfoldable pub fixed : ℕ → Level → ℕ → ℕ → ℕ → Option Bool
-unfolding role format_word version_word
 fixed v level mask x y = fixed_by v level mask (role v x y)
 
 -- whether the codewords choose the module
 abbrev pub is_free_role : Role → Bool
-is_free_role (Function b) = false
-is_free_role (Format i) = false
-is_free_role (Version i) = false
 is_free_role Free = true
+is_free_role other = false
 
 -- whether the codewords choose the module
 unfoldable pub is_free : ℕ → ℕ → ℕ → Bool
-unfolding role
 is_free v x y = is_free_role (role v x y)

@@ -1,6 +1,6 @@
 -- The format and version information of a QR symbol as numbers (ISO/IEC 18004, 7.9, 7.10 and Annexes C and D).
 use Rattle.std.specs.Prelude.{◌≡◌, ℕ, ◌+◌, ◌*◌, ◌/◌, ◌^◌, ◌<◌, ◌≤◌, bit_xor, List, [], ◌∷◌, map}
-use Rattle.std.specs.List.{range_with_len}
+use Rattle.std.specs.List.{flat_map, range_with_len}
 use Rattle.gf256.specs.BinaryPolynomial.{binary_product, binary_remainder}
 use Rattle.labelcore.specs.declared.options.Level.{Level}
 use Rattle.labelcore.specs.declared.options.Level.TheVariants.{L, M, Q, H}
@@ -14,25 +14,20 @@ level_indicator H = 2
 
 -- level indicator, mask reference and ten check bits of the code by 0x537, with the mask 0x5412 laid over
 unfoldable pub format_word : Level → ℕ → ℕ
-unfolding binary_remainder
 format_word level mask =
     let message = (level_indicator level * 8 + mask) * 2 ^ 10 in
     bit_xor 0x5412 (message + binary_remainder 10 0x537 5 message)
 
--- the format words of a level with the masks 0 to 7
-abbrev pub format_words : Level → List ℕ
-format_words level = map (format_word level) (range_with_len 0 8)
-
--- the 32 format words that the standard lists (Annex C)
-pub record FormatWordsAreListed : Type 0 where
-  pub low : format_words L ≡ 0x77C4 ∷ 0x72F3 ∷ 0x7DAA ∷ 0x789D ∷ 0x662F ∷ 0x6318 ∷ 0x6C41 ∷ 0x6976 ∷ []
-  pub medium : format_words M ≡ 0x5412 ∷ 0x5125 ∷ 0x5E7C ∷ 0x5B4B ∷ 0x45F9 ∷ 0x40CE ∷ 0x4F97 ∷ 0x4AA0 ∷ []
-  pub quartile : format_words Q ≡ 0x355F ∷ 0x3068 ∷ 0x3F31 ∷ 0x3A06 ∷ 0x24B4 ∷ 0x2183 ∷ 0x2EDA ∷ 0x2BED ∷ []
-  pub high : format_words H ≡ 0x1689 ∷ 0x13BE ∷ 0x1CE7 ∷ 0x19D0 ∷ 0x0762 ∷ 0x0255 ∷ 0x0D0C ∷ 0x083B ∷ []
+-- the 32 format words that the standard lists (Annex C), those of a level with the masks 0 to 7 on a line
+abbrev pub FormatWordsAreListed : Type 0
+FormatWordsAreListed = flat_map (λ level. map (format_word level) (range_with_len 0 8)) (L ∷ M ∷ Q ∷ H ∷ []) ≡
+    0x77C4 ∷ 0x72F3 ∷ 0x7DAA ∷ 0x789D ∷ 0x662F ∷ 0x6318 ∷ 0x6C41 ∷ 0x6976 ∷
+    0x5412 ∷ 0x5125 ∷ 0x5E7C ∷ 0x5B4B ∷ 0x45F9 ∷ 0x40CE ∷ 0x4F97 ∷ 0x4AA0 ∷
+    0x355F ∷ 0x3068 ∷ 0x3F31 ∷ 0x3A06 ∷ 0x24B4 ∷ 0x2183 ∷ 0x2EDA ∷ 0x2BED ∷
+    0x1689 ∷ 0x13BE ∷ 0x1CE7 ∷ 0x19D0 ∷ 0x0762 ∷ 0x0255 ∷ 0x0D0C ∷ 0x083B ∷ []
 
 -- the version and twelve check bits of the code by 0x1F25
 unfoldable pub version_word : ℕ → ℕ
-unfolding binary_remainder
 version_word v = let message = v * 2 ^ 12 in message + binary_remainder 12 0x1F25 6 message
 
 -- the version words that the standard lists (Annex D), versions 7 to 10
@@ -49,8 +44,7 @@ pub record IsCodeword (degree generator terms message word : ℕ) : Type 0 where
 
 -- each format word, its mask taken off, is a codeword by x^10 + x^8 + x^5 + x^4 + x^2 + x + 1 (Annex C)
 abbrev pub FormatWordsAreCodewords : Type 0
-FormatWordsAreCodewords =
-    (level : Level) (mask : ℕ) → mask < 8
+FormatWordsAreCodewords = (level : Level) (mask : ℕ) → mask < 8
     → IsCodeword 10 0x537 5 (level_indicator level * 8 + mask) (bit_xor 0x5412 (format_word level mask))
 
 -- each version word is a codeword by x^12 + x^11 + x^10 + x^9 + x^8 + x^5 + x^2 + 1 (Annex D)

@@ -8,7 +8,6 @@ use Rattle.qrmatrix.specs.Penalty.{penalty}
 
 -- the penalties of the symbol under the masks 0 to 7
 unfoldable pub penalties : ℕ → Level → List ℕ → List ℕ
-unfolding module_at penalty
 penalties v level words = map (λ mask. penalty (side_of v) (module_at v level mask words)) (range_with_len 0 8)
 
 -- the lowest place of a least number

@@ -1,17 +1,11 @@
 -- The eight mask patterns (ISO/IEC 18004, 7.8.2 and Table 10).
-use Rattle.std.specs.Prelude.{ℕ, ◌+◌, ◌*◌, ◌/◌, ◌%◌, Bool, true, false, not, ◌==◌, if◌then◌else◌}
+use Rattle.std.specs.Prelude.{ℕ, ◌+◌, ◌*◌, ◌/◌, ◌%◌, Bool, true, false, not, ◌==◌, [], ◌∷◌, slice_index}
 
 -- the value of a mask's formula at row i and column j
 abbrev pub mask_value : ℕ → ℕ → ℕ → ℕ
 mask_value mask i j =
-    if mask == 0 then (i + j) % 2
-    else (if mask == 1 then i % 2
-    else (if mask == 2 then j % 3
-    else (if mask == 3 then (i + j) % 3
-    else (if mask == 4 then (i / 2 + j / 3) % 2
-    else (if mask == 5 then (i * j) % 2 + (i * j) % 3
-    else (if mask == 6 then ((i * j) % 2 + (i * j) % 3) % 2
-    else ((i + j) % 2 + (i * j) % 3) % 2))))))
+    slice_index (((i + j) % 2) ∷ (i % 2) ∷ (j % 3) ∷ ((i + j) % 3) ∷ ((i / 2 + j / 3) % 2) ∷ ((i * j) % 2 + (i * j) % 3)
+    ∷ (((i * j) % 2 + (i * j) % 3) % 2) ∷ (((i + j) % 2 + (i * j) % 3) % 2) ∷ []) mask
 
 -- whether a mask flips a free module at column x and row y
 unfoldable pub is_flipped : ℕ → ℕ → ℕ → Bool

@@ -13,7 +13,6 @@ is_inside n x y = nat_lt x n && nat_lt y n
 -- whether the module at column x and row y of the symbol is dark: a fixed module, else a bit of the codewords under the
 -- mask; light outside of the symbol
 unfoldable pub module_at : ℕ → Level → ℕ → List ℕ → ℕ → ℕ → Bool
-unfolding fixed rank is_flipped
 module_at v level mask words x y =
     let chosen = flip_if (is_flipped mask x y) (codeword_bit words (rank v x y)) in
     is_inside (side_of v) x y && unwrap_or (fixed v level mask x y) chosen

@@ -20,14 +20,12 @@ key n x y =
 
 -- how many free modules have a key below k
 unfoldable pub free_below : ℕ → ℕ → ℕ
-unfolding is_free key
 free_below v k =
     let n = side_of v in
     sum_below n (λ y. count_below n (λ x. is_free v x y && nat_lt (key n x y) k))
 
 -- how many free modules are placed before the module
 unfoldable pub rank : ℕ → ℕ → ℕ → ℕ
-unfolding free_below key
 rank v x y = free_below v (key (side_of v) x y)
 
 -- bit i of the codewords, the high bit of each codeword first, and 0 past their end
@@ -36,7 +34,6 @@ codeword_bit words i = bit (slice_index words (i / 8)) (7 - i % 8)
 
 -- how many modules of a version are free
 unfoldable pub free_count : ℕ → ℕ
-unfolding is_free
 free_count v = sum_below (side_of v) (λ y. count_below (side_of v) (λ x. is_free v x y))
 
 -- the free modules that are left after the last codeword (Table 1, remainder bits)

@@ -6,6 +6,7 @@ use Rattle.std.specs.List.{range_with_len, filter}
 use Rattle.gf256.specs.BinaryPolynomial.{binary_remainder}
 use Rattle.labelcore.specs.declared.options.Level.{Level}
 use Rattle.labelcore.specs.declared.options.Level.TheVariants.{L, M, Q, H}
+use Rattle.labelcore.specs.Steps.{◌>>=◌}
 use Rattle.qrdata.specs.Bits.{number_of, codewords_of}
 use Rattle.qrdata.specs.Versions.{total_codewords, side_of}
 use Rattle.qrmatrix.specs.Counting.{all_below}
@@ -19,8 +20,7 @@ format_copy_1 =
 
 -- where the bits of the second copy of the format word stand
 abbrev pub format_copy_2 : ℕ → List (ℕ × ℕ)
-format_copy_2 n =
-    map (λ i. (n - 1 - i, 8)) (range_with_len 0 8) ++ map (λ i. (8, n - 15 + i)) (range_with_len 8 7)
+format_copy_2 n = map (λ i. (n - 1 - i, 8)) (range_with_len 0 8) ++ map (λ i. (8, n - 15 + i)) (range_with_len 8 7)
 
 -- the places of the bits of the version word, bit 0 first, in each of its two copies
 abbrev pub version_copy_1 : ℕ → List (ℕ × ℕ)
@@ -36,24 +36,21 @@ word_at m places = number_of (reverse (map (λ (p : ℕ × ℕ). m p.0 p.1) plac
 
 -- the level that an error correction level indicator stands for
 abbrev pub level_of : ℕ → Level
-level_of indicator = if indicator == 0 then M else (if indicator == 1 then L else (if indicator == 2 then H else Q))
+level_of indicator = if indicator == 0 then M else if indicator == 1 then L else if indicator == 2 then H else Q
 
 -- the level and the mask of a word that is a codeword of the format information
 abbrev pub read_format_word : ℕ → Option (Level × ℕ)
 read_format_word word =
     let codeword = bit_xor word 0x5412 in
-    if binary_remainder 10 0x537 5 codeword == 0
-    then Some (level_of (codeword / 2 ^ 13), codeword / 2 ^ 10 % 8) else None
+    if binary_remainder 10 0x537 5 codeword == 0 then Some (level_of (codeword / 2 ^ 13), codeword / 2 ^ 10 % 8) else None
 
 -- the level and the mask, where both copies of the format information agree
 unfoldable pub read_format : ℕ → (ℕ → ℕ → Bool) → Option (Level × ℕ)
-unfolding binary_remainder number_of
 read_format n m =
     if word_at m format_copy_1 == word_at m (format_copy_2 n) then read_format_word (word_at m format_copy_1) else None
 
 -- whether both copies of the version information, where the version has it, are its codeword
 unfoldable pub shows_version : ℕ → ℕ → (ℕ → ℕ → Bool) → Bool
-unfolding binary_remainder number_of
 shows_version v n m =
     let first = word_at m (version_copy_1 n) in
     let second = word_at m (version_copy_2 n) in
@@ -66,7 +63,6 @@ agrees (Some a) b = beq a b
 
 -- whether every module that the codewords do not choose is right
 unfoldable pub shows_functions : ℕ → Level → ℕ → (ℕ → ℕ → Bool) → Bool
-unfolding fixed
 shows_functions v level mask m =
     all_below (side_of v) (λ y. all_below (side_of v) (λ x. agrees (fixed v level mask x y) (m x y)))
 
@@ -90,9 +86,7 @@ walk n = strips (right_columns n) (reverse (range_with_len 0 n)) (range_with_len
 
 -- the bits of the codewords: the free modules in the order of reading, with the mask taken off
 unfoldable pub read_bits : ℕ → ℕ → (ℕ → ℕ → Bool) → List Bool
-unfolding is_free walk is_flipped
-read_bits v mask m =
-    map (λ (p : ℕ × ℕ). flip_if (is_flipped mask p.0 p.1) (m p.0 p.1))
+read_bits v mask m = map (λ (p : ℕ × ℕ). flip_if (is_flipped mask p.0 p.1) (m p.0 p.1))
     (filter (λ (p : ℕ × ℕ). is_free v p.0 p.1) (walk (side_of v)))
 
 -- what the modules say
@@ -101,19 +95,15 @@ pub record Reading : Type 0 where
   pub level : Level
   pub words : List ℕ
 
--- the reading by a format word that was read
-abbrev pub read_with : ℕ → (ℕ → ℕ → Bool) → Option (Level × ℕ) → Option Reading
-read_with v m None = None
-read_with v m (Some format) =
+-- the reading by the level and the mask that were read
+abbrev pub read_with : ℕ → (ℕ → ℕ → Bool) → Level × ℕ → Option Reading
+read_with v m format =
+    let words = codewords_of (total_codewords v) (read_bits v format.1 m) in
     if shows_version v (side_of v) m && shows_functions v format.0 format.1 m
-    then
-    (let words = codewords_of (total_codewords v) (read_bits v format.1 m) in
-    Some (record { version = v; level = format.0; words = words }))
-    else None
+    then Some (record { version = v; level = format.0; words = words }) else None
 
 -- the version, the level and the words of a symbol; there is no reading where any check fails
 unfoldable pub read_matrix : ℕ → (ℕ → ℕ → Bool) → Option Reading
-unfolding total_codewords read_format shows_version shows_functions read_bits codewords_of number_of
 read_matrix n m =
     let v = (n - 17) / 4 in
-    if (n == side_of v) && (nat_le 1 v && nat_le v 10) then read_with v m (read_format n m) else None
+    if (n == side_of v) && (nat_le 1 v && nat_le v 10) then read_format n m >>= read_with v m else None

@@ -35,7 +35,7 @@ fn format_row(n: usize, word: u32, y: usize) -> u64
 /// Draws the format information for a mask. Its modules are light before.
 pub fn draw_format(version: Version, level: Level, mask: u8, modules: &mut Square)
     requires { mask < 8 }
-    ensures { ShowsFormat version.number level mask modules.old modules.new }
+    ensures { ShowsFormat version level mask modules.old modules.new }
 {
     let word = format_word(level, mask);
     let n = version.side();

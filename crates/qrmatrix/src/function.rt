@@ -131,7 +131,7 @@ fn left_columns(n: usize, centres: u64, y: usize) -> u64
 #[tactic(auto, unfolding(crate::specs::Private::FunctionRows::alignments))]
 fn alignments(version: Version, y: usize) -> PatternRow
     requires { y < SIDE }
-    ensures { result ≡ FunctionRows.alignments version.number y }
+    ensures { result ≡ FunctionRows.alignments version y }
 {
     let centres = CENTRES[usize::from(version.number()) - 1];
     let row = alignment_row(centres, y);
@@ -209,7 +209,7 @@ fn every_third(word: u64) -> u64
 /// The version information, in the versions that have one.
 #[tactic(auto, unfolding(crate::specs::Private::FunctionRows::versions))]
 fn versions(version: Version, y: usize) -> PatternRow
-    ensures { result ≡ FunctionRows.versions version.number y }
+    ensures { result ≡ FunctionRows.versions version y }
 {
     let n = version.side();
     if version.number() < 7 {
@@ -234,8 +234,8 @@ fn versions(version: Version, y: usize) -> PatternRow
 /// information
 /// are light.
 pub fn function_row(version: Version, y: usize) -> PatternRow
-    requires { y < side_of version.number }
-    ensures { HasFunctions version.number y result }
+    requires { y < side_of version }
+    ensures { HasFunctions version y result }
 {
     let n = version.side();
     finders(n, y)

@@ -55,7 +55,7 @@ pub fn format_word(level: Level, mask: u8) -> u32
 /// The version information of 18 bits: the version with its check bits (ISO/IEC 18004, 7.10).
 #[tactic(auto, unfolding(crate::specs::Information::version_word))]
 pub fn version_word(version: Version) -> u32
-    ensures { result ≡ Information.version_word version.number }
+    ensures { result ≡ Information.version_word version }
 {
     let message = u32::from(version.number()) << 12;
     message + remainder(12, 0x1F25, 6, message)

@@ -8,10 +8,11 @@ ghost use Rattle.qrmatrix.specs.Modules.{is_inside, module_at};
 ghost use Rattle.qrmatrix.specs.Penalty;
 ghost use Rattle.qrmatrix.specs.Placement.{free_count, remainder_bits};
 ghost use Rattle.qrmatrix.specs.Reading.{read_matrix};
-ghost use Rattle.qrmatrix.specs.Symbol.{Symbol, is_dark, IsWithin};
+ghost use Rattle.qrmatrix.specs.Symbol.{Symbol, is_dark};
+ghost use Rattle.qrmatrix.specs.Private.Squares.{IsWithin};
 
 use crate::penalty::penalty;
-use crate::square::Square;
+use crate::square::{SIDE, Square};
 use crate::unmasked::Unmasked;
 use labelcore::Level;
 use qrdata::{Version, Words};
@@ -32,13 +33,14 @@ impl Model for Matrix {
 
     ghost invariant = { λ m. record {
       least : 21 ≤ m.side;
-      most : m.side ≤ 57;
+      most : m.side ≤ side_of 10;
       mask : m.mask < 8;
       within : IsWithin m.side m.modules;
     } };
 }
 
-/// What the type of bytes says of each of them.
+/// A slice of bytes has numbers below 256, which the type of an `ArrayVec` does not tell a proof. It does nothing when it
+/// runs.
 fn are_bytes(bytes: &[u8])
     ensures { All (λ b. b < 256) bytes.now }
 {}
@@ -48,20 +50,20 @@ impl Matrix {
     /// first of several (ISO/IEC 18004, 7.7 to 7.10). The modules read back as the version, the level and the
     /// codewords.
     pub fn draw(version: Version, level: Level, mask: Option<u8>, words: &Words) -> Matrix
-        requires count { length words.now.items ≡ total_codewords version.number }
+        requires count { length words.now.items ≡ total_codewords version }
         requires mask { IfSome mask (λ k. k < 8) }
-        ensures side { result.side ≡ side_of version.number }
-        ensures mask { result.mask ≡ chosen_mask version.number level mask words.now.items }
+        ensures side { result.side ≡ side_of version }
+        ensures mask { result.mask ≡ chosen_mask version level mask words.now.items }
         ensures modules { (x y : ℕ) → is_dark result x y
-            ≡ module_at version.number level result.mask words.now.items x y }
+            ≡ module_at version level result.mask words.now.items x y }
         ensures outside { (x y : ℕ) → is_inside result.side x y ≡ false
             → is_dark result x y ≡ false }
         ensures reads { read_matrix result.side (is_dark result)
-            ≡ Some (record { version = version.number; level = level; words = words.now.items }) }
+            ≡ Some (record { version = version; level = level; words = words.now.items }) }
 
         // No codeword is left out, and only the remainder bits hold none.
-        ensures room { free_count version.number
-            ≡ 8 * length words.now.items + remainder_bits version.number }
+        ensures room { free_count version
+            ≡ 8 * length words.now.items + remainder_bits version }
     {
         are_bytes(words);
         let unmasked = Unmasked::draw(version, level, words);
@@ -86,10 +88,10 @@ impl Matrix {
     }
 
     /// The rows as words: bit x of word y is the module at column x and row y, and the bits from the side on are 0.
-    pub fn rows(&self) -> &[u64; 57]
+    pub fn rows(&self) -> &[u64; SIDE]
         ensures bits { (x y : ℕ) → bit (slice_index result.now y) x
             ≡ (is_inside self.now.side x y && is_dark self.now x y) }
-        ensures bound { self.now.side ≤ 57 }
+        ensures bound { self.now.side ≤ side_of 10 }
     {
         self.modules.rows()
     }
@@ -97,7 +99,7 @@ impl Matrix {
     /// The number of modules on a side.
     pub fn side(&self) -> usize
         ensures value { result ≡ self.now.side }
-        ensures bound { result ≤ 57 }
+        ensures bound { result ≤ side_of 10 }
     {
         self.side
     }

@@ -103,15 +103,15 @@ fn place_two(two: u64, modules: &mut Square, x: usize, y: usize)
 /// Places the codewords on the free modules, strip after strip from the right, upwards and downwards in turn (ISO/IEC
 /// 18004, 7.7.3).
 pub fn place(version: Version, words: &Words, function: &Square, modules: &mut Square)
-    requires marked { MarksFunctions version.number function.now }
-    requires light { (x y : ℕ) → x < side_of version.number → y < side_of version.number
-        → is_free version.number x y ≡ true → value_at modules.old x y ≡ false }
-    ensures placed { (x y : ℕ) → x < side_of version.number → y < side_of version.number
-        → is_free version.number x y ≡ true → value_at modules.new x y
-        ≡ Placement.codeword_bit words.now.items (rank version.number x y) }
-    ensures others { (x y : ℕ) → x < side_of version.number → y < side_of version.number
-        → is_free version.number x y ≡ false → value_at modules.new x y ≡ value_at modules.old x y }
-    ensures outside { SameOutside (side_of version.number) modules.old modules.new }
+    requires marked { MarksFunctions version function.now }
+    requires light { (x y : ℕ) → x < side_of version → y < side_of version
+        → is_free version x y ≡ true → value_at modules.old x y ≡ false }
+    ensures placed { (x y : ℕ) → x < side_of version → y < side_of version
+        → is_free version x y ≡ true → value_at modules.new x y
+        ≡ Placement.codeword_bit words.now.items (rank version x y) }
+    ensures others { (x y : ℕ) → x < side_of version → y < side_of version
+        → is_free version x y ≡ false → value_at modules.new x y ≡ value_at modules.old x y }
+    ensures outside { SameOutside (side_of version) modules.old modules.new }
 {
     let n = version.side();
     let pairs = word_pairs(words);

@@ -22,10 +22,10 @@ use qrdata::{Version, Words};
 fn draw_functions(version: Version, function: &mut Square, modules: &mut Square)
     requires blank_function { (x y : ℕ) → value_at function.old x y ≡ false }
     requires blank_modules { (x y : ℕ) → value_at modules.old x y ≡ false }
-    ensures marked { MarksFunctions version.number function.new }
-    ensures drawn { (x y : ℕ) → x < side_of version.number → y < side_of version.number
-        → value_at modules.new x y ≡ drawn_by version.number (role version.number x y) }
-    ensures outside { SameOutside (side_of version.number) modules.old modules.new }
+    ensures marked { MarksFunctions version function.new }
+    ensures drawn { (x y : ℕ) → x < side_of version → y < side_of version
+        → value_at modules.new x y ≡ drawn_by version (role version x y) }
+    ensures outside { SameOutside (side_of version) modules.old modules.new }
 {
     let n = version.side();
     for y in 0..n {
@@ -69,7 +69,7 @@ impl Unmasked {
     pub fn under(&self, mask: u8) -> Square
         requires { mask < 8 }
         ensures { (words : List ℕ) → Places self.now words → (x y : ℕ) → value_at result x y
-            ≡ module_at self.now.version.number self.now.level mask words x y }
+            ≡ module_at self.now.version self.now.level mask words x y }
     {
         let mut modules = self.modules.copied();
         draw_format(self.version, self.level, mask, &mut modules);
@@ -81,8 +81,8 @@ impl Unmasked {
     fn penalty_under(&self, mask: u8) -> u32
         requires { mask < 8 }
         ensures { (words : List ℕ) → Places self.now words → result
-            ≡ Penalty.penalty (side_of self.now.version.number)
-            (module_at self.now.version.number self.now.level mask words) }
+            ≡ Penalty.penalty (side_of self.now.version)
+            (module_at self.now.version self.now.level mask words) }
     {
         penalty(&self.under(mask), self.version.side())
     }
@@ -90,7 +90,7 @@ impl Unmasked {
     /// The first mask of the least penalty (ISO/IEC 18004, 7.8.1).
     pub fn least_mask(&self) -> u8
         ensures value { (words : List ℕ) → Places self.now words → result
-            ≡ least_place (penalties self.now.version.number self.now.level words) }
+            ≡ least_place (penalties self.now.version self.now.level words) }
         ensures bound { result < 8 }
     {
         let mut best = 0;

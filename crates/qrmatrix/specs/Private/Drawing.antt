@@ -55,7 +55,7 @@ pub record IsUnmasked (v : ℕ) (words : List ℕ) (function modules : List (Lis
 
 -- the codewords are placed in a drawing
 abbrev pub Places : Unmasked → List ℕ → Type 0
-Places unmasked words = IsUnmasked unmasked.version.number words unmasked.function unmasked.modules
+Places unmasked words = IsUnmasked unmasked.version words unmasked.function unmasked.modules
 
 -- the modules of the format information are drawn for a mask, where they were light
 pub record ShowsFormat (v : ℕ) (level : Level) (mask : ℕ) (old new : List (List Bool)) : Type 0 where

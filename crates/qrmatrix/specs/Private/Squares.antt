@@ -1,5 +1,6 @@
 -- What an operation changes of a square of truth values.
-use Rattle.std.specs.Prelude.{◌≡◌, ◌≤◌, ◌+◌, ℕ, Bool, List, if◌then◌else◌, ◌==◌, ◌&&◌}
+use Rattle.std.specs.Prelude.{◌≡◌, ◌≤◌, ◌+◌, ℕ, Bool, false, List, if◌then◌else◌, ◌==◌, ◌&&◌}
+use Rattle.qrmatrix.specs.Modules.{is_inside}
 use Rattle.qrmatrix.specs.Square.{value_at}
 
 -- new is old with a value written at column x and row y
@@ -12,6 +13,10 @@ abbrev pub WritesTwo : List (List Bool) → List (List Bool) → ℕ → ℕ →
 WritesTwo old new x y value next =
     (a b : ℕ) → value_at new a b
     ≡ (if (a == x) && (b == y) then value else (if (a == x + 1) && (b == y) then next else value_at old a b))
+
+-- no value outside of n columns and rows is true
+abbrev pub IsWithin : ℕ → List (List Bool) → Type 0
+IsWithin n rows = (x y : ℕ) → is_inside n x y ≡ false → value_at rows x y ≡ false
 
 -- the places outside n columns and rows are as they were
 pub record SameOutside (n : ℕ) (old new : List (List Bool)) : Type 0 where

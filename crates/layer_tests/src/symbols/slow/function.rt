@@ -190,8 +190,8 @@ fn alignment(version: Version, x: usize, y: usize) -> Option<bool> {
 /// Whether the module at column `x` and row `y` is dark, where the codewords do not choose it (ISO/IEC 18004, 6.3, 7.9
 /// and 7.10).
 pub fn fixed(version: Version, level: Level, mask: u8, x: usize, y: usize) -> Option<bool>
-    requires column { x < side_of version.number }
-    requires row { y < side_of version.number }
+    requires column { x < side_of version }
+    requires row { y < side_of version }
     requires mask { mask < 8 }
 {
     let n = version.side();

@@ -5,8 +5,8 @@ use Rattle.qrdata.proofs.table.fill.Given as goal
 -- the table is filled from here on, and these are the choices of the bytes from here on
 abbrev pub invariant-loop-place : goal.invariant-loop-place
 invariant-loop-place l = (l.place ≤ length l.bytes)
-    × HasFirsts l.version.number l.bytes l.place l.firsts
-    × (l.choices ≡ choices_of l.version.number (drop l.place l.bytes))
+    × HasFirsts l.version l.bytes l.place l.firsts
+    × (l.choices ≡ choices_of l.version (drop l.place l.bytes))
 
 abbrev pub decreases-loop-place : goal.decreases-loop-place
 decreases-loop-place l = l.place

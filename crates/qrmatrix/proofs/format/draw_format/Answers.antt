@@ -13,14 +13,14 @@ use Rattle.qrmatrix.proofs.format.draw_format.Goals as goal
 pub flip-requires-clause-word : goal.flip-requires-clause-word
 flip-requires-clause-word c =
     let v = c.args.version in
-    let shows = row_shows v.number c.side-n.result c.format_word-word.result c.format_row.result c.args.level c.args.mask c.loop-y.y v.at_least v.at_most c.requires (omega arith) c.side-n.ensures c.format_word-word.ensures c.format_row.ensures in
-    fits v.number c.format_row.result v.at_most shows.narrow
+    let shows = row_shows v c.side-n.result c.format_word-word.result c.format_row.result c.args.level c.args.mask c.loop-y.y c.side-n.ensures.known.0 c.side-n.ensures.known.1 c.requires (omega arith) c.side-n.ensures.value c.format_word-word.ensures c.format_row.ensures in
+    fits v c.format_row.result c.side-n.ensures.known.1 shows.narrow
 
 pub loop-y-preserved : goal.loop-y-preserved
 loop-y-preserved c =
-    let v = c.args.version.number in
+    let v = c.args.version in
     let y = c.loop-y.y in
-    let shows = row_shows v c.side-n.result c.format_word-word.result c.format_row.result c.args.level c.args.mask y c.args.version.at_least c.args.version.at_most c.requires (omega arith) c.side-n.ensures c.format_word-word.ensures c.format_row.ensures in
+    let shows = row_shows v c.side-n.result c.format_word-word.result c.format_row.result c.args.level c.args.mask y c.side-n.ensures.known.0 c.side-n.ensures.known.1 c.requires (omega arith) c.side-n.ensures.value c.format_word-word.ensures c.format_row.ensures in
     record {
       modules = row_turned (side_of v) y c.format_row.result c.args.modules.now c.loop-y.modules c.flip.new.self
           (λ x y. flip_if (format_by (format_word c.args.level c.args.mask) (role v x y)) (value_at c.args.modules.now x y)) c.loop-y.invariant.modules c.flip.ensures
@@ -31,7 +31,7 @@ loop-y-preserved c =
 
 pub loop-y-2-init : goal.loop-y-2-init
 loop-y-2-init c =
-    let v = c.args.version.number in
+    let v = c.args.version in
     let word = format_word c.args.level c.args.mask in
     let old = c.args.modules.now in
     let target : ℕ → ℕ → Bool = λ x y. flip_if (format_by word (role v x y)) (value_at old x y) in
@@ -39,21 +39,21 @@ loop-y-2-init c =
     let first : Mapped (side_of v) old c.loop-y.modules target 9 0 = subst (λ k. Mapped (side_of v) old c.loop-y.modules target k 0) ended c.loop-y.invariant.modules in
     record {
       modules = rows_kept (side_of v) 9 (c.side-n.result - 7) old c.loop-y.modules target first (omega arith)
-          (λ x y lx low high. ap (λ z. flip_if z (value_at old x y)) (format_between v c.args.version.at_least c.args.version.at_most c.args.level c.args.mask x y c.requires lx low (omega arith)));
-      width = c.side-n.ensures;
+          (λ x y lx low high. ap (λ z. flip_if z (value_at old x y)) (format_between v c.side-n.ensures.known.0 c.side-n.ensures.known.1 c.args.level c.args.mask x y c.requires lx low (omega arith)));
+      width = c.side-n.ensures.value;
     }
 
 pub flip-requires-in-loop-y-2-clause-word : goal.flip-requires-in-loop-y-2-clause-word
 flip-requires-in-loop-y-2-clause-word c =
     let v = c.args.version in
-    let shows = row_shows v.number c.side-n.result c.format_word-word.result c.format_row-in-loop-y-2.result c.args.level c.args.mask c.loop-y-2.y v.at_least v.at_most c.requires (omega arith) c.side-n.ensures c.format_word-word.ensures c.format_row-in-loop-y-2.ensures in
-    fits v.number c.format_row-in-loop-y-2.result v.at_most shows.narrow
+    let shows = row_shows v c.side-n.result c.format_word-word.result c.format_row-in-loop-y-2.result c.args.level c.args.mask c.loop-y-2.y c.side-n.ensures.known.0 c.side-n.ensures.known.1 c.requires (omega arith) c.side-n.ensures.value c.format_word-word.ensures c.format_row-in-loop-y-2.ensures in
+    fits v c.format_row-in-loop-y-2.result c.side-n.ensures.known.1 shows.narrow
 
 pub loop-y-2-preserved : goal.loop-y-2-preserved
 loop-y-2-preserved c =
-    let v = c.args.version.number in
+    let v = c.args.version in
     let y = c.loop-y-2.y in
-    let shows = row_shows v c.side-n.result c.format_word-word.result c.format_row-in-loop-y-2.result c.args.level c.args.mask y c.args.version.at_least c.args.version.at_most c.requires (omega arith) c.side-n.ensures c.format_word-word.ensures c.format_row-in-loop-y-2.ensures in
+    let shows = row_shows v c.side-n.result c.format_word-word.result c.format_row-in-loop-y-2.result c.args.level c.args.mask y c.side-n.ensures.known.0 c.side-n.ensures.known.1 c.requires (omega arith) c.side-n.ensures.value c.format_word-word.ensures c.format_row-in-loop-y-2.ensures in
     record {
       modules = row_turned (side_of v) y c.format_row-in-loop-y-2.result c.args.modules.now c.loop-y-2.modules c.flip-in-loop-y-2.new.self
           (λ x y. flip_if (format_by (format_word c.args.level c.args.mask) (role v x y)) (value_at c.args.modules.now x y)) c.loop-y-2.invariant.modules c.flip-in-loop-y-2.ensures
@@ -64,7 +64,7 @@ loop-y-2-preserved c =
 
 pub returns : goal.returns
 returns c =
-    let n = side_of c.args.version.number in
+    let n = side_of c.args.version in
     let e : n ≡ c.loop-y-2.y = omega arith in
     record {
       inside = λ x y lx ly. c.loop-y-2.invariant.modules.above x y lx (omega arith);

@@ -10,16 +10,16 @@ use Rattle.qrmatrix.proofs.placement.place.Goals.{then-strip-eq0, else-strip-eq0
 
 pub loop-strip-init : goal.loop-strip-init
 loop-strip-init c =
-    let v = c.args.version.number in
+    let v = c.args.version in
     record {
-      placed = placed_none v (computed v c.args.version.at_least c.args.version.at_most) c.args.words.now.items _ (2 * side_of v * 0) (omega arith) c.requires.light;
+      placed = placed_none v (computed v c.side-n.ensures.known.0 c.side-n.ensures.known.1) c.args.words.now.items _ (2 * side_of v * 0) (omega arith) c.requires.light;
       pairs = subst (λ words. ArePairs words c.word_pairs-pairs.result) c.deref.ensures.0 c.word_pairs-pairs.ensures;
-      width = c.side-n.ensures;
+      width = c.side-n.ensures.value;
     }
 
 pub place_two-requires-clause-light : goal.place_two-requires-clause-light
 place_two-requires-clause-light c =
-    let v = c.args.version.number in
+    let v = c.args.version in
     let i = c.loop-t.invariant in
     let inside : c.loop-t.t < side_of v = omega arith in
     let y : c.if-strip-eq0.y ≡ row_of (side_of v) c.loop-strip.strip c.loop-t.t = elim c.if-strip-eq0.branch [
@@ -31,8 +31,8 @@ place_two-requires-clause-light c =
 
 pub loop-t-preserved : goal.loop-t-preserved
 loop-t-preserved c =
-    let v = c.args.version.number in
-    let known = computed v c.args.version.at_least c.args.version.at_most in
+    let v = c.args.version in
+    let known = computed v c.side-n.ensures.known.0 c.side-n.ensures.known.1 in
     let words = c.args.words.now.items in
     let i = c.loop-t.invariant in
     let inside : c.loop-t.t < side_of v = omega arith in
@@ -64,8 +64,8 @@ loop-t-preserved c =
 pub returns-clause-placed : goal.returns-clause-placed
 returns-clause-placed c =
     λ x y lx ly free.
-    let v = c.args.version.number in
-    let k = computed v c.args.version.at_least c.args.version.at_most in
+    let v = c.args.version in
+    let k = computed v c.side-n.ensures.known.0 c.side-n.ensures.known.1 in
     let n : c.loop-strip.strip ≡ (side_of v - 1) / 2 = omega arith in
     let b = below_at v k x y lx ly (outside_at v k x y ly free) in
     c.loop-strip.invariant.placed.placed x y lx ly free (rw n b)

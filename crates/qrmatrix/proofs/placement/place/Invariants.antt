@@ -7,16 +7,16 @@ use Rattle.qrmatrix.proofs.placement.place.Given as goal
 
 abbrev pub invariant-loop-t : goal.invariant-loop-t
 invariant-loop-t l = record {
-  placed : Placed l.fn.version.number l.words.items (value_at l.fn.modules) (value_at l.modules) l.i (2 * side_of l.fn.version.number * l.strip + 2 * l.t);
+  placed : Placed l.fn.version l.words.items (value_at l.fn.modules) (value_at l.modules) l.i (2 * side_of l.fn.version * l.strip + 2 * l.t);
   pairs : ArePairs l.words.items l.pairs;
-  width : l.n ≡ side_of l.fn.version.number;
-  right : l.right ≡ right_column (side_of l.fn.version.number) l.strip;
-  inside : l.strip < (side_of l.fn.version.number - 1) / 2;
+  width : l.n ≡ side_of l.fn.version;
+  right : l.right ≡ right_column (side_of l.fn.version) l.strip;
+  inside : l.strip < (side_of l.fn.version - 1) / 2;
 }
 
 abbrev pub invariant-loop-strip : goal.invariant-loop-strip
 invariant-loop-strip l = record {
-  placed : Placed l.fn.version.number l.words.items (value_at l.fn.modules) (value_at l.modules) l.i (2 * side_of l.fn.version.number * l.strip);
+  placed : Placed l.fn.version l.words.items (value_at l.fn.modules) (value_at l.modules) l.i (2 * side_of l.fn.version * l.strip);
   pairs : ArePairs l.words.items l.pairs;
-  width : l.n ≡ side_of l.fn.version.number;
+  width : l.n ≡ side_of l.fn.version;
 }

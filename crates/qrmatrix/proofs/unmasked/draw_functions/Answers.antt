@@ -9,14 +9,14 @@ use Rattle.qrmatrix.proofs.UnderMask.{flip_light}
 use Rattle.qrmatrix.proofs.unmasked.draw_functions.Goals as goal
 
 pub flip-requires-clause-word : goal.flip-requires-clause-word
-flip-requires-clause-word c = fits c.args.version.number c.function_row-row.result.taken c.args.version.at_most c.function_row-row.ensures.narrow_taken
+flip-requires-clause-word c = fits c.args.version c.function_row-row.result.taken c.side-n.ensures.known.1 c.function_row-row.ensures.narrow_taken
 
 pub flip-requires-in-loop-y-clause-word : goal.flip-requires-in-loop-y-clause-word
-flip-requires-in-loop-y-clause-word c = fits c.args.version.number c.function_row-row.result.dark c.args.version.at_most c.function_row-row.ensures.narrow_dark
+flip-requires-in-loop-y-clause-word c = fits c.args.version c.function_row-row.result.dark c.side-n.ensures.known.1 c.function_row-row.ensures.narrow_dark
 
 pub loop-y-preserved : goal.loop-y-preserved
 loop-y-preserved c =
-    let v = c.args.version.number in
+    let v = c.args.version in
     let n = side_of v in
     let y = c.loop-y.y in
     let row = c.function_row-row.result in

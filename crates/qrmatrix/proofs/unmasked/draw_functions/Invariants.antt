@@ -7,7 +7,7 @@ use Rattle.qrmatrix.proofs.unmasked.draw_functions.Given as goal
 
 abbrev pub invariant-loop-y : goal.invariant-loop-y
 invariant-loop-y l = record {
-  function : Mapped (side_of l.version.number) l.fn.function l.function (λ x y. not (is_free l.version.number x y)) l.y 0;
-  modules : Mapped (side_of l.version.number) l.fn.modules l.modules (λ x y. drawn_by l.version.number (role l.version.number x y)) l.y 0;
-  width : l.n ≡ side_of l.version.number;
+  function : Mapped (side_of l.version) l.fn.function l.function (λ x y. not (is_free l.version x y)) l.y 0;
+  modules : Mapped (side_of l.version) l.fn.modules l.modules (λ x y. drawn_by l.version (role l.version x y)) l.y 0;
+  width : l.n ≡ side_of l.version;
 }

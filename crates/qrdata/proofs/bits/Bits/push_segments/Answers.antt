@@ -7,7 +7,7 @@ use Rattle.qrdata.proofs.bits.Bits.push_segments.Goals as goal
 
 pub loop-segment-preserved : goal.loop-segment-preserved
 loop-segment-preserved c =
-    let version = c.args.version.number in
+    let version = c.args.version in
     let segments = c.args.segments.now in
     let bytes = c.args.bytes.now in
     let i = c.loop-segment.segment-index in
@@ -28,5 +28,5 @@ loop-segment-preserved c =
 
 pub returns : goal.returns
 returns c =
-    let none = segments_bits-none_left c.args.version.number c.args.segments.now (drop c.loop-segment.place c.args.bytes.now) c.loop-segment.segment-index c.loop-segment-test.false in
+    let none = segments_bits-none_left c.args.version c.args.segments.now (drop c.loop-segment.place c.args.bytes.now) c.loop-segment.segment-index c.loop-segment-test.false in
     rw (none, append-nil) at c.loop-segment.invariant.0

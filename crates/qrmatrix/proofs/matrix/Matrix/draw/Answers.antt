@@ -10,7 +10,7 @@ use Rattle.qrmatrix.proofs.matrix.Matrix.draw.Goals as goal
 use Rattle.qrmatrix.proofs.matrix.Matrix.draw.Goals.{in-Some, in-None}
 
 -- the modules that are drawn
-shown : (c : goal.After-under) (x y : ℕ) → value_at c.under.result x y ≡ module_at c.args.version.number c.args.level c.match-mask.mask c.args.words.now.items x y
+shown : (c : goal.After-under) (x y : ℕ) → value_at c.under.result x y ≡ module_at c.args.version c.args.level c.match-mask.mask c.args.words.now.items x y
 shown c = rw (c.draw-unmasked.ensures.version, c.draw-unmasked.ensures.level) at (c.under.ensures c.args.words.now.items c.draw-unmasked.ensures.placed)
 
 below : (c : goal.After-under) → c.match-mask.mask < 8
@@ -19,12 +19,12 @@ below c = elim c.match-mask.branch [ in-Some w ↦ search rules | in-None w ↦ 
 -- the modules outside of the side
 light : (c : goal.After-under) (x y : ℕ) → is_inside c.side.result x y ≡ false → value_at c.under.result x y ≡ false
 light c x y out =
-    shown c x y ∙ module_outside c.args.version.number c.args.level c.match-mask.mask c.args.words.now.items x y (subst (λ n. is_inside n x y ≡ false) c.side.ensures out)
+    shown c x y ∙ module_outside c.args.version c.args.level c.match-mask.mask c.args.words.now.items x y (subst (λ n. is_inside n x y ≡ false) c.side.ensures.value out)
 
 pub returns-clause-mask : goal.returns-clause-mask
 unfolding chosen_mask
 returns-clause-mask c =
-    let chosen = λ (z : Option ℕ). chosen_mask c.args.version.number c.args.level z c.args.words.now.items in
+    let chosen = λ (z : Option ℕ). chosen_mask c.args.version c.args.level z c.args.words.now.items in
     elim c.match-mask.branch [
       | in-Some w ↦ w.mask-is ∙ sym (ap chosen w.in-Some.is)
       | in-None w ↦
@@ -39,22 +39,22 @@ returns-clause-outside c = light c
 
 pub returns-clause-reads : goal.returns-clause-reads
 returns-clause-reads c =
-    let v = c.args.version.number in
+    let v = c.args.version in
     let words = c.args.words.now.items in
     let mask = c.match-mask.mask in
     let bytes : All (λ w. w < 256) words = rw c.deref.ensures.0 at c.are_bytes.ensures in
     let same : value_at c.under.result ≡ module_at v c.args.level mask words = fun_ext (λ x. fun_ext (λ y. shown c x y)) in
-    rw (same, c.side.ensures) (reads_back v c.args.level mask words c.args.version.at_least c.args.version.at_most (below c) c.requires.count bytes)
+    rw (same, c.side.ensures.value) (reads_back v c.args.level mask words c.side.ensures.known.0 c.side.ensures.known.1 (below c) c.requires.count bytes)
 
 pub returns-clause-room : goal.returns-clause-room
 returns-clause-room c =
-    rw c.requires.count (computed c.args.version.number c.args.version.at_least c.args.version.at_most).count
+    rw c.requires.count (computed c.args.version c.side.ensures.known.0 c.side.ensures.known.1).count
 
 pub invariant_of-result : goal.invariant_of-result
 invariant_of-result c =
     record {
-      least = let a = c.args.version.at_least in omega arith;
-      most = let a = c.args.version.at_most in omega arith;
+      least = let a = c.side.ensures.known.0 in omega arith;
+      most = let a = c.side.ensures.known.1 in omega arith;
       mask = below c;
       within = light c;
     }

@@ -6,7 +6,7 @@ use Rattle.qrmatrix.proofs.unmasked.Unmasked.draw.Goals as goal
 pub place-requires-clause-light : goal.place-requires-clause-light
 unfolding is_free
 place-requires-clause-light c =
-    λ x y lx ly free. c.draw_functions.ensures.drawn x y lx ly ∙ free_is_light c.args.version.number (role c.args.version.number x y) free
+    λ x y lx ly free. c.draw_functions.ensures.drawn x y lx ly ∙ free_is_light c.args.version (role c.args.version x y) free
 
 pub returns-clause-placed : goal.returns-clause-placed
 returns-clause-placed c =

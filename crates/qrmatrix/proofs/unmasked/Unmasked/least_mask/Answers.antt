@@ -9,7 +9,7 @@ use Rattle.qrmatrix.proofs.unmasked.Unmasked.least_mask.Goals as goal
 pub returns-clause-value : goal.returns-clause-value
 unfolding penalties
 returns-clause-value c = λ words u.
-    let v = c.args.self.now.version.number in
+    let v = c.args.self.now.version in
     let f : ℕ → ℕ = λ k. penalty (side_of v) (module_at v c.args.self.now.level k words) in
     let e : c.loop-mask.mask ≡ 8 = omega arith in
     sym (least_of_eight f c.loop-mask.best (subst (λ n. Found f n c.loop-mask.best c.loop-mask.least) e (c.loop-mask.invariant.found words u)).least)

@@ -10,7 +10,7 @@ use Rattle.qrmatrix.proofs.unmasked.Unmasked.under.Goals as goal
 pub returns : goal.returns
 returns c =
     λ words u x y.
-    let v = c.args.self.now.version.number in
+    let v = c.args.self.now.version in
     let level = c.args.self.now.level in
     let mask = c.args.mask in
     let old = c.args.self.now.modules in
