@@ -1,5 +1,5 @@
 -- What is drawn as EAN or UPC is read back (ISO/IEC 15420, symbol formats).
-use Rattle.std.proofs.Common.{◌≡◌, ℕ, ◌+◌, ◌-◌, ◌*◌, ◌<◌, Bool, true, cond, Ok, Some, None, Option, List, [], ◌∷◌, ◌++◌, length, take, drop, refl, sym, ap, subst, ◌∙◌, arith, length-append, append_assoc, eq-eqb, inl, inr, map, ◌%◌, lit≤}
+use Rattle.std.proofs.Common.{◌≡◌, ℕ, ◌+◌, ◌-◌, ◌*◌, ◌<◌, Bool, true, cond, Some, None, Option, List, [], ◌∷◌, ◌++◌, length, take, drop, refl, sym, ap, subst, ◌∙◌, arith, length-append, append_assoc, eq-eqb, inl, inr, map, ◌%◌, lit≤}
 use Rattle.std.specs.Prelude.{option_map, option_and_then, flat_map, replicate, slice_index, All, IfOk}
 use Rattle.std.specs.Option.{option_zip}
 use Rattle.std.specs.Char.{IsAsciiDigit}

@@ -56,6 +56,7 @@ fn push_characters(row: &mut Row, values: &[u8])
 }
 
 /// Appends the stop character.
+#[tactic(auto, using(crate::proofs::TableForms::stop))]
 fn push_stop(row: &mut Row)
     requires { array_vec_len row.old + 13 ≤ MAX_MODULES }
     ensures drawn { row.new.items ≡ row.old.items ++ character_bars 106 }
