@@ -1,5 +1,7 @@
 -- What is drawn as Code 128 is read back (ISO/IEC 15417, symbol structure).
-use Rattle.std.proofs.Common.{◌≡◌, ℕ, ◌+◌, ◌-◌, ◌*◌, ◌/◌, ◌%◌, ◌<◌, ◌≤◌, ◌⊎◌, Bool, true, false, cond, Ok, Some, None, Option, List, [], ◌∷◌, ◌++◌, length, take, drop, ltb, leb, refl, sym, ap, subst, ◌∙◌, arith, length-append, append_assoc, append-nil, lt-ltb, le-ltb, le-leb, inl, inr, lit<}
+use Rattle.std.proofs.Common.{◌≡◌, ℕ, ◌+◌, ◌-◌, ◌*◌, ◌/◌, ◌%◌, ◌<◌, ◌≤◌, ◌⊎◌, Bool, true, false, cond, Ok, Some, None}
+use Rattle.std.proofs.Common.{Option, List, [], ◌∷◌, ◌++◌, length, take, drop, ltb, leb, refl, sym, ap, subst, ◌∙◌}
+use Rattle.std.proofs.Common.{arith, length-append, append_assoc, append-nil, lt-ltb, le-ltb, le-leb, inl, inr, lit<}
 use Rattle.std.specs.Prelude.{option_map, option_and_then, flat_map, get_or, position, find, All, IfOk}
 use Rattle.std.specs.Option.{option_map_or}
 use Rattle.std.specs.Str.{bytes_eq}
@@ -12,10 +14,13 @@ use Rattle.std.proofs.lemmas.Bool.{cases_lt, true≢false}
 use Rattle.std.proofs.lemmas.Bool.Decides.{nat_tests}
 use Rattle.linear.specs.declared.switching.CodeSet.{CodeSet}
 use Rattle.linear.specs.declared.switching.CodeSet.TheVariants.{A, B, C}
-use Rattle.linear.specs.CodeSets.{has_character, character_value, pair_value, change_value, shift_value, leading_digits, next_special, is_next, picked_set, is_even_run, is_pair_next, pair_values, Written, changed_to, byte_written, written, start_set, start_value}
+use Rattle.linear.specs.CodeSets.{has_character, character_value, pair_value, change_value, shift_value, leading_digits}
+use Rattle.linear.specs.CodeSets.{next_special, is_next, picked_set, is_even_run, is_pair_next, pair_values, Written}
+use Rattle.linear.specs.CodeSets.{changed_to, byte_written, written, start_set, start_value}
 use Rattle.linear.specs.Code128.{character_bars, check_value, with_check, full_code128, code128_bars}
-use Rattle.linear.specs.Code128Reading.{Meaning, meaning, other_set, read_values, inner, group_value, group_count, symbol_data, read_code128}
-use Rattle.linear.specs.Modules.{same_modules, groups, each_found}
+use Rattle.linear.specs.Code128Reading.{Meaning, meaning, other_set, read_values, inner, group_value, group_count}
+use Rattle.linear.specs.Code128Reading.{symbol_data, read_code128}
+use Rattle.linear.specs.Modules.{same_modules, each_group}
 use Rattle.linear.proofs.DigitLaws.{IfOk-from_each, chosen, fails_from_None, not_refused}
 use Rattle.linear.proofs.GroupLaws.{take-append, drop-append}
 use Rattle.linear.proofs.CharacterLaws.{length-character_bars, length-stop, same_stop, group_value-character_bars}
@@ -309,7 +314,7 @@ length-characters (value ∷ values) a =
     length-append (character_bars value) (flat_map character_bars values) ∙ omega arith
 
 pub characters_found : (values : List ℕ) (after : List Bool) → AreCharacters values
-    → each_found group_value (groups 11 (length values) (flat_map character_bars values ++ after)) ≡ Some values
+    → each_group group_value 11 (length values) (flat_map character_bars values ++ after) ≡ Some values
 characters_found [] after a = refl
 characters_found (value ∷ values) after a =
     let first = character_bars value in
@@ -336,12 +341,12 @@ row_read values a =
     drop-append (11 * length values) (flat_map character_bars values) (character_bars 106) front in
     let found : List Bool → Option (List ℕ) =
     λ xs. cond (same_modules xs (character_bars 106))
-    (option_and_then symbol_data (each_found group_value (groups 11 (length values) row))) None in
+    (option_and_then symbol_data (each_group group_value 11 (length values) row)) None in
     let whole : ℕ → Option (List ℕ) =
     λ n. cond (same_modules (drop (11 * n) row) (character_bars 106))
-    (option_and_then symbol_data (each_found group_value (groups 11 n row))) None in
+    (option_and_then symbol_data (each_group group_value 11 n row)) None in
     ap whole count ∙ ap found stop
-    ∙ ap (λ b. cond b (option_and_then symbol_data (each_found group_value (groups 11 (length values) row))) None)
+    ∙ ap (λ b. cond b (option_and_then symbol_data (each_group group_value 11 (length values) row)) None)
     same_stop
     ∙ ap (option_and_then symbol_data) (characters_found values (character_bars 106) a)
 

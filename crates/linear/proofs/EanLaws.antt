@@ -1,5 +1,7 @@
 -- What is drawn as EAN or UPC is read back (ISO/IEC 15420, symbol formats).
-use Rattle.std.proofs.Common.{◌≡◌, ℕ, ◌+◌, ◌-◌, ◌*◌, ◌<◌, Bool, true, false, cond, Ok, Err, Result, Some, None, Option, List, [], ◌∷◌, ◌++◌, length, take, drop, refl, sym, ap, subst, ◌∙◌, arith, length-append, append_assoc, eqb, eq-eqb, inl, inr, map, ◌%◌, lit≤}
+use Rattle.std.proofs.Common.{◌≡◌, ℕ, ◌+◌, ◌-◌, ◌*◌, ◌<◌, Bool, true, false, cond, Ok, Err, Result, Some, None, Option}
+use Rattle.std.proofs.Common.{List, [], ◌∷◌, ◌++◌, length, take, drop, refl, sym, ap, subst, ◌∙◌, arith, length-append}
+use Rattle.std.proofs.Common.{append_assoc, eqb, eq-eqb, inl, inr, map, ◌%◌, lit≤}
 use Rattle.std.specs.Prelude.{option_map, option_and_then, flat_map, replicate, slice_index, position, All, IfOk}
 use Rattle.std.specs.Option.{option_zip}
 use Rattle.std.specs.Result.{result_ok}
@@ -14,11 +16,15 @@ use Rattle.labelcore.specs.declared.fault.Fault.TheVariants.{WrongNumberOfDigits
 use Rattle.linear.specs.declared.ean.NumberSet.{NumberSet}
 use Rattle.linear.specs.declared.ean.NumberSet.TheVariants.{A, C}
 use Rattle.linear.specs.Digits.{digit_value, weighted_sum, checked, completed, full_digits, check_digit}
-use Rattle.linear.specs.Modules.{groups, each_found}
+use Rattle.linear.specs.Modules.{each_group}
 use Rattle.linear.specs.Tables.{left_half_sets}
-use Rattle.linear.specs.Ean.{pattern, patterns, normal_guard, centre_guard, symbol, left_sets, ean8_bars, ean13_bars, upca_bars}
-use Rattle.linear.specs.EanReading.{digit_in, is_framed, read_halves, digit_in_a_or_b, with_first_digit, without_zero, read_ean8, read_ean13, read_upca}
-use Rattle.linear.proofs.PatternLaws.{length-pattern, digit_in-pattern, digit_in_a_or_b-pattern_a, digit_in_a_or_b-pattern_b, length-left_sets, letter_of, position-left_sets, IsAOrB, left_sets_a_or_b}
+use Rattle.linear.specs.Ean.{pattern, patterns, normal_guard, centre_guard, symbol, left_sets, ean8_bars, ean13_bars}
+use Rattle.linear.specs.Ean.{upca_bars}
+use Rattle.linear.specs.EanReading.{digit_in, is_framed, read_halves, digit_in_a_or_b, with_first_digit, without_zero}
+use Rattle.linear.specs.EanReading.{read_ean8, read_ean13, read_upca}
+use Rattle.linear.proofs.PatternLaws.{length-pattern, digit_in-pattern, digit_in_a_or_b-pattern_a}
+use Rattle.linear.proofs.PatternLaws.{digit_in_a_or_b-pattern_b, length-left_sets, letter_of, position-left_sets}
+use Rattle.linear.proofs.PatternLaws.{IsAOrB, left_sets_a_or_b}
 use Rattle.linear.proofs.DigitLaws.{IfOk-from_each, IsFull, full_from_Ok}
 use Rattle.linear.proofs.GroupLaws.{take-append, drop-append, drop-append_more}
 
@@ -59,7 +65,7 @@ length-patterns (set ∷ sets) (byte ∷ bytes) e d =
 
 -- each group of the right half is found in set C
 pub right_found : (bytes : List ℕ) (after : List Bool) → AllByRecursion IsAsciiDigit bytes
-    → each_found (digit_in C) (groups 7 (length bytes) (right_half bytes ++ after)) ≡ Some bytes
+    → each_group (digit_in C) 7 (length bytes) (right_half bytes ++ after) ≡ Some bytes
 right_found [] after d = refl
 right_found (byte ∷ bytes) after d =
     let first = pattern C (digit_value byte) in
@@ -84,7 +90,7 @@ pub left_found : {Y : Type 0} (found : List Bool → Option Y) (g : NumberSet �
     → found (pattern set (digit_value byte)) ≡ Some (g set byte))
     → (sets : List NumberSet) (bytes : List ℕ) (after : List Bool) → AllByRecursion P sets
     → length sets ≡ length bytes → AllByRecursion IsAsciiDigit bytes
-    → each_found found (groups 7 (length bytes) (patterns sets bytes ++ after)) ≡ Some (zipped g sets bytes)
+    → each_group found 7 (length bytes) (patterns sets bytes ++ after) ≡ Some (zipped g sets bytes)
 left_found found g P one [] [] after s e d = refl
 left_found found g P one [] (byte ∷ bytes) after s e d = absurd (omega arith)
 left_found found g P one (set ∷ sets) [] after s e d = absurd (omega arith)
@@ -131,10 +137,10 @@ module _ (n : ℕ) (sets : List NumberSet) (left right : List ℕ) (as_many : le
   pub symbol_framed : is_framed n (symbol sets left right) ≡ true
   symbol_framed = rw (from_centre, from_end) refl
 
-  pub symbol_right_read : each_found (digit_in C) (groups 7 n (drop (8 + 7 * n) (symbol sets left right))) ≡ Some right
+  pub symbol_right_read : each_group (digit_in C) 7 n (drop (8 + 7 * n) (symbol sets left right)) ≡ Some right
   symbol_right_read =
       rw (from_right) (let P : ℕ → Type 0 =
-      λ k. each_found (digit_in C) (groups 7 k (right_half right ++ normal_guard)) ≡ Some right in
+      λ k. each_group (digit_in C) 7 k (right_half right ++ normal_guard) ≡ Some right in
       subst P long_right (right_found right normal_guard digits_right))
 
   -- the two halves are read
@@ -144,13 +150,13 @@ module _ (n : ℕ) (sets : List NumberSet) (left right : List ℕ) (as_many : le
       → read_halves n found (symbol sets left right) ≡ Some (zipped g sets left, right)
   halves_read {Y} found g P one in_sets =
       let after = centre_guard ++ (right_half right ++ normal_guard) in
-      let on_left : each_found found (groups 7 n (drop 3 (symbol sets left right))) ≡ Some (zipped g sets left) =
-      let Q : ℕ → Type 0 = λ k. each_found found (groups 7 k (patterns sets left ++ after))
+      let on_left : each_group found 7 n (drop 3 (symbol sets left right)) ≡ Some (zipped g sets left) =
+      let Q : ℕ → Type 0 = λ k. each_group found 7 k (patterns sets left ++ after)
       ≡ Some (zipped g sets left) in
       subst Q long_left (left_found found g P one sets left after in_sets (as_many ∙ sym long_left) digits_left) in
-      ap (λ b. cond b (option_zip (each_found found (groups 7 n (drop 3 (symbol sets left right))))
-      (each_found (digit_in C) (groups 7 n (drop (8 + 7 * n) (symbol sets left right))))) None) symbol_framed
-      ∙ ap (λ o. option_zip o (each_found (digit_in C) (groups 7 n (drop (8 + 7 * n) (symbol sets left right))))) on_left
+      ap (λ b. cond b (option_zip (each_group found 7 n (drop 3 (symbol sets left right)))
+      (each_group (digit_in C) 7 n (drop (8 + 7 * n) (symbol sets left right)))) None) symbol_framed
+      ∙ ap (λ o. option_zip o (each_group (digit_in C) 7 n (drop (8 + 7 * n) (symbol sets left right)))) on_left
       ∙ ap (λ o. option_zip (Some (zipped g sets left)) o) symbol_right_read
 
 -- full data has the right check digit
@@ -166,7 +172,8 @@ full_checked count full f =
     ∙ take-append count f.digits (f.last ∷ []) f.long in
     let right : checked (take count full) (slice_index full count) ≡ Ok full =
     ap (λ xs. checked xs (slice_index full count)) front ∙ ap (checked f.digits) at_last
-    ∙ ap (λ b. cond b (Ok (f.digits ++ f.last ∷ [])) (Err (WrongCheckDigit (digit_value f.last) (check_digit f.digits))))
+    ∙ ap (λ b. cond b (Ok (f.digits ++ f.last ∷ []))
+    (Err (WrongCheckDigit (digit_value f.last) (check_digit f.digits))))
     (eq-eqb (digit_value f.last) (check_digit f.digits) f.right)
     ∙ ap Ok (sym f.whole) in
     let by_length : Bool → Bool → Result (List ℕ) Fault =

@@ -1,5 +1,6 @@
 -- The steps of the switching rule write what `written` says.
-use Rattle.std.proofs.Common.{◌≡◌, ℕ, ◌<◌, Bool, true, false, cond, List, [], ◌∷◌, ◌++◌, drop, leb, eqb, refl, sym, ap, subst, ◌∙◌, arith, lt-ltb, le-leb, append-nil, inl, inr, ◌%◌}
+use Rattle.std.proofs.Common.{◌≡◌, ℕ, ◌<◌, Bool, true, false, cond, List, [], ◌∷◌, ◌++◌, drop, leb, eqb, refl, sym, ap}
+use Rattle.std.proofs.Common.{subst, ◌∙◌, arith, lt-ltb, le-leb, append-nil, inl, inr, ◌%◌}
 use Rattle.std.specs.Prelude.{◌&&◌, ◌||◌, slice_index}
 use Rattle.std.specs.Char.{is_ascii_digit}
 use Rattle.std.specs.List.{AllByRecursion}
@@ -7,7 +8,8 @@ use Rattle.std.proofs.lemmas.Bool.Decides.{nat_tests}
 use Rattle.std.proofs.lemmas.List.Elements.{recursion_from_All}
 use Rattle.linear.specs.declared.switching.CodeSet.{CodeSet}
 use Rattle.linear.specs.declared.switching.CodeSet.TheVariants.{A, B, C}
-use Rattle.linear.specs.CodeSets.{has_character, character_value, pair_value, shift_value, leading_digits, is_next, picked_set, is_even_run, is_pair_next, pair_values, byte_written, written}
+use Rattle.linear.specs.CodeSets.{has_character, character_value, pair_value, shift_value, leading_digits, is_next}
+use Rattle.linear.specs.CodeSets.{picked_set, is_even_run, is_pair_next, pair_values, byte_written, written}
 use Rattle.linear.specs.Switching.{Step, to_set, character_step, step, Writes, done, stepped, ValuesAreWrittenBySteps}
 use Rattle.linear.proofs.Code128Laws.{even_run, picked_has, PickedHas, written_by}
 

@@ -1,5 +1,6 @@
 -- The data and the rows of Code 128 symbols (ISO/IEC 15417, symbol structure and check character).
-use Rattle.std.specs.Prelude.{ℕ, ◌+◌, ◌*◌, ◌%◌, nat_lt, nat_le, if◌then◌else◌, Bool, true, not, Result, Ok, Err, List, [], ◌∷◌, ◌++◌, length, map, replicate, position, flat_map, slice_index_or}
+use Rattle.std.specs.Prelude.{ℕ, ◌+◌, ◌*◌, ◌%◌, nat_lt, nat_le, if◌then◌else◌, Bool, true, not, Result, Ok, Err, List}
+use Rattle.std.specs.Prelude.{[], ◌∷◌, ◌++◌, length, map, replicate, position, flat_map, slice_index_or}
 use Rattle.labelcore.specs.declared.fault.Fault.{Fault}
 use Rattle.labelcore.specs.declared.fault.Fault.TheVariants.{DataTooLong, NotAscii}
 use Rattle.linear.specs.declared.switching.CodeSet.{CodeSet}

@@ -1,10 +1,12 @@
 -- Reading of Code 128 symbols (ISO/IEC 15417, symbol characters, code sets and check character).
-use Rattle.std.specs.Prelude.{ℕ, ◌+◌, ◌-◌, ◌*◌, ◌/◌, ◌%◌, ◌==◌, nat_lt, if◌then◌else◌, Bool, true, false, Option, Some, None, List, [], ◌∷◌, ◌++◌, length, take, drop, position, find, option_map, option_and_then}
+use Rattle.std.specs.Prelude.{ℕ, ◌+◌, ◌-◌, ◌*◌, ◌/◌, ◌%◌, ◌==◌, nat_lt, if◌then◌else◌, Bool, true, false, Option, Some}
+use Rattle.std.specs.Prelude.{None, List, [], ◌∷◌, ◌++◌, length, take, drop, position, find, option_map}
+use Rattle.std.specs.Prelude.{option_and_then}
 use Rattle.std.specs.Option.{option_map_or}
 use Rattle.std.specs.Str.{bytes_eq}
 use Rattle.linear.specs.declared.switching.CodeSet.{CodeSet}
 use Rattle.linear.specs.declared.switching.CodeSet.TheVariants.{A, B, C}
-use Rattle.linear.specs.Modules.{same_modules, groups, each_found}
+use Rattle.linear.specs.Modules.{same_modules, each_group}
 use Rattle.linear.specs.CodeSets.{change_value, shift_value}
 use Rattle.linear.specs.Code128.{characters, character_bars, with_check}
 
@@ -72,5 +74,5 @@ group_count row = (length row - 13) / 11
 abbrev pub read_code128 : List Bool → Option (List ℕ)
 read_code128 row =
     if same_modules (drop (11 * group_count row) row) (character_bars 106)
-    then option_and_then symbol_data (each_found group_value (groups 11 (group_count row) row))
+    then option_and_then symbol_data (each_group group_value 11 (group_count row) row)
     else None

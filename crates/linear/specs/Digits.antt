@@ -1,5 +1,6 @@
 -- The digits of EAN and UPC as bytes, and their check digit (ISO/IEC 15420, check digit).
-use Rattle.std.specs.Prelude.{ℕ, ◌+◌, ◌-◌, ◌*◌, ◌%◌, ◌==◌, if◌then◌else◌, not, Option, Result, Ok, Err, List, [], ◌∷◌, ◌++◌, length, take, position, slice_index}
+use Rattle.std.specs.Prelude.{ℕ, ◌+◌, ◌-◌, ◌*◌, ◌%◌, ◌==◌, if◌then◌else◌, not, Option, Result, Ok, Err, List, [], ◌∷◌}
+use Rattle.std.specs.Prelude.{◌++◌, length, take, position, slice_index}
 use Rattle.std.specs.Char.{is_ascii_digit}
 use Rattle.std.specs.Option.{option_map_or}
 use Rattle.labelcore.specs.declared.fault.Fault.{Fault}

@@ -1,5 +1,6 @@
 -- The rows of EAN and UPC symbols (ISO/IEC 15420, symbol characters, guard patterns and symbol formats).
-use Rattle.std.specs.Prelude.{ℕ, Bool, List, [], ◌∷◌, ◌++◌, map, reverse, not, take, drop, replicate, slice_index_or, flat_map, zip, codes, ◌==◌, if◌then◌else◌}
+use Rattle.std.specs.Prelude.{ℕ, Bool, List, [], ◌∷◌, ◌++◌, map, reverse, not, take, drop, replicate, slice_index_or}
+use Rattle.std.specs.Prelude.{flat_map, zip, codes, ◌==◌, if◌then◌else◌}
 use Rattle.linear.specs.declared.ean.NumberSet.{NumberSet}
 use Rattle.linear.specs.declared.ean.NumberSet.TheVariants.{A, B, C}
 use Rattle.linear.specs.Digits.{digit_value}

@@ -1,12 +1,13 @@
 -- Reading of EAN and UPC symbols (ISO/IEC 15420, symbol characters, guard patterns and symbol formats).
-use Rattle.std.specs.Prelude.{ℕ, ◌+◌, ◌*◌, ◌==◌, if◌then◌else◌, Bool, ◌&&◌, Option, Some, None, List, [], ◌∷◌, ◌++◌, map, take, drop, find, position, option_map, option_and_then, codes}
+use Rattle.std.specs.Prelude.{ℕ, ◌+◌, ◌*◌, ◌==◌, if◌then◌else◌, Bool, ◌&&◌, Option, Some, None, List, [], ◌∷◌, ◌++◌}
+use Rattle.std.specs.Prelude.{map, take, drop, find, position, option_map, option_and_then, codes}
 use Rattle.std.specs.Option.{option_zip, option_or}
 use Rattle.std.specs.Result.{result_ok}
 use Rattle.std.specs.Str.{bytes_eq}
 use Rattle.linear.specs.declared.ean.NumberSet.{NumberSet}
 use Rattle.linear.specs.declared.ean.NumberSet.TheVariants.{A, B, C}
 use Rattle.linear.specs.Digits.{digit_value, completed}
-use Rattle.linear.specs.Modules.{same_modules, groups, each_found}
+use Rattle.linear.specs.Modules.{same_modules, each_group}
 use Rattle.linear.specs.Tables.{left_half_sets}
 use Rattle.linear.specs.Ean.{pattern, normal_guard, centre_guard}
 
@@ -26,8 +27,7 @@ is_framed half row =
 abbrev pub read_halves : {Y : Type 0} → ℕ → (List Bool → Option Y) → List Bool → Option (List Y × List ℕ)
 read_halves half found row =
     if is_framed half row
-    then option_zip (each_found found (groups 7 half (drop 3 row)))
-    (each_found (digit_in C) (groups 7 half (drop (8 + 7 * half) row)))
+    then option_zip (each_group found 7 half (drop 3 row)) (each_group (digit_in C) 7 half (drop (8 + 7 * half) row))
     else None
 
 -- EAN-8: the left groups are found in set A, and the last digit is the check digit

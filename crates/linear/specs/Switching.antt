@@ -3,7 +3,8 @@
 use Rattle.std.specs.Prelude.{ℕ, ◌<◌, if◌then◌else◌, List, [], ◌∷◌, ◌++◌, drop, slice_index, All}
 use Rattle.linear.specs.declared.switching.CodeSet.{CodeSet}
 use Rattle.linear.specs.declared.switching.CodeSet.TheVariants.{C}
-use Rattle.linear.specs.CodeSets.{has_character, character_value, pair_value, change_value, shift_value, is_next, picked_set, is_pair_next, written}
+use Rattle.linear.specs.CodeSets.{has_character, character_value, pair_value, change_value, shift_value, is_next}
+use Rattle.linear.specs.CodeSets.{picked_set, is_pair_next, written}
 
 -- what one step writes, the set after it, and what is still to be written
 pub record Step : Type 0 where

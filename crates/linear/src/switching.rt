@@ -3,7 +3,9 @@ ghost use Rattle.std.specs.Prelude.{◌≡◌, [], ◌∷◌, ◌+◌, ◌≤◌
 ghost use Rattle.std.specs.Char.{IsAsciiDigit};
 ghost use Rattle.arrayvec.specs.ArrayVec.{array_vec_len};
 ghost use Rattle.linear.specs.declared.limits.TheConstants.{MAX_BYTES, MAX_VALUES};
-ghost use Rattle.linear.specs.CodeSets.{has_character, character_value, start_value, change_value, shift_value, leading_digits, is_next, next_special, picked_set, is_pair_next, pair_values, changed_to, byte_written, written, start_set};
+ghost use Rattle.linear.specs.CodeSets.{has_character, character_value, start_value, change_value, shift_value};
+ghost use Rattle.linear.specs.CodeSets.{leading_digits, is_next, next_special, picked_set, is_pair_next, pair_values};
+ghost use Rattle.linear.specs.CodeSets.{changed_to, byte_written, written, start_set};
 ghost use Rattle.linear.specs.Switching.{ValuesAreWrittenBySteps};
 
 use crate::limits::MAX_VALUES;
