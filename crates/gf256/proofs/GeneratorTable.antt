@@ -1,5 +1,6 @@
 -- The generator polynomials by the logarithms of their coefficients: tests computed over all of them.
-use Rattle.std.proofs.Common.{◌≡◌, ℕ, ◌+◌, ◌-◌, ◌*◌, ◌/◌, ◌≤◌, List, [], ◌∷◌, map, take, drop, refl, sym, ap, ◌∙◌, arith, Bool, true, false, ◌&&◌, ◌==◌, nat_lt, eqb-true, ltb-true}
+use Rattle.std.proofs.Common.{◌≡◌, ℕ, ◌+◌, ◌-◌, ◌*◌, ◌/◌, ◌≤◌, List, [], ◌∷◌, map, take, drop, refl, sym, ap, ◌∙◌}
+use Rattle.std.proofs.Common.{arith, Bool, true, false, ◌&&◌, ◌==◌, nat_lt, eqb-true, ltb-true}
 use Rattle.std.specs.List.{list_all}
 use Rattle.std.proofs.lemmas.Bool.{and_parts, false≢true}
 use Rattle.std.proofs.Math.Nat.{mod-eq_of_lt}
@@ -37,13 +38,18 @@ powers-small (e ∷ es) h =
     let power : exp e ≡ field_power 2 e = ap exp (sym (mod-eq_of_lt (ltb-true _ _ parts.0))) ∙ field_power-table e in
     ap (λ n. n ∷ map exp es) power ∙ ap (λ l. field_power 2 e ∷ l) (powers-small es parts.1)
 
-generators : all_below (λ i. same_numbers (generator (i + 1)) (1 ∷ map exp (logarithms_at (i + 1))) && list_all (λ e. nat_lt e 255) (logarithms_at (i + 1))) 30 ≡ true
-unfolding all_below exp logarithms_at generator polynomial_product polynomial_sum scaled field_power field_product binary_product binary_remainder
+generators : all_below (λ i. same_numbers (generator (i + 1)) (1 ∷ map exp (logarithms_at (i + 1))) && list_all
+    (λ e. nat_lt e 255) (logarithms_at (i + 1))) 30 ≡ true
+unfolding all_below exp logarithms_at generator polynomial_product polynomial_sum scaled field_power field_product
+    binary_product binary_remainder
 generators = refl
 
 pub generator-logarithms : (k : ℕ) → 1 ≤ k → k ≤ 30 → generator k ≡ 1 ∷ map (field_power 2) (logarithms_at k)
 generator-logarithms k low high =
     let at : k - 1 + 1 ≡ k = omega arith in
-    let test = all_below-at (λ i. same_numbers (generator (i + 1)) (1 ∷ map exp (logarithms_at (i + 1))) && list_all (λ e. nat_lt e 255) (logarithms_at (i + 1))) 30 (k - 1) generators (omega arith) in
-    let parts = and_parts (same_numbers (generator k) (1 ∷ map exp (logarithms_at k))) (list_all (λ e. nat_lt e 255) (logarithms_at k)) (rw at at test) in
-    same_numbers-is (generator k) (1 ∷ map exp (logarithms_at k)) parts.0 ∙ ap (λ l. 1 ∷ l) (powers-small (logarithms_at k) parts.1)
+    let test = all_below-at (λ i. same_numbers (generator (i + 1)) (1 ∷ map exp (logarithms_at (i + 1))) && list_all
+    (λ e. nat_lt e 255) (logarithms_at (i + 1))) 30 (k - 1) generators (omega arith) in
+    let parts = and_parts (same_numbers (generator k) (1 ∷ map exp (logarithms_at k)))
+    (list_all (λ e. nat_lt e 255) (logarithms_at k)) (rw at at test) in
+    same_numbers-is (generator k) (1 ∷ map exp (logarithms_at k)) parts.0
+    ∙ ap (λ l. 1 ∷ l) (powers-small (logarithms_at k) parts.1)

@@ -1,8 +1,10 @@
 //! Generator polynomials and the parity codewords of a block (ISO/IEC 18004, 7.5.2 and annex A).
 ghost use Rattle.gf256.specs.Field.{alpha, field_power, field_product};
-ghost use Rattle.gf256.specs.Parity.{HasRoots, IsRemainder, ParityIsRemainder, RemaindersAreCodewords, generator, parity_of};
+ghost use Rattle.gf256.specs.Parity.{HasRoots, IsRemainder, ParityIsRemainder, RemaindersAreCodewords, generator};
+ghost use Rattle.gf256.specs.Parity.{parity_of};
 ghost use Rattle.gf256.specs.Polynomial.{zeros};
-ghost use Rattle.std.specs.Prelude.{◌≡◌, ◌+◌, ◌<◌, ◌≤◌, ℕ, List, ◌∷◌, ◌++◌, length, map, slice_index, EachIndex, bit_xor};
+ghost use Rattle.std.specs.Prelude.{◌≡◌, ◌+◌, ◌<◌, ◌≤◌, ℕ, List, ◌∷◌, ◌++◌, length, map, slice_index, EachIndex};
+ghost use Rattle.std.specs.Prelude.{bit_xor};
 
 use crate::field::{logarithm_of, product_of_powers};
 use crate::tables::GENERATORS;

@@ -1,35 +1,43 @@
 -- What is drawn as Code 128 is read back (ISO/IEC 15417, symbol structure).
-use Rattle.std.proofs.Common.{◌≡◌, ℕ, ◌+◌, ◌-◌, ◌*◌, ◌/◌, ◌%◌, ◌<◌, ◌≤◌, ◌⊎◌, Bool, true, false, cond, Ok, Err, Some, None, Option, List, [], ◌∷◌, ◌++◌, ◌&&◌, length, take, drop, eqb, ltb, leb, refl, sym, ap, subst, ◌∙◌, arith, length-append, append_assoc, append-nil, eq-eqb, lt-ltb, le-ltb, le-leb, inl, inr, lit<}
-use Rattle.std.specs.Prelude.{option_map, option_and_then, flat_map, slice_index, get_or, position, All, IfOk}
+use Rattle.std.proofs.Common.{◌≡◌, ℕ, ◌+◌, ◌-◌, ◌*◌, ◌/◌, ◌%◌, ◌<◌, ◌≤◌, ◌⊎◌, Bool, true, false, cond, Ok, Some, None}
+use Rattle.std.proofs.Common.{Option, List, [], ◌∷◌, ◌++◌, length, take, drop, ltb, leb, refl, sym, ap, subst, ◌∙◌}
+use Rattle.std.proofs.Common.{arith, length-append, append_assoc, append-nil, lt-ltb, le-ltb, le-leb, inl, inr, lit<}
+use Rattle.std.specs.Prelude.{option_map, option_and_then, flat_map, get_or, position, find, All, IfOk}
+use Rattle.std.specs.Option.{option_map_or}
+use Rattle.std.specs.Str.{bytes_eq}
 use Rattle.std.specs.Char.{IsAsciiDigit, is_ascii_digit}
 use Rattle.std.specs.List.{AllByRecursion, prefix_len}
-use Rattle.std.proofs.lemmas.List.{get_or-append_right}
+use Rattle.std.proofs.lemmas.Slice.Eq.{bytes_eq-Decides}
 use Rattle.std.proofs.lemmas.List.Elements.{recursion_from_All}
 use Rattle.labelcore.specs.declared.fault.Fault.TheVariants.{NotAscii}
-use Rattle.linear.proofs.DigitLaws.{IfOk-from_each, chosen, fails_from_None}
-use Rattle.std.proofs.lemmas.Bool.{cases_lt}
+use Rattle.std.proofs.lemmas.Bool.{cases_lt, true≢false}
 use Rattle.std.proofs.lemmas.Bool.Decides.{nat_tests}
 use Rattle.linear.specs.declared.switching.CodeSet.{CodeSet}
 use Rattle.linear.specs.declared.switching.CodeSet.TheVariants.{A, B, C}
-use Rattle.linear.specs.CodeSets.{character_value, pair_value, change_value, shift_value, leading_digits, is_control_next, is_lower_next, picked_set, is_even_run, is_pair_next, pair_values, Written, changed_to, byte_written, written, start_set, start_value}
-use Rattle.linear.specs.Code128.{character_bars, check_value, with_check, unless_not_ascii, full_code128, code128_bars}
-use Rattle.linear.specs.Code128Reading.{Meaning, meaning, other_set, read_values, group_value, is_stop, group_count, symbol_data, checked_values, started_set, read_code128}
-use Rattle.linear.specs.Modules.{groups, each_found}
+use Rattle.linear.specs.CodeSets.{has_character, character_value, pair_value, change_value, shift_value, leading_digits}
+use Rattle.linear.specs.CodeSets.{next_special, is_next, picked_set, is_even_run, is_pair_next, pair_values, Written}
+use Rattle.linear.specs.CodeSets.{changed_to, byte_written, written, start_set, start_value}
+use Rattle.linear.specs.Code128.{character_bars, check_value, with_check, full_code128, code128_bars}
+use Rattle.linear.specs.Code128Reading.{Meaning, meaning, other_set, read_values, inner, group_value, group_count}
+use Rattle.linear.specs.Code128Reading.{symbol_data, read_code128}
+use Rattle.linear.specs.Modules.{same_modules, each_group}
+use Rattle.linear.proofs.DigitLaws.{IfOk-from_each, chosen, fails_from_None, not_refused}
 use Rattle.linear.proofs.GroupLaws.{take-append, drop-append}
-use Rattle.linear.proofs.CharacterLaws.{length-character_bars, group_value-character_bars}
+use Rattle.linear.proofs.CharacterLaws.{length-character_bars, length-stop, same_stop, group_value-character_bars}
 
 -- a character of set A stands for its byte
-meaning-a : (byte : ℕ) → byte < 96 → meaning A (character_value A byte) ≡ Meaning.text (byte ∷ [])
+meaning-a : (byte : ℕ) → byte < 96 → meaning A (character_value byte) ≡ Meaning.text (byte ∷ [])
 meaning-a byte h =
     elim (cases_lt byte 32) [
-      | inl low ↦ rw (lt-ltb byte 32 low, le-ltb (byte + 64) 64 (omega arith), lt-ltb (byte + 64) 96 (omega arith))
+      | inl low ↦ rw (lt-ltb byte 32 low, lt-ltb (byte + 64) 96 (omega arith))
           (ap (λ b. Meaning.text (b ∷ [])) (omega arith))
-      | inr high ↦ rw (le-ltb byte 32 high, lt-ltb (byte - 32) 64 (omega arith))
+      | inr high ↦ rw (le-ltb byte 32 high, lt-ltb (byte - 32) 96 (omega arith))
           (ap (λ b. Meaning.text (b ∷ [])) (omega arith))
     ]
 
-meaning-b : (byte : ℕ) → 32 ≤ byte → byte < 128 → meaning B (character_value B byte) ≡ Meaning.text (byte ∷ [])
-meaning-b byte low h = rw (lt-ltb (byte - 32) 96 (omega arith)) (ap (λ b. Meaning.text (b ∷ [])) (omega arith))
+meaning-b : (byte : ℕ) → 32 ≤ byte → byte < 128 → meaning B (character_value byte) ≡ Meaning.text (byte ∷ [])
+meaning-b byte low h = rw (le-ltb byte 32 low, lt-ltb (byte - 32) 96 (omega arith))
+    (ap (λ b. Meaning.text (b ∷ [])) (omega arith))
 
 meaning-pair : (first second : ℕ) → IsAsciiDigit first → IsAsciiDigit second
     → meaning C (pair_value first second) ≡ Meaning.text (first ∷ second ∷ [])
@@ -65,12 +73,21 @@ pub picked_has : (byte : ℕ) (rest : List ℕ) → byte < 128
     → ((picked_set (byte ∷ rest) ≡ A) × (byte < 96)) ⊎ ((picked_set (byte ∷ rest) ≡ B) × (32 ≤ byte))
 picked_has byte rest h =
     elim (cases_lt byte 32) [
-      | inl low ↦ inl (rw (lt-ltb byte 32 low) (rw (lt-ltb byte 32 low) refl), omega arith)
+      | inl low ↦ inl (rw (lt-ltb byte 32 low) (rw (lt-ltb byte 96 (omega arith)) refl), omega arith)
       | inr high ↦ elim (cases_lt byte 96) [
-        | inl middle ↦ elim (a_or_b (is_control_next (byte ∷ rest))) [ inl e ↦ inl (e, middle) | inr e ↦ inr (e, high) ]
-        | inr lower ↦ inr (rw (le-ltb byte 32 high, le-leb 96 byte lower) (rw (le-ltb byte 32 high) refl), high)
+        | inl middle ↦ elim (a_or_b (is_next A (byte ∷ rest))) [ inl e ↦ inl (e, middle) | inr e ↦ inr (e, high) ]
+        | inr lower ↦ inr
+            (rw (le-ltb byte 32 high, le-leb 96 byte lower) (rw (le-ltb byte 96 lower) refl), high)
       ]
     ]
+
+-- set C has no byte that is special
+never_in_c : (found : Option ℕ) → option_map_or (λ byte. false) found false ≡ false
+never_in_c None = refl
+never_in_c (Some byte) = refl
+
+pub never_next : (rest : List ℕ) → is_next C rest ≡ false
+never_next rest = never_in_c (next_special rest)
 
 -- after the values of one byte, what follows is read in the set that they leave
 abbrev ReadsByte : CodeSet → ℕ → List ℕ → Written → Type 0
@@ -78,67 +95,87 @@ ReadsByte set byte values step =
     read_values set false (step.values ++ values) ≡ option_map (λ rest. byte ∷ rest) (read_values step.set false values)
 
 read_in_a : (byte : ℕ) (values : List ℕ) → byte < 96
-    → read_values A false (character_value A byte ∷ values)
+    → read_values A false (character_value byte ∷ values)
     ≡ option_map (λ rest. byte ∷ rest) (read_values A false values)
-read_in_a byte values h = text_read A (character_value A byte) (byte ∷ []) values (meaning-a byte h)
+read_in_a byte values h = text_read A (character_value byte) (byte ∷ []) values (meaning-a byte h)
 
 read_in_b : (byte : ℕ) (values : List ℕ) → 32 ≤ byte → byte < 128
-    → read_values B false (character_value B byte ∷ values)
+    → read_values B false (character_value byte ∷ values)
     ≡ option_map (λ rest. byte ∷ rest) (read_values B false values)
-read_in_b byte values low h = text_read B (character_value B byte) (byte ∷ []) values (meaning-b byte low h)
+read_in_b byte values low h = text_read B (character_value byte) (byte ∷ []) values (meaning-b byte low h)
 
 change_to_a : (byte : ℕ) (values : List ℕ) (set : CodeSet) → meaning set 101 ≡ Meaning.change A → byte < 96
     → ReadsByte set byte values (changed_to A byte)
-change_to_a byte values set e h = change_read set A 101 (character_value A byte ∷ values) e ∙ read_in_a byte values h
+change_to_a byte values set e h = change_read set A 101 (character_value byte ∷ values) e ∙ read_in_a byte values h
 
 change_to_b : (byte : ℕ) (values : List ℕ) (set : CodeSet) → meaning set 100 ≡ Meaning.change B → 32 ≤ byte
     → byte < 128 → ReadsByte set byte values (changed_to B byte)
-change_to_b byte values set e low h = change_read set B 100 (character_value B byte ∷ values) e
+change_to_b byte values set e low h = change_read set B 100 (character_value byte ∷ values) e
     ∙ read_in_b byte values low h
 
 shift_from_a : (byte : ℕ) (values : List ℕ) → 32 ≤ byte → byte < 128
-    → ReadsByte A byte values (record { values = shift_value ∷ character_value B byte ∷ []; set = A })
-shift_from_a byte values low h = shift_read A 98 (character_value B byte ∷ values) refl
-    ∙ shifted_read A (character_value B byte) (byte ∷ []) values (meaning-b byte low h)
+    → ReadsByte A byte values (record { values = shift_value ∷ character_value byte ∷ []; set = A })
+shift_from_a byte values low h = shift_read A 98 (character_value byte ∷ values) refl
+    ∙ shifted_read A (character_value byte) (byte ∷ []) values (meaning-b byte low h)
 
 shift_from_b : (byte : ℕ) (values : List ℕ) → byte < 96
-    → ReadsByte B byte values (record { values = shift_value ∷ character_value A byte ∷ []; set = B })
-shift_from_b byte values h = shift_read B 98 (character_value A byte ∷ values) refl
-    ∙ shifted_read B (character_value A byte) (byte ∷ []) values (meaning-a byte h)
+    → ReadsByte B byte values (record { values = shift_value ∷ character_value byte ∷ []; set = B })
+shift_from_b byte values h = shift_read B 98 (character_value byte ∷ values) refl
+    ∙ shifted_read B (character_value byte) (byte ∷ []) values (meaning-a byte h)
+
+-- what is written of a byte, by whether the set has it, whether the next special byte is of the set, and the set to
+-- change to
+abbrev pub written_by : CodeSet → ℕ → Bool → Bool → CodeSet → Written
+written_by set byte has next picked =
+    cond has (record { values = character_value byte ∷ []; set = set })
+    (cond next (record { values = shift_value ∷ character_value byte ∷ []; set = set }) (changed_to picked byte))
+
+-- the picked set has the byte
+abbrev pub PickedHas : CodeSet → ℕ → Type 0
+PickedHas picked byte = ((picked ≡ A) × (byte < 96)) ⊎ ((picked ≡ B) × (32 ≤ byte))
+
+pub below_96 : (byte : ℕ) → ltb byte 96 ≡ true → byte < 96
+below_96 byte h = grind (arith, nat_tests)
+
+pub from_96 : (byte : ℕ) → ltb byte 96 ≡ false → 96 ≤ byte
+from_96 byte h = grind (arith, nat_tests)
+
+pub from_32 : (byte : ℕ) → leb 32 byte ≡ true → 32 ≤ byte
+from_32 byte h = grind (arith, nat_tests)
+
+pub below_32 : (byte : ℕ) → leb 32 byte ≡ false → byte < 32
+below_32 byte h = grind (arith, nat_tests)
+
+read_from_a : (byte : ℕ) (values : List ℕ) (has next : Bool) (picked : CodeSet) → ltb byte 96 ≡ has
+    → PickedHas picked byte → byte < 128 → ReadsByte A byte values (written_by A byte has next picked)
+read_from_a byte values true next picked e p h = read_in_a byte values (below_96 byte e)
+read_from_a byte values false true picked e p h =
+    shift_from_a byte values (let k = from_96 byte e in omega arith) h
+read_from_a byte values false false picked e (inl q) h = absurd (let k = from_96 byte e in omega arith)
+read_from_a byte values false false picked e (inr q) h = rw (q.0) (change_to_b byte values A refl q.1 h)
+
+read_from_b : (byte : ℕ) (values : List ℕ) (has next : Bool) (picked : CodeSet) → leb 32 byte ≡ has
+    → PickedHas picked byte → byte < 128 → ReadsByte B byte values (written_by B byte has next picked)
+read_from_b byte values true next picked e p h = read_in_b byte values (from_32 byte e) h
+read_from_b byte values false true picked e p h =
+    shift_from_b byte values (let k = below_32 byte e in omega arith)
+read_from_b byte values false false picked e (inl q) h = rw (q.0) (change_to_a byte values B refl q.1)
+read_from_b byte values false false picked e (inr q) h = absurd (let k = below_32 byte e in omega arith)
+
+read_from_c : (byte : ℕ) (values : List ℕ) (next : Bool) (picked : CodeSet) → next ≡ false
+    → PickedHas picked byte → byte < 128 → ReadsByte C byte values (written_by C byte false next picked)
+read_from_c byte values true picked e p h = absurd (true≢false e)
+read_from_c byte values false picked e (inl q) h = rw (q.0) (change_to_a byte values C refl q.1)
+read_from_c byte values false picked e (inr q) h = rw (q.0) (change_to_b byte values C refl q.1 h)
 
 byte_read : (set : CodeSet) (byte : ℕ) (rest values : List ℕ) → byte < 128
     → ReadsByte set byte values (byte_written set byte rest)
 byte_read A byte rest values h =
-    elim (cases_lt byte 96) [
-      | inl has ↦ rw (lt-ltb byte 96 has) (read_in_a byte values has)
-      | inr lacks ↦ rw (le-ltb byte 96 lacks)
-          (let P : Bool → Type 0 =
-          λ b. ReadsByte A byte values
-          (cond b (record { values = shift_value ∷ character_value B byte ∷ []; set = A }) (changed_to B byte)) in
-          let Q : (b : Bool) → P b =
-          elim [
-            | true ↦ shift_from_a byte values (omega arith) h
-            | false ↦ change_to_b byte values A refl (omega arith) h
-          ] in Q (is_control_next rest))
-    ]
+    read_from_a byte values (ltb byte 96) (is_next A rest) (picked_set (byte ∷ rest)) refl (picked_has byte rest h) h
 byte_read B byte rest values h =
-    elim (cases_lt byte 32) [
-      | inl lacks ↦ rw (let e : leb 32 byte ≡ false = grind (arith, nat_tests) in e)
-          (let P : Bool → Type 0 =
-          λ b. ReadsByte B byte values
-          (cond b (record { values = shift_value ∷ character_value A byte ∷ []; set = B }) (changed_to A byte)) in
-          let Q : (b : Bool) → P b =
-          elim [
-            | true ↦ shift_from_b byte values (omega arith)
-            | false ↦ change_to_a byte values B refl (omega arith)
-          ] in Q (is_lower_next rest))
-      | inr has ↦ rw (le-leb 32 byte has) (read_in_b byte values has h)
-    ]
+    read_from_b byte values (leb 32 byte) (is_next B rest) (picked_set (byte ∷ rest)) refl (picked_has byte rest h) h
 byte_read C byte rest values h =
-    elim (picked_has byte rest h) [
-      | inl p ↦ rw (p.0) (change_to_a byte values C refl p.1)
-      | inr p ↦ rw (p.0) (change_to_b byte values C refl p.1 h)
-    ]
+    read_from_c byte values (is_next C rest) (picked_set (byte ∷ rest)) (never_next rest) (picked_has byte rest h) h
 
 digit_from_true : (byte : ℕ) → is_ascii_digit byte ≡ true → IsAsciiDigit byte
 digit_from_true byte h = grind (arith, nat_tests)
@@ -214,14 +251,12 @@ joined_characters : (xs ys : List ℕ) → AreCharacters xs → AreCharacters ys
 joined_characters [] ys a b = b
 joined_characters (x ∷ xs) ys a b = (a.0, joined_characters xs ys a.1 b)
 
-character_value_below : (set : CodeSet) (byte : ℕ) → byte < 128 → character_value set byte < 106
-character_value_below A byte h =
+character_value_below : (byte : ℕ) → byte < 128 → character_value byte < 106
+character_value_below byte h =
     elim (cases_lt byte 32) [
       | inl low ↦ rw (lt-ltb byte 32 low) (omega arith)
       | inr high ↦ rw (le-ltb byte 32 high) (omega arith)
     ]
-character_value_below B byte h = omega arith
-character_value_below C byte h = lit< tt
 
 change_value_below : (set : CodeSet) → change_value set < 106
 change_value_below A = lit< tt
@@ -230,34 +265,15 @@ change_value_below C = lit< tt
 
 step_characters : (set : CodeSet) (byte : ℕ) (rest : List ℕ) → byte < 128
     → AreCharacters (byte_written set byte rest).values
-step_characters A byte rest h =
-    let P : Bool → Bool → Type 0 =
-    λ a b. AreCharacters (cond a (record { values = character_value A byte ∷ []; set = A })
-    (cond b (record { values = shift_value ∷ character_value B byte ∷ []; set = A }) (changed_to B byte))).values in
-    let Q : (a b : Bool) → P a b =
+step_characters set byte rest h =
+    let picked : CodeSet = picked_set (byte ∷ rest) in
+    let below : character_value byte < 106 = character_value_below byte h in
+    let each : (has next : Bool) → AreCharacters (written_by set byte has next picked).values =
     elim [
-      | true ↦ λ b. (character_value_below A byte h, tt)
-      | false ↦ elim [
-        | true ↦ (lit< tt, (character_value_below B byte h, tt))
-        | false ↦ (lit< tt, (character_value_below B byte h, tt))
-      ]
+      | true ↦ λ next. (below, tt)
+      | false ↦ elim [ true ↦ (lit< tt, (below, tt)) | false ↦ (change_value_below picked, (below, tt)) ]
     ] in
-    Q (ltb byte 96) (is_control_next rest)
-step_characters B byte rest h =
-    let P : Bool → Bool → Type 0 =
-    λ a b. AreCharacters (cond a (record { values = character_value B byte ∷ []; set = B })
-    (cond b (record { values = shift_value ∷ character_value A byte ∷ []; set = B }) (changed_to A byte))).values in
-    let Q : (a b : Bool) → P a b =
-    elim [
-      | true ↦ λ b. (character_value_below B byte h, tt)
-      | false ↦ elim [
-        | true ↦ (lit< tt, (character_value_below A byte h, tt))
-        | false ↦ (lit< tt, (character_value_below A byte h, tt))
-      ]
-    ] in
-    Q (leb 32 byte) (is_lower_next rest)
-step_characters C byte rest h =
-    (change_value_below (picked_set (byte ∷ rest)), (character_value_below (picked_set (byte ∷ rest)) byte h, tt))
+    each (has_character set byte) (is_next set rest)
 
 pair_characters : (set : CodeSet) (first second : ℕ) → IsAsciiDigit first → IsAsciiDigit second
     → AreCharacters (pair_values set first second)
@@ -298,7 +314,7 @@ length-characters (value ∷ values) a =
     length-append (character_bars value) (flat_map character_bars values) ∙ omega arith
 
 pub characters_found : (values : List ℕ) (after : List Bool) → AreCharacters values
-    → each_found group_value (groups 11 (length values) (flat_map character_bars values ++ after)) ≡ Some values
+    → each_group group_value 11 (length values) (flat_map character_bars values ++ after) ≡ Some values
 characters_found [] after a = refl
 characters_found (value ∷ values) after a =
     let first = character_bars value in
@@ -307,7 +323,7 @@ characters_found (value ∷ values) after a =
       append_assoc first (flat_map character_bars values) after,
       take-append 11 first (flat_map character_bars values ++ after) eleven,
       drop-append 11 first (flat_map character_bars values ++ after) eleven,
-      group_value-character_bars value a.0,
+      group_value-character_bars value (let below = a.0 in omega arith),
       characters_found values after a.1,
     ) refl
 
@@ -317,45 +333,47 @@ pub row_read : (values : List ℕ) → AreCharacters values
 row_read values a =
     let row : List Bool = flat_map character_bars values ++ character_bars 106 in
     let front : length (flat_map character_bars values) ≡ 11 * length values = length-characters values a in
-    let long : length row ≡ 11 * length values + 13 =
-    length-append (flat_map character_bars values) (character_bars 106) ∙ ap (λ k. k + 13) front in
+    let end : length (character_bars 106) ≡ 13 = length-stop in
+    let long : length row ≡ length (flat_map character_bars values) + length (character_bars 106) =
+    length-append (flat_map character_bars values) (character_bars 106) in
     let count : group_count row ≡ length values = omega arith in
     let stop : drop (11 * length values) row ≡ character_bars 106 =
     drop-append (11 * length values) (flat_map character_bars values) (character_bars 106) front in
+    let found : List Bool → Option (List ℕ) =
+    λ xs. cond (same_modules xs (character_bars 106))
+    (option_and_then symbol_data (each_group group_value 11 (length values) row)) None in
     let whole : ℕ → Option (List ℕ) =
-    λ n. cond (eqb (length row) (11 * n + 13) && is_stop (drop (11 * n) row))
-    (option_and_then symbol_data (each_found group_value (groups 11 n row))) None in
-    ap whole count
-    ∙ ap (λ b. cond (b && is_stop (drop (11 * length values) row))
-    (option_and_then symbol_data (each_found group_value (groups 11 (length values) row))) None)
-    (eq-eqb (length row) (11 * length values + 13) long)
-    ∙ ap (λ xs. cond (is_stop xs)
-    (option_and_then symbol_data (each_found group_value (groups 11 (length values) row))) None) stop
+    λ n. cond (same_modules (drop (11 * n) row) (character_bars 106))
+    (option_and_then symbol_data (each_group group_value 11 n row)) None in
+    ap whole count ∙ ap found stop
+    ∙ ap (λ b. cond b (option_and_then symbol_data (each_group group_value 11 (length values) row)) None)
+    same_stop
     ∙ ap (option_and_then symbol_data) (characters_found values (character_bars 106) a)
 
--- the check value stands last
-last_read : (start check : ℕ) (values : List ℕ)
-    → symbol_data (start ∷ (values ++ check ∷ [])) ≡ checked_values start values check
-last_read start check [] = refl
-last_read start check (value ∷ values) =
-    let count : length (values ++ check ∷ []) ≡ length (value ∷ values) = length-append values (check ∷ [])
-    ∙ omega arith in
-    let front : take (length (values ++ check ∷ [])) (value ∷ (values ++ check ∷ [])) ≡ value ∷ values =
-    ap (λ k. take k (value ∷ (values ++ check ∷ []))) count
-    ∙ take-append (length (value ∷ values)) (value ∷ values) (check ∷ []) refl in
-    let last : slice_index (value ∷ (values ++ check ∷ [])) (length (values ++ check ∷ [])) ≡ check =
-    ap (λ k. slice_index (value ∷ (values ++ check ∷ [])) k) count
-    ∙ get_or-append_right (value ∷ values) (check ∷ []) (length (value ∷ values)) (length (value ∷ values)) 0 refl
-    (omega arith)
-    ∙ ap (λ k. slice_index (check ∷ []) k)
-    (let z : length (value ∷ values) - length (value ∷ values) ≡ 0 = omega arith in z) in
-    ap (λ xs. checked_values start xs (slice_index (value ∷ (values ++ check ∷ [])) (length (values ++ check ∷ []))))
-    front ∙ ap (checked_values start (value ∷ values)) last
+-- the values between the start and the check value
+inner_is : (start check : ℕ) (values : List ℕ) → inner (start ∷ (values ++ check ∷ [])) ≡ values
+inner_is start check values =
+    let long : length (values ++ check ∷ []) ≡ length values + 1 = length-append values (check ∷ []) in
+    let count : length (start ∷ (values ++ check ∷ [])) - 2 ≡ length values = omega arith in
+    ap (λ k. take k (values ++ check ∷ [])) count ∙ take-append (length values) values (check ∷ []) refl
 
-started : (set : CodeSet) → started_set (start_value set) ≡ Some set
-started A = refl
-started B = refl
-started C = refl
+same_values : (values : List ℕ) → bytes_eq values values ≡ true
+same_values values = (bytes_eq-Decides values values).1 refl
+
+-- the set whose start value comes first is found
+set_found : (set : CodeSet) (values : List ℕ)
+    → find (λ one. bytes_eq (with_check one values) (with_check set values)) (A ∷ B ∷ C ∷ []) ≡ Some set
+set_found A values = rw (same_values (with_check A values)) refl
+set_found B values = rw (same_values (with_check B values)) refl
+set_found C values = rw (same_values (with_check C values)) refl
+
+-- the values of a symbol are read in the set that it starts in
+data_read : (set : CodeSet) (values : List ℕ) → symbol_data (with_check set values) ≡ read_values set false values
+data_read set values =
+    ap (λ xs. option_and_then (λ one. read_values one false xs)
+    (find (λ one. bytes_eq (with_check one xs) (with_check set values)) (A ∷ B ∷ C ∷ [])))
+    (inner_is (start_value set) (check_value (start_value set) values) values)
+    ∙ ap (option_and_then (λ one. read_values one false values)) (set_found set values)
 
 start_below : (set : CodeSet) → start_value set < 106
 start_below A = lit< tt
@@ -366,22 +384,12 @@ pub code128_read : (bytes : List ℕ) → AllByRecursion (λ byte. byte < 128) b
     → read_code128 (code128_bars bytes) ≡ Some bytes
 code128_read bytes d =
     let set = start_set bytes in
-    let start = start_value set in
     let values = written set bytes in
-    let check = check_value start values in
+    let check = check_value (start_value set) values in
     let below : check < 106 = omega arith in
-    let characters : AreCharacters (with_check start values) =
+    let characters : AreCharacters (with_check set values) =
     (start_below set, joined_characters values (check ∷ []) (written_characters set bytes d) (below, tt)) in
-    row_read (with_check start values) characters ∙ last_read start check values
-    ∙ ap (λ b. cond b (option_and_then (λ s. read_values s false values) (started_set start)) None)
-    (eq-eqb check check refl)
-    ∙ ap (option_and_then (λ s. read_values s false values)) (started set) ∙ read_written set bytes d
-
--- full data is the data itself, of ASCII bytes
-ascii_full : (found : Option ℕ) (bytes full : List ℕ) → unless_not_ascii found bytes ≡ Ok full
-    → (found ≡ None) × (bytes ≡ full)
-ascii_full None bytes full h = (refl, let e : unless_not_ascii None bytes ≡ Ok full = h in cc)
-ascii_full (Some index) bytes full h = absurd (let e : Err (NotAscii (index + 1)) ≡ Ok full = h in cc)
+    row_read (with_check set values) characters ∙ data_read set values ∙ read_written set bytes d
 
 pub all_ascii_from_None : (bytes : List ℕ) → position (λ byte. leb 128 byte) bytes ≡ None
     → All (λ byte. byte < 128) bytes
@@ -395,12 +403,13 @@ ascii_from_None bytes h = recursion_from_All (λ byte. byte < 128) bytes (all_as
 
 code128_full : (bytes full : List ℕ) → full_code128 bytes ≡ Ok full → read_code128 (code128_bars full) ≡ Some full
 code128_full bytes full h =
-    elim (chosen (leb (length bytes) 80) _ _ _ h) [
-      | inl p ↦
-          let parts = ascii_full (position (λ byte. leb 128 byte) bytes) bytes full p.1 in
+    elim (chosen (ltb 80 (length bytes)) _ _ _ h) [
+      | inl p ↦ absurd (let e = p.1 in cc)
+      | inr p ↦
+          let parts = not_refused NotAscii (position (λ byte. leb 128 byte) bytes) (Ok bytes) full p.1 in
+          let same : bytes ≡ full = (let e = parts.1 in cc) in
           let P : List ℕ → Type 0 = λ xs. read_code128 (code128_bars xs) ≡ Some xs in
-          subst P parts.1 (code128_read bytes (ascii_from_None bytes parts.0))
-      | inr p ↦ absurd (let e = p.1 in cc)
+          subst P same (code128_read bytes (ascii_from_None bytes parts.0))
     ]
 
 -- what is drawn of data that is full is read back

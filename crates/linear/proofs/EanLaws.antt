@@ -1,19 +1,31 @@
 -- What is drawn as EAN or UPC is read back (ISO/IEC 15420, symbol formats).
-use Rattle.std.proofs.Common.{◌≡◌, ℕ, ◌+◌, ◌-◌, ◌*◌, ◌<◌, Bool, true, cond, Ok, Some, None, Option, List, [], ◌∷◌, ◌++◌, length, take, drop, refl, sym, ap, subst, ◌∙◌, arith, length-append, append_assoc, eq-eqb, inl, inr, map, ◌%◌, lit≤}
-use Rattle.std.specs.Prelude.{option_map, option_and_then, flat_map, replicate, slice_index, All, IfOk}
+use Rattle.std.proofs.Common.{◌≡◌, ℕ, ◌+◌, ◌-◌, ◌*◌, ◌<◌, Bool, true, false, cond, Ok, Err, Result, Some, None, Option}
+use Rattle.std.proofs.Common.{List, [], ◌∷◌, ◌++◌, length, take, drop, refl, sym, ap, subst, ◌∙◌, arith, length-append}
+use Rattle.std.proofs.Common.{append_assoc, eqb, eq-eqb, inl, inr, map, ◌%◌, lit≤}
+use Rattle.std.specs.Prelude.{option_map, option_and_then, flat_map, replicate, slice_index, position, All, IfOk}
 use Rattle.std.specs.Option.{option_zip}
+use Rattle.std.specs.Result.{result_ok}
+use Rattle.std.specs.Str.{bytes_eq}
 use Rattle.std.specs.Char.{IsAsciiDigit}
 use Rattle.std.specs.List.{AllByRecursion}
-use Rattle.linear.specs.declared.ean.NumberSet.{NumberSet}
-use Rattle.linear.specs.declared.ean.NumberSet.TheVariants.{A, B, C}
-use Rattle.linear.specs.Digits.{digit_value, weighted_sum, full_digits, check_digit}
-use Rattle.linear.specs.Modules.{groups, each_found}
-use Rattle.linear.specs.Ean.{pattern, patterns, normal_guard, centre_guard, symbol, left_sets, ean8_bars, ean13_bars, upca_bars}
-use Rattle.linear.specs.EanReading.{digit_in, is_framed, left_groups, right_groups, read_halves, checked_digits, digit_in_a_or_b, first_digit, with_first_digit, without_zero, read_ean8, read_ean13, read_upca}
-use Rattle.linear.proofs.PatternLaws.{length-pattern, digit_in-pattern, digit_in_a_or_b-pattern_a, digit_in_a_or_b-pattern_b, length-left_sets, first_digit-left_sets, IsAOrB, left_sets_a_or_b}
-use Rattle.linear.proofs.DigitLaws.{IfOk-from_each, IsFull, full_from_Ok}
+use Rattle.std.proofs.lemmas.Bool.Decides.{nat_tests}
 use Rattle.std.proofs.lemmas.List.{get_or-append_right, length-take-le, length-drop, take-append-drop}
 use Rattle.std.proofs.lemmas.List.Elements.{All-append, All-take, All-drop, All-from_recursion, recursion_from_All}
+use Rattle.labelcore.specs.declared.fault.Fault.{Fault}
+use Rattle.labelcore.specs.declared.fault.Fault.TheVariants.{WrongNumberOfDigits, WrongCheckDigit}
+use Rattle.linear.specs.declared.ean.NumberSet.{NumberSet}
+use Rattle.linear.specs.declared.ean.NumberSet.TheVariants.{A, C}
+use Rattle.linear.specs.Digits.{digit_value, weighted_sum, checked, completed, full_digits, check_digit}
+use Rattle.linear.specs.Modules.{each_group}
+use Rattle.linear.specs.Tables.{left_half_sets}
+use Rattle.linear.specs.Ean.{pattern, patterns, normal_guard, centre_guard, symbol, left_sets, ean8_bars, ean13_bars}
+use Rattle.linear.specs.Ean.{upca_bars}
+use Rattle.linear.specs.EanReading.{digit_in, is_framed, read_halves, digit_in_a_or_b, with_first_digit, without_zero}
+use Rattle.linear.specs.EanReading.{read_ean8, read_ean13, read_upca}
+use Rattle.linear.proofs.PatternLaws.{length-pattern, digit_in-pattern, digit_in_a_or_b-pattern_a}
+use Rattle.linear.proofs.PatternLaws.{digit_in_a_or_b-pattern_b, length-left_sets, letter_of, position-left_sets}
+use Rattle.linear.proofs.PatternLaws.{IsAOrB, left_sets_a_or_b}
+use Rattle.linear.proofs.DigitLaws.{IfOk-from_each, IsFull, full_from_Ok}
 use Rattle.linear.proofs.GroupLaws.{take-append, drop-append, drop-append_more}
 
 -- digits in number set C
@@ -53,7 +65,7 @@ length-patterns (set ∷ sets) (byte ∷ bytes) e d =
 
 -- each group of the right half is found in set C
 pub right_found : (bytes : List ℕ) (after : List Bool) → AllByRecursion IsAsciiDigit bytes
-    → each_found (digit_in C) (groups 7 (length bytes) (right_half bytes ++ after)) ≡ Some bytes
+    → each_group (digit_in C) 7 (length bytes) (right_half bytes ++ after) ≡ Some bytes
 right_found [] after d = refl
 right_found (byte ∷ bytes) after d =
     let first = pattern C (digit_value byte) in
@@ -78,7 +90,7 @@ pub left_found : {Y : Type 0} (found : List Bool → Option Y) (g : NumberSet �
     → found (pattern set (digit_value byte)) ≡ Some (g set byte))
     → (sets : List NumberSet) (bytes : List ℕ) (after : List Bool) → AllByRecursion P sets
     → length sets ≡ length bytes → AllByRecursion IsAsciiDigit bytes
-    → each_found found (groups 7 (length bytes) (patterns sets bytes ++ after)) ≡ Some (zipped g sets bytes)
+    → each_group found 7 (length bytes) (patterns sets bytes ++ after) ≡ Some (zipped g sets bytes)
 left_found found g P one [] [] after s e d = refl
 left_found found g P one [] (byte ∷ bytes) after s e d = absurd (omega arith)
 left_found found g P one (set ∷ sets) [] after s e d = absurd (omega arith)
@@ -122,21 +134,13 @@ module _ (n : ℕ) (sets : List NumberSet) (left right : List ℕ) (as_many : le
       ∙ drop-append_more 5 (7 * n) centre_guard _ refl
       ∙ drop-append (7 * n) (right_half right) normal_guard long_right_half
 
-  long_symbol : length (symbol sets left right) ≡ 14 * n + 11
-  long_symbol =
-      let a = length-append (patterns sets left) (centre_guard ++ (right_half right ++ normal_guard)) in
-      let b = length-append (right_half right) normal_guard in
-      let p = long_patterns in
-      let q = long_right_half in
-      omega arith
-
   pub symbol_framed : is_framed n (symbol sets left right) ≡ true
-  symbol_framed = rw (eq-eqb (length (symbol sets left right)) (14 * n + 11) long_symbol, from_centre, from_end) refl
+  symbol_framed = rw (from_centre, from_end) refl
 
-  pub symbol_right_read : each_found (digit_in C) (right_groups n (symbol sets left right)) ≡ Some right
+  pub symbol_right_read : each_group (digit_in C) 7 n (drop (8 + 7 * n) (symbol sets left right)) ≡ Some right
   symbol_right_read =
       rw (from_right) (let P : ℕ → Type 0 =
-      λ k. each_found (digit_in C) (groups 7 k (right_half right ++ normal_guard)) ≡ Some right in
+      λ k. each_group (digit_in C) 7 k (right_half right ++ normal_guard) ≡ Some right in
       subst P long_right (right_found right normal_guard digits_right))
 
   -- the two halves are read
@@ -146,27 +150,37 @@ module _ (n : ℕ) (sets : List NumberSet) (left right : List ℕ) (as_many : le
       → read_halves n found (symbol sets left right) ≡ Some (zipped g sets left, right)
   halves_read {Y} found g P one in_sets =
       let after = centre_guard ++ (right_half right ++ normal_guard) in
-      let on_left : each_found found (left_groups n (symbol sets left right)) ≡ Some (zipped g sets left) =
-      let Q : ℕ → Type 0 = λ k. each_found found (groups 7 k (patterns sets left ++ after))
+      let on_left : each_group found 7 n (drop 3 (symbol sets left right)) ≡ Some (zipped g sets left) =
+      let Q : ℕ → Type 0 = λ k. each_group found 7 k (patterns sets left ++ after)
       ≡ Some (zipped g sets left) in
       subst Q long_left (left_found found g P one sets left after in_sets (as_many ∙ sym long_left) digits_left) in
-      ap (λ b. cond b (option_zip (each_found found (left_groups n (symbol sets left right)))
-      (each_found (digit_in C) (right_groups n (symbol sets left right)))) None) symbol_framed
-      ∙ ap (λ o. option_zip o (each_found (digit_in C) (right_groups n (symbol sets left right)))) on_left
+      ap (λ b. cond b (option_zip (each_group found 7 n (drop 3 (symbol sets left right)))
+      (each_group (digit_in C) 7 n (drop (8 + 7 * n) (symbol sets left right)))) None) symbol_framed
+      ∙ ap (λ o. option_zip o (each_group (digit_in C) 7 n (drop (8 + 7 * n) (symbol sets left right)))) on_left
       ∙ ap (λ o. option_zip (Some (zipped g sets left)) o) symbol_right_read
 
 -- full data has the right check digit
-pub full_checked : (count : ℕ) (full : List ℕ) → IsFull count full → checked_digits full ≡ Some full
+pub full_checked : (count : ℕ) (full : List ℕ) → IsFull count full → result_ok (completed count full) ≡ Some full
 full_checked count full f =
-    let long_full : length full ≡ count + 1 = ap length f.whole ∙ length-append f.digits (f.last ∷ [])
+    let long : length full ≡ count + 1 = ap length f.whole ∙ length-append f.digits (f.last ∷ [])
     ∙ ap (λ k. k + 1) f.long in
-    let long : length full - 1 ≡ count = omega arith in
+    let more : eqb (length full) count ≡ false = grind (arith, nat_tests) in
     let at_last : slice_index full count ≡ f.last = ap (λ xs. slice_index xs count) f.whole
     ∙ get_or-append_right f.digits (f.last ∷ []) count count 0 f.long (omega arith)
     ∙ (let z : count - count ≡ 0 = omega arith in ap (λ k. slice_index (f.last ∷ []) k) z) in
     let front : take count full ≡ f.digits = ap (λ xs. take count xs) f.whole
     ∙ take-append count f.digits (f.last ∷ []) f.long in
-    rw (long, at_last, front, eq-eqb (digit_value f.last) (check_digit f.digits) f.right) refl
+    let right : checked (take count full) (slice_index full count) ≡ Ok full =
+    ap (λ xs. checked xs (slice_index full count)) front ∙ ap (checked f.digits) at_last
+    ∙ ap (λ b. cond b (Ok (f.digits ++ f.last ∷ []))
+    (Err (WrongCheckDigit (digit_value f.last) (check_digit f.digits))))
+    (eq-eqb (digit_value f.last) (check_digit f.digits) f.right)
+    ∙ ap Ok (sym f.whole) in
+    let by_length : Bool → Bool → Result (List ℕ) Fault =
+    λ b d. cond b (Ok (full ++ (48 + check_digit full) ∷ []))
+    (cond d (checked (take count full) (slice_index full count)) (Err (WrongNumberOfDigits (length full)))) in
+    ap (λ b. result_ok (by_length b (eqb (length full) (count + 1)))) more
+    ∙ ap (λ d. result_ok (by_length false d)) (eq-eqb (length full) (count + 1) long) ∙ ap result_ok right
 
 pub all_full : (count : ℕ) (full : List ℕ) → IsFull count full → All IsAsciiDigit full
 all_full count full f =
@@ -206,8 +220,8 @@ ean8_full full f =
     (λ set byte. byte) (λ set. set ≡ A) in_a (refl, (refl, (refl, (refl, tt)))) in
     let whole : zipped (λ set byte. byte) sets (take 4 full) ++ drop 4 full ≡ full =
     ap (λ xs. xs ++ drop 4 full) (zipped_bytes sets (take 4 full) (sym long_left)) ∙ take-append-drop 4 full in
-    ap (λ o. option_and_then (λ (halves : List ℕ × List ℕ). checked_digits (halves.0 ++ halves.1)) o) halves
-    ∙ ap checked_digits whole ∙ full_checked 7 full f
+    ap (λ o. option_and_then (λ (halves : List ℕ × List ℕ). result_ok (completed 7 (halves.0 ++ halves.1))) o) halves
+    ∙ ap (λ xs. result_ok (completed 7 xs)) whole ∙ full_checked 7 full f
 
 -- what is drawn of data that is full is read back
 pub ean8_read_back : (bytes : List ℕ) → IfOk (full_digits 7 bytes) (λ full. read_ean8 (ean8_bars full) ≡ Some full)
@@ -215,23 +229,24 @@ ean8_read_back bytes = IfOk-from_each (full_digits 7 bytes) _ (λ full h. ean8_f
 
 -- EAN-13
 in_a_or_b : (set : NumberSet) (byte : ℕ) → IsAOrB set → IsAsciiDigit byte
-    → digit_in_a_or_b (pattern set (digit_value byte)) ≡ Some (set, byte)
+    → digit_in_a_or_b (pattern set (digit_value byte)) ≡ Some (letter_of set, byte)
 in_a_or_b set byte (inl e) d =
     rw (e) (digit_in_a_or_b-pattern_a (digit_value byte) (digit_below byte d)
-    ∙ ap (λ (b : ℕ). Some (A, b)) (digit_again byte d))
+    ∙ ap (λ (b : ℕ). Some (65, b)) (digit_again byte d))
 in_a_or_b set byte (inr e) d =
     rw (e) (digit_in_a_or_b-pattern_b (digit_value byte) (digit_below byte d)
-    ∙ ap (λ (b : ℕ). Some (B, b)) (digit_again byte d))
+    ∙ ap (λ (b : ℕ). Some (66, b)) (digit_again byte d))
 
-zipped_firsts : (sets : List NumberSet) (bytes : List ℕ) → length sets ≡ length bytes
-    → map (λ (found : NumberSet × ℕ). found.0) (zipped (λ set byte. (set, byte)) sets bytes) ≡ sets
-zipped_firsts [] [] e = refl
-zipped_firsts [] (byte ∷ bytes) e = absurd (omega arith)
-zipped_firsts (set ∷ sets) [] e = absurd (omega arith)
-zipped_firsts (set ∷ sets) (byte ∷ bytes) e = ap (λ xs. set ∷ xs) (zipped_firsts sets bytes (omega arith))
+zipped_letters : (sets : List NumberSet) (bytes : List ℕ) → length sets ≡ length bytes
+    → map (λ (found : ℕ × ℕ). found.0) (zipped (λ set byte. (letter_of set, byte)) sets bytes) ≡ map letter_of sets
+zipped_letters [] [] e = refl
+zipped_letters [] (byte ∷ bytes) e = absurd (omega arith)
+zipped_letters (set ∷ sets) [] e = absurd (omega arith)
+zipped_letters (set ∷ sets) (byte ∷ bytes) e =
+    ap (λ xs. letter_of set ∷ xs) (zipped_letters sets bytes (omega arith))
 
 zipped_seconds : (sets : List NumberSet) (bytes : List ℕ) → length sets ≡ length bytes
-    → map (λ (found : NumberSet × ℕ). found.1) (zipped (λ set byte. (set, byte)) sets bytes) ≡ bytes
+    → map (λ (found : ℕ × ℕ). found.1) (zipped (λ set byte. (letter_of set, byte)) sets bytes) ≡ bytes
 zipped_seconds [] [] e = refl
 zipped_seconds [] (byte ∷ bytes) e = absurd (omega arith)
 zipped_seconds (set ∷ sets) [] e = absurd (omega arith)
@@ -256,20 +271,19 @@ ean13_full (first ∷ rest) f =
     let same : length sets ≡ length (take 6 rest) = six ∙ sym long_left in
     let halves = halves_read 6 sets (take 6 rest)
     (drop 6 rest) six long_left long_right d_left d_right digit_in_a_or_b
-    (λ set byte. (set, byte)) IsAOrB in_a_or_b (left_sets_a_or_b (digit_value first) below) in
-    let found : first_digit
-    (map (λ (found : NumberSet × ℕ). found.0) (zipped (λ set byte. (set, byte)) sets (take 6 rest))) ≡ Some first =
-    ap first_digit (zipped_firsts sets (take 6 rest) same) ∙ first_digit-left_sets (digit_value first) below
-    ∙ ap Some (digit_again first d.0) in
-    let digits : map (λ (found : NumberSet × ℕ). found.1) (zipped (λ set byte. (set, byte)) sets (take 6 rest))
-    ++ drop 6 rest ≡ rest =
+    (λ set byte. (letter_of set, byte)) IsAOrB in_a_or_b (left_sets_a_or_b (digit_value first) below) in
+    let pairs : List (ℕ × ℕ) = zipped (λ set byte. (letter_of set, byte)) sets (take 6 rest) in
+    let found : position (bytes_eq (map (λ (found : ℕ × ℕ). found.0) pairs)) left_half_sets ≡ Some (digit_value first) =
+    ap (λ letters. position (bytes_eq letters) left_half_sets) (zipped_letters sets (take 6 rest) same)
+    ∙ position-left_sets (digit_value first) below in
+    let digits : map (λ (found : ℕ × ℕ). found.1) pairs ++ drop 6 rest ≡ rest =
     ap (λ xs. xs ++ drop 6 rest) (zipped_seconds sets (take 6 rest) same) ∙ take-append-drop 6 rest in
-    ap (λ o. option_and_then checked_digits (option_and_then with_first_digit o)) halves
-    ∙ ap (λ o. option_and_then checked_digits
-    (option_map (λ x. x ∷
-    (map (λ (found : NumberSet × ℕ). found.1) (zipped (λ set byte. (set, byte)) sets (take 6 rest))
-    ++ drop 6 rest)) o)) found
-    ∙ ap (λ xs. checked_digits (first ∷ xs)) digits ∙ full_checked 12 (first ∷ rest) f
+    let checked_read : Option (List ℕ) → Option (List ℕ) = option_and_then (λ xs. result_ok (completed 12 xs)) in
+    ap (λ o. checked_read (option_and_then with_first_digit o)) halves
+    ∙ ap (λ o. checked_read
+    (option_map (λ digit. (48 + digit) ∷ (map (λ (found : ℕ × ℕ). found.1) pairs ++ drop 6 rest)) o)) found
+    ∙ ap (λ xs. result_ok (completed 12 ((48 + digit_value first) ∷ xs))) digits
+    ∙ ap (λ b. result_ok (completed 12 (b ∷ rest))) (digit_again first d.0) ∙ full_checked 12 (first ∷ rest) f
 
 pub ean13_read_back : (bytes : List ℕ) → IfOk (full_digits 12 bytes) (λ full. read_ean13 (ean13_bars full) ≡ Some full)
 ean13_read_back bytes =

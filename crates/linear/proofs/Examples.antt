@@ -3,6 +3,7 @@ use Rattle.std.specs.Prelude.{◌≡◌, refl, Some, Ok, Err, codes, length, ◌
 use Rattle.labelcore.specs.declared.fault.Fault.TheVariants.{NotADigit, WrongNumberOfDigits, WrongCheckDigit}
 use Rattle.linear.specs.Modules.{modules}
 use Rattle.linear.specs.Digits.{weighted_sum, full_digits}
+use Rattle.linear.specs.Tables.{number_set_a, left_half_sets, character_widths}
 use Rattle.linear.specs.Ean.{ean8_bars, ean13_bars, upca_bars}
 use Rattle.linear.specs.EanReading.{read_ean8, read_ean13, read_upca}
 use Rattle.linear.specs.CodeSets.{start_value, start_set, written}
@@ -27,9 +28,11 @@ letter_ean8 = refl
 
 row_ean8 : ean8_bars (codes "73513537")
     ≡ modules (codes "1010111011011110101100010011001010101000010100111010000101000100101")
+unfolding number_set_a
 row_ean8 = refl
 
 read_row_ean8 : read_ean8 (ean8_bars (codes "73513537")) ≡ Some (codes "73513537")
+unfolding number_set_a
 read_row_ean8 = refl
 
 -- `ean13 4006381333931`
@@ -44,9 +47,11 @@ wrong_ean13 = refl
 
 row_ean13 : ean13_bars (codes "4006381333931")
     ≡ modules (codes "10100011010100111010111101111010001001011001101010100001010000101000010111010010000101100110101")
+unfolding left_half_sets number_set_a
 row_ean13 = refl
 
 read_row_ean13 : read_ean13 (ean13_bars (codes "4006381333931")) ≡ Some (codes "4006381333931")
+unfolding left_half_sets number_set_a
 read_row_ean13 = refl
 
 -- `upca 03600029145`
@@ -57,9 +62,11 @@ full_upca : full_digits 11 (codes "03600029145") ≡ Ok (codes "036000291452")
 full_upca = refl
 
 same_as_ean13 : upca_bars (codes "036000291452") ≡ ean13_bars (codes "0036000291452")
+unfolding left_half_sets
 same_as_ean13 = refl
 
 read_row_upca : read_upca (upca_bars (codes "036000291452")) ≡ Some (codes "036000291452")
+unfolding left_half_sets number_set_a
 read_row_upca = refl
 
 short_upca : full_digits 11 (codes "12345") ≡ Err (WrongNumberOfDigits 5)
@@ -70,6 +77,7 @@ full_zero_ean13 : full_digits 12 (codes "0036000291452") ≡ Ok (codes "00360002
 full_zero_ean13 = refl
 
 length_zero_ean13 : length (ean13_bars (codes "0036000291452")) ≡ 95
+unfolding left_half_sets number_set_a
 length_zero_ean13 = refl
 
 -- the start value and the values of the data
@@ -88,9 +96,11 @@ check_letters : check_value 104 (48 ∷ 42 ∷ 42 ∷ 17 ∷ 18 ∷ 19 ∷ 35 �
 check_letters = refl
 
 length_letters : length (code128_bars (codes "PJJ123C")) ≡ 112
+unfolding character_widths
 length_letters = refl
 
 read_letters : read_code128 (code128_bars (codes "PJJ123C")) ≡ Some (codes "PJJ123C")
+unfolding character_widths
 read_letters = refl
 
 -- `code128 42`: exactly two digits start in set C
@@ -102,6 +112,7 @@ check_two_digits : check_value 105 (42 ∷ []) ≡ 44
 check_two_digits = refl
 
 length_two_digits : length (code128_bars (codes "42")) ≡ 46
+unfolding character_widths
 length_two_digits = refl
 
 -- `code128 12345`: an odd digit is left over in set C
@@ -127,6 +138,7 @@ check_six_digits : check_value 104 (33 ∷ 99 ∷ 12 ∷ 34 ∷ 56 ∷ []) ≡ 6
 check_six_digits = refl
 
 read_six_digits : read_code128 (code128_bars (codes "A123456")) ≡ Some (codes "A123456")
+unfolding character_widths
 read_six_digits = refl
 
 -- `a`, byte 1, `b`: a control character between letters is shifted
@@ -141,6 +153,7 @@ check_shift : check_value 104 (65 ∷ 98 ∷ 65 ∷ 66 ∷ []) ≡ 0
 check_shift = refl
 
 read_shift : read_code128 (code128_bars (97 ∷ 1 ∷ 98 ∷ [])) ≡ Some (97 ∷ 1 ∷ 98 ∷ [])
+unfolding character_widths
 read_shift = refl
 
 -- `a\x01b` as six characters
@@ -163,8 +176,10 @@ check_one_digit : check_value 104 (17 ∷ []) ≡ 18
 check_one_digit = refl
 
 length_one_digit : length (code128_bars (codes "1")) ≡ 46
+unfolding character_widths
 length_one_digit = refl
 
 -- shifts both ways, and changes of set
 read_mixed : read_code128 (code128_bars (1 ∷ 97 ∷ 2 ∷ 98 ∷ 97 ∷ 3 ∷ [])) ≡ Some (1 ∷ 97 ∷ 2 ∷ 98 ∷ 97 ∷ 3 ∷ [])
+unfolding character_widths
 read_mixed = refl

@@ -1,16 +1,18 @@
 -- Laws of the tables of patterns (ISO/IEC 15420, symbol characters): each is a test that is computed over the whole
--- table once, and then
--- holds at each place.
-use Rattle.std.proofs.Common.{◌≡◌, ℕ, zero, suc, ◌+◌, ◌<◌, Bool, true, false, ◌&&◌, Some, None, Option, List, [], ◌∷◌, length, eqb, refl, arith, ap, sym, ◌∙◌, subst, inl, inr}
-use Rattle.std.specs.Prelude.{option_map, is_none, ◌⊎◌}
+-- table once, and then holds at each place.
+use Rattle.std.proofs.Common.{◌≡◌, ℕ, zero, suc, ◌+◌, ◌<◌, Bool, true, false, ◌&&◌, Some, None, Option, List, [], ◌∷◌}
+use Rattle.std.proofs.Common.{length, eqb, refl, arith, ap, sym, ◌∙◌, subst, inl, inr}
+use Rattle.std.specs.Prelude.{option_map, is_none, map, position, ◌⊎◌}
+use Rattle.std.specs.Str.{bytes_eq}
 use Rattle.std.specs.List.{AllByRecursion, list_all}
 use Rattle.std.specs.Option.{option_or}
 use Rattle.std.proofs.lemmas.Bool.{and_parts, cases_eq, false≢true}
 use Rattle.std.proofs.lemmas.Bool.Decides.{Decides-eqb}
 use Rattle.linear.specs.declared.ean.NumberSet.{NumberSet}
 use Rattle.linear.specs.declared.ean.NumberSet.TheVariants.{A, B, C}
+use Rattle.linear.specs.Tables.{number_set_a, left_half_sets}
 use Rattle.linear.specs.Ean.{pattern, left_sets}
-use Rattle.linear.specs.EanReading.{digit_in, digit_in_a_or_b, first_digit}
+use Rattle.linear.specs.EanReading.{digit_in, digit_in_a_or_b}
 
 -- whether a test passes at each number below a bound
 abbrev pub passes_below : (ℕ → Bool) → ℕ → Bool
@@ -42,12 +44,14 @@ none_from_test (Some n) h = absurd (false≢true h)
 
 -- a digit's pattern has seven modules
 pub length-pattern : (set : NumberSet) (digit : ℕ) → digit < 10 → length (pattern set digit) ≡ 7
+unfolding number_set_a
 length-pattern A digit h = (Decides-eqb _ 7).0 (passes_at (λ d. eqb (length (pattern A d)) 7) 10 digit refl h)
 length-pattern B digit h = (Decides-eqb _ 7).0 (passes_at (λ d. eqb (length (pattern B d)) 7) 10 digit refl h)
 length-pattern C digit h = (Decides-eqb _ 7).0 (passes_at (λ d. eqb (length (pattern C d)) 7) 10 digit refl h)
 
 -- a digit is found in its set
 pub digit_in-pattern : (set : NumberSet) (digit : ℕ) → digit < 10 → digit_in set (pattern set digit) ≡ Some (48 + digit)
+unfolding number_set_a
 digit_in-pattern A digit h =
     value_from_test _ _ (passes_at (λ d. is_value (digit_in A (pattern A d)) (48 + d)) 10 digit refl h)
 digit_in-pattern B digit h =
@@ -57,27 +61,37 @@ digit_in-pattern C digit h =
 
 -- no pattern of set B is one of set A
 pub digit_in_a-pattern_b : (digit : ℕ) → digit < 10 → digit_in A (pattern B digit) ≡ None
+unfolding number_set_a
 digit_in_a-pattern_b digit h = none_from_test _ (passes_at (λ d. is_none (digit_in A (pattern B d))) 10 digit refl h)
 
 -- a left digit is found in its set
-pub digit_in_a_or_b-pattern_a : (digit : ℕ) → digit < 10 → digit_in_a_or_b (pattern A digit) ≡ Some (A, 48 + digit)
+pub digit_in_a_or_b-pattern_a : (digit : ℕ) → digit < 10 → digit_in_a_or_b (pattern A digit) ≡ Some (65, 48 + digit)
 digit_in_a_or_b-pattern_a digit h =
-    ap (λ o. option_or (option_map (λ byte. (A, byte)) o)
-    (option_map (λ byte. (B, byte)) (digit_in B (pattern A digit)))) (digit_in-pattern A digit h)
+    ap (λ o. option_or (option_map (λ byte. (65, byte)) o)
+    (option_map (λ byte. (66, byte)) (digit_in B (pattern A digit)))) (digit_in-pattern A digit h)
 
-pub digit_in_a_or_b-pattern_b : (digit : ℕ) → digit < 10 → digit_in_a_or_b (pattern B digit) ≡ Some (B, 48 + digit)
+pub digit_in_a_or_b-pattern_b : (digit : ℕ) → digit < 10 → digit_in_a_or_b (pattern B digit) ≡ Some (66, 48 + digit)
 digit_in_a_or_b-pattern_b digit h =
-    ap (λ o. option_or (option_map (λ byte. (A, byte)) o)
-    (option_map (λ byte. (B, byte)) (digit_in B (pattern B digit)))) (digit_in_a-pattern_b digit h)
-    ∙ ap (λ o. option_map (λ (byte : ℕ). (B, byte)) o) (digit_in-pattern B digit h)
+    ap (λ o. option_or (option_map (λ byte. (65, byte)) o)
+    (option_map (λ byte. (66, byte)) (digit_in B (pattern B digit)))) (digit_in_a-pattern_b digit h)
+    ∙ ap (λ o. option_map (λ (byte : ℕ). (66, byte)) o) (digit_in-pattern B digit h)
 
 -- the sets of a left half are six, each A or B, and give the first digit
 pub length-left_sets : (digit : ℕ) → digit < 10 → length (left_sets digit) ≡ 6
+unfolding left_half_sets
 length-left_sets digit h = (Decides-eqb _ 6).0 (passes_at (λ d. eqb (length (left_sets d)) 6) 10 digit refl h)
 
-pub first_digit-left_sets : (digit : ℕ) → digit < 10 → first_digit (left_sets digit) ≡ Some (48 + digit)
-first_digit-left_sets digit h =
-    value_from_test _ _ (passes_at (λ d. is_value (first_digit (left_sets d)) (48 + d)) 10 digit refl h)
+-- the table's letter of a set
+abbrev pub letter_of : NumberSet → ℕ
+letter_of A = 65
+letter_of _ = 66
+
+pub position-left_sets : (digit : ℕ) → digit < 10
+    → position (bytes_eq (map letter_of (left_sets digit))) left_half_sets ≡ Some digit
+unfolding left_half_sets
+position-left_sets digit h =
+    value_from_test _ _
+    (passes_at (λ d. is_value (position (bytes_eq (map letter_of (left_sets d))) left_half_sets) d) 10 digit refl h)
 
 abbrev pub IsAOrB : NumberSet → Type 0
 IsAOrB set = (set ≡ A) ⊎ (set ≡ B)
@@ -100,6 +114,6 @@ all_from_test (set ∷ sets) h =
     (IsAOrB-from_test set parts.0, all_from_test sets parts.1)
 
 pub left_sets_a_or_b : (digit : ℕ) → digit < 10 → AllByRecursion IsAOrB (left_sets digit)
-unfolding is_a_or_b
+unfolding left_half_sets is_a_or_b
 left_sets_a_or_b digit h =
     all_from_test (left_sets digit) (passes_at (λ d. list_all is_a_or_b (left_sets d)) 10 digit refl h)

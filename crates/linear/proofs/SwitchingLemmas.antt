@@ -1,16 +1,17 @@
 -- The steps of the switching rule write what `written` says.
-use Rattle.std.proofs.Common.{◌≡◌, ℕ, ◌+◌, ◌%◌, ◌<◌, ◌≤◌, Bool, true, false, cond, List, [], ◌∷◌, ◌++◌, length, drop, leb, eqb, refl, sym, ap, subst, ◌∙◌, arith, lt-ltb, le-ltb, le-leb, append-nil, inl, inr}
-use Rattle.std.proofs.lemmas.Bool.{cases_lt, and_parts, true≢false}
-use Rattle.std.proofs.lemmas.Bool.Decides.{nat_tests}
-use Rattle.std.specs.Char.{is_ascii_digit}
-use Rattle.linear.proofs.Code128Laws.{even_run, picked_has}
-use Rattle.linear.specs.Switching.{Step, to_set, is_long_run, character_step, step, Writes, done, stepped, ValuesAreWrittenBySteps}
+use Rattle.std.proofs.Common.{◌≡◌, ℕ, ◌<◌, Bool, true, false, cond, List, [], ◌∷◌, ◌++◌, drop, leb, eqb, refl, sym, ap}
+use Rattle.std.proofs.Common.{subst, ◌∙◌, arith, lt-ltb, le-leb, append-nil, inl, inr, ◌%◌}
 use Rattle.std.specs.Prelude.{◌&&◌, ◌||◌, slice_index}
+use Rattle.std.specs.Char.{is_ascii_digit}
 use Rattle.std.specs.List.{AllByRecursion}
+use Rattle.std.proofs.lemmas.Bool.Decides.{nat_tests}
 use Rattle.std.proofs.lemmas.List.Elements.{recursion_from_All}
 use Rattle.linear.specs.declared.switching.CodeSet.{CodeSet}
 use Rattle.linear.specs.declared.switching.CodeSet.TheVariants.{A, B, C}
-use Rattle.linear.specs.CodeSets.{character_value, pair_value, change_value, shift_value, leading_digits, is_control_next, is_lower_next, picked_set, is_even_run, is_pair_next, pair_values, Written, changed_to, byte_written, written}
+use Rattle.linear.specs.CodeSets.{has_character, character_value, pair_value, shift_value, leading_digits, is_next}
+use Rattle.linear.specs.CodeSets.{picked_set, is_even_run, is_pair_next, pair_values, byte_written, written}
+use Rattle.linear.specs.Switching.{Step, to_set, character_step, step, Writes, done, stepped, ValuesAreWrittenBySteps}
+use Rattle.linear.proofs.Code128Laws.{even_run, picked_has, PickedHas, written_by}
 
 by_step : (set : CodeSet) (byte : ℕ) (rest values all : List ℕ) (s : Step) → step set byte rest ≡ s
     → Writes s.set s.rest values → s.values ++ values ≡ all → Writes set (byte ∷ rest) all
@@ -28,167 +29,85 @@ pair_in_c first second rest values long w =
     (ap (λ b. cond b (record { values = pair_value first second ∷ []; set = C; rest = rest })
     (character_step C first (second ∷ rest))) long) w refl
 
--- a byte that the set has, where no long run of digits is even
-plain_in_a : (byte : ℕ) (rest values : List ℕ) → is_even_run (byte ∷ rest) ≡ false → byte < 96 → Writes A rest values
-    → Writes A (byte ∷ rest) (character_value A byte ∷ values)
-plain_in_a byte rest values odd has w =
-    let one : Step = record { values = character_value A byte ∷ []; set = A; rest = rest } in
-    let by_tests : (even long : Bool) → (even && long) ≡ false
-    → cond long (cond even (to_set C (byte ∷ rest)) one) one ≡ one =
-    elim [
-      | true ↦ elim [ true ↦ λ e. absurd (true≢false e) | false ↦ λ e. refl ]
-      | false ↦ elim [ true ↦ λ e. refl | false ↦ λ e. refl ]
-    ] in
-    by_step A byte rest values _ one
-    (ap (λ b. cond (is_long_run (byte ∷ rest))
-    (cond (eqb (leading_digits (byte ∷ rest) % 2) 0) (to_set C (byte ∷ rest)) one)
-    (cond b one (cond (is_control_next rest)
-    (record { values = shift_value ∷ character_value B byte ∷ []; set = A; rest = rest })
-    (to_set B (byte ∷ rest))))) (lt-ltb byte 96 has)
-    ∙ by_tests (eqb (leading_digits (byte ∷ rest) % 2) 0) (is_long_run (byte ∷ rest)) odd) w refl
+-- where no pair is next, a step writes one character or changes the set
+one_character : (set : CodeSet) (byte : ℕ) (rest : List ℕ) → is_pair_next set (byte ∷ rest) ≡ false
+    → step set byte rest ≡ character_step set byte rest
+one_character A byte rest odd = ap (λ b. cond b (to_set C (byte ∷ rest)) (character_step A byte rest)) odd
+one_character B byte rest odd = ap (λ b. cond b (to_set C (byte ∷ rest)) (character_step B byte rest)) odd
+one_character C byte rest few =
+    ap (λ b. cond b (record { values = pair_value byte (slice_index rest 0) ∷ []; set = C; rest = drop 1 rest })
+    (character_step C byte rest)) few
 
-plain_in_b : (byte : ℕ) (rest values : List ℕ) → is_even_run (byte ∷ rest) ≡ false → 32 ≤ byte → Writes B rest values
-    → Writes B (byte ∷ rest) (character_value B byte ∷ values)
-plain_in_b byte rest values odd has w =
-    let one : Step = record { values = character_value B byte ∷ []; set = B; rest = rest } in
-    let by_tests : (even long : Bool) → (even && long) ≡ false
-    → cond long (cond even (to_set C (byte ∷ rest)) one) one ≡ one =
-    elim [
-      | true ↦ elim [ true ↦ λ e. absurd (true≢false e) | false ↦ λ e. refl ]
-      | false ↦ elim [ true ↦ λ e. refl | false ↦ λ e. refl ]
-    ] in
-    by_step B byte rest values _ one
-    (ap (λ b. cond (is_long_run (byte ∷ rest))
-    (cond (eqb (leading_digits (byte ∷ rest) % 2) 0) (to_set C (byte ∷ rest)) one)
-    (cond b one (cond (is_lower_next rest)
-    (record { values = shift_value ∷ character_value A byte ∷ []; set = B; rest = rest })
-    (to_set A (byte ∷ rest))))) (le-leb 32 byte has)
-    ∙ by_tests (eqb (leading_digits (byte ∷ rest) % 2) 0) (is_long_run (byte ∷ rest)) odd) w refl
+-- the step of one character, by whether the set has it and whether the next special byte is of the set
+abbrev step_by : CodeSet → ℕ → List ℕ → Bool → Bool → Step
+step_by set byte rest has next =
+    cond has (record { values = character_value byte ∷ []; set = set; rest = rest })
+    (cond next (record { values = shift_value ∷ character_value byte ∷ []; set = set; rest = rest })
+    (to_set (picked_set (byte ∷ rest)) (byte ∷ rest)))
 
--- a byte that is no digit begins no run
-no_digits : (byte : ℕ) (rest : List ℕ) → is_ascii_digit byte ≡ false → leading_digits (byte ∷ rest) ≡ 0
-no_digits byte rest h = ap (λ b. cond b (1 + leading_digits rest) 0) h
+step_is : (set : CodeSet) (byte : ℕ) (rest : List ℕ) (has next : Bool) → is_pair_next set (byte ∷ rest) ≡ false
+    → has_character set byte ≡ has → is_next set rest ≡ next → step set byte rest ≡ step_by set byte rest has next
+step_is set byte rest has next odd e f = one_character set byte rest odd
+    ∙ ap (λ b. step_by set byte rest b (is_next set rest)) e ∙ ap (λ b. step_by set byte rest has b) f
 
-not_long : (byte : ℕ) (rest : List ℕ) → is_ascii_digit byte ≡ false → is_long_run (byte ∷ rest) ≡ false
-not_long byte rest h = ap (λ k. leb 6 k || (leb 4 k && eqb k (length (byte ∷ rest)))) (no_digits byte rest h)
+-- a byte that the set has
+plain : (set : CodeSet) (byte : ℕ) (rest values : List ℕ) → is_pair_next set (byte ∷ rest) ≡ false
+    → has_character set byte ≡ true → Writes set rest values → Writes set (byte ∷ rest) (character_value byte ∷ values)
+plain set byte rest values odd has w =
+    by_step set byte rest values _ (record { values = character_value byte ∷ []; set = set; rest = rest })
+    (step_is set byte rest true (is_next set rest) odd has refl) w refl
 
-not_even : (byte : ℕ) (rest : List ℕ) → is_ascii_digit byte ≡ false → is_even_run (byte ∷ rest) ≡ false
-not_even byte rest h =
-    ap (λ k. eqb (k % 2) 0 && (leb 6 k || (leb 4 k && eqb k (length (byte ∷ rest))))) (no_digits byte rest h)
+-- where no pair is next, no even run of digits is
+not_even : (set : CodeSet) (bytes : List ℕ) → is_pair_next set bytes ≡ false → is_even_run bytes ≡ false
+not_even A bytes odd = odd
+not_even B bytes odd = odd
+not_even C bytes few = (let k : leb 2 (leading_digits bytes) ≡ false = few in grind (arith, nat_tests))
 
--- a byte that set A lacks
-lacks_in_a : (byte : ℕ) (rest values : List ℕ) → 96 ≤ byte → Writes (byte_written A byte rest).set rest values
-    → Writes A (byte ∷ rest) ((byte_written A byte rest).values ++ values)
-lacks_in_a byte rest values lacks =
-    let none : is_ascii_digit byte ≡ false = grind (arith, nat_tests) in
-    let shifted : Step = record { values = shift_value ∷ character_value B byte ∷ []; set = A; rest = rest } in
-    let written_by : Bool → Written =
-    λ b. cond b (record { values = shift_value ∷ character_value B byte ∷ []; set = A }) (changed_to B byte) in
-    let step_is : step A byte rest ≡ cond (is_control_next rest) shifted (to_set B (byte ∷ rest)) =
-    ap (λ b. cond b (cond (eqb (leading_digits (byte ∷ rest) % 2) 0) (to_set C (byte ∷ rest))
-    (record { values = character_value A byte ∷ []; set = A; rest = rest })) (character_step A byte rest))
-    (not_long byte rest none)
-    ∙ ap (λ b. cond b (record { values = character_value A byte ∷ []; set = A; rest = rest })
-    (cond (is_control_next rest) shifted (to_set B (byte ∷ rest)))) (le-ltb byte 96 lacks) in
-    let each : (b : Bool) → step A byte rest ≡ cond b shifted (to_set B (byte ∷ rest))
-    → Writes (written_by b).set rest values → Writes A (byte ∷ rest) ((written_by b).values ++ values) =
-    elim [
-      | true ↦ λ e w. by_step A byte rest values _ shifted e w refl
-      | false ↦ λ e w. by_step A byte rest (character_value B byte ∷ values) _ (to_set B (byte ∷ rest)) e
-          (plain_in_b byte rest values (not_even byte rest none) (omega arith) w) refl
-    ] in
-    let P : Written → Type 0 = λ x. Writes x.set rest values → Writes A (byte ∷ rest) (x.values ++ values) in
-    subst P (ap (λ b. cond b (record { values = character_value A byte ∷ []; set = A })
-    (written_by (is_control_next rest))) (sym (le-ltb byte 96 lacks))) (each (is_control_next rest) step_is)
+-- the picked set has the byte
+plain_picked : (picked : CodeSet) (byte : ℕ) (rest values : List ℕ) → PickedHas picked byte
+    → is_even_run (byte ∷ rest) ≡ false → Writes picked rest values
+    → Writes picked (byte ∷ rest) (character_value byte ∷ values)
+plain_picked picked byte rest values (inl p) odd =
+    let P : CodeSet → Type 0 = λ s. Writes s rest values → Writes s (byte ∷ rest) (character_value byte ∷ values) in
+    subst P (sym p.0) (plain A byte rest values odd (lt-ltb byte 96 p.1))
+plain_picked picked byte rest values (inr p) odd =
+    let P : CodeSet → Type 0 = λ s. Writes s rest values → Writes s (byte ∷ rest) (character_value byte ∷ values) in
+    subst P (sym p.0) (plain B byte rest values odd (le-leb 32 byte p.1))
 
-lacks_in_b : (byte : ℕ) (rest values : List ℕ) → byte < 32 → Writes (byte_written B byte rest).set rest values
-    → Writes B (byte ∷ rest) ((byte_written B byte rest).values ++ values)
-lacks_in_b byte rest values lacks =
-    let none : is_ascii_digit byte ≡ false = grind (arith, nat_tests) in
-    let low : leb 32 byte ≡ false = grind (arith, nat_tests) in
-    let shifted : Step = record { values = shift_value ∷ character_value A byte ∷ []; set = B; rest = rest } in
-    let written_by : Bool → Written =
-    λ b. cond b (record { values = shift_value ∷ character_value A byte ∷ []; set = B }) (changed_to A byte) in
-    let step_is : step B byte rest ≡ cond (is_lower_next rest) shifted (to_set A (byte ∷ rest)) =
-    ap (λ b. cond b (cond (eqb (leading_digits (byte ∷ rest) % 2) 0) (to_set C (byte ∷ rest))
-    (record { values = character_value B byte ∷ []; set = B; rest = rest })) (character_step B byte rest))
-    (not_long byte rest none)
-    ∙ ap (λ b. cond b (record { values = character_value B byte ∷ []; set = B; rest = rest })
-    (cond (is_lower_next rest) shifted (to_set A (byte ∷ rest)))) low in
-    let each : (b : Bool) → step B byte rest ≡ cond b shifted (to_set A (byte ∷ rest))
-    → Writes (written_by b).set rest values → Writes B (byte ∷ rest) ((written_by b).values ++ values) =
-    elim [
-      | true ↦ λ e w. by_step B byte rest values _ shifted e w refl
-      | false ↦ λ e w. by_step B byte rest (character_value A byte ∷ values) _ (to_set A (byte ∷ rest)) e
-          (plain_in_a byte rest values (not_even byte rest none) (omega arith) w) refl
-    ] in
-    let P : Written → Type 0 = λ x. Writes x.set rest values → Writes B (byte ∷ rest) (x.values ++ values) in
-    subst P (ap (λ b. cond b (record { values = character_value B byte ∷ []; set = B })
-    (written_by (is_lower_next rest))) (sym low)) (each (is_lower_next rest) step_is)
-
--- one byte where no pair is next, in each set
+-- one byte where no pair is next
 single : (set : CodeSet) (byte : ℕ) (rest values : List ℕ) → byte < 128 → is_pair_next set (byte ∷ rest) ≡ false
     → Writes (byte_written set byte rest).set rest values
     → Writes set (byte ∷ rest) ((byte_written set byte rest).values ++ values)
-single A byte rest values h odd =
-    let P : Written → Type 0 = λ x. Writes x.set rest values → Writes A (byte ∷ rest) (x.values ++ values) in
-    elim (cases_lt byte 96) [
-      | inl has ↦ subst P (ap
-          (λ b. cond b (record { values = character_value A byte ∷ []; set = A })
-          (cond (is_control_next rest) (record { values = shift_value ∷ character_value B byte ∷ []; set = A })
-          (changed_to B byte))) (sym (lt-ltb byte 96 has))) (plain_in_a byte rest values odd has)
-      | inr lacks ↦ lacks_in_a byte rest values lacks
-    ]
-single B byte rest values h odd =
-    let P : Written → Type 0 = λ x. Writes x.set rest values → Writes B (byte ∷ rest) (x.values ++ values) in
-    elim (cases_lt byte 32) [
-      | inl lacks ↦ lacks_in_b byte rest values lacks
-      | inr has ↦ subst P (ap
-          (λ b. cond b (record { values = character_value B byte ∷ []; set = B })
-          (cond (is_lower_next rest) (record { values = shift_value ∷ character_value A byte ∷ []; set = B })
-          (changed_to A byte))) (sym (le-leb 32 byte has))) (plain_in_b byte rest values odd has)
-    ]
-single C byte rest values h odd =
-    let change : step C byte rest ≡ to_set (picked_set (byte ∷ rest)) (byte ∷ rest) =
-    ap (λ b. cond b (record { values = pair_value byte (slice_index rest 0) ∷ []; set = C; rest = drop 1 rest })
-    (to_set (picked_set (byte ∷ rest)) (byte ∷ rest))) odd in
-    let few : is_even_run (byte ∷ rest) ≡ false =
-    (let k : leb 2 (leading_digits (byte ∷ rest)) ≡ false = odd in grind (arith, nat_tests)) in
-    let P : CodeSet → Type 0 = λ s. step C byte rest ≡ to_set s (byte ∷ rest) → Writes s rest values
-    → Writes C (byte ∷ rest) (change_value s ∷ character_value s byte ∷ values) in
-    let in_a : byte < 96 → P A =
-    λ has e w. by_step C byte rest (character_value A byte ∷ values) _ (to_set A (byte ∷ rest)) e
-    (plain_in_a byte rest values few has w) refl in
-    let in_b : 32 ≤ byte → P B =
-    λ has e w. by_step C byte rest (character_value B byte ∷ values) _ (to_set B (byte ∷ rest)) e
-    (plain_in_b byte rest values few has w) refl in
-    elim (picked_has byte rest h) [
-      | inl p ↦ subst P (sym p.0) (in_a p.1) change
-      | inr p ↦ subst P (sym p.0) (in_b p.1) change
-    ]
+single set byte rest values h odd =
+    let picked : CodeSet = picked_set (byte ∷ rest) in
+    let each : (has next : Bool) → has_character set byte ≡ has → is_next set rest ≡ next
+    → Writes (written_by set byte has next picked).set rest values
+    → Writes set (byte ∷ rest) ((written_by set byte has next picked).values ++ values) =
+    elim [
+      | true ↦ λ next e f w. plain set byte rest values odd e w
+      | false ↦ elim [
+        | true ↦ λ e f w. by_step set byte rest values _ (step_by set byte rest false true)
+            (step_is set byte rest false true odd e f) w refl
+        | false ↦ λ e f w.
+            by_step set byte rest (character_value byte ∷ values) _ (to_set picked (byte ∷ rest))
+            (step_is set byte rest false false odd e f)
+            (plain_picked picked byte rest values (picked_has byte rest h) (not_even set (byte ∷ rest) odd) w) refl
+      ]
+    ] in
+    each (has_character set byte) (is_next set rest) refl refl
 
 -- a pair, in each set
 pair : (set : CodeSet) (first second : ℕ) (rest values : List ℕ) → is_pair_next set (first ∷ second ∷ rest) ≡ true
     → Writes C rest values → Writes set (first ∷ second ∷ rest) (pair_values set first second ++ values)
 pair A first second rest values even w =
     let bytes : List ℕ = first ∷ second ∷ rest in
-    let parts = and_parts (eqb (leading_digits bytes % 2) 0) (is_long_run bytes) even in
-    let one : Step = record { values = character_value A first ∷ []; set = A; rest = second ∷ rest } in
-    let e : step A first (second ∷ rest) ≡ to_set C bytes =
-    ap (λ b. cond b (cond (eqb (leading_digits bytes % 2) 0) (to_set C bytes) one)
-    (character_step A first (second ∷ rest))) parts.1
-    ∙ ap (λ b. cond b (to_set C bytes) one) parts.0 in
-    by_step A first (second ∷ rest) (pair_value first second ∷ values) _ (to_set C bytes) e
+    by_step A first (second ∷ rest) (pair_value first second ∷ values) _ (to_set C bytes)
+    (ap (λ b. cond b (to_set C bytes) (character_step A first (second ∷ rest))) even)
     (pair_in_c first second rest values (le-leb 2 (leading_digits bytes) (even_run bytes even)) w) refl
 pair B first second rest values even w =
     let bytes : List ℕ = first ∷ second ∷ rest in
-    let parts = and_parts (eqb (leading_digits bytes % 2) 0) (is_long_run bytes) even in
-    let one : Step = record { values = character_value B first ∷ []; set = B; rest = second ∷ rest } in
-    let e : step B first (second ∷ rest) ≡ to_set C bytes =
-    ap (λ b. cond b (cond (eqb (leading_digits bytes % 2) 0) (to_set C bytes) one)
-    (character_step B first (second ∷ rest))) parts.1
-    ∙ ap (λ b. cond b (to_set C bytes) one) parts.0 in
-    by_step B first (second ∷ rest) (pair_value first second ∷ values) _ (to_set C bytes) e
+    by_step B first (second ∷ rest) (pair_value first second ∷ values) _ (to_set C bytes)
+    (ap (λ b. cond b (to_set C bytes) (character_step B first (second ∷ rest))) even)
     (pair_in_c first second rest values (le-leb 2 (leading_digits bytes) (even_run bytes even)) w) refl
 pair C first second rest values long w = pair_in_c first second rest values long w
 

@@ -1,22 +1,52 @@
 -- The tables in the code are the tables of the standards: each is computed once from the definitions.
-use Rattle.std.proofs.Common.{◌≡◌, ℕ, ◌<◌, List, Bool, map, get_or, refl, ap, ◌∙◌, arith}
+use Rattle.std.proofs.Common.{◌≡◌, ℕ, ◌<◌, List, [], ◌∷◌, ◌++◌, Bool, map, get_or, refl, ap, sym, ◌∙◌, arith}
 use Rattle.std.specs.List.{range_with_len}
 use Rattle.std.proofs.lemmas.List.FromFn.{get_or-map-range_with_len}
-use Rattle.linear.specs.declared.tables.TheConstants.{CHARACTERS, STOP}
-use Rattle.linear.specs.Code128.{character_bars}
+use Rattle.std.proofs.lemmas.List.{get_or_append_left, get_or_default}
+use Rattle.linear.specs.declared.tables.TheConstants.{SET_A, SET_B, SET_C, CHARACTERS, STOP}
+use Rattle.linear.specs.declared.ean.NumberSet.{NumberSet}
+use Rattle.linear.specs.declared.ean.NumberSet.TheVariants.{A, B, C}
+use Rattle.linear.specs.Tables.{number_set_a, character_widths}
+use Rattle.linear.specs.Ean.{pattern}
+use Rattle.linear.specs.Code128.{characters, character_bars}
 
-characters : CHARACTERS ≡ map character_bars (range_with_len 0 106)
-characters = refl
+-- the code's characters of the values 0 to 105, and its stop character
+unfoldable pub all_characters : List (List Bool)
+all_characters = CHARACTERS ++ STOP ∷ []
+
+pub characters_are : characters ≡ all_characters
+unfolding all_characters character_widths
+characters_are = refl
 
 pub stop : STOP ≡ character_bars 106
-stop = refl
-
--- what is read at an index of a table that lists a function's values
-read : {X : Type 0} (table : List X) (f : ℕ → X) (n i k : ℕ) (d : X) → table ≡ map f (range_with_len 0 n) → i ≡ k
-    → k < n → get_or table i d ≡ f k
-read table f n i k d e same h = ap (λ xs. get_or xs i d) e
-    ∙ get_or-map-range_with_len f 0 n i k d (omega arith) (omega arith)
+unfolding all_characters
+stop = sym (ap (λ table. get_or table 106 []) characters_are)
 
 pub read_character : (i value : ℕ) (d : List Bool) → i ≡ value → value < 106
     → get_or CHARACTERS i d ≡ character_bars value
-read_character i value d = read CHARACTERS character_bars 106 i value d characters
+unfolding all_characters
+read_character i value d same h = ap (λ k. get_or CHARACTERS k d) same ∙ get_or_default CHARACTERS value d [] h
+    ∙ sym (get_or_append_left CHARACTERS (STOP ∷ []) [] value h)
+    ∙ sym (ap (λ table. get_or table value []) characters_are)
+
+-- the digits in a number set
+unfoldable pub digits_of : NumberSet → List (List Bool)
+digits_of A = SET_A
+digits_of B = SET_B
+digits_of C = SET_C
+
+digits_are : (set : NumberSet) → digits_of set ≡ map (pattern set) (range_with_len 0 10)
+unfolding digits_of number_set_a
+digits_are A = refl
+digits_are B = refl
+digits_are C = refl
+
+read_digit : (set : NumberSet) (i digit : ℕ) (d : List Bool) → i ≡ digit → digit < 10
+    → get_or (digits_of set) i d ≡ pattern set digit
+read_digit set i digit d same h = ap (λ table. get_or table i d) (digits_are set)
+    ∙ get_or-map-range_with_len (pattern set) 0 10 i digit d (omega arith) (omega arith)
+
+-- in the set of a match
+pub read_in : (set one : NumberSet) (i digit : ℕ) (d : List Bool) → set ≡ one → i ≡ digit → digit < 10
+    → get_or (digits_of one) i d ≡ pattern set digit
+read_in set one i digit d e same h = read_digit one i digit d same h ∙ ap (λ s. pattern s digit) (sym e)

@@ -1,6 +1,7 @@
 -- Code sets A, B and C of Code 128, and the values that data is written in (ISO/IEC 15417, code sets and symbol
 -- characters).
-use Rattle.std.specs.Prelude.{ℕ, ◌+◌, ◌-◌, ◌*◌, ◌%◌, ◌==◌, nat_lt, nat_le, if◌then◌else◌, Bool, true, false, ◌&&◌, ◌||◌, Option, List, [], ◌∷◌, ◌++◌, length, find}
+use Rattle.std.specs.Prelude.{ℕ, ◌+◌, ◌-◌, ◌*◌, ◌%◌, ◌==◌, nat_lt, nat_le, if◌then◌else◌, Bool, true, false, ◌&&◌, ◌||◌}
+use Rattle.std.specs.Prelude.{Option, List, [], ◌∷◌, ◌++◌, length, find}
 use Rattle.std.specs.List.{prefix_len}
 use Rattle.std.specs.Char.{is_ascii_digit}
 use Rattle.std.specs.Option.{option_map_or}
@@ -14,11 +15,9 @@ has_character A byte = nat_lt byte 96
 has_character B byte = nat_le 32 byte
 has_character C byte = false
 
--- the value of a byte's character in sets A and B
-abbrev pub character_value : CodeSet → ℕ → ℕ
-character_value A byte = if nat_lt byte 32 then byte + 64 else byte - 32
-character_value B byte = byte - 32
-character_value C byte = 0
+-- the value of a byte's character, the same in each of sets A and B that has it
+abbrev pub character_value : ℕ → ℕ
+character_value byte = if nat_lt byte 32 then byte + 64 else byte - 32
 
 -- the value of two digits in set C
 abbrev pub pair_value : ℕ → ℕ → ℕ
@@ -48,17 +47,13 @@ leading_digits bytes = prefix_len is_ascii_digit bytes
 abbrev pub next_special : List ℕ → Option ℕ
 next_special bytes = find (λ byte. nat_lt byte 32 || nat_le 96 byte) bytes
 
--- whether that byte is a control character, which A has
-abbrev pub is_control_next : List ℕ → Bool
-is_control_next bytes = option_map_or (λ byte. nat_lt byte 32) (next_special bytes) false
+-- whether that byte is of a set
+abbrev pub is_next : CodeSet → List ℕ → Bool
+is_next set bytes = option_map_or (has_character set) (next_special bytes) false
 
--- whether that byte is one from 96 on, which B has
-abbrev pub is_lower_next : List ℕ → Bool
-is_lower_next bytes = option_map_or (λ byte. nat_le 96 byte) (next_special bytes) false
-
--- the one of A and B to go to
+-- the one of A and B to go to: the one that has the first special byte, and B where there is none
 abbrev pub picked_set : List ℕ → CodeSet
-picked_set bytes = if is_control_next bytes then A else B
+picked_set bytes = if is_next A bytes then A else B
 
 -- whether the bytes begin with an even number of digits, at least 6, or at least 4 with nothing after them
 abbrev pub is_even_run : List ℕ → Bool
@@ -68,9 +63,8 @@ is_even_run bytes =
 
 -- whether the next two digits are to be one value of set C
 abbrev pub is_pair_next : CodeSet → List ℕ → Bool
-is_pair_next A bytes = is_even_run bytes
-is_pair_next B bytes = is_even_run bytes
 is_pair_next C bytes = nat_le 2 (leading_digits bytes)
+is_pair_next _ bytes = is_even_run bytes
 
 -- values, and the set that holds after them
 pub record Written : Type 0 where
@@ -79,26 +73,20 @@ pub record Written : Type 0 where
 
 -- two digits, after a change to set C where another one holds
 abbrev pub pair_values : CodeSet → ℕ → ℕ → List ℕ
-pair_values A first second = change_value C ∷ pair_value first second ∷ []
-pair_values B first second = change_value C ∷ pair_value first second ∷ []
 pair_values C first second = pair_value first second ∷ []
+pair_values _ first second = change_value C ∷ pair_value first second ∷ []
 
 -- one byte after a change to a set
 abbrev pub changed_to : CodeSet → ℕ → Written
-changed_to set byte = record { values = change_value set ∷ character_value set byte ∷ []; set = set }
+changed_to set byte = record { values = change_value set ∷ character_value byte ∷ []; set = set }
 
 -- one byte before others: in the set itself where it has the byte, else by a shift where the next special byte is of
--- this set, and else after a change; from C after a change to the picked set
+-- this set, and else after a change to the picked set
 abbrev pub byte_written : CodeSet → ℕ → List ℕ → Written
-byte_written A byte rest =
-    if has_character A byte then record { values = character_value A byte ∷ []; set = A }
-    else if is_control_next rest then record { values = shift_value ∷ character_value B byte ∷ []; set = A }
-    else changed_to B byte
-byte_written B byte rest =
-    if has_character B byte then record { values = character_value B byte ∷ []; set = B }
-    else if is_lower_next rest then record { values = shift_value ∷ character_value A byte ∷ []; set = B }
-    else changed_to A byte
-byte_written C byte rest = changed_to (picked_set (byte ∷ rest)) byte
+byte_written set byte rest =
+    if has_character set byte then record { values = character_value byte ∷ []; set = set }
+    else if is_next set rest then record { values = shift_value ∷ character_value byte ∷ []; set = set }
+    else changed_to (picked_set (byte ∷ rest)) byte
 
 -- the values that the bytes are written in, from a set on
 abbrev pub written : CodeSet → List ℕ → List ℕ

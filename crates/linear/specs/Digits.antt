@@ -1,6 +1,8 @@
 -- The digits of EAN and UPC as bytes, and their check digit (ISO/IEC 15420, check digit).
-use Rattle.std.specs.Prelude.{ℕ, ◌+◌, ◌-◌, ◌*◌, ◌%◌, ◌==◌, if◌then◌else◌, not, Option, Some, None, Result, Ok, Err, List, [], ◌∷◌, ◌++◌, length, take, position, slice_index}
+use Rattle.std.specs.Prelude.{ℕ, ◌+◌, ◌-◌, ◌*◌, ◌%◌, ◌==◌, if◌then◌else◌, not, Option, Result, Ok, Err, List, [], ◌∷◌}
+use Rattle.std.specs.Prelude.{◌++◌, length, take, position, slice_index}
 use Rattle.std.specs.Char.{is_ascii_digit}
+use Rattle.std.specs.Option.{option_map_or}
 use Rattle.labelcore.specs.declared.fault.Fault.{Fault}
 use Rattle.labelcore.specs.declared.fault.Fault.TheVariants.{NotADigit, WrongNumberOfDigits, WrongCheckDigit}
 
@@ -24,8 +26,7 @@ check_digit digits = (10 - weighted_sum digits % 10) % 10
 -- digits and a last one that is to be their check digit
 abbrev pub checked : List ℕ → ℕ → Result (List ℕ) Fault
 checked digits last =
-    if digit_value last == check_digit digits
-    then Ok (digits ++ last ∷ [])
+    if digit_value last == check_digit digits then Ok (digits ++ last ∷ [])
     else Err (WrongCheckDigit (digit_value last) (check_digit digits))
 
 -- digits, this many or with their check digit one more, with their check digit
@@ -35,12 +36,12 @@ completed count digits =
     else if length digits == count + 1 then checked (take count digits) (slice_index digits count)
     else Err (WrongNumberOfDigits (length digits))
 
--- the result, or the refusal of the byte at an index
-abbrev pub unless_refused : Option ℕ → Result (List ℕ) Fault → Result (List ℕ) Fault
-unless_refused None result = result
-unless_refused (Some index) result = Err (NotADigit (index + 1))
+-- the result, or the fault of a byte that was found at an index, with its place from 1 on
+abbrev pub unless_found : (ℕ → Fault) → Option ℕ → Result (List ℕ) Fault → Result (List ℕ) Fault
+unless_found fault found result = option_map_or (λ index. Err (fault (index + 1))) found result
 
 -- the full data of a symbol that has this many digits and a check digit: bytes that are no digits are refused first,
 -- then a wrong number of digits, then a wrong check digit
 abbrev pub full_digits : ℕ → List ℕ → Result (List ℕ) Fault
-full_digits count bytes = unless_refused (position (λ byte. not (is_ascii_digit byte)) bytes) (completed count bytes)
+full_digits count bytes =
+    unless_found NotADigit (position (λ byte. not (is_ascii_digit byte)) bytes) (completed count bytes)

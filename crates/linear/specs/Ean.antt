@@ -1,5 +1,6 @@
 -- The rows of EAN and UPC symbols (ISO/IEC 15420, symbol characters, guard patterns and symbol formats).
-use Rattle.std.specs.Prelude.{ℕ, Bool, List, [], ◌∷◌, ◌++◌, map, reverse, not, take, drop, replicate, slice_index_or, flat_map, codes, ◌==◌, if◌then◌else◌}
+use Rattle.std.specs.Prelude.{ℕ, Bool, List, [], ◌∷◌, ◌++◌, map, reverse, not, take, drop, replicate, slice_index_or}
+use Rattle.std.specs.Prelude.{flat_map, zip, codes, ◌==◌, if◌then◌else◌}
 use Rattle.linear.specs.declared.ean.NumberSet.{NumberSet}
 use Rattle.linear.specs.declared.ean.NumberSet.TheVariants.{A, B, C}
 use Rattle.linear.specs.Digits.{digit_value}
@@ -18,9 +19,7 @@ pattern C digit = map not (pattern_a digit)
 
 -- digits, each in its number set
 abbrev pub patterns : List NumberSet → List ℕ → List Bool
-patterns [] bytes = []
-patterns (set ∷ sets) [] = []
-patterns (set ∷ sets) (byte ∷ bytes) = pattern set (digit_value byte) ++ patterns sets bytes
+patterns sets bytes = flat_map (λ pair. pattern pair.0 (digit_value pair.1)) (zip sets bytes)
 
 -- the guard patterns
 abbrev pub normal_guard : List Bool
@@ -40,13 +39,9 @@ symbol sets left right =
 abbrev pub ean8_bars : List ℕ → List Bool
 ean8_bars full = symbol (replicate 4 A) (take 4 full) (drop 4 full)
 
--- the number set of a letter of the table: 65 is `A`, 66 is `B`
-abbrev pub set_of_letter : ℕ → NumberSet
-set_of_letter letter = if letter == 65 then A else if letter == 66 then B else C
-
--- the number sets of the left half of an EAN-13 symbol, by its first digit
+-- the number sets of the left half of an EAN-13 symbol, by its first digit: of the table's letters 65 is `A`
 abbrev pub left_sets : ℕ → List NumberSet
-left_sets digit = map set_of_letter (slice_index_or left_half_sets digit [])
+left_sets digit = map (λ letter. if letter == 65 then A else B) (slice_index_or left_half_sets digit [])
 
 -- EAN-13: the first digit picks the sets of the next six, and the last six are in set C
 abbrev pub ean13_bars : List ℕ → List Bool

@@ -6,5 +6,5 @@ pub mod Ean
 pub mod EanReading
 pub mod Modules
 pub mod Switching
-pub mod TableLaws
+pub mod TableFacts
 pub mod Tables

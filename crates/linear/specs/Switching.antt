@@ -1,9 +1,10 @@
 -- The switching rule of Code 128 as it is said, step by step (in the manner of ISO/IEC 15417's annex on the use of code
 -- sets).
-use Rattle.std.specs.Prelude.{ℕ, ◌<◌, ◌%◌, ◌==◌, nat_le, if◌then◌else◌, Bool, ◌&&◌, ◌||◌, List, [], ◌∷◌, ◌++◌, length, drop, slice_index, All}
+use Rattle.std.specs.Prelude.{ℕ, ◌<◌, if◌then◌else◌, List, [], ◌∷◌, ◌++◌, drop, slice_index, All}
 use Rattle.linear.specs.declared.switching.CodeSet.{CodeSet}
-use Rattle.linear.specs.declared.switching.CodeSet.TheVariants.{A, B, C}
-use Rattle.linear.specs.CodeSets.{has_character, character_value, pair_value, change_value, shift_value, leading_digits, is_control_next, is_lower_next, picked_set, written}
+use Rattle.linear.specs.declared.switching.CodeSet.TheVariants.{C}
+use Rattle.linear.specs.CodeSets.{has_character, character_value, pair_value, change_value, shift_value, is_next}
+use Rattle.linear.specs.CodeSets.{picked_set, is_pair_next, written}
 
 -- what one step writes, the set after it, and what is still to be written
 pub record Step : Type 0 where
@@ -15,39 +16,22 @@ pub record Step : Type 0 where
 abbrev pub to_set : CodeSet → List ℕ → Step
 to_set set bytes = record { values = change_value set ∷ []; set = set; rest = bytes }
 
--- whether a run of digits is long enough for set C
-abbrev pub is_long_run : List ℕ → Bool
-is_long_run bytes =
-    nat_le 6 (leading_digits bytes) || (nat_le 4 (leading_digits bytes) && (leading_digits bytes == length bytes))
-
--- one character in A or B: in the set itself where it has the byte, else by a shift or after a change
+-- one character: in the set itself where it has the byte, else by a shift where the next special byte is of this set,
+-- and else after a change to the picked set
 abbrev pub character_step : CodeSet → ℕ → List ℕ → Step
-character_step A byte rest =
-    if has_character A byte then record { values = character_value A byte ∷ []; set = A; rest = rest }
-    else if is_control_next rest
-    then record { values = shift_value ∷ character_value B byte ∷ []; set = A; rest = rest }
-    else to_set B (byte ∷ rest)
-character_step B byte rest =
-    if has_character B byte then record { values = character_value B byte ∷ []; set = B; rest = rest }
-    else if is_lower_next rest
-    then record { values = shift_value ∷ character_value A byte ∷ []; set = B; rest = rest }
-    else to_set A (byte ∷ rest)
-character_step C byte rest = to_set (picked_set (byte ∷ rest)) (byte ∷ rest)
+character_step set byte rest =
+    if has_character set byte then record { values = character_value byte ∷ []; set = set; rest = rest }
+    else if is_next set rest then record { values = shift_value ∷ character_value byte ∷ []; set = set; rest = rest }
+    else to_set (picked_set (byte ∷ rest)) (byte ∷ rest)
 
--- a run of digits in A or B that is long enough: a change to set C where it is even, and else one digit
-abbrev pub run_step : CodeSet → ℕ → List ℕ → Step
-run_step set byte rest =
-    if leading_digits (byte ∷ rest) % 2 == 0 then to_set C (byte ∷ rest)
-    else record { values = character_value set byte ∷ []; set = set; rest = rest }
-
--- one step for a byte and the rest after it
+-- one step for a byte and the rest after it: in C two digits are a pair, and an even run of digits that is long enough
+-- changes to C, so that an odd one has its first digit as a character before the change
 abbrev pub step : CodeSet → ℕ → List ℕ → Step
-step A byte rest = if is_long_run (byte ∷ rest) then run_step A byte rest else character_step A byte rest
-step B byte rest = if is_long_run (byte ∷ rest) then run_step B byte rest else character_step B byte rest
 step C byte rest =
-    if nat_le 2 (leading_digits (byte ∷ rest))
+    if is_pair_next C (byte ∷ rest)
     then record { values = pair_value byte (slice_index rest 0) ∷ []; set = C; rest = drop 1 rest }
     else character_step C byte rest
+step set byte rest = if is_pair_next set (byte ∷ rest) then to_set C (byte ∷ rest) else character_step set byte rest
 
 -- the steps from a set and data on, until nothing is left, write these values
 pub data Writes : CodeSet → List ℕ → List ℕ → Type 0 where

@@ -1,45 +1,31 @@
 -- The tables of the standards, as the standards print them (ISO/IEC 15420 and 15417, symbol characters). All drawing
 -- and all reading rests on these rows.
-use Rattle.std.specs.Prelude.{ℕ, List, [], ◌∷◌, codes}
+use Rattle.std.specs.Prelude.{ℕ, List, ◌==◌, ◌++◌, codes}
+use Rattle.std.specs.List.{slice_split}
+
+-- the rows of a table: the words of a text with a blank between each two
+abbrev pub rows : List ℕ → List (List ℕ)
+rows text = slice_split (λ byte. byte == 32) text
 
 -- ISO/IEC 15420: the modules of the digits 0 to 9 in number set A, `1` where dark
-abbrev pub number_set_a : List (List ℕ)
-number_set_a =
-    codes "0001101" ∷ codes "0011001" ∷ codes "0010011" ∷ codes "0111101" ∷ codes "0100011" ∷
-    codes "0110001" ∷ codes "0101111" ∷ codes "0111011" ∷ codes "0110111" ∷ codes "0001011" ∷ []
+unfoldable pub number_set_a : List (List ℕ)
+number_set_a = rows (codes "0001101 0011001 0010011 0111101 0100011 0110001 0101111 0111011 0110111 0001011")
 
 -- ISO/IEC 15420: the number sets of the left half of an EAN-13 symbol, for the first digits 0 to 9
-abbrev pub left_half_sets : List (List ℕ)
-left_half_sets =
-    codes "AAAAAA" ∷ codes "AABABB" ∷ codes "AABBAB" ∷ codes "AABBBA" ∷ codes "ABAABB" ∷
-    codes "ABBAAB" ∷ codes "ABBBAA" ∷ codes "ABABAB" ∷ codes "ABABBA" ∷ codes "ABBABA" ∷ []
+unfoldable pub left_half_sets : List (List ℕ)
+left_half_sets = rows (codes "AAAAAA AABABB AABBAB AABBBA ABAABB ABBAAB ABBBAA ABABAB ABABBA ABBABA")
 
--- ISO/IEC 15417: the widths of bars and spaces, a bar first, of the values 0 to 105
-abbrev pub character_widths : List (List ℕ)
-character_widths =
-    codes "212222" ∷ codes "222122" ∷ codes "222221" ∷ codes "121223" ∷ codes "121322" ∷
-    codes "131222" ∷ codes "122213" ∷ codes "122312" ∷ codes "132212" ∷ codes "221213" ∷
-    codes "221312" ∷ codes "231212" ∷ codes "112232" ∷ codes "122132" ∷ codes "122231" ∷
-    codes "113222" ∷ codes "123122" ∷ codes "123221" ∷ codes "223211" ∷ codes "221132" ∷
-    codes "221231" ∷ codes "213212" ∷ codes "223112" ∷ codes "312131" ∷ codes "311222" ∷
-    codes "321122" ∷ codes "321221" ∷ codes "312212" ∷ codes "322112" ∷ codes "322211" ∷
-    codes "212123" ∷ codes "212321" ∷ codes "232121" ∷ codes "111323" ∷ codes "131123" ∷
-    codes "131321" ∷ codes "112313" ∷ codes "132113" ∷ codes "132311" ∷ codes "211313" ∷
-    codes "231113" ∷ codes "231311" ∷ codes "112133" ∷ codes "112331" ∷ codes "132131" ∷
-    codes "113123" ∷ codes "113321" ∷ codes "133121" ∷ codes "313121" ∷ codes "211331" ∷
-    codes "231131" ∷ codes "213113" ∷ codes "213311" ∷ codes "213131" ∷ codes "311123" ∷
-    codes "311321" ∷ codes "331121" ∷ codes "312113" ∷ codes "312311" ∷ codes "332111" ∷
-    codes "314111" ∷ codes "221411" ∷ codes "431111" ∷ codes "111224" ∷ codes "111422" ∷
-    codes "121124" ∷ codes "121421" ∷ codes "141122" ∷ codes "141221" ∷ codes "112214" ∷
-    codes "112412" ∷ codes "122114" ∷ codes "122411" ∷ codes "142112" ∷ codes "142211" ∷
-    codes "241211" ∷ codes "221114" ∷ codes "413111" ∷ codes "241112" ∷ codes "134111" ∷
-    codes "111242" ∷ codes "121142" ∷ codes "121241" ∷ codes "114212" ∷ codes "124112" ∷
-    codes "124211" ∷ codes "411212" ∷ codes "421112" ∷ codes "421211" ∷ codes "212141" ∷
-    codes "214121" ∷ codes "412121" ∷ codes "111143" ∷ codes "111341" ∷ codes "131141" ∷
-    codes "114113" ∷ codes "114311" ∷ codes "411113" ∷ codes "411311" ∷ codes "113141" ∷
-    codes "114131" ∷ codes "311141" ∷ codes "411131" ∷ codes "211412" ∷ codes "211214" ∷
-    codes "211232" ∷ []
-
--- ISO/IEC 15417: the widths of the stop character, value 106
-abbrev pub stop_widths : List ℕ
-stop_widths = codes "2331112"
+-- ISO/IEC 15417: the widths of bars and spaces, a bar first, of the values 0 to 106, of which 106 is the stop character
+unfoldable pub character_widths : List (List ℕ)
+character_widths = rows (
+    codes "212222 222122 222221 121223 121322 131222 122213 122312 132212 221213 " ++
+    codes "221312 231212 112232 122132 122231 113222 123122 123221 223211 221132 " ++
+    codes "221231 213212 223112 312131 311222 321122 321221 312212 322112 322211 " ++
+    codes "212123 212321 232121 111323 131123 131321 112313 132113 132311 211313 " ++
+    codes "231113 231311 112133 112331 132131 113123 113321 133121 313121 211331 " ++
+    codes "231131 213113 213311 213131 311123 311321 331121 312113 312311 332111 " ++
+    codes "314111 221411 431111 111224 111422 121124 121421 141122 141221 112214 " ++
+    codes "112412 122114 122411 142112 142211 241211 221114 413111 241112 134111 " ++
+    codes "111242 121142 121241 114212 124112 124211 411212 421112 421211 212141 " ++
+    codes "214121 412121 111143 111341 131141 114113 114311 411113 411311 113141 " ++
+    codes "114131 311141 411131 211412 211214 211232 2331112")

@@ -1,5 +1,6 @@
 //! Code 128 symbols (ISO/IEC 15417).
-ghost use Rattle.std.specs.Prelude.{◌≡◌, [], ◌+◌, ◌*◌, ◌≤◌, ◌<◌, ◌++◌, All, Ok, Err, OnOk, MatchResult, length, flat_map, position, nat_le};
+ghost use Rattle.std.specs.Prelude.{◌≡◌, [], ◌+◌, ◌*◌, ◌≤◌, ◌<◌, ◌++◌, All, Ok, Err, OnOk, MatchResult, length};
+ghost use Rattle.std.specs.Prelude.{flat_map, position, nat_le};
 ghost use Rattle.arrayvec.specs.ArrayVec.{array_vec_len};
 ghost use Rattle.linear.specs.declared.limits.TheConstants.{MAX_BYTES, MAX_VALUES, MAX_MODULES};
 ghost use Rattle.linear.specs.Code128.{check_value, character_bars, full_code128, code128_bars};
@@ -56,6 +57,7 @@ fn push_characters(row: &mut Row, values: &[u8])
 }
 
 /// Appends the stop character.
+#[tactic(auto, using(crate::proofs::TableForms::stop))]
 fn push_stop(row: &mut Row)
     requires { array_vec_len row.old + 13 ≤ MAX_MODULES }
     ensures drawn { row.new.items ≡ row.old.items ++ character_bars 106 }

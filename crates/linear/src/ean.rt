@@ -124,6 +124,7 @@ impl Linear for Ean8 {
 }
 
 /// Appends the symbol of thirteen digits.
+#[tactic(auto, unfolding(crate::specs::Tables::left_half_sets))]
 fn push_ean13(row: &mut Row, full: &[u8])
     requires digits { All IsAsciiDigit full.now }
     requires len { length full.now ≡ 13 }

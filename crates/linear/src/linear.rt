@@ -1,5 +1,6 @@
 //! What every linear symbology does.
-ghost use Rattle.std.specs.Prelude.{◌≡◌, ◌≢◌, ◌≤◌, ◌↔◌, ℕ, Bool, Option, Result, Ok, Err, Some, List, [], IsOk, IfOk, IfErr, OnErr, length};
+ghost use Rattle.std.specs.Prelude.{◌≡◌, ◌≢◌, ◌≤◌, ◌↔◌, ℕ, Bool, Option, Result, Ok, Err, Some, List, [], IsOk, IfOk};
+ghost use Rattle.std.specs.Prelude.{IfErr, OnErr, length};
 ghost use Rattle.linear.specs.declared.limits.TheConstants.{MAX_MODULES};
 ghost use Rattle.labelcore.specs.declared.fault.Fault.{Fault as Refusal};
 

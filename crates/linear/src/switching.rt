@@ -1,9 +1,11 @@
 //! Code sets, and the rule by which data changes between them (ISO/IEC 15417).
-ghost use Rattle.std.specs.Prelude.{◌≡◌, [], ◌∷◌, ◌+◌, ◌≤◌, ◌<◌, ◌++◌, All, length, IsTrue};
+ghost use Rattle.std.specs.Prelude.{◌≡◌, [], ◌∷◌, ◌+◌, ◌≤◌, ◌<◌, ◌++◌, All, length};
 ghost use Rattle.std.specs.Char.{IsAsciiDigit};
 ghost use Rattle.arrayvec.specs.ArrayVec.{array_vec_len};
 ghost use Rattle.linear.specs.declared.limits.TheConstants.{MAX_BYTES, MAX_VALUES};
-ghost use Rattle.linear.specs.CodeSets.{has_character, character_value, start_value, change_value, shift_value, leading_digits, is_control_next, is_lower_next, next_special, picked_set, is_pair_next, pair_values, changed_to, byte_written, written, start_set};
+ghost use Rattle.linear.specs.CodeSets.{has_character, character_value, start_value, change_value, shift_value};
+ghost use Rattle.linear.specs.CodeSets.{leading_digits, is_next, next_special, picked_set, is_pair_next, pair_values};
+ghost use Rattle.linear.specs.CodeSets.{changed_to, byte_written, written, start_set};
 ghost use Rattle.linear.specs.Switching.{ValuesAreWrittenBySteps};
 
 use crate::limits::MAX_VALUES;
@@ -41,25 +43,18 @@ fn next_special(bytes: &[u8]) -> Option<u8>
     bytes.iter().copied().find(|byte| *byte < 32 || *byte >= 96)
 }
 
-/// Whether the next byte that only one of sets A and B has is a control character, which A has.
-fn is_control_next(bytes: &[u8]) -> bool
-    ensures { result ≡ is_control_next bytes.now }
+/// Whether the next byte that only one of sets A and B has is of this set.
+fn is_next(set: CodeSet, bytes: &[u8]) -> bool
+    ensures { result ≡ is_next set bytes.now }
 {
-    next_special(bytes).is_some_and(|byte| byte < 32)
-}
-
-/// Whether the next byte that only one of sets A and B has is one from 96 on, which B has.
-fn is_lower_next(bytes: &[u8]) -> bool
-    ensures { result ≡ is_lower_next bytes.now }
-{
-    next_special(bytes).is_some_and(|byte| byte >= 96)
+    next_special(bytes).is_some_and(|byte| has_character(set, byte))
 }
 
 /// The one of sets A and B to go to for these bytes.
 fn picked_set(bytes: &[u8]) -> CodeSet
     ensures { result ≡ picked_set bytes.now }
 {
-    if is_control_next(bytes) {
+    if is_next(CodeSet::A, bytes) {
         CodeSet::A
     } else {
         CodeSet::B
@@ -123,15 +118,11 @@ fn has_character(set: CodeSet, byte: u8) -> bool
 }
 
 /// The value of a byte in set A or B.
-fn character_value(set: CodeSet, byte: u8) -> u8
-    requires ascii { byte < 128 }
-    requires has { IsTrue (has_character set byte) }
-    ensures { result ≡ character_value set byte }
+fn character_value(byte: u8) -> u8
+    requires { byte < 128 }
+    ensures { result ≡ character_value byte }
 {
-    match set {
-        CodeSet::A if byte < 32 => byte + 64,
-        _ => byte - 32,
-    }
+    if byte < 32 { byte + 64 } else { byte - 32 }
 }
 
 /// Appends the value of two digits, after a change to set C where another one holds.
@@ -151,26 +142,23 @@ fn push_pair(values: &mut Values, set: CodeSet, first: u8, second: u8)
 /// Appends the values of a byte after a change to a set that has it.
 fn push_changed(values: &mut Values, set: CodeSet, byte: u8)
     requires ascii { byte < 128 }
-    requires has { IsTrue (has_character set byte) }
     requires room { array_vec_len values.old + 2 ≤ MAX_VALUES }
     ensures items { values.new.items ≡ values.old.items ++ (changed_to set byte).values }
     ensures len { array_vec_len values.new ≤ array_vec_len values.old + 2 }
 {
     values.push(change_value(set));
-    values.push(character_value(set, byte));
+    values.push(character_value(byte));
 }
 
-/// Appends a shift and the value of a byte in the set that it stands for.
-fn push_shifted(values: &mut Values, shifted: CodeSet, byte: u8)
+/// Appends a shift and the value of a byte, which the other of sets A and B has.
+fn push_shifted(values: &mut Values, byte: u8)
     requires ascii { byte < 128 }
-    requires has { IsTrue (has_character shifted byte) }
     requires room { array_vec_len values.old + 2 ≤ MAX_VALUES }
-    ensures items { values.new.items
-        ≡ values.old.items ++ shift_value ∷ character_value shifted byte ∷ [] }
+    ensures items { values.new.items ≡ values.old.items ++ shift_value ∷ character_value byte ∷ [] }
     ensures len { array_vec_len values.new ≤ array_vec_len values.old + 2 }
 {
     values.push(SHIFT);
-    values.push(character_value(shifted, byte));
+    values.push(character_value(byte));
 }
 
 /// Appends the values of a byte before `rest`, and gives the set that holds after them.
@@ -182,31 +170,21 @@ fn push_byte(values: &mut Values, set: CodeSet, byte: u8, rest: &[u8]) -> CodeSe
     ensures len { array_vec_len values.new ≤ array_vec_len values.old + 2 }
 {
     if has_character(set, byte) {
-        values.push(character_value(set, byte));
+        values.push(character_value(byte));
         return set;
     }
-    let next = match set {
-        CodeSet::A if is_control_next(rest) => {
-            push_shifted(values, CodeSet::B, byte);
-            return set;
-        }
-        CodeSet::A => CodeSet::B,
-        CodeSet::B if is_lower_next(rest) => {
-            push_shifted(values, CodeSet::A, byte);
-            return set;
-        }
-        CodeSet::B => CodeSet::A,
-        CodeSet::C => picked_set_of(byte, rest),
-    };
+    if is_next(set, rest) {
+        push_shifted(values, byte);
+        return set;
+    }
+    let next = picked_set_of(byte, rest);
     push_changed(values, next, byte);
     next
 }
 
-/// The set to change to from C for a byte before `rest`.
+/// The set to change to for a byte before `rest`.
 fn picked_set_of(byte: u8, rest: &[u8]) -> CodeSet
-    requires { byte < 128 }
-    ensures picked { result ≡ picked_set (byte ∷ rest.now) }
-    ensures has { IsTrue (has_character result byte) }
+    ensures { result ≡ picked_set (byte ∷ rest.now) }
 {
     if byte < 32 {
         CodeSet::A

@@ -5,4 +5,5 @@ use Rattle.gf256.proofs.field.product_of_powers.Goals as goal
 
 pub returns : goal.returns
 unfolding exp
-returns c = rw (c.from.ensures, c.from-2.ensures) (exp-power (c.args.i + c.args.j) (omega arith) ∙ field_power-add 2 c.args.i c.args.j (omega arith))
+returns c = rw (c.from.ensures, c.from-2.ensures) (exp-power (c.args.i + c.args.j) (omega arith)
+    ∙ field_power-add 2 c.args.i c.args.j (omega arith))

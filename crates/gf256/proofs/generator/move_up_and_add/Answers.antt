@@ -6,7 +6,9 @@ use Rattle.gf256.proofs.generator.move_up_and_add.Goals as goal
 pub returns : goal.returns
 returns c = λ k h.
     let last = length c.args.logarithms.now - 1 in
-    moved_last (λ j. field_product (field_power alpha c.args.logarithm) (field_power alpha (get_or c.args.logarithms.now j 0))) c.args.register.now c.loop-j.register last c.product_of_powers-2.result k
+    moved_last (λ j. field_product (field_power alpha c.args.logarithm)
+    (field_power alpha (get_or c.args.logarithms.now j 0)))
+    c.args.register.now c.loop-j.register last c.product_of_powers-2.result k
     c.loop-j.auto.register (omega (arith, c.requires.some, c.requires.same))
     (λ j below. c.loop-j.invariant.written j (omega (arith, c.loop-j-test.false)))
     c.product_of_powers-2.ensures
