@@ -1,0 +1,7 @@
+-- Steps that may find nothing, one after another.
+use Rattle.std.specs.Prelude.{Option, option_and_then}
+
+infixl 10 ◌>>=◌
+-- where there is a value, what is made of it
+abbrev pub ◌>>=◌ : {A B : Type 0} → Option A → (A → Option B) → Option B
+o >>= f = option_and_then f o
