@@ -3,7 +3,7 @@ use Rattle.std.proofs.Common.{◌≡◌, ℕ, List, [], ◌++◌, Result, Ok, Er
 use Rattle.std.proofs.lemmas.Bool.{false≢true}
 use Rattle.std.proofs.lemmas.List.{append-nil}
 use Rattle.std.specs.Result.{IsErr}
-use Rattle.labelcore.specs.Device.{Rises, TakesBeginning, Unflushed}
+use Rattle.labelcore.specs.Device.{Begins, Rises, Unflushed}
 use Rattle.labelcore.specs.Writing.{WritesText}
 use Rattle.labelcore.specs.declared.device.Sink.{Ghosts}
 
@@ -45,8 +45,8 @@ module _ {S : Type 0} (sink : Ghosts S) (took_joined : (s t u : S) (xs ys : List
   }
 
   -- a beginning of what follows a text that was written
-  TakesBeginning-next : (s t u : S) (front more rest text : List ℕ) → text ≡ (front ++ more) ++ rest → sink.took s t front → TakesBeginning sink.took t u more → TakesBeginning sink.took s u text
-  TakesBeginning-next s t u front more rest text e h k = (
+  Begins-next : (s t u : S) (front more rest text : List ℕ) → text ≡ (front ++ more) ++ rest → sink.took s t front → Begins (sink.took t u) more → Begins (sink.took s u) text
+  Begins-next s t u front more rest text e h k = (
     front ++ k.0,
     (k.1.0 ++ rest, e ∙ (ap (λ (xs : List ℕ). (front ++ xs) ++ rest) k.1.1 ∙ simp append_assoc)),
     took_joined s t u front k.0 h k.2,
@@ -57,7 +57,7 @@ module _ {S : Type 0} (sink : Ghosts S) (took_joined : (s t u : S) (xs ys : List
       HasWritten sink s t front → WritesText {T = U} sink t u more (Err fault) → WritesText sink s u text r
   WritesText-fails s t u front more rest text (Ok x) err e h w = absurd (false≢true err)
   WritesText-fails s t u front more rest text (Err x) err e h w = record {
-    bytes = TakesBeginning-next s t u front more rest text e h.taken w.bytes;
+    bytes = Begins-next s t u front more rest text e h.taken w.bytes;
     count = subst (λ (n : ℕ). Rises n (sink.failures u)) h.uncounted w.count;
     unflushed = λ m. h.unflushed (w.unflushed m);
   }
