@@ -1,6 +1,6 @@
 //! Drawing the symbol of a line.
 ghost use Rattle.std.specs.Prelude.{Bool, None, ◌≡◌, ◌≢◌, ◌+◌, ◌*◌, ◌<◌, ◌≤◌, List, ℕ, [], length, IfOk};
-ghost use Rattle.labelcore.specs.Device.{CountsFailure, Unflushed, Writes};
+ghost use Rattle.labelcore.specs.Writing.{WritesText};
 ghost use Rattle.picture.specs.Picture.{scaled, symbol_picture};
 ghost use Rattle.qrdata.specs.Fewest.{chosen_segments};
 ghost use Rattle.qrdata.specs.Versions.{capacity};
@@ -26,9 +26,7 @@ pub fn draw<O: Sink>(
     out: &mut O,
 ) -> Result<Option<Fault>, IoFault>
     requires { bytes.now ≢ [] }
-    ensures count { CountsFailure (O.failures out.old) (O.failures out.new) result }
-    ensures unflushed { Unflushed (O.is_flushed out.old) (O.is_flushed out.new) }
-    ensures bytes { Writes O.took out.old out.new
+    ensures writes { WritesText O.Sink out.old out.new
         (image_of options.now (outcome_of_data options.now symbology bytes.now)) result }
     ensures refusal { IfOk result (λ refusal. refusal
         ≡ refusal_of (outcome_of_data options.now symbology bytes.now)) }
@@ -57,12 +55,10 @@ fn draw_linear<L: Linear, O: Sink>(
     requires reading { (rows : List (List Bool))
         → read_modules symbology rows ≡ read_linear L.reading rows }
     requires none { L.reading [] ≡ None }
-    ensures count { CountsFailure (O.failures out.old) (O.failures out.new) result }
-    ensures unflushed { Unflushed (O.is_flushed out.old) (O.is_flushed out.new) }
-    ensures bytes { Writes O.took out.old out.new
+    ensures writes { WritesText O.Sink out.old out.new
         (image_of options.now
-        (outcome_of_label (linear_label symbology L.bars options.now
-        (L.full_data bytes.now)))) result }
+        (outcome_of_label (linear_label symbology L.bars options.now (L.full_data bytes.now))))
+        result }
     ensures refusal { IfOk result (λ refusal. refusal ≡ refusal_of
         (outcome_of_label (linear_label symbology L.bars options.now (L.full_data bytes.now)))) }
     ensures read { ReadsBack
@@ -86,9 +82,7 @@ fn draw_linear<L: Linear, O: Sink>(
 #[tactic(auto, unfolding(crate::specs::Label::label_of))]
 fn draw_qr<O: Sink>(options: &Options, bytes: &[u8], out: &mut O) -> Result<Option<Fault>, IoFault>
     requires { bytes.now ≢ [] }
-    ensures count { CountsFailure (O.failures out.old) (O.failures out.new) result }
-    ensures unflushed { Unflushed (O.is_flushed out.old) (O.is_flushed out.new) }
-    ensures bytes { Writes O.took out.old out.new
+    ensures writes { WritesText O.Sink out.old out.new
         (image_of options.now (outcome_of_data options.now Qr bytes.now)) result }
     ensures refusal { IfOk result (λ refusal. refusal
         ≡ refusal_of (outcome_of_data options.now Qr bytes.now)) }
@@ -132,9 +126,7 @@ fn write_picture<G: Grid + Drop, O: Sink>(
 ) -> Result<(), IoFault>
     requires width { (G.picture grid).width ≤ 1815 }
     requires height { (G.picture grid).height ≤ 500 }
-    ensures count { CountsFailure (O.failures out.old) (O.failures out.new) result }
-    ensures unflushed { Unflushed (O.is_flushed out.old) (O.is_flushed out.new) }
-    ensures bytes { Writes O.took out.old out.new
+    ensures { WritesText O.Sink out.old out.new
         (text_of options.now.format (scaled (G.picture grid) options.now.scale)) result }
 {
     let picture = Scaled::new(grid, usize::from(options.scale()));
@@ -143,9 +135,7 @@ fn write_picture<G: Grid + Drop, O: Sink>(
 
 /// Writes the text of a picture.
 fn write_text<G: Grid, O: Sink>(format: Format, picture: &G, out: &mut O) -> Result<(), IoFault>
-    ensures count { CountsFailure (O.failures out.old) (O.failures out.new) result }
-    ensures unflushed { Unflushed (O.is_flushed out.old) (O.is_flushed out.new) }
-    ensures bytes { Writes O.took out.old out.new (text_of format (G.picture picture.now)) result }
+    ensures { WritesText O.Sink out.old out.new (text_of format (G.picture picture.now)) result }
 {
     match format {
         Format::Pbm => write_pbm(picture, out),

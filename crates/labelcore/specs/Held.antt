@@ -1,5 +1,5 @@
 -- What the clauses of a sink that holds bytes back see of it (docs/SPECIFICATION.md, The filter as a library).
-use Rattle.std.specs.Prelude.{ℕ, Bool, List, slice_range}
+use Rattle.std.specs.Prelude.{ℕ, List, slice_range}
 use Rattle.labelcore.specs.declared.held.Held.{Held}
 
 -- the sink below
@@ -9,7 +9,3 @@ sink_of s = s.sink
 -- the bytes that it holds back
 abbrev pub held_back : {S : Type 0} → Held S → List ℕ
 held_back s = slice_range s.bytes s.start s.end
-
--- whether it was flushed and took nothing since
-abbrev pub is_marked : {S : Type 0} → Held S → Bool
-is_marked s = s.is_flushed

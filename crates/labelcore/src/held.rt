@@ -3,7 +3,7 @@ ghost use Rattle.std.specs.Prelude.{◌≡◌, ◌+◌, ◌<◌, ◌≤◌, ◌+
 ghost use borrow.Rule.Slice.PartMut.{put_mid};
 ghost use Rattle.labelcore.specs.Device.{CountsFailure};
 ghost use Rattle.labelcore.specs.Passing.{PassesOn};
-ghost use Rattle.labelcore.specs.PassingLaws.{PassesOn_none, PassesOn_joined};
+ghost use Rattle.labelcore.specs.Private.Passed.{PassesOn_none, PassesOn_joined};
 
 use crate::{IoFault, Sink};
 
@@ -26,7 +26,7 @@ pub struct Held<S> {
 }
 
 impl<S: Sink> Held<S> {
-    ghost use Rattle.labelcore.specs.Held.{sink_of, held_back, is_marked};
+    ghost use Rattle.labelcore.specs.Held.{sink_of, held_back};
 
     /// Holds nothing, and is not flushed.
     pub fn new(sink: S) -> Self
@@ -64,7 +64,7 @@ impl<S: Sink> Held<S> {
             (held_back self.old) (held_back self.new) [] }
         ensures count { CountsFailure (S.failures (sink_of self.old))
             (S.failures (sink_of self.new)) result }
-        ensures flushed { is_marked self.new ≡ is_marked self.old }
+        ensures flushed { ⟦<Held<S> as Sink>⟧.is_flushed self.new ≡ ⟦<Held<S> as Sink>⟧.is_flushed self.old }
         ensures held { OnOk result (self.new.end ≡ 0) }
     {
         while self.start < self.end {
@@ -83,7 +83,7 @@ impl<S: Sink> Held<S> {
             (held_back self.old) (held_back self.new) [] }
         ensures count { CountsFailure (S.failures (sink_of self.old))
             (S.failures (sink_of self.new)) result }
-        ensures flushed { is_marked self.new ≡ is_marked self.old }
+        ensures flushed { ⟦<Held<S> as Sink>⟧.is_flushed self.new ≡ ⟦<Held<S> as Sink>⟧.is_flushed self.old }
         ensures room { OnOk result (self.new.end < 65536) }
     {
         if self.end < ROOM {
@@ -97,7 +97,7 @@ impl<S: Sink> Held<S> {
         requires { self.old.end + length bytes.now ≤ 65536 }
         ensures sink { sink_of self.new ≡ sink_of self.old }
         ensures held { held_back self.new ≡ held_back self.old ++ bytes.now }
-        ensures flushed { is_marked self.new ≡ false }
+        ensures flushed { ⟦<Held<S> as Sink>⟧.is_flushed self.new ≡ false }
     {
         put(&mut self.bytes[..], self.end, bytes);
         self.end += bytes.len();
@@ -106,7 +106,7 @@ impl<S: Sink> Held<S> {
 }
 
 impl<S: Sink> Sink for Held<S> {
-    ghost use Rattle.labelcore.specs.Held.{sink_of, held_back, is_marked};
+    ghost use Rattle.labelcore.specs.Held.{sink_of, held_back};
 
     ghost failures = { λ s. S.failures s.sink };
 
@@ -126,8 +126,8 @@ impl<S: Sink> Sink for Held<S> {
             (held_back self.old) (held_back self.new) [] }
         ensures count { CountsFailure (S.failures (sink_of self.old))
             (S.failures (sink_of self.new)) result }
-        ensures flushed { MatchResult result (λ _. is_marked self.new ≡ true)
-            (λ _. is_marked self.new ≡ is_marked self.old) }
+        ensures flushed { MatchResult result (λ _. ⟦<Held<S> as Sink>⟧.is_flushed self.new ≡ true)
+            (λ _. ⟦<Held<S> as Sink>⟧.is_flushed self.new ≡ ⟦<Held<S> as Sink>⟧.is_flushed self.old) }
         ensures held { OnOk result (held_back self.new ≡ []) }
         ensures below { OnOk result (S.is_flushed (sink_of self.new) ≡ true) }
     {
@@ -142,7 +142,7 @@ impl<S: Sink> Sink for Held<S> {
             (held_back self.old) (held_back self.new) [] }
         ensures count { CountsFailure (S.failures (sink_of self.old))
             (S.failures (sink_of self.new)) result }
-        ensures flushed { is_marked self.new ≡ is_marked self.old }
+        ensures flushed { ⟦<Held<S> as Sink>⟧.is_flushed self.new ≡ ⟦<Held<S> as Sink>⟧.is_flushed self.old }
         ensures held { OnOk result (held_back self.new ≡ []) }
     {
         self.pass_on()

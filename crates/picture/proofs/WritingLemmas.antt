@@ -1,5 +1,5 @@
--- Rows that go to a sink, line by line.
-use Rattle.std.proofs.Common.{◌≡◌, ℕ, suc, zero, ◌+◌, ◌-◌, ◌*◌, ◌<◌, ◌≤◌, min, Bool, List, [], ◌∷◌, ◌++◌, Result, refl, ap, sym, subst, ◌∙◌, arith, append_assoc, flat_map, map, length, take, drop, zero-add, add-zero, inl, inr}
+-- The texts of rows, line by line.
+use Rattle.std.proofs.Common.{◌≡◌, ℕ, suc, zero, ◌+◌, ◌-◌, ◌*◌, ◌<◌, ◌≤◌, min, Bool, List, [], ◌∷◌, ◌++◌, refl, ap, sym, ◌∙◌, arith, append_assoc, flat_map, map, length, take, drop, zero-add, add-zero, inl, inr}
 use Rattle.std.specs.Int.{div_ceil}
 use Rattle.std.specs.List.{range_with_len}
 use Rattle.std.specs.Prelude.{slice_range}
@@ -8,39 +8,9 @@ use Rattle.std.proofs.lemmas.List.{append-nil, map-append, take_at, drop_at, tak
 use Rattle.std.proofs.lemmas.Slice.{between_is}
 use Rattle.std.proofs.lemmas.Grind.{flat_map-append}
 use Rattle.std.proofs.lemmas.List.FromFn.{length-map-range_with_len}
-use Rattle.std.specs.Result.{IsErr}
-use Rattle.std.proofs.lemmas.Result.{MatchResult-from_err, MatchResult-weaker}
-use Rattle.labelcore.specs.Device.{TakesBeginning, Writes}
 use Rattle.picture.specs.Picture.{Picture}
 use Rattle.picture.specs.PrivateRows.{row_text}
 use Rattle.picture.specs.Text.{below, piece, pixel_row, pbm_line, pbm_row, ascii_pixel, ascii_row}
-
-module _ {S : Type 0} (took : S → S → List ℕ → Type 0) (took_joined : (s t u : S) (xs ys : List ℕ) → took s t xs → took t u ys → took s u (xs ++ ys)) where
-  -- a beginning of what follows a text that was taken
-  pub Begins-next : (s t u : S) (front more rest text : List ℕ) → text ≡ (front ++ more) ++ rest → took s t front → TakesBeginning took t u more → TakesBeginning took s u text
-  Begins-next s t u front more rest text e h k = (
-    front ++ k.0,
-    (k.1.0 ++ rest, e ∙ (ap (λ (xs : List ℕ). (front ++ xs) ++ rest) k.1.1 ∙ simp append_assoc)),
-    took_joined s t u front k.0 h k.2,
-  )
-
-  -- a call fails after a text was taken
-  pub Writes-fails : {T E : Type 0} (s t u : S) (front more rest text : List ℕ) (r : Result T E) → IsErr r → text ≡ (front ++ more) ++ rest → took s t front → TakesBeginning took t u more → Writes took s u text r
-  Writes-fails s t u front more rest text r err e h k =
-      MatchResult-from_err r (λ _. took s u text) (λ _. TakesBeginning took s u text) err (λ _. Begins-next s t u front more rest text e h k)
-
-  -- the first call fails
-  pub Writes-begun : {T E : Type 0} (s t : S) (first more text : List ℕ) (r : Result T E) → IsErr r → text ≡ first ++ more → TakesBeginning took s t first → Writes took s t text r
-  Writes-begun s t first more text r err e k =
-      MatchResult-from_err r (λ _. took s t text) (λ _. TakesBeginning took s t text) err
-      (λ _. (k.0, (k.1.0 ++ more, e ∙ (ap (λ (xs : List ℕ). xs ++ more) k.1.1 ∙ append_assoc k.0 k.1.0 more)), k.2))
-
-  -- the last call, after a text was taken
-  pub Writes-last : {T E : Type 0} (s t u : S) (front more text : List ℕ) (r : Result T E) → front ++ more ≡ text → took s t front → Writes took t u more r → Writes took s u text r
-  Writes-last s t u front more text r e h w =
-      MatchResult-weaker r w
-      (λ _ k. subst (took s u) e (took_joined s t u front more h k))
-      (λ _ k. Begins-next s t u front more [] text (sym e ∙ sym (append-nil (front ++ more))) h k)
 
 pub range_with_len-add : (a n m : ℕ) → range_with_len a (n + m) ≡ range_with_len a n ++ range_with_len (a + n) m
 range_with_len-add a zero m = rw (zero-add m, add-zero a) refl

@@ -1,6 +1,6 @@
 //! Text pictures.
 ghost use Rattle.std.specs.Prelude.{◌≡◌, ◌*◌, ◌<◌, ◌≤◌, Some, [], ◌∷◌, flat_map, length, take};
-ghost use Rattle.labelcore.specs.Device.{CountsFailure, Unflushed, Writes};
+ghost use Rattle.labelcore.specs.Writing.{WritesText};
 ghost use Rattle.picture.specs.Read.{ascii_pixels, raster};
 ghost use Rattle.picture.specs.Text.{ascii_pixel, ascii_text};
 
@@ -11,9 +11,7 @@ use labelcore::{IoFault, Sink, write_whole};
 /// Writes the grid as text, a line for each row: `##` where dark and two spaces where light, and an empty line after
 /// them. An error is the sink's, and leaves a beginning of the text written.
 pub fn write_ascii<G: Grid, S: Sink>(grid: &G, sink: &mut S) -> Result<(), IoFault>
-    ensures count { CountsFailure (S.failures sink.old) (S.failures sink.new) result }
-    ensures unflushed { Unflushed (S.is_flushed sink.old) (S.is_flushed sink.new) }
-    ensures bytes { Writes S.took sink.old sink.new (ascii_text (G.picture grid.now)) result }
+    ensures writes { WritesText S.Sink sink.old sink.new (ascii_text (G.picture grid.now)) result }
     // The text, read back, has the grid's pixels.
     ensures read { 0 < (G.picture grid.now).height
         → ascii_pixels (ascii_text (G.picture grid.now)) ≡ Some (raster (G.picture grid.now)) }
@@ -48,9 +46,7 @@ impl PixelText for AsciiPixels {
 /// Writes the letters of a few pixels.
 fn write_letters<S: Sink>(pixels: &[bool], sink: &mut S) -> Result<(), IoFault>
     requires { length pixels.now ≤ 35 }
-    ensures count { CountsFailure (S.failures sink.old) (S.failures sink.new) result }
-    ensures unflushed { Unflushed (S.is_flushed sink.old) (S.is_flushed sink.new) }
-    ensures bytes { Writes S.took sink.old sink.new (flat_map ascii_pixel pixels.now) result }
+    ensures { WritesText S.Sink sink.old sink.new (flat_map ascii_pixel pixels.now) result }
 {
     let text = letters(pixels);
     write_whole(&text[..2 * pixels.len()], sink)

@@ -1,6 +1,6 @@
 //! Plain PBM files, pbm(5).
 ghost use Rattle.std.specs.Prelude.{◌≡◌, ◌+◌, ◌<◌, ◌≤◌, Some, ◌++◌, ◌∷◌, [], length, map};
-ghost use Rattle.labelcore.specs.Device.{CountsFailure, Unflushed, Writes};
+ghost use Rattle.labelcore.specs.Writing.{WritesText};
 ghost use Rattle.picture.specs.Read.{pbm_pixels, raster};
 ghost use Rattle.labelcore.specs.Lines.{LF};
 ghost use Rattle.picture.specs.Text.{pbm_digit, pbm_header, pbm_text};
@@ -14,9 +14,7 @@ use labelcore::{IoFault, Sink, write_whole};
 /// Writes the grid as a plain PBM file, pbm(5): two lines of header, and each row in lines of at most 70 pixels. An
 /// error is the sink's, and leaves a beginning of the file written.
 pub fn write_pbm<G: Grid, S: Sink>(grid: &G, sink: &mut S) -> Result<(), IoFault>
-    ensures count { CountsFailure (S.failures sink.old) (S.failures sink.new) result }
-    ensures unflushed { Unflushed (S.is_flushed sink.old) (S.is_flushed sink.new) }
-    ensures bytes { Writes S.took sink.old sink.new (pbm_text (G.picture grid.now)) result }
+    ensures writes { WritesText S.Sink sink.old sink.new (pbm_text (G.picture grid.now)) result }
     // The text, read back, has the grid's pixels.
     ensures read { 0 < (G.picture grid.now).width
         → pbm_pixels (pbm_text (G.picture grid.now)) ≡ Some (raster (G.picture grid.now)) }

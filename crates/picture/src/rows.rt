@@ -1,9 +1,9 @@
 //! The rows of a grid as text, in lines of 70 pixels.
-ghost use Rattle.std.specs.Prelude.{◌≡◌, ℕ, ◌+◌, ◌*◌, ◌%◌, ◌^◌, ◌<◌, ◌≤◌, Bool, List, length, map, flat_map, take};
+ghost use Rattle.std.specs.Prelude.{◌≡◌, ℕ, ◌+◌, ◌*◌, ◌%◌, ◌^◌, ◌<◌, ◌≤◌, Bool, List, length, map, take};
 ghost use Rattle.std.specs.List.{range_with_len};
-ghost use Rattle.labelcore.specs.Device.{CountsFailure, Unflushed, Writes};
-ghost use Rattle.picture.specs.PrivateRows.{row_text};
-ghost use Rattle.picture.specs.Text.{below, piece, pixel_row};
+ghost use Rattle.labelcore.specs.Writing.{WritesText};
+ghost use Rattle.picture.specs.PrivateRows.{row_text, rows_text};
+ghost use Rattle.picture.specs.Text.{piece, pixel_row};
 
 use crate::grid::Grid;
 use labelcore::{IoFault, Sink, write_whole};
@@ -30,9 +30,7 @@ pub trait PixelText {
         requires whole { length pixels.now ≡ 70 }
         requires some { 0 < len }
         requires short { len ≤ 70 }
-        ensures count { CountsFailure (S.failures sink.old) (S.failures sink.new) result }
-        ensures unflushed { Unflushed (S.is_flushed sink.old) (S.is_flushed sink.new) }
-        ensures bytes { Writes S.took sink.old sink.new (line (take len pixels.now)) result };
+        ensures { WritesText S.Sink sink.old sink.new (line (take len pixels.now)) result };
 
     /// The text after a row's lines.
     fn row_end() -> &'static [u8]
@@ -42,11 +40,8 @@ pub trait PixelText {
 /// Writes the rows of the grid, and holds at most one line of their text. An error is the sink's, and leaves a beginning
 /// of them written.
 pub fn write_rows<T: PixelText, G: Grid, S: Sink>(grid: &G, sink: &mut S) -> Result<(), IoFault>
-    ensures count { CountsFailure (S.failures sink.old) (S.failures sink.new) result }
-    ensures unflushed { Unflushed (S.is_flushed sink.old) (S.is_flushed sink.new) }
-    ensures bytes { Writes S.took sink.old sink.new
-        (flat_map (λ y. row_text T.line T.row_end (pixel_row (G.picture grid.now) y))
-        (below (G.picture grid.now).height)) result }
+    ensures { WritesText S.Sink sink.old sink.new
+        (rows_text T.line T.row_end (G.picture grid.now)) result }
 {
     let width = grid.width();
     if width <= SMALL_ROOM {
@@ -68,11 +63,8 @@ fn write_kept_rows<T: PixelText, G: Grid, S: Sink>(
 ) -> Result<(), IoFault>
     requires fits { (G.picture grid.now).width ≤ length room.old }
     requires lines { length room.old % 70 ≡ 0 }
-    ensures count { CountsFailure (S.failures sink.old) (S.failures sink.new) result }
-    ensures unflushed { Unflushed (S.is_flushed sink.old) (S.is_flushed sink.new) }
-    ensures bytes { Writes S.took sink.old sink.new
-        (flat_map (λ y. row_text T.line T.row_end (pixel_row (G.picture grid.now) y))
-        (below (G.picture grid.now).height)) result }
+    ensures { WritesText S.Sink sink.old sink.new
+        (rows_text T.line T.row_end (G.picture grid.now)) result }
 {
     let width = grid.width();
     let mut next = 0;
@@ -112,9 +104,7 @@ fn write_row<T: PixelText, S: Sink>(
 ) -> Result<(), IoFault>
     requires fits { width ≤ length room.now }
     requires lines { length room.now % 70 ≡ 0 }
-    ensures count { CountsFailure (S.failures sink.old) (S.failures sink.new) result }
-    ensures unflushed { Unflushed (S.is_flushed sink.old) (S.is_flushed sink.new) }
-    ensures bytes { Writes S.took sink.old sink.new
+    ensures { WritesText S.Sink sink.old sink.new
         (row_text T.line T.row_end (take width room.now)) result }
 {
     for k in 0..width.div_ceil(LINE) {
@@ -126,11 +116,8 @@ fn write_row<T: PixelText, S: Sink>(
 
 /// Writes the rows of the grid, and asks for each line.
 fn write_wide_rows<T: PixelText, G: Grid, S: Sink>(grid: &G, sink: &mut S) -> Result<(), IoFault>
-    ensures count { CountsFailure (S.failures sink.old) (S.failures sink.new) result }
-    ensures unflushed { Unflushed (S.is_flushed sink.old) (S.is_flushed sink.new) }
-    ensures bytes { Writes S.took sink.old sink.new
-        (flat_map (λ y. row_text T.line T.row_end (pixel_row (G.picture grid.now) y))
-        (below (G.picture grid.now).height)) result }
+    ensures { WritesText S.Sink sink.old sink.new
+        (rows_text T.line T.row_end (G.picture grid.now)) result }
 {
     for y in 0..grid.height() {
         write_wide_row::<T, G, S>(grid, y, sink)?;
@@ -145,9 +132,7 @@ fn write_wide_row<T: PixelText, G: Grid, S: Sink>(
     sink: &mut S,
 ) -> Result<(), IoFault>
     requires { y < (G.picture grid.now).height }
-    ensures count { CountsFailure (S.failures sink.old) (S.failures sink.new) result }
-    ensures unflushed { Unflushed (S.is_flushed sink.old) (S.is_flushed sink.new) }
-    ensures bytes { Writes S.took sink.old sink.new
+    ensures { WritesText S.Sink sink.old sink.new
         (row_text T.line T.row_end (pixel_row (G.picture grid.now) y)) result }
 {
     for k in 0..grid.width().div_ceil(LINE) {
@@ -165,9 +150,7 @@ fn write_wide_line<T: PixelText, G: Grid, S: Sink>(
 ) -> Result<(), IoFault>
     requires in_height { y < (G.picture grid.now).height }
     requires in_width { 70 * k < (G.picture grid.now).width }
-    ensures count { CountsFailure (S.failures sink.old) (S.failures sink.new) result }
-    ensures unflushed { Unflushed (S.is_flushed sink.old) (S.is_flushed sink.new) }
-    ensures bytes { Writes S.took sink.old sink.new
+    ensures { WritesText S.Sink sink.old sink.new
         (T.line (piece (pixel_row (G.picture grid.now) y) k)) result }
 {
     let width = grid.width();

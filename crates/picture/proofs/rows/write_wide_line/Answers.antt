@@ -3,13 +3,13 @@ use Rattle.std.specs.List.{range_with_len}
 use Rattle.std.proofs.Math.ListN.{replicate}
 use Rattle.std.proofs.lemmas.List.{length-take-le, take_at}
 use Rattle.std.proofs.lemmas.List.FromFn.{length-map-range_with_len}
-use Rattle.labelcore.specs.Device.{Writes}
+use Rattle.labelcore.specs.Writing.{WritesText}
 use Rattle.picture.specs.Text.{below, piece}
 use Rattle.picture.proofs.WritingLemmas.{piece_asked}
 use Rattle.picture.proofs.rows.write_wide_line.Goals as goal
 
-pub returns-clause-bytes : goal.returns-clause-bytes
-returns-clause-bytes g c =
+pub returns : goal.returns
+returns g c =
     let p = g.G.Grid.picture c.args.grid.now in
     let dark : ℕ → Bool = λ x. p.dark x c.args.y in
     let n = c.min-len.result in
@@ -18,4 +18,5 @@ returns-clause-bytes g c =
     let size : length row ≡ n = ap length asked ∙ length-map-range_with_len dark (70 * c.args.k) n in
     let line : take n (row ++ drop n (replicate 70 false)) ≡ piece (map dark (below p.width)) c.args.k =
     take_at row (drop n (replicate 70 false)) n size ∙ (asked ∙ piece_asked dark p.width c.args.k n c.requires.in_width (omega (arith, c.width-width.ensures))) in
-    subst (λ (ps : List Bool). Writes g.S.Sink.took c.args.sink.now c.write_line.new.sink (g.T.PixelText.line ps) c.write_line.result) line c.write_line.ensures.bytes
+    subst (λ (ps : List Bool). WritesText g.S.Sink c.args.sink.now c.write_line.new.sink (g.T.PixelText.line ps) c.write_line.result)
+    line c.write_line.ensures

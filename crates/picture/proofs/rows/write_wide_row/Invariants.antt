@@ -1,12 +1,10 @@
-use Rattle.std.proofs.Common.{◌≡◌, flat_map}
-use Rattle.labelcore.specs.Device.{Unflushed}
+use Rattle.std.proofs.Common.{◌≡◌, ℕ, flat_map}
+use Rattle.labelcore.proofs.WritingLemmas.{HasWritten}
 use Rattle.picture.specs.Text.{below, piece, pixel_row}
 use Rattle.picture.proofs.rows.write_wide_row.Given as goal
 
--- the lines so far were taken
+-- the lines so far were written
 abbrev pub invariant-loop-k : goal.invariant-loop-k
-invariant-loop-k g l = record {
-  taken : g.S.Sink.took l.initial.sink l.sink (flat_map (λ k. g.T.PixelText.line (piece (pixel_row (g.G.Grid.picture l.grid) l.y) k)) (below l.k));
-  unflushed : Unflushed (g.S.Sink.is_flushed l.initial.sink) (g.S.Sink.is_flushed l.sink);
-  uncounted : g.S.Sink.failures l.sink ≡ g.S.Sink.failures l.initial.sink;
-}
+invariant-loop-k g l =
+    let line = λ (k : ℕ). g.T.PixelText.line (piece (pixel_row (g.G.Grid.picture l.grid) l.y) k) in
+    record { written : HasWritten g.S.Sink l.initial.sink l.sink (flat_map line (below l.k)) }

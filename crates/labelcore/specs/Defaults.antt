@@ -1,0 +1,9 @@
+-- The options that hold where none is given (docs/SPECIFICATION.md, Options).
+use Rattle.std.specs.Prelude.{None, false}
+use Rattle.labelcore.specs.OptionValues.{OptionValues}
+use Rattle.labelcore.specs.declared.options.Format.TheVariants.{Pbm}
+use Rattle.labelcore.specs.declared.options.Level.TheVariants.{M}
+
+-- plain PBM, one pixel a module, 50 modules high, level M, any version, the mask of the least penalty, no escapes
+abbrev pub default_options : OptionValues
+default_options = record { format = Pbm; scale = 1; height = 50; level = M; min_version = 1; mask = None; escapes = false }
