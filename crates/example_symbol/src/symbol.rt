@@ -8,7 +8,8 @@ use labelcore::{Fault, Options};
 use qrdata::{Words, choose, codewords};
 use qrmatrix::Matrix;
 
-/// The QR symbol of the bytes, in the least version that holds them at the options' level. Its modules read back as the bytes.
+/// The QR symbol of the bytes, in the least version that holds them at the options' level. Its modules read back as the
+/// bytes.
 ///
 /// Bytes that fit no version are refused by `DoesNotFit`.
 pub fn symbol_of(options: &Options, bytes: &[u8]) -> Result<Matrix, Fault>

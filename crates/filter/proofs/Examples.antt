@@ -20,7 +20,8 @@ full_data_of_input : map (λ (l : Label). l.full) (accepted settings input) ≡ 
 unfolding accepted outcome label_of request head_read symbology_named line_limit
 full_data_of_input = refl
 
-images_of_input : images settings input ≡ codes "P1\n81 1\n0000000101011101101111010110001001100101010100001010011101000010100010\n01010000000\n"
+images_of_input : images settings input
+    ≡ codes "P1\n81 1\n0000000101011101101111010110001001100101010100001010011101000010100010\n01010000000\n"
 unfolding images outcome label_of request head_read symbology_named line_limit digits
 images_of_input = refl
 

@@ -1,21 +1,26 @@
 -- A filter's state and what it wrote, byte by byte and piece by piece.
-use Rattle.std.proofs.Common.{◌≡◌, ◌≢◌, ℕ, ◌+◌, ◌-◌, ◌^◌, min, Bool, ◌||◌, false, List, [], ◌∷◌, ◌++◌, length, take, append_assoc, refl, ap, subst, sym, ◌∙◌, arith, add-zero, length-append, length-take}
+use Rattle.std.proofs.Common.{◌≡◌, ◌≢◌, ℕ, ◌+◌, ◌-◌, ◌^◌, min, Bool, ◌||◌, false, List, [], ◌∷◌, ◌++◌, length, take}
+use Rattle.std.proofs.Common.{append_assoc, refl, ap, subst, sym, ◌∙◌, arith, add-zero, length-append, length-take}
 use Rattle.std.proofs.lemmas.List.{append-nil}
 use Rattle.labelcore.specs.Lines.{LF, held, line_limit, lines, ended_lines, open_line, unless_empty}
-use Rattle.labelcore.proofs.LinesLemmas.{ended_lines-nil, open_line-nil, ended_lines-push_lf, ended_lines-push_other, open_line-push_lf, open_line-push_other, some_added}
-use Rattle.filter.specs.Output.{Outcome, outcome, image_of, message_of, is_refusal, line_number, images, messages_after, any_refused}
+use Rattle.labelcore.proofs.LinesLemmas.{ended_lines-nil, open_line-nil, ended_lines-push_lf, ended_lines-push_other}
+use Rattle.labelcore.proofs.LinesLemmas.{open_line-push_lf, open_line-push_other, some_added}
+use Rattle.filter.specs.Output.{Outcome, outcome, image_of, message_of, is_refusal, line_number, images, messages_after}
+use Rattle.filter.specs.Output.{any_refused}
 use Rattle.filter.specs.Line.{FailsInLine}
 use Rattle.std.specs.List.{AllByRecursion}
 use Rattle.filter.specs.Readback.{ReadsBack}
 use Rattle.filter.specs.Filter.{FilterState, StandsAt, TookLines, StopsInLine, TookPiece, StopsInPiece}
 use Rattle.filter.specs.declared.status.RunFault.{RunFault}
 use Rattle.filter.specs.declared.status.RunFault.TheVariants.{Read, WriteOut, WriteMessages, Spent}
-use Rattle.filter.proofs.OutputLemmas.{images-nil, images-append, images_one, messages_after-nil, messages_after-append, messages_after_one, any_refused-nil, any_refused-push}
+use Rattle.filter.proofs.OutputLemmas.{images-nil, images-append, images_one, messages_after-nil, messages_after-append}
+use Rattle.filter.proofs.OutputLemmas.{messages_after_one, any_refused-nil, any_refused-push}
 use Rattle.labelcore.specs.OptionValues.{OptionValues}
 
 module _ (options : OptionValues) where
   -- a new filter
-  pub StandsAt-new : (state : FilterState) → state.options ≡ options → state.line ≡ held [] → state.line_count ≡ 0 → state.is_refused ≡ false → state.is_spent ≡ false → StandsAt options state []
+  pub StandsAt-new : (state : FilterState) → state.options ≡ options → state.line ≡ held [] → state.line_count ≡ 0
+      → state.is_refused ≡ false → state.is_spent ≡ false → StandsAt options state []
   StandsAt-new state o l n r s = record {
     options_are = o;
     line = l ∙ ap held (sym open_line-nil);
@@ -26,7 +31,9 @@ module _ (options : OptionValues) where
 
   module _ (old new : FilterState) (text : List ℕ) (byte : ℕ) (at : StandsAt options old text) where
     -- a byte of the line
-    pub StandsAt-other : byte ≢ LF → new.options ≡ old.options → new.line ≡ held (open_line text ++ byte ∷ []) → new.line_count ≡ old.line_count → new.is_refused ≡ old.is_refused → new.is_spent ≡ old.is_spent → StandsAt options new (text ++ byte ∷ [])
+    pub StandsAt-other : byte ≢ LF → new.options ≡ old.options → new.line ≡ held (open_line text ++ byte ∷ [])
+        → new.line_count ≡ old.line_count → new.is_refused ≡ old.is_refused → new.is_spent ≡ old.is_spent
+        → StandsAt options new (text ++ byte ∷ [])
     StandsAt-other other o l n r s =
         let ended = ended_lines-push_other text byte other in
         record {
@@ -38,20 +45,29 @@ module _ (options : OptionValues) where
         }
 
     -- the end of the line
-    pub StandsAt-lf : byte ≡ LF → new.options ≡ old.options → new.line ≡ held [] → new.line_count ≡ line_number (length (ended_lines text)) → new.is_refused ≡ (old.is_refused || is_refusal (outcome options (open_line text))) → new.is_spent ≡ old.is_spent → StandsAt options new (text ++ byte ∷ [])
+    pub StandsAt-lf : byte ≡ LF → new.options ≡ old.options → new.line ≡ held []
+        → new.line_count ≡ line_number (length (ended_lines text))
+        → new.is_refused ≡ (old.is_refused || is_refusal (outcome options (open_line text)))
+        → new.is_spent ≡ old.is_spent → StandsAt options new (text ++ byte ∷ [])
     StandsAt-lf lf o l n r s =
         let text' : text ++ byte ∷ [] ≡ text ++ LF ∷ [] = ap (λ (b : ℕ). text ++ b ∷ []) lf in
-        let ended : ended_lines (text ++ byte ∷ []) ≡ ended_lines text ++ open_line text ∷ [] = ap ended_lines text' ∙ ended_lines-push_lf text in
+        let ended : ended_lines (text ++ byte ∷ []) ≡ ended_lines text ++ open_line text ∷ [] = ap ended_lines text'
+        ∙ ended_lines-push_lf text in
         record {
           options_are = o ∙ at.options_are;
           line = l ∙ ap held (sym (ap open_line text' ∙ open_line-push_lf text));
-          line_count = n ∙ (ap (λ (k : ℕ). min k (2 ^ 64 - 1)) (sym (length-append (ended_lines text) (open_line text ∷ []))) ∙ ap (λ (ls : List (List ℕ)). min (length ls) (2 ^ 64 - 1)) (sym ended));
-          is_refused = r ∙ (ap (λ (b : Bool). b || is_refusal (outcome options (open_line text))) at.is_refused ∙ (sym (any_refused-push options (ended_lines text) (open_line text)) ∙ ap (any_refused options) (sym ended)));
+          line_count = n ∙ (ap (λ (k : ℕ). min k (2 ^ 64 - 1))
+              (sym (length-append (ended_lines text) (open_line text ∷ [])))
+              ∙ ap (λ (ls : List (List ℕ)). min (length ls) (2 ^ 64 - 1)) (sym ended));
+          is_refused = r ∙ (ap (λ (b : Bool). b || is_refusal (outcome options (open_line text))) at.is_refused
+              ∙ (sym (any_refused-push options (ended_lines text) (open_line text))
+              ∙ ap (any_refused options) (sym ended)));
           is_spent = s ∙ at.is_spent;
         }
 
   -- the number of the line that ends
-  pub line_number-counts : (state : FilterState) (text : List ℕ) → StandsAt options state text → (n : ℕ) → n ≡ min (state.line_count + 1) (2 ^ 64 - 1) → n ≡ line_number (length (ended_lines text))
+  pub line_number-counts : (state : FilterState) (text : List ℕ) → StandsAt options state text → (n : ℕ)
+      → n ≡ min (state.line_count + 1) (2 ^ 64 - 1) → n ≡ line_number (length (ended_lines text))
   line_number-counts state text at n e = omega (arith, at.line_count)
 
   -- one byte: what its line comes to
@@ -67,7 +83,9 @@ module _ (options : OptionValues) where
       };
     }
 
-    pub TookPiece-lf : byte ≡ LF → took_out (image_of options (outcome options (open_line text))) → took_err (message_of (line_number (length (ended_lines text))) (outcome options (open_line text))) → ReadsBack (outcome options (open_line text)) → TookPiece options took_out took_err text (byte ∷ [])
+    pub TookPiece-lf : byte ≡ LF → took_out (image_of options (outcome options (open_line text)))
+        → took_err (message_of (line_number (length (ended_lines text))) (outcome options (open_line text)))
+        → ReadsBack (outcome options (open_line text)) → TookPiece options took_out took_err text (byte ∷ [])
     TookPiece-lf lf o e r = record {
       added = open_line text ∷ [];
       grown = ap (λ (b : ℕ). ended_lines (text ++ b ∷ [])) lf ∙ ended_lines-push_lf text;
@@ -78,7 +96,9 @@ module _ (options : OptionValues) where
       };
     }
 
-    pub StopsInPiece-lf : (fault : RunFault) → byte ≡ LF → FailsInLine options took_out took_err (line_number (length (ended_lines text))) (outcome options (open_line text)) fault → StopsInPiece options took_out took_err text (byte ∷ []) fault
+    pub StopsInPiece-lf : (fault : RunFault) → byte ≡ LF
+        → FailsInLine options took_out took_err (line_number (length (ended_lines text)))
+        (outcome options (open_line text)) fault → StopsInPiece options took_out took_err text (byte ∷ []) fault
     StopsInPiece-lf fault lf f = record {
       added = open_line text ∷ [];
       grown = ap (λ (b : ℕ). ended_lines (text ++ b ∷ [])) lf ∙ ended_lines-push_lf text;
@@ -92,13 +112,17 @@ module _ (options : OptionValues) where
     }
 
   -- the same failure, where more stands before
-  FailsInLine-map : (o o' e e' : List ℕ → Type 0) (number : ℕ) (i : Outcome) (fault : RunFault) → ((bs : List ℕ) → o bs → o' bs) → ((bs : List ℕ) → e bs → e' bs) → FailsInLine options o e number i fault → FailsInLine options o' e' number i fault
+  FailsInLine-map : (o o' e e' : List ℕ → Type 0) (number : ℕ) (i : Outcome) (fault : RunFault)
+      → ((bs : List ℕ) → o bs → o' bs) → ((bs : List ℕ) → e bs → e' bs) → FailsInLine options o e number i fault
+      → FailsInLine options o' e' number i fault
   FailsInLine-map o o' e e' number i Read f g h = h
   FailsInLine-map o o' e e' number i WriteOut f g h = ((h.0.0, h.0.1, f h.0.0 h.0.2), g [] h.1)
   FailsInLine-map o o' e e' number i WriteMessages f g h = (f [] h.0, (h.1.0, h.1.1, g h.1.0 h.1.2))
   FailsInLine-map o o' e e' number i Spent f g h = h
 
-  read-append : (xs ys : List (List ℕ)) → AllByRecursion (λ line. ReadsBack (outcome options line)) xs → AllByRecursion (λ line. ReadsBack (outcome options line)) ys → AllByRecursion (λ line. ReadsBack (outcome options line)) (xs ++ ys)
+  read-append : (xs ys : List (List ℕ)) → AllByRecursion (λ line. ReadsBack (outcome options line)) xs
+      → AllByRecursion (λ line. ReadsBack (outcome options line)) ys
+      → AllByRecursion (λ line. ReadsBack (outcome options line)) (xs ++ ys)
   read-append [] ys a b = b
   read-append (x ∷ xs) ys a b = (a.0, read-append xs ys a.1 b)
 
@@ -107,32 +131,46 @@ module _ (options : OptionValues) where
       (out_joined : (s t u : O) (xs ys : List ℕ) → took_out s t xs → took_out t u ys → took_out s u (xs ++ ys))
       (err_joined : (s t u : E) (xs ys : List ℕ) → took_err s t xs → took_err t u ys → took_err s u (xs ++ ys))
       (out : O) (out' : O) (out'' : O) (err : E) (err' : E) (err'' : E) where
-    pub TookLines-append : (before : ℕ) (xs ys : List (List ℕ)) → TookLines options (took_out out out') (took_err err err') before xs → TookLines options (took_out out' out'') (took_err err' err'') (before + length xs) ys → TookLines options (took_out out out'') (took_err err err'') before (xs ++ ys)
+    pub TookLines-append : (before : ℕ) (xs ys : List (List ℕ))
+        → TookLines options (took_out out out') (took_err err err') before xs
+        → TookLines options (took_out out' out'') (took_err err' err'') (before + length xs) ys
+        → TookLines options (took_out out out'') (took_err err err'') before (xs ++ ys)
     TookLines-append before xs ys a b = record {
       out = rw (images-append options) (out_joined out out' out'' (images options xs) (images options ys) a.out b.out);
-      err = rw (messages_after-append options) (err_joined err err' err'' (messages_after options before xs) (messages_after options (before + length xs) ys) a.err b.err);
+      err = rw (messages_after-append options) (err_joined err err' err'' (messages_after options before xs)
+          (messages_after options (before + length xs) ys) a.err b.err);
       read = read-append xs ys a.read b.read;
     }
 
-    pub StopsInLine-append : (before : ℕ) (xs ys : List (List ℕ)) (fault : RunFault) → TookLines options (took_out out out') (took_err err err') before xs → StopsInLine options (took_out out' out'') (took_err err' err'') (before + length xs) ys fault → StopsInLine options (took_out out out'') (took_err err err'') before (xs ++ ys) fault
+    pub StopsInLine-append : (before : ℕ) (xs ys : List (List ℕ)) (fault : RunFault)
+        → TookLines options (took_out out out') (took_err err err') before xs
+        → StopsInLine options (took_out out' out'') (took_err err' err'') (before + length xs) ys fault
+        → StopsInLine options (took_out out out'') (took_err err err'') before (xs ++ ys) fault
     StopsInLine-append before xs ys fault a b =
-        let number : (before + length xs) + length b.earlier ≡ before + length (xs ++ b.earlier) = omega (arith, length-append xs b.earlier) in
+        let number : (before + length xs) + length b.earlier ≡ before + length (xs ++ b.earlier) =
+        omega (arith, length-append xs b.earlier) in
         record {
           earlier = xs ++ b.earlier;
           line = b.line;
           later = b.later;
           cut = ap (λ (ls : List (List ℕ)). xs ++ ls) b.cut ∙ sym (append_assoc xs b.earlier (b.line ∷ b.later));
           wrote = rw (← number) (FailsInLine-map
-              (λ bytes. took_out out' out'' (images options b.earlier ++ bytes)) (λ bytes. took_out out out'' (images options (xs ++ b.earlier) ++ bytes))
-              (λ bytes. took_err err' err'' (messages_after options (before + length xs) b.earlier ++ bytes)) (λ bytes. took_err err err'' (messages_after options before (xs ++ b.earlier) ++ bytes))
+              (λ bytes. took_out out' out'' (images options b.earlier ++ bytes))
+              (λ bytes. took_out out out'' (images options (xs ++ b.earlier) ++ bytes))
+              (λ bytes. took_err err' err'' (messages_after options (before + length xs) b.earlier ++ bytes))
+              (λ bytes. took_err err err'' (messages_after options before (xs ++ b.earlier) ++ bytes))
               (line_number ((before + length xs) + length b.earlier)) (outcome options b.line) fault
-              (λ bytes t. rw ((images-append options), append_assoc) (out_joined out out' out'' (images options xs) (images options b.earlier ++ bytes) a.out t))
-              (λ bytes t. rw ((messages_after-append options), append_assoc) (err_joined err err' err'' (messages_after options before xs) (messages_after options (before + length xs) b.earlier ++ bytes) a.err t))
+              (λ bytes t. rw ((images-append options), append_assoc)
+              (out_joined out out' out'' (images options xs) (images options b.earlier ++ bytes) a.out t))
+              (λ bytes t. rw ((messages_after-append options), append_assoc)
+              (err_joined err err' err'' (messages_after options before xs)
+              (messages_after options (before + length xs) b.earlier ++ bytes) a.err t))
               b.wrote);
         }
 
   -- no piece
-  pub TookPiece-none : (took_out took_err : List ℕ → Type 0) (text : List ℕ) → took_out [] → took_err [] → TookPiece options took_out took_err text []
+  pub TookPiece-none : (took_out took_err : List ℕ → Type 0) (text : List ℕ) → took_out [] → took_err []
+      → TookPiece options took_out took_err text []
   TookPiece-none took_out took_err text o e = record {
     added = [];
     grown = ap ended_lines (append-nil text) ∙ sym (append-nil (ended_lines text));
@@ -144,17 +182,22 @@ module _ (options : OptionValues) where
   }
 
   -- a sink that failed in a piece failed in the longer piece
-  pub StopsInPiece-longer : (took_out took_err : List ℕ → Type 0) (text piece more : List ℕ) (fault : RunFault) → StopsInPiece options took_out took_err text piece fault → StopsInPiece options took_out took_err text (piece ++ more) fault
+  pub StopsInPiece-longer : (took_out took_err : List ℕ → Type 0) (text piece more : List ℕ) (fault : RunFault)
+      → StopsInPiece options took_out took_err text piece fault
+      → StopsInPiece options took_out took_err text (piece ++ more) fault
   StopsInPiece-longer took_out took_err text piece more fault p =
       let s = some_added (text ++ piece) more in
       record {
         added = p.added ++ s.added;
-        grown = ap ended_lines (sym (append_assoc text piece more)) ∙ (s.grown ∙ (ap (λ (ls : List (List ℕ)). ls ++ s.added) p.grown ∙ append_assoc (ended_lines text) p.added s.added));
+        grown = ap ended_lines (sym (append_assoc text piece more))
+            ∙ (s.grown ∙ (ap (λ (ls : List (List ℕ)). ls ++ s.added) p.grown
+            ∙ append_assoc (ended_lines text) p.added s.added));
         stops = record {
           earlier = p.stops.earlier;
           line = p.stops.line;
           later = p.stops.later ++ s.added;
-          cut = ap (λ (ls : List (List ℕ)). ls ++ s.added) p.stops.cut ∙ append_assoc p.stops.earlier (p.stops.line ∷ p.stops.later) s.added;
+          cut = ap (λ (ls : List (List ℕ)). ls ++ s.added) p.stops.cut
+              ∙ append_assoc p.stops.earlier (p.stops.line ∷ p.stops.later) s.added;
           wrote = p.stops.wrote;
         };
       }
@@ -167,22 +210,30 @@ module _ (options : OptionValues) where
     lines_between : length (ended_lines (text ++ piece)) ≡ length (ended_lines text) + length first.added
     lines_between = ap length first.grown ∙ length-append (ended_lines text) first.added
 
-    grown_twice : (added : List (List ℕ)) → ended_lines ((text ++ piece) ++ more) ≡ ended_lines (text ++ piece) ++ added → ended_lines (text ++ (piece ++ more)) ≡ ended_lines text ++ (first.added ++ added)
+    grown_twice : (added : List (List ℕ)) → ended_lines ((text ++ piece) ++ more) ≡ ended_lines (text ++ piece) ++ added
+        → ended_lines (text ++ (piece ++ more)) ≡ ended_lines text ++ (first.added ++ added)
     grown_twice added grown =
-        ap ended_lines (sym (append_assoc text piece more)) ∙ (grown ∙ (ap (λ (ls : List (List ℕ)). ls ++ added) first.grown ∙ append_assoc (ended_lines text) first.added added))
+        ap ended_lines (sym (append_assoc text piece more))
+        ∙ (grown ∙ (ap (λ (ls : List (List ℕ)). ls ++ added) first.grown
+        ∙ append_assoc (ended_lines text) first.added added))
 
-    pub TookPiece-append : TookPiece options (took_out out' out'') (took_err err' err'') (text ++ piece) more → TookPiece options (took_out out out'') (took_err err err'') text (piece ++ more)
+    pub TookPiece-append : TookPiece options (took_out out' out'') (took_err err' err'') (text ++ piece) more
+        → TookPiece options (took_out out out'') (took_err err err'') text (piece ++ more)
     TookPiece-append second = record {
       added = first.added ++ second.added;
       grown = grown_twice second.added second.grown;
-      took = TookLines-append took_out took_err out_joined err_joined out out' out'' err err' err'' (length (ended_lines text)) first.added second.added first.took (rw lines_between at second.took);
+      took = TookLines-append took_out took_err out_joined err_joined out out' out'' err err' err''
+          (length (ended_lines text)) first.added second.added first.took (rw lines_between at second.took);
     }
 
-    pub StopsInPiece-append : (fault : RunFault) → StopsInPiece options (took_out out' out'') (took_err err' err'') (text ++ piece) more fault → StopsInPiece options (took_out out out'') (took_err err err'') text (piece ++ more) fault
+    pub StopsInPiece-append : (fault : RunFault) → StopsInPiece options (took_out out' out'') (took_err err' err'')
+        (text ++ piece) more fault → StopsInPiece options (took_out out out'') (took_err err err'') text (piece ++ more)
+        fault
     StopsInPiece-append fault second = record {
       added = first.added ++ second.added;
       grown = grown_twice second.added second.grown;
-      stops = StopsInLine-append took_out took_err out_joined err_joined out out' out'' err err' err'' (length (ended_lines text)) first.added second.added fault first.took (rw lines_between at second.stops);
+      stops = StopsInLine-append took_out took_err out_joined err_joined out out' out'' err err' err''
+          (length (ended_lines text)) first.added second.added fault first.took (rw lines_between at second.stops);
     }
 
   unless_empty-nil : (line : List ℕ) → take line_limit line ≡ [] → unless_empty line ≡ []
@@ -208,22 +259,39 @@ module _ (options : OptionValues) where
     a_rest n = unless_empty-line (open_line text) (λ e. n (ap (λ h. h.bytes) at.line ∙ e))
 
     pub any_refused-no_rest : state.line.bytes ≡ [] → state.is_refused ≡ any_refused options (lines text)
-    any_refused-no_rest e = at.is_refused ∙ sym (ap (any_refused options) (lines-split text ∙ (ap (λ (ls : List (List ℕ)). ended_lines text ++ ls) (no_rest e) ∙ append-nil (ended_lines text))))
+    any_refused-no_rest e = at.is_refused ∙ sym (ap (any_refused options)
+        (lines-split text ∙ (ap (λ (ls : List (List ℕ)). ended_lines text ++ ls) (no_rest e)
+        ∙ append-nil (ended_lines text))))
 
-    pub any_refused-rest : (state.line.bytes ≡ [] → ⊥) → (state.is_refused || is_refusal (outcome options (open_line text))) ≡ any_refused options (lines text)
+    pub any_refused-rest : (state.line.bytes ≡ [] → ⊥)
+        → (state.is_refused || is_refusal (outcome options (open_line text))) ≡ any_refused options (lines text)
     any_refused-rest n =
         ap (λ (b : Bool). b || is_refusal (outcome options (open_line text))) at.is_refused
-        ∙ (sym (any_refused-push options (ended_lines text) (open_line text)) ∙ ap (any_refused options) (sym (lines-split text ∙ ap (λ (ls : List (List ℕ)). ended_lines text ++ ls) (a_rest n))))
+        ∙ (sym (any_refused-push options (ended_lines text) (open_line text))
+        ∙ ap (any_refused options) (sym (lines-split text
+        ∙ ap (λ (ls : List (List ℕ)). ended_lines text ++ ls) (a_rest n))))
 
   -- no line, and one line
   module _ (took_out took_err : List ℕ → Type 0) (before : ℕ) where
     pub TookLines-none : took_out [] → took_err [] → TookLines options took_out took_err before []
-    TookLines-none o e = record { out = subst took_out (sym (images-nil options)) o; err = subst took_err (sym (messages_after-nil options before)) e; read = tt }
+    TookLines-none o e = record {
+      out = subst took_out (sym (images-nil options)) o;
+      err = subst took_err (sym (messages_after-nil options before)) e;
+      read = tt;
+    }
 
-    pub TookLines-one : (line : List ℕ) → took_out (image_of options (outcome options line)) → took_err (message_of (line_number before) (outcome options line)) → ReadsBack (outcome options line) → TookLines options took_out took_err before (line ∷ [])
-    TookLines-one line o e r = record { out = subst took_out (sym (images_one options line)) o; err = subst took_err (sym (messages_after_one options before line)) e; read = (r, tt) }
+    pub TookLines-one : (line : List ℕ) → took_out (image_of options (outcome options line))
+        → took_err (message_of (line_number before) (outcome options line)) → ReadsBack (outcome options line)
+        → TookLines options took_out took_err before (line ∷ [])
+    TookLines-one line o e r = record {
+      out = subst took_out (sym (images_one options line)) o;
+      err = subst took_err (sym (messages_after_one options before line)) e;
+      read = (r, tt);
+    }
 
-    pub StopsInLine-one : (line : List ℕ) (fault : RunFault) → FailsInLine options took_out took_err (line_number before) (outcome options line) fault → StopsInLine options took_out took_err before (line ∷ []) fault
+    pub StopsInLine-one : (line : List ℕ) (fault : RunFault)
+        → FailsInLine options took_out took_err (line_number before) (outcome options line) fault
+        → StopsInLine options took_out took_err before (line ∷ []) fault
     StopsInLine-one line fault f = record {
       earlier = [];
       line = line;
@@ -237,10 +305,14 @@ module _ (options : OptionValues) where
       (out_joined : (s t u : O) (xs ys : List ℕ) → took_out s t xs → took_out t u ys → took_out s u (xs ++ ys))
       (err_joined : (s t u : E) (xs ys : List ℕ) → took_err s t xs → took_err t u ys → took_err s u (xs ++ ys))
       (out : O) (out' : O) (out'' : O) (err : E) (err' : E) (err'' : E) where
-    pub TookLines-flushed : (before : ℕ) (ls : List (List ℕ)) → TookLines options (took_out out out') (took_err err err') before ls → took_out out' out'' [] → took_err err' err'' [] → TookLines options (took_out out out'') (took_err err err'') before ls
+    pub TookLines-flushed : (before : ℕ) (ls : List (List ℕ))
+        → TookLines options (took_out out out') (took_err err err') before ls → took_out out' out'' []
+        → took_err err' err'' [] → TookLines options (took_out out out'') (took_err err err'') before ls
     TookLines-flushed before ls t o e = record {
-      out = subst (took_out out out'') (append-nil (images options ls)) (out_joined out out' out'' (images options ls) [] t.out o);
-      err = subst (took_err err err'') (append-nil (messages_after options before ls)) (err_joined err err' err'' (messages_after options before ls) [] t.err e);
+      out = subst (took_out out out'') (append-nil (images options ls))
+          (out_joined out out' out'' (images options ls) [] t.out o);
+      err = subst (took_err err err'') (append-nil (messages_after options before ls))
+          (err_joined err err' err'' (messages_after options before ls) [] t.err e);
       read = t.read;
     }
 
@@ -249,18 +321,23 @@ module _ (options : OptionValues) where
     pub ended_from_nil : (added : List (List ℕ)) → ended_lines text ≡ ended_lines [] ++ added → ended_lines text ≡ added
     ended_from_nil added e = e ∙ ap (λ (ls : List (List ℕ)). ls ++ added) ended_lines-nil
 
-    pub TookLines-ended : TookPiece options took_out took_err [] text → TookLines options took_out took_err 0 (ended_lines text)
+    pub TookLines-ended : TookPiece options took_out took_err [] text
+        → TookLines options took_out took_err 0 (ended_lines text)
     TookLines-ended p =
         subst (λ (ls : List (List ℕ)). TookLines options took_out took_err 0 ls) (sym (ended_from_nil p.added p.grown))
         (subst (λ (ls : List (List ℕ)). TookLines options took_out took_err (length ls) p.added) ended_lines-nil p.took)
 
-    pub StopsInLine-lines : (fault : RunFault) → StopsInPiece options took_out took_err [] text fault → StopsInLine options took_out took_err 0 (lines text) fault
+    pub StopsInLine-lines : (fault : RunFault) → StopsInPiece options took_out took_err [] text fault
+        → StopsInLine options took_out took_err 0 (lines text) fault
     StopsInLine-lines fault p =
-        let s = subst (λ (ls : List (List ℕ)). StopsInLine options took_out took_err (length ls) p.added fault) ended_lines-nil p.stops in
+        let s = subst (λ (ls : List (List ℕ)). StopsInLine options took_out took_err (length ls) p.added fault)
+        ended_lines-nil p.stops in
         record {
           earlier = s.earlier;
           line = s.line;
           later = s.later ++ unless_empty (open_line text);
-          cut = lines-split text ∙ (ap (λ (ls : List (List ℕ)). ls ++ unless_empty (open_line text)) (ended_from_nil p.added p.grown ∙ s.cut) ∙ append_assoc s.earlier (s.line ∷ s.later) (unless_empty (open_line text)));
+          cut = lines-split text ∙ (ap (λ (ls : List (List ℕ)). ls ++ unless_empty (open_line text))
+              (ended_from_nil p.added p.grown ∙ s.cut)
+              ∙ append_assoc s.earlier (s.line ∷ s.later) (unless_empty (open_line text)));
           wrote = s.wrote;
         }

@@ -1,5 +1,7 @@
 -- Images that are read back, one and many.
-use Rattle.std.proofs.Common.{◌≡◌, ℕ, ◌+◌, ◌*◌, ◌^◌, ◌<◌, ◌≤◌, Bool, true, false, List, [], ◌∷◌, ◌++◌, map, length, Option, None, Some, Result, Ok, Err, refl, sym, ap, ◌∙◌, arith, get_or, inl, inr, ◌&&◌, ◌==◌, eq-eqb}
+use Rattle.std.proofs.Common.{◌≡◌, ℕ, ◌+◌, ◌*◌, ◌^◌, ◌<◌, ◌≤◌, Bool, true, false, List, [], ◌∷◌, ◌++◌, map, length}
+use Rattle.std.proofs.Common.{Option, None, Some, Result, Ok, Err, refl, sym, ap, ◌∙◌, arith, get_or, inl, inr, ◌&&◌}
+use Rattle.std.proofs.Common.{◌==◌, eq-eqb}
 use mathlib.Core.Path.{fun_ext}
 use Rattle.std.specs.Prelude.{nat_lt}
 use Rattle.std.specs.List.{AllByRecursion, flat_map, list_all}
@@ -22,10 +24,13 @@ use Rattle.qrmatrix.specs.Square.{value_at}
 use Rattle.picture.specs.Picture.{Picture, bars}
 use Rattle.picture.specs.Text.{below, pixel_row}
 use Rattle.picture.specs.Read.{raster}
-use Rattle.picture.specs.RoundTrip.{IsDrawable, PbmFilesAreTexts, AsciiFilesAreTexts, PbmTextsAreRead, AsciiTextsAreRead, PixelsAreThePicture, ModulesAreSampled, BarsAreOneRow}
+use Rattle.picture.specs.RoundTrip.{IsDrawable, PbmFilesAreTexts, AsciiFilesAreTexts, PbmTextsAreRead}
+use Rattle.picture.specs.RoundTrip.{AsciiTextsAreRead, PixelsAreThePicture, ModulesAreSampled, BarsAreOneRow}
 use Rattle.filter.specs.Label.{Label, quiet_zone, linear_label}
-use Rattle.filter.specs.Output.{Outcome, skipped, refused, drawn, outcome, outcome_of_label, image_of, images, picture_of, text_of}
-use Rattle.filter.specs.Readback.{cut, pixels, read_linear, read_modules, read_image, accepted, with_label, AreRead, IsReadable, ReadsBack}
+use Rattle.filter.specs.Output.{Outcome, skipped, refused, drawn, outcome, outcome_of_label, image_of, images}
+use Rattle.filter.specs.Output.{picture_of, text_of}
+use Rattle.filter.specs.Readback.{cut, pixels, read_linear, read_modules, read_image, accepted, with_label, AreRead}
+use Rattle.filter.specs.Readback.{IsReadable, ReadsBack}
 
 -- the quiet zones are narrow
 zone_columns : (symbology : Symbology) → (quiet_zone symbology).left + (quiet_zone symbology).right ≤ 20
@@ -63,78 +68,112 @@ module _ (laws : ReadingLaws) (options : OptionValues) (low : 1 ≤ options.scal
   drawable : (label : Label) → IsReadable label → IsDrawable (picture_of options label)
   drawable label h =
       let zone = quiet_zone label.symbology in
-      let wide : zone.left + label.modules.width + zone.right ≤ 1840 = small_sum zone.left label.modules.width zone.right (zone_columns label.symbology) h.columns in
-      let tall : zone.top + label.modules.height + zone.bottom ≤ 1840 = small_sum zone.top label.modules.height zone.bottom (omega (arith, zone_rows label.symbology)) (omega (arith, h.rows)) in
+      let wide : zone.left + label.modules.width + zone.right ≤ 1840 =
+      small_sum zone.left label.modules.width zone.right (zone_columns label.symbology) h.columns in
+      let tall : zone.top + label.modules.height + zone.bottom ≤ 1840 =
+      small_sum zone.top label.modules.height zone.bottom (omega (arith, zone_rows label.symbology))
+      (omega (arith, h.rows)) in
       let some = mul-pos (some_sum zone.left label.modules.width zone.right h.some_columns) low in
-      record { some = some; wide = small_product (zone.left + label.modules.width + zone.right) options.scale wide high; high = small_product (zone.top + label.modules.height + zone.bottom) options.scale tall high }
+      record {
+        some = some;
+        wide = small_product (zone.left + label.modules.width + zone.right) options.scale wide high;
+        high = small_product (zone.top + label.modules.height + zone.bottom) options.scale tall high;
+      }
 
   some_rows : (label : Label) → IsReadable label → 0 < (picture_of options label).height
   some_rows label h =
       let zone = quiet_zone label.symbology in
       mul-pos (some_sum zone.top label.modules.height zone.bottom h.some_rows) low
 
-  text_read : (format : Format) (label : Label) → IsReadable label → pixels format (text_of format (picture_of options label)) ≡ Some (raster (picture_of options label))
+  text_read : (format : Format) (label : Label) → IsReadable label
+      → pixels format (text_of format (picture_of options label)) ≡ Some (raster (picture_of options label))
   text_read Pbm label h = laws.pbm_texts (picture_of options label) (drawable label h)
   text_read Ascii label h = laws.ascii_texts (picture_of options label) (some_rows label h)
 
   -- one image
-  image_read : (format : Format) (label : Label) → IsReadable label → read_image format options.scale label.symbology (text_of format (picture_of options label)) ≡ Some label.full
+  image_read : (format : Format) (label : Label) → IsReadable label
+      → read_image format options.scale label.symbology (text_of format (picture_of options label)) ≡ Some label.full
   unfolding read_image
-  image_read format label h = rw (text_read format label h, laws.sampled label.modules (quiet_zone label.symbology) options.scale low) h.read
+  image_read format label h = rw (
+    text_read format label h,
+    laws.sampled label.modules (quiet_zone label.symbology)
+        options.scale low,
+  ) h.read
 
-  are_drawable : (labels : List Label) → AllByRecursion IsReadable labels → AllByRecursion IsDrawable (map (picture_of options) labels)
+  are_drawable : (labels : List Label) → AllByRecursion IsReadable labels
+      → AllByRecursion IsDrawable (map (picture_of options) labels)
   are_drawable [] all = tt
   are_drawable (label ∷ labels) all = (drawable label all.0, are_drawable labels all.1)
 
-  have_columns : (labels : List Label) → AllByRecursion IsReadable labels → AllByRecursion (λ (p : Picture). 0 < p.width) (map (picture_of options) labels)
+  have_columns : (labels : List Label) → AllByRecursion IsReadable labels
+      → AllByRecursion (λ (p : Picture). 0 < p.width) (map (picture_of options) labels)
   have_columns [] all = tt
   have_columns (label ∷ labels) all = ((drawable label all.0).some, have_columns labels all.1)
 
   -- a stream of images
-  stream_cut : (format : Format) (labels : List Label) → AllByRecursion IsReadable labels → cut format (flat_map (text_of format) (map (picture_of options) labels)) ≡ map (text_of format) (map (picture_of options) labels)
-  stream_cut Pbm labels all = let ps = map (picture_of options) labels in laws.pbm_files ps (All-from_recursion IsDrawable ps (are_drawable labels all))
-  stream_cut Ascii labels all = let ps = map (picture_of options) labels in laws.ascii_files ps (All-from_recursion (λ (p : Picture). 0 < p.width) ps (have_columns labels all))
+  stream_cut : (format : Format) (labels : List Label) → AllByRecursion IsReadable labels
+      → cut format (flat_map (text_of format) (map (picture_of options) labels))
+      ≡ map (text_of format) (map (picture_of options) labels)
+  stream_cut Pbm labels all = let ps = map (picture_of options) labels in
+      laws.pbm_files ps (All-from_recursion IsDrawable ps (are_drawable labels all))
+  stream_cut Ascii labels all = let ps = map (picture_of options) labels in
+      laws.ascii_files ps (All-from_recursion (λ (p : Picture). 0 < p.width) ps (have_columns labels all))
 
-  all_read : (labels : List Label) → AllByRecursion IsReadable labels → AreRead options.format options.scale (map (text_of options.format) (map (picture_of options) labels)) labels
+  all_read : (labels : List Label) → AllByRecursion IsReadable labels
+      → AreRead options.format options.scale (map (text_of options.format) (map (picture_of options) labels)) labels
   unfolding AreRead
   all_read [] all = tt
   all_read (label ∷ labels) all = (image_read options.format label all.0, all_read labels all.1)
 
-  with_readable : (o : Outcome) → ReadsBack o → (labels : List Label) → AllByRecursion IsReadable labels → AllByRecursion IsReadable (with_label o labels)
+  with_readable : (o : Outcome) → ReadsBack o → (labels : List Label) → AllByRecursion IsReadable labels
+      → AllByRecursion IsReadable (with_label o labels)
   with_readable skipped r labels all = all
   with_readable (refused fault) r labels all = all
   with_readable (drawn label) r labels all = (r, all)
 
-  accepted_readable : (lines : List (List ℕ)) → AllByRecursion (λ line. ReadsBack (outcome options line)) lines → AllByRecursion IsReadable (accepted options lines)
+  accepted_readable : (lines : List (List ℕ)) → AllByRecursion (λ line. ReadsBack (outcome options line)) lines
+      → AllByRecursion IsReadable (accepted options lines)
   unfolding accepted
   accepted_readable [] all = tt
-  accepted_readable (line ∷ lines) all = with_readable (outcome options line) all.0 (accepted options lines) (accepted_readable lines all.1)
+  accepted_readable (line ∷ lines) all = with_readable (outcome options line) all.0 (accepted options lines)
+      (accepted_readable lines all.1)
 
-  image_more : (o : Outcome) (more : List ℕ) (labels : List Label) → more ≡ flat_map (text_of options.format) (map (picture_of options) labels) → image_of options o ++ more ≡ flat_map (text_of options.format) (map (picture_of options) (with_label o labels))
+  image_more : (o : Outcome) (more : List ℕ) (labels : List Label)
+      → more ≡ flat_map (text_of options.format) (map (picture_of options) labels)
+      → image_of options o ++ more ≡ flat_map (text_of options.format) (map (picture_of options) (with_label o labels))
   image_more skipped more labels e = e
   image_more (refused fault) more labels e = e
-  image_more (drawn label) more labels e = ap (λ (bytes : List ℕ). text_of options.format (picture_of options label) ++ bytes) e
+  image_more (drawn label) more labels e = ap (λ (bytes : List ℕ). text_of options.format (picture_of options label)
+      ++ bytes) e
 
-  images_are : (lines : List (List ℕ)) → images options lines ≡ flat_map (text_of options.format) (map (picture_of options) (accepted options lines))
+  images_are : (lines : List (List ℕ)) → images options lines
+      ≡ flat_map (text_of options.format) (map (picture_of options) (accepted options lines))
   unfolding images accepted
   images_are [] = refl
-  images_are (line ∷ lines) = image_more (outcome options line) (images options lines) (accepted options lines) (images_are lines)
+  images_are (line ∷ lines) = image_more (outcome options line) (images options lines) (accepted options lines)
+      (images_are lines)
 
   -- the images of lines, cut, are read as the full data of the symbols that are drawn
-  pub images_read : (lines : List (List ℕ)) → AllByRecursion (λ line. ReadsBack (outcome options line)) lines → AreRead options.format options.scale (cut options.format (images options lines)) (accepted options lines)
+  pub images_read : (lines : List (List ℕ)) → AllByRecursion (λ line. ReadsBack (outcome options line)) lines
+      → AreRead options.format options.scale (cut options.format (images options lines)) (accepted options lines)
   images_read lines all =
       let readable = accepted_readable lines all in
-      rw (images_are lines, stream_cut options.format (accepted options lines) readable) (all_read (accepted options lines) readable)
+      rw (images_are lines, stream_cut options.format (accepted options lines) readable)
+      (all_read (accepted options lines) readable)
 
 -- a row that is read is not empty
-some_row : (reading : List Bool → Option (List ℕ)) (row : List Bool) (full : List ℕ) → reading [] ≡ None → reading row ≡ Some full → 0 < length row
+some_row : (reading : List Bool → Option (List ℕ)) (row : List Bool) (full : List ℕ) → reading [] ≡ None
+    → reading row ≡ Some full → 0 < length row
 some_row reading [] full none e = absurd (let no : None ≡ Some full = sym none ∙ e in cc)
 some_row reading (module_ ∷ row) full none e = omega arith
 
 -- a linear symbol whose row is read
-pub linear_readable : BarsAreOneRow → (symbology : Symbology) (row : List ℕ → List Bool) (reading : List Bool → Option (List ℕ)) (options : OptionValues) (r : Result (List ℕ) Fault) → 1 ≤ options.height → options.height ≤ 500 →
+pub linear_readable : BarsAreOneRow → (symbology : Symbology) (row : List ℕ → List Bool)
+    (reading : List Bool → Option (List ℕ)) (options : OptionValues) (r : Result (List ℕ) Fault) → 1 ≤ options.height
+    → options.height ≤ 500 →
     ((rows : List (List Bool)) → read_modules symbology rows ≡ read_linear reading rows) → reading [] ≡ None →
-    ((full : List ℕ) → r ≡ Ok full → (length (row full) ≤ 1795) × (reading (row full) ≡ Some full)) → ReadsBack (outcome_of_label (linear_label symbology row options r))
+    ((full : List ℕ) → r ≡ Ok full → (length (row full) ≤ 1795) × (reading (row full) ≡ Some full))
+    → ReadsBack (outcome_of_label (linear_label symbology row options r))
 linear_readable one_row symbology row reading options (Err fault) low high law none back = tt
 linear_readable one_row symbology row reading options (Ok full) low high law none back =
     let b = back full refl in
@@ -147,9 +186,14 @@ linear_readable one_row symbology row reading options (Ok full) low high law non
       read = law (raster (bars (row full) options.height)).rows ∙ rw one b.1;
     }
 
-equal_lengths : (p : Picture) (n : ℕ) (ys : List ℕ) → p.width ≡ n → list_all (λ row. length row == n) (map (pixel_row p) ys) ≡ true
+equal_lengths : (p : Picture) (n : ℕ) (ys : List ℕ) → p.width ≡ n
+    → list_all (λ row. length row == n) (map (pixel_row p) ys) ≡ true
 equal_lengths p n [] e = refl
-equal_lengths p n (y ∷ ys) e = rw (eq-eqb (length (pixel_row p y)) n (length-map-range_with_len (λ x. p.dark x y) 0 p.width ∙ e), equal_lengths p n ys e) refl
+equal_lengths p n (y ∷ ys) e = rw (
+  eq-eqb (length (pixel_row p y)) n
+      (length-map-range_with_len (λ x. p.dark x y) 0 p.width ∙ e),
+  equal_lengths p n ys e,
+) refl
 
 right_false : (a b : Bool) → b ≡ false → (a && b) ≡ false
 right_false true b e = e
@@ -159,7 +203,8 @@ left_false : (a b : Bool) → a ≡ false → (a && b) ≡ false
 left_false true b e = cc
 left_false false b e = refl
 
-module _ (pixels_are : PixelsAreThePicture) (n : ℕ) (dark : ℕ → ℕ → Bool) (outside : (x y : ℕ) → is_inside n x y ≡ false → dark x y ≡ false) where
+module _ (pixels_are : PixelsAreThePicture) (n : ℕ) (dark : ℕ → ℕ → Bool)
+    (outside : (x y : ℕ) → is_inside n x y ≡ false → dark x y ≡ false) where
   abbrev square : Picture
   square = record { width = n; height = n; dark = dark }
 
@@ -168,17 +213,23 @@ module _ (pixels_are : PixelsAreThePicture) (n : ℕ) (dark : ℕ → ℕ → Bo
     | inl high ↦ elim (cases_lt x n) [
       | inl wide ↦ pixels_are square x y wide high
       | inr past ↦
-          ap (λ (row : List Bool). get_or row x false) (get_or-map-range_with_len (pixel_row square) 0 n y y [] high (omega arith))
-          ∙ (get_or_past (pixel_row square y) x false (let size = length-map-range_with_len (λ x. dark x y) 0 n in omega arith)
+          ap (λ (row : List Bool). get_or row x false)
+          (get_or-map-range_with_len (pixel_row square) 0 n y y [] high (omega arith))
+          ∙ (get_or_past (pixel_row square y) x false
+          (let size = length-map-range_with_len (λ x. dark x y) 0 n in omega arith)
           ∙ sym (outside x y (left_false (nat_lt x n) (nat_lt y n) (le-ltb x n past))))
     ]
     | inr past ↦
-        ap (λ (row : List Bool). get_or row x false) (get_or_past (raster square).rows y [] (let size = length-map-range_with_len (pixel_row square) 0 n in omega arith))
+        ap (λ (row : List Bool). get_or row x false)
+        (get_or_past (raster square).rows y [] (let size = length-map-range_with_len (pixel_row square) 0 n in
+        omega arith))
         ∙ sym (outside x y (right_false (nat_lt x n) (nat_lt y n) (le-ltb y n past)))
   ]
 
   -- a QR symbol whose modules are read
-  pub qr_readable : (version : ℕ) (level : Level) (words bytes : List ℕ) → 0 < n → n ≤ 57 → read_matrix n dark ≡ Some (record { version = version; level = level; words = words }) → data_in version level words ≡ Some bytes →
+  pub qr_readable : (version : ℕ) (level : Level) (words bytes : List ℕ) → 0 < n → n ≤ 57
+      → read_matrix n dark ≡ Some (record { version = version; level = level; words = words })
+      → data_in version level words ≡ Some bytes →
       IsReadable (record { symbology = Qr; full = bytes; modules = record { width = n; height = n; dark = dark } })
   qr_readable version level words bytes some most symbol data_read =
       let rows = (raster square).rows in

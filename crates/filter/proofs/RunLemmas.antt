@@ -1,5 +1,6 @@
 -- From pieces to a run over a whole input.
-use Rattle.std.proofs.Common.{ℕ, Result, Ok, Err, List, [], ◌∷◌, ◌++◌, length, ◌⊎◌, inl, inr, refl, subst, sym, zero-add}
+use Rattle.std.proofs.Common.{ℕ, Result, Ok, Err, List, [], ◌∷◌, ◌++◌, length, ◌⊎◌, inl, inr, refl, subst, sym}
+use Rattle.std.proofs.Common.{zero-add}
 use Rattle.std.specs.Prelude.{MatchResult, IfErr, IfOk, OnOk}
 use Rattle.labelcore.specs.Lines.{lines, ended_lines, open_line, unless_empty}
 use Rattle.filter.specs.Line.{RaisesOneCount}
@@ -8,28 +9,34 @@ use Rattle.filter.specs.Filter.{TookLines, StopsInLine, TookPiece, StopsInFinish
 use Rattle.filter.specs.Run.{StopsInText, RunStops}
 use Rattle.filter.specs.declared.status.RunFault.{RunFault}
 use Rattle.filter.specs.declared.status.RunFault.TheVariants.{Read, WriteOut, WriteMessages, Spent}
-use Rattle.filter.proofs.FilterLemmas.{lines-split, TookLines-ended, TookLines-none, TookLines-append, TookLines-flushed, StopsInLine-one, StopsInLine-append}
+use Rattle.filter.proofs.FilterLemmas.{lines-split, TookLines-ended, TookLines-none, TookLines-append}
+use Rattle.filter.proofs.FilterLemmas.{TookLines-flushed, StopsInLine-one, StopsInLine-append}
 use Rattle.labelcore.specs.OptionValues.{OptionValues}
 
 module _ (options : OptionValues) where
   -- what two clauses say of one fault, and of one answer
-  pub at_err : {T E : Type 0} (r : Result T E) (A C : T → Type 0) (P B Q : E → Type 0) → MatchResult r A P → MatchResult r C B → ((fault : E) → P fault → B fault → Q fault) → IfErr r Q
+  pub at_err : {T E : Type 0} (r : Result T E) (A C : T → Type 0) (P B Q : E → Type 0) → MatchResult r A P
+      → MatchResult r C B → ((fault : E) → P fault → B fault → Q fault) → IfErr r Q
   at_err (Ok x) A C P B Q p b f = tt
   at_err (Err e) A C P B Q p b f = f e p b
 
-  pub at_ok : {T E : Type 0} (r : Result T E) (P B : T → Type 0) (S : E → Type 0) (Q : T → Type 0) → MatchResult r (λ x. P x × B x) S → ((x : T) → P x → B x → Q x) → IfOk r Q
+  pub at_ok : {T E : Type 0} (r : Result T E) (P B : T → Type 0) (S : E → Type 0) (Q : T → Type 0)
+      → MatchResult r (λ x. P x × B x) S → ((x : T) → P x → B x → Q x) → IfOk r Q
   at_ok (Ok x) P B S Q p f = f x p.0 p.1
   at_ok (Err e) P B S Q p f = tt
 
   -- a fault in a line, as a run's
-  pub RunStops-in_line : (took_out took_err : List ℕ → Type 0) (text : List ℕ) (fault : RunFault) → StopsInLine options took_out took_err 0 (lines text) fault → RunStops options took_out took_err text fault
+  pub RunStops-in_line : (took_out took_err : List ℕ → Type 0) (text : List ℕ) (fault : RunFault)
+      → StopsInLine options took_out took_err 0 (lines text) fault → RunStops options took_out took_err text fault
   RunStops-in_line took_out took_err text Read s = absurd s.wrote
   RunStops-in_line took_out took_err text WriteOut s = inl s
   RunStops-in_line took_out took_err text WriteMessages s = inl s
   RunStops-in_line took_out took_err text Spent s = absurd s.wrote
 
   -- a fault of a sink at the end, as a run's
-  RunStops-at_end : (took_out took_err : List ℕ → Type 0) (text : List ℕ) (o o' e e' : ℕ) (fault : RunFault) → RaisesOneCount o o' e e' fault → StopsInText options took_out took_err text fault → RunStops options took_out took_err text fault
+  RunStops-at_end : (took_out took_err : List ℕ → Type 0) (text : List ℕ) (o o' e e' : ℕ) (fault : RunFault)
+      → RaisesOneCount o o' e e' fault → StopsInText options took_out took_err text fault
+      → RunStops options took_out took_err text fault
   RunStops-at_end took_out took_err text o o' e e' Read r s = absurd r
   RunStops-at_end took_out took_err text o o' e e' WriteOut r s = s
   RunStops-at_end took_out took_err text o o' e e' WriteMessages r s = s
@@ -41,39 +48,72 @@ module _ (options : OptionValues) where
       (out : O) (out' : O) (out'' : O) (err : E) (err' : E) (err'' : E) (text : List ℕ)
       (took : TookPiece options (took_out out out') (took_err err err') [] text) where
     -- the ended lines, and then the last one
-    pub TookLines-finish : TookLines options (took_out out' out'') (took_err err' err'') (length (ended_lines text)) (unless_empty (open_line text)) → TookLines options (took_out out out'') (took_err err err'') 0 (lines text)
+    pub TookLines-finish : TookLines options (took_out out' out'') (took_err err' err'') (length (ended_lines text))
+        (unless_empty (open_line text)) → TookLines options (took_out out out'') (took_err err err'') 0 (lines text)
     TookLines-finish last =
-        subst (λ (ls : List (List ℕ)). TookLines options (took_out out out'') (took_err err err'') 0 ls) (sym (lines-split options text))
-        (TookLines-append options took_out took_err out_joined err_joined out out' out'' err err' err'' 0 (ended_lines text) (unless_empty (open_line text))
+        subst (λ (ls : List (List ℕ)). TookLines options (took_out out out'') (took_err err err'') 0 ls)
+        (sym (lines-split options text))
+        (TookLines-append options took_out took_err out_joined err_joined out out' out'' err err' err'' 0
+        (ended_lines text) (unless_empty (open_line text))
         (TookLines-ended options (took_out out out') (took_err err err') text took)
-        (subst (λ (n : ℕ). TookLines options (took_out out' out'') (took_err err' err'') n (unless_empty (open_line text))) (sym (zero-add (length (ended_lines text)))) last))
+        (subst (λ (n : ℕ). TookLines options (took_out out' out'') (took_err err' err'') n
+        (unless_empty (open_line text))) (sym (zero-add (length (ended_lines text)))) last))
 
-    StopsInLine-finish : (fault : RunFault) → StopsInLine options (took_out out' out'') (took_err err' err'') (length (ended_lines text)) (unless_empty (open_line text)) fault → StopsInLine options (took_out out out'') (took_err err err'') 0 (lines text) fault
+    StopsInLine-finish : (fault : RunFault) → StopsInLine options (took_out out' out'') (took_err err' err'')
+        (length (ended_lines text)) (unless_empty (open_line text)) fault
+        → StopsInLine options (took_out out out'') (took_err err err'') 0 (lines text) fault
     StopsInLine-finish fault last =
-        subst (λ (ls : List (List ℕ)). StopsInLine options (took_out out out'') (took_err err err'') 0 ls fault) (sym (lines-split options text))
-        (StopsInLine-append options took_out took_err out_joined err_joined out out' out'' err err' err'' 0 (ended_lines text) (unless_empty (open_line text)) fault
+        subst (λ (ls : List (List ℕ)). StopsInLine options (took_out out out'') (took_err err err'') 0 ls fault)
+        (sym (lines-split options text))
+        (StopsInLine-append options took_out took_err out_joined err_joined out out' out'' err err' err'' 0
+        (ended_lines text) (unless_empty (open_line text)) fault
         (TookLines-ended options (took_out out out') (took_err err err') text took)
-        (subst (λ (n : ℕ). StopsInLine options (took_out out' out'') (took_err err' err'') n (unless_empty (open_line text)) fault) (sym (zero-add (length (ended_lines text)))) last))
+        (subst (λ (n : ℕ). StopsInLine options (took_out out' out'') (took_err err' err'') n
+        (unless_empty (open_line text)) fault) (sym (zero-add (length (ended_lines text)))) last))
 
-    pub RunStops-finish : (o o' e e' : ℕ) (fault : RunFault) → StopsInFinish options (took_out out' out'') (took_err err' err'') text fault → RaisesOneCount o o' e e' fault → RunStops options (took_out out out'') (took_err err err'') text fault
+    pub RunStops-finish : (o o' e e' : ℕ) (fault : RunFault)
+        → StopsInFinish options (took_out out' out'') (took_err err' err'') text fault → RaisesOneCount o o' e e' fault
+        → RunStops options (took_out out out'') (took_err err err'') text fault
     RunStops-finish o o' e e' fault s r =
         RunStops-at_end (took_out out out'') (took_err err err'') text o o' e e' fault r
         (elim s [ inl line ↦ inl (StopsInLine-finish fault line) | inr whole ↦ inr (TookLines-finish whole) ])
 
     -- what is held back goes on
-    pub TookPiece-sent : took_out out' out'' [] → took_err err' err'' [] → TookPiece options (took_out out out'') (took_err err err'') [] text
+    pub TookPiece-sent : took_out out' out'' [] → took_err err' err'' []
+        → TookPiece options (took_out out out'') (took_err err err'') [] text
     TookPiece-sent none_out none_err = record {
       added = took.added;
       grown = took.grown;
-      took = TookLines-flushed options took_out took_err out_joined err_joined out out' out'' err err' err'' (length (ended_lines [])) took.added took.took none_out none_err;
+      took = TookLines-flushed options took_out took_err out_joined err_joined out out' out'' err err' err''
+          (length (ended_lines [])) took.added took.took none_out none_err;
     }
 
     -- what is held back does not go on: of the open line's image nothing was taken
-    pub RunStops-between : took_out out' out'' [] → took_err err' err'' [] → RunStops options (took_out out out'') (took_err err err'') text WriteOut
+    pub RunStops-between : took_out out' out'' [] → took_err err' err'' []
+        → RunStops options (took_out out out'') (took_err err err'') text WriteOut
     RunStops-between none_out none_err =
-        elim (between (open_line text)) [ inl line ↦ inl (StopsInLine-finish WriteOut line) | inr whole ↦ inr (TookLines-finish whole) ] where
-          between : (line : List ℕ) → StopsInLine options (took_out out' out'') (took_err err' err'') (length (ended_lines text)) (unless_empty line) WriteOut
-              ⊎ TookLines options (took_out out' out'') (took_err err' err'') (length (ended_lines text)) (unless_empty line)
-          between [] = inr (TookLines-none options (took_out out' out'') (took_err err' err'') (length (ended_lines text)) none_out none_err)
+        elim (between (open_line text)) [
+          | inl line ↦ inl (StopsInLine-finish WriteOut line)
+          | inr whole ↦
+              inr (TookLines-finish whole)
+        ] where
+          between : (line : List ℕ) → StopsInLine options (took_out out' out'') (took_err err' err'')
+              (length (ended_lines text)) (unless_empty line) WriteOut
+              ⊎ TookLines options (took_out out' out'') (took_err err' err'') (length (ended_lines text))
+              (unless_empty line)
+          between [] = inr (TookLines-none options (took_out out' out'') (took_err err' err'')
+              (length (ended_lines text)) none_out none_err)
           between (byte ∷ bytes) =
-              inl (StopsInLine-one options (took_out out' out'') (took_err err' err'') (length (ended_lines text)) (byte ∷ bytes) WriteOut (([], (image_of options (outcome options (byte ∷ bytes)), refl), none_out), none_err))
+              inl (StopsInLine-one options (took_out out' out'') (took_err err' err'') (length (ended_lines text))
+              (byte ∷ bytes) WriteOut (
+                (
+                  [],
+                  (
+                    image_of options
+                        (outcome options (byte ∷ bytes)),
+                    refl,
+                  ),
+                  none_out,
+                ),
+                none_err,
+              ))

@@ -1,5 +1,6 @@
 -- Where a filter stands in its input, and what it does to its sinks (docs/SPECIFICATION.md, The filter as a library).
-use Rattle.std.specs.Prelude.{◌≡◌, ℕ, ◌+◌, ◌-◌, ◌^◌, min, Bool, false, ◌⊎◌, List, ◌∷◌, ◌++◌, length, Result, MatchResult}
+use Rattle.std.specs.Prelude.{◌≡◌, ℕ, ◌+◌, ◌-◌, ◌^◌, min, Bool, false, ◌⊎◌, List, ◌∷◌, ◌++◌, length, Result}
+use Rattle.std.specs.Prelude.{MatchResult}
 use Rattle.labelcore.specs.Lines.{Held, held, lines, ended_lines, open_line, unless_empty}
 use Rattle.labelcore.specs.OptionValues.{OptionValues}
 use Rattle.filter.specs.Output.{outcome, images, messages_after, line_number, any_refused, status_of}
@@ -25,19 +26,24 @@ pub record StandsAt (options : OptionValues) (state : FilterState) (text : List 
   pub is_refused : state.is_refused ≡ any_refused options (ended_lines text)
   pub is_spent : state.is_spent ≡ false
 
--- the sinks took the images and the messages of these lines, which so many lines stand before, and their symbols read back
-pub record TookLines (options : OptionValues) (took_out took_err : List ℕ → Type 0) (before : ℕ) (lines : List (List ℕ)) : Type 0 where
+-- the sinks took the images and the messages of these lines, which so many lines stand before, and their symbols read
+-- back
+pub record TookLines (options : OptionValues) (took_out took_err : List ℕ → Type 0) (before : ℕ) (lines : List (List ℕ))
+    : Type 0 where
   pub out : took_out (images options lines)
   pub err : took_err (messages_after options before lines)
   pub read : AllByRecursion (λ line. ReadsBack (outcome options line)) lines
 
--- of these lines the earlier ones' images and messages are whole, and the sink that failed took a beginning of one line's
-pub record StopsInLine (options : OptionValues) (took_out took_err : List ℕ → Type 0) (before : ℕ) (lines : List (List ℕ)) (fault : RunFault) : Type 0 where
+-- of these lines the earlier ones' images and messages are whole, and the sink that failed took a beginning of one
+-- line's
+pub record StopsInLine (options : OptionValues) (took_out took_err : List ℕ → Type 0) (before : ℕ)
+    (lines : List (List ℕ)) (fault : RunFault) : Type 0 where
   pub earlier : List (List ℕ)
   pub line : List ℕ
   pub later : List (List ℕ)
   pub cut : lines ≡ earlier ++ line ∷ later
-  pub wrote : FailsInLine options (λ bytes. took_out (images options earlier ++ bytes)) (λ bytes. took_err (messages_after options before earlier ++ bytes))
+  pub wrote : FailsInLine options (λ bytes. took_out (images options earlier ++ bytes))
+      (λ bytes. took_err (messages_after options before earlier ++ bytes))
       (line_number (before + length earlier)) (outcome options line) fault
 
 -- the sinks took what the lines come to that the piece ends
@@ -47,7 +53,8 @@ pub record TookPiece (options : OptionValues) (took_out took_err : List ℕ → 
   pub took : TookLines options took_out took_err (length (ended_lines text)) added
 
 -- a sink failed in one of the lines that the piece ends
-pub record StopsInPiece (options : OptionValues) (took_out took_err : List ℕ → Type 0) (text piece : List ℕ) (fault : RunFault) : Type 0 where
+pub record StopsInPiece (options : OptionValues) (took_out took_err : List ℕ → Type 0) (text piece : List ℕ)
+    (fault : RunFault) : Type 0 where
   pub added : List (List ℕ)
   pub grown : ended_lines (text ++ piece) ≡ ended_lines text ++ added
   pub stops : StopsInLine options took_out took_err (length (ended_lines text)) added fault
@@ -58,16 +65,20 @@ StopsInFinish options took_out took_err text fault =
     StopsInLine options took_out took_err (length (ended_lines text)) (unless_empty (open_line text)) fault
     ⊎ TookLines options took_out took_err (length (ended_lines text)) (unless_empty (open_line text))
 
--- a piece after this text: at `Ok` the filter stands after both and the sinks took what the lines come to that the piece ends, at
+-- a piece after this text: at `Ok` the filter stands after both and the sinks took what the lines come to that the
+-- piece ends, at
 -- `Err` a sink failed in one of these
-abbrev pub FeedsPiece : {T : Type 0} → OptionValues → FilterState → (took_out took_err : List ℕ → Type 0) (text piece : List ℕ) → Result T RunFault → Type 0
+abbrev pub FeedsPiece : {T : Type 0} → OptionValues → FilterState
+    → (took_out took_err : List ℕ → Type 0) (text piece : List ℕ) → Result T RunFault → Type 0
 FeedsPiece options new took_out took_err text piece r =
     MatchResult r (λ _. StandsAt options new (text ++ piece) × TookPiece options took_out took_err text piece)
     (StopsInPiece options took_out took_err text piece)
 
--- the end of this text: at `Ok` the status is that of the text's lines and the sinks took what the last one comes to, at `Err` a sink
+-- the end of this text: at `Ok` the status is that of the text's lines and the sinks took what the last one comes to,
+-- at `Err` a sink
 -- failed in it or in a flush
-abbrev pub EndsInput : OptionValues → (took_out took_err : List ℕ → Type 0) (text : List ℕ) → Result Status RunFault → Type 0
+abbrev pub EndsInput : OptionValues → (took_out took_err : List ℕ → Type 0) (text : List ℕ) → Result Status RunFault
+    → Type 0
 EndsInput options took_out took_err text r =
     MatchResult r (λ status. (status ≡ status_of options (lines text))
     × TookLines options took_out took_err (length (ended_lines text)) (unless_empty (open_line text)))

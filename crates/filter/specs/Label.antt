@@ -31,7 +31,11 @@ quiet_zone Qr = record { left = 4; right = 4; top = 4; bottom = 4 }
 
 -- the bars of full data, as high as the options say
 abbrev pub linear_label : Symbology → (List ℕ → List Bool) → OptionValues → Result (List ℕ) Fault → Result Label Fault
-linear_label symbology row options (Ok full) = Ok (record { symbology = symbology; full = full; modules = bars (row full) options.height })
+linear_label symbology row options (Ok full) = Ok (record {
+  symbology = symbology;
+  full = full;
+  modules = bars (row full) options.height;
+})
 linear_label symbology row options (Err fault) = Err fault
 
 -- the codewords of the data in a version
@@ -50,7 +54,12 @@ qr_modules options version words = record {
 abbrev pub qr_label : OptionValues → List ℕ → Option ℕ → Result Label Fault
 qr_label options bytes None = Err (DoesNotFit options.level)
 qr_label options bytes (Some version) =
-    Ok (record { symbology = Qr; full = bytes; modules = qr_modules options version (qr_codewords options bytes version) })
+    Ok (record {
+      symbology = Qr;
+      full = bytes;
+      modules =
+          qr_modules options version (qr_codewords options bytes version);
+    })
 
 -- the symbol of the data, or why there is none
 unfoldable pub label_of : OptionValues → Symbology → List ℕ → Result Label Fault

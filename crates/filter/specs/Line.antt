@@ -14,7 +14,8 @@ refusal_of (refused fault) = Some fault
 refusal_of other = None
 
 -- the sinks took the image and the message of a line that comes to this, and its symbol reads back
-pub record EndsLine (options : OptionValues) (took_out took_err : List ℕ → Type 0) (number : ℕ) (outcome : Outcome) (is_refused : Bool) : Type 0 where
+pub record EndsLine (options : OptionValues) (took_out took_err : List ℕ → Type 0) (number : ℕ) (outcome : Outcome)
+    (is_refused : Bool) : Type 0 where
   pub refused : is_refused ≡ is_refusal outcome
   pub image : took_out (image_of options outcome)
   pub message : took_err (message_of number outcome)
@@ -23,7 +24,8 @@ pub record EndsLine (options : OptionValues) (took_out took_err : List ℕ → T
 -- the sink that failed took a beginning of its text, and the other took nothing
 abbrev pub FailsInLine : OptionValues → (took_out took_err : List ℕ → Type 0) (number : ℕ) → Outcome → RunFault → Type 0
 FailsInLine options took_out took_err number outcome WriteOut = Begins took_out (image_of options outcome) × took_err []
-FailsInLine options took_out took_err number outcome WriteMessages = took_out [] × Begins took_err (message_of number outcome)
+FailsInLine options took_out took_err number outcome WriteMessages =
+    took_out [] × Begins took_err (message_of number outcome)
 FailsInLine options took_out took_err number outcome other = ⊥
 
 -- before a message nothing more was taken, or a beginning of it was
@@ -43,7 +45,8 @@ abbrev pub CountsFault : {T : Type 0} → (out_old out_new err_old err_new : ℕ
 CountsFault out_old out_new err_old err_new r =
     MatchResult r (λ _. (out_new ≡ out_old) × (err_new ≡ err_old)) (RaisesOneCount out_old out_new err_old err_new)
 
--- where a call stops no sink stands flushed that did not before, but the images where it is the messages that failed: the
+-- where a call stops no sink stands flushed that did not before, but the images where it is the messages that failed:
+-- the
 -- images are flushed first
 abbrev pub FlushedImagesAtMost : (out_old out_new err_old err_new : Bool) → RunFault → Type 0
 FlushedImagesAtMost out_old out_new err_old err_new WriteMessages = Unflushed err_old err_new

@@ -1,5 +1,6 @@
 -- The images, the messages and the status of a text, line by line (docs/SPECIFICATION.md, Lines, Statuses).
-use Rattle.std.specs.Prelude.{ℕ, ◌+◌, ◌-◌, ◌^◌, min, Bool, true, false, if◌then◌else◌, List, [], ◌∷◌, ◌++◌, Result, Ok, Err}
+use Rattle.std.specs.Prelude.{ℕ, ◌+◌, ◌-◌, ◌^◌, min, Bool, true, false, if◌then◌else◌, List, [], ◌∷◌, ◌++◌, Result, Ok}
+use Rattle.std.specs.Prelude.{Err}
 use Rattle.std.specs.List.{flat_map, list_any}
 use Rattle.labelcore.specs.declared.fault.Fault.{Fault}
 use Rattle.labelcore.specs.declared.options.Format.{Format}
@@ -74,7 +75,8 @@ images options lines = flat_map (λ line. image_of options (outcome options line
 -- the messages of lines that so many lines stand before, joined
 unfoldable pub messages_after : OptionValues → ℕ → List (List ℕ) → List ℕ
 messages_after options before [] = []
-messages_after options before (line ∷ lines) = message_of (line_number before) (outcome options line) ++ messages_after options (before + 1) lines
+messages_after options before (line ∷ lines) = message_of (line_number before) (outcome options line)
+    ++ messages_after options (before + 1) lines
 
 -- the messages of a text's lines, or of its first lines, joined
 abbrev pub messages : OptionValues → List (List ℕ) → List ℕ

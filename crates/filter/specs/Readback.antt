@@ -11,7 +11,8 @@ use Rattle.linear.specs.Code128Reading.{read_code128}
 use Rattle.qrdata.specs.Reading.{data_in}
 use Rattle.qrmatrix.specs.Reading.{read_matrix}
 use Rattle.qrmatrix.specs.Square.{value_at}
-use Rattle.picture.specs.Read.{Raster, raster, pbm_files, ascii_files, pbm_pixels, ascii_pixels, sample, linear_row, given, ◌>>=◌}
+use Rattle.picture.specs.Read.{Raster, raster, pbm_files, ascii_files, pbm_pixels, ascii_pixels, sample, linear_row}
+use Rattle.picture.specs.Read.{given, ◌>>=◌}
 use Rattle.filter.specs.Label.{Label, quiet_zone}
 use Rattle.filter.specs.Output.{Outcome, skipped, refused, drawn, outcome}
 

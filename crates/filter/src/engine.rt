@@ -8,11 +8,15 @@ use crate::status::{RunFault, Status};
 use labelcore::{Options, Sink, Source};
 use picture::{files_of_texts, modules_of_pixels, pixels_of_texts};
 
-/// Reads the source to its end, at most 4,096 bytes a read, and writes what its lines come to: images to `out`, messages to
-/// `err`. What `out` holds back it sends on before each read and each message. The answer says whether any line was refused.
+/// Reads the source to its end, at most 4,096 bytes a read, and writes what its lines come to: images to `out`,
+/// messages to
+/// `err`. What `out` holds back it sends on before each read and each message. The answer says whether any line was
+/// refused.
 ///
-/// `Read`, `WriteOut` and `WriteMessages` say which device failed; `Spent` is never answered. After `Read` every ended line's
-/// text is whole, the open line is not drawn and nothing is flushed. After 2^64 - 1 reads that gave bytes `Read` is answered too.
+/// `Read`, `WriteOut` and `WriteMessages` say which device failed; `Spent` is never answered. After `Read` every ended
+/// line's
+/// text is whole, the open line is not drawn and nothing is flushed. After 2^64 - 1 reads that gave bytes `Read` is
+/// answered too.
 pub fn run<S: Source, O: Sink, E: Sink>(
     options: Options,
     source: &mut S,

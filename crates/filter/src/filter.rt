@@ -1,5 +1,6 @@
 //! The filter, fed piece by piece.
-ghost use Rattle.std.specs.Prelude.{◌≡◌, ℕ, Bool, true, false, List, [], ◌∷◌, ◌++◌, length, Err, OnOk, OnErr, IfOk, IfErr};
+ghost use Rattle.std.specs.Prelude.{◌≡◌, ℕ, Bool, true, false, List, [], ◌∷◌, ◌++◌, length, Err, OnOk, OnErr, IfOk};
+ghost use Rattle.std.specs.Prelude.{IfErr};
 ghost use Rattle.labelcore.specs.Device.{Unflushed};
 ghost use Rattle.labelcore.specs.OptionValues.{OptionValues};
 ghost use Rattle.labelcore.specs.Lines.{lines, ended_lines, open_line, unless_empty};
@@ -84,7 +85,8 @@ impl Filter {
         }
     }
 
-    /// Takes the next piece of the input: writes what the lines come to that it ends, flushes nothing, and holds the rest.
+    /// Takes the next piece of the input: writes what the lines come to that it ends, flushes nothing, and holds the
+    /// rest.
     ///
     /// `WriteOut` and `WriteMessages` say which sink failed, in one of these lines: earlier lines' texts are whole, and
     /// its own is a beginning. From then on the filter is spent, and every call answers `Spent` and calls no sink.
@@ -118,7 +120,8 @@ impl Filter {
 
     /// Ends the input: the last line is written, if no LF ends it, and then both sinks are flushed, the images first.
     ///
-    /// `WriteOut` and `WriteMessages` say which sink failed, in that line or in its flush. A filter that was spent answers
+    /// `WriteOut` and `WriteMessages` say which sink failed, in that line or in its flush. A filter that was spent
+    /// answers
     /// `Spent` and calls no sink.
     pub fn finish<O: Sink, E: Sink>(self, out: &mut O, err: &mut E) -> Result<Status, RunFault>
         ensures ends { (options : OptionValues) (text : List ℕ) → StandsAt options self text

@@ -33,7 +33,8 @@ helped = refl
 full : OptionValues
 full = record { format = Ascii; scale = 8; height = 500; level = H; min_version = 10; mask = Some 0; escapes = true }
 
-all-named : invocation_of (codes "--format" ∷ codes "ascii" ∷ codes "--scale=8" ∷ codes "--height" ∷ codes "500" ∷ codes "--level" ∷ codes "H" ∷ codes "--min-version" ∷ codes "10"
+all-named : invocation_of (codes "--format" ∷ codes "ascii" ∷ codes "--scale=8" ∷ codes "--height" ∷ codes "500"
+    ∷ codes "--level" ∷ codes "H" ∷ codes "--min-version" ∷ codes "10"
     ∷ codes "--mask" ∷ codes "0" ∷ codes "--escapes" ∷ codes "-" ∷ []) ≡ run full (Some (codes "-"))
 unfolding clap_on_literals level_named full
 all-named = refl

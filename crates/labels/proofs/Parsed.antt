@@ -1,5 +1,7 @@
 -- What a parse that succeeds has checked, by the rules of the command.
-use Rattle.std.proofs.Common.{◌≡◌, ◌∙◌, ◌<◌, ◌⊎◌, ◌==◌, ◌||◌, not, Err, ap, refl, sym, subst, codes, cond, drop, ℕ, zero, suc, Bool, true, false, List, [], ◌∷◌, length, map, Option, Some, None, inl, inr, arith}
+use Rattle.std.proofs.Common.{◌≡◌, ◌∙◌, ◌<◌, ◌⊎◌, ◌==◌, ◌||◌, not, Err, ap, refl, sym, subst, codes, cond, drop, ℕ}
+use Rattle.std.proofs.Common.{zero, suc, Bool, true, false, List, [], ◌∷◌, length, map, Option, Some, None, inl, inr}
+use Rattle.std.proofs.Common.{arith}
 use Rattle.std.specs.Prelude.{IfSome, option_map, slice_get, pos, unwrap_or}
 use Rattle.std.specs.List.{All, slice_index_or}
 use Rattle.std.specs.Str.{bytes_eq}
@@ -28,7 +30,8 @@ use Rattle.clap.specs.declared.error.Error.{Error}
 use Rattle.clap.specs.declared.error.kind.ErrorKind.TheVariants.{OutOfMemory}
 use Rattle.clap.specs.declared.parser.matches.ArgMatches.{ArgMatches}
 use Rattle.labels.specs.Answers.{Answers, Refuses}
-use Rattle.labels.specs.CommandLine.{HoldsNumber, HoldsValues, IsNumberIn, Invocation, bad, command_line, help, invocation_refused, invocation_by, run}
+use Rattle.labels.specs.CommandLine.{HoldsNumber, HoldsValues, IsNumberIn, Invocation, bad, command_line, help}
+use Rattle.labels.specs.CommandLine.{invocation_refused, invocation_by, run}
 use Rattle.labels.specs.declared.words.WordsFault.{WordsFault}
 use Rattle.labels.specs.declared.words.WordsFault.TheVariants.{Memory}
 use Rattle.labels.proofs.OneKind.{IsOneAtMost}
@@ -59,8 +62,10 @@ some_at : (P : Rule → Type 0) (id : Text) (xs : List Arg) (k : ℕ) (a : Arg) 
     → bytes_eq a.id.now id ≡ true → P (rule_of a) → SomeRule P id (map rule_of xs)
 some_at P id [] k a lt at same p = absurd (omega arith)
 some_at P id (x ∷ xs) zero a lt at same p =
-    here (bytes_eq x.id.now id) _ _ (ap (λ (y : Arg). bytes_eq y.id.now id) at ∙ same) (subst (λ (y : Arg). P (rule_of y)) (sym at) p)
-some_at P id (x ∷ xs) (suc k) a lt at same p = later (bytes_eq x.id.now id) _ _ (some_at P id xs k a (omega arith) at same p)
+    here (bytes_eq x.id.now id) _ _ (ap (λ (y : Arg). bytes_eq y.id.now id) at ∙ same)
+    (subst (λ (y : Arg). P (rule_of y)) (sym at) p)
+some_at P id (x ∷ xs) (suc k) a lt at same p = later (bytes_eq x.id.now id) _ _
+    (some_at P id xs k a (omega arith) at same p)
 
 abbrev pub Accepted : Text → Rule → Type 0
 Accepted v r = Accepts r.ignore_case (parser_of_value r.parser) v
@@ -73,9 +78,11 @@ abbrev pub ReadByRules : List Rule → Text → Text → Type 0
 ReadByRules rules id text = (v : Text) × (how : Reading) × (text ≡ read_as how v) × SomeRule (Accepted v) id rules
     × SomeRule (ReadHow how) id rules
 
-module _ (c : Command) (f : Found) (passes : ValuesPass c f) (no_groups : groups_of c ≡ []) (id : Text) (named : id ≡ [] → ⊥) where
+module _ (c : Command) (f : Found) (passes : ValuesPass c f) (no_groups : groups_of c ≡ []) (id : Text)
+    (named : id ≡ [] → ⊥) where
   first_read : (x : MatchedArg) (e : Entry) → e.1 ≡ x → e.0.now ≡ id → EntryPasses c e
-      → IfSome (option_map (λ s. read_as x.reading s.now) (slice_get x.vals.items 0)) (ReadByRules (map rule_of (args_of c)) id)
+      → IfSome (option_map (λ s. read_as x.reading s.now) (slice_get x.vals.items 0))
+      (ReadByRules (map rule_of (args_of c)) id)
   first_read x e same_x key pass =
       let no_group : e.1.is_group ≡ true → ⊥ = λ g. elim (pass.3 g) [
         | inl empty ↦ named (sym key ∙ empty)
@@ -89,12 +96,14 @@ module _ (c : Command) (f : Found) (passes : ValuesPass c f) (no_groups : groups
       ] in
       let how : HasReading c id x.reading = elim pass.4 [
         | inl g ↦ absurd (no_group g)
-        | inr h ↦ subst (λ (y : MatchedArg). HasReading c id y.reading) same_x (subst (λ (w : Text). HasReading c w e.1.reading) key h)
+        | inr h ↦ subst (λ (y : MatchedArg). HasReading c id y.reading) same_x
+            (subst (λ (w : Text). HasReading c w e.1.reading) key h)
       ] in
       go x.vals.items all how
     where
       go : (vs : List (Bor Text)) → All (λ v. PassesArg c id v.now) vs → HasReading c id x.reading
-          → IfSome (option_map (λ s. read_as x.reading s.now) (slice_get vs 0)) (ReadByRules (map rule_of (args_of c)) id)
+          → IfSome (option_map (λ s. read_as x.reading s.now) (slice_get vs 0))
+          (ReadByRules (map rule_of (args_of c)) id)
       go [] all how = tt
       go (v ∷ vs) all how =
           let p = All-get_or (λ v. PassesArg c id v.now) (v ∷ vs) 0 v (omega arith) all in (
@@ -108,7 +117,8 @@ module _ (c : Command) (f : Found) (passes : ValuesPass c f) (no_groups : groups
   pub text_by_rules : IfSome (one_text f id) (ReadByRules (map rule_of (args_of c)) id)
   text_by_rules = go (matched_of f id) refl
     where
-      go : (o : Option MatchedArg) → matched_of f id ≡ o → IfSome (one_text f id) (ReadByRules (map rule_of (args_of c)) id)
+      go : (o : Option MatchedArg) → matched_of f id ≡ o
+          → IfSome (one_text f id) (ReadByRules (map rule_of (args_of c)) id)
       go None e = rw e tt
       go (Some x) e =
           let got = entry_by_id (EntryPasses c) f.entries.items id x passes e in
@@ -166,7 +176,8 @@ only : {A : Type 0} → A ⊎ ⊥ → A
 only (inl a) = a
 only (inr b) = absurd b
 
-bool_texts : (v : Text) → (bytes_eq v (codes "true") || bytes_eq v (codes "false")) ≡ true → (v ≡ codes "true") ⊎ (v ≡ codes "false")
+bool_texts : (v : Text) → (bytes_eq v (codes "true") || bytes_eq v (codes "false")) ≡ true
+    → (v ≡ codes "true") ⊎ (v ≡ codes "false")
 bool_texts v h = go (bytes_eq v (codes "true")) refl
   where
     go : (b : Bool) → bytes_eq v (codes "true") ≡ b → (v ≡ codes "true") ⊎ (v ≡ codes "false")
@@ -179,7 +190,8 @@ flag_holds : (f : Found) → IfSome (one_text f (codes "escapes")) (ReadByRules 
     → IfSome (one_text f (codes "escapes")) (λ t. (t ≡ codes "true") ⊎ (t ≡ codes "false"))
 flag_holds f read = go (one_text f (codes "escapes")) read
   where
-    go : (o : Option Text) → IfSome o (ReadByRules rules (codes "escapes")) → IfSome o (λ t. (t ≡ codes "true") ⊎ (t ≡ codes "false"))
+    go : (o : Option Text) → IfSome o (ReadByRules rules (codes "escapes"))
+        → IfSome o (λ t. (t ≡ codes "true") ⊎ (t ≡ codes "false"))
     go None h = tt
     go (Some text) h =
         let is : text ≡ h.0 = h.2 ∙ ap (λ r. read_as r h.0) (sym (only h.4)) in
@@ -209,17 +221,21 @@ values_hold c m is parsed =
     let no_globals : (out-Command c).has_globals ≡ false = not_true _ (both _ _ (both _ _ parts.1).1).0 in
     let same : map rule_of (args_of c) ≡ rules = ap (λ (a : App). a.top.rules) is in
     let read : (id : Text) → (id ≡ [] → ⊥) → IfSome (one_text f id) (ReadByRules rules id) =
-    λ id named. subst (λ rs. IfSome (one_text f id) (ReadByRules rs id)) same (text_by_rules c f (parsed no_globals).values no_groups id named) in
+    λ id named. subst (λ rs. IfSome (one_text f id) (ReadByRules rs id)) same
+    (text_by_rules c f (parsed no_globals).values no_groups id named) in
     record {
       scale = number_holds f (codes "scale") 1 8 (read (codes "scale") (named _ _)) (λ v h. only h) (λ how h. only h);
-      height = number_holds f (codes "height") 1 500 (read (codes "height") (named _ _)) (λ v h. only h) (λ how h. only h);
-      min_version = number_holds f (codes "min-version") 1 10 (read (codes "min-version") (named _ _)) (λ v h. only h) (λ how h. only h);
+      height = number_holds f (codes "height") 1 500 (read (codes "height") (named _ _)) (λ v h. only h)
+          (λ how h. only h);
+      min_version = number_holds f (codes "min-version") 1 10 (read (codes "min-version") (named _ _)) (λ v h. only h)
+          (λ how h. only h);
       mask = number_holds f (codes "mask") 0 7 (read (codes "mask") (named _ _)) (λ v h. only h) (λ how h. only h);
       escapes = flag_holds f (read (codes "escapes") (named _ _));
     }
 
 -- the built command, after a call that builds it
-pub still_built : (old new : Command) → app_of old ≡ built command_line → (is_broken new ≡ true → ⊥) → BuildsOrBreaks old new → app_of new ≡ built command_line
+pub still_built : (old new : Command) → app_of old ≡ built command_line → (is_broken new ≡ true → ⊥)
+    → BuildsOrBreaks old new → app_of new ≡ built command_line
 still_built old new is whole (inl broken) = absurd (whole broken)
 still_built old new is whole (inr (builds, names, inl same)) = same ∙ is
 still_built old new is whole (inr (builds, names, inr again)) = again (ap is_buildable is) ∙ ap built is
@@ -237,11 +253,14 @@ memory_answers help = tt
 memory_answers bad = tt
 
 pub refused : (kinds : Kinds) (rows : List Row) (e : Error) (fault : WordsFault) → IsOneAtMost kinds → HasKind kinds e
-    → (kind_of e ≡ OutOfMemory → fault ≡ Memory) → Refuses (invocation_refused (kind_of e)) fault → Answers (invocation_by kinds rows) (Err fault)
+    → (kind_of e ≡ OutOfMemory → fault ≡ Memory) → Refuses (invocation_refused (kind_of e)) fault
+    → Answers (invocation_by kinds rows) (Err fault)
 unfolding IsOneAtMost
-refused kinds rows e fault one (inl memory) as_memory other = rw (as_memory memory) (memory_answers (invocation_by kinds rows))
+refused kinds rows e fault one (inl memory) as_memory other =
+    rw (as_memory memory) (memory_answers (invocation_by kinds rows))
 refused [] rows e fault one (inr among) as_memory other = absurd among
-refused (k ∷ []) rows e fault one (inr (inl is)) as_memory other = answers_err (invocation_refused k) fault (subst (λ x. Refuses (invocation_refused x) fault) is other)
+refused (k ∷ []) rows e fault one (inr (inl is)) as_memory other =
+    answers_err (invocation_refused k) fault (subst (λ x. Refuses (invocation_refused x) fault) is other)
   where
     answers_err : (r : Invocation) (w : WordsFault) → Refuses r w → Answers r (Err w)
     answers_err (run s name) w h = h

@@ -1,6 +1,7 @@
 -- The command line `labels [options] [FILE]`: which words it takes, and what they ask for
 -- (docs/SPECIFICATION.md, Options).
-use Rattle.std.specs.Prelude.{◌≡◌, ◌≤◌, ◌⊎◌, ℕ, Bool, true, false, List, [], ◌∷◌, Option, Some, None, pos, codes, if◌then◌else◌, option_map, option_and_then, unwrap_or, IfSome}
+use Rattle.std.specs.Prelude.{◌≡◌, ◌≤◌, ◌⊎◌, ℕ, Bool, true, false, List, [], ◌∷◌, Option, Some, None, pos, codes}
+use Rattle.std.specs.Prelude.{if◌then◌else◌, option_map, option_and_then, unwrap_or, IfSome}
 use Rattle.std.specs.Option.{option_map_or}
 use Rattle.std.specs.Str.{bytes_eq}
 use Rattle.std.specs.Str.Parse.{IsNumeral, digits_value, without_leading_plus}
@@ -91,7 +92,8 @@ options_with rows format level = record {
   escapes = is_on (codes "escapes") rows;
 }
 
--- the settings that the matches name, each of the others at its default; none where the format or the level is not listed
+-- the settings that the matches name, each of the others at its default; none where the format or the level is not
+-- listed
 abbrev pub options_named : List Row → Option OptionValues
 options_named rows = option_and_then (λ format.
     option_map (λ level. options_with rows format level) (level_in rows)) (format_in rows)

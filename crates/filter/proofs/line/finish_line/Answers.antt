@@ -5,8 +5,10 @@ use Rattle.filter.proofs.line.finish_line.Goals as goal
 
 pub returns-clause-ends : goal.returns-clause-ends
 returns-clause-ends g c text at =
-    rw (outcome-item c.args.options.now text ∙ ap outcome_of_item (sym (c.parse-item.ensures.item text at))) c.finish_item.ensures.ends
+    rw (outcome-item c.args.options.now text ∙ ap outcome_of_item (sym (c.parse-item.ensures.item text at)))
+    c.finish_item.ensures.ends
 
 pub returns-clause-fails : goal.returns-clause-fails
 returns-clause-fails g c text at =
-    rw (outcome-item c.args.options.now text ∙ ap outcome_of_item (sym (c.parse-item.ensures.item text at))) c.finish_item.ensures.fails
+    rw (outcome-item c.args.options.now text ∙ ap outcome_of_item (sym (c.parse-item.ensures.item text at)))
+    c.finish_item.ensures.fails

@@ -9,7 +9,8 @@ use Rattle.labels.proofs.words.options_of.Goals as goal
 pub choice_of-requires : goal.choice_of-requires
 choice_of-requires c =
     let parse = c.in-Ok-try_get_matches_from_mut.ensures in
-    let is = still_built c.in-Ok.command c.try_get_matches_from_mut.new.self c.in-Ok.ensures (λ e. parse.fails e) parse.after in
+    let is = still_built c.in-Ok.command c.try_get_matches_from_mut.new.self c.in-Ok.ensures (λ e. parse.fails e)
+    parse.after in
     values_hold c.try_get_matches_from_mut.new.self c.in-Ok-try_get_matches_from_mut.matches is (λ g. parse.ok.1 g)
 
 pub returns-in-Ok-try_get_matches_from_mut : goal.returns-in-Ok-try_get_matches_from_mut
@@ -29,6 +30,8 @@ returns c =
     let words = map string_bytes c.args.words.now in
     let parse = c.in-Err.ensures in
     let kinds = parse.kinds (ap is_simple_and_free c.in-Ok.ensures) in
-    let same : fault_of (app_of c.in-Ok.command) words ≡ fault_of command_line words = ap (λ (a : App). fault_of a words) c.in-Ok.ensures in
-    refused (fault_of command_line words) (matches_of command_line words) c.in-Err.error c.fault_of.result (one_kind command_line words refl refl)
+    let same : fault_of (app_of c.in-Ok.command) words ≡ fault_of command_line words =
+    ap (λ (a : App). fault_of a words) c.in-Ok.ensures in
+    refused (fault_of command_line words) (matches_of command_line words) c.in-Err.error c.fault_of.result
+    (one_kind command_line words refl refl)
     (rw same at kinds) c.fault_of.ensures.memory c.fault_of.ensures.other

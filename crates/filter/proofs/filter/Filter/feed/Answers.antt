@@ -1,4 +1,5 @@
-use Rattle.std.proofs.Common.{ℕ, List, [], ◌∷◌, ◌++◌, ◌+◌, refl, ap, sym, ◌∙◌, subst, append_assoc, take, drop, get_or, take-append-drop}
+use Rattle.std.proofs.Common.{ℕ, List, [], ◌∷◌, ◌++◌, ◌+◌, refl, ap, sym, ◌∙◌, subst, append_assoc, take, drop, get_or}
+use Rattle.std.proofs.Common.{take-append-drop}
 use Rattle.std.proofs.lemmas.List.{append-nil, take_more}
 use Rattle.std.proofs.lemmas.Result.{err_from_is_err_and}
 use Rattle.filter.specs.Filter.{StandsAt, StopsInPiece}
@@ -23,11 +24,14 @@ returns-in_err-feed_byte-clause-feeds g c options text at =
     let piece = c.args.piece.now in
     let byte = get_or piece i 0 in
     let more = take_more piece i 0 c.loop-byte-test.true in
-    rw (p.1, p.2) (subst (λ (bs : List ℕ). StopsInPiece options (g.O.Sink.took c.args.out.now c.feed_byte.new.out) (g.E.Sink.took c.args.err.now c.feed_byte.new.err) text bs c.in_err-feed_byte.field-0.0)
+    rw (p.1, p.2) (subst (λ (bs : List ℕ). StopsInPiece options (g.O.Sink.took c.args.out.now c.feed_byte.new.out)
+    (g.E.Sink.took c.args.err.now c.feed_byte.new.err) text bs c.in_err-feed_byte.field-0.0)
     (ap (λ (bs : List ℕ). bs ++ drop (i + 1) piece) (sym more) ∙ take-append-drop (i + 1) piece)
     (StopsInPiece-longer options _ _ text (take i piece ++ byte ∷ []) (drop (i + 1) piece) _
-    (StopsInPiece-append options g.O.Sink.took g.E.Sink.took g.met.O.Sink.took_joined g.met.E.Sink.took_joined c.args.out.now c.loop-byte.out c.feed_byte.new.out c.args.err.now c.loop-byte.err c.feed_byte.new.err
-    text (take i piece) (byte ∷ []) (h.took options text at) _ (c.in_err-feed_byte.ensures.feeds options (text ++ take i piece) (h.stands options text at)))))
+    (StopsInPiece-append options g.O.Sink.took g.E.Sink.took g.met.O.Sink.took_joined g.met.E.Sink.took_joined
+    c.args.out.now c.loop-byte.out c.feed_byte.new.out c.args.err.now c.loop-byte.err c.feed_byte.new.err
+    text (take i piece) (byte ∷ []) (h.took options text at) _
+    (c.in_err-feed_byte.ensures.feeds options (text ++ take i piece) (h.stands options text at)))))
 
 pub loop-byte-preserved : goal.loop-byte-preserved
 loop-byte-preserved g c =
@@ -37,9 +41,14 @@ loop-byte-preserved g c =
     let byte = get_or piece i 0 in
     let more = take_more piece i 0 c.loop-byte-test.true in
     record {
-      stands = λ options text at. rw more (subst (λ (bs : List ℕ). StandsAt options c.feed_byte.new.self bs) (append_assoc text (take i piece) (byte ∷ [])) (c.in_ok-feed_byte.ensures.feeds options (text ++ take i piece) (h.stands options text at)).0);
-      took = λ options text at. rw more (TookPiece-append options g.O.Sink.took g.E.Sink.took g.met.O.Sink.took_joined g.met.E.Sink.took_joined c.args.out.now c.loop-byte.out c.feed_byte.new.out c.args.err.now c.loop-byte.err c.feed_byte.new.err
-          text (take i piece) (byte ∷ []) (h.took options text at) (c.in_ok-feed_byte.ensures.feeds options (text ++ take i piece) (h.stands options text at)).1);
+      stands = λ options text at. rw more (subst (λ (bs : List ℕ). StandsAt options c.feed_byte.new.self bs)
+          (append_assoc text (take i piece) (byte ∷ []))
+          (c.in_ok-feed_byte.ensures.feeds options (text ++ take i piece) (h.stands options text at)).0);
+      took = λ options text at. rw more
+          (TookPiece-append options g.O.Sink.took g.E.Sink.took g.met.O.Sink.took_joined g.met.E.Sink.took_joined
+          c.args.out.now c.loop-byte.out c.feed_byte.new.out c.args.err.now c.loop-byte.err c.feed_byte.new.err
+          text (take i piece) (byte ∷ []) (h.took options text at)
+          (c.in_ok-feed_byte.ensures.feeds options (text ++ take i piece) (h.stands options text at)).1);
       out_unflushed = λ e. h.out_unflushed (c.in_ok-feed_byte.ensures.unflushed.0 e);
       err_unflushed = λ e. h.err_unflushed (c.in_ok-feed_byte.ensures.unflushed.1 e);
       out_count = c.in_ok-feed_byte.ensures.counts.0 ∙ h.out_count;

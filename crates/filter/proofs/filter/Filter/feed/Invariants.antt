@@ -7,8 +7,11 @@ use Rattle.filter.proofs.filter.Filter.feed.Given as goal
 -- so far the filter was fed the first bytes
 abbrev pub invariant-loop-byte : goal.invariant-loop-byte
 invariant-loop-byte g l = record {
-  stands : (options : OptionValues) (text : List ℕ) → StandsAt options l.initial.self text → StandsAt options l.self (text ++ take l.byte-index l.piece);
-  took : (options : OptionValues) (text : List ℕ) → StandsAt options l.initial.self text → TookPiece options (g.O.Sink.took l.initial.out l.out) (g.E.Sink.took l.initial.err l.err) text (take l.byte-index l.piece);
+  stands : (options : OptionValues) (text : List ℕ) → StandsAt options l.initial.self text
+      → StandsAt options l.self (text ++ take l.byte-index l.piece);
+  took : (options : OptionValues) (text : List ℕ) → StandsAt options l.initial.self text
+      → TookPiece options (g.O.Sink.took l.initial.out l.out) (g.E.Sink.took l.initial.err l.err) text
+      (take l.byte-index l.piece);
   out_unflushed : Unflushed (g.O.Sink.is_flushed l.initial.out) (g.O.Sink.is_flushed l.out);
   err_unflushed : Unflushed (g.E.Sink.is_flushed l.initial.err) (g.E.Sink.is_flushed l.err);
   out_count : g.O.Sink.failures l.out ≡ g.O.Sink.failures l.initial.out;

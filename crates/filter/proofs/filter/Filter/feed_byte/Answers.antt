@@ -2,25 +2,34 @@ use Rattle.std.proofs.Common.{◌≡◌, ◌||◌, refl, sym, subst, length}
 use Rattle.labelcore.specs.Lines.{open_line, ended_lines}
 use Rattle.filter.specs.Filter.{FilterState, StandsAt}
 use Rattle.filter.specs.Output.{outcome, is_refusal, line_number}
-use Rattle.filter.proofs.FilterLemmas.{StandsAt-other, StandsAt-lf, line_number-counts, TookPiece-other, TookPiece-lf, StopsInPiece-lf}
+use Rattle.filter.proofs.FilterLemmas.{StandsAt-other, StandsAt-lf, line_number-counts, TookPiece-other, TookPiece-lf}
+use Rattle.filter.proofs.FilterLemmas.{StopsInPiece-lf}
 use Rattle.filter.proofs.filter.Filter.feed_byte.Goals as goal
 use Rattle.filter.proofs.filter.Filter.feed_byte.Goals.{then-self, else-self}
 
 pub returns-then-byte-ne10-clause-feeds : goal.returns-then-byte-ne10-clause-feeds
 returns-then-byte-ne10-clause-feeds g c options text at =
     let at' = subst (λ (s : FilterState). StandsAt options s text) (sym c.self.view_is) at in (
-      StandsAt-other options _ _ text c.args.byte at' c.if-byte-ne10.true refl (c.push.ensures (open_line text) at'.line) refl refl refl,
-      TookPiece-other options _ _ text c.args.byte c.if-byte-ne10.true (g.met.O.Sink.took_none _) (g.met.E.Sink.took_none _),
+      StandsAt-other options _ _ text c.args.byte at' c.if-byte-ne10.true refl
+          (c.push.ensures (open_line text) at'.line) refl refl refl,
+      TookPiece-other options _ _ text c.args.byte c.if-byte-ne10.true (g.met.O.Sink.took_none _)
+          (g.met.E.Sink.took_none _),
     )
 
 pub returns-after-self-clause-feeds : goal.returns-after-self-clause-feeds
 returns-after-self-clause-feeds g c options text at =
     let at' = subst (λ (s : FilterState). StandsAt options s text) (sym c.self.view_is) at in
     let o : c.self.inside.options ≡ options = at'.options_are in
-    let n : c.saturating_add-self-inside.result ≡ line_number (length (ended_lines text)) = line_number-counts options _ text at' c.saturating_add-self-inside.result c.saturating_add-self-inside.ensures in
+    let n : c.saturating_add-self-inside.result ≡ line_number (length (ended_lines text)) =
+    line_number-counts options _ text at' c.saturating_add-self-inside.result
+    c.saturating_add-self-inside.ensures in
     let ends = rw (o, n) at (c.in-Ok.ensures.ends (open_line text) at'.line) in
     let refused : c.if-self.self ≡ (c.self.inside.is_refused || is_refusal (outcome options (open_line text))) =
-    elim c.if-self.branch [ then-self w ↦ rw (w.self-is, w.if-self.true) | else-self w ↦ rw (w.self-is, w.if-self.false) ends.refused ] in (
+    elim c.if-self.branch [
+      | then-self w ↦ rw (w.self-is, w.if-self.true)
+      | else-self w ↦
+          rw (w.self-is, w.if-self.false) ends.refused
+    ] in (
       StandsAt-lf options _ _ text c.args.byte at' c.if-byte-ne10.false refl c.clear.ensures n refused refl,
       TookPiece-lf options _ _ text c.args.byte c.if-byte-ne10.false ends.image ends.message ends.read,
     )
@@ -29,5 +38,8 @@ pub returns-in-Err-clause-feeds : goal.returns-in-Err-clause-feeds
 returns-in-Err-clause-feeds g c options text at =
     let at' = subst (λ (s : FilterState). StandsAt options s text) (sym c.self.view_is) at in
     let o : c.self.inside.options ≡ options = at'.options_are in
-    let n : c.saturating_add-self-inside.result ≡ line_number (length (ended_lines text)) = line_number-counts options _ text at' c.saturating_add-self-inside.result c.saturating_add-self-inside.ensures in
-    StopsInPiece-lf options _ _ text c.args.byte c.in-Err.fault c.if-byte-ne10.false (rw (o, n) at (c.in-Err.ensures.fails (open_line text) at'.line))
+    let n : c.saturating_add-self-inside.result ≡ line_number (length (ended_lines text)) =
+    line_number-counts options _ text at' c.saturating_add-self-inside.result
+    c.saturating_add-self-inside.ensures in
+    StopsInPiece-lf options _ _ text c.args.byte c.in-Err.fault c.if-byte-ne10.false
+    (rw (o, n) at (c.in-Err.ensures.fails (open_line text) at'.line))

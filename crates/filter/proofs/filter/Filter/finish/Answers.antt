@@ -7,19 +7,26 @@ use Rattle.filter.proofs.filter.Filter.finish.Goals as goal
 pub returns-in_err-flush_both-clause-ends : goal.returns-in_err-flush_both-clause-ends
 returns-in_err-flush_both-clause-ends g c options text at =
     let p = err_from_is_err_and c.from_residual-in_err-flush_both.result c.from_residual-in_err-flush_both.ensures.1 in
-    rw (p.1, p.2) (inr (TookLines-flushed options g.O.Sink.took g.E.Sink.took g.met.O.Sink.took_joined g.met.E.Sink.took_joined c.args.out.now c.finish_open_line.new.out c.flush_both.new.out c.args.err.now c.finish_open_line.new.err c.flush_both.new.err
-    (length (ended_lines text)) (unless_empty (open_line text)) (c.in_ok-refused.ensures.took options text at) c.in_err-flush_both.ensures.out_takes_none c.in_err-flush_both.ensures.err_takes_none))
+    rw (p.1, p.2) (inr (TookLines-flushed options g.O.Sink.took g.E.Sink.took g.met.O.Sink.took_joined
+    g.met.E.Sink.took_joined c.args.out.now c.finish_open_line.new.out c.flush_both.new.out c.args.err.now
+    c.finish_open_line.new.err c.flush_both.new.err
+    (length (ended_lines text)) (unless_empty (open_line text)) (c.in_ok-refused.ensures.took options text at)
+    c.in_err-flush_both.ensures.out_takes_none c.in_err-flush_both.ensures.err_takes_none))
 
 pub returns-then-refused-clause-ends : goal.returns-then-refused-clause-ends
 returns-then-refused-clause-ends g c options text at = (
   rw (← c.in_ok-refused.ensures.refused options text at, c.if-refused.true) refl,
-  TookLines-flushed options g.O.Sink.took g.E.Sink.took g.met.O.Sink.took_joined g.met.E.Sink.took_joined c.args.out.now c.finish_open_line.new.out c.flush_both.new.out c.args.err.now c.finish_open_line.new.err c.flush_both.new.err
-      (length (ended_lines text)) (unless_empty (open_line text)) (c.in_ok-refused.ensures.took options text at) c.in_ok-flush_both.ensures.out_takes_none c.in_ok-flush_both.ensures.err_takes_none,
+  TookLines-flushed options g.O.Sink.took g.E.Sink.took g.met.O.Sink.took_joined g.met.E.Sink.took_joined c.args.out.now
+      c.finish_open_line.new.out c.flush_both.new.out c.args.err.now c.finish_open_line.new.err c.flush_both.new.err
+      (length (ended_lines text)) (unless_empty (open_line text)) (c.in_ok-refused.ensures.took options text at)
+      c.in_ok-flush_both.ensures.out_takes_none c.in_ok-flush_both.ensures.err_takes_none,
 )
 
 pub returns-else-refused-clause-ends : goal.returns-else-refused-clause-ends
 returns-else-refused-clause-ends g c options text at = (
   rw (← c.in_ok-refused.ensures.refused options text at, c.if-refused.false) refl,
-  TookLines-flushed options g.O.Sink.took g.E.Sink.took g.met.O.Sink.took_joined g.met.E.Sink.took_joined c.args.out.now c.finish_open_line.new.out c.flush_both.new.out c.args.err.now c.finish_open_line.new.err c.flush_both.new.err
-      (length (ended_lines text)) (unless_empty (open_line text)) (c.in_ok-refused.ensures.took options text at) c.in_ok-flush_both.ensures.out_takes_none c.in_ok-flush_both.ensures.err_takes_none,
+  TookLines-flushed options g.O.Sink.took g.E.Sink.took g.met.O.Sink.took_joined g.met.E.Sink.took_joined c.args.out.now
+      c.finish_open_line.new.out c.flush_both.new.out c.args.err.now c.finish_open_line.new.err c.flush_both.new.err
+      (length (ended_lines text)) (unless_empty (open_line text)) (c.in_ok-refused.ensures.took options text at)
+      c.in_ok-flush_both.ensures.out_takes_none c.in_ok-flush_both.ensures.err_takes_none,
 )

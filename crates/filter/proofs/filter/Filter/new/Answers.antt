@@ -3,4 +3,10 @@ use Rattle.filter.proofs.FilterLemmas.{StandsAt-new}
 use Rattle.filter.proofs.filter.Filter.new.Goals as goal
 
 pub returns : goal.returns
-returns c = StandsAt-new c.args.options (record { options = c.args.options; line = c.new.result; line_count = 0; is_refused = false; is_spent = false }) refl c.new.ensures refl refl refl
+returns c = StandsAt-new c.args.options (record {
+  options = c.args.options;
+  line = c.new.result;
+  line_count = 0;
+  is_refused = false;
+  is_spent = false;
+}) refl c.new.ensures refl refl refl
