@@ -24,20 +24,38 @@ least_ten Numeric n h = omega arith
 least_ten Alphanumeric n h = omega arith
 least_ten Byte n h = omega arith
 
-many_nine : (version : ℕ) (segments : List Segment) (bytes : List ℕ) → version ≤ 9 → IsSegmentation version segments bytes → 18 * length segments ≤ cost version segments
+many_nine : (version : ℕ) (segments : List Segment) (bytes : List ℕ) → version ≤ 9
+    → IsSegmentation version segments bytes → 18 * length segments ≤ cost version segments
 many_nine version [] bytes small cut = omega arith
 many_nine version (s ∷ segments) bytes small cut =
-    omega (arith, sum_by-cons (segment_length version) s segments, least_nine s.mode s.len cut.0.some, SameWidths-nine version small s.mode, many_nine version segments (drop s.len bytes) small cut.1)
+    omega (
+      arith,
+      sum_by-cons (segment_length version) s segments,
+      least_nine s.mode s.len cut.0.some,
+      SameWidths-nine version small s.mode,
+      many_nine version segments (drop s.len bytes) small cut.1,
+    )
 
-many_ten : (segments : List Segment) (bytes : List ℕ) → IsSegmentation 10 segments bytes → 20 * length segments ≤ cost 10 segments
+many_ten : (segments : List Segment) (bytes : List ℕ) → IsSegmentation 10 segments bytes
+    → 20 * length segments ≤ cost 10 segments
 many_ten [] bytes cut = omega arith
-many_ten (s ∷ segments) bytes cut = omega (arith, sum_by-cons (segment_length 10) s segments, least_ten s.mode s.len cut.0.some, many_ten segments (drop s.len bytes) cut.1)
+many_ten (s ∷ segments) bytes cut = omega (
+  arith,
+  sum_by-cons (segment_length 10) s segments,
+  least_ten s.mode s.len cut.0.some,
+  many_ten segments (drop s.len bytes) cut.1,
+)
 
 -- segments that fit are at most 109
-pub few_segments : (version : ℕ) (level : Level) (segments : List Segment) (bytes : List ℕ) → 1 ≤ version → version ≤ 10 → IsSegmentation version segments bytes
+pub few_segments : (version : ℕ) (level : Level) (segments : List Segment) (bytes : List ℕ) → 1 ≤ version → version ≤ 10
+    → IsSegmentation version segments bytes
     → cost version segments ≤ capacity version level → length segments ≤ 109
 few_segments version level segments bytes low high cut fits = elim (cases_lt version 10) [
-  | inl small ↦ omega (arith, many_nine version segments bytes (omega arith) cut, capacity-le_nine level version low (omega arith))
+  | inl small ↦ omega (
+    arith,
+    many_nine version segments bytes (omega arith) cut,
+    capacity-le_nine level version low (omega arith),
+  )
   | inr large ↦
       let ten : version ≡ 10 = omega arith in
       let many : 20 * length segments ≤ cost version segments = rw ten (many_ten segments bytes (rw ten at cut)) in
@@ -55,22 +73,40 @@ first_ten Numeric n h = omega arith
 first_ten Alphanumeric n h = omega arith
 first_ten Byte n h = omega arith
 
-pub third : (version : ℕ) (segments : List Segment) (bytes : List ℕ) → IsSegmentation version segments bytes → 10 * length bytes ≤ 3 * cost version segments
+pub third : (version : ℕ) (segments : List Segment) (bytes : List ℕ) → IsSegmentation version segments bytes
+    → 10 * length bytes ≤ 3 * cost version segments
 third version [] bytes cut = rw cut (omega arith)
 third version (s ∷ segments) bytes cut =
-    omega (arith, sum_by-cons (segment_length version) s segments, payload_third s.mode s.len, third version segments (drop s.len bytes) cut.1, length-drop s.len bytes, cut.0.inside)
+    omega (
+      arith,
+      sum_by-cons (segment_length version) s segments,
+      payload_third s.mode s.len,
+      third version segments (drop s.len bytes) cut.1,
+      length-drop s.len bytes,
+      cut.0.inside,
+    )
 
-third_ten : (segments : List Segment) (bytes : List ℕ) → IsSegmentation 10 segments bytes → 0 < length bytes → 10 * length bytes + 48 ≤ 3 * cost 10 segments
+third_ten : (segments : List Segment) (bytes : List ℕ) → IsSegmentation 10 segments bytes → 0 < length bytes
+    → 10 * length bytes + 48 ≤ 3 * cost 10 segments
 third_ten [] bytes cut some = absurd (omega (arith, ap length cut))
 third_ten (s ∷ segments) bytes cut some =
-    omega (arith, sum_by-cons (segment_length 10) s segments, first_ten s.mode s.len cut.0.some, third 10 segments (drop s.len bytes) cut.1, length-drop s.len bytes, cut.0.inside)
+    omega (
+      arith,
+      sum_by-cons (segment_length 10) s segments,
+      first_ten s.mode s.len cut.0.some,
+      third 10 segments (drop s.len bytes) cut.1,
+      length-drop s.len bytes,
+      cut.0.inside,
+    )
 
 -- more than 652 bytes fit nowhere
-pub long_fit_nowhere : (version : ℕ) (level : Level) (bytes : List ℕ) → 1 ≤ version → version ≤ 10 → 652 < length bytes → NoneFits version level bytes
+pub long_fit_nowhere : (version : ℕ) (level : Level) (bytes : List ℕ) → 1 ≤ version → version ≤ 10 → 652 < length bytes
+    → NoneFits version level bytes
 long_fit_nowhere version level bytes low high long segments cut = elim (cases_lt version 10) [
   | inl small ↦ omega (arith, third version segments bytes cut, capacity-le_nine level version low (omega arith))
   | inr large ↦
       let ten : version ≡ 10 = omega arith in
-      let many : 10 * length bytes + 48 ≤ 3 * cost version segments = rw ten (third_ten segments bytes (rw ten at cut) (omega arith)) in
+      let many : 10 * length bytes + 48 ≤ 3 * cost version segments =
+      rw ten (third_ten segments bytes (rw ten at cut) (omega arith)) in
       omega (arith, many, capacity-le level version low high)
 ]

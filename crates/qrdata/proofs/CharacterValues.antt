@@ -8,14 +8,18 @@ use Rattle.std.proofs.lemmas.List.Sums.{AllPass-from_list_all}
 use Rattle.qrdata.specs.Segments.{alphanumeric_characters, alphanumeric_value}
 use Rattle.qrdata.specs.declared.mode.TheConstants.{VALUES}
 
-values : list_all (λ c. get_or VALUES c 0 == alphanumeric_value c && nat_le (alphanumeric_value c) 45) (range_with_len 0 256) ≡ true
+values : list_all (λ c. get_or VALUES c 0 == alphanumeric_value c && nat_le (alphanumeric_value c) 45)
+    (range_with_len 0 256) ≡ true
 unfolding alphanumeric_value alphanumeric_characters
 values = refl
 
 -- what the table has for a byte
 pub value_is : (c : ℕ) → c < 256 → (get_or VALUES c 0 ≡ alphanumeric_value c) × (alphanumeric_value c ≤ 45)
 value_is c h =
-    let here = AllPass-from_list_all (λ c. get_or VALUES c 0 == alphanumeric_value c && nat_le (alphanumeric_value c) 45) (range_with_len 0 256) values c 0 (omega (arith, length-range_with_len 0 256)) in
+    let here = AllPass-from_list_all (λ c. get_or VALUES c 0 == alphanumeric_value c
+    && nat_le (alphanumeric_value c) 45) (range_with_len 0 256) values c 0
+    (omega (arith, length-range_with_len 0 256)) in
     let place : 0 + c ≡ c = omega arith in
-    let parts = and_parts (get_or VALUES c 0 == alphanumeric_value c) (nat_le (alphanumeric_value c) 45) (rw (get_or-range_with_len 0 256 c 0 h, place) at here) in
+    let parts = and_parts (get_or VALUES c 0 == alphanumeric_value c) (nat_le (alphanumeric_value c) 45)
+    (rw (get_or-range_with_len 0 256 c 0 h, place) at here) in
     (eqb-true _ _ parts.0, leb-true _ _ parts.1)

@@ -12,18 +12,28 @@ abbrev pub Beats : ChoiceView → (bits len : ℕ) → Type 0
 Beats c bits len = (c.bits ≤ bits) × (c.segment.len < len → c.bits < bits)
 
 beats_then : (a b x l m n : ℕ) → a ≤ b → (l < m → a < b) → b ≤ x → (m < n → b < x) → (a ≤ x) × (l < n → a < x)
-beats_then a b x l m n h k h' k' = (omega arith, λ less. elim (cases_lt l m) [ inl first ↦ omega (arith, k first) | inr second ↦ omega (arith, k' (omega arith)) ])
+beats_then a b x l m n h k h' k' = (
+  omega arith,
+  λ less. elim (cases_lt l m) [ inl first ↦ omega (arith, k first) | inr second ↦ omega (arith, k' (omega arith)) ],
+)
 
 -- the better of two is one of them, and comes no later than the other
-better_tells : (c d : ChoiceView) → ((better_choice c d ≡ d) × Beats d c.bits c.segment.len) ⊎ ((better_choice c d ≡ c) × Beats c d.bits d.segment.len)
+better_tells : (c d : ChoiceView) → ((better_choice c d ≡ d) × Beats d c.bits c.segment.len)
+    ⊎ ((better_choice c d ≡ c) × Beats c d.bits d.segment.len)
 unfolding better_choice
 better_tells c d = elim (cases_lt d.bits c.bits) [
   | inl less ↦ inl (rw (lt-ltb d.bits c.bits less) refl, (omega arith, λ k. less))
   | inr more ↦ elim (eqb_tells d.bits c.bits) [
     | inr differ ↦ inr (rw (le-ltb d.bits c.bits more, differ.0) refl, (more, λ k. omega (arith, differ.1)))
     | inl same ↦ elim (cases_lt c.segment.len d.segment.len) [
-      | inl longer ↦ inl (rw (le-ltb d.bits c.bits more, same.0, lt-ltb c.segment.len d.segment.len longer) refl, (omega (arith, same.1), λ k. absurd (omega arith)))
-      | inr shorter ↦ inr (rw (le-ltb d.bits c.bits more, same.0, le-ltb c.segment.len d.segment.len shorter) refl, (more, λ k. absurd (omega arith)))
+      | inl longer ↦ inl (
+        rw (le-ltb d.bits c.bits more, same.0, lt-ltb c.segment.len d.segment.len longer) refl,
+        (omega (arith, same.1), λ k. absurd (omega arith)),
+      )
+      | inr shorter ↦ inr (
+        rw (le-ltb d.bits c.bits more, same.0, le-ltb c.segment.len d.segment.len shorter) refl,
+        (more, λ k. absurd (omega arith)),
+      )
     ]
   ]
 ]
@@ -49,17 +59,23 @@ abbrev pub choice_seen : Mode → ℕ → ChoiceView
 choice_seen mode weight = record { segment = segment_of mode (1023 - weight % 1024); bits = weight / 1024 }
 
 -- the better choice is that of less weight, and of equal ones the first
-pub better_choice-lighter : (m n : Mode) (w x : ℕ) → x < w → choice_seen n x ≡ better_choice (choice_seen m w) (choice_seen n x)
+pub better_choice-lighter : (m n : Mode) (w x : ℕ) → x < w
+    → choice_seen n x ≡ better_choice (choice_seen m w) (choice_seen n x)
 unfolding better_choice
 better_choice-lighter m n w x less = elim (cases_lt (x / 1024) (w / 1024)) [
   | inl fewer ↦ rw (lt-ltb (x / 1024) (w / 1024) fewer) refl
   | inr more ↦
       let same : x / 1024 ≡ w / 1024 = omega arith in
       let longer : 1023 - w % 1024 < 1023 - x % 1024 = omega (arith, same) in
-      rw (le-ltb (x / 1024) (w / 1024) more, eq-eqb (x / 1024) (w / 1024) same, lt-ltb (1023 - w % 1024) (1023 - x % 1024) longer) refl
+      rw (
+        le-ltb (x / 1024) (w / 1024) more,
+        eq-eqb (x / 1024) (w / 1024) same,
+        lt-ltb (1023 - w % 1024) (1023 - x % 1024) longer,
+      ) refl
 ]
 
-pub better_choice-no_lighter : (m n : Mode) (w x : ℕ) → w ≤ x → choice_seen m w ≡ better_choice (choice_seen m w) (choice_seen n x)
+pub better_choice-no_lighter : (m n : Mode) (w x : ℕ) → w ≤ x
+    → choice_seen m w ≡ better_choice (choice_seen m w) (choice_seen n x)
 unfolding better_choice
 better_choice-no_lighter m n w x more =
     let bits : w / 1024 ≤ x / 1024 = omega arith in

@@ -14,7 +14,8 @@ IsIn-map f x (y ∷ ys) (inl e) = inl (ap f e)
 IsIn-map f x (y ∷ ys) (inr h) = inr (IsIn-map f x ys h)
 
 pub IsIn-kept : {A : Type 0} (p : A → Bool) (x y : A) (ys : List A) → IsIn x (filter p ys) → IsIn x (filter p (y ∷ ys))
-IsIn-kept {A} p x y ys h = elim (p y) as (λ b. IsIn x (cond {A = List A} b (y ∷ filter p ys) (filter p ys))) [ true ↦ inr h | false ↦ h ]
+IsIn-kept {A} p x y ys h = elim (p y) as (λ b. IsIn x (cond {A = List A} b (y ∷ filter p ys) (filter p ys)))
+    [ true ↦ inr h | false ↦ h ]
 
 pub IsIn-filter : {A : Type 0} (p : A → Bool) (x : A) (xs : List A) → p x ≡ true → IsIn x xs → IsIn x (filter p xs)
 IsIn-filter p x [] t h = h
@@ -30,7 +31,8 @@ pub IsIn-append_right : {A : Type 0} (x : A) (xs ys : List A) → IsIn x ys → 
 IsIn-append_right x [] ys h = h
 IsIn-append_right x (z ∷ xs) ys h = inr (IsIn-append_right x xs ys h)
 
-pub IsIn-flat_map : {A B : Type 0} (f : A → List B) (x : A) (y : B) (xs : List A) → IsIn x xs → IsIn y (f x) → IsIn y (flat_map f xs)
+pub IsIn-flat_map : {A B : Type 0} (f : A → List B) (x : A) (y : B) (xs : List A) → IsIn x xs → IsIn y (f x)
+    → IsIn y (flat_map f xs)
 IsIn-flat_map f x y [] h k = absurd h
 IsIn-flat_map f x y (z ∷ xs) (inl e) k = IsIn-append_left y (f z) (flat_map f xs) (rw e at k)
 IsIn-flat_map f x y (z ∷ xs) (inr h) k = IsIn-append_right y (f z) (flat_map f xs) (IsIn-flat_map f x y xs h k)

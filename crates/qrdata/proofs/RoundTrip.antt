@@ -1,5 +1,6 @@
 -- What is read of the codewords of a symbol is its data.
-use Rattle.std.proofs.Common.{◌≡◌, ℕ, zero, suc, ◌+◌, ◌-◌, ◌*◌, ◌/◌, ◌<◌, ◌≤◌, List, [], ◌∷◌, ◌++◌, map, take, drop, length, replicate, refl, sym, ap, ◌∙◌, length-append, arith, Bool, true, false, sum}
+use Rattle.std.proofs.Common.{◌≡◌, ℕ, zero, suc, ◌+◌, ◌-◌, ◌*◌, ◌/◌, ◌<◌, ◌≤◌, List, [], ◌∷◌, ◌++◌, map, take, drop}
+use Rattle.std.proofs.Common.{length, replicate, refl, sym, ap, ◌∙◌, length-append, arith, Bool, true, false, sum}
 use Rattle.std.specs.Prelude.{if◌then◌else◌, None, Some, Option, ◌&&◌, ◌==◌}
 use Rattle.std.specs.List.{AllByRecursion, concat, list_all, range_with_len, zip}
 use Rattle.std.proofs.lemmas.Bool.{eq-eqb, eqb-true}
@@ -13,7 +14,8 @@ use Rattle.gf256.specs.Parity.{parity_of, HasRoots, IsRemainder, ParityIsRemaind
 use Rattle.labelcore.specs.declared.options.Level.{Level}
 use Rattle.qrdata.specs.declared.mode.Segment.{Segment}
 use Rattle.qrdata.specs.Bits.{number_of, codewords_of}
-use Rattle.qrdata.specs.Codewords.{aligned, data_of, filled, final_message, interleaved, pad_codewords, padded, split_by, symbol_codewords, terminated}
+use Rattle.qrdata.specs.Codewords.{aligned, data_of, filled, final_message, interleaved, pad_codewords, padded}
+use Rattle.qrdata.specs.Codewords.{split_by, symbol_codewords, terminated}
 use Rattle.qrdata.specs.Reading.{data_in, dealt, is_codeword, segments_at}
 use Rattle.qrdata.specs.Segments.{IsSegmentation, cost, segments_bits}
 use Rattle.qrdata.specs.Versions.{block_count, block_lengths, data_codewords, parity_length, total_codewords}
@@ -40,9 +42,11 @@ roots_pass p (suc n) low h =
 
 pub HasParity-from_law : ParityIsRemainder → RemaindersAreCodewords → (k : ℕ) → 0 < k → HasParity k
 HasParity-from_law remainder codeword k some = record {
-  count = λ block w. let here : IsRemainder k block (parity_of k block) = remainder k block some (All-from_recursion IsElement block w) in here.parity_length;
+  count = λ block w. let here : IsRemainder k block (parity_of k block) =
+      remainder k block some (All-from_recursion IsElement block w) in here.parity_length;
   roots = λ block w.
-      let here : IsRemainder k block (parity_of k block) = remainder k block some (All-from_recursion IsElement block w) in
+      let here : IsRemainder k block (parity_of k block) =
+      remainder k block some (All-from_recursion IsElement block w) in
       let roots : HasRoots k (block ++ parity_of k block) = codeword k block (parity_of k block) here in
       roots_pass (block ++ parity_of k block) k 0 (λ i h. roots i (omega arith));
 }
@@ -70,26 +74,34 @@ pub AreBytes-padded : (size : ℕ) (bits : List Bool) → AreBytes (padded size 
 unfolding padded filled
 AreBytes-padded size bits =
     let whole = aligned (terminated (8 * size) bits) in
-    AreBytes-append (codewords_of (length whole / 8) whole) (pad_codewords (size - length whole / 8)) (AreBytes-codewords_of (length whole / 8) whole) (AreBytes-pad (size - length whole / 8))
+    AreBytes-append (codewords_of (length whole / 8) whole) (pad_codewords (size - length whole / 8))
+    (AreBytes-codewords_of (length whole / 8) whole) (AreBytes-pad (size - length whole / 8))
 
 pub AreBytes-split : (lengths words : List ℕ) → AreBytes words → AllByRecursion AreBytes (split_by lengths words)
 unfolding split_by
 AreBytes-split [] words w = tt
-AreBytes-split (n ∷ lengths) words w = (AreBytes-take n words w, AreBytes-split lengths (drop n words) (AreBytes-drop n words w))
+AreBytes-split (n ∷ lengths) words w = (
+  AreBytes-take n words w,
+  AreBytes-split lengths (drop n words) (AreBytes-drop n words w),
+)
 
-all_codewords : (k : ℕ) (blocks : Blocks) → HasParity k → AllByRecursion AreBytes blocks → list_all (is_codeword k) (zip blocks (map (parity_of k) blocks)) ≡ true
+all_codewords : (k : ℕ) (blocks : Blocks) → HasParity k → AllByRecursion AreBytes blocks
+    → list_all (is_codeword k) (zip blocks (map (parity_of k) blocks)) ≡ true
 all_codewords k [] law w = refl
 all_codewords k (block ∷ blocks) law w = rw (law.roots block w.0, all_codewords k blocks law w.1) refl
 
 -- the sum of the lengths of the blocks, and how many they are
-pub lengths_hold : (version : ℕ) (level : Level) → (sum (block_lengths version level) ≡ data_codewords version level) × (length (block_lengths version level) ≡ block_count version level)
+pub lengths_hold : (version : ℕ) (level : Level) → (sum (block_lengths version level) ≡ data_codewords version level)
+    × (length (block_lengths version level) ≡ block_count version level)
 unfolding data_codewords block_count
 lengths_hold version level = (refl, refl)
 
 -- what is read of the codewords of a symbol
 pub data_in-symbol_codewords : (version : ℕ) (level : Level) (segments : List Segment) (bytes : List ℕ)
-    → 1 ≤ version → version ≤ 10 → AreBytes bytes → IsSegmentation version segments bytes → cost version segments ≤ 8 * data_codewords version level
-    → ParityIsRemainder → RemaindersAreCodewords → data_in version level (symbol_codewords version level segments bytes) ≡ Some bytes
+    → 1 ≤ version → version ≤ 10 → AreBytes bytes → IsSegmentation version segments bytes
+    → cost version segments ≤ 8 * data_codewords version level
+    → ParityIsRemainder → RemaindersAreCodewords
+    → data_in version level (symbol_codewords version level segments bytes) ≡ Some bytes
 unfolding data_in symbol_codewords final_message data_of
 data_in-symbol_codewords version level segments bytes low high w cut fits remainder codeword =
     let size = data_codewords version level in
@@ -108,21 +120,30 @@ data_in-symbol_codewords version level segments bytes low high w cut fits remain
     let all_words : sum lengths ≡ length words = shapes.0 ∙ sym words_length in
     let block_shapes : map length blocks ≡ lengths = split_lengths lengths words (omega arith) in
     let blocks_count : length blocks ≡ count = length-split_by lengths words ∙ shapes.1 in
-    let data_length : length (interleaved blocks) ≡ size = length-interleaved blocks ∙ (ap sum block_shapes ∙ shapes.0) in
+    let data_length : length (interleaved blocks) ≡ size =
+    length-interleaved blocks ∙ (ap sum block_shapes ∙ shapes.0) in
     let split_bytes = AreBytes-split lengths words (AreBytes-padded size bits) in
-    let parity_shapes : map length parities ≡ replicate count k = parity_lengths (parity_of k) k blocks AreBytes law.count split_bytes ∙ ap (λ n. replicate n k) blocks_count in
-    let parity_words : length (interleaved parities) ≡ count * k = length-interleaved parities ∙ (ap sum parity_shapes ∙ sum_by-replicate (λ x. x) count k) in
+    let parity_shapes : map length parities ≡ replicate count k =
+    parity_lengths (parity_of k) k blocks AreBytes law.count split_bytes ∙ ap (λ n. replicate n k) blocks_count in
+    let parity_words : length (interleaved parities) ≡ count * k =
+    length-interleaved parities ∙ (ap sum parity_shapes ∙ sum_by-replicate (λ x. x) count k) in
     let dealt_blocks : dealt lengths (interleaved blocks) ≡ blocks = rw block_shapes at (dealt-interleaved blocks) in
-    let dealt_parities : dealt (replicate count k) (interleaved parities) ≡ parities = rw parity_shapes at (dealt-interleaved parities) in
-    let front : take size (interleaved blocks ++ interleaved parities) ≡ interleaved blocks = take_front size (interleaved blocks) (interleaved parities) data_length in
-    let back : drop size (interleaved blocks ++ interleaved parities) ≡ interleaved parities = drop_front size (interleaved blocks) (interleaved parities) data_length in
-    let total : length (interleaved blocks ++ interleaved parities) ≡ total_codewords version = omega (arith, length-append (interleaved blocks) (interleaved parities), total_is version level low high) in
+    let dealt_parities : dealt (replicate count k) (interleaved parities) ≡ parities =
+    rw parity_shapes at (dealt-interleaved parities) in
+    let front : take size (interleaved blocks ++ interleaved parities) ≡ interleaved blocks =
+    take_front size (interleaved blocks) (interleaved parities) data_length in
+    let back : drop size (interleaved blocks ++ interleaved parities) ≡ interleaved parities =
+    drop_front size (interleaved blocks) (interleaved parities) data_length in
+    let total : length (interleaved blocks ++ interleaved parities) ≡ total_codewords version =
+    omega (arith, length-append (interleaved blocks) (interleaved parities), total_is version level low high) in
     let valid = all_codewords k blocks law split_bytes in
     let joined : concat blocks ≡ words = split_joined lengths words all_words in
     let ends = padded-ends size bits bits_fit in
     let read : segments_at version (8 * size) (bits ++ ends.0) ≡ Some bytes =
-    segments_at-segments_bits version segments bytes (8 * size) ends.0 w cut (omega (arith, count_below_cost version segments, fits)) ends.2 in
-    let same : (total_codewords version == total_codewords version) ≡ true = eq-eqb (total_codewords version) (total_codewords version) refl in
+    segments_at-segments_bits version segments bytes (8 * size) ends.0 w cut
+    (omega (arith, count_below_cost version segments, fits)) ends.2 in
+    let same : (total_codewords version == total_codewords version) ≡ true =
+    eq-eqb (total_codewords version) (total_codewords version) refl in
     rw (front, back, total, dealt_blocks, dealt_parities, valid, same, joined, ends.1) read
 
 both_pass : {A : Type 0} (a b : Bool) (x : Option A) (y : A) → (if a && b then x else None) ≡ Some y → a ≡ true
@@ -130,6 +151,7 @@ both_pass true b x y h = refl
 both_pass false b x y h = cc
 
 -- codewords that are read are as many as the symbol has
-pub length-read : (version : ℕ) (level : Level) (words bytes : List ℕ) → data_in version level words ≡ Some bytes → length words ≡ total_codewords version
+pub length-read : (version : ℕ) (level : Level) (words bytes : List ℕ) → data_in version level words ≡ Some bytes
+    → length words ≡ total_codewords version
 unfolding data_in
 length-read version level words bytes h = eqb-true (length words) (total_codewords version) (both_pass _ _ _ bytes h)

@@ -1,5 +1,6 @@
 -- How many of the first bytes pass a test.
-use Rattle.std.proofs.Common.{◌≡◌, ℕ, zero, suc, ◌≤◌, List, [], ◌∷◌, take, length, arith, refl, sym, ◌∙◌, Bool, true, false, inl, inr, cond}
+use Rattle.std.proofs.Common.{◌≡◌, ℕ, zero, suc, ◌≤◌, List, [], ◌∷◌, take, length, arith, refl, sym, ◌∙◌, Bool, true}
+use Rattle.std.proofs.Common.{false, inl, inr, cond}
 use Rattle.std.specs.Prelude.{nat_le, if◌then◌else◌, ◌&&◌}
 use Rattle.std.specs.List.{list_all}
 use Rattle.std.proofs.lemmas.Bool.{cases_lt, le-leb, lt-leb}
@@ -11,7 +12,8 @@ unfoldable pub run_length : (ℕ → Bool) → List ℕ → ℕ
 run_length passes [] = 0
 run_length passes (b ∷ bytes) = if passes b then suc (run_length passes bytes) else 0
 
-pub run_more : (p : ℕ → Bool) (b : ℕ) (bytes : List ℕ) → p b ≡ true → run_length p (b ∷ bytes) ≡ suc (run_length p bytes)
+pub run_more : (p : ℕ → Bool) (b : ℕ) (bytes : List ℕ) → p b ≡ true
+    → run_length p (b ∷ bytes) ≡ suc (run_length p bytes)
 unfolding run_length
 run_more p b bytes t = rw t refl
 
@@ -34,7 +36,8 @@ suc_le a b = elim (cases_lt b a) [
   | inr more ↦ le-leb (suc a) (suc b) (omega arith) ∙ sym (le-leb a b more)
 ]
 
-pub run_tells : (p : ℕ → Bool) (bytes : List ℕ) (n : ℕ) → n ≤ length bytes → list_all p (take n bytes) ≡ nat_le n (run_length p bytes)
+pub run_tells : (p : ℕ → Bool) (bytes : List ℕ) (n : ℕ) → n ≤ length bytes
+    → list_all p (take n bytes) ≡ nat_le n (run_length p bytes)
 unfolding run_length
 run_tells p bytes zero h = sym (le-leb 0 (run_length p bytes) (omega arith))
 run_tells p [] (suc n) h = absurd (omega arith)
@@ -50,4 +53,5 @@ run_tells p (b ∷ bytes) (suc n) h =
 pub run_length-le : (p : ℕ → Bool) (bytes : List ℕ) → run_length p bytes ≤ length bytes
 unfolding run_length
 run_length-le p [] = omega arith
-run_length-le p (b ∷ bytes) = elim (p b) as (λ t. cond t (suc (run_length p bytes)) 0 ≤ suc (length bytes)) [ true ↦ omega (arith, run_length-le p bytes) | false ↦ omega arith ]
+run_length-le p (b ∷ bytes) = elim (p b) as (λ t. cond t (suc (run_length p bytes)) 0 ≤ suc (length bytes))
+    [ true ↦ omega (arith, run_length-le p bytes) | false ↦ omega arith ]

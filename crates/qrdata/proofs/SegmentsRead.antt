@@ -1,5 +1,6 @@
 -- Segments are read back, and reading stops where they end.
-use Rattle.std.proofs.Common.{◌≡◌, ℕ, zero, suc, ◌^◌, ◌<◌, ◌≤◌, List, [], ◌∷◌, ◌++◌, take, drop, length, refl, append_assoc, length-append, arith, Bool, true, false}
+use Rattle.std.proofs.Common.{◌≡◌, ℕ, zero, suc, ◌^◌, ◌<◌, ◌≤◌, List, [], ◌∷◌, ◌++◌, take, drop, length, refl}
+use Rattle.std.proofs.Common.{append_assoc, length-append, arith, Bool, true, false}
 use Rattle.std.specs.Prelude.{Some, ◌==◌}
 use Rattle.std.specs.List.{find, list_all}
 use Rattle.std.proofs.Math.Nat.{mod-eq_of_lt}
@@ -10,7 +11,8 @@ use Rattle.qrdata.specs.declared.mode.Mode.TheVariants.{Numeric, Alphanumeric, B
 use Rattle.qrdata.specs.declared.mode.Segment.{Segment}
 use Rattle.labelcore.specs.Steps.{◌>>=◌}
 use Rattle.qrdata.specs.Bits.{bits_of, number_of}
-use Rattle.qrdata.specs.Segments.{IsSegmentation, count_width, has_character, mode_indicator, modes, payload_bits, segment_bits, segments_bits}
+use Rattle.qrdata.specs.Segments.{IsSegmentation, count_width, has_character, mode_indicator, modes, payload_bits}
+use Rattle.qrdata.specs.Segments.{segment_bits, segments_bits}
 use Rattle.qrdata.specs.Reading.{is_end, segment_at, segments_at}
 use Rattle.qrdata.proofs.BitStrings.{number_at-bits_of, number_of-bits_of, take_front, length-bits_of}
 use Rattle.qrdata.proofs.Payloads.{AreBytes, payload_at-payload_bits}
@@ -51,17 +53,21 @@ indicator_positive Alphanumeric = omega arith
 indicator_positive Byte = omega arith
 
 -- a segment does not begin with four zeros
-is_end-segment_bits : (version : ℕ) (mode : Mode) (bytes : List ℕ) (rest : List Bool) → is_end (segment_bits version mode bytes ++ rest) ≡ false
+is_end-segment_bits : (version : ℕ) (mode : Mode) (bytes : List ℕ) (rest : List Bool)
+    → is_end (segment_bits version mode bytes ++ rest) ≡ false
 is_end-segment_bits version mode bytes rest =
     let after = bits_of (count_width version mode) (length bytes) ++ (payload_bits mode bytes ++ rest) in
     let indicator = bits_of 4 (mode_indicator mode) in
     let four : length indicator ≡ 4 = length-bits_of 4 (mode_indicator mode) in
     let long : 4 ≤ length (indicator ++ after) = omega (arith, length-append indicator after) in
     let value : number_of (take 4 (indicator ++ after)) ≡ mode_indicator mode =
-    rw (take_front 4 indicator after four, number_of-bits_of 4 (mode_indicator mode)) (mod-eq_of_lt (indicator_below mode)) in
+    rw (take_front 4 indicator after four, number_of-bits_of 4 (mode_indicator mode))
+    (mod-eq_of_lt (indicator_below mode)) in
     rw (append_assoc, append_assoc) (not_end (indicator ++ after) long (omega (arith, indicator_positive mode)))
 
-segments_at-suc : (version n : ℕ) (bits : List Bool) → is_end bits ≡ false → segments_at version (suc n) bits ≡ (segment_at version bits >>= λ first. segments_at version n first.1 >>= λ others. Some (first.0 ++ others))
+segments_at-suc : (version n : ℕ) (bits : List Bool) → is_end bits ≡ false
+    → segments_at version (suc n) bits ≡ (segment_at version bits >>= λ first.
+    segments_at version n first.1 >>= λ others. Some (first.0 ++ others))
 unfolding segments_at
 segments_at-suc version n bits h = rw h refl
 
@@ -70,7 +76,9 @@ unfolding segments_at
 segments_at-end version zero bits h = rw h refl
 segments_at-end version (suc n) bits h = rw h refl
 
-segments_bits-cons : (version : ℕ) (s : Segment) (segments : List Segment) (bytes : List ℕ) → segments_bits version (s ∷ segments) bytes ≡ segment_bits version s.mode (take s.len bytes) ++ segments_bits version segments (drop s.len bytes)
+segments_bits-cons : (version : ℕ) (s : Segment) (segments : List Segment) (bytes : List ℕ)
+    → segments_bits version (s ∷ segments) bytes ≡ segment_bits version s.mode (take s.len bytes)
+    ++ segments_bits version segments (drop s.len bytes)
 unfolding segments_bits
 segments_bits-cons version s segments bytes = refl
 
@@ -92,14 +100,25 @@ AreBytes-drop (suc n) (b ∷ bytes) w = AreBytes-drop n bytes w.1
 pub segments_at-segments_bits : (version : ℕ) (segments : List Segment) (bytes : List ℕ) (n : ℕ) (rest : List Bool)
     → AreBytes bytes → IsSegmentation version segments bytes → length segments ≤ n → is_end rest ≡ true
     → segments_at version n (segments_bits version segments bytes ++ rest) ≡ Some bytes
-segments_at-segments_bits version [] bytes n rest w e h stop = rw (segments_bits-nil version bytes, segments_at-end version n rest stop, e) refl
+segments_at-segments_bits version [] bytes n rest w e h stop =
+    rw (segments_bits-nil version bytes, segments_at-end version n rest stop, e) refl
 segments_at-segments_bits version (s ∷ segments) bytes zero rest w cut h stop = absurd (omega arith)
 segments_at-segments_bits version (s ∷ segments) bytes (suc n) rest w cut h stop =
     let front = take s.len bytes in
     let others = segments_bits version segments (drop s.len bytes) ++ rest in
     let front_length : length front ≡ s.len = length-take-le s.len bytes cut.0.inside in
     let fits : length front < 2 ^ count_width version s.mode = rw front_length cut.0.counted in
-    let first = segment_at-segment_bits version s.mode front others (AreBytes-take s.len bytes w) cut.0.characters fits in
-    let later = segments_at-segments_bits version segments (drop s.len bytes) n rest (AreBytes-drop s.len bytes w) cut.1 (omega arith) stop in
+    let first = segment_at-segment_bits version s.mode front others (AreBytes-take s.len bytes w) cut.0.characters
+    fits in
+    let later = segments_at-segments_bits version segments (drop s.len bytes) n rest (AreBytes-drop s.len bytes w) cut.1
+    (omega arith) stop in
     let goes_on = is_end-segment_bits version s.mode front others in
-    rw (segments_bits-cons, append_assoc, segments_at-suc version n (segment_bits version s.mode front ++ others) goes_on, first, later, take-append-drop) refl
+    rw (
+      segments_bits-cons,
+      append_assoc,
+      segments_at-suc version n (segment_bits version s.mode front ++ others) goes_on,
+      first,
+      later,
+      take-append-drop,
+    )
+    refl

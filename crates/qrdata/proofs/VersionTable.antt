@@ -7,8 +7,10 @@ use Rattle.std.proofs.lemmas.List.FromFn.{get_or-range_with_len, length-range_wi
 use Rattle.std.proofs.lemmas.List.Sums.{AllPass-from_list_all}
 use Rattle.labelcore.specs.declared.options.Level.{Level}
 use Rattle.labelcore.specs.declared.options.Level.TheVariants.{L, M, Q, H}
-use Rattle.qrdata.specs.Versions.{block_count, block_lengths, block_table, capacity, data_codewords, groups_of, parity_length, total_codewords}
-use Rattle.qrdata.specs.declared.version.TheConstants.{TOTAL, BLOCKS_L, BLOCKS_M, BLOCKS_Q, BLOCKS_H, PARITY_L, PARITY_M, PARITY_Q, PARITY_H}
+use Rattle.qrdata.specs.Versions.{block_count, block_lengths, block_table, capacity, data_codewords, groups_of}
+use Rattle.qrdata.specs.Versions.{parity_length, total_codewords}
+use Rattle.qrdata.specs.declared.version.TheConstants.{TOTAL, BLOCKS_L, BLOCKS_M, BLOCKS_Q, BLOCKS_H, PARITY_L}
+use Rattle.qrdata.specs.declared.version.TheConstants.{PARITY_M, PARITY_Q, PARITY_H}
 use Rattle.gf256.proofs.GeneratorTable.{same_numbers, same_numbers-is}
 
 -- the blocks of a version: some and few, each with some parity codewords and few, which leave room for data
@@ -24,7 +26,8 @@ abbrev has_sound_blocks : Level → ℕ → Bool
 has_sound_blocks level version =
     (nat_lt 0 (block_count version level) && nat_le (block_count version level) 8)
     && ((nat_lt 0 (parity_length version level) && nat_le (parity_length version level) 30)
-    && (nat_le (block_count version level * parity_length version level) (total_codewords version) && nat_le (total_codewords version) 346))
+    && (nat_le (block_count version level * parity_length version level) (total_codewords version)
+    && nat_le (total_codewords version) 346))
 
 all_sound : (level : Level) → list_all (has_sound_blocks level) (range_with_len 1 10) ≡ true
 unfolding block_count parity_length total_codewords block_lengths groups_of block_table
@@ -34,9 +37,11 @@ all_sound Q = refl
 all_sound H = refl
 
 -- what is tested of versions 1 to n holds of each of them
-at_version : (test : ℕ → Bool) (n version : ℕ) → list_all test (range_with_len 1 n) ≡ true → 1 ≤ version → version ≤ n → test version ≡ true
+at_version : (test : ℕ → Bool) (n version : ℕ) → list_all test (range_with_len 1 n) ≡ true → 1 ≤ version → version ≤ n
+    → test version ≡ true
 at_version test n version all low high =
-    let here = AllPass-from_list_all test (range_with_len 1 n) all (version - 1) 0 (omega (arith, length-range_with_len 1 n)) in
+    let here = AllPass-from_list_all test (range_with_len 1 n) all (version - 1) 0
+    (omega (arith, length-range_with_len 1 n)) in
     let place : 1 + (version - 1) ≡ version = omega arith in
     rw (get_or-range_with_len 1 n (version - 1) 0 (omega arith), place) at here
 
@@ -72,32 +77,46 @@ fewer_bits Q = refl
 fewer_bits H = refl
 
 pub capacity-le : (level : Level) (version : ℕ) → 1 ≤ version → version ≤ 10 → capacity version level ≤ 2192
-capacity-le level version low high = leb-true _ _ (at_version (λ v. nat_le (capacity v level) 2192) 10 version (few_bits level) low high)
+capacity-le level version low high = leb-true _ _
+    (at_version (λ v. nat_le (capacity v level) 2192) 10 version (few_bits level) low high)
 
 pub capacity-le_nine : (level : Level) (version : ℕ) → 1 ≤ version → version ≤ 9 → capacity version level ≤ 1856
-capacity-le_nine level version low high = leb-true _ _ (at_version (λ v. nat_le (capacity v level) 1856) 9 version (fewer_bits level) low high)
+capacity-le_nine level version low high =
+    leb-true _ _ (at_version (λ v. nat_le (capacity v level) 1856) 9 version (fewer_bits level) low high)
 
 -- the data codewords are what the parity codewords leave
-left_is : (level : Level) → list_all (λ version. data_codewords version level == total_codewords version - block_count version level * parity_length version level) (range_with_len 1 10) ≡ true
+left_is : (level : Level) → list_all (λ version.
+    data_codewords version level == total_codewords version - block_count version level * parity_length version level)
+    (range_with_len 1 10) ≡ true
 unfolding data_codewords total_codewords block_count parity_length block_lengths groups_of block_table
 left_is L = refl
 left_is M = refl
 left_is Q = refl
 left_is H = refl
 
-pub data_codewords-is : (version : ℕ) (level : Level) → 1 ≤ version → version ≤ 10 → data_codewords version level ≡ total_codewords version - block_count version level * parity_length version level
+pub data_codewords-is : (version : ℕ) (level : Level) → 1 ≤ version → version ≤ 10
+    → data_codewords version level ≡ total_codewords version - block_count version level * parity_length version level
 data_codewords-is version level low high =
-    eqb-true _ _ (at_version (λ v. data_codewords v level == total_codewords v - block_count v level * parity_length v level) 10 version (left_is level) low high)
+    eqb-true _ _ (at_version (λ v. data_codewords v level == total_codewords v - block_count v level * parity_length v
+    level) 10 version (left_is level) low high)
 
 -- the data codewords and the parity codewords of all blocks are all codewords
-pub total_is : (version : ℕ) (level : Level) → 1 ≤ version → version ≤ 10 → data_codewords version level + block_count version level * parity_length version level ≡ total_codewords version
-total_is version level low high = omega (arith, data_codewords-is version level low high, (HasSoundBlocks-of version level low high).room)
+pub total_is : (version : ℕ) (level : Level) → 1 ≤ version → version ≤ 10
+    → data_codewords version level + block_count version level * parity_length version level ≡ total_codewords version
+total_is version level low high = omega (
+  arith,
+  data_codewords-is version level low high,
+  (HasSoundBlocks-of version level low high).room,
+)
 
 -- so many blocks, as even as can be, the short ones first: the data codewords of each
 abbrev pub even_lengths : ℕ → ℕ → List ℕ
-even_lengths blocks words = replicate (blocks - words % blocks) (words / blocks) ++ replicate (words % blocks) (words / blocks + 1)
+even_lengths blocks words = replicate (blocks - words % blocks) (words / blocks)
+    ++ replicate (words % blocks) (words / blocks + 1)
 
-even : (level : Level) → list_all (λ version. same_numbers (even_lengths (block_count version level) (data_codewords version level)) (block_lengths version level)) (range_with_len 1 10) ≡ true
+even : (level : Level) → list_all (λ version.
+    same_numbers (even_lengths (block_count version level) (data_codewords version level))
+    (block_lengths version level)) (range_with_len 1 10) ≡ true
 unfolding data_codewords block_count block_lengths groups_of block_table
 even L = refl
 even M = refl
@@ -105,9 +124,12 @@ even Q = refl
 even H = refl
 
 -- the blocks are as even as can be
-pub block_lengths-even : (version : ℕ) (level : Level) → 1 ≤ version → version ≤ 10 → even_lengths (block_count version level) (data_codewords version level) ≡ block_lengths version level
+pub block_lengths-even : (version : ℕ) (level : Level) → 1 ≤ version → version ≤ 10
+    → even_lengths (block_count version level) (data_codewords version level) ≡ block_lengths version level
 block_lengths-even version level low high =
-    same_numbers-is _ _ (at_version (λ v. same_numbers (even_lengths (block_count v level) (data_codewords v level)) (block_lengths v level)) 10 version (even level) low high)
+    same_numbers-is _ _ (at_version (λ v.
+    same_numbers (even_lengths (block_count v level) (data_codewords v level)) (block_lengths v level)) 10 version
+    (even level) low high)
 
 -- the tables of the code
 abbrev pub coded_blocks : Level → List ℕ
@@ -122,7 +144,9 @@ coded_parity M = PARITY_M
 coded_parity Q = PARITY_Q
 coded_parity H = PARITY_H
 
-coded : (level : Level) → list_all (λ version. slice_index (coded_blocks level) (version - 1) == block_count version level && slice_index (coded_parity level) (version - 1) == parity_length version level) (range_with_len 1 10) ≡ true
+coded : (level : Level) → list_all (λ version.
+    slice_index (coded_blocks level) (version - 1) == block_count version level
+    && slice_index (coded_parity level) (version - 1) == parity_length version level) (range_with_len 1 10) ≡ true
 unfolding block_count parity_length block_lengths groups_of block_table
 coded L = refl
 coded M = refl
@@ -130,20 +154,27 @@ coded Q = refl
 coded H = refl
 
 pub coded_is : (version : ℕ) (level : Level) → 1 ≤ version → version ≤ 10
-    → (slice_index (coded_blocks level) (version - 1) ≡ block_count version level) × (slice_index (coded_parity level) (version - 1) ≡ parity_length version level)
+    → (slice_index (coded_blocks level) (version - 1) ≡ block_count version level)
+    × (slice_index (coded_parity level) (version - 1) ≡ parity_length version level)
 coded_is version level low high =
-    let parts = and_parts _ _ (at_version (λ v. slice_index (coded_blocks level) (v - 1) == block_count v level && slice_index (coded_parity level) (v - 1) == parity_length v level) 10 version (coded level) low high) in
+    let parts = and_parts _ _ (at_version
+    (λ v. slice_index (coded_blocks level) (v - 1) == block_count v level
+    && slice_index (coded_parity level) (v - 1) == parity_length v level) 10 version (coded level) low high) in
     (eqb-true _ _ parts.0, eqb-true _ _ parts.1)
 
-coded_total : list_all (λ version. slice_index TOTAL (version - 1) == total_codewords version) (range_with_len 1 10) ≡ true
+coded_total : list_all (λ version. slice_index TOTAL (version - 1) == total_codewords version) (range_with_len 1 10)
+    ≡ true
 unfolding total_codewords
 coded_total = refl
 
-pub coded_total_is : (version : ℕ) → 1 ≤ version → version ≤ 10 → slice_index TOTAL (version - 1) ≡ total_codewords version
-coded_total_is version low high = eqb-true _ _ (at_version (λ v. slice_index TOTAL (v - 1) == total_codewords v) 10 version coded_total low high)
+pub coded_total_is : (version : ℕ) → 1 ≤ version → version ≤ 10
+    → slice_index TOTAL (version - 1) ≡ total_codewords version
+coded_total_is version low high = eqb-true _ _
+    (at_version (λ v. slice_index TOTAL (v - 1) == total_codewords v) 10 version coded_total low high)
 
 -- a later version has no fewer data bits
-rising : (level : Level) → list_all (λ w. list_all (λ v. nat_le (capacity v level) (capacity w level)) (range_with_len 1 w)) (range_with_len 1 10) ≡ true
+rising : (level : Level) → list_all (λ w.
+    list_all (λ v. nat_le (capacity v level) (capacity w level)) (range_with_len 1 w)) (range_with_len 1 10) ≡ true
 unfolding data_codewords block_lengths groups_of block_table
 rising L = refl
 rising M = refl
@@ -153,4 +184,5 @@ rising H = refl
 pub capacity-rising : (level : Level) (v w : ℕ) → 1 ≤ v → v ≤ w → w ≤ 10 → capacity v level ≤ capacity w level
 capacity-rising level v w low below high =
     leb-true _ _ (at_version (λ u. nat_le (capacity u level) (capacity w level)) w v
-    (at_version (λ x. list_all (λ u. nat_le (capacity u level) (capacity x level)) (range_with_len 1 x)) 10 w (rising level) (omega arith) high) low below)
+    (at_version (λ x. list_all (λ u. nat_le (capacity u level) (capacity x level)) (range_with_len 1 x)) 10 w
+    (rising level) (omega arith) high) low below)

@@ -1,5 +1,7 @@
 -- What the writers have written, step by step.
-use Rattle.std.proofs.Common.{◌≡◌, ℕ, zero, suc, ◌+◌, ◌-◌, ◌*◌, ◌/◌, ◌%◌, ◌^◌, ◌<◌, ◌≤◌, List, [], ◌∷◌, ◌++◌, map, take, drop, length, replicate, get_or, refl, sym, ap, ◌∙◌, append-nil, length-append, arith, Bool, false, sum}
+use Rattle.std.proofs.Common.{◌≡◌, ℕ, zero, suc, ◌+◌, ◌-◌, ◌*◌, ◌/◌, ◌%◌, ◌^◌, ◌<◌, ◌≤◌, List, [], ◌∷◌, ◌++◌, map, take}
+use Rattle.std.proofs.Common.{drop, length, replicate, get_or, refl, sym, ap, ◌∙◌, append-nil, length-append, arith}
+use Rattle.std.proofs.Common.{Bool, false, sum}
 use Rattle.std.specs.Prelude.{◌==◌}
 use Rattle.std.specs.List.{AllByRecursion, flat_map}
 use Rattle.std.proofs.lemmas.List.{drop_more, drop_all, drop-drop, length-take-le}
@@ -15,7 +17,8 @@ use Rattle.qrdata.specs.declared.bits.Bits.{Bits}
 use Rattle.qrdata.specs.Private.BitsInWords.{bits_in}
 use Rattle.qrdata.specs.Bits.{bits_of, codewords_of, number_of}
 use Rattle.qrdata.specs.Codewords.{largest, split_by}
-use Rattle.qrdata.specs.Segments.{IsSegmentation, alphanumeric_bits, alphanumeric_value, byte_bits, cost, count_width, segment_bits, segment_length, segment_of, segments_bits}
+use Rattle.qrdata.specs.Segments.{IsSegmentation, alphanumeric_bits, alphanumeric_value, byte_bits, cost, count_width}
+use Rattle.qrdata.specs.Segments.{segment_bits, segment_length, segment_of, segments_bits}
 use Rattle.qrdata.specs.Versions.{block_count, block_lengths, data_codewords, parity_length}
 use Rattle.qrdata.proofs.BlockLaws.{split_lengths}
 use Rattle.qrdata.proofs.BitStrings.{bits_of-nil, drop_front, length-bits_of, number_of-bits_of, take_front}
@@ -34,23 +37,29 @@ use Rattle.qrdata.proofs.VersionTable.{HasSoundBlocks-of, total_is}
 
 -- characters
 pub alphanumeric_bits-two_left : (xs : List ℕ) (i : ℕ) → 2 ≤ length xs - i → alphanumeric_bits (drop i xs)
-    ≡ bits_of 11 (45 * alphanumeric_value (get_or xs i 0) + alphanumeric_value (get_or xs (i + 1) 0)) ++ alphanumeric_bits (drop (i + 2) xs)
+    ≡ bits_of 11 (45 * alphanumeric_value (get_or xs i 0) + alphanumeric_value (get_or xs (i + 1) 0))
+    ++ alphanumeric_bits (drop (i + 2) xs)
 unfolding alphanumeric_bits
 alphanumeric_bits-two_left xs i h =
     let first = drop_next xs i (i + 1) (omega arith) (omega arith) in
     let second = drop_next xs (i + 1) (i + 2) (omega arith) (omega arith) in
     rw (first, second) refl
 
-pub alphanumeric_bits-one_left : (xs : List ℕ) (i : ℕ) → length xs - i ≡ 1 → alphanumeric_bits (drop i xs) ≡ bits_of 6 (alphanumeric_value (get_or xs i 0))
+pub alphanumeric_bits-one_left : (xs : List ℕ) (i : ℕ) → length xs - i ≡ 1
+    → alphanumeric_bits (drop i xs) ≡ bits_of 6 (alphanumeric_value (get_or xs i 0))
 unfolding alphanumeric_bits
-alphanumeric_bits-one_left xs i h = rw (drop_next xs i (i + 1) (omega arith) (omega arith), drop_none xs (i + 1) (omega arith)) refl
+alphanumeric_bits-one_left xs i h = rw (
+  drop_next xs i (i + 1) (omega arith) (omega arith),
+  drop_none xs (i + 1) (omega arith),
+) refl
 
 pub alphanumeric_bits-none_left : (xs : List ℕ) (i : ℕ) → length xs ≤ i → alphanumeric_bits (drop i xs) ≡ []
 unfolding alphanumeric_bits
 alphanumeric_bits-none_left xs i h = rw (drop_none xs i h) refl
 
 -- bytes
-pub byte_bits-next : (xs : List ℕ) (i : ℕ) → i < length xs → byte_bits (drop i xs) ≡ bits_of 8 (get_or xs i 0) ++ byte_bits (drop (i + 1) xs)
+pub byte_bits-next : (xs : List ℕ) (i : ℕ) → i < length xs
+    → byte_bits (drop i xs) ≡ bits_of 8 (get_or xs i 0) ++ byte_bits (drop (i + 1) xs)
 unfolding byte_bits
 byte_bits-next xs i h = rw (drop_more xs i 0 h) refl
 
@@ -63,23 +72,30 @@ abbrev pub default_segment : Segment
 default_segment = segment_of Numeric 0
 
 -- segments: the next one, and those after it
-pub segments_bits-next : (version : ℕ) (segments : List Segment) (d : Segment) (bytes : List ℕ) (i place : ℕ) → i < length segments
+pub segments_bits-next : (version : ℕ) (segments : List Segment) (d : Segment) (bytes : List ℕ) (i place : ℕ)
+    → i < length segments
     → segments_bits version (drop i segments) (drop place bytes)
-    ≡ segment_bits version (get_or segments i d).mode (take (get_or segments i d).len (drop place bytes)) ++ segments_bits version (drop (i + 1) segments) (drop (place + (get_or segments i d).len) bytes)
+    ≡ segment_bits version (get_or segments i d).mode (take (get_or segments i d).len (drop place bytes))
+    ++ segments_bits version (drop (i + 1) segments) (drop (place + (get_or segments i d).len) bytes)
 unfolding segments_bits
-segments_bits-next version segments d bytes i place h = rw (drop_more segments i d h, ← drop-drop (get_or segments i d).len place bytes) refl
+segments_bits-next version segments d bytes i place h =
+    rw (drop_more segments i d h, ← drop-drop (get_or segments i d).len place bytes) refl
 
-pub segments_bits-none_left : (version : ℕ) (segments : List Segment) (bytes : List ℕ) (i : ℕ) → length segments ≤ i → segments_bits version (drop i segments) bytes ≡ []
+pub segments_bits-none_left : (version : ℕ) (segments : List Segment) (bytes : List ℕ) (i : ℕ) → length segments ≤ i
+    → segments_bits version (drop i segments) bytes ≡ []
 unfolding segments_bits
 segments_bits-none_left version segments bytes i h = rw (drop_all i segments h) refl
 
-pub IsSegmentation-next : (version : ℕ) (segments : List Segment) (d : Segment) (bytes : List ℕ) (i place : ℕ) → i < length segments → IsSegmentation version (drop i segments) (drop place bytes)
+pub IsSegmentation-next : (version : ℕ) (segments : List Segment) (d : Segment) (bytes : List ℕ) (i place : ℕ)
+    → i < length segments → IsSegmentation version (drop i segments) (drop place bytes)
     → IsSegmentation version (get_or segments i d ∷ drop (i + 1) segments) (drop place bytes)
 IsSegmentation-next version segments d bytes i place h held = rw (drop_more segments i d h) at held
 
 pub cost-next : (version : ℕ) (segments : List Segment) (d : Segment) (i : ℕ) → i < length segments
-    → cost version (drop i segments) ≡ segment_length version (get_or segments i d) + cost version (drop (i + 1) segments)
-cost-next version segments d i h = rw (drop_more segments i d h) (sum_by-cons (segment_length version) (get_or segments i d) (drop (i + 1) segments))
+    → cost version (drop i segments) ≡ segment_length version (get_or segments i d)
+    + cost version (drop (i + 1) segments)
+cost-next version segments d i h = rw (drop_more segments i d h)
+    (sum_by-cons (segment_length version) (get_or segments i d) (drop (i + 1) segments))
 
 -- zeros
 bit_zero : (width : ℕ) → (0 / 2 ^ width % 2 == 1) ≡ false
@@ -91,12 +107,14 @@ bits_of-zero zero = refl
 bits_of-zero (suc width) = rw (bit_zero width, bits_of-zero width) refl
 
 -- the longest of the blocks that the words are cut into has the greatest of the lengths
-pub longest-split_by : (lengths words : List ℕ) → sum lengths ≡ length words → longest (split_by lengths words) ≡ largest lengths
+pub longest-split_by : (lengths words : List ℕ) → sum lengths ≡ length words
+    → longest (split_by lengths words) ≡ largest lengths
 longest-split_by lengths words whole = ap largest (split_lengths lengths words (omega arith))
 
 -- the blocks that are left are the next one and the others
 pub split_by-next : (lengths words : List ℕ) (i start : ℕ) → i < length lengths
-    → split_by (drop i lengths) (drop start words) ≡ take (get_or lengths i 0) (drop start words) ∷ split_by (drop (i + 1) lengths) (drop (start + get_or lengths i 0) words)
+    → split_by (drop i lengths) (drop start words) ≡ take (get_or lengths i 0) (drop start words)
+    ∷ split_by (drop (i + 1) lengths) (drop (start + get_or lengths i 0) words)
 unfolding split_by
 split_by-next lengths words i start h = rw (drop_more lengths i 0 h, ← drop-drop (get_or lengths i 0) start words) refl
 
@@ -105,37 +123,46 @@ unfolding split_by
 split_by-none_left lengths words i h = rw (drop_all i lengths h) refl
 
 -- what is made of each block in the same length is cut apart again
-pub split_by-flat_map : (f : List ℕ → List ℕ) (k : ℕ) (P : List ℕ → Type 0) (blocks : Blocks) → ((block : List ℕ) → P block → length (f block) ≡ k) → AllByRecursion P blocks
+pub split_by-flat_map : (f : List ℕ → List ℕ) (k : ℕ) (P : List ℕ → Type 0) (blocks : Blocks)
+    → ((block : List ℕ) → P block → length (f block) ≡ k) → AllByRecursion P blocks
     → split_by (replicate (length blocks) k) (flat_map f blocks) ≡ map f blocks
 unfolding split_by
 split_by-flat_map f k P [] each w = refl
 split_by-flat_map f k P (block ∷ blocks) each w =
-    let first : take k (f block ++ flat_map f blocks) ≡ f block = take_front k (f block) (flat_map f blocks) (each block w.0) in
-    let rest : drop k (f block ++ flat_map f blocks) ≡ flat_map f blocks = drop_front k (f block) (flat_map f blocks) (each block w.0) in
+    let first : take k (f block ++ flat_map f blocks) ≡ f block =
+    take_front k (f block) (flat_map f blocks) (each block w.0) in
+    let rest : drop k (f block ++ flat_map f blocks) ≡ flat_map f blocks =
+    drop_front k (f block) (flat_map f blocks) (each block w.0) in
     rw (first, rest, split_by-flat_map f k P blocks each w.1) refl
 
-pub length-flat_map : (f : List ℕ → List ℕ) (k : ℕ) (P : List ℕ → Type 0) (blocks : Blocks) → ((block : List ℕ) → P block → length (f block) ≡ k) → AllByRecursion P blocks
+pub length-flat_map : (f : List ℕ → List ℕ) (k : ℕ) (P : List ℕ → Type 0) (blocks : Blocks)
+    → ((block : List ℕ) → P block → length (f block) ≡ k) → AllByRecursion P blocks
     → length (flat_map f blocks) ≡ length blocks * k
 length-flat_map f k P [] each w = omega arith
-length-flat_map f k P (block ∷ blocks) each w = omega (arith, length-append (f block) (flat_map f blocks), each block w.0, length-flat_map f k P blocks each w.1)
+length-flat_map f k P (block ∷ blocks) each w =
+    omega (arith, length-append (f block) (flat_map f blocks), each block w.0, length-flat_map f k P blocks each w.1)
 
 -- a slice of bytes
 pub AreBytes-slice : (bytes : List ℕ) → ((i : ℕ) → get_or bytes i 0 < 256) → AreBytes bytes
-AreBytes-slice bytes each = recursion_from_All (λ b. b < 256) bytes (All-from_get_or (λ b. b < 256) bytes 0 (λ i h. each i))
+AreBytes-slice bytes each = recursion_from_All (λ b. b < 256) bytes
+    (All-from_get_or (λ b. b < 256) bytes 0 (λ i h. each i))
 
 -- the parity of the blocks of a symbol
 pub record HasBlocks (version : ℕ) (level : Level) (message : List ℕ) : Type 0 where
   pub count : length (block_lengths version level) ≡ block_count version level
   pub whole : sum (block_lengths version level) ≡ length message
-  pub parities : length (flat_map (parity_of (parity_length version level)) (split_by (block_lengths version level) message)) ≡ block_count version level * parity_length version level
-  pub cut : split_by (replicate (length (block_lengths version level)) (parity_length version level)) (flat_map (parity_of (parity_length version level)) (split_by (block_lengths version level) message))
+  pub parities : length (flat_map (parity_of (parity_length version level))
+      (split_by (block_lengths version level) message)) ≡ block_count version level * parity_length version level
+  pub cut : split_by (replicate (length (block_lengths version level)) (parity_length version level))
+      (flat_map (parity_of (parity_length version level)) (split_by (block_lengths version level) message))
       ≡ map (parity_of (parity_length version level)) (split_by (block_lengths version level) message)
   pub few : block_count version level ≤ 8
   pub some_parity : 1 ≤ parity_length version level
   pub few_parity : parity_length version level ≤ 30
   pub total : length message + block_count version level * parity_length version level ≤ 346
 
-pub HasBlocks-message : (version : ℕ) (level : Level) (message : List ℕ) → 1 ≤ version → version ≤ 10 → ParityIsRemainder → RemaindersAreCodewords → AreBytes message
+pub HasBlocks-message : (version : ℕ) (level : Level) (message : List ℕ) → 1 ≤ version → version ≤ 10
+    → ParityIsRemainder → RemaindersAreCodewords → AreBytes message
     → length message ≡ data_codewords version level → HasBlocks version level message
 HasBlocks-message version level message low high remainder codeword w whole =
     let k = parity_length version level in
@@ -160,39 +187,58 @@ HasBlocks-message version level message low high remainder codeword w whole =
 -- the bits of a segment of the first bytes
 pub length-segment_bits_front : (version : ℕ) (mode : Mode) (n : ℕ) (bytes : List ℕ) → n ≤ length bytes
     → length (segment_bits version mode (take n bytes)) ≡ 4 + count_width version mode + payload_length mode n
-length-segment_bits_front version mode n bytes h = length-segment_bits version mode (take n bytes) ∙ ap (λ k. 4 + count_width version mode + payload_length mode k) (length-take-le n bytes h)
+length-segment_bits_front version mode n bytes h =
+    length-segment_bits version mode (take n bytes)
+    ∙ ap (λ k. 4 + count_width version mode + payload_length mode k) (length-take-le n bytes h)
 
-pub aligned-fits : (size : ℕ) (bits : List Bool) → length bits ≤ 8 * size → length (aligned (terminated (8 * size) bits)) ≤ 8 * size
+pub aligned-fits : (size : ℕ) (bits : List Bool) → length bits ≤ 8 * size
+    → length (aligned (terminated (8 * size) bits)) ≤ 8 * size
 aligned-fits size bits h =
     let a = aligned_is size bits h in
     omega (arith, ap length a.2, length-append bits a.1, a.3, a.4)
 
-pub length-data_of : (version : ℕ) (level : Level) (segments : List Segment) (bytes : List ℕ) → IsSegmentation version segments bytes → cost version segments ≤ capacity version level
+pub length-data_of : (version : ℕ) (level : Level) (segments : List Segment) (bytes : List ℕ)
+    → IsSegmentation version segments bytes → cost version segments ≤ capacity version level
     → length (data_of version level segments bytes) ≡ data_codewords version level
 unfolding data_of
 length-data_of version level segments bytes held fits =
-    length-padded (data_codewords version level) (segments_bits version segments bytes) (omega (arith, length-segments_bits version segments bytes held))
+    length-padded (data_codewords version level) (segments_bits version segments bytes)
+    (omega (arith, length-segments_bits version segments bytes held))
 
 -- the codewords of the bits of bytes are the bytes
 pub codewords_of-byte_bits : (words : List ℕ) → AreBytes words → codewords_of (length words) (byte_bits words) ≡ words
 unfolding codewords_of byte_bits
 codewords_of-byte_bits [] w = refl
 codewords_of-byte_bits (word ∷ words) w =
-    let front : take 8 (bits_of 8 word ++ byte_bits words) ≡ bits_of 8 word = take_front 8 (bits_of 8 word) (byte_bits words) (length-bits_of 8 word) in
-    let rest : drop 8 (bits_of 8 word ++ byte_bits words) ≡ byte_bits words = drop_front 8 (bits_of 8 word) (byte_bits words) (length-bits_of 8 word) in
+    let front : take 8 (bits_of 8 word ++ byte_bits words) ≡ bits_of 8 word =
+    take_front 8 (bits_of 8 word) (byte_bits words) (length-bits_of 8 word) in
+    let rest : drop 8 (bits_of 8 word ++ byte_bits words) ≡ byte_bits words =
+    drop_front 8 (bits_of 8 word) (byte_bits words) (length-bits_of 8 word) in
     let value : number_of (bits_of 8 word) ≡ word = number_of-bits_of 8 word ∙ mod-eq_of_lt w.0 in
     rw (front, rest, value, codewords_of-byte_bits words w.1) refl
 
 -- bits that end with a codeword are those of their codewords
-pub whole_words : (words : List ℕ) (count number n : ℕ) → AreBytes words → count < 8 → length (byte_bits words ++ bits_of count number) ≡ 8 * n
-    → words ≡ codewords_of (length (byte_bits words ++ bits_of count number) / 8) (byte_bits words ++ bits_of count number)
+pub whole_words : (words : List ℕ) (count number n : ℕ) → AreBytes words → count < 8
+    → length (byte_bits words ++ bits_of count number) ≡ 8 * n
+    → words ≡ codewords_of (length (byte_bits words ++ bits_of count number) / 8)
+    (byte_bits words ++ bits_of count number)
 whole_words words count number n w few whole =
     let long : length (byte_bits words ++ bits_of count number) ≡ 8 * length words + count =
-    omega (arith, length-append (byte_bits words) (bits_of count number), length-byte_bits words, length-bits_of count number) in
+    omega (
+      arith,
+      length-append (byte_bits words) (bits_of count number),
+      length-byte_bits words,
+      length-bits_of count number,
+    ) in
     let none : count ≡ 0 = omega (arith, long, whole) in
     let size : length (byte_bits words ++ bits_of count number) / 8 ≡ length words = omega (arith, long, none) in
     rw (size, none, bits_of-nil, append-nil) (sym (codewords_of-byte_bits words w))
 
 pub length-bits_in : (bits : Bits) → length (bits_in bits) ≡ 8 * length bits.words.items + bits.rest.count
 length-bits_in bits =
-    omega (arith, length-append (byte_bits bits.words.items) (bits_of bits.rest.count bits.rest.number), length-byte_bits bits.words.items, length-bits_of bits.rest.count bits.rest.number)
+    omega (
+      arith,
+      length-append (byte_bits bits.words.items) (bits_of bits.rest.count bits.rest.number),
+      length-byte_bits bits.words.items,
+      length-bits_of bits.rest.count bits.rest.number,
+    )

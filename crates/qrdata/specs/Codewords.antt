@@ -1,5 +1,6 @@
 -- From segments to the codewords of a symbol (ISO/IEC 18004, 7.4.9, 7.4.10, 7.5 and 7.6).
-use Rattle.std.specs.Prelude.{ℕ, zero, suc, ◌-◌, ◌*◌, ◌/◌, ◌%◌, List, [], ◌∷◌, ◌++◌, map, length, take, drop, replicate, slice_get, Bool, false, max, min}
+use Rattle.std.specs.Prelude.{ℕ, zero, suc, ◌-◌, ◌*◌, ◌/◌, ◌%◌, List, [], ◌∷◌, ◌++◌, map, length, take, drop, replicate}
+use Rattle.std.specs.Prelude.{slice_get, Bool, false, max, min}
 use Rattle.std.specs.List.{filter_map, flat_map, range_with_len}
 use Rattle.gf256.specs.Parity.{parity_of}
 use Rattle.labelcore.specs.declared.options.Level.{Level}

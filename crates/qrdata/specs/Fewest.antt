@@ -1,5 +1,6 @@
 -- The segments that data gets, and its version (ISO/IEC 18004, 7.4.1 and annex J; the choice is left to the encoder).
-use Rattle.std.specs.Prelude.{ℕ, zero, suc, ◌-◌, ◌^◌, ◌<◌, ◌≤◌, List, [], ◌∷◌, map, length, take, drop, nat_lt, nat_le, ◌&&◌, Bool, Option, filter}
+use Rattle.std.specs.Prelude.{ℕ, zero, suc, ◌-◌, ◌^◌, ◌<◌, ◌≤◌, List, [], ◌∷◌, map, length, take, drop, nat_lt, nat_le}
+use Rattle.std.specs.Prelude.{◌&&◌, Bool, Option, filter}
 use Rattle.std.specs.List.{best_of, find, flat_map, list_all, range_with_len}
 use Rattle.labelcore.specs.declared.options.Level.{Level}
 use Rattle.qrdata.specs.declared.mode.Segment.{Segment}

@@ -1,5 +1,7 @@
 -- Reading the codewords of a symbol, with no correction (ISO/IEC 18004, 12).
-use Rattle.std.specs.Prelude.{ℕ, zero, suc, ◌+◌, ◌-◌, ◌*◌, ◌/◌, ◌%◌, ◌^◌, List, [], ◌∷◌, ◌++◌, map, length, take, drop, replicate, slice_index, min, nat_lt, nat_le, ◌==◌, if◌then◌else◌, ◌&&◌, ◌||◌, Bool, Option, Some, None}
+use Rattle.std.specs.Prelude.{ℕ, zero, suc, ◌+◌, ◌*◌, ◌/◌, ◌%◌, ◌^◌, List, [], ◌∷◌, ◌++◌, map, length, take, drop}
+use Rattle.std.specs.Prelude.{replicate, slice_index, min, nat_lt, nat_le, ◌==◌, if◌then◌else◌, ◌&&◌, ◌||◌, Bool}
+use Rattle.std.specs.Prelude.{Option, Some, None}
 use Rattle.std.specs.List.{concat, count_by, find, list_all, range_with_len, sum_by, zip}
 use Rattle.gf256.specs.Field.{alpha, field_power}
 use Rattle.gf256.specs.Polynomial.{evaluate}

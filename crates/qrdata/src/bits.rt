@@ -2,7 +2,8 @@
 ghost use Rattle.arrayvec.specs.ArrayVec.{array_vec_len};
 ghost use Rattle.qrdata.specs.Bits.{bits_of, codewords_of};
 ghost use Rattle.qrdata.specs.Codewords.{aligned, pad_codewords, terminated};
-ghost use Rattle.qrdata.specs.Segments.{IsSegmentation, alphanumeric_bits, byte_bits, cost, count_width, has_character, numeric_bits, payload_bits, payload_length, segment_bits, segments_bits};
+ghost use Rattle.qrdata.specs.Segments.{IsSegmentation, alphanumeric_bits, byte_bits, cost, count_width, has_character};
+ghost use Rattle.qrdata.specs.Segments.{numeric_bits, payload_bits, payload_length, segment_bits, segments_bits};
 ghost use Rattle.qrdata.specs.declared.mode.Mode.TheVariants.{Alphanumeric, Numeric};
 ghost use Rattle.qrdata.specs.declared.mode.Segment.{Segment};
 ghost use Rattle.std.specs.Char.{is_ascii_digit};
@@ -204,8 +205,8 @@ impl Bits {
     }
 }
 
-/// A slice of bytes has numbers below 256, which the type of an `ArrayVec` does not tell a proof. It does nothing when it
-/// runs.
+/// A slice of bytes has numbers below 256, which the type of an `ArrayVec` does not tell a proof. It does nothing when
+/// it runs.
 fn are_bytes(bytes: &[u8])
     ensures { All (λ b. b < 256) bytes.now }
 {}

@@ -1,5 +1,8 @@
 //! A table of the best first segment of each rest of the bytes, filled from the end.
-ghost use Rattle.qrdata.specs.Private.Table.{HasFirsts, IsSmall, AreSmallDigits, AreSmallCharacters, AreSmall, absent_characters, absent_choice, absent_digits, better_choice, best_choice, fewest_bits, longer_choice, next_characters, next_choices, next_digits, no_choices, short_choice};
+ghost use Rattle.qrdata.specs.Private.Table.{HasFirsts, IsSmall, AreSmallDigits, AreSmallCharacters, AreSmall};
+ghost use Rattle.qrdata.specs.Private.Table.{absent_characters, absent_choice, absent_digits, better_choice};
+ghost use Rattle.qrdata.specs.Private.Table.{best_choice, fewest_bits, longer_choice, next_characters, next_choices};
+ghost use Rattle.qrdata.specs.Private.Table.{next_digits, no_choices, short_choice};
 ghost use Rattle.std.specs.Prelude.{length, ◌≡◌, ◌^◌, ◌≤◌, ◌<◌};
 
 use crate::mode::{Mode, Segment, value_of};

@@ -1,5 +1,6 @@
 //! The sizes of versions 1 to 10 (ISO/IEC 18004, tables 1, 7 and 9).
-ghost use Rattle.qrdata.specs.Versions.{IsVersion, block_count, block_lengths, data_codewords, parity_length, side_of, total_codewords};
+ghost use Rattle.qrdata.specs.Versions.{IsVersion, block_count, block_lengths, data_codewords, parity_length, side_of};
+ghost use Rattle.qrdata.specs.Versions.{total_codewords};
 ghost use Rattle.std.specs.Prelude.{None, Some, ◌≡◌, ◌+◌, ◌*◌, ◌/◌, ◌<◌, ◌≤◌, ◌↔◌, ◌⊎◌, IfSome, IsNone, ℕ};
 
 use crate::blocks::{Lengths, push_lengths};
@@ -7,8 +8,8 @@ use arrayvec::ArrayVec;
 use labelcore::Level;
 use std::marker::Model;
 
-/// The codewords of a symbol, data and parity. In each of these tables place 0 is version 1. They are proved to hold what
-/// `specs/Versions.antt` lists in the standard's notation.
+/// The codewords of a symbol, data and parity. In each of these tables place 0 is version 1. They are proved to hold
+/// what `specs/Versions.antt` lists in the standard's notation.
 const TOTAL: [usize; 10] = [26, 44, 70, 100, 134, 172, 196, 242, 292, 346];
 
 /// The blocks of a symbol at level L.

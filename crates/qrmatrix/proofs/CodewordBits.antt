@@ -1,5 +1,6 @@
 -- The words are read from their bits.
-use Rattle.std.proofs.Common.{◌≡◌, ℕ, zero, suc, ◌+◌, ◌*◌, ◌/◌, ◌%◌, ◌<◌, refl, ap, ◌∙◌, arith, Bool, true, List, [], ◌∷◌, length}
+use Rattle.std.proofs.Common.{◌≡◌, ℕ, zero, suc, ◌+◌, ◌*◌, ◌/◌, ◌%◌, ◌<◌, refl, ap, ◌∙◌, arith, Bool, true, List, []}
+use Rattle.std.proofs.Common.{◌∷◌, length}
 use Rattle.std.specs.Prelude.{map, ◌==◌, All}
 use Rattle.std.specs.List.{range_with_len}
 use Rattle.std.proofs.lemmas.Bool.{eqb-true}
@@ -21,7 +22,8 @@ byte w h =
     let test : all_below 256 (λ w. spelled w == w) ≡ true = refl in
     eqb-true (spelled w) w (all_below_at 256 (λ w. spelled w == w) test w h)
 
-map_shift : (f g : ℕ → Bool) (d : ℕ) → ((i : ℕ) → f (i + d) ≡ g i) → (a m : ℕ) → map f (range_with_len (a + d) m) ≡ map g (range_with_len a m)
+map_shift : (f g : ℕ → Bool) (d : ℕ) → ((i : ℕ) → f (i + d) ≡ g i) → (a m : ℕ)
+    → map f (range_with_len (a + d) m) ≡ map g (range_with_len a m)
 map_shift f g d h a zero = refl
 map_shift f g d h a (suc m) =
     let e : a + d + 1 ≡ a + 1 + d = omega arith in
@@ -36,16 +38,20 @@ data_bit_shift w ws i =
     rw (q, r)
 
 first_word : (w : ℕ) (ws : List ℕ) (k m : ℕ) → w < 256
-    → codewords_of (suc k) (map (codeword_bit (w ∷ ws)) (range_with_len 0 (suc (suc (suc (suc (suc (suc (suc (suc m)))))))))) ≡ w ∷ codewords_of k (map (codeword_bit ws) (range_with_len 0 m))
+    → codewords_of (suc k) (map (codeword_bit (w ∷ ws))
+    (range_with_len 0 (suc (suc (suc (suc (suc (suc (suc (suc m)))))))))) ≡ w
+    ∷ codewords_of k (map (codeword_bit ws) (range_with_len 0 m))
 unfolding spelled codewords_of number_of
 first_word w ws k m h =
     let a = byte w h in
     let b = map_shift (codeword_bit (w ∷ ws)) (codeword_bit ws) 8 (data_bit_shift w ws) 0 m in
     cc
 
-pub words_of_bits : (ws : List ℕ) (r : ℕ) → All (λ w. w < 256) ws → codewords_of (length ws) (map (codeword_bit ws) (range_with_len 0 (8 * length ws + r))) ≡ ws
+pub words_of_bits : (ws : List ℕ) (r : ℕ) → All (λ w. w < 256) ws
+    → codewords_of (length ws) (map (codeword_bit ws) (range_with_len 0 (8 * length ws + r))) ≡ ws
 unfolding codewords_of
 words_of_bits [] r h = refl
 words_of_bits (w ∷ ws) r h =
     let n : 8 * suc (length ws) + r ≡ suc (suc (suc (suc (suc (suc (suc (suc (8 * length ws + r)))))))) = omega arith in
-    rw n (first_word w ws (length ws) (8 * length ws + r) (All-head (λ w. w < 256) w ws h) ∙ ap (λ xs. w ∷ xs) (words_of_bits ws r (All-tail (λ w. w < 256) w ws h)))
+    rw n (first_word w ws (length ws) (8 * length ws + r) (All-head (λ w. w < 256) w ws h)
+    ∙ ap (λ xs. w ∷ xs) (words_of_bits ws r (All-tail (λ w. w < 256) w ws h)))

@@ -1,5 +1,6 @@
 -- One step of the placement.
-use Rattle.std.proofs.Common.{◌≡◌, ◌≢◌, ℕ, suc, ◌+◌, ◌-◌, ◌*◌, ◌/◌, ◌%◌, ◌<◌, ◌≤◌, refl, sym, ap, subst, ◌∙◌, arith, Bool, true, false, cond, not, List, inl, inr, add-zero}
+use Rattle.std.proofs.Common.{◌≡◌, ◌≢◌, ℕ, suc, ◌+◌, ◌-◌, ◌*◌, ◌/◌, ◌%◌, ◌<◌, ◌≤◌, refl, sym, ap, subst, ◌∙◌, arith}
+use Rattle.std.proofs.Common.{Bool, true, false, cond, not, List, inl, inr, add-zero}
 use Rattle.std.specs.Prelude.{◌==◌, ◌&&◌, nat_lt, if◌then◌else◌}
 use Rattle.std.proofs.lemmas.Bool.{cases_eq, cases_Bool, eq-eqb, ne_eqb}
 use Rattle.std.proofs.lemmas.Bool.Decides.{nat_tests}
@@ -27,8 +28,10 @@ row_of n strip t = if strip % 2 == 0 then n - 1 - t else t
 pub record Placed (v : ℕ) (words : List ℕ) (old new : ℕ → ℕ → Bool) (i k : ℕ) : Type 0 where
   pub counted : i ≡ free_below v k
   pub bounded : i ≤ k
-  pub placed : (x y : ℕ) → x < side_of v → y < side_of v → is_free v x y ≡ true → key (side_of v) x y < k → new x y ≡ codeword_bit words (rank v x y)
-  pub ahead : (x y : ℕ) → x < side_of v → y < side_of v → is_free v x y ≡ true → k ≤ key (side_of v) x y → new x y ≡ false
+  pub placed : (x y : ℕ) → x < side_of v → y < side_of v → is_free v x y ≡ true → key (side_of v) x y < k
+      → new x y ≡ codeword_bit words (rank v x y)
+  pub ahead : (x y : ℕ) → x < side_of v → y < side_of v → is_free v x y ≡ true → k ≤ key (side_of v) x y
+      → new x y ≡ false
   pub others : (x y : ℕ) → x < side_of v → y < side_of v → is_free v x y ≡ false → new x y ≡ old x y
   pub columns : (x y : ℕ) → side_of v ≤ x → new x y ≡ old x y
   pub rows : (x y : ℕ) → side_of v ≤ y → new x y ≡ old x y
@@ -49,7 +52,8 @@ row_back true n t h = omega arith
 row_back false n t h = refl
 
 -- how many columns stand to the right of the cursor
-columns_at : (v s c : ℕ) → s < (side_of v - 1) / 2 → c < 2 → columns_right (side_of v) (right_column (side_of v) s - c) ≡ 2 * s + c
+columns_at : (v s c : ℕ) → s < (side_of v - 1) / 2 → c < 2
+    → columns_right (side_of v) (right_column (side_of v) s - c) ≡ 2 * s + c
 columns_at v s c ls lc = grind (arith, nat_tests)
 
 -- the key of the module that the cursor is on
@@ -62,22 +66,27 @@ key_at v s t c ls lc lt =
     rw (columns_at v s c ls lc, q, r, row_back (s % 2 == 0) (side_of v) t lt)
 
 -- the cursor is in the square but not in column 6
-column_in : (v s c : ℕ) → s < (side_of v - 1) / 2 → c < 2 → (right_column (side_of v) s - c < side_of v) × (right_column (side_of v) s - c ≢ 6)
+column_in : (v s c : ℕ) → s < (side_of v - 1) / 2 → c < 2 → (right_column (side_of v) s - c < side_of v)
+    × (right_column (side_of v) s - c ≢ 6)
 column_in v s c ls lc = (grind (arith, nat_tests), λ e. grind (arith, nat_tests))
 
 row_in : (v s t : ℕ) → t < side_of v → row_of (side_of v) s t < side_of v
 row_in v s t h = grind (arith, nat_tests)
 
 -- a value is read after a write
-written : (m n : ℕ → ℕ → Bool) (a b : ℕ) (value : Bool) → Writes m n a b value → (x y : ℕ) → x ≡ a → y ≡ b → n x y ≡ value
+written : (m n : ℕ → ℕ → Bool) (a b : ℕ) (value : Bool) → Writes m n a b value → (x y : ℕ) → x ≡ a → y ≡ b
+    → n x y ≡ value
 written m n a b value w x y ex ey = w x y ∙ grind (arith, nat_tests)
 
-unwritten : (m n : ℕ → ℕ → Bool) (a b : ℕ) (value : Bool) → Writes m n a b value → (x y : ℕ) → (x ≡ a → y ≡ b → ⊥) → n x y ≡ m x y
+unwritten : (m n : ℕ → ℕ → Bool) (a b : ℕ) (value : Bool) → Writes m n a b value → (x y : ℕ) → (x ≡ a → y ≡ b → ⊥)
+    → n x y ≡ m x y
 unwritten m n a b value w x y ne = w x y ∙ grind (arith, nat_tests)
 
-module _ (v : ℕ) (c : Computed v) (words : List ℕ) (old m : ℕ → ℕ → Bool) (i k a b : ℕ) (p : Placed v words old m i k) (la : a < side_of v) (lb : b < side_of v) (ne : a ≢ 6) (e : key (side_of v) a b ≡ k) where
+module _ (v : ℕ) (c : Computed v) (words : List ℕ) (old m : ℕ → ℕ → Bool) (i k a b : ℕ) (p : Placed v words old m i k)
+    (la : a < side_of v) (lb : b < side_of v) (ne : a ≢ 6) (e : key (side_of v) a b ≡ k) where
   -- a bit is placed on a free module
-  step_free : (n : ℕ → ℕ → Bool) → is_free v a b ≡ true → Writes m n a b (codeword_bit words i) → Placed v words old n (i + 1) (k + 1)
+  step_free : (n : ℕ → ℕ → Bool) → is_free v a b ≡ true → Writes m n a b (codeword_bit words i)
+      → Placed v words old n (i + 1) (k + 1)
   unfolding rank
   step_free n f w =
       let more = free_below_more v c a b k la lb ne e in
@@ -89,16 +98,22 @@ module _ (v : ℕ) (c : Computed v) (words : List ℕ) (old m : ℕ → ℕ → 
         placed = λ x y lx ly free l. elim (cases_eq (key (side_of v) x y) k) [
           | inl same ↦
               let at = unique v c x y a b lx ly free la lb ne (same ∙ sym e) in
-              written m n a b (codeword_bit words i) w x y at.0 at.1 ∙ ap (codeword_bit words) (p.counted ∙ ap (free_below v) (sym same))
+              written m n a b (codeword_bit words i) w x y at.0 at.1
+              ∙ ap (codeword_bit words) (p.counted ∙ ap (free_below v) (sym same))
           | inr other ↦
-              unwritten m n a b (codeword_bit words i) w x y (λ ex ey. other (ap (λ z. key (side_of v) z y) ex ∙ ap (λ z. key (side_of v) a z) ey ∙ e))
+              unwritten m n a b (codeword_bit words i) w x y
+              (λ ex ey. other (ap (λ z. key (side_of v) z y) ex ∙ ap (λ z. key (side_of v) a z) ey ∙ e))
               ∙ p.placed x y lx ly free (omega arith)
         ];
         ahead = λ x y lx ly free l.
-            unwritten m n a b (codeword_bit words i) w x y (λ ex ey. let same : key (side_of v) x y ≡ k = ap (λ z. key (side_of v) z y) ex ∙ ap (λ z. key (side_of v) a z) ey ∙ e in omega arith)
+            unwritten m n a b (codeword_bit words i) w x y
+            (λ ex ey. let same : key (side_of v) x y ≡ k =
+            ap (λ z. key (side_of v) z y) ex ∙ ap (λ z. key (side_of v) a z) ey ∙ e in omega arith)
             ∙ p.ahead x y lx ly free (omega arith);
         others = λ x y lx ly taken.
-            unwritten m n a b (codeword_bit words i) w x y (λ ex ey. let same : is_free v x y ≡ true = ap (λ z. is_free v z y) ex ∙ ap (λ z. is_free v a z) ey ∙ f in cc)
+            unwritten m n a b (codeword_bit words i) w x y
+            (λ ex ey. let same : is_free v x y ≡ true = ap (λ z. is_free v z y) ex ∙ ap (λ z. is_free v a z) ey ∙ f in
+            cc)
             ∙ p.others x y lx ly taken;
         columns = λ x y l. unwritten m n a b (codeword_bit words i) w x y (λ ex ey. omega arith) ∙ p.columns x y l;
         rows = λ x y l. unwritten m n a b (codeword_bit words i) w x y (λ ex ey. omega arith) ∙ p.rows x y l;
@@ -114,7 +129,10 @@ module _ (v : ℕ) (c : Computed v) (words : List ℕ) (old m : ℕ → ℕ → 
         counted = let h = p.counted in omega arith;
         bounded = let h = p.bounded in omega arith;
         placed = λ x y lx ly free l.
-            let other : key (side_of v) x y ≢ k = λ same. (let at = unique v c x y a b lx ly free la lb ne (same ∙ sym e) in let taken : is_free v x y ≡ false = ap (λ z. is_free v z y) at.0 ∙ ap (λ z. is_free v a z) at.1 ∙ f in cc) in
+            let other : key (side_of v) x y ≢ k =
+            λ same. (let at = unique v c x y a b lx ly free la lb ne (same ∙ sym e) in
+            let taken : is_free v x y ≡ false = ap (λ z. is_free v z y) at.0 ∙ ap (λ z. is_free v a z) at.1 ∙ f in
+            cc) in
             p.placed x y lx ly free (omega arith);
         ahead = λ x y lx ly free l. p.ahead x y lx ly free (omega arith);
         others = p.others;
@@ -123,19 +141,23 @@ module _ (v : ℕ) (c : Computed v) (words : List ℕ) (old m : ℕ → ℕ → 
       }
 
   -- what `place_module` leaves
-  step_any : (function n : List (List Bool)) (before : List (List Bool)) (j : ℕ) → value_at before ≡ m → MarksFunctions v function
-      → (value_at function a b ≡ false → (j ≡ i + 1) × WritesAt before n a b (codeword_bit words i)) → (value_at function a b ≡ true → (j ≡ i) × (n ≡ before))
+  step_any : (function n : List (List Bool)) (before : List (List Bool)) (j : ℕ) → value_at before ≡ m
+      → MarksFunctions v function
+      → (value_at function a b ≡ false → (j ≡ i + 1) × WritesAt before n a b (codeword_bit words i))
+      → (value_at function a b ≡ true → (j ≡ i) × (n ≡ before))
       → Placed v words old (value_at n) j (k + 1)
   step_any function n before j em marks written_if kept_if =
       elim (cases_Bool (is_free v a b)) [
         | inl f ↦
             let here : value_at function a b ≡ false = marks a b la lb ∙ ap not f in
             let w = written_if here in
-            subst (λ z. Placed v words old (value_at n) z (k + 1)) (sym w.0) (step_free (value_at n) f (subst (λ z. Writes z (value_at n) a b (codeword_bit words i)) em w.1))
+            subst (λ z. Placed v words old (value_at n) z (k + 1)) (sym w.0)
+            (step_free (value_at n) f (subst (λ z. Writes z (value_at n) a b (codeword_bit words i)) em w.1))
         | inr f ↦
             let here : value_at function a b ≡ true = marks a b la lb ∙ ap not f in
             let w = kept_if here in
-            subst (λ z. Placed v words old (value_at n) z (k + 1)) (sym w.0) (subst (λ z. Placed v words old z i (k + 1)) (sym (ap value_at w.1 ∙ em)) (step_taken f))
+            subst (λ z. Placed v words old (value_at n) z (k + 1)) (sym w.0)
+            (subst (λ z. Placed v words old z i (k + 1)) (sym (ap value_at w.1 ∙ em)) (step_taken f))
       ]
 
 -- nothing is placed yet
@@ -170,7 +192,8 @@ pub record HasKey (v x y k : ℕ) : Type 0 where
   pub untimed : x ≢ 6
   pub has : key (side_of v) x y ≡ k
 
-key_of_column : (v s t right y c : ℕ) → AtRow v s t right y → c < 2 → HasKey v (right - c) y (2 * side_of v * s + 2 * t + c)
+key_of_column : (v s t right y c : ℕ) → AtRow v s t right y → c < 2
+    → HasKey v (right - c) y (2 * side_of v * s + 2 * t + c)
 key_of_column v s t right y c at lc =
     let er = at.column in
     let ey = at.row in
@@ -180,14 +203,17 @@ key_of_column v s t right y c at lc =
       inside = subst (λ z. z < side_of v) e in_column.0;
       row_inside = subst (λ z. z < side_of v) (sym ey) (row_in v s t at.step);
       untimed = λ six. in_column.1 (e ∙ six);
-      has = ap (λ z. key (side_of v) z y) (sym e) ∙ ap (key (side_of v) (right_column (side_of v) s - c)) ey ∙ key_at v s t c at.strip lc at.step;
+      has = ap (λ z. key (side_of v) z y) (sym e) ∙ ap (key (side_of v) (right_column (side_of v) s - c)) ey
+          ∙ key_at v s t c at.strip lc at.step;
     }
 
 -- the right module of a row of a strip, and the left one
 pub right_key : (v s t right y : ℕ) → AtRow v s t right y → HasKey v right y (2 * side_of v * s + 2 * t)
 right_key v s t right y at =
     let e : right - 0 ≡ right = omega arith in
-    subst (λ z. HasKey v z y (2 * side_of v * s + 2 * t)) e (subst (HasKey v (right - 0) y) (add-zero (2 * side_of v * s + 2 * t)) (key_of_column v s t right y 0 at (omega arith)))
+    subst (λ z. HasKey v z y (2 * side_of v * s + 2 * t)) e
+    (subst (HasKey v (right - 0) y) (add-zero (2 * side_of v * s + 2 * t))
+    (key_of_column v s t right y 0 at (omega arith)))
 
 pub left_key : (v s t right y : ℕ) → AtRow v s t right y → HasKey v (right - 1) y (2 * side_of v * s + 2 * t + 1)
 left_key v s t right y at = key_of_column v s t right y 1 at (omega arith)
@@ -204,35 +230,47 @@ row_done : (n s t : ℕ) → 2 * n * s + 2 * t + 1 + 1 ≡ 2 * n * s + 2 * (t + 
 row_done n s t = omega arith
 
 -- the two modules of a row of a strip, one after the other
-pub placed_pair : (v : ℕ) → Computed v → (words : List ℕ) (old : ℕ → ℕ → Bool) (m n o : List (List Bool)) (i j h s t right y : ℕ) (function : List (List Bool))
+pub placed_pair : (v : ℕ) → Computed v → (words : List ℕ) (old : ℕ → ℕ → Bool) (m n o : List (List Bool))
+    (i j h s t right y : ℕ) (function : List (List Bool))
     → MarksFunctions v function → Placed v words old (value_at m) i (2 * side_of v * s + 2 * t) → AtRow v s t right y
-    → (value_at function right y ≡ false → (j ≡ i + 1) × WritesAt m n right y (codeword_bit words i)) → (value_at function right y ≡ true → (j ≡ i) × (n ≡ m))
+    → (value_at function right y ≡ false → (j ≡ i + 1) × WritesAt m n right y (codeword_bit words i))
+    → (value_at function right y ≡ true → (j ≡ i) × (n ≡ m))
     → (value_at function (right - 1) y ≡ false → (h ≡ j + 1) × WritesAt n o (right - 1) y (codeword_bit words j))
     → (value_at function (right - 1) y ≡ true → (h ≡ j) × (o ≡ n))
     → Placed v words old (value_at o) h (2 * side_of v * s + 2 * (t + 1))
 placed_pair v c words old m n o i j h s t right y function marks p at w0 k0 w1 k1 =
     let r = right_key v s t right y at in
     let l = left_key v s t right y at in
-    let first = step_any v c words old (value_at m) i (2 * side_of v * s + 2 * t) right y p r.inside r.row_inside r.untimed r.has function n m j refl marks w0 k0 in
-    let second = step_any v c words old (value_at n) j (2 * side_of v * s + 2 * t + 1) (right - 1) y first l.inside l.row_inside l.untimed l.has function o n h refl marks w1 k1 in
+    let first = step_any v c words old (value_at m) i (2 * side_of v * s + 2 * t) right y p r.inside r.row_inside
+    r.untimed r.has function n m j refl marks w0 k0 in
+    let second = step_any v c words old (value_at n) j (2 * side_of v * s + 2 * t + 1) (right - 1) y first l.inside
+    l.row_inside l.untimed l.has function o n h refl marks w1 k1 in
     subst (λ z. Placed v words old (value_at o) h z) (row_done (side_of v) s t) second
 
 -- the two modules of a row of a strip at once, where both are free
-pub placed_two : (v : ℕ) → Computed v → (words : List ℕ) (old : ℕ → ℕ → Bool) (m o function : List (List Bool)) (i s t right y two : ℕ)
+pub placed_two : (v : ℕ) → Computed v → (words : List ℕ) (old : ℕ → ℕ → Bool) (m o function : List (List Bool))
+    (i s t right y two : ℕ)
     → MarksFunctions v function → Placed v words old (value_at m) i (2 * side_of v * s + 2 * t) → AtRow v s t right y
     → (value_at function (right - 1) y ≡ false) × (value_at function (right - 1 + 1) y ≡ false)
-    → ShowsTwo two (codeword_bit words i) (codeword_bit words (i + 1)) → WritesTwo m o (right - 1) y (bit two 0) (bit two 1)
+    → ShowsTwo two (codeword_bit words i) (codeword_bit words (i + 1))
+    → WritesTwo m o (right - 1) y (bit two 0) (bit two 1)
     → Placed v words old (value_at o) (i + 2) (2 * side_of v * s + 2 * (t + 1))
 placed_two v c words old m o function i s t right y two marks p at free shows w =
     let r = right_key v s t right y at in
     let l = left_key v s t right y at in
     let e : right - 1 + 1 ≡ right = right_positive v s t right y at in
-    let right_free : is_free v right y ≡ true = free_from (is_free v right y) (sym (marks right y r.inside r.row_inside) ∙ ap (λ z. value_at function z y) (sym e) ∙ free.1) in
-    let left_free : is_free v (right - 1) y ≡ true = free_from (is_free v (right - 1) y) (sym (marks (right - 1) y l.inside l.row_inside) ∙ free.0) in
+    let right_free : is_free v right y ≡ true =
+    free_from (is_free v right y) (sym (marks right y r.inside r.row_inside) ∙ ap (λ z. value_at function z y) (sym e)
+    ∙ free.1) in
+    let left_free : is_free v (right - 1) y ≡ true =
+    free_from (is_free v (right - 1) y) (sym (marks (right - 1) y l.inside l.row_inside) ∙ free.0) in
     let half : ℕ → ℕ → Bool = λ a b. if (a == right) && (b == y) then codeword_bit words i else value_at m a b in
-    let first = step_free v c words old (value_at m) i (2 * side_of v * s + 2 * t) right y p r.inside r.row_inside r.untimed r.has half right_free (λ a b. refl) in
-    let wrote : Writes half (value_at o) (right - 1) y (codeword_bit words (i + 1)) = λ a b. w a b ∙ rw (shows.low, shows.high, e) refl in
-    let second = step_free v c words old half (i + 1) (2 * side_of v * s + 2 * t + 1) (right - 1) y first l.inside l.row_inside l.untimed l.has (value_at o) left_free wrote in
+    let first = step_free v c words old (value_at m) i (2 * side_of v * s + 2 * t) right y p r.inside r.row_inside
+    r.untimed r.has half right_free (λ a b. refl) in
+    let wrote : Writes half (value_at o) (right - 1) y (codeword_bit words (i + 1)) =
+    λ a b. w a b ∙ rw (shows.low, shows.high, e) refl in
+    let second = step_free v c words old half (i + 1) (2 * side_of v * s + 2 * t + 1) (right - 1) y first l.inside
+    l.row_inside l.untimed l.has (value_at o) left_free wrote in
     let count : i + 1 + 1 ≡ i + 2 = omega arith in
     subst (λ z. Placed v words old (value_at o) z (2 * side_of v * s + 2 * (t + 1))) count
     (subst (λ z. Placed v words old (value_at o) (i + 1 + 1) z) (row_done (side_of v) s t) second)
@@ -246,8 +284,13 @@ light_ahead v words old m function i s t right y marks p at free =
     let r = right_key v s t right y at in
     let l = left_key v s t right y at in
     let e : right - 1 + 1 ≡ right = right_positive v s t right y at in
-    let right_free : is_free v right y ≡ true = free_from (is_free v right y) (sym (marks right y r.inside r.row_inside) ∙ ap (λ z. value_at function z y) (sym e) ∙ free.1) in
-    let left_free : is_free v (right - 1) y ≡ true = free_from (is_free v (right - 1) y) (sym (marks (right - 1) y l.inside l.row_inside) ∙ free.0) in
+    let right_free : is_free v right y ≡ true =
+    free_from (is_free v right y) (sym (marks right y r.inside r.row_inside) ∙ ap (λ z. value_at function z y) (sym e)
+    ∙ free.1) in
+    let left_free : is_free v (right - 1) y ≡ true =
+    free_from (is_free v (right - 1) y) (sym (marks (right - 1) y l.inside l.row_inside) ∙ free.0) in
     let kr : 2 * side_of v * s + 2 * t ≤ key (side_of v) right y = let h = r.has in omega arith in
-    let kl : 2 * side_of v * s + 2 * t ≤ key (side_of v) (right - 1) y = let h = l.has in omega arith in
-    (p.ahead (right - 1) y l.inside l.row_inside left_free kl, ap (λ z. value_at m z y) e ∙ p.ahead right y r.inside r.row_inside right_free kr)
+    let kl : 2 * side_of v * s + 2 * t ≤ key (side_of v) (right - 1) y = let h = l.has in omega arith in (
+      p.ahead (right - 1) y l.inside l.row_inside left_free kl,
+      ap (λ z. value_at m z y) e ∙ p.ahead right y r.inside r.row_inside right_free kr,
+    )

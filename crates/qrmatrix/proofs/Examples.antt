@@ -26,11 +26,13 @@ codewords =
 -- bit x of a row is its module at column x
 rows : List ℕ
 rows =
-    0x1FDA7F ∷ 0x105E41 ∷ 0x17415D ∷ 0x17435D ∷ 0x175D5D ∷ 0x105141 ∷ 0x1FD57F ∷ 0x001900 ∷ 0x07D27D ∷ 0x0695A8 ∷ 0x1F2AC4
+    0x1FDA7F ∷ 0x105E41 ∷ 0x17415D ∷ 0x17435D ∷ 0x175D5D ∷ 0x105141 ∷ 0x1FD57F ∷ 0x001900 ∷ 0x07D27D ∷ 0x0695A8
+    ∷ 0x1F2AC4
     ∷ 0x078210 ∷ 0x0129F8 ∷ 0x067D00 ∷ 0x00D67F ∷ 0x147D41 ∷ 0x06915D ∷ 0x00935D ∷ 0x052D5D ∷ 0x0D8041 ∷ 0x052F7F ∷ []
 
 row : ℕ → ℕ → ℕ
-unfolding codewords number_of module_at fixed role rank free_below is_free key is_flipped format_word version_word binary_remainder
+unfolding codewords number_of module_at fixed role rank free_below is_free key is_flipped format_word version_word
+    binary_remainder
 row mask y = number_of (reverse (map (λ x. module_at 1 M mask codewords x y) (range_with_len 0 21)))
 
 modules : map (row 2) (range_with_len 0 21) ≡ rows

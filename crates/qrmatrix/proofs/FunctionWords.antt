@@ -13,7 +13,8 @@ use Rattle.qrdata.specs.Versions.{side_of}
 use Rattle.qrmatrix.specs.Bits.{bit}
 use Rattle.qrmatrix.specs.Counting.{all_below}
 use Rattle.qrmatrix.specs.Private.Drawing.{drawn_by, format_by, HasFunctions}
-use Rattle.qrmatrix.specs.Private.FunctionRows.{alignments, finders, format_row, formats, function_row, or_else, timing, versions}
+use Rattle.qrmatrix.specs.Private.FunctionRows.{alignments, finders, format_row, formats, function_row, or_else, timing}
+use Rattle.qrmatrix.specs.Private.FunctionRows.{versions}
 use Rattle.qrmatrix.specs.Functions.{Role, role, is_free, is_free_role}
 use Rattle.qrmatrix.specs.Information.{format_word, version_word}
 use Rattle.qrmatrix.specs.declared.function.PatternRow.{PatternRow}
@@ -30,7 +31,8 @@ right_place v row x r = beq (bit row.taken x) (not (is_free_role r)) && beq (bit
 right_row : ℕ → ℕ → PatternRow → Bool
 unfolding right_place role
 right_row v y row =
-    (nat_lt row.taken (2 ^ side_of v) && nat_lt row.dark (2 ^ side_of v)) && all_below (side_of v) (λ x. right_place v row x (role v x y))
+    (nat_lt row.taken (2 ^ side_of v) && nat_lt row.dark (2 ^ side_of v))
+    && all_below (side_of v) (λ x. right_place v row x (role v x y))
 
 right_rows : ℕ → Bool
 unfolding right_row function_row
@@ -46,9 +48,13 @@ unfolding right_rows right_row right_place is_free
 function_row_is v l h y ly =
     let row = function_row v y in
     let n = side_of v in
-    let whole = and_parts (nat_lt row.taken (2 ^ n) && nat_lt row.dark (2 ^ n)) (all_below n (λ x. right_place v row x (role v x y))) (all_below_at n (λ y. right_row v y (function_row v y)) (rows_right v l h) y ly) in
+    let whole = and_parts (nat_lt row.taken (2 ^ n) && nat_lt row.dark (2 ^ n))
+    (all_below n (λ x. right_place v row x (role v x y)))
+    (all_below_at n (λ y. right_row v y (function_row v y)) (rows_right v l h) y ly) in
     let narrow = and_parts (nat_lt row.taken (2 ^ n)) (nat_lt row.dark (2 ^ n)) whole.0 in
-    let place = λ (x : ℕ) (lx : x < n). and_parts (beq (bit row.taken x) (not (is_free_role (role v x y)))) (beq (bit row.dark x) (drawn_by v (role v x y))) (all_below_at n (λ x. right_place v row x (role v x y)) whole.1 x lx) in
+    let place = λ (x : ℕ) (lx : x < n). and_parts (beq (bit row.taken x) (not (is_free_role (role v x y))))
+    (beq (bit row.dark x) (drawn_by v (role v x y)))
+    (all_below_at n (λ x. right_place v row x (role v x y)) whole.1 x lx) in
     record {
       taken = λ x lx. same_beq _ _ (place x lx).0;
       dark = λ x lx. same_beq _ _ (place x lx).1;
@@ -64,7 +70,9 @@ fits v w h l =
     omega arith
 
 -- the patterns of a row one after another
-pub all_patterns : (v y : ℕ) → or_else (or_else (or_else (or_else (finders (side_of v) y) (alignments v y)) (timing (side_of v) y)) (formats (side_of v) y)) (versions v y) ≡ function_row v y
+pub all_patterns : (v y : ℕ) → or_else (or_else
+    (or_else (or_else (finders (side_of v) y) (alignments v y)) (timing (side_of v) y)) (formats (side_of v) y))
+    (versions v y) ≡ function_row v y
 unfolding function_row
 all_patterns v y = refl
 
@@ -85,7 +93,8 @@ format_narrow n y word = nat_lt (format_row n word y) (2 ^ n)
 format_rows : ℕ → List ℕ → Bool
 unfolding format_places format_narrow role
 format_rows v words =
-    all_below (side_of v) (λ y. list_all (format_narrow (side_of v) y) words && all_below (side_of v) (λ x. format_places (side_of v) y x words (role v x y)))
+    all_below (side_of v) (λ y. list_all (format_narrow (side_of v) y) words
+    && all_below (side_of v) (λ x. format_places (side_of v) y x words (role v x y)))
 
 abbrev words_of : Level → List ℕ
 words_of level = map (format_word level) (range_with_len 0 8)
@@ -93,14 +102,17 @@ words_of level = map (format_word level) (range_with_len 0 8)
 -- computed for each format word, row and column
 abbrev FormatRows : ℕ → Type 0
 FormatRows v =
-    (format_rows v (words_of L) ≡ true) × (format_rows v (words_of M) ≡ true) × (format_rows v (words_of Q) ≡ true) × (format_rows v (words_of H) ≡ true)
+    (format_rows v (words_of L) ≡ true) × (format_rows v (words_of M) ≡ true) × (format_rows v (words_of Q) ≡ true)
+    × (format_rows v (words_of H) ≡ true)
 
 format_rows_right : (v : ℕ) → 1 ≤ v → v ≤ 10 → FormatRows v
 unfolding format_rows format_word binary_remainder reverse_bits_onto
 format_rows_right =
     by_version FormatRows
-    (refl, refl, refl, refl) (refl, refl, refl, refl) (refl, refl, refl, refl) (refl, refl, refl, refl) (refl, refl, refl, refl)
-    (refl, refl, refl, refl) (refl, refl, refl, refl) (refl, refl, refl, refl) (refl, refl, refl, refl) (refl, refl, refl, refl)
+    (refl, refl, refl, refl) (refl, refl, refl, refl) (refl, refl, refl, refl) (refl, refl, refl, refl)
+    (refl, refl, refl, refl)
+    (refl, refl, refl, refl) (refl, refl, refl, refl) (refl, refl, refl, refl) (refl, refl, refl, refl)
+    (refl, refl, refl, refl)
 
 at_level : (v : ℕ) → FormatRows v → (level : Level) → format_rows v (words_of level) ≡ true
 at_level v f L = f.0
@@ -119,25 +131,38 @@ unfolding format_rows format_places format_place format_narrow
 format_row_is v l h level mask y lm ly =
     let n = side_of v in
     let words = words_of level in
-    let row = all_below_at n (λ y. list_all (format_narrow n y) words && all_below n (λ x. format_places n y x words (role v x y))) (at_level v (format_rows_right v l h) level) y ly in
-    let parts = and_parts (list_all (format_narrow n y) words) (all_below n (λ x. format_places n y x words (role v x y))) row in
+    let row = all_below_at n (λ y. list_all (format_narrow n y) words
+    && all_below n (λ x. format_places n y x words (role v x y))) (at_level v (format_rows_right v l h) level) y ly in
+    let parts = and_parts (list_all (format_narrow n y) words)
+    (all_below n (λ x. format_places n y x words (role v x y))) row in
     record {
-      shown = λ x lx. same_beq _ _ (mapped_all (format_word level) (format_place n y x (role v x y)) 0 8 (all_below_at n (λ x. format_places n y x words (role v x y)) parts.1 x lx) mask (omega arith) (omega arith));
-      narrow = ltb-true _ _ (mapped_all (format_word level) (format_narrow n y) 0 8 parts.0 mask (omega arith) (omega arith));
+      shown = λ x lx. same_beq _ _ (mapped_all (format_word level) (format_place n y x (role v x y)) 0 8
+          (all_below_at n (λ x. format_places n y x words (role v x y)) parts.1 x lx) mask (omega arith) (omega arith));
+      narrow = ltb-true _ _ (mapped_all (format_word level) (format_narrow n y) 0 8 parts.0 mask (omega arith)
+          (omega arith));
     }
 
 between : (n word y : ℕ) → 9 ≤ y → y < n - 7 → format_row n word y ≡ 0
 unfolding format_row
-between n word y l h = rw (ne_eqb y 8 (λ e. omega arith), le-ltb y 6 (omega arith), ne_eqb y 7 (λ e. omega arith), lt-leb (n - 7) y h) refl
+between n word y l h = rw (
+  ne_eqb y 8 (λ e. omega arith),
+  le-ltb y 6 (omega arith),
+  ne_eqb y 7 (λ e. omega arith),
+  lt-leb (n - 7) y h,
+) refl
 
 -- no row between the finder patterns shows the format information
-pub format_between : (v : ℕ) → 1 ≤ v → v ≤ 10 → (level : Level) (mask x y : ℕ) → mask < 8 → x < side_of v → 9 ≤ y → y < side_of v - 7 → format_by (format_word level mask) (role v x y) ≡ false
+pub format_between : (v : ℕ) → 1 ≤ v → v ≤ 10 → (level : Level) (mask x y : ℕ) → mask < 8 → x < side_of v → 9 ≤ y
+    → y < side_of v - 7 → format_by (format_word level mask) (role v x y) ≡ false
 format_between v l h level mask x y lm lx low high =
     let inside : y < side_of v = omega arith in
-    sym ((format_row_is v l h level mask y lm inside).shown x lx) ∙ ap (λ w. bit w x) (between (side_of v) (format_word level mask) y low high) ∙ above_bit 0 0 x (omega arith) (omega arith)
+    sym ((format_row_is v l h level mask y lm inside).shown x lx)
+    ∙ ap (λ w. bit w x) (between (side_of v) (format_word level mask) y low high)
+    ∙ above_bit 0 0 x (omega arith) (omega arith)
 
 -- the same at the values of a drawing
-pub row_shows : (v n word row : ℕ) (level : Level) (mask y : ℕ) → 1 ≤ v → v ≤ 10 → mask < 8 → y < n → n ≡ side_of v → word ≡ format_word level mask
+pub row_shows : (v n word row : ℕ) (level : Level) (mask y : ℕ) → 1 ≤ v → v ≤ 10 → mask < 8 → y < n → n ≡ side_of v
+    → word ≡ format_word level mask
     → row ≡ format_row n word y → ShowsWord v (format_word level mask) y row
 row_shows v n word row level mask y l h lm ly en ew er =
     let inside : y < side_of v = omega arith in

@@ -19,12 +19,15 @@ pub record Found (f : ℕ → ℕ) (n k value : ℕ) : Type 0 where
   pub at : value ≡ f k
 
 -- a test of each of the numbers f 0, f 1, ..
-all_mapped : (f : ℕ → ℕ) (p : ℕ → Bool) (a n : ℕ) → ((j : ℕ) → a ≤ j → j < a + n → p (f j) ≡ true) → list_all p (map f (range_with_len a n)) ≡ true
+all_mapped : (f : ℕ → ℕ) (p : ℕ → Bool) (a n : ℕ) → ((j : ℕ) → a ≤ j → j < a + n → p (f j) ≡ true)
+    → list_all p (map f (range_with_len a n)) ≡ true
 all_mapped f p a zero h = refl
 all_mapped f p a (suc n) h =
-    and_from (p (f a)) (list_all p (map f (range_with_len (a + 1) n))) (h a (omega arith) (omega arith)) (all_mapped f p (a + 1) n (λ j l m. h j (omega arith) (omega arith)))
+    and_from (p (f a)) (list_all p (map f (range_with_len (a + 1) n))) (h a (omega arith) (omega arith))
+    (all_mapped f p (a + 1) n (λ j l m. h j (omega arith) (omega arith)))
 
-pub mapped_all : (f : ℕ → ℕ) (p : ℕ → Bool) (a n : ℕ) → list_all p (map f (range_with_len a n)) ≡ true → (j : ℕ) → a ≤ j → j < a + n → p (f j) ≡ true
+pub mapped_all : (f : ℕ → ℕ) (p : ℕ → Bool) (a n : ℕ) → list_all p (map f (range_with_len a n)) ≡ true → (j : ℕ) → a ≤ j
+    → j < a + n → p (f j) ≡ true
 mapped_all f p a zero h j l m = absurd (omega arith)
 mapped_all f p a (suc n) h j l m =
     let parts = and_parts (p (f a)) (list_all p (map f (range_with_len (a + 1) n))) h in
@@ -40,5 +43,7 @@ least_of_eight f k l =
     let ps = map f (range_with_len 0 8) in
     let among = l.among in
     position_or_len_is (λ p. list_all (nat_le p) ps) ps k 0 (omega arith)
-    (λ j h. rw (at j (omega arith)) (false_from_ne_true _ (λ t. let less = l.first j h in let more = leb-true (f j) (f k) (mapped_all f (nat_le (f j)) 0 8 t k (omega arith) (omega arith)) in omega arith)))
+    (λ j h. rw (at j (omega arith)) (false_from_ne_true _
+    (λ t. let less = l.first j h in let more =
+    leb-true (f j) (f k) (mapped_all f (nat_le (f j)) 0 8 t k (omega arith) (omega arith)) in omega arith)))
     (λ h. rw (at k h) (all_mapped f (nat_le (f k)) 0 8 (λ j a m. le-leb (f k) (f j) (l.least j (omega arith)))))

@@ -23,7 +23,8 @@ low_bits : (k n i : ℕ) → i < k → one_if (bit n i) ≡ one_if (bit (n % 2 ^
 low_bits k n i h =
     let p = pow_pos k in
     let whole : n ≡ (n / 2 ^ k) * 2 ^ k + n % 2 ^ k = omega arith in
-    let same : bit_at n i ≡ bit_at (n % 2 ^ k) i = ap (λ z. bit_at z i) whole ∙ bit_at_cat_low (n / 2 ^ k) k (n % 2 ^ k) i h in
+    let same : bit_at n i ≡ bit_at (n % 2 ^ k) i =
+    ap (λ z. bit_at z i) whole ∙ bit_at_cat_low (n / 2 ^ k) k (n % 2 ^ k) i h in
     one_if_bit n i ∙ same ∙ sym (one_if_bit (n % 2 ^ k) i)
 
 small_ones : (q : ℕ) → q < 2 → count_ones q ≡ q

@@ -16,12 +16,14 @@ pub record Mapped (n : ℕ) (old new : List (List Bool)) (target : ℕ → ℕ �
   pub beyond : (x y : ℕ) → n ≤ x → value_at new x y ≡ value_at old x y
 
 -- a pass over all rows leaves what is outside
-pub mapped_outside : (n row : ℕ) (old new : List (List Bool)) (target : ℕ → ℕ → Bool) → Mapped n old new target row 0 → n ≡ row → SameOutside n old new
+pub mapped_outside : (n row : ℕ) (old new : List (List Bool)) (target : ℕ → ℕ → Bool) → Mapped n old new target row 0
+    → n ≡ row → SameOutside n old new
 mapped_outside n row old new target p e =
     record {
       columns = p.beyond;
       rows = λ x y l. elim (cases_eq y row) [
-        | inl same ↦ let z : 0 ≤ x = omega arith in ap (λ k. value_at new x k) same ∙ p.right x z ∙ ap (λ k. value_at old x k) (sym same)
+        | inl same ↦ let z : 0 ≤ x = omega arith in
+            ap (λ k. value_at new x k) same ∙ p.right x z ∙ ap (λ k. value_at old x k) (sym same)
         | inr other ↦ p.below x y (omega arith)
       ];
     }
@@ -63,7 +65,8 @@ row_turned n row w old m r target p flipped inside beyond =
       right = λ x l. others x (row + 1) (λ e. omega arith) ∙ p.below x (row + 1) (omega arith);
       below = λ x y l. others x y (λ e. omega arith) ∙ p.below x y (omega arith);
       beyond = λ x y l. elim (cases_eq y row) [
-        | inl e ↦ ap (λ z. value_at r x z) e ∙ here x ∙ ap (λ z. flip_if z (value_at old x row)) (beyond x l) ∙ ap (λ z. value_at old x z) (sym e)
+        | inl e ↦ ap (λ z. value_at r x z) e ∙ here x ∙ ap (λ z. flip_if z (value_at old x row)) (beyond x l)
+            ∙ ap (λ z. value_at old x z) (sym e)
         | inr ne ↦ others x y ne ∙ p.beyond x y l
       ];
     }

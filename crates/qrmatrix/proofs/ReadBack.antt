@@ -1,10 +1,12 @@
 -- Reading inverts drawing.
-use Rattle.std.proofs.Common.{◌≡◌, ℕ, ◌+◌, ◌-◌, ◌*◌, ◌/◌, ◌<◌, ◌≤◌, refl, ap, ◌∙◌, arith, Bool, true, false, cond, List, [], ◌∷◌, length, Option, Some, None, eq-eqb}
+use Rattle.std.proofs.Common.{◌≡◌, ℕ, ◌+◌, ◌-◌, ◌*◌, ◌/◌, ◌<◌, ◌≤◌, refl, ap, ◌∙◌, arith, Bool, true, false, cond, List}
+use Rattle.std.proofs.Common.{[], ◌∷◌, length, Option, Some, None, eq-eqb}
 use Rattle.std.specs.Prelude.{unwrap_or, map, nat_lt, reverse, All}
 use Rattle.std.specs.List.{range_with_len, filter, list_all}
 use Rattle.std.proofs.lemmas.Bool.{and_from, and_parts, lt-ltb, le-leb}
 use Rattle.labelcore.specs.declared.options.Level.{Level}
-use Rattle.qrmatrix.specs.Functions.{Role, Function, Format, Version, Free, is_free, is_free_role, role, fixed, fixed_by}
+use Rattle.qrmatrix.specs.Functions.{Role, Function, Format, Version, Free, is_free, is_free_role, role, fixed}
+use Rattle.qrmatrix.specs.Functions.{fixed_by}
 use Rattle.qrmatrix.specs.Counting.{all_below}
 use Rattle.qrdata.specs.Bits.{number_of, codewords_of}
 use Rattle.qrdata.specs.Versions.{side_of, total_codewords}
@@ -13,7 +15,8 @@ use Rattle.qrmatrix.specs.Information.{format_word, version_word}
 use Rattle.qrmatrix.specs.Modules.{module_at, is_inside}
 use Rattle.qrmatrix.specs.Masks.{flip_if, is_flipped}
 use Rattle.qrmatrix.specs.Placement.{codeword_bit, rank, remainder_bits}
-use Rattle.qrmatrix.specs.Reading.{walk, read_bits, read_matrix, format_copy_1, format_copy_2, version_copy_1, version_copy_2, word_at, read_format, shows_version, shows_functions, agrees}
+use Rattle.qrmatrix.specs.Reading.{walk, read_bits, read_matrix, format_copy_1, format_copy_2, version_copy_1}
+use Rattle.qrmatrix.specs.Reading.{version_copy_2, word_at, read_format, shows_version, shows_functions, agrees}
 use Rattle.qrmatrix.proofs.Sums.{all_below_from}
 use Rattle.qrmatrix.proofs.EachVersion.{Computed, computed}
 use Rattle.qrmatrix.proofs.WalkRanks.{walk_ranks}
@@ -22,12 +25,14 @@ use Rattle.qrmatrix.proofs.InformationRead.{StandsAt, format_read, format_copies
 
 -- ---- the bits of the codewords
 
-map_filter_step : {X Y : Type 0} (b : Bool) (f g : X → Y) (x : X) (ys : List X) → (b ≡ true → f x ≡ g x) → map f ys ≡ map g ys
+map_filter_step : {X Y : Type 0} (b : Bool) (f g : X → Y) (x : X) (ys : List X) → (b ≡ true → f x ≡ g x)
+    → map f ys ≡ map g ys
     → map f (cond b (x ∷ ys) ys) ≡ map g (cond b (x ∷ ys) ys)
 map_filter_step true f g x ys h e = let k = h refl in cc
 map_filter_step false f g x ys h e = e
 
-map_filter : {X Y : Type 0} (test inside : X → Bool) (f g : X → Y) → ((x : X) → inside x ≡ true → test x ≡ true → f x ≡ g x) → (xs : List X)
+map_filter : {X Y : Type 0} (test inside : X → Bool) (f g : X → Y)
+    → ((x : X) → inside x ≡ true → test x ≡ true → f x ≡ g x) → (xs : List X)
     → list_all inside xs ≡ true → map f (filter test xs) ≡ map g (filter test xs)
 map_filter test inside f g h [] i = refl
 map_filter test inside f g h (x ∷ xs) i =
@@ -43,7 +48,8 @@ flip_twice true true = refl
 flip_twice true false = refl
 flip_twice false d = refl
 
-pub free_is_data : (v : ℕ) (level : Level) (mask : ℕ) (r : Role) (d : Bool) → is_free_role r ≡ true → unwrap_or (fixed_by v level mask r) d ≡ d
+pub free_is_data : (v : ℕ) (level : Level) (mask : ℕ) (r : Role) (d : Bool) → is_free_role r ≡ true
+    → unwrap_or (fixed_by v level mask r) d ≡ d
 free_is_data v level mask Free d h = refl
 free_is_data v level mask (Function b) d h = cc
 free_is_data v level mask (Format i) d h = cc
@@ -55,7 +61,8 @@ inside_from n x y lx ly = and_from (nat_lt x n) (nat_lt y n) (lt-ltb x n lx) (lt
 module _ (v : ℕ) (level : Level) (mask : ℕ) (words : List ℕ) where
   -- a module in the square
   pub module_inside : (x y : ℕ) → is_inside (side_of v) x y ≡ true
-      → module_at v level mask words x y ≡ unwrap_or (fixed v level mask x y) (flip_if (is_flipped mask x y) (codeword_bit words (rank v x y)))
+      → module_at v level mask words x y
+      ≡ unwrap_or (fixed v level mask x y) (flip_if (is_flipped mask x y) (codeword_bit words (rank v x y)))
   unfolding module_at
   module_inside x y h = rw h
 
@@ -68,13 +75,22 @@ module _ (v : ℕ) (level : Level) (mask : ℕ) (words : List ℕ) where
       → flip_if (is_flipped mask p.0 p.1) (module_at v level mask words p.0 p.1) ≡ codeword_bit words (rank v p.0 p.1)
   unfolding is_free fixed
   unmasked p i h =
-      rw (module_inside p.0 p.1 i, free_is_data v level mask (role v p.0 p.1) (flip_if (is_flipped mask p.0 p.1) (codeword_bit words (rank v p.0 p.1))) h) (flip_twice (is_flipped mask p.0 p.1) (codeword_bit words (rank v p.0 p.1)))
+      rw (
+        module_inside p.0 p.1 i,
+        free_is_data v level mask (role v p.0 p.1)
+            (flip_if (is_flipped mask p.0 p.1) (codeword_bit words (rank v p.0 p.1))) h,
+      )
+      (flip_twice (is_flipped mask p.0 p.1) (codeword_bit words (rank v p.0 p.1)))
 
-  pub bits_read : Computed v → read_bits v mask (module_at v level mask words) ≡ map (codeword_bit words) (range_with_len 0 (8 * total_codewords v + remainder_bits v))
+  pub bits_read : Computed v → read_bits v mask (module_at v level mask words)
+      ≡ map (codeword_bit words) (range_with_len 0 (8 * total_codewords v + remainder_bits v))
   unfolding read_bits
   bits_read c =
-      map_filter (λ (p : ℕ × ℕ). is_free v p.0 p.1) (λ (p : ℕ × ℕ). is_inside (side_of v) p.0 p.1) (λ (p : ℕ × ℕ). flip_if (is_flipped mask p.0 p.1) (module_at v level mask words p.0 p.1)) (λ (p : ℕ × ℕ). codeword_bit words (rank v p.0 p.1)) unmasked (walk (side_of v)) c.inside
-      ∙ map_map (codeword_bit words) (λ (p : ℕ × ℕ). rank v p.0 p.1) (filter (λ (p : ℕ × ℕ). is_free v p.0 p.1) (walk (side_of v)))
+      map_filter (λ (p : ℕ × ℕ). is_free v p.0 p.1) (λ (p : ℕ × ℕ). is_inside (side_of v) p.0 p.1)
+      (λ (p : ℕ × ℕ). flip_if (is_flipped mask p.0 p.1) (module_at v level mask words p.0 p.1))
+      (λ (p : ℕ × ℕ). codeword_bit words (rank v p.0 p.1)) unmasked (walk (side_of v)) c.inside
+      ∙ map_map (codeword_bit words) (λ (p : ℕ × ℕ). rank v p.0 p.1)
+      (filter (λ (p : ℕ × ℕ). is_free v p.0 p.1) (walk (side_of v)))
       ∙ ap (map (codeword_bit words)) (walk_ranks v c)
 
   pub words_read : Computed v → length words ≡ total_codewords v → All (λ w. w < 256) words
@@ -92,13 +108,16 @@ module _ (v : ℕ) (level : Level) (mask : ℕ) (words : List ℕ) where
   pub functions_shown : shows_functions v level mask (module_at v level mask words) ≡ true
   unfolding shows_functions
   functions_shown =
-      all_below_from (side_of v) (λ y. all_below (side_of v) (λ x. agrees (fixed v level mask x y) (module_at v level mask words x y)))
+      all_below_from (side_of v) (λ y. all_below (side_of v)
+      (λ x. agrees (fixed v level mask x y) (module_at v level mask words x y)))
       (λ y ly. all_below_from (side_of v) (λ x. agrees (fixed v level mask x y) (module_at v level mask words x y))
-      (λ x lx. rw (module_inside x y (inside_from (side_of v) x y lx ly)) (agrees_itself (fixed v level mask x y) (flip_if (is_flipped mask x y) (codeword_bit words (rank v x y))))))
+      (λ x lx. rw (module_inside x y (inside_from (side_of v) x y lx ly))
+      (agrees_itself (fixed v level mask x y) (flip_if (is_flipped mask x y) (codeword_bit words (rank v x y))))))
 
   -- the modules at the places of a word's bits
   modules_at_role : (places : List (ℕ × ℕ)) (kind : ℕ → Role) (word : ℕ) (is_ : List ℕ)
-      → ((i : ℕ) → fixed_by v level mask (kind i) ≡ Some (bit word i)) → list_all (λ (p : ℕ × ℕ). is_inside (side_of v) p.0 p.1) places ≡ true
+      → ((i : ℕ) → fixed_by v level mask (kind i) ≡ Some (bit word i))
+      → list_all (λ (p : ℕ × ℕ). is_inside (side_of v) p.0 p.1) places ≡ true
       → map (λ (p : ℕ × ℕ). role v p.0 p.1) places ≡ map kind is_
       → map (λ (p : ℕ × ℕ). module_at v level mask words p.0 p.1) places ≡ map (bit word) is_
   unfolding fixed
@@ -108,24 +127,31 @@ module _ (v : ℕ) (level : Level) (mask : ℕ) (words : List ℕ) where
   modules_at_role (p ∷ ps) kind word (i ∷ is_) h z e =
       let here : role v p.0 p.1 ≡ kind i = cc in
       let there : map (λ (p : ℕ × ℕ). role v p.0 p.1) ps ≡ map kind is_ = cc in
-      let parts = and_parts (is_inside (side_of v) p.0 p.1) (list_all (λ (p : ℕ × ℕ). is_inside (side_of v) p.0 p.1) ps) z in
-      let m : unwrap_or (fixed_by v level mask (role v p.0 p.1)) (flip_if (is_flipped mask p.0 p.1) (codeword_bit words (rank v p.0 p.1))) ≡ bit word i = rw (here, h i) in
+      let parts = and_parts (is_inside (side_of v) p.0 p.1) (list_all (λ (p : ℕ × ℕ). is_inside (side_of v) p.0 p.1) ps)
+      z in
+      let chosen = flip_if (is_flipped mask p.0 p.1) (codeword_bit words (rank v p.0 p.1)) in
+      let m : unwrap_or (fixed_by v level mask (role v p.0 p.1)) chosen ≡ bit word i = rw (here, h i) in
       let at = module_inside p.0 p.1 parts.0 ∙ m in
       let rest = modules_at_role ps kind word is_ h parts.1 there in
       cc
 
   module _ (at_least : 1 ≤ v) (at_most : v ≤ 10) (mask_below : mask < 8) where
     -- the word that stands at places where its bits have their roles
-    word_shown : (places : List (ℕ × ℕ)) (kind : ℕ → Role) (word count : ℕ) → ((i : ℕ) → fixed_by v level mask (kind i) ≡ Some (bit word i))
-        → StandsAt v kind count places → word_at (module_at v level mask words) places ≡ number_of (reverse (map (bit word) (range_with_len 0 count)))
-    word_shown places kind word count by stands = ap (λ bits. number_of (reverse bits)) (modules_at_role places kind word (range_with_len 0 count) by stands.1 stands.0)
+    word_shown : (places : List (ℕ × ℕ)) (kind : ℕ → Role) (word count : ℕ)
+        → ((i : ℕ) → fixed_by v level mask (kind i) ≡ Some (bit word i))
+        → StandsAt v kind count places → word_at (module_at v level mask words) places
+        ≡ number_of (reverse (map (bit word) (range_with_len 0 count)))
+    word_shown places kind word count by stands =
+        ap (λ bits. number_of (reverse bits))
+        (modules_at_role places kind word (range_with_len 0 count) by stands.1 stands.0)
 
     pub format_shown : read_format (side_of v) (module_at v level mask words) ≡ Some (level, mask)
     unfolding read_format
     format_shown =
         let copies = format_copies v at_least at_most in
         let f = format_read level mask mask_below in
-        let by = λ (i : ℕ). let e : fixed_by v level mask (Format i) ≡ Some (bit (format_word level mask) i) = refl in e in
+        let by = λ (i : ℕ). let e : fixed_by v level mask (Format i) ≡ Some (bit (format_word level mask) i) = refl in
+        e in
         let one = word_shown format_copy_1 Format (format_word level mask) 15 by copies.0 ∙ f.0 in
         let two = word_shown (format_copy_2 (side_of v)) Format (format_word level mask) 15 by copies.1 ∙ f.0 in
         rw (one, two, eq-eqb (format_word level mask) (format_word level mask) refl) f.1
@@ -134,12 +160,24 @@ module _ (v : ℕ) (level : Level) (mask : ℕ) (words : List ℕ) where
     version_is_shown =
         let by = λ (i : ℕ). let e : fixed_by v level mask (Version i) ≡ Some (bit (version_word v) i) = refl in e in
         version_shown v at_least at_most (module_at v level mask words) (λ h.
-        let copies = version_copies v at_least at_most h in
-        (word_shown (version_copy_1 (side_of v)) Version (version_word v) 18 by copies.0, word_shown (version_copy_2 (side_of v)) Version (version_word v) 18 by copies.1))
+        let copies = version_copies v at_least at_most h in (
+          word_shown (version_copy_1 (side_of v)) Version (version_word v) 18 by copies.0,
+          word_shown (version_copy_2 (side_of v)) Version (version_word v) 18 by copies.1,
+        ))
 
     pub reads_back : length words ≡ total_codewords v → All (λ w. w < 256) words
-        → read_matrix (side_of v) (module_at v level mask words) ≡ Some (record { version = v; level = level; words = words })
+        → read_matrix (side_of v) (module_at v level mask words)
+        ≡ Some (record { version = v; level = level; words = words })
     unfolding read_matrix
     reads_back n h =
         let same : (17 + 4 * v - 17) / 4 ≡ v = omega arith in
-        rw (same, eq-eqb (side_of v) (side_of v) refl, le-leb 1 v at_least, le-leb v 10 at_most, format_shown, version_is_shown, functions_shown, words_read (computed v at_least at_most) n h)
+        rw (
+          same,
+          eq-eqb (side_of v) (side_of v) refl,
+          le-leb 1 v at_least,
+          le-leb v 10 at_most,
+          format_shown,
+          version_is_shown,
+          functions_shown,
+          words_read (computed v at_least at_most) n h,
+        )

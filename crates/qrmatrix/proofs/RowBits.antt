@@ -1,11 +1,14 @@
 -- The bits of words that operators make.
-use Rattle.std.proofs.Common.{◌≡◌, ◌≢◌, ℕ, zero, suc, ◌+◌, ◌-◌, ◌*◌, ◌/◌, ◌%◌, ◌^◌, ◌<◌, ◌≤◌, refl, sym, ap, ◌∙◌, arith, Bool, true, false, not, ◌&&◌, ◌||◌, min, max, inl, inr}
+use Rattle.std.proofs.Common.{◌≡◌, ◌≢◌, ℕ, zero, suc, ◌+◌, ◌-◌, ◌*◌, ◌/◌, ◌%◌, ◌^◌, ◌<◌, ◌≤◌, refl, sym, ap, ◌∙◌, arith}
+use Rattle.std.proofs.Common.{Bool, true, false, not, ◌&&◌, ◌||◌, min, max, inl, inr}
 use Rattle.std.specs.Prelude.{bit_and, bit_or, bit_xor, ◌==◌, nat_lt, if◌then◌else◌}
 use Rattle.std.specs.Bool.{beq}
 use Rattle.std.specs.Int.{bit_at, bit_not, w64}
 use Rattle.std.proofs.lemmas.Bool.{cases_lt, cases_eq, ne_eqb, lt-ltb, le-ltb, eq-eqb}
 use Rattle.std.proofs.lemmas.Nat.{shr-shr, pow_pos, one_shl, xor_lt}
-use Rattle.std.proofs.lemmas.Nat.Bits.{bit_at_and, bit_at_or, bit_at_xor, bit_at_not, bit_at-lt, bit_at_above, bit_at_ones, bit_at_ones_above, bit_at_cat_high, bit_at_cat_low, bit_at-pow_same, bit_at-pow_other, bit_at_lowest, bit_at-suc, bit_at-zero}
+use Rattle.std.proofs.lemmas.Nat.Bits.{bit_at_and, bit_at_or, bit_at_xor, bit_at_not, bit_at-lt, bit_at_above}
+use Rattle.std.proofs.lemmas.Nat.Bits.{bit_at_ones, bit_at_ones_above, bit_at_cat_high, bit_at_cat_low, bit_at-pow_same}
+use Rattle.std.proofs.lemmas.Nat.Bits.{bit_at-pow_other, bit_at_lowest, bit_at-suc, bit_at-zero}
 use Rattle.qrmatrix.specs.Bits.{bit}
 use Rattle.qrmatrix.specs.Penalty.{begins_run}
 
@@ -45,10 +48,12 @@ not_digit (suc zero) h = refl
 not_digit (suc (suc d)) h = absurd (omega arith)
 
 pub xor_bit : (a b i : ℕ) → bit (bit_xor a b) i ≡ not (beq (bit a i) (bit b i))
-xor_bit a b i = ap (λ z. z == 1) (bit_at_xor a b i) ∙ xor_digit (bit_at a i) (bit_at b i) (bit_at-lt a i) (bit_at-lt b i)
+xor_bit a b i = ap (λ z. z == 1) (bit_at_xor a b i)
+    ∙ xor_digit (bit_at a i) (bit_at b i) (bit_at-lt a i) (bit_at-lt b i)
 
 pub and_bit : (a b i : ℕ) → bit (bit_and a b) i ≡ (bit a i && bit b i)
-and_bit a b i = ap (λ z. z == 1) (bit_at_and a b i) ∙ and_digit (bit_at a i) (bit_at b i) (bit_at-lt a i) (bit_at-lt b i)
+and_bit a b i = ap (λ z. z == 1) (bit_at_and a b i)
+    ∙ and_digit (bit_at a i) (bit_at b i) (bit_at-lt a i) (bit_at-lt b i)
 
 pub or_bit : (a b i : ℕ) → bit (bit_or a b) i ≡ (bit a i || bit b i)
 or_bit a b i = ap (λ z. z == 1) (bit_at_or a b i) ∙ or_digit (bit_at a i) (bit_at b i) (bit_at-lt a i) (bit_at-lt b i)
@@ -100,12 +105,15 @@ bit_written w x a h =
     let s : x < 64 = omega arith in
     or_bit w (1 * 2 ^ x % 2 ^ 64) a ∙ ap (λ z. bit w a || z) (one_bit x a s) ∙ or_one (bit w a) (a == x)
 
-pub bit_cleared : (w x a : ℕ) → w < 2 ^ 57 → x < 57 → bit (bit_and w (bit_not w64 (1 * 2 ^ x % 2 ^ 64))) a ≡ (if a == x then false else bit w a)
+pub bit_cleared : (w x a : ℕ) → w < 2 ^ 57 → x < 57
+    → bit (bit_and w (bit_not w64 (1 * 2 ^ x % 2 ^ 64))) a ≡ (if a == x then false else bit w a)
 bit_cleared w x a b h =
     let s : x < 64 = omega arith in
     elim (cases_lt a 64) [
       | inl l ↦
-          and_bit w (bit_not w64 (1 * 2 ^ x % 2 ^ 64)) a ∙ ap (λ z. bit w a && z) (not_bit (1 * 2 ^ x % 2 ^ 64) a (omega arith) l ∙ ap not (one_bit x a s)) ∙ and_not_one (bit w a) (a == x)
+          and_bit w (bit_not w64 (1 * 2 ^ x % 2 ^ 64)) a
+          ∙ ap (λ z. bit w a && z) (not_bit (1 * 2 ^ x % 2 ^ 64) a (omega arith) l ∙ ap not (one_bit x a s))
+          ∙ and_not_one (bit w a) (a == x)
       | inr g ↦
           let t : 57 ≤ a = omega arith in
           let ne : a ≢ x = λ e. omega arith in
@@ -123,11 +131,13 @@ mod_bit k n i h =
 pub shl_bit : (w i : ℕ) → 0 < i → i < 64 → bit (w * 2 ^ 1 % 2 ^ 64) i ≡ bit w (i - 1)
 shl_bit w i p h =
     let e : w * 2 ^ 1 ≡ w * 2 ^ 1 + 0 = omega arith in
-    mod_bit 64 (w * 2 ^ 1) i h ∙ ap (λ z. z == 1) (ap (λ z. bit_at z i) e ∙ bit_at_cat_high w 1 0 i (omega arith) (omega arith))
+    mod_bit 64 (w * 2 ^ 1) i h ∙ ap (λ z. z == 1)
+    (ap (λ z. bit_at z i) e ∙ bit_at_cat_high w 1 0 i (omega arith) (omega arith))
 
 pub shl_lowest : (w : ℕ) → bit (w * 2 ^ 1 % 2 ^ 64) 0 ≡ false
 shl_lowest w =
-    mod_bit 64 (w * 2 ^ 1) 0 (omega arith) ∙ ne_eqb (w * 2 ^ 1 / 2 ^ 0 % 2) 1 (λ e. omega (arith, bit_at_lowest (w * 2 ^ 1)))
+    mod_bit 64 (w * 2 ^ 1) 0 (omega arith)
+    ∙ ne_eqb (w * 2 ^ 1 / 2 ^ 0 % 2) 1 (λ e. omega (arith, bit_at_lowest (w * 2 ^ 1)))
 
 pub one_bit_lowest : (i : ℕ) → bit 1 i ≡ (i == 0)
 one_bit_lowest zero = refl
@@ -137,8 +147,10 @@ not_not : (b : Bool) → not (not b) ≡ b
 not_not true = refl
 not_not false = refl
 
-pub same_bit : (a b i : ℕ) → a < 2 ^ 64 → b < 2 ^ 64 → i < 64 → bit (bit_not w64 (bit_xor b a)) i ≡ beq (bit b i) (bit a i)
-same_bit a b i ha hb l = not_bit (bit_xor b a) i (xor_lt 64 b a hb ha) l ∙ ap not (xor_bit b a i) ∙ not_not (beq (bit b i) (bit a i))
+pub same_bit : (a b i : ℕ) → a < 2 ^ 64 → b < 2 ^ 64 → i < 64
+    → bit (bit_not w64 (bit_xor b a)) i ≡ beq (bit b i) (bit a i)
+same_bit a b i ha hb l = not_bit (bit_xor b a) i (xor_lt 64 b a hb ha) l ∙ ap not (xor_bit b a i)
+    ∙ not_not (beq (bit b i) (bit a i))
 
 pub beq_true : (b : Bool) → beq b true ≡ b
 beq_true true = refl
@@ -154,15 +166,27 @@ or_none false = refl
 
 -- the places at which a run begins
 pub begins_bit : (w i : ℕ) → i < 64 → bit (bit_or (bit_xor w (w / 2 ^ 1) * 2 ^ 1 % 2 ^ 64) 1) i ≡ begins_run (bit w) i
-begins_bit w zero l = or_bit (bit_xor w (w / 2 ^ 1) * 2 ^ 1 % 2 ^ 64) 1 0 ∙ ap (λ z. z || true) (shl_lowest (bit_xor w (w / 2 ^ 1)))
+begins_bit w zero l = or_bit (bit_xor w (w / 2 ^ 1) * 2 ^ 1 % 2 ^ 64) 1 0
+    ∙ ap (λ z. z || true) (shl_lowest (bit_xor w (w / 2 ^ 1)))
 begins_bit w (suc i) l =
     let e : i + 1 ≡ suc i = omega arith in
     let d : suc i - 1 ≡ i = omega arith in
     or_bit (bit_xor w (w / 2 ^ 1) * 2 ^ 1 % 2 ^ 64) 1 (suc i)
-    ∙ rw (one_bit_lowest (suc i), ne_eqb (suc i) 0 (λ e. omega arith), shl_bit (bit_xor w (w / 2 ^ 1)) (suc i) (omega arith) l, d, xor_bit w (w / 2 ^ 1) i, shr_bit w 1 i, e) (or_none (not (beq (bit w i) (bit w (suc i)))))
+    ∙ rw (
+      one_bit_lowest (suc i),
+      ne_eqb (suc i) 0 (λ e. omega arith),
+      shl_bit (bit_xor w (w / 2 ^ 1)) (suc i) (omega arith) l,
+      d,
+      xor_bit w (w / 2 ^ 1) i,
+      shr_bit w 1 i,
+      e,
+    )
+    (or_none (not (beq (bit w i) (bit w (suc i)))))
 
-pub found_light : (f w i : ℕ) → w < 2 ^ 64 → i < 64 → bit (bit_and f (bit_not w64 w)) i ≡ (bit f i && beq (bit w i) false)
-found_light f w i h l = and_bit f (bit_not w64 w) i ∙ ap (λ z. bit f i && z) (not_bit w i h l ∙ sym (beq_false (bit w i)))
+pub found_light : (f w i : ℕ) → w < 2 ^ 64 → i < 64
+    → bit (bit_and f (bit_not w64 w)) i ≡ (bit f i && beq (bit w i) false)
+found_light f w i h l = and_bit f (bit_not w64 w) i
+    ∙ ap (λ z. bit f i && z) (not_bit w i h l ∙ sym (beq_false (bit w i)))
 
 pub found_dark : (f w i : ℕ) → bit (bit_and f w) i ≡ (bit f i && beq (bit w i) true)
 found_dark f w i = and_bit f w i ∙ ap (λ z. bit f i && z) (sym (beq_true (bit w i)))

@@ -1,5 +1,6 @@
 -- Sums and counts of the bits of words.
-use Rattle.std.proofs.Common.{◌≡◌, ℕ, zero, suc, ◌+◌, ◌*◌, ◌<◌, ◌≤◌, refl, sym, ap, ◌∙◌, arith, Bool, true, false, cond, ◌&&◌, inl, inr}
+use Rattle.std.proofs.Common.{◌≡◌, ℕ, zero, suc, ◌+◌, ◌*◌, ◌<◌, ◌≤◌, refl, sym, ap, ◌∙◌, arith, Bool, true, false, cond}
+use Rattle.std.proofs.Common.{◌&&◌, inl, inr}
 use Rattle.std.specs.Prelude.{count_ones, bit_and, nat_lt, ◌^◌}
 use Rattle.std.proofs.lemmas.Bool.{cases_eq, lt-ltb, le-ltb, and_right}
 use Rattle.std.proofs.lemmas.Nat.{and_le_r}
@@ -18,11 +19,13 @@ count_small zero p = omega arith
 count_small (suc n) p = let a = count_small n p in let b = one_if_small (p n) in omega arith
 
 -- a count that stops at n
-pub count_cut : (k n : ℕ) (p q : ℕ → Bool) → n ≤ k → ((i : ℕ) → i < n → p i ≡ q i) → ((i : ℕ) → n ≤ i → p i ≡ false) → count_below k p ≡ count_below n q
+pub count_cut : (k n : ℕ) (p q : ℕ → Bool) → n ≤ k → ((i : ℕ) → i < n → p i ≡ q i) → ((i : ℕ) → n ≤ i → p i ≡ false)
+    → count_below k p ≡ count_below n q
 count_cut zero n p q l same none = let e : n ≡ 0 = omega arith in rw e
 count_cut (suc k) n p q l same none =
     elim (cases_eq n (suc k)) [
-      | inl e ↦ rw e (sum_below_same (suc k) (λ i. one_if (p i)) (λ i. one_if (q i)) (λ i m. let z : i < n = omega arith in ap one_if (same i z)))
+      | inl e ↦ rw e (sum_below_same (suc k) (λ i. one_if (p i)) (λ i. one_if (q i))
+          (λ i m. let z : i < n = omega arith in ap one_if (same i z)))
       | inr ne ↦
           let a = count_cut k n p q (omega arith) same none in
           let b = ap one_if (none k (omega arith)) in
@@ -35,7 +38,8 @@ weighed_step true false = refl
 weighed_step false true = refl
 weighed_step false false = refl
 
-pub weighed : (n : ℕ) (u b : ℕ → Bool) → sum_below n (λ i. cond (u i) (1 + cond (b i) 2 0) 0) ≡ count_below n u + 2 * count_below n (λ i. u i && b i)
+pub weighed : (n : ℕ) (u b : ℕ → Bool) → sum_below n (λ i. cond (u i) (1 + cond (b i) 2 0) 0) ≡ count_below n u
+    + 2 * count_below n (λ i. u i && b i)
 weighed zero u b = refl
 weighed (suc n) u b = let a = weighed n u b in let s = weighed_step (u n) (b n) in omega arith
 
@@ -48,9 +52,11 @@ sum_scaled zero k f = omega arith
 sum_scaled (suc n) k f = let a = sum_scaled n k f in omega arith
 
 -- the order of two sums is free
-pub sum_exchanged : (n m : ℕ) (f : ℕ → ℕ → ℕ) → sum_below n (λ x. sum_below m (f x)) ≡ sum_below m (λ y. sum_below n (λ x. f x y))
+pub sum_exchanged : (n m : ℕ) (f : ℕ → ℕ → ℕ)
+    → sum_below n (λ x. sum_below m (f x)) ≡ sum_below m (λ y. sum_below n (λ x. f x y))
 sum_exchanged zero m f = sym (sum_below_zero m (λ y. 0) (λ k l. refl))
-sum_exchanged (suc n) m f = ap (λ z. z + sum_below m (f n)) (sum_exchanged n m f) ∙ sym (sum_added m (λ y. sum_below n (λ x. f x y)) (f n))
+sum_exchanged (suc n) m f = ap (λ z. z + sum_below m (f n)) (sum_exchanged n m f)
+    ∙ sym (sum_added m (λ y. sum_below n (λ x. f x y)) (f n))
 
 and_inside : (b t : Bool) → t ≡ true → (b && t) ≡ b
 and_inside true true h = refl
@@ -59,7 +65,8 @@ and_inside true false h = h
 and_inside false false h = refl
 
 -- the ones of a word below n
-pub ones_below : (w low n : ℕ) → n ≤ 57 → low < 2 ^ 57 → ((i : ℕ) → bit low i ≡ nat_lt i n) → count_ones (bit_and w low) ≡ count_below n (bit w)
+pub ones_below : (w low n : ℕ) → n ≤ 57 → low < 2 ^ 57 → ((i : ℕ) → bit low i ≡ nat_lt i n)
+    → count_ones (bit_and w low) ≡ count_below n (bit w)
 ones_below w low n l small is_low =
     ones_counted 57 (bit_and w low) (let a = and_le_r w low in omega arith)
     ∙ count_cut 57 n (bit (bit_and w low)) (bit w) l

@@ -5,7 +5,8 @@ use Rattle.std.proofs.lemmas.Bool.{both_ways}
 use Rattle.labelcore.specs.declared.options.Level.{Level}
 use Rattle.qrdata.specs.Versions.{side_of}
 use Rattle.qrmatrix.specs.Private.Drawing.{masked, drawn_by, format_by, IsUnmasked, ShowsFormat}
-use Rattle.qrmatrix.specs.Functions.{Role, Function, Format, Version, Free, fixed, fixed_by, role, is_free, is_free_role}
+use Rattle.qrmatrix.specs.Functions.{Role, Function, Format, Version, Free, fixed, fixed_by, role, is_free}
+use Rattle.qrmatrix.specs.Functions.{is_free_role}
 use Rattle.qrmatrix.specs.Information.{format_word}
 use Rattle.qrmatrix.specs.Masks.{flip_if, is_flipped}
 use Rattle.qrmatrix.specs.Placement.{codeword_bit, rank}
@@ -26,15 +27,20 @@ free_is_light v Free h = refl
 -- the module of each role
 shown : (v : ℕ) (level : Level) (mask : ℕ) (r : Role) (f t chosen old : Bool) → f ≡ not (is_free_role r)
     → (is_free_role r ≡ true → old ≡ chosen) → (is_free_role r ≡ false → old ≡ drawn_by v r)
-    → (if f then flip_if (format_by (format_word level mask) r) old else flip_if t (flip_if (format_by (format_word level mask) r) old)) ≡ unwrap_or (fixed_by v level mask r) (flip_if t chosen)
+    → (if f then flip_if (format_by (format_word level mask) r) old else
+    flip_if t (flip_if (format_by (format_word level mask) r) old))
+    ≡ unwrap_or (fixed_by v level mask r) (flip_if t chosen)
 shown v level mask (Function b) f t chosen old e free taken = rw e (taken refl)
 shown v level mask (Format i) f t chosen old e free taken = rw (e, taken refl) (flip_light _)
 shown v level mask (Version i) f t chosen old e free taken = rw e (taken refl)
 shown v level mask Free f t chosen old e free taken = rw e (ap (flip_if t) (free refl))
 
-pub under : (v : ℕ) (level : Level) (mask : ℕ) (words : List ℕ) (function old m : List (List Bool)) → IsUnmasked v words function old
+pub under : (v : ℕ) (level : Level) (mask : ℕ) (words : List ℕ) (function old m : List (List Bool))
+    → IsUnmasked v words function old
     → ShowsFormat v level mask old m → (x y : ℕ) → x < side_of v → y < side_of v
-    → masked mask function m x y ≡ unwrap_or (fixed v level mask x y) (flip_if (is_flipped mask x y) (codeword_bit words (rank v x y)))
+    → masked mask function m x y ≡ unwrap_or (fixed v level mask x y)
+    (flip_if (is_flipped mask x y) (codeword_bit words (rank v x y)))
 unfolding fixed is_free
 under v level mask words function old m u s x y lx ly =
-    rw (s.inside x y lx ly) (shown v level mask (role v x y) (value_at function x y) (is_flipped mask x y) (codeword_bit words (rank v x y)) (value_at old x y) (u.marked x y lx ly) (u.free x y lx ly) (u.taken x y lx ly))
+    rw (s.inside x y lx ly) (shown v level mask (role v x y) (value_at function x y) (is_flipped mask x y)
+    (codeword_bit words (rank v x y)) (value_at old x y) (u.marked x y lx ly) (u.free x y lx ly) (u.taken x y lx ly))

@@ -1,5 +1,7 @@
 -- Two bits of the codewords at a time.
-use Rattle.std.proofs.Common.{◌≡◌, ◌≢◌, ℕ, zero, suc, ◌+◌, ◌-◌, ◌*◌, ◌/◌, ◌%◌, ◌^◌, ◌<◌, ◌≤◌, refl, sym, ap, ◌∙◌, arith, Bool, true, false, ◌&&◌, List, get_or, length, set, add-zero, get_or-set_same, get_or-set_other, inl, inr}
+use Rattle.std.proofs.Common.{◌≡◌, ◌≢◌, ℕ, zero, suc, ◌+◌, ◌-◌, ◌*◌, ◌/◌, ◌%◌, ◌^◌, ◌<◌, ◌≤◌, refl, sym, ap, ◌∙◌, arith}
+use Rattle.std.proofs.Common.{Bool, true, false, ◌&&◌, List, get_or, length, set, add-zero, get_or-set_same}
+use Rattle.std.proofs.Common.{get_or-set_other, inl, inr}
 use Rattle.std.specs.Prelude.{◌==◌, bit_and, slice_index, if◌then◌else◌}
 use Rattle.std.specs.Int.{bit_at}
 use Rattle.std.proofs.lemmas.Bool.{cases_lt, cases_eq, ne_eqb, eq-eqb}
@@ -29,7 +31,8 @@ high_of_pair a b i h l = ap (λ z. z == 1) (bit_at_cat_high a 8 b i h l)
 low_of_pair : (a b i : ℕ) → i < 8 → bit (a * 256 + b) i ≡ bit b i
 low_of_pair a b i l = ap (λ z. z == 1) (bit_at_cat_low a 8 b i l)
 
-second_bit : (words : List ℕ) (pairs : List ℕ) (i : ℕ) → i < 3200 → ArePairs words pairs → bit (slice_index pairs (i / 8)) (14 - i % 8) ≡ codeword_bit words (i + 1)
+second_bit : (words : List ℕ) (pairs : List ℕ) (i : ℕ) → i < 3200 → ArePairs words pairs
+    → bit (slice_index pairs (i / 8)) (14 - i % 8) ≡ codeword_bit words (i + 1)
 second_bit words pairs i h p =
     let j : i / 8 < 400 = omega arith in
     elim (cases_lt (i % 8) 7) [
@@ -37,33 +40,41 @@ second_bit words pairs i h p =
           let q : (i + 1) / 8 ≡ i / 8 = omega arith in
           let r : 14 - i % 8 - 8 ≡ 7 - (i + 1) % 8 = omega arith in
           let a : 8 ≤ 14 - i % 8 = omega arith in
-          ap (λ z. bit z (14 - i % 8)) (p.each (i / 8) j) ∙ high_of_pair (slice_index words (i / 8)) (slice_index words (i / 8 + 1)) (14 - i % 8) (p.narrow (i / 8 + 1)) a
+          ap (λ z. bit z (14 - i % 8)) (p.each (i / 8) j)
+          ∙ high_of_pair (slice_index words (i / 8)) (slice_index words (i / 8 + 1)) (14 - i % 8) (p.narrow (i / 8 + 1))
+          a
           ∙ ap (bit (slice_index words (i / 8))) r ∙ ap (λ z. bit (slice_index words z) (7 - (i + 1) % 8)) (sym q)
       | inr g ↦
           let q : (i + 1) / 8 ≡ i / 8 + 1 = omega arith in
           let r : 14 - i % 8 ≡ 7 - (i + 1) % 8 = omega arith in
           let a : 14 - i % 8 < 8 = omega arith in
-          ap (λ z. bit z (14 - i % 8)) (p.each (i / 8) j) ∙ low_of_pair (slice_index words (i / 8)) (slice_index words (i / 8 + 1)) (14 - i % 8) a
+          ap (λ z. bit z (14 - i % 8)) (p.each (i / 8) j)
+          ∙ low_of_pair (slice_index words (i / 8)) (slice_index words (i / 8 + 1)) (14 - i % 8) a
           ∙ ap (bit (slice_index words (i / 8 + 1))) r ∙ ap (λ z. bit (slice_index words z) (7 - (i + 1) % 8)) (sym q)
     ]
 
-first_bit : (words : List ℕ) (pairs : List ℕ) (i : ℕ) → i < 3200 → ArePairs words pairs → bit (slice_index pairs (i / 8)) (15 - i % 8) ≡ codeword_bit words i
+first_bit : (words : List ℕ) (pairs : List ℕ) (i : ℕ) → i < 3200 → ArePairs words pairs
+    → bit (slice_index pairs (i / 8)) (15 - i % 8) ≡ codeword_bit words i
 first_bit words pairs i h p =
     let j : i / 8 < 400 = omega arith in
     let r : 15 - i % 8 - 8 ≡ 7 - i % 8 = omega arith in
     let a : 8 ≤ 15 - i % 8 = omega arith in
-    ap (λ z. bit z (15 - i % 8)) (p.each (i / 8) j) ∙ high_of_pair (slice_index words (i / 8)) (slice_index words (i / 8 + 1)) (15 - i % 8) (p.narrow (i / 8 + 1)) a
+    ap (λ z. bit z (15 - i % 8)) (p.each (i / 8) j)
+    ∙ high_of_pair (slice_index words (i / 8)) (slice_index words (i / 8 + 1)) (15 - i % 8) (p.narrow (i / 8 + 1)) a
     ∙ ap (bit (slice_index words (i / 8))) r
 
 pub two_shown : (words : List ℕ) (pairs : List ℕ) (i : ℕ) → i < 3200 → ArePairs words pairs
-    → ShowsTwo (bit_and (slice_index pairs (i / 8) / 2 ^ (14 - i % 8)) 3) (codeword_bit words i) (codeword_bit words (i + 1))
+    → ShowsTwo (bit_and (slice_index pairs (i / 8) / 2 ^ (14 - i % 8)) 3) (codeword_bit words i)
+    (codeword_bit words (i + 1))
 two_shown words pairs i h p =
     let w = slice_index pairs (i / 8) in
     let one : 1 + (14 - i % 8) ≡ 15 - i % 8 = omega arith in
     let none : 0 + (14 - i % 8) ≡ 14 - i % 8 = omega arith in
     record {
-      high = and_bit (w / 2 ^ (14 - i % 8)) 3 1 ∙ and_all (bit (w / 2 ^ (14 - i % 8)) 1) ∙ shr_bit w (14 - i % 8) 1 ∙ ap (bit w) one ∙ first_bit words pairs i h p;
-      low = and_bit (w / 2 ^ (14 - i % 8)) 3 0 ∙ and_all (bit (w / 2 ^ (14 - i % 8)) 0) ∙ shr_bit w (14 - i % 8) 0 ∙ ap (bit w) none ∙ second_bit words pairs i h p;
+      high = and_bit (w / 2 ^ (14 - i % 8)) 3 1 ∙ and_all (bit (w / 2 ^ (14 - i % 8)) 1) ∙ shr_bit w (14 - i % 8) 1
+          ∙ ap (bit w) one ∙ first_bit words pairs i h p;
+      low = and_bit (w / 2 ^ (14 - i % 8)) 3 0 ∙ and_all (bit (w / 2 ^ (14 - i % 8)) 0) ∙ shr_bit w (14 - i % 8) 0
+          ∙ ap (bit w) none ∙ second_bit words pairs i h p;
     }
 
 -- ---- two modules of a row
@@ -73,8 +84,10 @@ pub two_clear : (w x : ℕ) → bit_and (w / 2 ^ x) 3 ≡ 0 → (bit w x ≡ fal
 two_clear w x e =
     let none : 0 + x ≡ x = omega arith in
     let one : 1 + x ≡ x + 1 = omega arith in (
-      ap (bit w) (sym none) ∙ sym (shr_bit w x 0) ∙ sym (and_all (bit (w / 2 ^ x) 0)) ∙ sym (and_bit (w / 2 ^ x) 3 0) ∙ ap (λ z. bit z 0) e,
-      ap (bit w) (sym one) ∙ sym (shr_bit w x 1) ∙ sym (and_all (bit (w / 2 ^ x) 1)) ∙ sym (and_bit (w / 2 ^ x) 3 1) ∙ ap (λ z. bit z 1) e,
+      ap (bit w) (sym none) ∙ sym (shr_bit w x 0) ∙ sym (and_all (bit (w / 2 ^ x) 0)) ∙ sym (and_bit (w / 2 ^ x) 3 0)
+          ∙ ap (λ z. bit z 0) e,
+      ap (bit w) (sym one) ∙ sym (shr_bit w x 1) ∙ sym (and_all (bit (w / 2 ^ x) 1)) ∙ sym (and_bit (w / 2 ^ x) 3 1)
+          ∙ ap (λ z. bit z 1) e,
     )
 
 -- the bits of a number below 4 that is moved up
@@ -87,7 +100,8 @@ up_bit two x a h l la g =
 below_bit : (two x a : ℕ) → x + 1 < 57 → a < x → bit (two * 2 ^ x % 2 ^ 64) a ≡ false
 below_bit two x a l h =
     let e : two * 2 ^ x ≡ two * 2 ^ x + 0 = omega arith in
-    mod_bit 64 (two * 2 ^ x) a (omega arith) ∙ ap (λ z. z == 1) (ap (λ z. bit_at z a) e ∙ bit_at_cat_low two x 0 a h ∙ bit_at-zero a)
+    mod_bit 64 (two * 2 ^ x) a (omega arith)
+    ∙ ap (λ z. z == 1) (ap (λ z. bit_at z a) e ∙ bit_at_cat_low two x 0 a h ∙ bit_at-zero a)
 
 pub up_narrow : (two x : ℕ) → two < 4 → x + 1 < 57 → two * 2 ^ x % 2 ^ 64 < 2 ^ 57
 up_narrow two x h l =
@@ -98,7 +112,8 @@ up_narrow two x h l =
     omega arith
 
 -- which bits of a number below 4 that is moved up are set
-moved : (two x a : ℕ) → two < 4 → x + 1 < 57 → bit (two * 2 ^ x % 2 ^ 64) a ≡ (if a == x then bit two 0 else (if a == x + 1 then bit two 1 else false))
+moved : (two x a : ℕ) → two < 4 → x + 1 < 57
+    → bit (two * 2 ^ x % 2 ^ 64) a ≡ (if a == x then bit two 0 else (if a == x + 1 then bit two 1 else false))
 moved two x a h l =
     elim (cases_lt a 57) [
       | inr g ↦
@@ -120,27 +135,33 @@ moved two x a h l =
           | inl e ↦ let z : a - x ≡ 0 = omega arith in rw (z, eq-eqb a x e) refl
           | inr ne ↦ elim (cases_eq a (x + 1)) [
             | inl e ↦ let z : a - x ≡ 1 = omega arith in rw (z, ne_eqb a x ne, eq-eqb a (x + 1) e) refl
-            | inr ne' ↦ let z : 2 ≤ a - x = omega arith in rw (ne_eqb a x ne, ne_eqb a (x + 1) ne') (above_bit two 2 (a - x) h z)
+            | inr ne' ↦ let z : 2 ≤ a - x = omega arith in
+                rw (ne_eqb a x ne, ne_eqb a (x + 1) ne') (above_bit two 2 (a - x) h z)
           ]
         ]
 
 -- two values come to stand on light modules
-pub two_written : (old new : List (List Bool)) (two x y : ℕ) → two < 4 → x + 1 < 57 → (value_at old x y ≡ false) × (value_at old (x + 1) y ≡ false)
+pub two_written : (old new : List (List Bool)) (two x y : ℕ) → two < 4 → x + 1 < 57 → (value_at old x y ≡ false)
+    × (value_at old (x + 1) y ≡ false)
     → ((a b : ℕ) → value_at new a b ≡ flip_if ((b == y) && bit (two * 2 ^ x % 2 ^ 64) a) (value_at old a b))
     → WritesTwo old new x y (bit two 0) (bit two 1)
 two_written old new two x y h l light flipped a b =
     flipped a b ∙ elim (cases_eq b y) [
       | inr ne ↦ rw (ne_eqb b y ne) (off (a == x) (a == x + 1))
       | inl e ↦ rw (eq-eqb b y e, moved two x a h l) (elim (cases_eq a x) [
-        | inl ex ↦ rw (eq-eqb a x ex) (ap (λ z. flip_if (bit two 0) z) (ap (λ z. value_at old z b) ex ∙ ap (value_at old x) e ∙ light.0) ∙ flip_light (bit two 0))
+        | inl ex ↦ rw (eq-eqb a x ex) (ap (λ z. flip_if (bit two 0) z)
+            (ap (λ z. value_at old z b) ex ∙ ap (value_at old x) e ∙ light.0) ∙ flip_light (bit two 0))
         | inr ne ↦ elim (cases_eq a (x + 1)) [
-          | inl ex ↦ rw (ne_eqb a x ne, eq-eqb a (x + 1) ex) (ap (λ z. flip_if (bit two 1) z) (ap (λ z. value_at old z b) ex ∙ ap (value_at old (x + 1)) e ∙ light.1) ∙ flip_light (bit two 1))
+          | inl ex ↦ rw (ne_eqb a x ne, eq-eqb a (x + 1) ex)
+              (ap (λ z. flip_if (bit two 1) z) (ap (λ z. value_at old z b) ex ∙ ap (value_at old (x + 1)) e ∙ light.1)
+              ∙ flip_light (bit two 1))
           | inr ne' ↦ rw (ne_eqb a x ne, ne_eqb a (x + 1) ne') refl
         ]
       ])
     ]
   where
-    off : (s t : Bool) → value_at old a b ≡ (if s && false then bit two 0 else (if t && false then bit two 1 else value_at old a b))
+    off : (s t : Bool) → value_at old a b
+        ≡ (if s && false then bit two 0 else (if t && false then bit two 1 else value_at old a b))
     off true true = refl
     off true false = refl
     off false true = refl
@@ -164,18 +185,22 @@ no_pairs n i words e = record { made = λ j l. absurd (omega arith); none = λ j
   zeros (suc n) (suc j) = zeros n j
 
 -- the last codeword, with nothing after it
-pub pairs_last : (words pairs : List ℕ) (i value : ℕ) → PairsBelow words pairs i → length pairs ≡ 400 → i ≡ length words → 1 ≤ i → i < 400
-    → value ≡ slice_index words (i - 1) * 256 → ((j : ℕ) → slice_index words j < 256) → ArePairs words (set pairs (i - 1) value)
+pub pairs_last : (words pairs : List ℕ) (i value : ℕ) → PairsBelow words pairs i → length pairs ≡ 400 → i ≡ length words
+    → 1 ≤ i → i < 400
+    → value ≡ slice_index words (i - 1) * 256 → ((j : ℕ) → slice_index words j < 256)
+    → ArePairs words (set pairs (i - 1) value)
 pairs_last words pairs i value p size whole some few e bytes =
     let inside : i - 1 < length pairs = omega arith in
     record {
       each = λ j l. elim (cases_eq j (i - 1)) [
         | inl same ↦
             let none : slice_index words (j + 1) ≡ 0 = slice_past words (j + 1) (omega arith) in
-            get_or_at pairs (i - 1) j value inside same ∙ e ∙ ap (λ z. slice_index words z * 256) (sym same) ∙ sym (rw none (add-zero (slice_index words j * 256)))
+            get_or_at pairs (i - 1) j value inside same ∙ e ∙ ap (λ z. slice_index words z * 256) (sym same)
+            ∙ sym (rw none (add-zero (slice_index words j * 256)))
         | inr ne ↦ get_or-set_other pairs (i - 1) j value 0 ne ∙ elim (cases_lt (j + 1) i) [
           | inl l ↦ p.made j l
-          | inr g ↦ p.none j g ∙ sym (rw (slice_past words j (omega arith), slice_past words (j + 1) (omega arith)) refl)
+          | inr g ↦ p.none j g ∙ sym (rw (slice_past words j (omega arith), slice_past words (j + 1) (omega arith))
+              refl)
         ]
       ];
       narrow = bytes;
@@ -185,9 +210,11 @@ pairs_last words pairs i value p size whole some few e bytes =
     get_or_at xs k j value l same = ap (λ z. get_or (set xs k value) z 0) same ∙ get_or-set_same xs k value 0 l
 
 -- no codewords
-pub pairs_of_none : (words pairs : List ℕ) (i : ℕ) → PairsBelow words pairs i → i ≤ 1 → length words ≤ 0 → ((j : ℕ) → slice_index words j < 256) → ArePairs words pairs
+pub pairs_of_none : (words pairs : List ℕ) (i : ℕ) → PairsBelow words pairs i → i ≤ 1 → length words ≤ 0
+    → ((j : ℕ) → slice_index words j < 256) → ArePairs words pairs
 pairs_of_none words pairs i p first none bytes =
     record {
-      each = λ j l. p.none j (omega arith) ∙ sym (rw (slice_past words j (omega arith), slice_past words (j + 1) (omega arith)) refl);
+      each = λ j l. p.none j (omega arith)
+          ∙ sym (rw (slice_past words j (omega arith), slice_past words (j + 1) (omega arith)) refl);
       narrow = bytes;
     }

@@ -63,7 +63,8 @@ format_bit n x y =
     (if nat_lt y 6 then Some y else if y == 7 then Some 6 else if y == 8 then Some 7
     else if nat_le (n - 7) y then Some (y + 15 - n) else None)
     else if y == 8 then
-    (if nat_lt x 6 then Some (14 - x) else if x == 7 then Some 8 else if nat_le (n - 8) x then Some (n - 1 - x) else None)
+    (if nat_lt x 6 then Some (14 - x) else if x == 7 then Some 8
+    else if nat_le (n - 8) x then Some (n - 1 - x) else None)
     else None
 
 -- which bit of the version word stands at a place, in either of its two copies

@@ -42,7 +42,8 @@ level_of indicator = if indicator == 0 then M else if indicator == 1 then L else
 abbrev pub read_format_word : ℕ → Option (Level × ℕ)
 read_format_word word =
     let codeword = bit_xor word 0x5412 in
-    if binary_remainder 10 0x537 5 codeword == 0 then Some (level_of (codeword / 2 ^ 13), codeword / 2 ^ 10 % 8) else None
+    if binary_remainder 10 0x537 5 codeword == 0
+    then Some (level_of (codeword / 2 ^ 13), codeword / 2 ^ 10 % 8) else None
 
 -- the level and the mask, where both copies of the format information agree
 unfoldable pub read_format : ℕ → (ℕ → ℕ → Bool) → Option (Level × ℕ)

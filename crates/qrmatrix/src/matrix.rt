@@ -39,8 +39,8 @@ impl Model for Matrix {
     } };
 }
 
-/// A slice of bytes has numbers below 256, which the type of an `ArrayVec` does not tell a proof. It does nothing when it
-/// runs.
+/// A slice of bytes has numbers below 256, which the type of an `ArrayVec` does not tell a proof. It does nothing when
+/// it runs.
 fn are_bytes(bytes: &[u8])
     ensures { All (λ b. b < 256) bytes.now }
 {}

@@ -1,5 +1,5 @@
-//! The placement of the codewords: a cursor goes along the strips and counts the free modules, both modules of a strip's
-//! row at once where both are free.
+//! The placement of the codewords: a cursor goes along the strips and counts the free modules, both modules of a
+//! strip's row at once where both are free.
 ghost use Rattle.std.specs.Prelude.{◌≡◌, ℕ, ◌+◌, ◌-◌, ◌*◌, ◌/◌, ◌%◌, ◌^◌, ◌<◌, ◌≤◌, Bool, true, false, not, ◌&&◌, ◌==◌};
 ghost use Rattle.std.specs.Prelude.{if◌then◌else◌, IsTrue, IsFalse, nat_lt, List, length};
 ghost use Rattle.qrdata.specs.Versions.{side_of};

@@ -1,6 +1,7 @@
 -- The best choices of a first segment of each rest of the data, found from its end (the choice of ISO/IEC 18004,
 -- annex J, made in this crate's own way). The limits of the character counts are left out.
-use Rattle.std.specs.Prelude.{◌≡◌, ℕ, suc, ◌+◌, ◌^◌, ◌<◌, ◌≤◌, List, [], ◌∷◌, length, drop, nat_lt, slice_get, if◌then◌else◌, ◌==◌, ◌&&◌, ◌||◌, Some}
+use Rattle.std.specs.Prelude.{◌≡◌, ℕ, suc, ◌+◌, ◌^◌, ◌<◌, ◌≤◌, List, [], ◌∷◌, length, drop, nat_lt, slice_get}
+use Rattle.std.specs.Prelude.{if◌then◌else◌, ◌==◌, ◌&&◌, ◌||◌, Some}
 use Rattle.std.specs.Char.{is_ascii_digit}
 use Rattle.qrdata.specs.Private.ChoiceView.{ChoiceView}
 use Rattle.qrdata.specs.declared.table.Digits.{Digits}

@@ -13,54 +13,96 @@ use Rattle.qrdata.proofs.VersionTable.{capacity-le, capacity-rising}
 use Rattle.qrdata.proofs.plan.plan_between.Goals as goal
 
 pub overflow_mul-data_words : goal.overflow_mul-data_words
-overflow_mul-data_words c = omega (arith, (rw c.of-widest.ensures at c.data_words.ensures), capacity-le c.args.level c.args.highest (omega (arith, c.requires.low, c.requires.some)) c.requires.high)
+overflow_mul-data_words c = omega (
+  arith,
+  (rw c.of-widest.ensures at c.data_words.ensures),
+  capacity-le c.args.level c.args.highest (omega (arith, c.requires.low, c.requires.some)) c.requires.high,
+)
 
 pub returns-then-bytes-data_words-clause-none : goal.returns-then-bytes-data_words-clause-none
 returns-then-bytes-data_words-clause-none c = λ v from to.
     let segments = chosen_segments v c.args.bytes.now in
     let many = third v segments c.args.bytes.now (chosen_segments-is v c.args.bytes.now) in
-    omega (arith, c.if-bytes-data_words.true, (rw c.of-widest.ensures at c.data_words.ensures), many, capacity-rising c.args.level v c.args.highest (omega (arith, c.requires.low)) to c.requires.high)
+    omega (
+      arith,
+      c.if-bytes-data_words.true,
+      (rw c.of-widest.ensures at c.data_words.ensures),
+      many,
+      capacity-rising c.args.level v c.args.highest (omega (arith, c.requires.low)) to c.requires.high,
+    )
 
 pub overflow_mul-data_words-in-loop-number : goal.overflow_mul-data_words-in-loop-number
-overflow_mul-data_words-in-loop-number c = omega (arith, (rw c.of-version.ensures at c.data_words-in-loop-number.ensures), capacity-le c.args.level c.loop-number.number (omega (arith, c.loop-number.auto.number)) (omega (arith, c.loop-number-test.true)))
+overflow_mul-data_words-in-loop-number c =
+    omega (
+      arith,
+      (rw c.of-version.ensures at c.data_words-in-loop-number.ensures),
+      capacity-le c.args.level c.loop-number.number (omega (arith, c.loop-number.auto.number))
+          (omega (arith, c.loop-number-test.true)),
+    )
 
 pub overflow_cast-bits : goal.overflow_cast-bits
-overflow_cast-bits c = omega (arith, (rw c.of-version.ensures at c.data_words-in-loop-number.ensures), c.if-bits-data_words.true, capacity-le c.args.level c.loop-number.number (omega (arith, c.loop-number.auto.number)) (omega (arith, c.loop-number-test.true)))
+overflow_cast-bits c = omega (
+  arith,
+  (rw c.of-version.ensures at c.data_words-in-loop-number.ensures),
+  c.if-bits-data_words.true,
+  capacity-le c.args.level c.loop-number.number (omega (arith, c.loop-number.auto.number))
+      (omega (arith, c.loop-number-test.true)),
+)
 
 -- the bits of the best segments, where they fit
-fitting : (number highest : ℕ) (level : Level) (bytes : List ℕ) (bits : ℕ) → SameWidths number highest → 1 ≤ number → number ≤ 10 → length bytes ≤ 652 → bits ≡ fewest_bits highest bytes → bits ≤ capacity number level
+fitting : (number highest : ℕ) (level : Level) (bytes : List ℕ) (bits : ℕ) → SameWidths number highest → 1 ≤ number
+    → number ≤ 10 → length bytes ≤ 652 → bits ≡ fewest_bits highest bytes → bits ≤ capacity number level
     → bits ≡ cost number (chosen_segments number bytes)
 fitting number highest level bytes bits same low high few is fits =
-    is ∙ fewest_bits-is number highest same bytes few (omega (arith, is, capacity_as_wide number highest level same low high))
+    is ∙ fewest_bits-is number highest same bytes few
+    (omega (arith, is, capacity_as_wide number highest level same low high))
 
 pub plan_of-requires-clause-firsts : goal.plan_of-requires-clause-firsts
 plan_of-requires-clause-firsts c =
     let number = c.loop-number.number in
     let same = c.requires.same number c.loop-number.auto.number (omega (arith, c.loop-number-test.true)) in
-    rw c.of-version.ensures (NamesBest-of number c.args.highest same c.args.bytes.now c.fill-bits.result c.fill-bits.new.firsts c.requires.few
-    (omega (arith, (rw c.of-version.ensures at c.data_words-in-loop-number.ensures), c.if-bits-data_words.true, capacity_as_wide number c.args.highest c.args.level same (omega (arith, c.loop-number.auto.number)) (omega (arith, c.loop-number-test.true)))) (rw c.of-widest.ensures at c.fill-bits.ensures.firsts))
+    rw c.of-version.ensures (NamesBest-of number c.args.highest same c.args.bytes.now c.fill-bits.result
+    c.fill-bits.new.firsts c.requires.few
+    (omega (
+      arith,
+      (rw c.of-version.ensures at c.data_words-in-loop-number.ensures),
+      c.if-bits-data_words.true,
+      capacity_as_wide number c.args.highest c.args.level same (omega (arith, c.loop-number.auto.number))
+          (omega (arith, c.loop-number-test.true)),
+    )) (rw c.of-widest.ensures at c.fill-bits.ensures.firsts))
 
 pub plan_of-requires-clause-bits : goal.plan_of-requires-clause-bits
 plan_of-requires-clause-bits c =
     let number = c.loop-number.number in
     let same = c.requires.same number c.loop-number.auto.number (omega (arith, c.loop-number-test.true)) in
-    rw c.of-version.ensures (fitting number c.args.highest c.args.level c.args.bytes.now c.fill-bits.result same (omega (arith, c.loop-number.auto.number)) (omega (arith, c.loop-number-test.true)) c.requires.few (rw c.of-widest.ensures at c.fill-bits.ensures.bits) (omega (arith, (rw c.of-version.ensures at c.data_words-in-loop-number.ensures), c.if-bits-data_words.true)))
+    rw c.of-version.ensures (fitting number c.args.highest c.args.level c.args.bytes.now c.fill-bits.result same
+    (omega (arith, c.loop-number.auto.number)) (omega (arith, c.loop-number-test.true)) c.requires.few
+    (rw c.of-widest.ensures at c.fill-bits.ensures.bits)
+    (omega (arith, (rw c.of-version.ensures at c.data_words-in-loop-number.ensures), c.if-bits-data_words.true)))
 
 pub plan_of-requires-clause-short : goal.plan_of-requires-clause-short
 plan_of-requires-clause-short c =
     let number = c.loop-number.number in
     let bytes = c.args.bytes.now in
     let same = c.requires.same number c.loop-number.auto.number (omega (arith, c.loop-number-test.true)) in
-    let fits : c.fill-bits.result ≤ capacity number c.args.level = omega (arith, (rw c.of-version.ensures at c.data_words-in-loop-number.ensures), c.if-bits-data_words.true) in
-    let bits = fitting number c.args.highest c.args.level bytes c.fill-bits.result same (omega (arith, c.loop-number.auto.number)) (omega (arith, c.loop-number-test.true)) c.requires.few (rw c.of-widest.ensures at c.fill-bits.ensures.bits) fits in
-    rw c.of-version.ensures (few_segments number c.args.level (chosen_segments number bytes) bytes (omega (arith, c.loop-number.auto.number)) (omega (arith, c.loop-number-test.true)) (chosen_segments-is number bytes) (omega (arith, bits, fits)))
+    let fits : c.fill-bits.result ≤ capacity number c.args.level =
+    omega (arith, (rw c.of-version.ensures at c.data_words-in-loop-number.ensures), c.if-bits-data_words.true) in
+    let bits = fitting number c.args.highest c.args.level bytes c.fill-bits.result same
+    (omega (arith, c.loop-number.auto.number)) (omega (arith, c.loop-number-test.true)) c.requires.few
+    (rw c.of-widest.ensures at c.fill-bits.ensures.bits) fits in
+    rw c.of-version.ensures (few_segments number c.args.level (chosen_segments number bytes) bytes
+    (omega (arith, c.loop-number.auto.number)) (omega (arith, c.loop-number-test.true))
+    (chosen_segments-is number bytes) (omega (arith, bits, fits)))
 
 pub returns-then-bits-data_words-clause-some : goal.returns-then-bits-data_words-clause-some
 returns-then-bits-data_words-clause-some c =
     let number = c.loop-number.number in
     let same = c.requires.same number c.loop-number.auto.number (omega (arith, c.loop-number-test.true)) in
-    let fits : c.fill-bits.result ≤ capacity number c.args.level = omega (arith, (rw c.of-version.ensures at c.data_words-in-loop-number.ensures), c.if-bits-data_words.true) in
-    let bits = fitting number c.args.highest c.args.level c.args.bytes.now c.fill-bits.result same (omega (arith, c.loop-number.auto.number)) (omega (arith, c.loop-number-test.true)) c.requires.few (rw c.of-widest.ensures at c.fill-bits.ensures.bits) fits in
+    let fits : c.fill-bits.result ≤ capacity number c.args.level =
+    omega (arith, (rw c.of-version.ensures at c.data_words-in-loop-number.ensures), c.if-bits-data_words.true) in
+    let bits = fitting number c.args.highest c.args.level c.args.bytes.now c.fill-bits.result same
+    (omega (arith, c.loop-number.auto.number)) (omega (arith, c.loop-number-test.true)) c.requires.few
+    (rw c.of-widest.ensures at c.fill-bits.ensures.bits) fits in
     rw (c.plan_of.ensures, c.of-version.ensures) (record {
       from = c.loop-number.auto.number;
       to = omega (arith, c.loop-number-test.true);
@@ -75,8 +117,15 @@ loop-number-preserved c = λ u from below. elim (cases_lt u c.loop-number.number
   | inl before ↦ c.loop-number.invariant u from before
   | inr last ↦
       let here : c.loop-number.number ≡ u = omega arith in
-      let same = c.requires.same c.loop-number.number c.loop-number.auto.number (omega (arith, c.loop-number-test.true)) in
+      let same = c.requires.same c.loop-number.number c.loop-number.auto.number
+      (omega (arith, c.loop-number-test.true)) in
       let long : DoNotFit c.loop-number.number c.args.level c.args.bytes.now =
-      omega (arith, (rw c.of-widest.ensures at c.fill-bits.ensures.bits), (rw c.of-version.ensures at c.data_words-in-loop-number.ensures), c.if-bits-data_words.false, fewest_bits-below c.loop-number.number c.args.highest same c.args.bytes.now) in
+      omega (
+        arith,
+        (rw c.of-widest.ensures at c.fill-bits.ensures.bits),
+        (rw c.of-version.ensures at c.data_words-in-loop-number.ensures),
+        c.if-bits-data_words.false,
+        fewest_bits-below c.loop-number.number c.args.highest same c.args.bytes.now,
+      ) in
       rw here at long
 ]

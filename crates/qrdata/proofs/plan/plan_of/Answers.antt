@@ -1,4 +1,5 @@
-use Rattle.std.proofs.Common.{◌≡◌, ◌≤◌, ◌++◌, ℕ, List, drop, length, append_assoc, append-nil, arith, ap, refl, length-append, lit<}
+use Rattle.std.proofs.Common.{◌≡◌, ◌≤◌, ◌++◌, ℕ, List, drop, length, append_assoc, append-nil, arith, ap, refl}
+use Rattle.std.proofs.Common.{length-append, lit<}
 use Rattle.std.proofs.lemmas.List.{drop_all}
 use Rattle.qrdata.specs.declared.mode.Segment.{Segment}
 use Rattle.qrdata.specs.Fewest.{chosen_segments}
@@ -11,32 +12,47 @@ loop-place-init c = (rw c.new-segments.ensures refl, omega arith, omega (arith, 
 
 pub push-requires : goal.push-requires
 push-requires c =
-    let named = IsNamed-first c.args.version c.args.bytes.now c.args.bits c.args.firsts.now c.loop-place.place c.loop-place-test.true (omega (arith, c.requires.few, c.requires.size)) c.requires.firsts c.loop-place.invariant.2 in
+    let named = IsNamed-first c.args.version c.args.bytes.now c.args.bits c.args.firsts.now c.loop-place.place
+    c.loop-place-test.true (omega (arith, c.requires.few, c.requires.size)) c.requires.firsts
+    c.loop-place.invariant.2 in
     let all = rw named.next at c.loop-place.invariant.0 in
     (lit< tt, omega (arith, ap length all, length-append {A = Segment}, c.requires.short))
 
 pub overflow_add-place : goal.overflow_add-place
 overflow_add-place c =
-    let named = IsNamed-first c.args.version c.args.bytes.now c.args.bits c.args.firsts.now c.loop-place.place c.loop-place-test.true (omega (arith, c.requires.few, c.requires.size)) c.requires.firsts c.loop-place.invariant.2 in
+    let named = IsNamed-first c.args.version c.args.bytes.now c.args.bits c.args.firsts.now c.loop-place.place
+    c.loop-place-test.true (omega (arith, c.requires.few, c.requires.size)) c.requires.firsts
+    c.loop-place.invariant.2 in
     omega (arith, named.inside, c.requires.few, c.from-place.ensures)
 
 pub loop-place-smaller : goal.loop-place-smaller
 loop-place-smaller c =
-    let named = IsNamed-first c.args.version c.args.bytes.now c.args.bits c.args.firsts.now c.loop-place.place c.loop-place-test.true (omega (arith, c.requires.few, c.requires.size)) c.requires.firsts c.loop-place.invariant.2 in
+    let named = IsNamed-first c.args.version c.args.bytes.now c.args.bits c.args.firsts.now c.loop-place.place
+    c.loop-place-test.true (omega (arith, c.requires.few, c.requires.size)) c.requires.firsts
+    c.loop-place.invariant.2 in
     omega (arith, named.some, named.inside, c.from-place.ensures)
 
 pub loop-place-preserved : goal.loop-place-preserved
 loop-place-preserved c =
-    let named = IsNamed-first c.args.version c.args.bytes.now c.args.bits c.args.firsts.now c.loop-place.place c.loop-place-test.true (omega (arith, c.requires.few, c.requires.size)) c.requires.firsts c.loop-place.invariant.2 in
-    (rw (c.push.ensures.items, c.from-place.ensures, append_assoc) (rw named.next at c.loop-place.invariant.0), omega (arith, named.inside, c.from-place.ensures), rw c.from-place.ensures named.small)
+    let named = IsNamed-first c.args.version c.args.bytes.now c.args.bits c.args.firsts.now c.loop-place.place
+    c.loop-place-test.true (omega (arith, c.requires.few, c.requires.size)) c.requires.firsts
+    c.loop-place.invariant.2 in (
+      rw (c.push.ensures.items, c.from-place.ensures, append_assoc) (rw named.next at c.loop-place.invariant.0),
+      omega (arith, named.inside, c.from-place.ensures),
+      rw c.from-place.ensures named.small,
+    )
 
-whole : (version : ℕ) (bytes : List ℕ) (place : ℕ) (segments : List Segment) → segments ++ chosen_segments version (drop place bytes) ≡ chosen_segments version bytes → length bytes ≤ place → segments ≡ chosen_segments version bytes
+whole : (version : ℕ) (bytes : List ℕ) (place : ℕ) (segments : List Segment)
+    → segments ++ chosen_segments version (drop place bytes) ≡ chosen_segments version bytes → length bytes ≤ place
+    → segments ≡ chosen_segments version bytes
 whole version bytes place segments e past = rw (drop_all place bytes past, chosen_segments-nil version, append-nil) at e
 
 pub invariant_of-result : goal.invariant_of-result
 invariant_of-result c =
-    rw (whole c.args.version c.args.bytes.now c.loop-place.place c.loop-place.segments.items c.loop-place.invariant.0 c.loop-place-test.false) c.requires.bits
+    rw (whole c.args.version c.args.bytes.now c.loop-place.place c.loop-place.segments.items c.loop-place.invariant.0
+    c.loop-place-test.false) c.requires.bits
 
 pub returns : goal.returns
 returns c =
-    rw (whole c.args.version c.args.bytes.now c.loop-place.place c.loop-place.segments.items c.loop-place.invariant.0 c.loop-place-test.false) refl
+    rw (whole c.args.version c.args.bytes.now c.loop-place.place c.loop-place.segments.items c.loop-place.invariant.0
+    c.loop-place-test.false) refl

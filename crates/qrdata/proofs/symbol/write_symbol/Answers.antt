@@ -10,27 +10,37 @@ use Rattle.qrdata.proofs.symbol.write_symbol.Goals as goal
 
 pub push_parity-requires-clause-low : goal.push_parity-requires-clause-low
 push_parity-requires-clause-low c =
-    let blocks = HasBlocks-message c.args.version c.args.level c.args.message.now c.known.ensures.0 c.known.ensures.1 c.parity_is_sound.ensures.remainder c.parity_is_sound.ensures.codeword (AreBytes-slice c.args.message.now (λ i. omega (arith, c.type_inv.message i))) c.requires.whole in
+    let blocks = HasBlocks-message c.args.version c.args.level c.args.message.now c.known.ensures.0 c.known.ensures.1
+    c.parity_is_sound.ensures.remainder c.parity_is_sound.ensures.codeword
+    (AreBytes-slice c.args.message.now (λ i. omega (arith, c.type_inv.message i))) c.requires.whole in
     omega (arith, c.parity-count.ensures, blocks.some_parity)
 
 pub push_parity-requires-clause-high : goal.push_parity-requires-clause-high
 push_parity-requires-clause-high c =
-    let blocks = HasBlocks-message c.args.version c.args.level c.args.message.now c.known.ensures.0 c.known.ensures.1 c.parity_is_sound.ensures.remainder c.parity_is_sound.ensures.codeword (AreBytes-slice c.args.message.now (λ i. omega (arith, c.type_inv.message i))) c.requires.whole in
+    let blocks = HasBlocks-message c.args.version c.args.level c.args.message.now c.known.ensures.0 c.known.ensures.1
+    c.parity_is_sound.ensures.remainder c.parity_is_sound.ensures.codeword
+    (AreBytes-slice c.args.message.now (λ i. omega (arith, c.type_inv.message i))) c.requires.whole in
     omega (arith, c.parity-count.ensures, blocks.few_parity)
 
 pub push_parity-requires-clause-whole : goal.push_parity-requires-clause-whole
 push_parity-requires-clause-whole c =
-    let blocks = HasBlocks-message c.args.version c.args.level c.args.message.now c.known.ensures.0 c.known.ensures.1 c.parity_is_sound.ensures.remainder c.parity_is_sound.ensures.codeword (AreBytes-slice c.args.message.now (λ i. omega (arith, c.type_inv.message i))) c.requires.whole in
+    let blocks = HasBlocks-message c.args.version c.args.level c.args.message.now c.known.ensures.0 c.known.ensures.1
+    c.parity_is_sound.ensures.remainder c.parity_is_sound.ensures.codeword
+    (AreBytes-slice c.args.message.now (λ i. omega (arith, c.type_inv.message i))) c.requires.whole in
     rw (c.as_slice.ensures.value, c.lengths-lengths.ensures) blocks.whole
 
 pub interleave-requires-clause-whole : goal.interleave-requires-clause-whole
 interleave-requires-clause-whole c =
-    let blocks = HasBlocks-message c.args.version c.args.level c.args.message.now c.known.ensures.0 c.known.ensures.1 c.parity_is_sound.ensures.remainder c.parity_is_sound.ensures.codeword (AreBytes-slice c.args.message.now (λ i. omega (arith, c.type_inv.message i))) c.requires.whole in
+    let blocks = HasBlocks-message c.args.version c.args.level c.args.message.now c.known.ensures.0 c.known.ensures.1
+    c.parity_is_sound.ensures.remainder c.parity_is_sound.ensures.codeword
+    (AreBytes-slice c.args.message.now (λ i. omega (arith, c.type_inv.message i))) c.requires.whole in
     rw (c.as_slice-2.ensures.value, c.lengths-lengths.ensures) blocks.whole
 
 pub interleave-requires-clause-room : goal.interleave-requires-clause-room
 interleave-requires-clause-room c =
-    let blocks = HasBlocks-message c.args.version c.args.level c.args.message.now c.known.ensures.0 c.known.ensures.1 c.parity_is_sound.ensures.remainder c.parity_is_sound.ensures.codeword (AreBytes-slice c.args.message.now (λ i. omega (arith, c.type_inv.message i))) c.requires.whole in
+    let blocks = HasBlocks-message c.args.version c.args.level c.args.message.now c.known.ensures.0 c.known.ensures.1
+    c.parity_is_sound.ensures.remainder c.parity_is_sound.ensures.codeword
+    (AreBytes-slice c.args.message.now (λ i. omega (arith, c.type_inv.message i))) c.requires.whole in
     omega (arith, ap length c.clear.ensures, blocks.total)
 
 pub interleave-requires-2-clause-whole : goal.interleave-requires-2-clause-whole
@@ -38,21 +48,59 @@ interleave-requires-2-clause-whole c =
     let k = parity_length c.args.version c.args.level in
     let lengths = block_lengths c.args.version c.args.level in
     let all = split_by (block_lengths c.args.version c.args.level) c.args.message.now in
-    let blocks = HasBlocks-message c.args.version c.args.level c.args.message.now c.known.ensures.0 c.known.ensures.1 c.parity_is_sound.ensures.remainder c.parity_is_sound.ensures.codeword (AreBytes-slice c.args.message.now (λ i. omega (arith, c.type_inv.message i))) c.requires.whole in
-    let rooms : c.as_slice-3.result.now ≡ replicate (length lengths) k = rw (c.as_slice-3.ensures.value, c.push_lengths.ensures, c.new-parity_lengths.ensures, c.len.ensures.value, c.lengths-lengths.ensures, c.parity-count.ensures) refl in
-    let words : c.as_slice-4.result.now ≡ flat_map (parity_of k) all = rw (c.as_slice-4.ensures.value, c.push_parity.ensures, c.new-parity.ensures, c.as_slice.ensures.value, c.lengths-lengths.ensures, c.parity-count.ensures) refl in
-    rw (rooms, words) (sum_by-replicate (λ x. x) (length lengths) k ∙ (ap (λ n. n * k) blocks.count ∙ sym blocks.parities))
+    let blocks = HasBlocks-message c.args.version c.args.level c.args.message.now c.known.ensures.0 c.known.ensures.1
+    c.parity_is_sound.ensures.remainder c.parity_is_sound.ensures.codeword
+    (AreBytes-slice c.args.message.now (λ i. omega (arith, c.type_inv.message i))) c.requires.whole in
+    let rooms : c.as_slice-3.result.now ≡ replicate (length lengths) k =
+    rw (
+      c.as_slice-3.ensures.value,
+      c.push_lengths.ensures,
+      c.new-parity_lengths.ensures,
+      c.len.ensures.value,
+      c.lengths-lengths.ensures,
+      c.parity-count.ensures,
+    ) refl in
+    let words : c.as_slice-4.result.now ≡ flat_map (parity_of k) all =
+    rw (
+      c.as_slice-4.ensures.value,
+      c.push_parity.ensures,
+      c.new-parity.ensures,
+      c.as_slice.ensures.value,
+      c.lengths-lengths.ensures,
+      c.parity-count.ensures,
+    ) refl in
+    rw (rooms, words) (sum_by-replicate (λ x. x) (length lengths) k
+    ∙ (ap (λ n. n * k) blocks.count ∙ sym blocks.parities))
 
 pub interleave-requires-2-clause-room : goal.interleave-requires-2-clause-room
 interleave-requires-2-clause-room c =
     let k = parity_length c.args.version c.args.level in
     let lengths = block_lengths c.args.version c.args.level in
     let all = split_by (block_lengths c.args.version c.args.level) c.args.message.now in
-    let blocks = HasBlocks-message c.args.version c.args.level c.args.message.now c.known.ensures.0 c.known.ensures.1 c.parity_is_sound.ensures.remainder c.parity_is_sound.ensures.codeword (AreBytes-slice c.args.message.now (λ i. omega (arith, c.type_inv.message i))) c.requires.whole in
-    let rooms : c.as_slice-3.result.now ≡ replicate (length lengths) k = rw (c.as_slice-3.ensures.value, c.push_lengths.ensures, c.new-parity_lengths.ensures, c.len.ensures.value, c.lengths-lengths.ensures, c.parity-count.ensures) refl in
-    let words : c.as_slice-4.result.now ≡ flat_map (parity_of k) all = rw (c.as_slice-4.ensures.value, c.push_parity.ensures, c.new-parity.ensures, c.as_slice.ensures.value, c.lengths-lengths.ensures, c.parity-count.ensures) refl in
+    let blocks = HasBlocks-message c.args.version c.args.level c.args.message.now c.known.ensures.0 c.known.ensures.1
+    c.parity_is_sound.ensures.remainder c.parity_is_sound.ensures.codeword
+    (AreBytes-slice c.args.message.now (λ i. omega (arith, c.type_inv.message i))) c.requires.whole in
+    let rooms : c.as_slice-3.result.now ≡ replicate (length lengths) k =
+    rw (
+      c.as_slice-3.ensures.value,
+      c.push_lengths.ensures,
+      c.new-parity_lengths.ensures,
+      c.len.ensures.value,
+      c.lengths-lengths.ensures,
+      c.parity-count.ensures,
+    ) refl in
+    let words : c.as_slice-4.result.now ≡ flat_map (parity_of k) all =
+    rw (
+      c.as_slice-4.ensures.value,
+      c.push_parity.ensures,
+      c.new-parity.ensures,
+      c.as_slice.ensures.value,
+      c.lengths-lengths.ensures,
+      c.parity-count.ensures,
+    ) refl in
     let first : length c.interleave.new.out.items ≡ length c.args.message.now =
-    ap length c.interleave.ensures ∙ (rw (c.clear.ensures, c.as_slice-2.ensures.value, c.lengths-lengths.ensures) (length-interleaved_split lengths c.args.message.now blocks.whole)) in
+    ap length c.interleave.ensures ∙ (rw (c.clear.ensures, c.as_slice-2.ensures.value, c.lengths-lengths.ensures)
+    (length-interleaved_split lengths c.args.message.now blocks.whole)) in
     omega (arith, first, ap length words, blocks.parities, blocks.total)
 
 pub returns : goal.returns
@@ -61,7 +109,34 @@ returns c =
     let k = parity_length c.args.version c.args.level in
     let lengths = block_lengths c.args.version c.args.level in
     let all = split_by (block_lengths c.args.version c.args.level) c.args.message.now in
-    let blocks = HasBlocks-message c.args.version c.args.level c.args.message.now c.known.ensures.0 c.known.ensures.1 c.parity_is_sound.ensures.remainder c.parity_is_sound.ensures.codeword (AreBytes-slice c.args.message.now (λ i. omega (arith, c.type_inv.message i))) c.requires.whole in
-    let rooms : c.as_slice-3.result.now ≡ replicate (length lengths) k = rw (c.as_slice-3.ensures.value, c.push_lengths.ensures, c.new-parity_lengths.ensures, c.len.ensures.value, c.lengths-lengths.ensures, c.parity-count.ensures) refl in
-    let words : c.as_slice-4.result.now ≡ flat_map (parity_of k) all = rw (c.as_slice-4.ensures.value, c.push_parity.ensures, c.new-parity.ensures, c.as_slice.ensures.value, c.lengths-lengths.ensures, c.parity-count.ensures) refl in
-    rw (c.interleave-2.ensures, c.interleave.ensures, c.clear.ensures, c.as_slice-2.ensures.value, c.lengths-lengths.ensures, rooms, words, blocks.cut) refl
+    let blocks = HasBlocks-message c.args.version c.args.level c.args.message.now c.known.ensures.0 c.known.ensures.1
+    c.parity_is_sound.ensures.remainder c.parity_is_sound.ensures.codeword
+    (AreBytes-slice c.args.message.now (λ i. omega (arith, c.type_inv.message i))) c.requires.whole in
+    let rooms : c.as_slice-3.result.now ≡ replicate (length lengths) k =
+    rw (
+      c.as_slice-3.ensures.value,
+      c.push_lengths.ensures,
+      c.new-parity_lengths.ensures,
+      c.len.ensures.value,
+      c.lengths-lengths.ensures,
+      c.parity-count.ensures,
+    ) refl in
+    let words : c.as_slice-4.result.now ≡ flat_map (parity_of k) all =
+    rw (
+      c.as_slice-4.ensures.value,
+      c.push_parity.ensures,
+      c.new-parity.ensures,
+      c.as_slice.ensures.value,
+      c.lengths-lengths.ensures,
+      c.parity-count.ensures,
+    ) refl in
+    rw (
+      c.interleave-2.ensures,
+      c.interleave.ensures,
+      c.clear.ensures,
+      c.as_slice-2.ensures.value,
+      c.lengths-lengths.ensures,
+      rooms,
+      words,
+      blocks.cut,
+    ) refl

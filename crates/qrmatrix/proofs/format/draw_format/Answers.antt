@@ -13,17 +13,22 @@ use Rattle.qrmatrix.proofs.format.draw_format.Goals as goal
 pub flip-requires-clause-word : goal.flip-requires-clause-word
 flip-requires-clause-word c =
     let v = c.args.version in
-    let shows = row_shows v c.side-n.result c.format_word-word.result c.format_row.result c.args.level c.args.mask c.loop-y.y c.side-n.ensures.known.0 c.side-n.ensures.known.1 c.requires (omega arith) c.side-n.ensures.value c.format_word-word.ensures c.format_row.ensures in
+    let shows = row_shows v c.side-n.result c.format_word-word.result c.format_row.result c.args.level c.args.mask
+    c.loop-y.y c.side-n.ensures.known.0 c.side-n.ensures.known.1 c.requires (omega arith) c.side-n.ensures.value
+    c.format_word-word.ensures c.format_row.ensures in
     fits v c.format_row.result c.side-n.ensures.known.1 shows.narrow
 
 pub loop-y-preserved : goal.loop-y-preserved
 loop-y-preserved c =
     let v = c.args.version in
     let y = c.loop-y.y in
-    let shows = row_shows v c.side-n.result c.format_word-word.result c.format_row.result c.args.level c.args.mask y c.side-n.ensures.known.0 c.side-n.ensures.known.1 c.requires (omega arith) c.side-n.ensures.value c.format_word-word.ensures c.format_row.ensures in
+    let shows = row_shows v c.side-n.result c.format_word-word.result c.format_row.result c.args.level c.args.mask y
+    c.side-n.ensures.known.0 c.side-n.ensures.known.1 c.requires (omega arith) c.side-n.ensures.value
+    c.format_word-word.ensures c.format_row.ensures in
     record {
       modules = row_turned (side_of v) y c.format_row.result c.args.modules.now c.loop-y.modules c.flip.new.self
-          (λ x y. flip_if (format_by (format_word c.args.level c.args.mask) (role v x y)) (value_at c.args.modules.now x y)) c.loop-y.invariant.modules c.flip.ensures
+          (λ x y. flip_if (format_by (format_word c.args.level c.args.mask) (role v x y))
+          (value_at c.args.modules.now x y)) c.loop-y.invariant.modules c.flip.ensures
           (λ x l. ap (λ z. flip_if z (value_at c.args.modules.now x y)) (shows.shown x l))
           (λ x g. above_bit c.format_row.result (side_of v) x shows.narrow g);
       width = c.loop-y.invariant.width;
@@ -36,27 +41,36 @@ loop-y-2-init c =
     let old = c.args.modules.now in
     let target : ℕ → ℕ → Bool = λ x y. flip_if (format_by word (role v x y)) (value_at old x y) in
     let ended : c.loop-y.y ≡ 9 = omega arith in
-    let first : Mapped (side_of v) old c.loop-y.modules target 9 0 = subst (λ k. Mapped (side_of v) old c.loop-y.modules target k 0) ended c.loop-y.invariant.modules in
+    let first : Mapped (side_of v) old c.loop-y.modules target 9 0 =
+    subst (λ k. Mapped (side_of v) old c.loop-y.modules target k 0) ended c.loop-y.invariant.modules in
     record {
       modules = rows_kept (side_of v) 9 (c.side-n.result - 7) old c.loop-y.modules target first (omega arith)
-          (λ x y lx low high. ap (λ z. flip_if z (value_at old x y)) (format_between v c.side-n.ensures.known.0 c.side-n.ensures.known.1 c.args.level c.args.mask x y c.requires lx low (omega arith)));
+          (λ x y lx low high. ap (λ z. flip_if z (value_at old x y))
+          (format_between v c.side-n.ensures.known.0 c.side-n.ensures.known.1 c.args.level c.args.mask x y c.requires lx
+          low (omega arith)));
       width = c.side-n.ensures.value;
     }
 
 pub flip-requires-in-loop-y-2-clause-word : goal.flip-requires-in-loop-y-2-clause-word
 flip-requires-in-loop-y-2-clause-word c =
     let v = c.args.version in
-    let shows = row_shows v c.side-n.result c.format_word-word.result c.format_row-in-loop-y-2.result c.args.level c.args.mask c.loop-y-2.y c.side-n.ensures.known.0 c.side-n.ensures.known.1 c.requires (omega arith) c.side-n.ensures.value c.format_word-word.ensures c.format_row-in-loop-y-2.ensures in
+    let shows = row_shows v c.side-n.result c.format_word-word.result c.format_row-in-loop-y-2.result c.args.level
+    c.args.mask c.loop-y-2.y c.side-n.ensures.known.0 c.side-n.ensures.known.1 c.requires (omega arith)
+    c.side-n.ensures.value c.format_word-word.ensures c.format_row-in-loop-y-2.ensures in
     fits v c.format_row-in-loop-y-2.result c.side-n.ensures.known.1 shows.narrow
 
 pub loop-y-2-preserved : goal.loop-y-2-preserved
 loop-y-2-preserved c =
     let v = c.args.version in
     let y = c.loop-y-2.y in
-    let shows = row_shows v c.side-n.result c.format_word-word.result c.format_row-in-loop-y-2.result c.args.level c.args.mask y c.side-n.ensures.known.0 c.side-n.ensures.known.1 c.requires (omega arith) c.side-n.ensures.value c.format_word-word.ensures c.format_row-in-loop-y-2.ensures in
+    let shows = row_shows v c.side-n.result c.format_word-word.result c.format_row-in-loop-y-2.result c.args.level
+    c.args.mask y c.side-n.ensures.known.0 c.side-n.ensures.known.1 c.requires (omega arith) c.side-n.ensures.value
+    c.format_word-word.ensures c.format_row-in-loop-y-2.ensures in
     record {
-      modules = row_turned (side_of v) y c.format_row-in-loop-y-2.result c.args.modules.now c.loop-y-2.modules c.flip-in-loop-y-2.new.self
-          (λ x y. flip_if (format_by (format_word c.args.level c.args.mask) (role v x y)) (value_at c.args.modules.now x y)) c.loop-y-2.invariant.modules c.flip-in-loop-y-2.ensures
+      modules = row_turned (side_of v) y c.format_row-in-loop-y-2.result c.args.modules.now c.loop-y-2.modules
+          c.flip-in-loop-y-2.new.self
+          (λ x y. flip_if (format_by (format_word c.args.level c.args.mask) (role v x y))
+          (value_at c.args.modules.now x y)) c.loop-y-2.invariant.modules c.flip-in-loop-y-2.ensures
           (λ x l. ap (λ z. flip_if z (value_at c.args.modules.now x y)) (shows.shown x l))
           (λ x g. above_bit c.format_row-in-loop-y-2.result (side_of v) x shows.narrow g);
       width = c.loop-y-2.invariant.width;

@@ -10,12 +10,16 @@ use Rattle.qrmatrix.proofs.format.draw_format.Given as goal
 
 abbrev pub invariant-loop-y : goal.invariant-loop-y
 invariant-loop-y l = record {
-  modules : Mapped (side_of l.fn.version) l.fn.modules l.modules (λ x y. flip_if (format_by (format_word l.fn.level l.fn.mask) (role l.fn.version x y)) (value_at l.fn.modules x y)) l.y 0;
+  modules : Mapped (side_of l.fn.version) l.fn.modules l.modules
+      (λ x y. flip_if (format_by (format_word l.fn.level l.fn.mask) (role l.fn.version x y))
+      (value_at l.fn.modules x y)) l.y 0;
   width : l.n ≡ side_of l.fn.version;
 }
 
 abbrev pub invariant-loop-y-2 : goal.invariant-loop-y-2
 invariant-loop-y-2 l = record {
-  modules : Mapped (side_of l.fn.version) l.fn.modules l.modules (λ x y. flip_if (format_by (format_word l.fn.level l.fn.mask) (role l.fn.version x y)) (value_at l.fn.modules x y)) l.y 0;
+  modules : Mapped (side_of l.fn.version) l.fn.modules l.modules
+      (λ x y. flip_if (format_by (format_word l.fn.level l.fn.mask) (role l.fn.version x y))
+      (value_at l.fn.modules x y)) l.y 0;
   width : l.n ≡ side_of l.fn.version;
 }

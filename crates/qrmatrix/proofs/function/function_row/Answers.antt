@@ -8,5 +8,18 @@ pub returns : goal.returns
 returns c =
     let v = c.args.version in
     let e : c.or_else-4.result ≡ function_row v c.args.y =
-    rw (c.or_else-4.ensures, c.or_else-3.ensures, c.or_else-2.ensures, c.or_else.ensures, c.finders.ensures, c.alignments.ensures, c.timing.ensures, c.formats.ensures, c.versions.ensures, c.side-n.ensures.value) (all_patterns v c.args.y) in
-    subst (HasFunctions v c.args.y) (sym e) (function_row_is v c.side-n.ensures.known.0 c.side-n.ensures.known.1 c.args.y c.requires)
+    rw (
+      c.or_else-4.ensures,
+      c.or_else-3.ensures,
+      c.or_else-2.ensures,
+      c.or_else.ensures,
+      c.finders.ensures,
+      c.alignments.ensures,
+      c.timing.ensures,
+      c.formats.ensures,
+      c.versions.ensures,
+      c.side-n.ensures.value,
+    )
+    (all_patterns v c.args.y) in
+    subst (HasFunctions v c.args.y) (sym e)
+    (function_row_is v c.side-n.ensures.known.0 c.side-n.ensures.known.1 c.args.y c.requires)

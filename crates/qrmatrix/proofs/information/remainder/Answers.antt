@@ -10,7 +10,8 @@ use Rattle.qrmatrix.proofs.information.remainder.Goals as goal
 use Rattle.qrmatrix.proofs.information.remainder.Goals.{then-rest-degree-eq1, else-rest-degree-eq1}
 
 -- one step of the division, where the highest term is there and where it is not
-divided : (d g s k a : ℕ) → s ≡ suc k → bit_at a (d + k) ≡ 1 → binary_remainder d g s a ≡ binary_remainder d g k (bit_xor a (g * 2 ^ k))
+divided : (d g s k a : ℕ) → s ≡ suc k → bit_at a (d + k) ≡ 1
+    → binary_remainder d g s a ≡ binary_remainder d g k (bit_xor a (g * 2 ^ k))
 unfolding binary_remainder
 divided d g s k a e h =
     let once : 1 * (g * 2 ^ k) ≡ g * 2 ^ k = omega arith in
@@ -42,14 +43,19 @@ loop-i-preserved c =
     let bit = shr_and_one c.loop-i.rest (c.args.degree + k) in
     elim c.if-rest-degree-eq1.branch [
       | then-rest-degree-eq1 w ↦
-          let rest : c.if-rest-degree-eq1.rest ≡ bit_xor c.loop-i.rest (c.args.modulus * 2 ^ k) = w.rest-is ∙ ap (bit_xor c.loop-i.rest) fits in
+          let rest : c.if-rest-degree-eq1.rest ≡ bit_xor c.loop-i.rest (c.args.modulus * 2 ^ k) =
+          w.rest-is ∙ ap (bit_xor c.loop-i.rest) fits in
           record {
-            same = rw (after, rest) (sym (divided c.args.degree c.args.modulus (c.args.count - c.loop-i.i) k c.loop-i.rest before (sym bit ∙ w.if-rest-degree-eq1.true)) ∙ c.loop-i.invariant.same);
+            same = rw (after, rest) (sym
+                (divided c.args.degree c.args.modulus (c.args.count - c.loop-i.i) k c.loop-i.rest before
+                (sym bit ∙ w.if-rest-degree-eq1.true)) ∙ c.loop-i.invariant.same);
             bound = rw rest (xor_lt 20 c.loop-i.rest (c.args.modulus * 2 ^ k) c.loop-i.invariant.bound (omega arith));
           }
       | else-rest-degree-eq1 w ↦
           record {
-            same = rw (after, w.rest-is) (sym (passed c.args.degree c.args.modulus (c.args.count - c.loop-i.i) k c.loop-i.rest before (λ e. w.if-rest-degree-eq1.false (bit ∙ e))) ∙ c.loop-i.invariant.same);
+            same = rw (after, w.rest-is)
+                (sym (passed c.args.degree c.args.modulus (c.args.count - c.loop-i.i) k c.loop-i.rest before
+                (λ e. w.if-rest-degree-eq1.false (bit ∙ e))) ∙ c.loop-i.invariant.same);
             bound = rw w.rest-is c.loop-i.invariant.bound;
           }
     ]

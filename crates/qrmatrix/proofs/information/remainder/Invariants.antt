@@ -4,6 +4,7 @@ use Rattle.qrmatrix.proofs.information.remainder.Given as goal
 
 abbrev pub invariant-loop-i : goal.invariant-loop-i
 invariant-loop-i l = record {
-  same : binary_remainder l.degree l.modulus (l.count - l.i) l.rest ≡ binary_remainder l.degree l.modulus l.count l.fn.message;
+  same : binary_remainder l.degree l.modulus (l.count - l.i) l.rest
+      ≡ binary_remainder l.degree l.modulus l.count l.fn.message;
   bound : l.rest < 2 ^ 20;
 }

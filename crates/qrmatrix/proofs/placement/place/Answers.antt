@@ -2,7 +2,8 @@ use Rattle.std.proofs.Common.{◌≡◌, ◌+◌, ◌-◌, ◌*◌, ◌/◌, ◌
 use Rattle.qrdata.specs.Versions.{side_of}
 use Rattle.qrmatrix.specs.Square.{value_at}
 use Rattle.qrmatrix.specs.Private.WordPairs.{ArePairs}
-use Rattle.qrmatrix.proofs.CursorSteps.{AtRow, Placed, row_of, row_up, row_down, placed_none, placed_pair, placed_two, light_ahead}
+use Rattle.qrmatrix.proofs.CursorSteps.{AtRow, Placed, row_of, row_up, row_down, placed_none, placed_pair, placed_two}
+use Rattle.qrmatrix.proofs.CursorSteps.{light_ahead}
 use Rattle.qrmatrix.proofs.EachVersion.{computed}
 use Rattle.qrmatrix.proofs.Ranks.{outside_at, below_at}
 use Rattle.qrmatrix.proofs.placement.place.Goals as goal
@@ -12,7 +13,8 @@ pub loop-strip-init : goal.loop-strip-init
 loop-strip-init c =
     let v = c.args.version in
     record {
-      placed = placed_none v (computed v c.side-n.ensures.known.0 c.side-n.ensures.known.1) c.args.words.now.items _ (2 * side_of v * 0) (omega arith) c.requires.light;
+      placed = placed_none v (computed v c.side-n.ensures.known.0 c.side-n.ensures.known.1) c.args.words.now.items _
+          (2 * side_of v * 0) (omega arith) c.requires.light;
       pairs = subst (λ words. ArePairs words c.word_pairs-pairs.result) c.deref.ensures.0 c.word_pairs-pairs.ensures;
       width = c.side-n.ensures.value;
     }
@@ -23,11 +25,15 @@ place_two-requires-clause-light c =
     let i = c.loop-t.invariant in
     let inside : c.loop-t.t < side_of v = omega arith in
     let y : c.if-strip-eq0.y ≡ row_of (side_of v) c.loop-strip.strip c.loop-t.t = elim c.if-strip-eq0.branch [
-      | then-strip-eq0 w ↦ row_up (side_of v) c.side-n.result c.loop-strip.strip c.loop-t.t c.if-strip-eq0.y i.width w.if-strip-eq0.true w.y-is
-      | else-strip-eq0 w ↦ row_down (side_of v) c.loop-strip.strip c.loop-t.t c.if-strip-eq0.y w.if-strip-eq0.false w.y-is
+      | then-strip-eq0 w ↦ row_up (side_of v) c.side-n.result c.loop-strip.strip c.loop-t.t c.if-strip-eq0.y i.width
+          w.if-strip-eq0.true w.y-is
+      | else-strip-eq0 w ↦ row_down (side_of v) c.loop-strip.strip c.loop-t.t c.if-strip-eq0.y w.if-strip-eq0.false
+          w.y-is
     ] in
-    let at : AtRow v c.loop-strip.strip c.loop-t.t c.if-strip-n.right c.if-strip-eq0.y = record { strip = i.inside; step = inside; column = i.right; row = y } in
-    light_ahead v c.args.words.now.items _ c.loop-t.modules c.args.function.now c.loop-t.i c.loop-strip.strip c.loop-t.t c.if-strip-n.right c.if-strip-eq0.y c.requires.marked i.placed at (c.are_free.ensures c.if-are_free.true)
+    let at : AtRow v c.loop-strip.strip c.loop-t.t c.if-strip-n.right c.if-strip-eq0.y =
+    record { strip = i.inside; step = inside; column = i.right; row = y } in
+    light_ahead v c.args.words.now.items _ c.loop-t.modules c.args.function.now c.loop-t.i c.loop-strip.strip c.loop-t.t
+    c.if-strip-n.right c.if-strip-eq0.y c.requires.marked i.placed at (c.are_free.ensures c.if-are_free.true)
 
 pub loop-t-preserved : goal.loop-t-preserved
 loop-t-preserved c =
@@ -37,23 +43,37 @@ loop-t-preserved c =
     let i = c.loop-t.invariant in
     let inside : c.loop-t.t < side_of v = omega arith in
     let y : c.if-strip-eq0.y ≡ row_of (side_of v) c.loop-strip.strip c.loop-t.t = elim c.if-strip-eq0.branch [
-      | then-strip-eq0 w ↦ row_up (side_of v) c.side-n.result c.loop-strip.strip c.loop-t.t c.if-strip-eq0.y i.width w.if-strip-eq0.true w.y-is
-      | else-strip-eq0 w ↦ row_down (side_of v) c.loop-strip.strip c.loop-t.t c.if-strip-eq0.y w.if-strip-eq0.false w.y-is
+      | then-strip-eq0 w ↦ row_up (side_of v) c.side-n.result c.loop-strip.strip c.loop-t.t c.if-strip-eq0.y i.width
+          w.if-strip-eq0.true w.y-is
+      | else-strip-eq0 w ↦ row_down (side_of v) c.loop-strip.strip c.loop-t.t c.if-strip-eq0.y w.if-strip-eq0.false
+          w.y-is
     ] in
-    let at : AtRow v c.loop-strip.strip c.loop-t.t c.if-strip-n.right c.if-strip-eq0.y = record { strip = i.inside; step = inside; column = i.right; row = y } in
+    let at : AtRow v c.loop-strip.strip c.loop-t.t c.if-strip-n.right c.if-strip-eq0.y =
+    record { strip = i.inside; step = inside; column = i.right; row = y } in
     record {
       placed = elim c.if-are_free.branch [
         | then-are_free w ↦
-            subst (λ z. Placed v words (value_at c.args.modules.now) (value_at c.if-are_free.modules) z (2 * side_of v * c.loop-strip.strip + 2 * (c.loop-t.t + 1))) (sym w.i-is)
-            (subst (λ z. Placed v words (value_at c.args.modules.now) (value_at z) (c.loop-t.i + 2) (2 * side_of v * c.loop-strip.strip + 2 * (c.loop-t.t + 1))) (sym w.modules-is)
-            (placed_two v known words (value_at c.args.modules.now) c.loop-t.modules w.place_two.new.modules c.args.function.now c.loop-t.i c.loop-strip.strip c.loop-t.t c.if-strip-n.right c.if-strip-eq0.y w.two_bits.result
-            c.requires.marked i.placed at (c.are_free.ensures w.if-are_free.true) (w.two_bits.ensures.bits words i.pairs) w.place_two.ensures))
+            subst (λ z. Placed v words (value_at c.args.modules.now) (value_at c.if-are_free.modules) z
+            (2 * side_of v * c.loop-strip.strip + 2 * (c.loop-t.t + 1))) (sym w.i-is)
+            (subst (λ z. Placed v words (value_at c.args.modules.now) (value_at z) (c.loop-t.i + 2)
+            (2 * side_of v * c.loop-strip.strip + 2 * (c.loop-t.t + 1))) (sym w.modules-is)
+            (placed_two v known words (value_at c.args.modules.now) c.loop-t.modules w.place_two.new.modules
+            c.args.function.now c.loop-t.i c.loop-strip.strip c.loop-t.t c.if-strip-n.right c.if-strip-eq0.y
+            w.two_bits.result
+            c.requires.marked i.placed at (c.are_free.ensures w.if-are_free.true)
+            (w.two_bits.ensures.bits words i.pairs) w.place_two.ensures))
         | else-are_free w ↦
-            subst (λ z. Placed v words (value_at c.args.modules.now) (value_at c.if-are_free.modules) z (2 * side_of v * c.loop-strip.strip + 2 * (c.loop-t.t + 1))) (sym w.i-is)
-            (subst (λ z. Placed v words (value_at c.args.modules.now) (value_at z) w.place_module-i-else-are_free.result (2 * side_of v * c.loop-strip.strip + 2 * (c.loop-t.t + 1))) (sym w.modules-is)
-            (placed_pair v known words (value_at c.args.modules.now) c.loop-t.modules w.place_module-i.new.modules w.place_module-i-else-are_free.new.modules c.loop-t.i w.place_module-i.result w.place_module-i-else-are_free.result
-            c.loop-strip.strip c.loop-t.t c.if-strip-n.right c.if-strip-eq0.y c.args.function.now c.requires.marked i.placed at
-            w.place_module-i.ensures.free w.place_module-i.ensures.kept w.place_module-i-else-are_free.ensures.free w.place_module-i-else-are_free.ensures.kept))
+            subst (λ z. Placed v words (value_at c.args.modules.now) (value_at c.if-are_free.modules) z
+            (2 * side_of v * c.loop-strip.strip + 2 * (c.loop-t.t + 1))) (sym w.i-is)
+            (subst (λ z. Placed v words (value_at c.args.modules.now) (value_at z) w.place_module-i-else-are_free.result
+            (2 * side_of v * c.loop-strip.strip + 2 * (c.loop-t.t + 1))) (sym w.modules-is)
+            (placed_pair v known words (value_at c.args.modules.now) c.loop-t.modules w.place_module-i.new.modules
+            w.place_module-i-else-are_free.new.modules c.loop-t.i w.place_module-i.result
+            w.place_module-i-else-are_free.result
+            c.loop-strip.strip c.loop-t.t c.if-strip-n.right c.if-strip-eq0.y c.args.function.now c.requires.marked
+            i.placed at
+            w.place_module-i.ensures.free w.place_module-i.ensures.kept w.place_module-i-else-are_free.ensures.free
+            w.place_module-i-else-are_free.ensures.kept))
       ];
       pairs = i.pairs;
       width = i.width;

@@ -7,7 +7,8 @@ use Rattle.qrmatrix.proofs.placement.place.Given as goal
 
 abbrev pub invariant-loop-t : goal.invariant-loop-t
 invariant-loop-t l = record {
-  placed : Placed l.fn.version l.words.items (value_at l.fn.modules) (value_at l.modules) l.i (2 * side_of l.fn.version * l.strip + 2 * l.t);
+  placed : Placed l.fn.version l.words.items (value_at l.fn.modules) (value_at l.modules) l.i
+      (2 * side_of l.fn.version * l.strip + 2 * l.t);
   pairs : ArePairs l.words.items l.pairs;
   width : l.n ≡ side_of l.fn.version;
   right : l.right ≡ right_column (side_of l.fn.version) l.strip;
@@ -16,7 +17,8 @@ invariant-loop-t l = record {
 
 abbrev pub invariant-loop-strip : goal.invariant-loop-strip
 invariant-loop-strip l = record {
-  placed : Placed l.fn.version l.words.items (value_at l.fn.modules) (value_at l.modules) l.i (2 * side_of l.fn.version * l.strip);
+  placed : Placed l.fn.version l.words.items (value_at l.fn.modules) (value_at l.modules) l.i
+      (2 * side_of l.fn.version * l.strip);
   pairs : ArePairs l.words.items l.pairs;
   width : l.n ≡ side_of l.fn.version;
 }

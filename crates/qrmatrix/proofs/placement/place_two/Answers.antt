@@ -5,4 +5,5 @@ pub flip-requires-clause-word : goal.flip-requires-clause-word
 flip-requires-clause-word c = up_narrow c.args.two c.args.x c.requires.bits c.requires.column
 
 pub returns : goal.returns
-returns c = two_written c.args.modules.now c.flip.new.self c.args.two c.args.x c.args.y c.requires.bits c.requires.column c.requires.light c.flip.ensures
+returns c = two_written c.args.modules.now c.flip.new.self c.args.two c.args.x c.args.y c.requires.bits
+    c.requires.column c.requires.light c.flip.ensures

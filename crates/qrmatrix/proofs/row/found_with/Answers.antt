@@ -13,7 +13,9 @@ returns c =
     let word = c.args.word in
     elim c.if-dark.branch [
       | then-dark w ↦
-          ap (λ z. bit (bit_and found z) i) w.result-is ∙ found_dark found word i ∙ ap (λ z. bit found i && beq (bit word i) z) (sym w.if-dark.true)
+          ap (λ z. bit (bit_and found z) i) w.result-is ∙ found_dark found word i
+          ∙ ap (λ z. bit found i && beq (bit word i) z) (sym w.if-dark.true)
       | else-dark w ↦
-          ap (λ z. bit (bit_and found z) i) w.result-is ∙ found_light found word i (omega arith) l ∙ ap (λ z. bit found i && beq (bit word i) z) (sym w.if-dark.false)
+          ap (λ z. bit (bit_and found z) i) w.result-is ∙ found_light found word i (omega arith) l
+          ∙ ap (λ z. bit found i && beq (bit word i) z) (sym w.if-dark.false)
     ]

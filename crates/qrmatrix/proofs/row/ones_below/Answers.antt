@@ -4,10 +4,12 @@ use Rattle.qrmatrix.proofs.RowSums.{ones_below, count_small}
 use Rattle.qrmatrix.proofs.row.ones_below.Goals as goal
 
 pub returns-clause-value : goal.returns-clause-value
-returns-clause-value c = ones_below c.args.word c.low_ones.result c.args.n c.requires c.low_ones.ensures.bound c.low_ones.ensures.bits
+returns-clause-value c = ones_below c.args.word c.low_ones.result c.args.n c.requires c.low_ones.ensures.bound
+    c.low_ones.ensures.bits
 
 pub returns-clause-bound : goal.returns-clause-bound
 returns-clause-bound c =
-    let a = ones_below c.args.word c.low_ones.result c.args.n c.requires c.low_ones.ensures.bound c.low_ones.ensures.bits in
+    let a = ones_below c.args.word c.low_ones.result c.args.n c.requires c.low_ones.ensures.bound
+    c.low_ones.ensures.bits in
     let b = count_small c.args.n (bit c.args.word) in
     omega arith

@@ -9,10 +9,12 @@ use Rattle.qrmatrix.proofs.UnderMask.{flip_light}
 use Rattle.qrmatrix.proofs.unmasked.draw_functions.Goals as goal
 
 pub flip-requires-clause-word : goal.flip-requires-clause-word
-flip-requires-clause-word c = fits c.args.version c.function_row-row.result.taken c.side-n.ensures.known.1 c.function_row-row.ensures.narrow_taken
+flip-requires-clause-word c = fits c.args.version c.function_row-row.result.taken c.side-n.ensures.known.1
+    c.function_row-row.ensures.narrow_taken
 
 pub flip-requires-in-loop-y-clause-word : goal.flip-requires-in-loop-y-clause-word
-flip-requires-in-loop-y-clause-word c = fits c.args.version c.function_row-row.result.dark c.side-n.ensures.known.1 c.function_row-row.ensures.narrow_dark
+flip-requires-in-loop-y-clause-word c = fits c.args.version c.function_row-row.result.dark c.side-n.ensures.known.1
+    c.function_row-row.ensures.narrow_dark
 
 pub loop-y-preserved : goal.loop-y-preserved
 loop-y-preserved c =
@@ -22,10 +24,12 @@ loop-y-preserved c =
     let row = c.function_row-row.result in
     let has = c.function_row-row.ensures in
     record {
-      function = row_turned n y row.taken c.args.function.now c.loop-y.function c.flip.new.self (λ x y. not (is_free v x y)) c.loop-y.invariant.function c.flip.ensures
+      function = row_turned n y row.taken c.args.function.now c.loop-y.function c.flip.new.self
+          (λ x y. not (is_free v x y)) c.loop-y.invariant.function c.flip.ensures
           (λ x l. rw (c.requires.blank_function x y) (flip_light _ ∙ has.taken x l))
           (λ x g. above_bit row.taken n x has.narrow_taken g);
-      modules = row_turned n y row.dark c.args.modules.now c.loop-y.modules c.flip-in-loop-y.new.self (λ x y. drawn_by v (role v x y)) c.loop-y.invariant.modules c.flip-in-loop-y.ensures
+      modules = row_turned n y row.dark c.args.modules.now c.loop-y.modules c.flip-in-loop-y.new.self
+          (λ x y. drawn_by v (role v x y)) c.loop-y.invariant.modules c.flip-in-loop-y.ensures
           (λ x l. rw (c.requires.blank_modules x y) (flip_light _ ∙ has.dark x l))
           (λ x g. above_bit row.dark n x has.narrow_dark g);
       width = c.loop-y.invariant.width;

@@ -1,4 +1,5 @@
-use Rattle.std.proofs.Common.{◌≡◌, ◌-◌, ◌*◌, ◌%◌, ◌<◌, ◌++◌, length, length-append, replicate, arith, ap, refl, ◌∙◌, false, min, Bool}
+use Rattle.std.proofs.Common.{◌≡◌, ◌-◌, ◌*◌, ◌%◌, ◌<◌, ◌++◌, length, length-append, replicate, arith, ap, refl, ◌∙◌}
+use Rattle.std.proofs.Common.{false, min, Bool}
 use Rattle.std.proofs.lemmas.List.Elements.{recursion_from_All}
 use Rattle.qrdata.specs.Bits.{bits_of}
 use Rattle.qrdata.specs.Private.BitsInWords.{bits_in}
@@ -11,7 +12,18 @@ use Rattle.qrdata.proofs.bits.Bits.end.Goals as goal
 pub push_number-requires-2-clause-room : goal.push_number-requires-2-clause-room
 push_number-requires-2-clause-room c =
     let bits = bits_in c.args.self.now in
-    omega (arith, ap length c.push_number.ensures, length-append bits (bits_of c.min.result 0), length-bits_of c.min.result 0, c.min.ensures, c.len.ensures, c.requires.fits, c.requires.size, length-bits_in c.push_number.new.self, c.push_number.new.self.rest.few)
+    omega (
+      arith,
+      ap length c.push_number.ensures,
+      length-append bits (bits_of c.min.result 0),
+      length-bits_of c.min.result 0,
+      c.min.ensures,
+      c.len.ensures,
+      c.requires.fits,
+      c.requires.size,
+      length-bits_in c.push_number.new.self,
+      c.push_number.new.self.rest.few,
+    )
 
 pub returns-clause-bits : goal.returns-clause-bits
 unfolding aligned terminated
@@ -21,9 +33,11 @@ returns-clause-bits c =
     let few : c.min.result ≡ min 4 (8 * c.args.size - length bits) = omega (arith, c.min.ensures, c.len.ensures) in
     let whole = bits ++ replicate (min 4 (8 * c.args.size - length bits)) false in
     let ended : bits_in c.push_number.new.self ≡ whole = rw (c.push_number.ensures, few, bits_of-zero) refl in
-    let over : rest.count ≡ length (bits_in c.push_number.new.self) % 8 = omega (arith, length-bits_in c.push_number.new.self, rest.few) in
+    let over : rest.count ≡ length (bits_in c.push_number.new.self) % 8 =
+    omega (arith, length-bits_in c.push_number.new.self, rest.few) in
     let zeros : bits_of ((8 - rest.count) % 8) 0 ≡ replicate ((8 - length whole % 8) % 8) false =
-    bits_of-zero ((8 - rest.count) % 8) ∙ ap (λ k. replicate ((8 - k) % 8) false) (over ∙ ap (λ l. length l % 8) ended) in
+    bits_of-zero ((8 - rest.count) % 8) ∙ ap (λ k. replicate ((8 - k) % 8) false)
+    (over ∙ ap (λ l. length l % 8) ended) in
     c.push_number-2.ensures ∙ (ap (λ l. l ++ bits_of ((8 - rest.count) % 8) 0) ended ∙ ap (λ z. whole ++ z) zeros)
 
 pub returns-clause-words : goal.returns-clause-words
@@ -31,7 +45,8 @@ returns-clause-words c =
     let size = aligned_is c.args.size (bits_in c.args.self.now) c.requires.fits in
     let words = c.push_number-2.new.self.words.items in
     let rest = c.push_number-2.new.self.rest in
-    whole_words words rest.count rest.number size.0 (recursion_from_All (λ b. b < 256) words (rw c.as_slice.ensures.value at c.are_bytes.ensures)) rest.few
+    whole_words words rest.count rest.number size.0
+    (recursion_from_All (λ b. b < 256) words (rw c.as_slice.ensures.value at c.are_bytes.ensures)) rest.few
     (ap length (returns-clause-bits c) ∙ omega (arith, ap length size.2, length-append {A = Bool}, size.3))
 
 pub returns-clause-count : goal.returns-clause-count

@@ -1,8 +1,10 @@
-use Rattle.std.proofs.Common.{◌≡◌, ◌+◌, ◌-◌, ◌++◌, drop, take, length, get_or, append_assoc, append-nil, arith, ap, length-append}
+use Rattle.std.proofs.Common.{◌≡◌, ◌+◌, ◌-◌, ◌++◌, drop, take, length, get_or, append_assoc, append-nil, arith, ap}
+use Rattle.std.proofs.Common.{length-append}
 use Rattle.qrdata.specs.Private.BitsInWords.{bits_in}
 use Rattle.qrdata.specs.Segments.{segment_bits}
 use Rattle.std.proofs.lemmas.List.{drop-drop, length-drop}
-use Rattle.qrdata.proofs.Writing.{default_segment, IsSegmentation-next, length-segment_bits_front, cost-next, segments_bits-next, segments_bits-none_left}
+use Rattle.qrdata.proofs.Writing.{default_segment, IsSegmentation-next, length-segment_bits_front, cost-next}
+use Rattle.qrdata.proofs.Writing.{segments_bits-next, segments_bits-none_left}
 use Rattle.qrdata.proofs.bits.Bits.push_segments.Goals as goal
 
 pub loop-segment-preserved : goal.loop-segment-preserved
@@ -18,15 +20,25 @@ loop-segment-preserved c =
     let piece : place + c.from.result - place ≡ s.len = omega arith in
     let next = segments_bits-next version segments default_segment bytes i place inside in
     let held = IsSegmentation-next version segments default_segment bytes i place inside c.loop-segment.invariant.3 in
-    let written : bits_in c.push_segment.new.self ≡ bits_in c.loop-segment.self ++ segment_bits version s.mode (take s.len (drop place bytes)) = rw piece at c.push_segment.ensures in
+    let written : bits_in c.push_segment.new.self ≡ bits_in c.loop-segment.self
+    ++ segment_bits version s.mode (take s.len (drop place bytes)) = rw piece at c.push_segment.ensures in
     let count = length-segment_bits_front version s.mode s.len (drop place bytes) held.0.inside in (
       rw (written, size, append_assoc) (rw next at c.loop-segment.invariant.0),
-      omega (arith, ap length written, length-append (bits_in c.loop-segment.self) (segment_bits version s.mode (take s.len (drop place bytes))), count, cost-next version segments default_segment i inside, c.loop-segment.invariant.1),
+      omega (
+        arith,
+        ap length written,
+        length-append (bits_in c.loop-segment.self)
+            (segment_bits version s.mode (take s.len (drop place bytes))),
+        count,
+        cost-next version segments default_segment i inside,
+        c.loop-segment.invariant.1,
+      ),
       omega (arith, held.0.inside, length-drop place bytes, size, c.loop-segment.invariant.2),
       rw (size, ← drop-drop s.len place bytes) held.1,
     )
 
 pub returns : goal.returns
 returns c =
-    let none = segments_bits-none_left c.args.version c.args.segments.now (drop c.loop-segment.place c.args.bytes.now) c.loop-segment.segment-index c.loop-segment-test.false in
+    let none = segments_bits-none_left c.args.version c.args.segments.now (drop c.loop-segment.place c.args.bytes.now)
+    c.loop-segment.segment-index c.loop-segment-test.false in
     rw (none, append-nil) at c.loop-segment.invariant.0

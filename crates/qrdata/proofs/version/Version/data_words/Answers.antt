@@ -3,14 +3,17 @@ use Rattle.qrdata.proofs.VersionTable.{HasSoundBlocks-of, data_codewords-is}
 use Rattle.qrdata.proofs.version.Version.data_words.Goals as goal
 
 pub overflow_sub-result : goal.overflow_sub-result
-overflow_sub-result c = rw (c.total_words.ensures, c.blocks-2.ensures, c.parity.ensures) (HasSoundBlocks-of c.args.self c.args.level c.known.ensures.0 c.known.ensures.1).room
+overflow_sub-result c = rw (c.total_words.ensures, c.blocks-2.ensures, c.parity.ensures)
+    (HasSoundBlocks-of c.args.self c.args.level c.known.ensures.0 c.known.ensures.1).room
 
 pub overflow_mul-result : goal.overflow_mul-result
 overflow_mul-result c =
     let within : c.blocks-2.result * c.parity.result ≤ c.total_words.result =
-    rw (c.total_words.ensures, c.blocks-2.ensures, c.parity.ensures) (HasSoundBlocks-of c.args.self c.args.level c.known.ensures.0 c.known.ensures.1).room in
+    rw (c.total_words.ensures, c.blocks-2.ensures, c.parity.ensures)
+    (HasSoundBlocks-of c.args.self c.args.level c.known.ensures.0 c.known.ensures.1).room in
     omega (arith, within, c.total_words.type_inv)
 
 pub returns : goal.returns
 returns c =
-    rw (c.total_words.ensures, c.blocks-2.ensures, c.parity.ensures) (sym (data_codewords-is c.args.self c.args.level c.known.ensures.0 c.known.ensures.1))
+    rw (c.total_words.ensures, c.blocks-2.ensures, c.parity.ensures)
+    (sym (data_codewords-is c.args.self c.args.level c.known.ensures.0 c.known.ensures.1))

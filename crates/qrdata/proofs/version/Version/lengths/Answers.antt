@@ -5,7 +5,11 @@ use Rattle.qrdata.proofs.VersionTable.{block_lengths-even, capacity-le, HasSound
 use Rattle.qrdata.proofs.version.Version.lengths.Goals as goal
 
 pub nonzero_rem-words : goal.nonzero_rem-words
-nonzero_rem-words c = omega (arith, c.blocks-blocks.ensures, (HasSoundBlocks-of c.args.self c.args.level c.known.ensures.0 c.known.ensures.1).some_blocks)
+nonzero_rem-words c = omega (
+  arith,
+  c.blocks-blocks.ensures,
+  (HasSoundBlocks-of c.args.self c.args.level c.known.ensures.0 c.known.ensures.1).some_blocks,
+)
 
 pub overflow_sub-blocks : goal.overflow_sub-blocks
 overflow_sub-blocks c =
@@ -13,15 +17,33 @@ overflow_sub-blocks c =
     omega (arith, mod-lt c.data_words-words.result some)
 
 pub push_lengths-requires : goal.push_lengths-requires
-push_lengths-requires c = record { room = omega (arith, ap length c.new-lengths.ensures, c.blocks-blocks.ensures, (HasSoundBlocks-of c.args.self c.args.level c.known.ensures.0 c.known.ensures.1).few_blocks) }
+push_lengths-requires c = record {
+  room =
+      omega (
+        arith,
+        ap length c.new-lengths.ensures,
+        c.blocks-blocks.ensures,
+        (HasSoundBlocks-of c.args.self c.args.level c.known.ensures.0 c.known.ensures.1).few_blocks,
+      );
+}
 
 pub overflow_add-words : goal.overflow_add-words
 overflow_add-words c =
-    omega (arith, div-le_self c.data_words-words.result c.blocks-blocks.result, c.data_words-words.ensures, capacity-le c.args.level c.args.self c.known.ensures.0 c.known.ensures.1)
+    omega (
+      arith,
+      div-le_self c.data_words-words.result c.blocks-blocks.result,
+      c.data_words-words.ensures,
+      capacity-le c.args.level c.args.self c.known.ensures.0 c.known.ensures.1,
+    )
 
 pub push_lengths-requires-2 : goal.push_lengths-requires-2
 push_lengths-requires-2 c =
-    let some : 0 < c.blocks-blocks.result = omega (arith, c.blocks-blocks.ensures, (HasSoundBlocks-of c.args.self c.args.level c.known.ensures.0 c.known.ensures.1).some_blocks) in
+    let some : 0 < c.blocks-blocks.result =
+    omega (
+      arith,
+      c.blocks-blocks.ensures,
+      (HasSoundBlocks-of c.args.self c.args.level c.known.ensures.0 c.known.ensures.1).some_blocks,
+    ) in
     let short = c.blocks-blocks.result - c.data_words-words.result % c.blocks-blocks.result in
     record {
       room = omega (
@@ -38,13 +60,31 @@ push_lengths-requires-2 c =
 
 pub returns : goal.returns
 returns c =
-    rw (c.push_lengths-2.ensures, c.push_lengths.ensures, c.new-lengths.ensures, c.blocks-blocks.ensures, c.data_words-words.ensures) (block_lengths-even c.args.self c.args.level c.known.ensures.0 c.known.ensures.1)
+    rw (
+      c.push_lengths-2.ensures,
+      c.push_lengths.ensures,
+      c.new-lengths.ensures,
+      c.blocks-blocks.ensures,
+      c.data_words-words.ensures,
+    ) (block_lengths-even c.args.self c.args.level c.known.ensures.0 c.known.ensures.1)
 
 pub nonzero_div-words : goal.nonzero_div-words
-nonzero_div-words c = omega (arith, c.blocks-blocks.ensures, (HasSoundBlocks-of c.args.self c.args.level c.known.ensures.0 c.known.ensures.1).some_blocks)
+nonzero_div-words c = omega (
+  arith,
+  c.blocks-blocks.ensures,
+  (HasSoundBlocks-of c.args.self c.args.level c.known.ensures.0 c.known.ensures.1).some_blocks,
+)
 
 pub nonzero_rem-words-2 : goal.nonzero_rem-words-2
-nonzero_rem-words-2 c = omega (arith, c.blocks-blocks.ensures, (HasSoundBlocks-of c.args.self c.args.level c.known.ensures.0 c.known.ensures.1).some_blocks)
+nonzero_rem-words-2 c = omega (
+  arith,
+  c.blocks-blocks.ensures,
+  (HasSoundBlocks-of c.args.self c.args.level c.known.ensures.0 c.known.ensures.1).some_blocks,
+)
 
 pub nonzero_div-words-2 : goal.nonzero_div-words-2
-nonzero_div-words-2 c = omega (arith, c.blocks-blocks.ensures, (HasSoundBlocks-of c.args.self c.args.level c.known.ensures.0 c.known.ensures.1).some_blocks)
+nonzero_div-words-2 c = omega (
+  arith,
+  c.blocks-blocks.ensures,
+  (HasSoundBlocks-of c.args.self c.args.level c.known.ensures.0 c.known.ensures.1).some_blocks,
+)

@@ -6,7 +6,8 @@ use Rattle.qrmatrix.proofs.unmasked.Unmasked.draw.Goals as goal
 pub place-requires-clause-light : goal.place-requires-clause-light
 unfolding is_free
 place-requires-clause-light c =
-    λ x y lx ly free. c.draw_functions.ensures.drawn x y lx ly ∙ free_is_light c.args.version (role c.args.version x y) free
+    λ x y lx ly free. c.draw_functions.ensures.drawn x y lx ly
+    ∙ free_is_light c.args.version (role c.args.version x y) free
 
 pub returns-clause-placed : goal.returns-clause-placed
 returns-clause-placed c =
@@ -14,6 +15,8 @@ returns-clause-placed c =
       marked = c.draw_functions.ensures.marked;
       free = c.place.ensures.placed;
       taken = λ x y lx ly t. c.place.ensures.others x y lx ly t ∙ c.draw_functions.ensures.drawn x y lx ly;
-      columns = λ x y l. c.place.ensures.outside.columns x y l ∙ c.draw_functions.ensures.outside.columns x y l ∙ c.new-modules.ensures x y;
-      rows = λ x y l. c.place.ensures.outside.rows x y l ∙ c.draw_functions.ensures.outside.rows x y l ∙ c.new-modules.ensures x y;
+      columns = λ x y l. c.place.ensures.outside.columns x y l ∙ c.draw_functions.ensures.outside.columns x y l
+          ∙ c.new-modules.ensures x y;
+      rows = λ x y l. c.place.ensures.outside.rows x y l ∙ c.draw_functions.ensures.outside.rows x y l
+          ∙ c.new-modules.ensures x y;
     }

@@ -12,4 +12,5 @@ returns-clause-value c = λ words u.
     let v = c.args.self.now.version in
     let f : ℕ → ℕ = λ k. penalty (side_of v) (module_at v c.args.self.now.level k words) in
     let e : c.loop-mask.mask ≡ 8 = omega arith in
-    sym (least_of_eight f c.loop-mask.best (subst (λ n. Found f n c.loop-mask.best c.loop-mask.least) e (c.loop-mask.invariant.found words u)).least)
+    sym (least_of_eight f c.loop-mask.best
+    (subst (λ n. Found f n c.loop-mask.best c.loop-mask.least) e (c.loop-mask.invariant.found words u)).least)

@@ -8,6 +8,8 @@ use Rattle.qrmatrix.proofs.unmasked.Unmasked.least_mask.Given as goal
 
 abbrev pub invariant-loop-mask : goal.invariant-loop-mask
 invariant-loop-mask l = record {
-  found : (words : List ℕ) → IsUnmasked l.self.version words l.self.function l.self.modules → Found (λ k. penalty (side_of l.self.version) (module_at l.self.version l.self.level k words)) l.mask l.best l.least;
+  found : (words : List ℕ) → IsUnmasked l.self.version words l.self.function l.self.modules
+      → Found (λ k. penalty (side_of l.self.version) (module_at l.self.version l.self.level k words)) l.mask l.best
+      l.least;
   below : l.best < l.mask;
 }

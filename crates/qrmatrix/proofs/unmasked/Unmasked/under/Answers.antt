@@ -15,20 +15,25 @@ returns c =
     let mask = c.args.mask in
     let old = c.args.self.now.modules in
     let m = c.draw_format.new.modules in
-    let redrawn : ShowsFormat v level mask old m = subst (λ z. ShowsFormat v level mask z m) c.copied-modules.ensures c.draw_format.ensures in
+    let redrawn : ShowsFormat v level mask old m =
+    subst (λ z. ShowsFormat v level mask z m) c.copied-modules.ensures c.draw_format.ensures in
     elim (cases_lt x (side_of v)) [
       | inr gx ↦
           let a : c.side.result ≤ x = omega arith in
           c.apply_mask.ensures.outside.columns x y a ∙ redrawn.outside.columns x y gx ∙ u.columns x y gx
-          ∙ sym (module_outside v level mask words x y (and_left (nat_lt x (side_of v)) (nat_lt y (side_of v)) (le-ltb x (side_of v) gx)))
+          ∙ sym (module_outside v level mask words x y
+          (and_left (nat_lt x (side_of v)) (nat_lt y (side_of v)) (le-ltb x (side_of v) gx)))
       | inl lx ↦ elim (cases_lt y (side_of v)) [
         | inr gy ↦
             let b : c.side.result ≤ y = omega arith in
             c.apply_mask.ensures.outside.rows x y b ∙ redrawn.outside.rows x y gy ∙ u.rows x y gy
-            ∙ sym (module_outside v level mask words x y (and_right (nat_lt x (side_of v)) (nat_lt y (side_of v)) (le-ltb y (side_of v) gy)))
+            ∙ sym (module_outside v level mask words x y
+            (and_right (nat_lt x (side_of v)) (nat_lt y (side_of v)) (le-ltb y (side_of v) gy)))
         | inl ly ↦
             let a : x < c.side.result = omega arith in
             let b : y < c.side.result = omega arith in
-            c.apply_mask.ensures.masked x y a b ∙ under v level mask words c.args.self.now.function old m u redrawn x y lx ly ∙ sym (module_inside v level mask words x y (inside_from (side_of v) x y lx ly))
+            c.apply_mask.ensures.masked x y a b
+            ∙ under v level mask words c.args.self.now.function old m u redrawn x y lx ly
+            ∙ sym (module_inside v level mask words x y (inside_from (side_of v) x y lx ly))
       ]
     ]
