@@ -1,5 +1,5 @@
 -- Text pictures, read back and cut from a stream.
-use Rattle.std.proofs.Common.{◌≡◌, ℕ, suc, ◌+◌, ◌-◌, ◌<◌, Bool, true, false, not, ◌==◌, List, [], ◌∷◌, ◌++◌, length, map, refl, ap, sym, subst, ◌∙◌, arith, flat_map, codes, append_assoc, Some}
+use Rattle.std.proofs.Common.{slice_index_or, ◌≡◌, ℕ, suc, ◌+◌, ◌-◌, ◌<◌, Bool, true, false, not, ◌==◌, List, [], ◌∷◌, ◌++◌, length, map, refl, ap, sym, subst, ◌∙◌, arith, flat_map, codes, append_assoc, Some}
 use Rattle.std.specs.List.{list_all, range_with_len, concat, AllByRecursion}
 use Rattle.std.specs.Str.{bytes_eq}
 use Rattle.std.proofs.lemmas.List.Folds.{list_all-append}
@@ -11,8 +11,8 @@ use Rattle.std.proofs.lemmas.List.Elements.{recursion_from_All}
 use Rattle.picture.specs.Picture.{Picture}
 use Rattle.picture.specs.RoundTrip.{AsciiFilesAreTexts, AsciiTextsAreRead}
 use Rattle.picture.specs.Text.{below, ascii_pixel, ascii_row, ascii_text, pixel_row}
-use Rattle.picture.specs.Read.{raster, ascii_line, ascii_lines, ascii_pixels, first_length, cut_after, is_line_feed, whole_lines, ascii_files}
-use Rattle.picture.proofs.LineLemmas.{has_no_line_feed, lines-line, lines-nil}
+use Rattle.picture.specs.Read.{raster, ascii_line, ascii_lines, ascii_pixels, cut_after, whole_lines, ascii_files}
+use Rattle.picture.proofs.LineLemmas.{is_line_feed, has_no_line_feed, lines-line, lines-nil}
 use Rattle.picture.proofs.CutLemmas.{cut_after-at, cut_after-part}
 
 -- the letters of a row
@@ -56,8 +56,8 @@ equal_rows : (p : Picture) (ys : List ℕ) → list_all (λ row. length row == p
 equal_rows p [] = refl
 equal_rows p (y ∷ ys) = rw (eq-eqb (length (pixel_row p y)) p.width (length-map-range_with_len (λ x. p.dark x y) 0 p.width), equal_rows p ys) refl
 
-first_row : (p : Picture) (n : ℕ) → suc n ≡ p.height → first_length (map (pixel_row p) (below p.height)) ≡ p.width
-first_row p n e = subst (λ (k : ℕ). first_length (map (pixel_row p) (below k)) ≡ p.width) e (length-map-range_with_len (λ x. p.dark x 0) 0 p.width)
+first_row : (p : Picture) (n : ℕ) → suc n ≡ p.height → length (slice_index_or (map (pixel_row p) (below p.height)) 0 []) ≡ p.width
+first_row p n e = subst (λ (k : ℕ). length (slice_index_or (map (pixel_row p) (below k)) 0 []) ≡ p.width) e (length-map-range_with_len (λ x. p.dark x 0) 0 p.width)
 
 -- a text picture of some row reads back as the picture's pixels
 read_back : (p : Picture) (n : ℕ) → suc n ≡ p.height → ascii_pixels (ascii_text p) ≡ Some (raster p)

@@ -12,7 +12,8 @@ use Rattle.picture.specs.Picture.{Picture}
 use Rattle.picture.specs.RoundTrip.{IsDrawable, PbmFilesAreTexts}
 use Rattle.picture.specs.Text.{below, pbm_digit, pbm_header}
 use Rattle.picture.proofs.ColumnLemmas.{pbm_line_end, pbm_pixel, pbm_columns, columns_text, texts_by_columns, map_by_columns}
-use Rattle.picture.specs.Read.{cut_after, cut_before, begins_part, onto_parts, is_line_feed, is_magic, whole_lines, pbm_files}
+use Rattle.picture.proofs.LineLemmas.{is_line_feed}
+use Rattle.picture.specs.Read.{cut_after, cut_before, onto_parts, is_magic, whole_lines, pbm_files}
 
 -- a list that is not empty
 data IsSome {X : Type 0} : List X → Type 0 where
@@ -45,13 +46,17 @@ cut_after-part ends (x ∷ xs) y none e =
     let parts = and_parts (not (ends x)) (list_all (λ z. not (ends z)) xs) none in
     rw (cut_after-part ends xs y parts.1 e, not-true (ends x) parts.0) refl
 
+cut_before-some : {X : Type 0} (begins : X → Bool) (x : X) (xs : List X) → IsSome (cut_before begins (x ∷ xs))
+cut_before-some begins x [] = some _ _
+cut_before-some begins x (y ∷ xs) = onto_parts-some (begins y) x (cut_before begins (y ∷ xs))
+
 -- a part that begins with an element that passes, and the parts before it
 pub cut_before-at : {X : Type 0} (begins : X → Bool) (xs : List X) (y : X) (ys : List X) → begins y ≡ true → cut_before begins (xs ++ y ∷ ys) ≡ cut_before begins xs ++ cut_before begins (y ∷ ys)
 cut_before-at begins [] y ys e = refl
 cut_before-at begins (x ∷ []) y ys e = rw e refl
 cut_before-at begins (x ∷ z ∷ xs) y ys e =
     ap (onto_parts (begins z) x) (cut_before-at begins (z ∷ xs) y ys e)
-    ∙ onto_parts-append (begins z) x (cut_before begins (z ∷ xs)) (cut_before begins (y ∷ ys)) (onto_parts-some (begins_part begins xs) z (cut_before begins xs))
+    ∙ onto_parts-append (begins z) x (cut_before begins (z ∷ xs)) (cut_before begins (y ∷ ys)) (cut_before-some begins z xs)
 
 pub cut_before-part : {X : Type 0} (begins : X → Bool) (x : X) (xs : List X) → list_all (λ z. not (begins z)) xs ≡ true → cut_before begins (x ∷ xs) ≡ (x ∷ xs) ∷ []
 cut_before-part begins x [] none = refl

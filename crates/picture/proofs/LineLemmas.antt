@@ -1,12 +1,15 @@
 -- The lines of a text, one by one.
-use Rattle.std.proofs.Common.{◌≡◌, ◌≢◌, ℕ, Bool, true, not, List, [], ◌∷◌, ◌++◌, refl, ap, sym, ◌∙◌, append_assoc}
+use Rattle.std.proofs.Common.{◌≡◌, ◌≢◌, ℕ, Bool, true, not, ◌==◌, List, [], ◌∷◌, ◌++◌, refl, ap, sym, ◌∙◌, append_assoc}
 use Rattle.std.specs.List.{list_all}
 use Rattle.std.proofs.lemmas.Bool.{and_parts, not-true, eqb-false}
 use Rattle.std.proofs.lemmas.List.Concat.{flat_map-cons}
 use Rattle.std.proofs.lemmas.List.Elements.{All-nil, All-cons}
 use Rattle.labelcore.specs.Lines.{LF, HasNoLF, IsCut, ended_lines, open_line, unless_empty, lines, with_ends}
 use Rattle.labelcore.proofs.LinesLemmas.{IsCut-ended_lines, ended_lines-cut, open_line-cut}
-use Rattle.picture.specs.Read.{is_line_feed}
+
+-- the byte that ends a line
+abbrev pub is_line_feed : ℕ → Bool
+is_line_feed b = b == LF
 
 -- bytes without a line feed
 abbrev pub has_no_line_feed : List ℕ → Bool

@@ -1,16 +1,17 @@
 -- A plain PBM file reads back as the picture's pixels.
-use Rattle.std.proofs.Common.{◌≡◌, ℕ, suc, ◌-◌, ◌^◌, ◌<◌, true, List, [], ◌∷◌, ◌++◌, length, take, drop, map, flat_map, refl, ap, sym, ◌∙◌, arith, codes, decimal, Some, append_assoc}
+use Rattle.std.proofs.Common.{◌≡◌, ◌==◌, ℕ, suc, false, ◌+◌, ◌-◌, ◌^◌, ◌<◌, true, List, [], ◌∷◌, ◌++◌, length, take, drop, map, flat_map, refl, ap, sym, ◌∙◌, arith, codes, decimal, Some, append_assoc}
+use Rattle.std.specs.List.{prefix_len}
 use Rattle.std.specs.Str.{bytes_eq}
-use Rattle.std.proofs.lemmas.Bool.{eq-eqb}
+use Rattle.std.proofs.lemmas.Bool.{eq-eqb, ne_eqb}
 use Rattle.std.proofs.lemmas.List.FromFn.{length-range_with_len}
 use Rattle.picture.specs.Picture.{Picture}
 use Rattle.picture.specs.RoundTrip.{PbmTextsAreRead}
 use Rattle.picture.specs.Text.{below, pixel_row}
 use Rattle.picture.proofs.ColumnLemmas.{columns_text, pbm_columns, text_by_columns}
-use Rattle.picture.specs.Read.{raster, raster_of, pbm_pixels, has_short_lines, after_white, after_one_white, number_at}
+use Rattle.picture.specs.Read.{is_white, raster, raster_of, pbm_pixels, after_white, after_one_white, number_at}
 use Rattle.picture.proofs.RasterLemmas.{strip, row_digits, strip-pbm_rows, list_all-row_digits, length-row_digits, rows_of-row_digits}
 use Rattle.picture.proofs.HeaderLemmas.{number_at-decimal, after_white-decimal}
-use Rattle.picture.proofs.ShortLineLemmas.{short_rows, short_header}
+use Rattle.picture.proofs.ShortLineLemmas.{has_short_lines, short_rows, short_header}
 
 pbm_pixels-steps : (text first second third fourth rest : List ℕ) (width height : ℕ) →
     has_short_lines text ≡ true → bytes_eq (take 2 text) (codes "P1") ≡ true → after_white (drop 2 text) ≡ Some first →
@@ -23,6 +24,12 @@ raster_of-digits : (p : Picture) (ys : List ℕ) → p.height ≡ length ys →
     raster_of p.width p.height (flat_map (row_digits p) ys) ≡ Some (record { width = p.width; height = p.height; rows = map (pixel_row p) ys })
 raster_of-digits p ys e =
     rw (e, list_all-row_digits p ys, eq-eqb _ _ (length-row_digits p ys), rows_of-row_digits p ys) refl
+
+after_one_white-white : (b : ℕ) (rest : List ℕ) → is_white b ≡ true → after_one_white (b ∷ rest) ≡ Some rest
+after_one_white-white b rest white =
+    let counted : prefix_len is_white (b ∷ rest) ≡ 1 + prefix_len is_white rest = rw white refl in
+    let some : (prefix_len is_white (b ∷ rest) == 0) ≡ false = ne_eqb _ _ (λ e. omega (arith, counted, e)) in
+    rw some refl
 
 -- the text, line by line
 grouped : (w h body : List ℕ) → ((((80 ∷ 49 ∷ 10 ∷ []) ++ w) ++ (32 ∷ [])) ++ h) ++ (10 ∷ []) ++ body ≡ 80 ∷ 49 ∷ 10 ∷ (w ++ 32 ∷ (h ++ 10 ∷ body))
@@ -39,7 +46,7 @@ read_back p n e wide high =
     ap pbm_pixels (grouped w h body)
     ∙ pbm_pixels-steps text (w ++ 32 ∷ (h ++ 10 ∷ body)) (32 ∷ (h ++ 10 ∷ body)) (h ++ 10 ∷ body) (10 ∷ body) body p.width p.height
     short refl (after_white-decimal p.width 10 (32 ∷ (h ++ 10 ∷ body)) wide refl) (number_at-decimal p.width 32 (h ++ 10 ∷ body) wide refl)
-    (after_white-decimal p.height 32 (10 ∷ body) high refl) (number_at-decimal p.height 10 body high refl) refl
+    (after_white-decimal p.height 32 (10 ∷ body) high refl) (number_at-decimal p.height 10 body high refl) (after_one_white-white 10 body refl)
     ∙ ap (raster_of p.width p.height) (strip-pbm_rows p (below p.height))
     ∙ raster_of-digits p (below p.height) (sym (length-range_with_len 0 p.height))
 

@@ -1,16 +1,20 @@
 -- No line of a plain PBM file is longer than 70 characters.
-use Rattle.std.proofs.Common.{◌≡◌, ◌≢◌, ℕ, suc, zero, ◌+◌, ◌%◌, ◌^◌, ◌<◌, ◌≤◌, Bool, true, false, not, ◌||◌, ◌==◌, List, [], ◌∷◌, ◌++◌, length, refl, ap, sym, subst, ◌∙◌, arith, length-append, if◌then◌else◌, decimal, append_assoc, flat_map, nat_le, inl, inr}
+use Rattle.std.proofs.Common.{nat_le, ◌≡◌, ◌≢◌, ℕ, suc, zero, ◌+◌, ◌%◌, ◌^◌, ◌<◌, ◌≤◌, Bool, true, false, not, ◌||◌, ◌==◌, List, [], ◌∷◌, ◌++◌, length, refl, ap, sym, subst, ◌∙◌, arith, length-append, if◌then◌else◌, decimal, append_assoc, flat_map, nat_le, inl, inr}
 use Rattle.std.specs.List.{list_all, range_with_len}
 use Rattle.std.specs.Str.Parse.{AllDigits}
 use Rattle.std.proofs.lemmas.Bool.{or_parts, or_cases, eqb-false, eqb-true, le-leb, ne_eqb}
 use Rattle.std.proofs.lemmas.List.Folds.{list_all-append}
 use Rattle.std.proofs.lemmas.Fmt.{decimal_is_IsNumeral, length-decimal-le}
 use Rattle.std.proofs.lemmas.Str.Parse.{digit_from_value}
+use Rattle.labelcore.specs.Lines.{lines}
 use Rattle.picture.specs.Picture.{Picture}
 use Rattle.picture.specs.Text.{pbm_digit}
 use Rattle.picture.proofs.ColumnLemmas.{pbm_pixel, pbm_columns}
-use Rattle.picture.specs.Read.{has_short_lines, is_line_feed}
-use Rattle.picture.proofs.LineLemmas.{has_no_line_feed, lines-line, lines-nil}
+use Rattle.picture.proofs.LineLemmas.{is_line_feed, has_no_line_feed, lines-line, lines-nil}
+
+-- no line is longer than 70 characters
+abbrev pub has_short_lines : List ℕ → Bool
+has_short_lines text = list_all (λ line. nat_le (length line) 70) (lines text)
 
 pub short-line : (line rest : List ℕ) → has_no_line_feed line ≡ true → length line ≤ 70 → has_short_lines rest ≡ true → has_short_lines (line ++ 10 ∷ rest) ≡ true
 short-line line rest none size short = rw (lines-line line rest none, le-leb (length line) 70 size, short) refl

@@ -9,7 +9,7 @@ use Rattle.std.proofs.lemmas.Slice.{between_is}
 use Rattle.std.proofs.lemmas.Grind.{flat_map-append}
 use Rattle.std.proofs.lemmas.List.FromFn.{length-map-range_with_len}
 use Rattle.picture.specs.Picture.{Picture}
-use Rattle.picture.specs.PrivateRows.{row_text}
+use Rattle.picture.specs.Private.Rows.{row_text}
 use Rattle.picture.specs.Text.{below, piece, pixel_row, pbm_line, pbm_row, ascii_pixel, ascii_row}
 
 pub range_with_len-add : (a n m : ℕ) → range_with_len a (n + m) ≡ range_with_len a n ++ range_with_len (a + n) m

@@ -1,5 +1,5 @@
 pub mod Picture
-pub mod PrivateRows
+pub mod Private
 pub mod Read
 pub mod RoundTrip
 pub mod Text

@@ -1,5 +1,5 @@
 -- Pictures read back from text: plain PBM files (pbm(5), the plain format), and text pictures.
-use Rattle.std.specs.Prelude.{ℕ, ◌+◌, ◌-◌, ◌*◌, ◌/◌, ◌%◌, zero, suc, Bool, true, false, not, ◌&&◌, ◌||◌, List, [], ◌∷◌, map, filter, take, drop, length, codes, Option, Some, None, option_map, option_and_then, nat_le, nat_lt, ◌==◌, if◌then◌else◌, slice_index_or}
+use Rattle.std.specs.Prelude.{ℕ, ◌+◌, ◌-◌, ◌*◌, ◌/◌, ◌%◌, zero, suc, Bool, true, false, not, ◌&&◌, ◌||◌, List, [], ◌∷◌, map, filter, take, drop, length, codes, Option, Some, None, option_map, nat_le, nat_lt, ◌==◌, if◌then◌else◌, slice_index_or}
 use Rattle.std.specs.List.{list_all, prefix_len, onto_first, concat}
 use Rattle.std.specs.Bool.{beq}
 use Rattle.std.specs.Cmp.Lexicographic.{pointwise}
@@ -7,6 +7,7 @@ use Rattle.std.specs.Str.{bytes_eq}
 use Rattle.std.specs.Str.Parse.{digits_value}
 use Rattle.std.specs.Char.{is_digit}
 use Rattle.labelcore.specs.Lines.{LF, lines}
+use Rattle.labelcore.specs.Steps.{◌>>=◌}
 use Rattle.picture.specs.Picture.{Picture, Zone}
 use Rattle.picture.specs.Text.{below, pixel_row}
 
@@ -24,15 +25,9 @@ raster p = record { width = p.width; height = p.height; rows = map (pixel_row p)
 abbrev pub is_white : ℕ → Bool
 is_white b = b == 32 || b == 9 || b == 13 || b == 10
 
-infixl 10 ◌>>=◌
--- the next step on what this one found, if it found something
-abbrev pub ◌>>=◌ : {A B : Type 0} → Option A → (A → Option B) → Option B
-o >>= f = option_and_then f o
-
 -- what follows, if the test holds
 abbrev pub given : Bool → Option (Unit {0})
-given true = Some tt
-given false = None
+given test = if test then Some tt else None
 
 -- the text after white space, of which there is some
 abbrev pub after_white : List ℕ → Option (List ℕ)
@@ -40,8 +35,7 @@ after_white text = if prefix_len is_white text == 0 then None else Some (drop (p
 
 -- the text after one byte of white space
 abbrev pub after_one_white : List ℕ → Option (List ℕ)
-after_one_white [] = None
-after_one_white (b ∷ rest) = if is_white b then Some rest else None
+after_one_white text = if prefix_len is_white text == 0 then None else Some (drop 1 text)
 
 -- a decimal number, and the text after it
 abbrev pub number_at : List ℕ → Option (ℕ × List ℕ)
@@ -54,30 +48,19 @@ abbrev pub rows_of : {X : Type 0} → ℕ → ℕ → List X → List (List X)
 rows_of width zero pixels = []
 rows_of width (suc height) pixels = take width pixels ∷ rows_of width height (drop width pixels)
 
--- the digits 0 and 1
-abbrev pub is_pbm_digit : ℕ → Bool
-is_pbm_digit b = b == 48 || b == 49
-
--- no line is longer than 70 characters
-abbrev pub has_short_lines : List ℕ → Bool
-has_short_lines text = list_all (λ line. nat_le (length line) 70) (lines text)
-
--- so many digits, as rows of pixels
+-- so many digits 0 and 1, as rows of pixels
 abbrev pub raster_of : ℕ → ℕ → List ℕ → Option Raster
-raster_of width height digits =
-    if list_all is_pbm_digit digits && length digits == width * height
-    then Some (record { width = width; height = height; rows = rows_of width height (map (λ b. b == 49) digits) })
-    else None
+raster_of width height digits = do
+  whole ← given (list_all (λ b. b == 48 || b == 49) digits && length digits == width * height)
+  Some (record { width = width; height = height; rows = rows_of width height (map (λ b. b == 49) digits) })
 
--- the pixels of a plain PBM file, pbm(5): its advice on the length of lines is a rule here
+-- the pixels of a plain PBM file, pbm(5): its advice that no line has more than 70 characters is a rule here
 unfoldable pub pbm_pixels : List ℕ → Option Raster
 pbm_pixels text = do
-  short ← given (has_short_lines text)
+  short ← given (list_all (λ line. nat_le (length line) 70) (lines text))
   magic ← given (bytes_eq (take 2 text) (codes "P1"))
-  first ← after_white (drop 2 text)
-  width ← number_at first
-  second ← after_white width.1
-  height ← number_at second
+  width ← after_white (drop 2 text) >>= number_at
+  height ← after_white width.1 >>= number_at
   rest ← after_one_white height.1
   raster_of width.0 height.0 (filter (λ b. not (is_white b)) rest)
 
@@ -94,20 +77,14 @@ ascii_lines [] = None
 ascii_lines (line ∷ []) = if length line == 0 then Some [] else None
 ascii_lines (line ∷ next ∷ more) = do
   pixels ← ascii_line line
-  rows ← ascii_lines (next ∷ more)
-  Some (pixels ∷ rows)
-
--- the length of the first row
-abbrev pub first_length : List (List Bool) → ℕ
-first_length [] = 0
-first_length (row ∷ rows) = length row
+  option_map (λ rows. pixels ∷ rows) (ascii_lines (next ∷ more))
 
 -- the pixels of a text picture: lines of equal length, and then an empty line
 unfoldable pub ascii_pixels : List ℕ → Option Raster
 ascii_pixels text = do
   rows ← ascii_lines (lines text)
-  equal ← given (list_all (λ row. length row == first_length rows) rows)
-  Some (record { width = first_length rows; height = length rows; rows = rows })
+  equal ← given (list_all (λ row. length row == length (slice_index_or rows 0 [])) rows)
+  Some (record { width = length (slice_index_or rows 0 []); height = length rows; rows = rows })
 
 -- parts with an element before them: it is a part of its own, or the front of the first
 abbrev pub onto_parts : {X : Type 0} → Bool → X → List (List X) → List (List X)
@@ -119,23 +96,15 @@ abbrev pub cut_after : {X : Type 0} → (X → Bool) → List X → List (List X
 cut_after ends [] = []
 cut_after ends (x ∷ xs) = onto_parts (ends x) x (cut_after ends xs)
 
--- whether a part begins here, where nothing stands or an element that passes
-abbrev pub begins_part : {X : Type 0} → (X → Bool) → List X → Bool
-begins_part begins [] = true
-begins_part begins (x ∷ xs) = begins x
-
 -- the parts of a list, each but the first begun by an element that passes
 abbrev pub cut_before : {X : Type 0} → (X → Bool) → List X → List (List X)
 cut_before begins [] = []
-cut_before begins (x ∷ xs) = onto_parts (begins_part begins xs) x (cut_before begins xs)
-
--- the byte that ends a line
-abbrev pub is_line_feed : ℕ → Bool
-is_line_feed b = b == LF
+cut_before begins (x ∷ []) = (x ∷ []) ∷ []
+cut_before begins (x ∷ y ∷ xs) = onto_parts (begins y) x (cut_before begins (y ∷ xs))
 
 -- the lines of a stream, each with its line feed
 abbrev pub whole_lines : List ℕ → List (List ℕ)
-whole_lines stream = cut_after is_line_feed stream
+whole_lines stream = cut_after (λ b. b == LF) stream
 
 -- the line `P1`, with its line feed or, at a stream's end, without one
 abbrev pub is_magic : List ℕ → Bool
@@ -170,15 +139,13 @@ is_inside zone columns rows column row =
 -- each cell is of one colour, and light in the quiet zone
 abbrev pub are_cells : Raster → ℕ → Zone → ℕ → ℕ → Bool
 are_cells r scale zone columns rows =
-    list_all (λ row. list_all (λ column.
-    has_colour r scale column row (cell r scale column row)
+    list_all (λ row. list_all (λ column. has_colour r scale column row (cell r scale column row)
     && (is_inside zone columns rows column row || not (cell r scale column row))) (below columns)) (below rows)
 
 -- the modules inside the quiet zone, row by row, where all cells are of one colour and the zone is light
 unfoldable pub sample : Raster → ℕ → Zone → Option (List (List Bool))
 sample r scale zone =
-    let columns = r.width / scale in
-    let rows = r.height / scale in
+    let columns = r.width / scale in let rows = r.height / scale in
     if r.width % scale == 0 && r.height % scale == 0
     && nat_le (zone.left + zone.right) columns && nat_le (zone.top + zone.bottom) rows && are_cells r scale zone columns rows
     then Some (map (λ row. map (λ column. cell r scale (zone.left + column) (zone.top + row))
