@@ -75,8 +75,7 @@ FeedsPiece options new took_out took_err text piece r =
     (StopsInPiece options took_out took_err text piece)
 
 -- the end of this text: at `Ok` the status is that of the text's lines and the sinks took what the last one comes to,
--- at `Err` a sink
--- failed in it or in a flush
+-- at `Err` a sink failed in it or in a flush
 abbrev pub EndsInput : OptionValues → (took_out took_err : List ℕ → Type 0) (text : List ℕ) → Result Status RunFault
     → Type 0
 EndsInput options took_out took_err text r =

@@ -8,31 +8,12 @@ use Rattle.filter.specs.Readback.{ReadsBack}
 use Rattle.filter.specs.declared.status.RunFault.{RunFault}
 use Rattle.filter.specs.declared.status.RunFault.TheVariants.{Read, WriteOut, WriteMessages, Spent}
 
--- why the line is refused, if it is
-abbrev pub refusal_of : Outcome → Option Fault
-refusal_of (refused fault) = Some fault
-refusal_of other = None
-
--- the sinks took the image and the message of a line that comes to this, and its symbol reads back
-pub record EndsLine (options : OptionValues) (took_out took_err : List ℕ → Type 0) (number : ℕ) (outcome : Outcome)
-    (is_refused : Bool) : Type 0 where
-  pub refused : is_refused ≡ is_refusal outcome
-  pub image : took_out (image_of options outcome)
-  pub message : took_err (message_of number outcome)
-  pub read : ReadsBack outcome
-
 -- the sink that failed took a beginning of its text, and the other took nothing
 abbrev pub FailsInLine : OptionValues → (took_out took_err : List ℕ → Type 0) (number : ℕ) → Outcome → RunFault → Type 0
 FailsInLine options took_out took_err number outcome WriteOut = Begins took_out (image_of options outcome) × took_err []
 FailsInLine options took_out took_err number outcome WriteMessages =
     took_out [] × Begins took_err (message_of number outcome)
 FailsInLine options took_out took_err number outcome other = ⊥
-
--- before a message nothing more was taken, or a beginning of it was
-abbrev pub FailsInMessage : (took_err : List ℕ → Type 0) (text : List ℕ) → RunFault → Type 0
-FailsInMessage took_err text WriteOut = took_err []
-FailsInMessage took_err text WriteMessages = Begins took_err text
-FailsInMessage took_err text other = ⊥
 
 -- the count of the sink that failed rises, and no other
 abbrev pub RaisesOneCount : (out_old out_new err_old err_new : ℕ) → RunFault → Type 0
@@ -46,8 +27,7 @@ CountsFault out_old out_new err_old err_new r =
     MatchResult r (λ _. (out_new ≡ out_old) × (err_new ≡ err_old)) (RaisesOneCount out_old out_new err_old err_new)
 
 -- where a call stops no sink stands flushed that did not before, but the images where it is the messages that failed:
--- the
--- images are flushed first
+-- the images are flushed first
 abbrev pub FlushedImagesAtMost : (out_old out_new err_old err_new : Bool) → RunFault → Type 0
 FlushedImagesAtMost out_old out_new err_old err_new WriteMessages = Unflushed err_old err_new
 FlushedImagesAtMost out_old out_new err_old err_new other = Unflushed out_old out_new × Unflushed err_old err_new

@@ -7,7 +7,7 @@ ghost use Rattle.qrdata.specs.Versions.{capacity};
 ghost use Rattle.qrdata.specs.Segments.{IsSegmentation, cost};
 ghost use Rattle.filter.specs.Label.{linear_label, qr_codewords, qr_modules, quiet_zone};
 ghost use Rattle.filter.specs.Output.{outcome_of_data, outcome_of_label, image_of, text_of};
-ghost use Rattle.filter.specs.Line.{refusal_of};
+ghost use Rattle.filter.specs.Private.LineEnd.{refusal_of};
 ghost use Rattle.filter.specs.Readback.{IsReadable, ReadsBack, read_linear, read_modules};
 ghost use Rattle.labelcore.specs.declared.symbology.Symbology.TheVariants.{Qr};
 

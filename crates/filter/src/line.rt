@@ -6,7 +6,8 @@ ghost use Rattle.labelcore.specs.LineItem.{HasData, KeepsRun};
 ghost use Rattle.labelcore.specs.Lines.{held};
 ghost use Rattle.labelcore.specs.Message.{message};
 ghost use Rattle.filter.specs.Output.{outcome, outcome_of_data, outcome_of_item};
-ghost use Rattle.filter.specs.Line.{EndsLine, FailsInLine, FailsInMessage, CountsFault};
+ghost use Rattle.filter.specs.Line.{FailsInLine, CountsFault};
+ghost use Rattle.filter.specs.Private.LineEnd.{EndsLine, FailsInMessage};
 
 use crate::draw::draw;
 use crate::status::RunFault;

@@ -15,6 +15,7 @@ use Rattle.clap.specs.declared.parser.matches.Found.{Found}
 use Rattle.labelcore.specs.declared.options.Format.{Format}
 use Rattle.labelcore.specs.declared.options.Format.TheVariants.{Pbm, Ascii}
 use Rattle.labelcore.specs.declared.options.Level.{Level}
+use Rattle.labelcore.specs.Names.{listed}
 use Rattle.labelcore.specs.OptionValues.{OptionValues, level_named}
 
 -- ---- the command
@@ -69,8 +70,7 @@ is_on id rows = option_map_or (λ text. bytes_eq text (codes "true")) (one_of id
 
 -- the format of this name
 abbrev pub format_of : Text → Option Format
-format_of text =
-    if bytes_eq text (codes "pbm") then Some Pbm else if bytes_eq text (codes "ascii") then Some Ascii else None
+format_of text = listed text ((codes "pbm", Pbm) ∷ (codes "ascii", Ascii) ∷ [])
 
 -- the format given, or the default
 abbrev pub format_in : List Row → Option Format

@@ -8,9 +8,8 @@ use crate::square::{SIDE, Square};
 use labelcore::Level;
 use qrdata::Version;
 
-/// The modules of row `y` that show a one of the format word, in either of its two copies (ISO/IEC 18004, 7.9).
-/// Outside of
-/// row 8 they are in column 8.
+/// The modules of row `y` that show a one of the format word, in either of its two copies (ISO/IEC 18004, 7.9). Outside
+/// of row 8 they are in column 8.
 #[tactic(auto, unfolding(crate::specs::Private::FunctionRows::format_row))]
 fn format_row(n: usize, word: u32, y: usize) -> u64
     requires side { (21 ≤ n) × (n ≤ SIDE) }

@@ -27,8 +27,7 @@ const FINDER: [u64; 8] = [
 ];
 
 /// The coordinates of the centres of the alignment patterns (ISO/IEC 18004, Table E.1): bit k says whether k is one.
-/// The
-/// first word is for version 1.
+/// The first word is for version 1.
 const CENTRES: [u64; 10] = [
     0,
     (1 << 6) | (1 << 18),
@@ -231,8 +230,7 @@ fn versions(version: Version, y: usize) -> PatternRow
 }
 
 /// The modules of row `y` that the codewords do not choose (ISO/IEC 18004, 6.3 and 7.10). Those of the format
-/// information
-/// are light.
+/// information are light.
 pub fn function_row(version: Version, y: usize) -> PatternRow
     requires { y < side_of version }
     ensures { HasFunctions version y result }

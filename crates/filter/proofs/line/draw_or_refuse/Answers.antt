@@ -1,7 +1,7 @@
 use Rattle.std.proofs.Common.{◌≡◌, ◌∙◌, sym, subst, Some}
 use Rattle.std.proofs.lemmas.List.{append-nil}
 use Rattle.filter.specs.Label.{label_of}
-use Rattle.filter.specs.Line.{refusal_of}
+use Rattle.filter.specs.Private.LineEnd.{refusal_of}
 use Rattle.filter.specs.Output.{image_of, outcome_of_label}
 use Rattle.filter.proofs.LineLemmas.{refused_ends, refused_fails}
 use Rattle.filter.proofs.line.draw_or_refuse.Goals as goal
