@@ -22,10 +22,10 @@ use Rattle.qrmatrix.specs.Modules.{is_inside}
 use Rattle.qrmatrix.specs.Reading.{read_matrix}
 use Rattle.qrmatrix.specs.Square.{value_at}
 use Rattle.picture.specs.Picture.{Picture, bars}
-use Rattle.picture.specs.Text.{below, pixel_row}
-use Rattle.picture.specs.Read.{raster}
-use Rattle.picture.specs.RoundTrip.{IsDrawable, PbmFilesAreTexts, AsciiFilesAreTexts, PbmTextsAreRead}
-use Rattle.picture.specs.RoundTrip.{AsciiTextsAreRead, PixelsAreThePicture, ModulesAreSampled, BarsAreOneRow}
+use Rattle.picture.specs.Text.{below, pixel_row, pbm_text, ascii_text}
+use Rattle.picture.specs.Read.{raster, pbm_files, ascii_files, pbm_pixels, ascii_pixels}
+use Rattle.picture.specs.RoundTrip.{IsDrawable, FilesAreTexts, TextsAreRead, PixelsAreThePicture, ModulesAreSampled}
+use Rattle.picture.specs.RoundTrip.{BarsAreOneRow}
 use Rattle.filter.specs.Label.{Label, quiet_zone, linear_label}
 use Rattle.filter.specs.Output.{Outcome, skipped, refused, drawn, outcome, outcome_of_label, image_of, images}
 use Rattle.filter.specs.Output.{picture_of, text_of}
@@ -58,10 +58,10 @@ small_product a b few scale = let m : a * b ≤ 1840 * b = mul-le-mul_right b fe
 
 -- what the laws of `picture` say of reading
 pub record ReadingLaws : Type 0 where
-  pub pbm_files : PbmFilesAreTexts
-  pub ascii_files : AsciiFilesAreTexts
-  pub pbm_texts : PbmTextsAreRead
-  pub ascii_texts : AsciiTextsAreRead
+  pub pbm_files : FilesAreTexts pbm_text pbm_files IsDrawable
+  pub ascii_files : FilesAreTexts ascii_text ascii_files (λ p. 0 < p.width)
+  pub pbm_texts : TextsAreRead pbm_text pbm_pixels IsDrawable
+  pub ascii_texts : TextsAreRead ascii_text ascii_pixels (λ p. 0 < p.height)
   pub sampled : ModulesAreSampled
 
 module _ (laws : ReadingLaws) (options : OptionValues) (low : 1 ≤ options.scale) (high : options.scale ≤ 8) where

@@ -6,13 +6,14 @@ use Rattle.labelcore.specs.declared.options.Format.TheVariants.{Pbm, Ascii}
 use Rattle.labelcore.specs.declared.symbology.Symbology.{Symbology}
 use Rattle.labelcore.specs.declared.symbology.Symbology.TheVariants.{Ean13, Ean8, UpcA, Code128, Qr}
 use Rattle.labelcore.specs.OptionValues.{OptionValues}
+use Rattle.labelcore.specs.Steps.{◌>>=◌}
 use Rattle.linear.specs.EanReading.{read_ean13, read_ean8, read_upca}
 use Rattle.linear.specs.Code128Reading.{read_code128}
 use Rattle.qrdata.specs.Reading.{data_in}
 use Rattle.qrmatrix.specs.Reading.{read_matrix}
 use Rattle.qrmatrix.specs.Square.{value_at}
 use Rattle.picture.specs.Read.{Raster, raster, pbm_files, ascii_files, pbm_pixels, ascii_pixels, sample, linear_row}
-use Rattle.picture.specs.Read.{given, ◌>>=◌}
+use Rattle.picture.specs.Read.{given}
 use Rattle.filter.specs.Label.{Label, quiet_zone}
 use Rattle.filter.specs.Output.{Outcome, skipped, refused, drawn, outcome}
 

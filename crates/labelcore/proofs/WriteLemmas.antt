@@ -1,5 +1,6 @@
 -- A lemma on a text that is written piece by piece.
-use Rattle.std.proofs.Common.{◌≡◌, List, ℕ, [], ◌++◌, ◌+◌, ◌-◌, ◌≤◌, length, take, drop, append_assoc, ◌∙◌, ap, sym, arith, length-drop, length-take}
+use Rattle.std.proofs.Common.{◌≡◌, List, ℕ, [], ◌++◌, ◌+◌, ◌-◌, ◌≤◌, length, take, drop, append_assoc, ◌∙◌, ap, sym}
+use Rattle.std.proofs.Common.{arith, length-drop, length-take}
 use Rattle.std.specs.Prelude.{slice_range}
 use borrow.Rule.Slice.PartMut.{put_mid}
 use Rattle.std.proofs.lemmas.Slice.{between_is, take-put_mid}
@@ -7,28 +8,35 @@ use Rattle.std.proofs.lemmas.List.{take_all, take-append-drop, drop-drop, drop-a
 use Rattle.labelcore.specs.Passing.{PassesOn}
 
 -- the front grows by n bytes of the rest, as `&rest[n..]` is the rest after it
-pub cut_more : (text front rest : List ℕ) (n : ℕ) → text ≡ front ++ rest → text ≡ (front ++ take n rest) ++ take (length rest - n) (drop n rest)
+pub cut_more : (text front rest : List ℕ) (n : ℕ) → text ≡ front ++ rest
+    → text ≡ (front ++ take n rest) ++ take (length rest - n) (drop n rest)
 cut_more text front rest n e =
     rw (take_all (length rest - n) (drop n rest) (omega (arith, length-drop n rest)))
-    (e ∙ (ap (λ (xs : List ℕ). front ++ xs) (sym (take-append-drop n rest)) ∙ sym (append_assoc front (take n rest) (drop n rest))))
+    (e ∙ (ap (λ (xs : List ℕ). front ++ xs) (sym (take-append-drop n rest))
+    ∙ sym (append_assoc front (take n rest) (drop n rest))))
 
 -- the front grows by n of the bytes that are held from s to e
-pub cut_held : (text front bytes : List ℕ) (s e n : ℕ) → text ≡ front ++ slice_range bytes s e → text ≡ (front ++ take n (slice_range bytes s e)) ++ slice_range bytes (s + n) e
+pub cut_held : (text front bytes : List ℕ) (s e n : ℕ) → text ≡ front ++ slice_range bytes s e
+    → text ≡ (front ++ take n (slice_range bytes s e)) ++ slice_range bytes (s + n) e
 cut_held text front bytes s e n h =
     let held = slice_range bytes s e in
-    let after : drop n held ≡ slice_range bytes (s + n) e = ap (drop n) (between_is bytes s e) ∙ (drop-drop n s (take e bytes) ∙ sym (between_is bytes (s + n) e)) in
+    let after : drop n held ≡ slice_range bytes (s + n) e = ap (drop n) (between_is bytes s e)
+    ∙ (drop-drop n s (take e bytes) ∙ sym (between_is bytes (s + n) e)) in
     h ∙ (ap (λ (xs : List ℕ). front ++ xs) (sym (take-append-drop n held))
     ∙ (sym (append_assoc front (take n held) (drop n held)) ∙ ap (λ (xs : List ℕ). (front ++ take n held) ++ xs) after))
 
 -- more bytes after those that are held from s to e
-pub held_more : (bytes more : List ℕ) (s e n : ℕ) → s ≤ e → e ≤ length bytes → n ≡ length more → slice_range (put_mid e n bytes more) s (e + n) ≡ slice_range bytes s e ++ more
+pub held_more : (bytes more : List ℕ) (s e n : ℕ) → s ≤ e → e ≤ length bytes → n ≡ length more
+    → slice_range (put_mid e n bytes more) s (e + n) ≡ slice_range bytes s e ++ more
 held_more bytes more s e n low high size =
     between_is (put_mid e n bytes more) s (e + n)
     ∙ (ap (drop s) (take-put_mid e n bytes more (e + n) (omega arith) high)
-    ∙ (drop-append-le s (take e bytes) more (omega (arith, length-take e bytes)) ∙ ap (λ (xs : List ℕ). xs ++ more) (sym (between_is bytes s e))))
+    ∙ (drop-append-le s (take e bytes) more (omega (arith, length-take e bytes))
+    ∙ ap (λ (xs : List ℕ). xs ++ more) (sym (between_is bytes s e))))
 
 -- what was passed on, and more that is held
-pub PassesOn-more : {S : Type 0} (took : S → S → List ℕ → Type 0) (s t : S) (old mid new more : List ℕ) → PassesOn took s t old mid [] → new ≡ mid ++ more → PassesOn took s t old new more
+pub PassesOn-more : {S : Type 0} (took : S → S → List ℕ → Type 0) (s t : S) (old mid new more : List ℕ)
+    → PassesOn took s t old mid [] → new ≡ mid ++ more → PassesOn took s t old new more
 PassesOn-more took s t old mid new more h e = record {
   sent = h.sent;
   taken = h.taken;

@@ -6,4 +6,5 @@ use Rattle.labelcore.specs.declared.options.Level.TheVariants.{M}
 
 -- plain PBM, one pixel a module, 50 modules high, level M, any version, the mask of the least penalty, no escapes
 abbrev pub default_options : OptionValues
-default_options = record { format = Pbm; scale = 1; height = 50; level = M; min_version = 1; mask = None; escapes = false }
+default_options =
+    record { format = Pbm; scale = 1; height = 50; level = M; min_version = 1; mask = None; escapes = false }

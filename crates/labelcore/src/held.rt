@@ -10,8 +10,8 @@ use crate::{IoFault, Sink};
 /// The most bytes that are held back.
 const ROOM: usize = 65536;
 
-/// Holds bytes back before another sink, which then takes them in large pieces: when there is no room for more, when they
-/// are sent on, and at a flush.
+/// Holds bytes back before another sink, which then takes them in large pieces: when there is no room for more, when
+/// they are sent on, and at a flush.
 #[derive(Drop)]
 pub struct Held<S> {
     sink: S,

@@ -1,5 +1,8 @@
--- A row of a plain PBM file pixel by pixel, each with what ends its line after it. Reading it back is proved by columns.
-use Rattle.std.proofs.Common.{◌≡◌, ℕ, suc, zero, ◌+◌, ◌-◌, ◌*◌, ◌%◌, ◌<◌, ◌≤◌, Bool, true, false, ◌||◌, ◌==◌, if◌then◌else◌, List, [], ◌∷◌, ◌++◌, map, flat_map, length, min, take, drop, length-drop, refl, ap, sym, ◌∙◌, arith, append_assoc, zero-add, add-zero}
+-- A row of a plain PBM file pixel by pixel, each with what ends its line after it. Reading it back is proved by
+-- columns.
+use Rattle.std.proofs.Common.{◌≡◌, ℕ, suc, zero, ◌+◌, ◌-◌, ◌*◌, ◌%◌, ◌<◌, ◌≤◌, Bool, true, false, ◌||◌, ◌==◌}
+use Rattle.std.proofs.Common.{if◌then◌else◌, List, [], ◌∷◌, ◌++◌, map, flat_map, length, min, take, drop, length-drop}
+use Rattle.std.proofs.Common.{refl, ap, sym, ◌∙◌, arith, append_assoc, zero-add, add-zero}
 use Rattle.std.specs.Int.{div_ceil}
 use Rattle.std.specs.List.{range_with_len}
 use Rattle.std.proofs.lemmas.List.{take_all, length-take, length-take-le}
@@ -36,60 +39,81 @@ pixels_text pixel width x [] = []
 pixels_text pixel width x (dark ∷ more) = pixel width x dark ++ pixels_text pixel width (x + 1) more
 
 module _ (pixel : ℕ → ℕ → Bool → List ℕ) (width : ℕ) where
-  pub pixels_text-append : (x : ℕ) (front more : List Bool) → pixels_text pixel width x (front ++ more) ≡ pixels_text pixel width x front ++ pixels_text pixel width (x + length front) more
+  pub pixels_text-append : (x : ℕ) (front more : List Bool)
+      → pixels_text pixel width x (front ++ more) ≡ pixels_text pixel width x front
+      ++ pixels_text pixel width (x + length front) more
   pixels_text-append x [] more = rw (add-zero x) refl
   pixels_text-append x (dark ∷ front) more =
       let next : (x + 1) + length front ≡ x + suc (length front) = omega arith in
       ap (λ (t : List ℕ). pixel width x dark ++ t) (pixels_text-append (x + 1) front more)
-      ∙ (ap (λ (k : ℕ). pixel width x dark ++ (pixels_text pixel width (x + 1) front ++ pixels_text pixel width k more)) next
-      ∙ sym (append_assoc (pixel width x dark) (pixels_text pixel width (x + 1) front) (pixels_text pixel width (x + suc (length front)) more)))
+      ∙ (ap (λ (k : ℕ). pixel width x dark ++ (pixels_text pixel width (x + 1) front ++ pixels_text pixel width k more))
+      next
+      ∙ sym (append_assoc (pixel width x dark) (pixels_text pixel width (x + 1) front)
+      (pixels_text pixel width (x + suc (length front)) more)))
 
   -- a line after the first x pixels
-  pub pixels_text-line : (x : ℕ) (front line : List Bool) → length front ≡ x → pixels_text pixel width 0 (front ++ line) ≡ pixels_text pixel width 0 front ++ pixels_text pixel width x line
+  pub pixels_text-line : (x : ℕ) (front line : List Bool) → length front ≡ x
+      → pixels_text pixel width 0 (front ++ line) ≡ pixels_text pixel width 0 front ++ pixels_text pixel width x line
   pixels_text-line x front line e =
-      pixels_text-append 0 front line ∙ ap (λ (k : ℕ). pixels_text pixel width 0 front ++ pixels_text pixel width k line) (zero-add (length front) ∙ e)
+      pixels_text-append 0 front line ∙ ap (λ (k : ℕ). pixels_text pixel width 0 front
+      ++ pixels_text pixel width k line) (zero-add (length front) ∙ e)
 
   -- the pixels of a picture's row
-  pub pixels_text-map : (dark : ℕ → Bool) (x n : ℕ) → pixels_text pixel width x (map dark (range_with_len x n)) ≡ flat_map (λ x. pixel width x (dark x)) (range_with_len x n)
+  pub pixels_text-map : (dark : ℕ → Bool) (x n : ℕ)
+      → pixels_text pixel width x (map dark (range_with_len x n))
+      ≡ flat_map (λ x. pixel width x (dark x)) (range_with_len x n)
   pixels_text-map dark x zero = refl
   pixels_text-map dark x (suc n) = ap (λ (t : List ℕ). pixel width x (dark x) ++ t) (pixels_text-map dark (x + 1) n)
 
-line_ends : (width x : ℕ) → x % 70 + 1 ≤ 70 → (x % 70 + 1 < 70 → x + 1 ≡ width) → ((x + 1) % 70 == 0 || x + 1 == width) ≡ true
+line_ends : (width x : ℕ) → x % 70 + 1 ≤ 70 → (x % 70 + 1 < 70 → x + 1 ≡ width)
+    → ((x + 1) % 70 == 0 || x + 1 == width) ≡ true
 line_ends width x short last = by_test ((x + 1) % 70 == 0) refl where
   by_test : (b : Bool) → ((x + 1) % 70 == 0) ≡ b → (b || x + 1 == width) ≡ true
   by_test true e = refl
   by_test false e = let inside = eqb-false ((x + 1) % 70) 0 e in eq-eqb (x + 1) width (last (omega arith))
 
 -- a line of digits: no pixel but its last ends it
-pub pixels_text-pbm_line : (width x : ℕ) (dark : Bool) (ps : List Bool) → x % 70 + suc (length ps) ≤ 70 → x + suc (length ps) ≤ width → (x % 70 + suc (length ps) < 70 → x + suc (length ps) ≡ width) →
+pub pixels_text-pbm_line : (width x : ℕ) (dark : Bool) (ps : List Bool) → x % 70 + suc (length ps) ≤ 70
+    → x + suc (length ps) ≤ width → (x % 70 + suc (length ps) < 70 → x + suc (length ps) ≡ width) →
     pixels_text pbm_pixel_text width x (dark ∷ ps) ≡ map pbm_digit (dark ∷ ps) ++ 10 ∷ []
 pixels_text-pbm_line width x dark [] short inside last = rw (line_ends width x short last) refl
 pixels_text-pbm_line width x dark (next ∷ ps) short inside last =
     let inner : (x + 1) % 70 ≡ x % 70 + 1 = omega arith in
     let not_line : ((x + 1) % 70 == 0) ≡ false = ne_eqb ((x + 1) % 70) 0 (λ e. omega arith) in
     let not_row : (x + 1 == width) ≡ false = ne_eqb (x + 1) width (λ e. omega arith) in
-    rw (not_line, not_row, pixels_text-pbm_line width (x + 1) next ps (omega arith) (omega arith) (λ h. let e = last (omega arith) in omega arith)) refl
+    rw (
+      not_line,
+      not_row,
+      pixels_text-pbm_line width (x + 1) next ps (omega arith) (omega arith)
+          (λ h. let e = last (omega arith) in omega arith),
+    ) refl
 
-line_by_columns : (width x : ℕ) (ps : List Bool) → x % 70 ≡ 0 → 0 < length ps → length ps ≤ 70 → x + length ps ≤ width → (length ps < 70 → x + length ps ≡ width) → pixels_text pbm_pixel_text width x ps ≡ pbm_line ps
+line_by_columns : (width x : ℕ) (ps : List Bool) → x % 70 ≡ 0 → 0 < length ps → length ps ≤ 70 → x + length ps ≤ width
+    → (length ps < 70 → x + length ps ≡ width) → pixels_text pbm_pixel_text width x ps ≡ pbm_line ps
 line_by_columns width x [] begins some short inside last = absurd (omega arith)
-line_by_columns width x (dark ∷ ps) begins some short inside last = pixels_text-pbm_line width x dark ps (omega arith) inside (λ h. last (omega arith))
+line_by_columns width x (dark ∷ ps) begins some short inside last =
+    pixels_text-pbm_line width x dark ps (omega arith) inside (λ h. last (omega arith))
 
 -- the first pieces of a row are its first pixels
-pieces_by_columns : (row : List Bool) (k : ℕ) → k ≤ div_ceil (length row) 70 → flat_map (λ k. pbm_line (piece row k)) (below k) ≡ pixels_text pbm_pixel_text (length row) 0 (take (70 * k) row)
+pieces_by_columns : (row : List Bool) (k : ℕ) → k ≤ div_ceil (length row) 70
+    → flat_map (λ k. pbm_line (piece row k)) (below k) ≡ pixels_text pbm_pixel_text (length row) 0 (take (70 * k) row)
 pieces_by_columns row zero h = refl
 pieces_by_columns row (suc k) h =
     let n = length row in
     let next : suc k ≡ k + 1 = omega arith in
     let front = take (70 * k) row in
     let line = piece row k in
-    let size : length line ≡ min 70 (length row - 70 * k) = omega (arith, length-take {A = Bool} 70 (drop (70 * k) row), length-drop (70 * k) row) in
+    let size : length line ≡ min 70 (length row - 70 * k) =
+    omega (arith, length-take {A = Bool} 70 (drop (70 * k) row), length-drop (70 * k) row) in
     ap (λ (n : ℕ). flat_map (λ k. pbm_line (piece row k)) (below n)) next
     ∙ (flat_map-below_more (λ k. pbm_line (piece row k)) k
     ∙ (ap (λ (t : List ℕ). t ++ pbm_line line) (pieces_by_columns row k (omega arith))
     ∙ (ap (λ (t : List ℕ). pixels_text pbm_pixel_text n 0 front ++ t)
-    (sym (line_by_columns n (70 * k) line (omega arith) (omega arith) (omega arith) (omega arith) (λ short. omega arith)))
+    (sym (line_by_columns n (70 * k) line (omega arith) (omega arith) (omega arith) (omega arith)
+    (λ short. omega arith)))
     ∙ (sym (pixels_text-line pbm_pixel_text n (70 * k) front line (length-take-le (70 * k) row (omega arith)))
-    ∙ (ap (pixels_text pbm_pixel_text n 0) (sym (take_piece row k)) ∙ ap (λ (m : ℕ). pixels_text pbm_pixel_text n 0 (take (70 * m) row)) (sym next))))))
+    ∙ (ap (pixels_text pbm_pixel_text n 0) (sym (take_piece row k))
+    ∙ ap (λ (m : ℕ). pixels_text pbm_pixel_text n 0 (take (70 * m) row)) (sym next))))))
 
 row_by_columns : (p : Picture) (y : ℕ) → pbm_row p y ≡ pbm_columns p y
 row_by_columns p y =
@@ -98,7 +122,8 @@ row_by_columns p y =
     ap (λ (n : ℕ). flat_map (λ k. pbm_line (piece row k)) (below (div_ceil n 70))) (sym size)
     ∙ (pieces_by_columns row (div_ceil (length row) 70) (omega arith)
     ∙ (ap (pixels_text pbm_pixel_text (length row) 0) (take_all (70 * div_ceil (length row) 70) row (omega arith))
-    ∙ (ap (λ (n : ℕ). pixels_text pbm_pixel_text n 0 row) size ∙ pixels_text-map pbm_pixel_text p.width (λ x. p.dark x y) 0 p.width)))
+    ∙ (ap (λ (n : ℕ). pixels_text pbm_pixel_text n 0 row) size
+    ∙ pixels_text-map pbm_pixel_text p.width (λ x. p.dark x y) 0 p.width)))
 
 rows_by_columns : (p : Picture) (ys : List ℕ) → flat_map (pbm_row p) ys ≡ flat_map (pbm_columns p) ys
 rows_by_columns p [] = refl
@@ -110,8 +135,10 @@ text_by_columns p = ap (λ (rows : List ℕ). pbm_header p.width p.height ++ row
 
 pub texts_by_columns : (ps : List Picture) → flat_map pbm_text ps ≡ flat_map columns_text ps
 texts_by_columns [] = refl
-texts_by_columns (p ∷ ps) = ap (λ (t : List ℕ). t ++ flat_map pbm_text ps) (text_by_columns p) ∙ ap (λ (t : List ℕ). columns_text p ++ t) (texts_by_columns ps)
+texts_by_columns (p ∷ ps) = ap (λ (t : List ℕ). t ++ flat_map pbm_text ps) (text_by_columns p)
+    ∙ ap (λ (t : List ℕ). columns_text p ++ t) (texts_by_columns ps)
 
 pub map_by_columns : (ps : List Picture) → map pbm_text ps ≡ map columns_text ps
 map_by_columns [] = refl
-map_by_columns (p ∷ ps) = ap (λ (t : List ℕ). t ∷ map pbm_text ps) (text_by_columns p) ∙ ap (λ (ts : List (List ℕ)). columns_text p ∷ ts) (map_by_columns ps)
+map_by_columns (p ∷ ps) = ap (λ (t : List ℕ). t ∷ map pbm_text ps) (text_by_columns p)
+    ∙ ap (λ (ts : List (List ℕ)). columns_text p ∷ ts) (map_by_columns ps)

@@ -13,7 +13,8 @@ ean8_modules = map (λ b. b == 49) (codes "1010111011011110101100010011001010101
 abbrev ean8_picture : Picture
 ean8_picture = scaled (framed (bars ean8_modules 1) (record { left = 7; right = 7; top = 0; bottom = 0 })) 1
 
-pbm_ean8 : pbm_text ean8_picture ≡ codes "P1\n81 1\n0000000101011101101111010110001001100101010100001010011101000010100010\n01010000000\n"
+pbm_ean8 : pbm_text ean8_picture
+    ≡ codes "P1\n81 1\n0000000101011101101111010110001001100101010100001010011101000010100010\n01010000000\n"
 unfolding digits
 pbm_ean8 = refl
 
@@ -53,12 +54,15 @@ ascii_cut = refl
 pbm_cut_at_end : pbm_files (codes "P1\n1 1\n0\nP1") ≡ codes "P1\n1 1\n0\n" ∷ codes "P1" ∷ []
 pbm_cut_at_end = refl
 
-large_sampled : sample (raster large) 3 zone ≡ Some ((true ∷ false ∷ true ∷ true ∷ []) ∷ (true ∷ false ∷ true ∷ true ∷ []) ∷ [])
+large_sampled : sample (raster large) 3 zone ≡ Some
+    ((true ∷ false ∷ true ∷ true ∷ []) ∷ (true ∷ false ∷ true ∷ true ∷ []) ∷ [])
 unfolding sample
 large_sampled = refl
 
 -- a row of a multiple of 70 pixels has no empty line after it
-full_row : pbm_text (bars (map (λ b. b == 49) (codes "1111111111111111111111111111111111111111111111111111111111111111111111")) 2)
-    ≡ codes "P1\n70 2\n1111111111111111111111111111111111111111111111111111111111111111111111\n1111111111111111111111111111111111111111111111111111111111111111111111\n"
+full_row : pbm_text (bars
+    (map (λ b. b == 49) (codes "1111111111111111111111111111111111111111111111111111111111111111111111")) 2)
+    ≡ codes "P1\n70 2\n1111111111111111111111111111111111111111111111111111111111111111111111\n"
+    ++ codes "1111111111111111111111111111111111111111111111111111111111111111111111\n"
 unfolding digits
 full_row = refl

@@ -19,10 +19,12 @@ HasNoLF-from_test : (bytes : List ℕ) → has_no_line_feed bytes ≡ true → H
 HasNoLF-from_test [] none = All-nil (λ b. b ≢ LF)
 HasNoLF-from_test (b ∷ bytes) none =
     let parts = and_parts (not (is_line_feed b)) (has_no_line_feed bytes) none in
-    All-cons (λ b. b ≢ LF) b bytes (eqb-false b LF (not-true (is_line_feed b) parts.0)) (HasNoLF-from_test bytes parts.1)
+    All-cons (λ b. b ≢ LF) b bytes (eqb-false b LF (not-true (is_line_feed b) parts.0))
+    (HasNoLF-from_test bytes parts.1)
 
 -- a line before a text that is cut
-line_cut : (line rest : List ℕ) → has_no_line_feed line ≡ true → IsCut (line ++ LF ∷ rest) (line ∷ ended_lines rest) (open_line rest)
+line_cut : (line rest : List ℕ) → has_no_line_feed line ≡ true
+    → IsCut (line ++ LF ∷ rest) (line ∷ ended_lines rest) (open_line rest)
 line_cut line rest none = let after = IsCut-ended_lines rest in record {
   whole =
       ap (λ (t : List ℕ). line ++ LF ∷ t) after.whole

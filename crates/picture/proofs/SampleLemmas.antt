@@ -1,5 +1,7 @@
 -- The modules of a drawn symbol, sampled again.
-use Rattle.std.proofs.Common.{◌≡◌, ℕ, suc, zero, ◌+◌, ◌-◌, ◌*◌, ◌/◌, ◌%◌, ◌<◌, ◌≤◌, Bool, true, false, not, ◌&&◌, ◌||◌, List, [], ◌∷◌, length, map, refl, ap, sym, subst, ◌∙◌, arith, Some, get_or, nat_le, nat_lt, inl, inr}
+use Rattle.std.proofs.Common.{◌≡◌, ℕ, suc, zero, ◌+◌, ◌-◌, ◌*◌, ◌/◌, ◌%◌, ◌<◌, ◌≤◌, Bool, true, false, not, ◌&&◌, ◌||◌}
+use Rattle.std.proofs.Common.{List, [], ◌∷◌, length, map, refl, ap, sym, subst, ◌∙◌, arith, Some, get_or, nat_le}
+use Rattle.std.proofs.Common.{nat_lt, inl, inr}
 use Rattle.std.specs.Bool.{beq}
 use Rattle.std.specs.Cmp.Lexicographic.{pointwise}
 use Rattle.std.specs.List.{list_all, range_with_len}
@@ -15,20 +17,31 @@ use Rattle.picture.specs.Read.{raster, pixel, cell, has_colour, is_inside, are_c
 -- the pixels of a raster are those of its picture
 pub pixel-raster : PixelsAreThePicture
 pixel-raster p x y wide high =
-    ap (λ (row : List Bool). get_or row x false) (get_or-map-range_with_len (pixel_row p) 0 p.height y y [] high (omega arith))
+    ap (λ (row : List Bool). get_or row x false) (get_or-map-range_with_len (pixel_row p) 0 p.height y y [] high
+    (omega arith))
     ∙ get_or-map-range_with_len (λ x. p.dark x y) 0 p.width x x false wide (omega arith)
 
 -- what holds of the numbers below n holds of all of them
-pub list_all-range : (f : ℕ → Bool) (a n : ℕ) → ((k : ℕ) → a ≤ k → k < a + n → f k ≡ true) → list_all f (range_with_len a n) ≡ true
+pub list_all-range : (f : ℕ → Bool) (a n : ℕ) → ((k : ℕ) → a ≤ k → k < a + n → f k ≡ true)
+    → list_all f (range_with_len a n) ≡ true
 list_all-range f a zero each = refl
-list_all-range f a (suc n) each = rw (each a (omega arith) (omega arith), list_all-range f (a + 1) n (λ k low high. each k (omega arith) (omega arith))) refl
+list_all-range f a (suc n) each = rw (
+  each a (omega arith) (omega arith),
+  list_all-range f (a + 1) n
+      (λ k low high. each k (omega arith) (omega arith)),
+) refl
 
 pub list_all-below : (f : ℕ → Bool) (n : ℕ) → ((k : ℕ) → k < n → f k ≡ true) → list_all f (below n) ≡ true
 list_all-below f n each = list_all-range f 0 n (λ k low high. each k (omega arith))
 
-pub map-range : {X : Type 0} (f g : ℕ → X) (a n : ℕ) → ((k : ℕ) → a ≤ k → k < a + n → f k ≡ g k) → map f (range_with_len a n) ≡ map g (range_with_len a n)
+pub map-range : {X : Type 0} (f g : ℕ → X) (a n : ℕ) → ((k : ℕ) → a ≤ k → k < a + n → f k ≡ g k)
+    → map f (range_with_len a n) ≡ map g (range_with_len a n)
 map-range f g a zero each = refl
-map-range f g a (suc n) each = rw (each a (omega arith) (omega arith), map-range f g (a + 1) n (λ k low high. each k (omega arith) (omega arith))) refl
+map-range f g a (suc n) each = rw (
+  each a (omega arith) (omega arith),
+  map-range f g (a + 1) n
+      (λ k low high. each k (omega arith) (omega arith)),
+) refl
 
 beq-same : (b : Bool) → beq b b ≡ true
 beq-same true = refl
@@ -41,10 +54,12 @@ scaled_place size scale k i inside within = omega (arith, mul-add-lt k scale i s
 scaled_pixel : (p : Picture) (scale column row x y : ℕ) → column < p.width → row < p.height → x < scale → y < scale →
     pixel (raster (scaled p scale)) (column * scale + x) (row * scale + y) ≡ p.dark column row
 scaled_pixel p scale column row x y wide high inside within =
-    pixel-raster (scaled p scale) (column * scale + x) (row * scale + y) (scaled_place p.width scale column x wide inside) (scaled_place p.height scale row y high within)
+    pixel-raster (scaled p scale) (column * scale + x) (row * scale + y)
+    (scaled_place p.width scale column x wide inside) (scaled_place p.height scale row y high within)
     ∙ rw (div-mul-add column scale x inside, div-mul-add row scale y within) refl
 
-cell-scaled : (p : Picture) (scale column row : ℕ) → column < p.width → row < p.height → 0 < scale → cell (raster (scaled p scale)) scale column row ≡ p.dark column row
+cell-scaled : (p : Picture) (scale column row : ℕ) → column < p.width → row < p.height → 0 < scale
+    → cell (raster (scaled p scale)) scale column row ≡ p.dark column row
 cell-scaled p scale column row wide high some =
     let x : column * scale ≡ column * scale + 0 = omega arith in
     let y : row * scale ≡ row * scale + 0 = omega arith in
@@ -56,11 +71,16 @@ has_colour-scaled : (p : Picture) (scale column row : ℕ) → column < p.width 
     has_colour (raster (scaled p scale)) scale column row (cell (raster (scaled p scale)) scale column row) ≡ true
 has_colour-scaled p scale column row wide high some =
     list_all-below _ scale (λ y within. list_all-below _ scale (λ x inside.
-    rw (cell-scaled p scale column row wide high some, scaled_pixel p scale column row x y wide high inside within) (beq-same (p.dark column row))))
+    rw (cell-scaled p scale column row wide high some, scaled_pixel p scale column row x y wide high inside within)
+    (beq-same (p.dark column row))))
 
 -- a test of a framed picture, by the picture within
 nat_lt-add : (a b c : ℕ) → nat_lt (a + c) (b + c) ≡ nat_lt a b
-nat_lt-add a b c = elim (cases_lt a b) [ inl h ↦ lt-ltb (a + c) (b + c) (omega arith) ∙ sym (lt-ltb a b h) | inr h ↦ le-ltb (a + c) (b + c) (omega arith) ∙ sym (le-ltb a b h) ]
+nat_lt-add a b c = elim (cases_lt a b) [
+  | inl h ↦ lt-ltb (a + c) (b + c) (omega arith)
+      ∙ sym (lt-ltb a b h)
+  | inr h ↦ le-ltb (a + c) (b + c) (omega arith) ∙ sym (le-ltb a b h)
+]
 
 inside_or_light : (inside other dark : Bool) → other ≡ inside → (other || not (inside && dark)) ≡ true
 inside_or_light true other dark e = rw e refl
@@ -68,36 +88,59 @@ inside_or_light false other dark e = rw e refl
 
 is_inside-framed : (p : Picture) (zone : Zone) (column row : ℕ) →
     is_inside zone (framed p zone).width (framed p zone).height column row
-    ≡ (nat_le zone.left column && nat_lt column (zone.left + p.width) && nat_le zone.top row && nat_lt row (zone.top + p.height))
-is_inside-framed p zone column row = rw (nat_lt-add column (zone.left + p.width) zone.right, nat_lt-add row (zone.top + p.height) zone.bottom) refl
+    ≡ (nat_le zone.left column && nat_lt column (zone.left + p.width) && nat_le zone.top row && nat_lt row
+    (zone.top + p.height))
+is_inside-framed p zone column row = rw (
+  nat_lt-add column (zone.left + p.width) zone.right,
+  nat_lt-add row
+      (zone.top + p.height) zone.bottom,
+) refl
 
 -- a module of a framed picture
-pub dark-framed : (p : Picture) (zone : Zone) (column row : ℕ) → column < p.width → row < p.height → (framed p zone).dark (zone.left + column) (zone.top + row) ≡ p.dark column row
+pub dark-framed : (p : Picture) (zone : Zone) (column row : ℕ) → column < p.width → row < p.height
+    → (framed p zone).dark (zone.left + column) (zone.top + row) ≡ p.dark column row
 dark-framed p zone column row wide high =
     let x : (zone.left + column) - zone.left ≡ column = omega arith in
     let y : (zone.top + row) - zone.top ≡ row = omega arith in
-    rw (le-leb zone.left (zone.left + column) (omega arith), lt-ltb (zone.left + column) (zone.left + p.width) (omega arith), le-leb zone.top (zone.top + row) (omega arith), lt-ltb (zone.top + row) (zone.top + p.height) (omega arith), x, y) refl
+    rw (
+      le-leb zone.left (zone.left + column) (omega arith),
+      lt-ltb (zone.left + column) (zone.left + p.width)
+          (omega arith),
+      le-leb zone.top (zone.top + row) (omega arith),
+      lt-ltb (zone.top + row) (zone.top + p.height)
+          (omega arith),
+      x,
+      y,
+    ) refl
 
-are_cells-scaled : (p : Picture) (zone : Zone) (scale : ℕ) → 0 < scale → are_cells (raster (scaled (framed p zone) scale)) scale zone (framed p zone).width (framed p zone).height ≡ true
+are_cells-scaled : (p : Picture) (zone : Zone) (scale : ℕ) → 0 < scale
+    → are_cells (raster (scaled (framed p zone) scale)) scale zone (framed p zone).width (framed p zone).height ≡ true
 are_cells-scaled p zone scale some =
     list_all-below _ (framed p zone).height (λ row high. list_all-below _ (framed p zone).width (λ column wide.
     and_from _ _ (has_colour-scaled (framed p zone) scale column row wide high some)
     (rw (cell-scaled (framed p zone) scale column row wide high some)
-    (inside_or_light (nat_le zone.left column && nat_lt column (zone.left + p.width) && nat_le zone.top row && nat_lt row (zone.top + p.height)) (is_inside zone (framed p zone).width (framed p zone).height column row)
+    (inside_or_light (nat_le zone.left column && nat_lt column (zone.left + p.width)
+    && nat_le zone.top row && nat_lt row (zone.top + p.height))
+    (is_inside zone (framed p zone).width (framed p zone).height column row)
     (p.dark (column - zone.left) (row - zone.top)) (is_inside-framed p zone column row)))))
 
 div_whole : (size scale : ℕ) → 0 < scale → (size * scale) / scale ≡ size
-div_whole size scale some = ap (λ (n : ℕ). n / scale) (let e : size * scale ≡ size * scale + 0 = omega arith in e) ∙ div-mul-add size scale 0 some
+div_whole size scale some = ap (λ (n : ℕ). n / scale) (let e : size * scale ≡ size * scale + 0 = omega arith in e)
+    ∙ div-mul-add size scale 0 some
 
 mod_whole : (size scale : ℕ) → 0 < scale → (size * scale) % scale ≡ 0
 mod_whole size scale some = mul-mod_left size scale
 
 sampled : (p : Picture) (zone : Zone) (scale : ℕ) → 0 < scale →
-    map (λ row. map (λ column. cell (raster (scaled (framed p zone) scale)) scale (zone.left + column) (zone.top + row)) (below p.width)) (below p.height) ≡ map (pixel_row p) (below p.height)
+    map (λ row. map (λ column. cell (raster (scaled (framed p zone) scale)) scale (zone.left + column) (zone.top + row))
+    (below p.width)) (below p.height) ≡ map (pixel_row p) (below p.height)
 sampled p zone scale some =
-    map-range (λ row. map (λ column. cell (raster (scaled (framed p zone) scale)) scale (zone.left + column) (zone.top + row)) (below p.width)) (pixel_row p) 0 p.height (λ row low high.
-    map-range (λ column. cell (raster (scaled (framed p zone) scale)) scale (zone.left + column) (zone.top + row)) (λ x. p.dark x row) 0 p.width (λ column left wide.
-    cell-scaled (framed p zone) scale (zone.left + column) (zone.top + row) (omega arith) (omega arith) some ∙ dark-framed p zone column row (omega arith) (omega arith)))
+    map-range (λ row. map (λ column. cell (raster (scaled (framed p zone) scale)) scale (zone.left + column)
+    (zone.top + row)) (below p.width)) (pixel_row p) 0 p.height (λ row low high.
+    map-range (λ column. cell (raster (scaled (framed p zone) scale)) scale (zone.left + column) (zone.top + row))
+    (λ x. p.dark x row) 0 p.width (λ column left wide.
+    cell-scaled (framed p zone) scale (zone.left + column) (zone.top + row) (omega arith) (omega arith) some
+    ∙ dark-framed p zone column row (omega arith) (omega arith)))
 
 -- what was drawn is sampled
 pub sample-raster : ModulesAreSampled
@@ -127,7 +170,8 @@ pointwise-same (b ∷ row) = rw (beq-same b, pointwise-same row) refl
 pub pixel_row-bars : (row : List Bool) (height y : ℕ) → pixel_row (bars row height) y ≡ row
 pixel_row-bars row height y = sym (fill_by_all (λ x. get_or row x false) row (length row) false refl (λ k h. refl))
 
-same_rows : (row : List Bool) (height : ℕ) (ys : List ℕ) → list_all (pointwise beq row) (map (pixel_row (bars row height)) ys) ≡ true
+same_rows : (row : List Bool) (height : ℕ) (ys : List ℕ)
+    → list_all (pointwise beq row) (map (pixel_row (bars row height)) ys) ≡ true
 same_rows row height [] = refl
 same_rows row height (y ∷ ys) = rw (pixel_row-bars row height y, pointwise-same row, same_rows row height ys) refl
 

@@ -1,5 +1,7 @@
--- Pictures, by coordinates: x counts columns from the left and y rows from the top, both from 0 (ISO/IEC 15420, 15417 and 18004, quiet zones).
-use Rattle.std.specs.Prelude.{◌≡◌, ℕ, ◌+◌, ◌-◌, ◌*◌, ◌/◌, ◌<◌, Bool, false, ◌&&◌, List, length, slice_index_or, nat_lt, nat_le}
+-- Pictures, by coordinates: x counts columns from the left and y rows from the top, both from 0 (ISO/IEC 15420, 15417
+-- and 18004, quiet zones).
+use Rattle.std.specs.Prelude.{◌≡◌, ℕ, ◌+◌, ◌-◌, ◌*◌, ◌/◌, ◌<◌, Bool, false, ◌&&◌, List, length, slice_index_or, nat_lt}
+use Rattle.std.specs.Prelude.{nat_le}
 use Rattle.qrmatrix.specs.Symbol.{Symbol, is_dark}
 
 -- a picture: its width, its height, and whether the pixel at x and y is dark
@@ -39,4 +41,4 @@ framed p zone = record {
 
 -- each pixel drawn as a square of so many pixels
 abbrev pub scaled : Picture → ℕ → Picture
-scaled p scale = record { width = p.width * scale; height = p.height * scale; dark = λ x y. p.dark (x / scale) (y / scale) }
+scaled p n = record { width = p.width * n; height = p.height * n; dark = λ x y. p.dark (x / n) (y / n) }

@@ -1,5 +1,7 @@
 -- Pictures read back from text: plain PBM files (pbm(5), the plain format), and text pictures.
-use Rattle.std.specs.Prelude.{ℕ, ◌+◌, ◌-◌, ◌*◌, ◌/◌, ◌%◌, zero, suc, Bool, true, false, not, ◌&&◌, ◌||◌, List, [], ◌∷◌, map, filter, take, drop, length, codes, Option, Some, None, option_map, nat_le, nat_lt, ◌==◌, if◌then◌else◌, slice_index_or}
+use Rattle.std.specs.Prelude.{ℕ, ◌+◌, ◌-◌, ◌*◌, ◌/◌, ◌%◌, zero, suc, Bool, true, false, not, ◌&&◌, ◌||◌, List, [], ◌∷◌}
+use Rattle.std.specs.Prelude.{map, filter, take, drop, length, codes, Option, Some, None, option_map, nat_le, nat_lt}
+use Rattle.std.specs.Prelude.{◌==◌, if◌then◌else◌, slice_index_or}
 use Rattle.std.specs.List.{list_all, prefix_len, onto_first, concat}
 use Rattle.std.specs.Bool.{beq}
 use Rattle.std.specs.Cmp.Lexicographic.{pointwise}
@@ -124,8 +126,8 @@ pixel r x y = slice_index_or (slice_index_or r.rows y []) x false
 
 -- all pixels of the cell in this column and row are of the colour
 abbrev pub has_colour : Raster → ℕ → ℕ → ℕ → Bool → Bool
-has_colour r scale column row dark =
-    list_all (λ y. list_all (λ x. beq (pixel r (column * scale + x) (row * scale + y)) dark) (below scale)) (below scale)
+has_colour r size column row dark =
+    list_all (λ y. list_all (λ x. beq (pixel r (column * size + x) (row * size + y)) dark) (below size)) (below size)
 
 -- the colour of a cell, by its first pixel
 abbrev pub cell : Raster → ℕ → ℕ → ℕ → Bool
@@ -134,7 +136,8 @@ cell r scale column row = pixel r (column * scale) (row * scale)
 -- whether the cell in this column and row is inside the zone
 abbrev pub is_inside : Zone → ℕ → ℕ → ℕ → ℕ → Bool
 is_inside zone columns rows column row =
-    nat_le zone.left column && nat_lt (column + zone.right) columns && nat_le zone.top row && nat_lt (row + zone.bottom) rows
+    nat_le zone.left column && nat_lt (column + zone.right) columns
+    && nat_le zone.top row && nat_lt (row + zone.bottom) rows
 
 -- each cell is of one colour, and light in the quiet zone
 abbrev pub are_cells : Raster → ℕ → Zone → ℕ → ℕ → Bool
@@ -146,8 +149,8 @@ are_cells r scale zone columns rows =
 unfoldable pub sample : Raster → ℕ → Zone → Option (List (List Bool))
 sample r scale zone =
     let columns = r.width / scale in let rows = r.height / scale in
-    if r.width % scale == 0 && r.height % scale == 0
-    && nat_le (zone.left + zone.right) columns && nat_le (zone.top + zone.bottom) rows && are_cells r scale zone columns rows
+    if r.width % scale == 0 && r.height % scale == 0 && nat_le (zone.left + zone.right) columns
+    && nat_le (zone.top + zone.bottom) rows && are_cells r scale zone columns rows
     then Some (map (λ row. map (λ column. cell r scale (zone.left + column) (zone.top + row))
     (below (columns - zone.left - zone.right))) (below (rows - zone.top - zone.bottom)))
     else None

@@ -11,8 +11,8 @@ use labelcore::{IoFault, Sink, write_whole};
 /// The most pixels of a line, which are written at once.
 const LINE: usize = 70;
 
-/// Pixels of a row that are kept: 16 lines, as many as a label at scale 1 has, or 208, as many as any label has. A small
-/// room costs less to clear.
+/// Pixels of a row that are kept: 16 lines, as many as a label at scale 1 has, or 208, as many as any label has. A
+/// small room costs less to clear.
 const SMALL_ROOM: usize = 1120;
 
 const ROOM: usize = 14560;
@@ -37,8 +37,8 @@ pub trait PixelText {
         ensures { result.now ≡ row_end };
 }
 
-/// Writes the rows of the grid, and holds at most one line of their text. An error is the sink's, and leaves a beginning
-/// of them written.
+/// Writes the rows of the grid, and holds at most one line of their text. An error is the sink's, and leaves a
+/// beginning of them written.
 pub fn write_rows<T: PixelText, G: Grid, S: Sink>(grid: &G, sink: &mut S) -> Result<(), IoFault>
     ensures { WritesText S.Sink sink.old sink.new
         (rows_text T.line T.row_end (G.picture grid.now)) result }

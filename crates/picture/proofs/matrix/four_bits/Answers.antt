@@ -18,7 +18,8 @@ all_right = refl
 
 four : (v j : ℕ) → v < 16 → j < 4 → slice_index_or (slice_index_or {A = List Bool} FOUR.now v []) j false ≡ bit v j
 unfolding right
-four v j lv lj = same_beq _ _ (all_below_at 4 (right v) (all_below_at 16 (λ v. all_below 4 (right v)) all_right v lv) j lj)
+four v j lv lj = same_beq _ _ (all_below_at 4 (right v) (all_below_at 16 (λ v. all_below 4 (right v)) all_right v lv)
+    j lj)
 
 and_all : (b : Bool) → (b && true) ≡ b
 and_all true = refl
@@ -33,4 +34,6 @@ returns c =
     let v = bit_and (c.args.row / 2 ^ c.args.x) 15 in
     let low : v < 16 = let h = and_le_r (c.args.row / 2 ^ c.args.x) 15 in omega arith in
     let e : j + c.args.x ≡ c.args.x + j = omega arith in
-    four v j low l ∙ and_bit (c.args.row / 2 ^ c.args.x) 15 j ∙ ap (λ z. bit (c.args.row / 2 ^ c.args.x) j && z) (ones j l) ∙ and_all (bit (c.args.row / 2 ^ c.args.x) j) ∙ shr_bit c.args.row c.args.x j ∙ ap (bit c.args.row) e
+    four v j low l ∙ and_bit (c.args.row / 2 ^ c.args.x) 15 j
+    ∙ ap (λ z. bit (c.args.row / 2 ^ c.args.x) j && z) (ones j l) ∙ and_all (bit (c.args.row / 2 ^ c.args.x) j)
+    ∙ shr_bit c.args.row c.args.x j ∙ ap (bit c.args.row) e

@@ -30,7 +30,8 @@ returns-clause-writes g c =
     let first : c.as_slice.result.now ≡ pbm_header p.width p.height =
     rw (c.as_slice.ensures.value, c.header-first.ensures, c.width.ensures, c.height.ensures) refl in
     WritesText-last g.S.Sink g.met.S.Sink.took_joined _ _ _ c.as_slice.result.now rows _ c.write_rows.result
-    (ap (λ (t : List ℕ). t ++ rows) first ∙ ap (λ (t : List ℕ). pbm_header p.width p.height ++ t) (pbm_rows p (below p.height)))
+    (ap (λ (t : List ℕ). t ++ rows) first ∙ ap (λ (t : List ℕ). pbm_header p.width p.height ++ t)
+    (pbm_rows p (below p.height)))
     (HasWritten-call g.S.Sink _ _ _ c.in_ok-write_whole.ensures) c.write_rows.ensures
 
 pub returns-clause-read : goal.returns-clause-read

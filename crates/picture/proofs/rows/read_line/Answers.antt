@@ -5,4 +5,5 @@ use Rattle.picture.proofs.rows.read_line.Goals as goal
 pub returns : goal.returns
 returns g c =
     let p = g.G.Grid.picture c.args.grid.now in
-    filled_from (λ x. p.dark x c.args.y) c.args.x c.loop-i.pixels (length c.args.pixels.now) (omega arith) (λ k h. c.loop-i.invariant k (omega arith))
+    filled_from (λ x. p.dark x c.args.y) c.args.x c.loop-i.pixels (length c.args.pixels.now) (omega arith)
+    (λ k h. c.loop-i.invariant k (omega arith))

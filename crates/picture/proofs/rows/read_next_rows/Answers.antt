@@ -8,6 +8,7 @@ pub returns-clause-kept : goal.returns-clause-kept
 returns-clause-kept g c k low high =
     let p = g.G.Grid.picture c.args.grid.now in
     let row = c.read_row.new.pixels in
-    let size : length row ≡ p.width = ap length c.read_row.ensures ∙ length-map-range_with_len (λ x. p.dark x c.args.y) 0 p.width in
+    let size : length row ≡ p.width = ap length c.read_row.ensures
+    ∙ length-map-range_with_len (λ x. p.dark x c.args.y) 0 p.width in
     take_at row (drop c.width-width.result c.args.room.now) p.width size
     ∙ (c.read_row.ensures ∙ pixel_row-equal p c.args.y c.equal_rows.result k c.equal_rows.ensures.equal low high)

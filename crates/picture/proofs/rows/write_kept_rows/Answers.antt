@@ -1,5 +1,6 @@
 use Rattle.std.proofs.Common.{◌≡◌, ◌<◌, ◌++◌, ◌∙◌, ℕ, List, ap, sym, refl, subst, arith, flat_map, take}
-use Rattle.labelcore.proofs.WritingLemmas.{HasWritten, HasWritten-none, HasWritten-more, WritesText-fails, WritesText-whole}
+use Rattle.labelcore.proofs.WritingLemmas.{HasWritten, HasWritten-none, HasWritten-more, WritesText-fails}
+use Rattle.labelcore.proofs.WritingLemmas.{WritesText-whole}
 use Rattle.picture.specs.Private.Rows.{row_text}
 use Rattle.picture.specs.Text.{below, pixel_row}
 use Rattle.picture.proofs.WritingLemmas.{flat_map-below_front, flat_map-below_more}
@@ -43,7 +44,8 @@ loop-y-preserved g c =
       kept = λ k low high. e.kept k (omega arith) high;
       size = e.size ∙ h.size;
       written = HasWritten-more g.S.Sink g.met.S.Sink.took_joined _ _ _ (flat_map row (below y)) _ _
-          (ap (λ (t : List ℕ). flat_map row (below y) ++ t) held ∙ sym (flat_map-below_more row y)) h.written c.in_ok-write_row.ensures;
+          (ap (λ (t : List ℕ). flat_map row (below y) ++ t) held ∙ sym (flat_map-below_more row y))
+          h.written c.in_ok-write_row.ensures;
     }
 
 pub returns : goal.returns

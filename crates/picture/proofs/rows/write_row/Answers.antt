@@ -19,9 +19,11 @@ returns-in_err-write_line g c =
     let size : length row ≡ c.args.width = length-take-le c.args.width room c.requires.fits in
     let inside : k < div_ceil (length row) 70 = omega arith in
     let front = flat_map-below_front line k (div_ceil (length row) 70) inside in
-    let text : flat_map line (below (div_ceil (length row) 70)) ++ end ≡ (flat_map line (below k) ++ line k) ++ (front.0 ++ end) =
+    let text : flat_map line (below (div_ceil (length row) 70)) ++ end
+    ≡ (flat_map line (below k) ++ line k) ++ (front.0 ++ end) =
     ap (λ (t : List ℕ). t ++ end) front.1 ∙ append_assoc (flat_map line (below k) ++ line k) front.0 end in
-    let held = ap g.T.PixelText.line (piece_held room c.args.width k c.min.result (omega arith) c.requires.fits (omega arith)) in
+    let held = ap g.T.PixelText.line (piece_held room c.args.width k c.min.result (omega arith) c.requires.fits
+    (omega arith)) in
     WritesText-fails g.S.Sink g.met.S.Sink.took_joined _ _ _ (flat_map line (below k)) _ (front.0 ++ end) _
     c.from_residual.result c.from_residual.ensures.0
     (text ∙ ap (λ (t : List ℕ). (flat_map line (below k) ++ t) ++ (front.0 ++ end)) (sym held))
@@ -32,7 +34,8 @@ loop-k-preserved g c =
     let k = c.loop-k.k in
     let room = c.args.room.now in
     let line : ℕ → List ℕ = λ k. g.T.PixelText.line (piece (take c.args.width room) k) in
-    let held = ap g.T.PixelText.line (piece_held room c.args.width k c.min.result (omega arith) c.requires.fits (omega arith)) in
+    let held = ap g.T.PixelText.line (piece_held room c.args.width k c.min.result (omega arith) c.requires.fits
+    (omega arith)) in
     record {
       written = HasWritten-more g.S.Sink g.met.S.Sink.took_joined _ _ _ (flat_map line (below k)) _ _
           (ap (λ (t : List ℕ). flat_map line (below k) ++ t) held ∙ sym (flat_map-below_more line k))
@@ -49,5 +52,6 @@ returns g c =
     let text : lines c.loop-k.k ++ c.row_end.result.now ≡ lines (div_ceil (length row) 70) ++ g.T.PixelText.row_end =
     ap (λ (n : ℕ). lines n ++ c.row_end.result.now) last
     ∙ ap (λ (t : List ℕ). lines (div_ceil (length row) 70) ++ t) c.row_end.ensures in
-    WritesText-last g.S.Sink g.met.S.Sink.took_joined _ _ _ (lines c.loop-k.k) c.row_end.result.now _ c.write_whole.result text
+    WritesText-last g.S.Sink g.met.S.Sink.took_joined _ _ _ (lines c.loop-k.k)
+    c.row_end.result.now _ c.write_whole.result text
     c.loop-k.invariant.written c.write_whole.ensures

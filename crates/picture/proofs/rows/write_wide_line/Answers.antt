@@ -14,9 +14,13 @@ returns g c =
     let dark : ℕ → Bool = λ x. p.dark x c.args.y in
     let n = c.min-len.result in
     let row = c.read_line.new.pixels in
-    let asked : row ≡ map dark (range_with_len (70 * c.args.k) n) = c.read_line.ensures ∙ ap (λ (m : ℕ). map dark (range_with_len (70 * c.args.k) m)) (length-take-le n (replicate 70 false) (omega arith)) in
+    let asked : row ≡ map dark (range_with_len (70 * c.args.k) n) = c.read_line.ensures
+    ∙ ap (λ (m : ℕ). map dark (range_with_len (70 * c.args.k) m)) (length-take-le n (replicate 70 false) (omega arith))
+    in
     let size : length row ≡ n = ap length asked ∙ length-map-range_with_len dark (70 * c.args.k) n in
     let line : take n (row ++ drop n (replicate 70 false)) ≡ piece (map dark (below p.width)) c.args.k =
-    take_at row (drop n (replicate 70 false)) n size ∙ (asked ∙ piece_asked dark p.width c.args.k n c.requires.in_width (omega (arith, c.width-width.ensures))) in
-    subst (λ (ps : List Bool). WritesText g.S.Sink c.args.sink.now c.write_line.new.sink (g.T.PixelText.line ps) c.write_line.result)
+    take_at row (drop n (replicate 70 false)) n size
+    ∙ (asked ∙ piece_asked dark p.width c.args.k n c.requires.in_width (omega (arith, c.width-width.ensures))) in
+    subst (λ (ps : List Bool). WritesText g.S.Sink c.args.sink.now c.write_line.new.sink (g.T.PixelText.line ps)
+    c.write_line.result)
     line c.write_line.ensures

@@ -19,7 +19,8 @@ returns-in_err-write_wide_line g c =
     let size : length row ≡ p.width = length-map-range_with_len (λ x. p.dark x c.args.y) 0 p.width in
     let inside : k < div_ceil (length row) 70 = omega (arith, c.width.ensures) in
     let front = flat_map-below_front line k (div_ceil (length row) 70) inside in
-    let text : flat_map line (below (div_ceil (length row) 70)) ++ end ≡ (flat_map line (below k) ++ line k) ++ (front.0 ++ end) =
+    let text : flat_map line (below (div_ceil (length row) 70)) ++ end
+    ≡ (flat_map line (below k) ++ line k) ++ (front.0 ++ end) =
     ap (λ (t : List ℕ). t ++ end) front.1 ∙ append_assoc (flat_map line (below k) ++ line k) front.0 end in
     WritesText-fails g.S.Sink g.met.S.Sink.took_joined _ _ _ (flat_map line (below k)) (line k) (front.0 ++ end) _
     c.from_residual.result c.from_residual.ensures.0 text c.loop-k.invariant.written c.in_err-write_wide_line.ensures
@@ -45,5 +46,6 @@ returns g c =
     let text : lines c.loop-k.k ++ c.row_end.result.now ≡ lines (div_ceil (length row) 70) ++ g.T.PixelText.row_end =
     ap (λ (n : ℕ). lines n ++ c.row_end.result.now) last
     ∙ ap (λ (t : List ℕ). lines (div_ceil (length row) 70) ++ t) c.row_end.ensures in
-    WritesText-last g.S.Sink g.met.S.Sink.took_joined _ _ _ (lines c.loop-k.k) c.row_end.result.now _ c.write_whole.result text
+    WritesText-last g.S.Sink g.met.S.Sink.took_joined _ _ _ (lines c.loop-k.k)
+    c.row_end.result.now _ c.write_whole.result text
     c.loop-k.invariant.written c.write_whole.ensures

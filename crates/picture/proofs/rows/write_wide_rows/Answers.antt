@@ -1,5 +1,6 @@
 use Rattle.std.proofs.Common.{◌≡◌, ◌<◌, ℕ, List, sym, subst, arith, flat_map}
-use Rattle.labelcore.proofs.WritingLemmas.{HasWritten, HasWritten-none, HasWritten-more, WritesText-fails, WritesText-whole}
+use Rattle.labelcore.proofs.WritingLemmas.{HasWritten, HasWritten-none, HasWritten-more, WritesText-fails}
+use Rattle.labelcore.proofs.WritingLemmas.{WritesText-whole}
 use Rattle.picture.specs.Private.Rows.{row_text}
 use Rattle.picture.specs.Text.{below, pixel_row}
 use Rattle.picture.proofs.WritingLemmas.{flat_map-below_front, flat_map-below_more}
@@ -15,7 +16,8 @@ returns-in_err-write_wide_row g c =
     let row : ℕ → List ℕ = λ y. row_text g.T.PixelText.line g.T.PixelText.row_end (pixel_row p y) in
     let inside : y < p.height = omega (arith, c.height-y-end.ensures) in
     let front = flat_map-below_front row y p.height inside in
-    WritesText-fails g.S.Sink g.met.S.Sink.took_joined _ _ _ (flat_map row (below y)) (row y) front.0 _ c.from_residual.result
+    WritesText-fails g.S.Sink g.met.S.Sink.took_joined _ _ _ (flat_map row (below y)) (row y)
+    front.0 _ c.from_residual.result
     c.from_residual.ensures.0 front.1 c.loop-y.invariant.written c.in_err-write_wide_row.ensures
 
 pub loop-y-preserved : goal.loop-y-preserved

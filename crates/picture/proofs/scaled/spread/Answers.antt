@@ -22,7 +22,9 @@ loop-x-preserved c =
     let e = c.widen.ensures in
     record {
       size = e.size ∙ h.size;
-      done = λ k low inside. spread_more c.args.pixels.now c.loop-x.pixels c.widen.new.pixels x s (omega arith) (λ k low inside. h.done k (omega arith) (omega arith)) (λ k low. h.rest k (omega arith)) e.square e.after k low (omega arith);
+      done = λ k low inside. spread_more c.args.pixels.now c.loop-x.pixels c.widen.new.pixels x s (omega arith)
+          (λ k low inside. h.done k (omega arith) (omega arith)) (λ k low. h.rest k (omega arith))
+          e.square e.after k low (omega arith);
       rest = λ k low. e.before k low ∙ h.rest k (omega arith);
     }
 
@@ -30,5 +32,6 @@ pub returns : goal.returns
 returns c =
     let first : c.loop-x.x ≡ 0 = omega arith in
     let none : c.loop-x.x * c.args.scale ≡ 0 = ap (λ (n : ℕ). n * c.args.scale) first ∙ zero-mul c.args.scale in
-    fill_by_all (λ x. get_or c.args.pixels.now (x / c.args.scale) false) c.loop-x.pixels (length c.args.pixels.now) false (omega arith)
+    fill_by_all (λ x. get_or c.args.pixels.now (x / c.args.scale) false) c.loop-x.pixels (length c.args.pixels.now)
+    false (omega arith)
     (λ k h. c.loop-x.invariant.done k (omega arith) (omega arith))

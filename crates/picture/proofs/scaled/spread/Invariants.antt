@@ -6,6 +6,7 @@ use Rattle.picture.proofs.scaled.spread.Given as goal
 abbrev pub invariant-loop-x : goal.invariant-loop-x
 invariant-loop-x l = record {
   size : length l.pixels ≡ length l.initial.pixels;
-  done : (k : ℕ) → l.x * l.scale ≤ k → k < length l.pixels → get_or l.pixels k false ≡ get_or l.initial.pixels (k / l.scale) false;
+  done : (k : ℕ) → l.x * l.scale ≤ k → k < length l.pixels
+      → get_or l.pixels k false ≡ get_or l.initial.pixels (k / l.scale) false;
   rest : (k : ℕ) → k < l.x * l.scale → get_or l.pixels k false ≡ get_or l.initial.pixels k false;
 }

@@ -7,4 +7,5 @@ pub returns-clause-held : goal.returns-clause-held
 returns-clause-held g c =
     let s = c.args.self.now in
     let more = c.args.bytes.now in
-    ap (λ (xs : List ℕ). slice_range xs s.start (s.end + length more)) c.put.ensures ∙ held_more s.bytes more s.start s.end (length more) s.ordered (omega arith) refl
+    ap (λ (xs : List ℕ). slice_range xs s.start (s.end + length more)) c.put.ensures
+    ∙ held_more s.bytes more s.start s.end (length more) s.ordered (omega arith) refl

@@ -10,7 +10,8 @@ returns-in_err-count-clause-bytes g c =
     let old = c.args.self.now in
     record {
       sent = h.front;
-      taken = subst (g.S.Sink.took old.sink c.write.new.self) (append-nil h.front) (g.met.S.Sink.took_joined _ _ _ _ _ h.taken c.in_err-count.ensures.bytes);
+      taken = subst (g.S.Sink.took old.sink c.write.new.self) (append-nil h.front)
+          (g.met.S.Sink.took_joined _ _ _ _ _ h.taken c.in_err-count.ensures.bytes);
       cut = append-nil (slice_range old.bytes old.start old.end) ∙ h.cut;
     }
 

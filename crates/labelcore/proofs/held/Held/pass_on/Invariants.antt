@@ -6,7 +6,8 @@ use Rattle.labelcore.proofs.held.Held.pass_on.Given as goal
 abbrev pub invariant-loop-self : goal.invariant-loop-self
 invariant-loop-self g l = record {
   front : List ℕ;
-  cut : slice_range l.initial.self.bytes l.initial.self.start l.initial.self.end ≡ front ++ slice_range l.self.bytes l.self.start l.self.end;
+  cut : slice_range l.initial.self.bytes l.initial.self.start l.initial.self.end
+      ≡ front ++ slice_range l.self.bytes l.self.start l.self.end;
   taken : g.S.Sink.took l.initial.self.sink l.self.sink front;
   uncounted : g.S.Sink.failures l.self.sink ≡ g.S.Sink.failures l.initial.self.sink;
   marked : l.self.is_flushed ≡ l.initial.self.is_flushed;

@@ -12,4 +12,5 @@ returns-clause-bytes g c =
     let new = c.hold.new.self in
     let more = take c.min-count.result c.args.bytes.now in
     subst (λ s. PassesOn took old.sink s (held_back old) (held_back new) more) (sym c.hold.ensures.sink)
-    (PassesOn-more took old.sink mid.sink (held_back old) (held_back mid) (held_back new) more c.in_ok-make_room.ensures.bytes c.hold.ensures.held)
+    (PassesOn-more took old.sink mid.sink (held_back old) (held_back mid) (held_back new)
+    more c.in_ok-make_room.ensures.bytes c.hold.ensures.held)

@@ -3,7 +3,8 @@ use Rattle.std.proofs.Math.ListN.{replicate}
 use Rattle.picture.specs.Picture.{Zone}
 use Rattle.picture.proofs.GridLemmas.{framed_row_above, framed_row_below, framed_put}
 use Rattle.picture.proofs.framed.FramedGrid.read_row.Goals as goal
-use Rattle.picture.proofs.framed.FramedGrid.read_row.Goals.{else-self-y-via-then-self-y+else-y-self, else-self-y-via-else-self-y}
+use Rattle.picture.proofs.framed.FramedGrid.read_row.Goals.{else-self-y-via-then-self-y+else-y-self}
+use Rattle.picture.proofs.framed.FramedGrid.read_row.Goals.{else-self-y-via-else-self-y}
 
 pub returns-then-y-self : goal.returns-then-y-self
 returns-then-y-self g c =
@@ -11,7 +12,9 @@ returns-then-y-self g c =
     let s = c.args.self.now in
     let zone : Zone = record { left = s.left; right = s.right; top = s.top; bottom = s.bottom } in
     let light : c.fill.new.self ≡ replicate (length c.args.pixels.now) false = c.fill.ensures.after (λ y e. e) in
-    framed_put p zone c.args.y c.fill.new.self c.read_row.new.pixels c.width.result (light ∙ ap (λ (n : ℕ). replicate n false) c.requires.whole) c.width.ensures (omega arith) (omega (arith, c.height.ensures)) c.read_row.ensures
+    framed_put p zone c.args.y c.fill.new.self c.read_row.new.pixels c.width.result
+    (light ∙ ap (λ (n : ℕ). replicate n false) c.requires.whole) c.width.ensures (omega arith)
+    (omega (arith, c.height.ensures)) c.read_row.ensures
 
 pub returns-else-self-y : goal.returns-else-self-y
 returns-else-self-y g c =

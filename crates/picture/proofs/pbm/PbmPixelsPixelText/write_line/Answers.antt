@@ -8,4 +8,5 @@ pub returns : goal.returns
 returns g c =
     let n = c.args.len in
     subst (λ (t : List ℕ). WritesText g.S.Sink c.args.sink.now c.write_whole.new.sink t c.write_whole.result)
-    (ap (λ (t : List ℕ). take (n + 1) (set t n 10)) c.digits-text.ensures ∙ digits_cut c.args.pixels.now n (omega arith)) c.write_whole.ensures
+    (ap (λ (t : List ℕ). take (n + 1) (set t n 10)) c.digits-text.ensures
+    ∙ digits_cut c.args.pixels.now n (omega arith)) c.write_whole.ensures
