@@ -1,5 +1,5 @@
 -- The segments that data gets, and its version (ISO/IEC 18004, 7.4.1 and annex J; the choice is left to the encoder).
-use Rattle.std.specs.Prelude.{ℕ, zero, suc, ◌-◌, ◌^◌, ◌<◌, ◌≤◌, List, [], ◌∷◌, map, length, take, drop, nat_lt, nat_le}
+use Rattle.std.specs.Prelude.{ℕ, zero, suc, ◌-◌, ◌^◌, ◌<◌, List, [], ◌∷◌, map, length, take, drop, nat_lt, nat_le}
 use Rattle.std.specs.Prelude.{◌&&◌, Bool, Option, filter}
 use Rattle.std.specs.List.{best_of, find, flat_map, list_all, range_with_len}
 use Rattle.labelcore.specs.declared.options.Level.{Level}
@@ -46,11 +46,6 @@ unfoldable pub chosen_version : (lowest : ℕ) → Level → List ℕ → Option
 chosen_version lowest level bytes =
     find (λ version. nat_le (cost version (chosen_segments version bytes)) (capacity version level))
     (range_with_len lowest (11 - lowest))
-
--- no list of segments of the bytes, of any number and cut, costs less in a version
-abbrev pub IsFewest : ℕ → List ℕ → List Segment → Type 0
-IsFewest version bytes segments =
-    (others : List Segment) → IsSegmentation version others bytes → cost version segments ≤ cost version others
 
 -- no list of segments of the bytes fits in a version
 abbrev pub NoneFits : ℕ → Level → List ℕ → Type 0

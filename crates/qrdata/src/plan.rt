@@ -1,6 +1,6 @@
 //! The choice of a version and of segments.
 ghost use Rattle.labelcore.specs.declared.fault.Fault.TheVariants.{DoesNotFit};
-ghost use Rattle.qrdata.specs.Fewest.{chosen_segments, chosen_version, IsFewest, NoneFits};
+ghost use Rattle.qrdata.specs.Fewest.{chosen_segments, chosen_version, NoneFits};
 ghost use Rattle.qrdata.specs.Segments.{IsSegmentation, cost, segments_bits};
 ghost use Rattle.qrdata.specs.Private.LeastPlan.{IsLeastPlan, NamesBest, NoPlan, SameWidths};
 ghost use Rattle.qrdata.specs.Versions.{IsVersion, capacity};
@@ -96,7 +96,9 @@ pub fn choose(options: &Options, bytes: &[u8]) -> Result<Plan, Fault>
     ensures cut { IfOk result (λ plan. IsSegmentation plan.version plan.segments bytes.now) }
     ensures fits { IfOk result
         (λ plan. cost plan.version plan.segments ≤ capacity plan.version plan.level) }
-    ensures fewest { IfOk result (λ plan. IsFewest plan.version bytes.now plan.segments) }
+    ensures fewest { IfOk result (λ plan. (others : List Segment)
+        → IsSegmentation plan.version others bytes.now
+        → cost plan.version plan.segments ≤ cost plan.version others) }
     ensures bits { IfOk result (λ plan.
         length (segments_bits plan.version plan.segments bytes.now)
         ≡ cost plan.version plan.segments) }
