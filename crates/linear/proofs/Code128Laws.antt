@@ -1,5 +1,6 @@
 -- What is drawn as Code 128 is read back (ISO/IEC 15417, symbol structure).
-use Rattle.std.proofs.Common.{◌≡◌, ℕ, ◌+◌, ◌-◌, ◌*◌, ◌/◌, ◌%◌, ◌<◌, ◌≤◌, ◌⊎◌, Bool, true, false, cond, Ok, Some, None}
+use Rattle.std.proofs.Common.{◌≡◌, ◌&&◌, eqb, eq-eqb, ℕ, ◌+◌, ◌-◌, ◌*◌, ◌/◌, ◌%◌, ◌<◌, ◌≤◌, ◌⊎◌, Bool, true, false}
+use Rattle.std.proofs.Common.{cond, Ok, Some, None}
 use Rattle.std.proofs.Common.{Option, List, [], ◌∷◌, ◌++◌, length, take, drop, ltb, leb, refl, sym, ap, subst, ◌∙◌}
 use Rattle.std.proofs.Common.{arith, length-append, append_assoc, append-nil, lt-ltb, le-ltb, le-leb, inl, inr, lit<}
 use Rattle.std.specs.Prelude.{option_map, option_and_then, flat_map, get_or, position, find, All, IfOk}
@@ -339,15 +340,17 @@ row_read values a =
     let count : group_count row ≡ length values = omega arith in
     let stop : drop (11 * length values) row ≡ character_bars 106 =
     drop-append (11 * length values) (flat_map character_bars values) (character_bars 106) front in
-    let found : List Bool → Option (List ℕ) =
-    λ xs. cond (same_modules xs (character_bars 106))
-    (option_and_then symbol_data (each_group group_value 11 (length values) row)) None in
     let whole : ℕ → Option (List ℕ) =
-    λ n. cond (same_modules (drop (11 * n) row) (character_bars 106))
+    λ n. cond (eqb (length row) (11 * n + 13) && same_modules (drop (11 * n) row) (character_bars 106))
     (option_and_then symbol_data (each_group group_value 11 n row)) None in
-    ap whole count ∙ ap found stop
-    ∙ ap (λ b. cond b (option_and_then symbol_data (each_group group_value 11 (length values) row)) None)
-    same_stop
+    let found : Bool → List Bool → Option (List ℕ) =
+    λ b xs. cond (b && same_modules xs (character_bars 106))
+    (option_and_then symbol_data (each_group group_value 11 (length values) row)) None in
+    ap whole count
+    ∙ ap (λ b. found b (drop (11 * length values) row))
+    (eq-eqb (length row) (11 * length values + 13) (omega arith))
+    ∙ ap (found true) stop
+    ∙ ap (λ b. cond b (option_and_then symbol_data (each_group group_value 11 (length values) row)) None) same_stop
     ∙ ap (option_and_then symbol_data) (characters_found values (character_bars 106) a)
 
 -- the values between the start and the check value

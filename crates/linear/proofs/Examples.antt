@@ -1,5 +1,5 @@
 -- Worked symbols, computed from the definitions: EAN and UPC (ISO/IEC 15420), then Code 128 (ISO/IEC 15417).
-use Rattle.std.specs.Prelude.{◌≡◌, refl, Some, Ok, Err, codes, length, ◌+◌, ℕ, List, [], ◌∷◌}
+use Rattle.std.specs.Prelude.{◌≡◌, refl, Some, None, Ok, Err, codes, length, ◌+◌, ℕ, List, [], ◌∷◌}
 use Rattle.labelcore.specs.declared.fault.Fault.TheVariants.{NotADigit, WrongNumberOfDigits, WrongCheckDigit}
 use Rattle.linear.specs.Modules.{modules}
 use Rattle.linear.specs.Digits.{weighted_sum, full_digits}
@@ -183,3 +183,16 @@ length_one_digit = refl
 read_mixed : read_code128 (code128_bars (1 ∷ 97 ∷ 2 ∷ 98 ∷ 97 ∷ 3 ∷ [])) ≡ Some (1 ∷ 97 ∷ 2 ∷ 98 ∷ 97 ∷ 3 ∷ [])
 unfolding character_widths
 read_mixed = refl
+
+-- no modules are no symbol, whatever the tables
+nothing_ean8 : read_ean8 [] ≡ None
+nothing_ean8 = refl
+
+nothing_ean13 : read_ean13 [] ≡ None
+nothing_ean13 = refl
+
+nothing_upca : read_upca [] ≡ None
+nothing_upca = refl
+
+nothing_code128 : read_code128 [] ≡ None
+nothing_code128 = refl

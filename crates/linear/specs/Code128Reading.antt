@@ -1,6 +1,6 @@
 -- Reading of Code 128 symbols (ISO/IEC 15417, symbol characters, code sets and check character).
-use Rattle.std.specs.Prelude.{ℕ, ◌+◌, ◌-◌, ◌*◌, ◌/◌, ◌%◌, ◌==◌, nat_lt, if◌then◌else◌, Bool, true, false, Option, Some}
-use Rattle.std.specs.Prelude.{None, List, [], ◌∷◌, ◌++◌, length, take, drop, position, find, option_map}
+use Rattle.std.specs.Prelude.{ℕ, ◌+◌, ◌-◌, ◌*◌, ◌/◌, ◌%◌, ◌==◌, nat_lt, if◌then◌else◌, Bool, true, false, ◌&&◌, Option}
+use Rattle.std.specs.Prelude.{Some, None, List, [], ◌∷◌, ◌++◌, length, take, drop, position, find, option_map}
 use Rattle.std.specs.Prelude.{option_and_then}
 use Rattle.std.specs.Option.{option_map_or}
 use Rattle.std.specs.Str.{bytes_eq}
@@ -73,6 +73,6 @@ group_count row = (length row - 13) / 11
 -- the data of a row of modules that ends in the stop character
 abbrev pub read_code128 : List Bool → Option (List ℕ)
 read_code128 row =
-    if same_modules (drop (11 * group_count row) row) (character_bars 106)
+    if length row == 11 * group_count row + 13 && same_modules (drop (11 * group_count row) row) (character_bars 106)
     then option_and_then symbol_data (each_group group_value 11 (group_count row) row)
     else None

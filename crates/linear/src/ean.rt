@@ -13,7 +13,7 @@ use crate::tables::{CENTRE_GUARD, LEFT_SETS, NORMAL_GUARD, SET_A, SET_B, SET_C};
 use labelcore::Fault;
 
 /// A number set: each digit has a pattern of seven modules in each of the three.
-#[derive(Clone, Copy, Debug, PartialEq, Eq)]
+#[derive(Clone, Copy)]
 pub enum NumberSet {
     A,
     B,

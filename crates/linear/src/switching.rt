@@ -12,7 +12,7 @@ use crate::limits::MAX_VALUES;
 use arrayvec::ArrayVec;
 
 /// A code set of Code 128: A has the control characters, B the lower case, and C pairs of digits.
-#[derive(Clone, Copy, Debug, PartialEq, Eq)]
+#[derive(Clone, Copy, PartialEq, Eq)]
 pub enum CodeSet {
     A,
     B,
