@@ -6,6 +6,7 @@ use Rattle.labelcore.specs.OptionValues.{OptionValues}
 use Rattle.std.specs.Fmt.{digits}
 use Rattle.labelcore.specs.LineItem.{request, head_read, symbology_named}
 use Rattle.labelcore.specs.Lines.{line_limit}
+use Rattle.linear.specs.Tables.{number_set_a}
 use Rattle.filter.specs.Label.{Label, label_of}
 use Rattle.filter.specs.Output.{outcome, images, messages, messages_after}
 use Rattle.filter.specs.Readback.{accepted}
@@ -22,7 +23,7 @@ full_data_of_input = refl
 
 images_of_input : images settings input
     ≡ codes "P1\n81 1\n0000000101011101101111010110001001100101010100001010011101000010100010\n01010000000\n"
-unfolding images outcome label_of request head_read symbology_named line_limit digits
+unfolding images outcome label_of request head_read symbology_named line_limit digits number_set_a
 images_of_input = refl
 
 messages_of_input : messages settings input ≡ codes "line 2: unknown symbology\nline 4: check digit is 0, should be 7\n"

@@ -1,5 +1,5 @@
 -- What the private contracts of a line's end say.
-use Rattle.std.specs.Prelude.{◌≡◌, ℕ, Bool, List, Option, Some, None}
+use Rattle.std.specs.Prelude.{◌≡◌, ℕ, Bool, List, [], Option, Some, None}
 use Rattle.labelcore.specs.Device.{Begins}
 use Rattle.labelcore.specs.OptionValues.{OptionValues}
 use Rattle.labelcore.specs.declared.fault.Fault.{Fault}
