@@ -5,7 +5,7 @@ use Rattle.std.specs.List.{flat_map}
 use Rattle.labelcore.specs.declared.options.Level.{Level}
 use Rattle.labelcore.specs.declared.options.Level.TheVariants.{L, M, Q, H}
 
--- the numbers of versions
+-- the versions are 1 to 10
 abbrev pub IsVersion : ℕ → Type 0
 IsVersion version = (1 ≤ version) × (version ≤ 10)
 

@@ -44,7 +44,8 @@ alignment_coordinates v =
     slice_index_or ([] ∷ [] ∷ (6 ∷ 18 ∷ []) ∷ (6 ∷ 22 ∷ []) ∷ (6 ∷ 26 ∷ []) ∷ (6 ∷ 30 ∷ []) ∷ (6 ∷ 34 ∷ [])
     ∷ (6 ∷ 22 ∷ 38 ∷ []) ∷ (6 ∷ 24 ∷ 42 ∷ []) ∷ (6 ∷ 26 ∷ 46 ∷ []) ∷ (6 ∷ 28 ∷ 50 ∷ []) ∷ []) v []
 
--- the alignment patterns of a version: one about each place of two of the coordinates that no finder pattern has
+-- the alignment patterns of a version, one about each place whose column and row are among the coordinates, but for the
+-- places that a finder pattern has
 unfoldable pub alignment : ℕ → ℕ → ℕ → Option Bool
 unfolding alignment_coordinates finder
 alignment v x y =
