@@ -7,23 +7,24 @@ use labelcore::Fault;
 use linear::{Code128, Ean8, Ean13, Linear, Row, UpcA, switching_law, table_laws};
 use std::process::Abort;
 
-/// What a symbology draws of data, through the trait.
-fn encoded<L: Linear>(data: &[u8], row: &mut Row) -> Result<(), Fault>
+/// What a symbology draws of data, in place of an old row.
+fn drawn_by<L: Linear>(rt: &impl Abort, data: &[u8]) -> Row
     requires { «data».now ≢ [] }
 {
-    L::encode(data, row)
+    let mut row = Row::new();
+    row.push(true);
+    assert!(rt; L::encode(data, &mut row).is_ok());
+    row
 }
 
 /// The data is drawn as the modules of a text of `0` and `1`.
 fn assert_drawn<L: Linear>(rt: &impl Abort, data: &[u8], modules: &[u8])
     requires { «data».now ≢ [] }
 {
-    let mut row = Row::new();
-    row.push(true);
-    assert_eq!(rt; encoded::<L>(data, &mut row), Ok(()));
-    assert_eq!(rt; row.len(), modules.len());
+    let row = drawn_by::<L>(rt, data);
+    assert!(rt; row.len() == modules.len());
     for (dark, module) in row.iter().zip(modules) {
-        assert_eq!(rt; *dark, *module == b'1');
+        assert!(rt; *dark == (*module == b'1'));
     }
 }
 
@@ -33,27 +34,43 @@ fn assert_refused<L: Linear>(rt: &impl Abort, data: &[u8], want: Fault)
 {
     let mut row = Row::new();
     row.push(true);
-    assert_eq!(rt; encoded::<L>(data, &mut row), Err(want));
+    assert!(rt; L::encode(data, &mut row) == Err(want));
     assert!(rt; row.is_empty());
 }
 
-/// The data is drawn as a Code 128 row of these widths, bar first; spaces stand between characters.
-fn assert_widths(rt: &impl Abort, data: &[u8], widths: &[u8])
-    requires { «data».now ≢ [] }
-{
-    let mut row = Row::new();
-    assert_eq!(rt; Code128::encode(data, &mut row), Ok(()));
-    let mut modules = row.iter();
+/// So many equal modules after those of the row.
+fn push_run(row: &mut Row, dark: bool, width: u8) {
+    for _ in b'0'..width {
+        let _ = row.try_push(dark);
+    }
+}
+
+/// Modules of these widths after those of the row, bar first; spaces stand between characters.
+fn push_widths(row: &mut Row, widths: &[u8]) {
     let mut dark = true;
     for width in widths {
         if *width != b' ' {
-            for _ in b'0'..*width {
-                assert_eq!(rt; modules.next(), Some(&dark));
-            }
+            push_run(row, dark, *width);
             dark = !dark;
         }
     }
-    assert_eq!(rt; modules.next(), None);
+}
+
+/// The data is drawn as this Code 128 row.
+fn assert_row(rt: &impl Abort, data: &[u8], want: &Row)
+    requires { «data».now ≢ [] }
+{
+    let row = drawn_by::<Code128>(rt, data);
+    assert!(rt; row.as_slice() == want.as_slice());
+}
+
+/// The data is drawn as a Code 128 row of these widths.
+fn assert_widths(rt: &impl Abort, data: &[u8], widths: &[u8])
+    requires { «data».now ≢ [] }
+{
+    let mut want = Row::new();
+    push_widths(&mut want, widths);
+    assert_row(rt, data, &want);
 }
 
 /// `ean8 7351353`.
@@ -65,7 +82,8 @@ const EAN13_ROW: &[u8] =
 
 #[test]
 fn ean8_symbols(rt: HostRuntime) {
-    assert_eq!(rt; (Ean8::QUIET_LEFT, Ean8::QUIET_RIGHT), (7, 7));
+    assert!(rt; Ean8::QUIET_LEFT == 7);
+    assert!(rt; Ean8::QUIET_RIGHT == 7);
     assert_drawn::<Ean8>(&rt, b"7351353", EAN8_ROW);
     assert_drawn::<Ean8>(&rt, b"73513537", EAN8_ROW);
     let wrong = Fault::WrongCheckDigit { given: 0, right: 7 };
@@ -77,7 +95,8 @@ fn ean8_symbols(rt: HostRuntime) {
 
 #[test]
 fn ean13_symbols(rt: HostRuntime) {
-    assert_eq!(rt; (Ean13::QUIET_LEFT, Ean13::QUIET_RIGHT), (11, 7));
+    assert!(rt; Ean13::QUIET_LEFT == 11);
+    assert!(rt; Ean13::QUIET_RIGHT == 7);
     assert_drawn::<Ean13>(&rt, b"4006381333931", EAN13_ROW);
     assert_drawn::<Ean13>(&rt, b"400638133393", EAN13_ROW);
     let wrong = Fault::WrongCheckDigit { given: 2, right: 1 };
@@ -87,19 +106,19 @@ fn ean13_symbols(rt: HostRuntime) {
 
 #[test]
 fn upca_symbols(rt: HostRuntime) {
-    assert_eq!(rt; (UpcA::QUIET_LEFT, UpcA::QUIET_RIGHT), (9, 9));
-    let mut row = Row::new();
-    let mut ean13_row = Row::new();
-    assert_eq!(rt; UpcA::encode(b"03600029145", &mut row), Ok(()));
-    assert_eq!(rt; Ean13::encode(b"0036000291452", &mut ean13_row), Ok(()));
-    assert_eq!(rt; row.len(), 95);
+    assert!(rt; UpcA::QUIET_LEFT == 9);
+    assert!(rt; UpcA::QUIET_RIGHT == 9);
+    let row = drawn_by::<UpcA>(&rt, b"03600029145");
+    let ean13_row = drawn_by::<Ean13>(&rt, b"0036000291452");
+    assert!(rt; row.len() == 95);
     assert!(rt; row.as_slice() == ean13_row.as_slice());
     assert_refused::<UpcA>(&rt, b"12345", Fault::WrongNumberOfDigits(5));
 }
 
 #[test]
 fn code128_symbols(rt: HostRuntime) {
-    assert_eq!(rt; (Code128::QUIET_LEFT, Code128::QUIET_RIGHT), (10, 10));
+    assert!(rt; Code128::QUIET_LEFT == 10);
+    assert!(rt; Code128::QUIET_RIGHT == 10);
     assert_widths(
         &rt,
         b"PJJ123C",

@@ -3,37 +3,31 @@ ghost use Rattle.qrdata.specs.Segments.{IsSegmentation, cost};
 ghost use Rattle.qrdata.specs.Versions.{capacity};
 ghost use Rattle.std.specs.Prelude.{◌≤◌};
 
-use labelcore::{Fault, Format, Level, Options};
+use crate::support::qr_options;
+use labelcore::{Fault, Level};
 use qrdata::{Mode, Plan, Segment, Version, Words, choose, codewords};
 use std::process::Abort;
-
-fn options(rt: &impl Abort, level: Level, min_version: u8) -> Options {
-    match Options::new(Format::Pbm, 1, 50, level, min_version, None, false) {
-        Some(options) => options,
-        None => panic!(rt; "an option is out of its range"),
-    }
-}
 
 fn planned(rt: &impl Abort, level: Level, min_version: u8, data: &[u8]) -> Plan
     ensures cut { IsSegmentation result.version result.segments «data».now }
     ensures fits { cost result.version result.segments ≤ capacity result.version result.level }
 {
-    match choose(&options(rt, level, min_version), data) {
+    match choose(&qr_options(rt, level, min_version), data) {
         Ok(plan) => plan,
         Err(_) => panic!(rt; "data does not fit"),
     }
 }
 
 fn expect_refused(rt: &impl Abort, level: Level, data: &[u8]) {
-    match choose(&options(rt, level, 1), data) {
+    match choose(&qr_options(rt, level, 1), data) {
         Ok(_) => panic!(rt; "data fits"),
-        Err(fault) => assert_eq!(rt; fault, Fault::DoesNotFit(level)),
+        Err(fault) => assert!(rt; fault == Fault::DoesNotFit(level)),
     }
 }
 
 fn expect_version(rt: &impl Abort, plan: &Plan, number: u8, bits: u32) {
-    assert_eq!(rt; plan.version().number(), number);
-    assert_eq!(rt; plan.bits(), bits);
+    assert!(rt; plan.version().number() == number);
+    assert!(rt; plan.bits() == bits);
 }
 
 fn words_of(plan: &Plan, data: &[u8]) -> Words
@@ -48,48 +42,48 @@ fn words_of(plan: &Plan, data: &[u8]) -> Words
 }
 
 fn expect_words(rt: &impl Abort, words: &Words, from: usize, expected: &[u8]) {
-    assert!(rt; words.len().saturating_sub(from) >= expected.len());
-    for (word, right) in words.as_slice().iter().skip(from).zip(expected) {
-        assert_eq!(rt; *word, *right);
-    }
+    let all = words.as_slice();
+    assert!(rt; from <= all.len());
+    assert!(rt; all[from..].starts_with(expected));
 }
 
 fn expect_segments(rt: &impl Abort, plan: &Plan, expected: &[Segment]) {
-    assert_eq!(rt; plan.segments().len(), expected.len());
-    for (segment, right) in plan.segments().iter().zip(expected) {
-        assert_eq!(rt; *segment, *right);
-    }
+    assert!(rt; plan.segments() == expected);
+}
+
+/// Each version's number, side, codewords, and data codewords at the levels L, M, Q and H.
+const SIZES: [(u8, usize, usize, [usize; 4]); 10] = [
+    (1, 21, 26, [19, 16, 13, 9]),
+    (2, 25, 44, [34, 28, 22, 16]),
+    (3, 29, 70, [55, 44, 34, 26]),
+    (4, 33, 100, [80, 64, 48, 36]),
+    (5, 37, 134, [108, 86, 62, 46]),
+    (6, 41, 172, [136, 108, 76, 60]),
+    (7, 45, 196, [156, 124, 88, 66]),
+    (8, 49, 242, [194, 154, 110, 86]),
+    (9, 53, 292, [232, 182, 132, 100]),
+    (10, 57, 346, [274, 216, 154, 122]),
+];
+
+fn expect_data_words(rt: &impl Abort, version: Version, data: &[usize; 4]) {
+    assert!(rt; version.data_words(Level::L) == data[0]);
+    assert!(rt; version.data_words(Level::M) == data[1]);
+    assert!(rt; version.data_words(Level::Q) == data[2]);
+    assert!(rt; version.data_words(Level::H) == data[3]);
 }
 
 #[test]
 fn sizes(rt: HostRuntime) {
     assert!(rt; Version::new(0).is_none());
     assert!(rt; Version::new(11).is_none());
-    let data = [
-        [19, 16, 13, 9],
-        [34, 28, 22, 16],
-        [55, 44, 34, 26],
-        [80, 64, 48, 36],
-        [108, 86, 62, 46],
-        [136, 108, 76, 60],
-        [156, 124, 88, 66],
-        [194, 154, 110, 86],
-        [232, 182, 132, 100],
-        [274, 216, 154, 122],
-    ];
-    let total = [26, 44, 70, 100, 134, 172, 196, 242, 292, 346];
-    for number in 1..11u8 {
+    for (number, side, total, data) in SIZES {
         let Some(version) = Version::new(number) else {
             panic!(rt; "there is such a version")
         };
-        let place = usize::from(number) - 1;
-        assert_eq!(rt; version.number(), number);
-        assert_eq!(rt; version.side(), 21 + 4 * place);
-        assert_eq!(rt; version.total_words(), total[place]);
-        assert_eq!(rt; version.data_words(Level::L), data[place][0]);
-        assert_eq!(rt; version.data_words(Level::M), data[place][1]);
-        assert_eq!(rt; version.data_words(Level::Q), data[place][2]);
-        assert_eq!(rt; version.data_words(Level::H), data[place][3]);
+        assert!(rt; version.number() == number);
+        assert!(rt; version.side() == side);
+        assert!(rt; version.total_words() == total);
+        expect_data_words(&rt, version, &data);
     }
 }
 
@@ -97,23 +91,27 @@ fn sizes(rt: HostRuntime) {
 fn standard_symbols(rt: HostRuntime) {
     let digits = planned(&rt, Level::M, 1, b"01234567");
     let words = words_of(&digits, b"01234567");
-    assert_eq!(rt;
-        words.as_slice(),
-        [
+    assert!(rt; words.len() == 26);
+    expect_words(
+        &rt,
+        &words,
+        0,
+        &[
             0x10, 0x20, 0x0C, 0x56, 0x61, 0x80, 0xEC, 0x11, 0xEC, 0x11, 0xEC, 0x11, 0xEC, 0x11,
             0xEC, 0x11, 0xA5, 0x24, 0xD4, 0xC1, 0xED, 0x36, 0xC7, 0x87, 0x2C, 0x55,
-        ]
-        .as_slice()
+        ],
     );
     let hello = planned(&rt, Level::Q, 1, b"HELLO WORLD");
     let words = words_of(&hello, b"HELLO WORLD");
-    assert_eq!(rt;
-        words.as_slice(),
-        [
+    assert!(rt; words.len() == 26);
+    expect_words(
+        &rt,
+        &words,
+        0,
+        &[
             32, 91, 11, 120, 209, 114, 220, 77, 67, 64, 236, 17, 236, 168, 72, 22, 82, 217, 54,
             156, 0, 46, 15, 180, 122, 16,
-        ]
-        .as_slice()
+        ],
     );
 }
 
@@ -122,7 +120,7 @@ fn one_digit(rt: HostRuntime) {
     let plan = planned(&rt, Level::H, 1, b"1");
     expect_version(&rt, &plan, 1, 18);
     let words = words_of(&plan, b"1");
-    assert_eq!(rt; words.len(), 26);
+    assert!(rt; words.len() == 26);
     expect_words(
         &rt,
         &words,
@@ -140,7 +138,7 @@ fn terminator_of_one_bit(rt: HostRuntime) {
     expect_words(&rt, &words, 0, &[0x10, 0xA4, 0x6F]);
     expect_words(&rt, &words, 18, &[0x16]);
     let longer = planned(&rt, Level::L, 1, &data);
-    assert_eq!(rt; longer.version().number(), 2);
+    assert!(rt; longer.version().number() == 2);
 }
 
 #[test]
@@ -153,7 +151,7 @@ fn terminator_of_four_bits(rt: HostRuntime) {
     expect_words(&rt, &words, 1, &[0x16; 17]);
     expect_words(&rt, &words, 18, &[0x10]);
     let longer = planned(&rt, Level::L, 1, &data);
-    assert_eq!(rt; longer.version().number(), 2);
+    assert!(rt; longer.version().number() == 2);
     let words = words_of(&longer, &data);
     expect_words(&rt, &words, 0, &[0x41, 0x26]);
     expect_words(&rt, &words, 2, &[0x16; 17]);
@@ -177,7 +175,7 @@ fn longest_data(rt: HostRuntime) {
     let digits = [b'1'; 653];
     let plan = planned(&rt, Level::L, 1, &digits[..652]);
     expect_version(&rt, &plan, 10, 2190);
-    assert_eq!(rt; words_of(&plan, &digits[..652]).len(), 346);
+    assert!(rt; words_of(&plan, &digits[..652]).len() == 346);
     expect_refused(&rt, Level::L, &digits);
     let mut mixed = [b'1'; 646];
     mixed[0] = b'a';
@@ -190,11 +188,11 @@ fn longest_data(rt: HostRuntime) {
 fn uneven_blocks(rt: HostRuntime) {
     let data = [b'a'; 30];
     let plan = planned(&rt, Level::Q, 5, &data);
-    assert_eq!(rt; plan.version().number(), 5);
-    assert_eq!(rt; plan.level(), Level::Q);
-    assert_eq!(rt; planned(&rt, Level::Q, 1, &data).version().number(), 3);
+    assert!(rt; plan.version().number() == 5);
+    assert!(rt; plan.level() == Level::Q);
+    assert!(rt; planned(&rt, Level::Q, 1, &data).version().number() == 3);
     let words = words_of(&plan, &data);
-    assert_eq!(rt; words.len(), 62 + 72);
+    assert!(rt; words.len() == 62 + 72);
     expect_words(
         &rt,
         &words,
@@ -224,12 +222,12 @@ fn interleaving_order(rt: HostRuntime) {
     let plan = planned(&rt, Level::Q, 5, &data);
     expect_segments(&rt, &plan, &[segment(Mode::Byte, 60)]);
     let words = words_of(&plan, &data);
-    assert_eq!(rt; words.len(), 62 + 72);
+    assert!(rt; words.len() == 62 + 72);
     for place in 0..15u8 {
         let row = [place, 15 + place, 30 + place, 46 + place];
         for (block, index) in row.iter().enumerate() {
             let at = usize::from(place).saturating_mul(4).saturating_add(block);
-            assert_eq!(rt; words.as_slice().get(at), Some(&placed_word(*index)));
+            assert!(rt; words.as_slice().get(at) == Some(&placed_word(*index)));
         }
     }
     expect_words(&rt, &words, 60, &[placed_word(45), placed_word(61)]);
@@ -364,7 +362,7 @@ fn no_list_costs_less(rt: HostRuntime) {
         for number in 0..*texts {
             let text = text_of(number);
             let plan = planned(&rt, Level::M, 1, &text[..shorter + 1]);
-            assert_eq!(rt; plan.bits(), fewest_bits(&text[..shorter + 1]));
+            assert!(rt; plan.bits() == fewest_bits(&text[..shorter + 1]));
         }
     }
 }

@@ -1,5 +1,5 @@
 //! Tests of the layers below the filter, by their public calls alone: worked rows, the standards' listings, plain slow
-//! forms, devices that fail. They stand apart from the layers, so that a layer is proved without reading what tests read.
+//! forms, devices that fail. They stand apart, so that a layer is proved without reading what tests read.
 #![tactic(auto)]
 
 #[cfg(test)]
@@ -18,6 +18,8 @@ mod pictures;
 mod segments;
 #[cfg(test)]
 mod streams;
+#[cfg(test)]
+mod support;
 #[cfg(test)]
 mod symbols;
 #[cfg(test)]

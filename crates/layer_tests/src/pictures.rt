@@ -1,7 +1,7 @@
 //! Worked texts, and each public call once.
 mod widths;
 
-use labelcore::{IoFault, MemSink};
+use labelcore::{MemSink, write_whole};
 use picture::{
     Bars, Framed, Grid, Scaled, files_of_texts, modules_of_pixels, pixels_of_texts, write_ascii,
     write_pbm,
@@ -25,28 +25,73 @@ fn modules_of(text: &[u8; 67]) -> [bool; 67] {
     modules
 }
 
+/// Whether a grid is so wide and so high.
+fn is_sized(grid: &impl Grid, width: usize, height: usize) -> bool {
+    grid.width() == width && grid.height() == height
+}
+
+/// Whether a pixel of a grid is there, and dark.
+fn is_dark(grid: &impl Grid, x: usize, y: usize) -> bool {
+    x < grid.width() && y < grid.height() && grid.dark(x, y)
+}
+
+/// Whether a pixel of a grid is there, and light.
+fn is_light(grid: &impl Grid, x: usize, y: usize) -> bool {
+    x < grid.width() && y < grid.height() && !grid.dark(x, y)
+}
+
+/// Whether so many rows from this one on are known to be equal.
+fn has_equal_rows(grid: &impl Grid, y: usize, rows: usize) -> bool {
+    y < grid.height() && grid.equal_rows(y) == rows
+}
+
+/// Whether a row of a grid of 14 pixels is read as these pixels.
+fn has_row(grid: &impl Grid, y: usize, row: &[bool; 14]) -> bool {
+    let mut pixels = [true; 14];
+    if grid.width() != 14 || y >= grid.height() {
+        return false;
+    }
+    grid.read_row(y, &mut pixels);
+    pixels == *row
+}
+
 #[test]
-fn grids_are_asked(rt: HostRuntime) {
+fn bars_are_asked(rt: HostRuntime) {
     let row = [true, false];
     let bars = Bars::new(&row, 3);
-    assert_eq!(rt; (bars.width(), bars.height()), (2, 3));
-    assert_eq!(rt; (bars.dark(0, 2), bars.dark(1, 2)), (true, false));
+    assert!(rt; is_sized(&bars, 2, 3));
+    assert!(rt; is_dark(&bars, 0, 2));
+    assert!(rt; is_light(&bars, 1, 2));
     let framed = Framed::new(bars, 4, 1, 0, 2);
-    assert_eq!(rt; (framed.width(), framed.height()), (7, 5));
-    assert_eq!(rt; (framed.dark(3, 0), framed.dark(4, 0)), (false, true));
-    assert_eq!(rt; (framed.dark(4, 2), framed.dark(4, 3)), (true, false));
-    let scaled = Scaled::new(framed, 2);
-    assert_eq!(rt; (scaled.width(), scaled.height()), (14, 10));
-    assert_eq!(rt; (scaled.dark(7, 5), scaled.dark(9, 5)), (false, true));
-    assert_eq!(rt; (scaled.dark(9, 6), scaled.dark(10, 5)), (false, false));
-    assert_eq!(rt; (scaled.equal_rows(0), scaled.equal_rows(5)), (6, 1));
-    assert_eq!(rt; (scaled.equal_rows(6), scaled.equal_rows(9)), (4, 1));
-    let mut pixels = [true; 14];
-    scaled.read_row(5, &mut pixels);
-    let dark = pixels.iter().filter(|pixel| **pixel).count();
-    assert_eq!(rt; (dark, pixels[8], pixels[9]), (2, true, true));
-    scaled.read_row(6, &mut pixels);
-    assert_eq!(rt; pixels, [false; 14]);
+    assert!(rt; is_sized(&framed, 7, 5));
+    assert!(rt; is_light(&framed, 3, 0));
+    assert!(rt; is_dark(&framed, 4, 0));
+    assert!(rt; is_dark(&framed, 4, 2));
+    assert!(rt; is_light(&framed, 4, 3));
+}
+
+#[test]
+fn larger_pixels_are_asked(rt: HostRuntime) {
+    let row = [true, false];
+    let scaled = Scaled::new(Framed::new(Bars::new(&row, 3), 4, 1, 0, 2), 2);
+    assert!(rt; is_sized(&scaled, 14, 10));
+    assert!(rt; is_light(&scaled, 7, 5));
+    assert!(rt; is_dark(&scaled, 9, 5));
+    assert!(rt; is_light(&scaled, 9, 6));
+    assert!(rt; is_light(&scaled, 10, 5));
+    assert!(rt; has_equal_rows(&scaled, 0, 6));
+    assert!(rt; has_equal_rows(&scaled, 5, 1));
+    assert!(rt; has_equal_rows(&scaled, 6, 4));
+    assert!(rt; has_equal_rows(&scaled, 9, 1));
+    let mut pixels = [false; 14];
+    assert!(rt; has_row(&scaled, 6, &pixels));
+    pixels[8] = true;
+    pixels[9] = true;
+    assert!(rt; has_row(&scaled, 5, &pixels));
+}
+
+#[test]
+fn laws() {
     files_of_texts();
     pixels_of_texts();
     modules_of_pixels();
@@ -57,9 +102,9 @@ fn pbm_of_a_row(rt: HostRuntime) {
     let modules = modules_of(EAN8_MODULES);
     let grid = Framed::new(Bars::new(&modules, 1), 7, 7, 0, 0);
     let mut sink = MemSink::<91>::new(7, 91);
-    assert_eq!(rt; write_pbm(&grid, &mut sink), Ok(()));
-    assert_eq!(rt; sink.bytes(), EAN8_PBM.as_slice());
-    assert_eq!(rt; sink.failures(), 0);
+    assert!(rt; write_pbm(&grid, &mut sink).is_ok());
+    assert!(rt; sink.bytes() == EAN8_PBM.as_slice());
+    assert!(rt; sink.failures() == 0);
 }
 
 #[test]
@@ -68,18 +113,29 @@ fn pbm_of_a_failing_sink(rt: HostRuntime) {
     for limit in 0..91 {
         let grid = Framed::new(Bars::new(&modules, 1), 7, 7, 0, 0);
         let mut sink = MemSink::<91>::new(4096, limit);
-        assert_eq!(rt; write_pbm(&grid, &mut sink), Err(IoFault));
+        assert!(rt; write_pbm(&grid, &mut sink).is_err());
         assert!(rt; EAN8_PBM.starts_with(sink.bytes()));
-        assert_eq!(rt; sink.bytes().len(), limit);
-        assert_eq!(rt; sink.failures(), 1);
+        assert!(rt; sink.bytes().len() == limit);
+        assert!(rt; sink.failures() == 1);
     }
 }
 
-/// So many equal bytes, and a line feed.
-fn assert_line(rt: &impl Abort, line: Option<&[u8]>, byte: u8, count: usize) {
-    let line = line.unwrap_or(b"");
-    assert_eq!(rt; line.len(), count);
-    assert!(rt; line.iter().all(|b| *b == byte));
+/// A line of 70 light pixels, and one of 70 dark ones.
+const LINES: [&[u8; 71]; 2] = [
+    b"0000000000000000000000000000000000000000000000000000000000000000000000\n",
+    b"1111111111111111111111111111111111111111111111111111111111111111111111\n",
+];
+
+/// The file of seven rows of 70 light pixels, 630 dark ones and 70 light ones.
+fn full_lines(rt: &impl Abort) -> MemSink<5476> {
+    let mut file = MemSink::<5476>::new(5476, 5476);
+    assert!(rt; write_whole(b"P1\n770 7\n", &mut file).is_ok());
+    for place in 0..77 {
+        let is_dark = place % 11 != 0 && place % 11 != 10;
+        let line = LINES[usize::from(is_dark)];
+        assert!(rt; write_whole(line.as_slice(), &mut file).is_ok());
+    }
+    file
 }
 
 /// `code128 A123456` has 110 modules with its quiet zones: 770 pixels at scale 7.
@@ -88,20 +144,9 @@ fn pbm_of_full_lines(rt: HostRuntime) {
     let modules = [true; 90];
     let framed = Framed::new(Bars::new(&modules, 1), 10, 10, 0, 0);
     let mut sink = MemSink::<5476>::new(4096, 5476);
-    assert_eq!(rt; write_pbm(&Scaled::new(framed, 7), &mut sink), Ok(()));
-    assert_eq!(rt; sink.bytes().len(), 5476);
-    let mut lines = sink.bytes().split(|byte| *byte == b'\n');
-    assert_eq!(rt; lines.next(), Some(b"P1".as_slice()));
-    assert_eq!(rt; lines.next(), Some(b"770 7".as_slice()));
-    for _ in 0..7 {
-        assert_line(&rt, lines.next(), b'0', 70);
-        for _ in 0..9 {
-            assert_line(&rt, lines.next(), b'1', 70);
-        }
-        assert_line(&rt, lines.next(), b'0', 70);
-    }
-    assert_line(&rt, lines.next(), b'\n', 0);
-    assert_eq!(rt; lines.next(), None);
+    assert!(rt; write_pbm(&Scaled::new(framed, 7), &mut sink).is_ok());
+    assert!(rt; sink.bytes().len() == 5476);
+    assert!(rt; sink.bytes() == full_lines(&rt).bytes());
 }
 
 #[test]
@@ -109,10 +154,21 @@ fn ascii_of_a_row(rt: HostRuntime) {
     let modules = modules_of(EAN8_MODULES);
     let grid = Framed::new(Bars::new(&modules, 1), 7, 7, 0, 0);
     let mut sink = MemSink::<164>::new(3, 164);
-    assert_eq!(rt; write_ascii(&grid, &mut sink), Ok(()));
-    assert_eq!(rt; sink.bytes().len(), 164);
+    assert!(rt; write_ascii(&grid, &mut sink).is_ok());
+    assert!(rt; sink.bytes().len() == 164);
     assert!(rt; sink.bytes().starts_with(b"              ##  ##"));
     assert!(rt; sink.bytes().ends_with(b"##              \n\n"));
+}
+
+/// Whether a line feed ends the line, and stands nowhere else in it.
+fn is_line(line: &[u8]) -> bool {
+    let mut line_ends: usize = 0;
+    for byte in line {
+        if *byte == b'\n' {
+            line_ends = line_ends.saturating_add(1);
+        }
+    }
+    line_ends == 1 && line.ends_with(b"\n")
 }
 
 /// `ean8 7351353` at scale 8: eight lines of 1,296 letters and an empty line.
@@ -121,15 +177,13 @@ fn ascii_of_large_pixels(rt: HostRuntime) {
     let modules = modules_of(EAN8_MODULES);
     let framed = Framed::new(Bars::new(&modules, 1), 7, 7, 0, 0);
     let mut sink = MemSink::<10377>::new(4096, 10377);
-    assert_eq!(rt; write_ascii(&Scaled::new(framed, 8), &mut sink), Ok(()));
-    assert_eq!(rt; sink.bytes().len(), 10377);
-    let mut lines = sink.bytes().split(|byte| *byte == b'\n');
-    for _ in 0..8 {
-        assert_eq!(rt; lines.next().map(|line| line.len()), Some(1296));
+    assert!(rt; write_ascii(&Scaled::new(framed, 8), &mut sink).is_ok());
+    assert!(rt; sink.bytes().len() == 10377);
+    let (lines, rest) = sink.bytes().split_at(10376);
+    assert!(rt; rest == b"\n".as_slice());
+    for line in lines.chunks(1297) {
+        assert!(rt; is_line(line));
     }
-    assert_eq!(rt; lines.next(), Some(b"".as_slice()));
-    assert_eq!(rt; lines.next(), Some(b"".as_slice()));
-    assert_eq!(rt; lines.next(), None);
 }
 
 #[test]
@@ -137,12 +191,9 @@ fn ascii_of_a_failing_sink(rt: HostRuntime) {
     let modules = [true, false];
     for limit in 0..11 {
         let mut sink = MemSink::<11>::new(1, limit);
-        assert_eq!(rt;
-            write_ascii(&Bars::new(&modules, 2), &mut sink),
-            Err(IoFault)
-        );
+        assert!(rt; write_ascii(&Bars::new(&modules, 2), &mut sink).is_err());
         assert!(rt; b"##  \n##  \n\n".starts_with(sink.bytes()));
-        assert_eq!(rt; sink.bytes().len(), limit);
-        assert_eq!(rt; sink.failures(), 1);
+        assert!(rt; sink.bytes().len() == limit);
+        assert!(rt; sink.failures() == 1);
     }
 }

@@ -2,7 +2,8 @@
 //! counts.
 ghost use Rattle.std.specs.Prelude.{length, ◌≤◌, ◌<◌};
 
-use labelcore::{Format, Level, Options};
+use crate::support::qr_options;
+use labelcore::Level;
 use qrdata::{Mode, Plan, Segment, Version, choose};
 use std::process::Abort;
 
@@ -158,15 +159,16 @@ fn slow_version(
 }
 
 fn expect_same_segments(rt: &impl Abort, plan: &Plan, data: &[u8], table: &[SlowChoice; 653]) {
+    assert!(rt; plan.bits() as usize == table[0].bits);
     let mut place: usize = 0;
     for segment in plan.segments() {
         match table.get(place) {
-            Some(choice) => assert_eq!(rt; *segment, choice.segment),
+            Some(choice) => assert!(rt; *segment == choice.segment),
             None => panic!(rt; "a segment past the end"),
         }
         place = place.saturating_add(usize::from(segment.len));
     }
-    assert_eq!(rt; place, data.len());
+    assert!(rt; place == data.len());
 }
 
 /// Chooses for the data at each level from each of some versions on, and expects what the slow tables say.
@@ -179,17 +181,13 @@ fn expect_same(rt: &impl Abort, data: &[u8]) {
     let long = slow_table(ten, data);
     for level in [Level::L, Level::M, Level::Q, Level::H] {
         for lowest in [1, 9, 10] {
-            let Some(options) = Options::new(Format::Pbm, 1, 50, level, lowest, None, false) else {
-                panic!(rt; "an option is out of its range")
-            };
             match (
-                choose(&options, data),
+                choose(&qr_options(rt, level, lowest), data),
                 slow_version(lowest, level, &short, &long),
             ) {
                 (Ok(plan), Some(version)) => {
                     let table = if version.number() < 10 { &short } else { &long };
-                    assert_eq!(rt; plan.version(), version);
-                    assert_eq!(rt; plan.bits() as usize, table[0].bits);
+                    assert!(rt; plan.version() == version);
                     expect_same_segments(rt, &plan, data, table);
                 }
                 (Err(_), None) => {}

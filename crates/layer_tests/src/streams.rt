@@ -1,5 +1,6 @@
 //! What no clause says of the devices over std: which calls reach the reader and the writer.
-use labelcore::{IoFault, Sink, Source, StdSink, StdSource, write_whole};
+use crate::support::{flushes, gives, sends_on, takes, takes_some};
+use labelcore::{StdSink, StdSource};
 use std::cell::Cell;
 use std::io::{self, ErrorKind, Read, Write};
 
@@ -20,8 +21,8 @@ impl Write for Unflushable {
 #[test]
 fn failed_flush_of_std_is_told(rt: HostRuntime) {
     let mut sink = StdSink::new(Unflushable);
-    assert_eq!(rt; sink.write(b"ab"), Ok(2));
-    assert_eq!(rt; sink.flush(), Err(IoFault));
+    assert!(rt; takes_some(&mut sink, b"ab", 2));
+    assert!(rt; !flushes(&mut sink));
 }
 
 /// Takes all bytes, and counts its writes and its flushes.
@@ -45,19 +46,19 @@ impl Write for CountedWriter<'_> {
 
 #[test]
 fn a_write_flushes_nothing_and_a_flush_writes_nothing(rt: HostRuntime) {
-    let writes = Cell::new(0);
-    let flushes = Cell::new(0);
+    let write_count = Cell::new(0);
+    let flush_count = Cell::new(0);
     let mut sink = StdSink::new(CountedWriter {
-        writes: &writes,
-        flushes: &flushes,
+        writes: &write_count,
+        flushes: &flush_count,
     });
-    assert_eq!(rt; sink.write(b"ab"), Ok(2));
-    assert_eq!(rt; sink.write(b"c"), Ok(1));
-    assert_eq!(rt; (writes.get(), flushes.get()), (2, 0));
-    assert_eq!(rt; sink.send_on(), Ok(()));
-    assert_eq!(rt; (writes.get(), flushes.get()), (2, 0));
-    assert_eq!(rt; sink.flush(), Ok(()));
-    assert_eq!(rt; (writes.get(), flushes.get()), (2, 1));
+    assert!(rt; takes_some(&mut sink, b"ab", 2));
+    assert!(rt; takes_some(&mut sink, b"c", 1));
+    assert!(rt; write_count.get() == 2 && flush_count.get() == 0);
+    assert!(rt; sends_on(&mut sink));
+    assert!(rt; write_count.get() == 2 && flush_count.get() == 0);
+    assert!(rt; flushes(&mut sink));
+    assert!(rt; write_count.get() == 2 && flush_count.get() == 1);
 }
 
 /// Gives one byte and its end, then a byte again, and counts its reads.
@@ -82,21 +83,21 @@ fn each_read_is_one_read_of_the_reader(rt: HostRuntime) {
     let reads = Cell::new(0);
     let mut source = StdSource::new(ResumedReader { reads: &reads });
     let mut buf = [0; 4];
-    assert_eq!(rt; source.read(&mut buf), Ok(1));
-    assert_eq!(rt; reads.get(), 1);
-    assert_eq!(rt; source.read(&mut buf), Ok(0));
-    assert_eq!(rt; reads.get(), 2);
+    assert!(rt; gives(&mut source, &mut buf, 1));
+    assert!(rt; reads.get() == 1);
+    assert!(rt; gives(&mut source, &mut buf, 0));
+    assert!(rt; reads.get() == 2);
 }
 
 #[test]
 fn std_gives_and_takes(rt: HostRuntime) {
     let mut buf = [0; 4];
     let mut source = StdSource::new(b"abc".as_slice());
-    assert_eq!(rt; source.read(&mut buf), Ok(3));
-    assert_eq!(rt; source.read(&mut buf), Ok(0));
+    assert!(rt; gives(&mut source, &mut buf, 3));
+    assert!(rt; gives(&mut source, &mut buf, 0));
     let mut room = [0; 3];
     let mut sink = StdSink::new(room.as_mut_slice());
-    assert_eq!(rt; sink.write(b"ab"), Ok(2));
-    assert_eq!(rt; sink.flush(), Ok(()));
-    assert_eq!(rt; write_whole(b"cd", &mut sink), Err(IoFault));
+    assert!(rt; takes_some(&mut sink, b"ab", 2));
+    assert!(rt; flushes(&mut sink));
+    assert!(rt; !takes(&mut sink, b"cd"));
 }

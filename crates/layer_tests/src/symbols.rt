@@ -64,11 +64,11 @@ fn example(mask: Option<u8>) -> Option<Matrix>
 fn draws_the_worked_example(rt: HostRuntime) {
     information_laws();
     let matrix = example(Some(2)).expect(&rt, "26 codewords");
-    assert_eq!(rt; matrix.side(), 21);
-    assert_eq!(rt; matrix.mask(), 2);
+    assert!(rt; matrix.side() == 21);
+    assert!(rt; matrix.mask() == 2);
     for y in 0..21 {
         for x in 0..21 {
-            assert_eq!(rt; matrix.dark(x, y), ROWS[y][x] == b'1', "at {x}, {y}");
+            assert!(rt; matrix.dark(x, y) == (ROWS[y][x] == b'1'), "at {x}, {y}");
         }
     }
 }
@@ -77,25 +77,24 @@ fn draws_the_worked_example(rt: HostRuntime) {
 fn lends_its_rows(rt: HostRuntime) {
     let matrix = example(Some(2)).expect(&rt, "26 codewords");
     let rows = matrix.rows();
-    assert_eq!(rt; rows[0], 0x1FDA7F);
-    assert_eq!(rt; rows[6], 0x1FD57F);
-    assert_eq!(rt; rows[20], 0x052F7F);
-    assert_eq!(rt; rows[21], 0);
+    assert!(rt; rows[0] == 0x1FDA7F);
+    assert!(rt; rows[6] == 0x1FD57F);
+    assert!(rt; rows[20] == 0x052F7F);
+    assert!(rt; rows[21] == 0);
 }
 
 #[test]
 fn picks_the_mask_of_the_least_penalty(rt: HostRuntime) {
     for mask in 0..8u8 {
         let matrix = example(Some(mask)).expect(&rt, "26 codewords");
-        assert_eq!(rt;
-            matrix.penalty(),
-            PENALTIES[usize::from(mask)],
+        assert!(rt;
+            matrix.penalty() == PENALTIES[usize::from(mask)],
             "under mask {mask}"
         );
     }
     let matrix = example(None).expect(&rt, "26 codewords");
-    assert_eq!(rt; matrix.mask(), 0);
-    assert_eq!(rt; matrix.penalty(), 297);
+    assert!(rt; matrix.mask() == 0);
+    assert!(rt; matrix.penalty() == 297);
 }
 
 /// What the codewords of a symbol are made of.

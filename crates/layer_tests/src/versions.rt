@@ -1,5 +1,6 @@
 //! How much data each version holds, beside the listing of the standard (ISO/IEC 18004, table 7).
-use labelcore::{Format, Level, Options};
+use crate::support::qr_options;
+use labelcore::Level;
 use qrdata::choose;
 use std::process::Abort;
 
@@ -47,10 +48,7 @@ const BYTES: [[usize; 4]; 10] = [
 
 /// The number of the version that data gets, and 11 where it is refused.
 fn version_of(rt: &impl Abort, level: Level, text: &[u8]) -> usize {
-    let Some(options) = Options::new(Format::Pbm, 1, 50, level, 1, None, false) else {
-        panic!(rt; "an option is out of its range")
-    };
-    match choose(&options, text) {
+    match choose(&qr_options(rt, level, 1), text) {
         Ok(plan) => usize::from(plan.version().number()),
         Err(_) => 11,
     }
@@ -62,10 +60,12 @@ fn expect_most(rt: &impl Abort, character: u8, rows: &[[usize; 4]; 10]) {
     for (place, row) in rows.iter().enumerate() {
         for (level, most) in [Level::L, Level::M, Level::Q, Level::H].iter().zip(row) {
             assert!(rt; *most < 653);
-            assert_eq!(rt; version_of(rt, *level, &text[..*most]), place + 1, "{most}");
-            assert_eq!(rt;
-                version_of(rt, *level, &text[..*most + 1]),
-                place + 2,
+            assert!(rt;
+                version_of(rt, *level, &text[..*most]) == place + 1,
+                "{most}"
+            );
+            assert!(rt;
+                version_of(rt, *level, &text[..*most + 1]) == place + 2,
                 "{most}"
             );
         }

@@ -1,9 +1,8 @@
 //! Each row of the tables against the symbols that Zint 2.11.1 draws.
 ghost use Rattle.std.specs.Prelude.{◌≢◌, []};
 
-use super::{assert_drawn, assert_widths};
-use arrayvec::ArrayVec;
-use linear::{Ean8, Ean13};
+use super::{assert_drawn, assert_row, assert_widths, push_widths};
+use linear::{Ean8, Ean13, Row};
 
 /// The widths of the values 0 to 105, as `zint -b 20 --dump` and, for 102, `zint -b 16 --dump` draw them: 0 to 99 and
 /// 105 in the symbols of two digits, 103 in that of bytes 1 and 2, 104 in that of `ab`, 101 in that of `ab` and the
@@ -25,16 +24,16 @@ static WIDTHS: [&[u8; 6]; 106] = [
     b"211214", b"211232",
 ];
 
-/// The widths of the characters of three values, and of the stop character.
-fn widths_of(start: u8, value: u8, check: u8) -> ArrayVec<u8, 25> {
-    let mut widths = ArrayVec::new();
+/// The row of the characters of three values, and of the stop character.
+fn row_of(start: u8, value: u8, check: u8) -> Row {
+    let mut row = Row::new();
     for value in [start, value, check] {
         if let Some(listed) = WIDTHS.get(usize::from(value)) {
-            let _ = widths.try_extend_from_slice(listed.as_slice());
+            push_widths(&mut row, listed.as_slice());
         }
     }
-    let _ = widths.try_extend_from_slice(b"2331112");
-    widths
+    push_widths(&mut row, b"2331112");
+    row
 }
 
 /// Two digits alone are the start value of set C, their value, and the check value 105 + value, modulo 103.
@@ -42,9 +41,9 @@ fn widths_of(start: u8, value: u8, check: u8) -> ArrayVec<u8, 25> {
 fn widths_of_each_value(rt: HostRuntime) {
     for value in 0..100u8 {
         let data = [b'0' + value / 10, b'0' + value % 10];
-        let widths = widths_of(105, value, (105 + value) % 103);
-        assert_eq!(rt; widths.len(), 25);
-        assert_widths(&rt, &data, &widths);
+        let want = row_of(105, value, (105 + value) % 103);
+        assert!(rt; want.len() == 46);
+        assert_row(&rt, &data, &want);
     }
 }
 
