@@ -1,8 +1,9 @@
 -- Worked values, computed from the definitions.
-use Rattle.std.proofs.Common.{◌≡◌, [], ◌∷◌, refl, Some}
+use Rattle.std.proofs.Common.{◌≡◌, ℕ, List, [], ◌∷◌, map, refl, Some}
 use Rattle.std.specs.Prelude.{codes}
 use Rattle.std.specs.List.{range_with_len}
-use Rattle.labelcore.specs.declared.options.Level.TheVariants.{Q}
+use Rattle.labelcore.specs.declared.options.Level.{Level}
+use Rattle.labelcore.specs.declared.options.Level.TheVariants.{L, M, Q, H}
 use Rattle.gf256.specs.BinaryPolynomial.{binary_product, binary_remainder}
 use Rattle.gf256.specs.Field.{field_product, field_power}
 use Rattle.gf256.specs.Polynomial.{evaluate}
@@ -47,3 +48,37 @@ short_digits = refl
 
 three_segments_cost : cost 1 (segment_of Byte 1 ∷ segment_of Numeric 2 ∷ segment_of Byte 1 ∷ []) ≡ 61
 three_segments_cost = refl
+
+-- beside the listing of the standard (ISO/IEC 18004, table 9): of each version the parity codewords of a block, and the
+-- data codewords of each block
+abbrev blocks_of_versions : Level → List (ℕ × List ℕ)
+blocks_of_versions level =
+    map (λ version. (parity_length version level, block_lengths version level)) (range_with_len 1 10)
+
+blocks_at_l : blocks_of_versions L ≡
+    (7, 19 ∷ []) ∷ (10, 34 ∷ []) ∷ (15, 55 ∷ []) ∷ (20, 80 ∷ []) ∷ (26, 108 ∷ []) ∷ (18, 68 ∷ 68 ∷ []) ∷
+    (20, 78 ∷ 78 ∷ []) ∷ (24, 97 ∷ 97 ∷ []) ∷ (30, 116 ∷ 116 ∷ []) ∷ (18, 68 ∷ 68 ∷ 69 ∷ 69 ∷ []) ∷ []
+unfolding parity_length block_lengths groups_of block_table
+blocks_at_l = refl
+
+blocks_at_m : blocks_of_versions M ≡
+    (10, 16 ∷ []) ∷ (16, 28 ∷ []) ∷ (26, 44 ∷ []) ∷ (18, 32 ∷ 32 ∷ []) ∷ (24, 43 ∷ 43 ∷ []) ∷
+    (16, 27 ∷ 27 ∷ 27 ∷ 27 ∷ []) ∷ (18, 31 ∷ 31 ∷ 31 ∷ 31 ∷ []) ∷ (22, 38 ∷ 38 ∷ 39 ∷ 39 ∷ []) ∷
+    (22, 36 ∷ 36 ∷ 36 ∷ 37 ∷ 37 ∷ []) ∷ (26, 43 ∷ 43 ∷ 43 ∷ 43 ∷ 44 ∷ []) ∷ []
+unfolding parity_length block_lengths groups_of block_table
+blocks_at_m = refl
+
+blocks_at_q : blocks_of_versions Q ≡
+    (13, 13 ∷ []) ∷ (22, 22 ∷ []) ∷ (18, 17 ∷ 17 ∷ []) ∷ (26, 24 ∷ 24 ∷ []) ∷ (18, 15 ∷ 15 ∷ 16 ∷ 16 ∷ []) ∷
+    (24, 19 ∷ 19 ∷ 19 ∷ 19 ∷ []) ∷ (18, 14 ∷ 14 ∷ 15 ∷ 15 ∷ 15 ∷ 15 ∷ []) ∷
+    (22, 18 ∷ 18 ∷ 18 ∷ 18 ∷ 19 ∷ 19 ∷ []) ∷ (20, 16 ∷ 16 ∷ 16 ∷ 16 ∷ 17 ∷ 17 ∷ 17 ∷ 17 ∷ []) ∷
+    (24, 19 ∷ 19 ∷ 19 ∷ 19 ∷ 19 ∷ 19 ∷ 20 ∷ 20 ∷ []) ∷ []
+unfolding parity_length block_lengths groups_of block_table
+blocks_at_q = refl
+
+blocks_at_h : blocks_of_versions H ≡
+    (17, 9 ∷ []) ∷ (28, 16 ∷ []) ∷ (22, 13 ∷ 13 ∷ []) ∷ (16, 9 ∷ 9 ∷ 9 ∷ 9 ∷ []) ∷ (22, 11 ∷ 11 ∷ 12 ∷ 12 ∷ []) ∷
+    (28, 15 ∷ 15 ∷ 15 ∷ 15 ∷ []) ∷ (26, 13 ∷ 13 ∷ 13 ∷ 13 ∷ 14 ∷ []) ∷ (26, 14 ∷ 14 ∷ 14 ∷ 14 ∷ 15 ∷ 15 ∷ []) ∷
+    (24, 12 ∷ 12 ∷ 12 ∷ 12 ∷ 13 ∷ 13 ∷ 13 ∷ 13 ∷ []) ∷ (28, 15 ∷ 15 ∷ 15 ∷ 15 ∷ 15 ∷ 15 ∷ 16 ∷ 16 ∷ []) ∷ []
+unfolding parity_length block_lengths groups_of block_table
+blocks_at_h = refl
