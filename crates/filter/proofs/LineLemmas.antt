@@ -1,7 +1,7 @@
 -- What a line comes to, from what its symbol or its refusal comes to.
 use Rattle.std.proofs.Common.{◌≡◌, ℕ, Bool, true, List, [], Some, Result, Ok, Err, refl, sym, subst}
 use Rattle.std.specs.Prelude.{IfErr, IfOk, OnOk}
-use Rattle.labelcore.specs.OptionValues.{OptionValues, KeepsForm}
+use Rattle.labelcore.specs.OptionValues.{OptionValues, KeepsRunOptions}
 use Rattle.labelcore.specs.LineItem.{item}
 use Rattle.labelcore.specs.Message.{message}
 use Rattle.labelcore.specs.declared.fault.Fault.{Fault}
@@ -58,7 +58,7 @@ refused_ends options took_out took_err number (refused why) fault (Ok x) e image
     }
 
 -- a line keeps the format and the scale of the run, so its image is the run's
-module _ (run own : OptionValues) (kept : KeepsForm run own) where
+module _ (run own : OptionValues) (kept : KeepsRunOptions run own) where
   image_of-own : (o : Outcome) → image_of own o ≡ image_of run o
   image_of-own skipped = refl
   image_of-own (refused fault) = refl

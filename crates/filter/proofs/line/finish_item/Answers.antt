@@ -1,6 +1,6 @@
 use Rattle.std.proofs.Common.{refl}
 use Rattle.std.proofs.lemmas.Result.{IfErr-weaker, IfOk-weaker}
-use Rattle.labelcore.specs.OptionValues.{KeepsForm}
+use Rattle.labelcore.specs.OptionValues.{KeepsRunOptions}
 use Rattle.filter.specs.Label.{label_of}
 use Rattle.filter.specs.Output.{refused, outcome_of_label}
 use Rattle.filter.proofs.LineLemmas.{refused_fails, EndsLine-own, FailsInLine-own}
@@ -14,14 +14,14 @@ returns-in-Refuse-clause-fails g c =
 
 pub returns-in-Draw-clause-ends : goal.returns-in-Draw-clause-ends
 returns-in-Draw-clause-ends g c =
-    let kept : KeepsForm c.args.options.now c.in-Draw.own = rw c.in-Draw.is at c.requires.form in
+    let kept : KeepsRunOptions c.args.options.now c.in-Draw.own = rw c.in-Draw.is at c.requires.form in
     rw c.in-Draw.is (IfOk-weaker c.draw_or_refuse.result _ _
     (EndsLine-own c.args.options.now c.in-Draw.own kept (g.O.Sink.took c.args.out.now c.draw_or_refuse.new.out)
     (g.E.Sink.took c.args.err.now c.draw_or_refuse.new.err) c.args.number _) c.draw_or_refuse.ensures.ends)
 
 pub returns-in-Draw-clause-fails : goal.returns-in-Draw-clause-fails
 returns-in-Draw-clause-fails g c =
-    let kept : KeepsForm c.args.options.now c.in-Draw.own = rw c.in-Draw.is at c.requires.form in
+    let kept : KeepsRunOptions c.args.options.now c.in-Draw.own = rw c.in-Draw.is at c.requires.form in
     rw c.in-Draw.is (IfErr-weaker c.draw_or_refuse.result _ _
     (FailsInLine-own c.args.options.now c.in-Draw.own kept (g.O.Sink.took c.args.out.now c.draw_or_refuse.new.out)
     (g.E.Sink.took c.args.err.now c.draw_or_refuse.new.err) c.args.number
