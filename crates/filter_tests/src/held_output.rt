@@ -1,8 +1,8 @@
 //! Output that is held back, over writers in memory.
 ghost use Rattle.std.specs.Prelude.{◌<◌};
 
-use crate::support::{EAN8, joined, low, repeated};
-use filter::{RunFault, Status, run};
+use crate::support::{EAN8, answer_of, joined, low, repeated};
+use filter::{RunFault, Status};
 use labelcore::{FailAt, Held, IoFault, MemSink, MemSource, Sink, Source, StdSink};
 use std::alloc::Global;
 use std::cell::RefCell;
@@ -38,7 +38,7 @@ fn run_into_one(rt: &impl Abort, text: &RefCell<Vec<u8>>, fails: bool) -> Result
     let mut source = MemSource::new(b"ean8 7351353\npdf x\nean8 7351353\n", 4096, false);
     let mut out = Held::new(StdSink::new(SharedWriter { text, fails }));
     let mut err = StdSink::new(SharedWriter { text, fails: false });
-    let answer = run(low(rt, false), &mut source, &mut out, &mut err);
+    let answer = answer_of(low(rt, false), &mut source, &mut out, &mut err);
     let _ = out.send_on();
     answer
 }
@@ -47,7 +47,7 @@ fn run_into_one(rt: &impl Abort, text: &RefCell<Vec<u8>>, fails: bool) -> Result
 fn both_outputs_stand_in_the_order_of_the_lines(rt: HostRuntime) -> Result<(), Fail> {
     let alloc = rt.alloc();
     let text = RefCell::new(Vec::new(alloc));
-    assert_eq!(rt; run_into_one(&rt, &text, false), Ok(Status::Refused));
+    assert!(rt; run_into_one(&rt, &text, false) == Ok(Status::Refused));
     let want = joined(alloc, &[EAN8, b"line 2: unknown symbology\n", EAN8])?;
     assert!(rt; text.into_inner().as_slice() == want.as_slice());
     Ok(())
@@ -57,8 +57,8 @@ fn both_outputs_stand_in_the_order_of_the_lines(rt: HostRuntime) -> Result<(), F
 fn no_message_stands_after_output_that_failed_to_go_out(rt: HostRuntime) {
     let text = RefCell::new(Vec::new(rt.alloc()));
     let answer = run_into_one(&rt, &text, true);
-    assert_eq!(rt; answer, Err(RunFault::WriteOut));
-    assert_eq!(rt; text.into_inner().as_slice(), b"".as_slice());
+    assert!(rt; answer == Err(RunFault::WriteOut));
+    assert!(rt; text.into_inner().as_slice().is_empty());
 }
 
 /// A source that tells how long a text was at its last read.
@@ -101,9 +101,9 @@ fn output_goes_out_before_each_read(rt: HostRuntime) {
         fails: false,
     }));
     let mut err: MemSink<8> = MemSink::new(8, 8);
-    let answer = run(low(&rt, false), &mut source, &mut out, &mut err);
-    assert_eq!(rt; answer, Ok(Status::Clean));
-    assert_eq!(rt; source.seen, 2 * EAN8.len());
+    let answer = answer_of(low(&rt, false), &mut source, &mut out, &mut err);
+    assert!(rt; answer == Ok(Status::Clean));
+    assert!(rt; source.seen == 2 * EAN8.len());
 }
 
 #[test]
@@ -111,12 +111,12 @@ fn output_that_fails_as_it_is_sent_out_is_a_failed_write(rt: HostRuntime) {
     let mut source = MemSource::new(b"ean8 7351353\nqr 0", 4096, false);
     let mut out = Held::new(FailAt::new(MemSink::<200>::new(200, 200), 1));
     let mut err: MemSink<8> = MemSink::new(8, 8);
-    let answer = run(low(&rt, false), &mut source, &mut out, &mut err);
-    assert_eq!(rt; answer, Err(RunFault::WriteOut));
-    assert_eq!(rt; out.sink().device().bytes(), b"".as_slice());
-    assert_eq!(rt; out.held(), EAN8);
-    assert_eq!(rt; out.send_on(), Ok(()));
-    assert_eq!(rt; out.sink().device().bytes(), EAN8);
+    let answer = answer_of(low(&rt, false), &mut source, &mut out, &mut err);
+    assert!(rt; answer == Err(RunFault::WriteOut));
+    assert!(rt; out.sink().device().bytes().is_empty());
+    assert!(rt; out.held() == EAN8);
+    assert!(rt; out.send_on().is_ok());
+    assert!(rt; out.sink().device().bytes() == EAN8);
 }
 
 /// Lines that are drawn and refused in turn, each of 13 or 6 bytes.
@@ -140,14 +140,14 @@ fn assert_sending_fails(
     let mut source = MemSource::new(IN_TURN, piece, false);
     let mut out = Held::new(FailAt::new(MemSink::<273>::new(273, 273), call));
     let mut err: MemSink<52> = MemSink::new(52, 52);
-    let answer = run(low(rt, false), &mut source, &mut out, &mut err);
-    assert_eq!(rt; answer, Err(RunFault::WriteOut));
+    let answer = answer_of(low(rt, false), &mut source, &mut out, &mut err);
+    assert!(rt; answer == Err(RunFault::WriteOut));
     let before = repeated(alloc, EAN8, labels)?;
     assert!(rt; out.sink().device().bytes() == before.as_slice());
-    assert_eq!(rt; out.held(), EAN8);
-    assert_eq!(rt; err.bytes().len(), 26usize.saturating_mul(messages));
+    assert!(rt; out.held() == EAN8);
+    assert!(rt; err.bytes().len() == 26usize.saturating_mul(messages));
     assert!(rt; REFUSED_IN_TURN.starts_with(err.bytes()));
-    assert_eq!(rt; out.send_on(), Ok(()));
+    assert!(rt; out.send_on().is_ok());
     assert!(rt; out.sink().device().bytes().starts_with(before.as_slice()));
     assert!(rt; out.sink().device().bytes().ends_with(EAN8));
     Ok(())

@@ -97,7 +97,7 @@ fn assert_does_not_fit(
 fn standard_example(rt: HostRuntime) -> Result<(), Fail> {
     let alloc = rt.alloc();
     let want = plain_pbm(alloc, b"P1\n29 29\n", EXAMPLE.as_slice())?;
-    assert_eq!(rt; want.len(), 879);
+    assert!(rt; want.len() == 879);
     let options = Named {
         mask: Some(2),
         ..DEFAULT
@@ -125,7 +125,7 @@ fn standard_example(rt: HostRuntime) -> Result<(), Fail> {
     }
     .options(&rt);
     let want = letters(alloc, EXAMPLE.as_slice())?;
-    assert_eq!(rt; want.len(), 1712);
+    assert!(rt; want.len() == 1712);
     assert_row(&rt, alloc, options, b"qr 01234567\n", want.as_slice(), b"");
     Ok(())
 }

@@ -1,7 +1,7 @@
 //! Readers and writers of std that move one byte a call, break off once, or take nothing once.
-use crate::support::{EAN8, EAN13_ROW, REFUSALS, bars, refused_lines};
-use filter::{RunFault, Status, run};
-use labelcore::{Format, Level, Options, StdSink, StdSource};
+use crate::support::{EAN8, EAN13_ROW, REFUSALS, answer_of, bars, low, refused_lines};
+use filter::{RunFault, Status};
+use labelcore::{Options, StdSink, StdSource};
 use std::alloc::Global;
 use std::io::{self, ErrorKind, Read, Write};
 use std::process::Abort;
@@ -73,7 +73,7 @@ fn run_by_bytes(
     err: &mut ByteWriter,
 ) -> Result<Status, RunFault> {
     let mut source = StdSource::new(reader);
-    run(
+    answer_of(
         options,
         &mut source,
         &mut StdSink::new(out),
@@ -115,7 +115,7 @@ fn assert_by_bytes(
     } else {
         Status::Refused
     };
-    assert_eq!(rt; answer, Ok(status));
+    assert!(rt; answer == Ok(status));
     assert!(rt; images.bytes.as_slice() == out);
     assert!(rt; messages.bytes.as_slice() == err);
 }
@@ -123,11 +123,8 @@ fn assert_by_bytes(
 #[test]
 fn devices_of_one_byte_a_call(rt: HostRuntime) -> Result<(), Fail> {
     let alloc = rt.alloc();
-    let low = Options::new(Format::Pbm, 1, 1, Level::M, 1, None, true).expect(
-        &rt,
-        "options in range",
-    );
-    assert_by_bytes(&rt, alloc, low, b"ean8 7351353\n", EAN8, b"");
+    let options = low(&rt, true);
+    assert_by_bytes(&rt, alloc, options, b"ean8 7351353\n", EAN8, b"");
     let tall = bars(alloc, b"P1\n113 50\n", EAN13_ROW, 50)?;
     assert_by_bytes(
         &rt,
@@ -138,7 +135,7 @@ fn devices_of_one_byte_a_call(rt: HostRuntime) -> Result<(), Fail> {
         b"",
     );
     let input = refused_lines(alloc)?;
-    assert_by_bytes(&rt, alloc, low, input.as_slice(), b"", REFUSALS);
+    assert_by_bytes(&rt, alloc, options, input.as_slice(), b"", REFUSALS);
     Ok(())
 }
 
@@ -152,7 +149,7 @@ fn an_interrupted_read_is_a_failure(rt: HostRuntime) {
         interrupted: 9,
     };
     let answer = run_by_bytes(Options::default(), reader, &mut out, &mut err);
-    assert_eq!(rt; answer, Err(RunFault::Read));
+    assert!(rt; answer == Err(RunFault::Read));
     assert!(rt; out.bytes.is_empty());
     assert!(rt; err.bytes.as_slice() == b"line 1: unknown symbology\n".as_slice());
 }
@@ -165,7 +162,7 @@ fn an_interrupted_or_empty_write_is_a_failure(rt: HostRuntime) {
         let mut err = writer_of(alloc, Oddity::None);
         let reader = reader_of(b"ean8 7351353\n");
         let answer = run_by_bytes(Options::default(), reader, &mut out, &mut err);
-        assert_eq!(rt; answer, Err(RunFault::WriteOut));
+        assert!(rt; answer == Err(RunFault::WriteOut));
         assert!(rt; out.bytes.as_slice() == b"P1".as_slice());
         let mut out = writer_of(alloc, Oddity::None);
         let mut err = writer_of(alloc, oddity);
@@ -175,7 +172,7 @@ fn an_interrupted_or_empty_write_is_a_failure(rt: HostRuntime) {
             &mut out,
             &mut err,
         );
-        assert_eq!(rt; answer, Err(RunFault::WriteMessages));
+        assert!(rt; answer == Err(RunFault::WriteMessages));
         assert!(rt; err.bytes.as_slice() == b"li".as_slice());
     }
 }

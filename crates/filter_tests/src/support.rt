@@ -2,7 +2,7 @@
 ghost use Rattle.std.specs.Prelude.{◌<◌};
 
 use filter::{Filter, RunFault, Status, run};
-use labelcore::{Format, Level, MemSource, Options, StdSink};
+use labelcore::{Format, Level, MemSource, Options, Sink, Source, StdSink};
 use std::alloc::{AllocError, Global};
 use std::process::Abort;
 
@@ -12,11 +12,14 @@ pub const EAN8: &[u8] =
 
 /// A row of pixels of `ean13 4006381333931`, in its quiet zone.
 pub const EAN13_ROW: &[u8] =
-    b"0000000000010100011010100111010111101111010001001011001101010100001010\n0001010000101110100100001011001101010000000\n";
+    b"0000000000010100011010100111010111101111010001001011001101010100001010\n\
+      0001010000101110100100001011001101010000000\n";
 
 /// What lines of each refusal that no setting makes are told, with `--escapes`.
 pub const REFUSALS: &[u8] =
-    b"line 1: not a digit at byte 3\nline 2: wrong number of digits: 3\nline 3: no data\nline 4: no data\nline 5: unknown symbology\nline 6: bad escape at byte 2\nline 7: byte 1 is not ASCII\nline 8: data is longer than 80 bytes\n";
+    b"line 1: not a digit at byte 3\nline 2: wrong number of digits: 3\nline 3: no data\nline 4: no data\n\
+      line 5: unknown symbology\nline 6: bad escape at byte 2\nline 7: byte 1 is not ASCII\n\
+      line 8: data is longer than 80 bytes\n";
 
 /// What a run came to.
 #[derive(Drop)]
@@ -64,7 +67,7 @@ pub const LEVEL_L: Named = Named {
 impl Named {
     /// These options.
     pub fn options(self, rt: &impl Abort) -> Options {
-        Options::new(
+        match Options::new(
             self.format,
             self.scale,
             self.height,
@@ -72,14 +75,45 @@ impl Named {
             self.min_version,
             self.mask,
             self.escapes,
-        )
-        .expect(rt, "options in range")
+        ) {
+            Some(options) => options,
+            None => panic!(rt; "an option is out of its range"),
+        }
     }
 }
 
 /// The options of pictures one module high, with escapes or without.
 pub fn low(rt: &impl Abort, escapes: bool) -> Options {
     Named { escapes, ..LOW }.options(rt)
+}
+
+/// What a run answers.
+pub fn answer_of(
+    options: Options,
+    source: &mut impl Source,
+    out: &mut impl Sink,
+    err: &mut impl Sink,
+) -> Result<Status, RunFault> {
+    run(options, source, out, err)
+}
+
+/// What a filter answers to a piece.
+pub fn feed_piece(
+    filter: &mut Filter,
+    piece: &[u8],
+    out: &mut impl Sink,
+    err: &mut impl Sink,
+) -> Result<(), RunFault> {
+    filter.feed(piece, out, err)
+}
+
+/// What a filter answers at the end of its input.
+pub fn finish(
+    filter: Filter,
+    out: &mut impl Sink,
+    err: &mut impl Sink,
+) -> Result<Status, RunFault> {
+    filter.finish(out, err)
 }
 
 /// Runs over the input, `piece` bytes a read.
@@ -89,7 +123,7 @@ pub fn run_by(alloc: Global, options: Options, input: &[u8], piece: usize) -> Ru
     let mut out = Vec::new(alloc);
     let mut err = Vec::new(alloc);
     let mut source = MemSource::new(input, piece, false);
-    let answer = run(
+    let answer = answer_of(
         options,
         &mut source,
         &mut StdSink::new(&mut out),
@@ -121,9 +155,9 @@ fn fed_into(
     err: &mut StdSink<&mut Vec<u8>>,
 ) -> Result<Status, RunFault> {
     let mut filter = Filter::new(options);
-    filter.feed(first, out, err)?;
-    filter.feed(second, out, err)?;
-    filter.finish(out, err)
+    feed_piece(&mut filter, first, out, err)?;
+    feed_piece(&mut filter, second, out, err)?;
+    finish(filter, out, err)
 }
 
 /// Text that stands so many times.
@@ -176,6 +210,46 @@ pub fn letters(alloc: Global, rows: &[&[u8]]) -> Result<Vec<u8>, AllocError> {
     Ok(text)
 }
 
+/// How many line feeds a text has.
+pub fn line_ends(text: &[u8]) -> usize {
+    let mut count: usize = 0;
+    for byte in text {
+        if *byte == b'\n' {
+            count = count.saturating_add(1);
+        }
+    }
+    count
+}
+
+/// Whether each line of a text is so long, or empty.
+pub fn has_lines_of(text: &[u8], len: usize) -> bool {
+    let mut so_far: usize = 0;
+    for byte in text {
+        if *byte != b'\n' {
+            so_far = so_far.saturating_add(1);
+        } else if so_far == 0 || so_far == len {
+            so_far = 0;
+        } else {
+            return false;
+        }
+    }
+    so_far == 0 || so_far == len
+}
+
+/// So many lines from the front of a text, or all of it.
+pub fn first_lines(text: &[u8], count: usize) -> &[u8] {
+    let mut ended: usize = 0;
+    for place in 0..text.len() {
+        if ended == count {
+            return &text[..place];
+        }
+        if text[place] == b'\n' {
+            ended = ended.saturating_add(1);
+        }
+    }
+    text
+}
+
 /// The run came to these images and messages, and nothing failed.
 pub fn assert_came_to(rt: &impl Abort, came: &RunResult, out: &[u8], err: &[u8]) {
     let status = if err.is_empty() {
@@ -185,10 +259,11 @@ pub fn assert_came_to(rt: &impl Abort, came: &RunResult, out: &[u8], err: &[u8])
     };
     assert!(rt; came.out.as_slice() == out);
     assert!(rt; came.err.as_slice() == err);
-    assert_eq!(rt; came.answer, Ok(status));
+    assert!(rt; came.answer == Ok(status));
 }
 
-/// Over the input, read in pieces of several sizes and fed in two at each cut, a run comes to these images and messages.
+/// Over the input, read in pieces of several sizes and fed in two at each cut, a run comes to these images and
+/// messages.
 pub fn assert_row(
     rt: &impl Abort,
     alloc: Global,
