@@ -1,5 +1,5 @@
 -- What a line comes to, from what its symbol or its refusal comes to.
-use Rattle.std.proofs.Common.{◌≡◌, ℕ, Bool, true, List, [], Some, Result, Ok, Err, refl, sym, subst}
+use Rattle.std.proofs.Common.{◌≡◌, ℕ, Bool, true, List, [], Some, Result, Ok, Err, refl, subst}
 use Rattle.std.specs.Prelude.{IfErr, IfOk, OnOk}
 use Rattle.labelcore.specs.OptionValues.{OptionValues, KeepsRunOptions}
 use Rattle.labelcore.specs.LineItem.{item}

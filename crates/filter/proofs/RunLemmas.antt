@@ -1,7 +1,7 @@
 -- From pieces to a run over a whole input.
 use Rattle.std.proofs.Common.{ℕ, Result, Ok, Err, List, [], ◌∷◌, ◌++◌, length, ◌⊎◌, inl, inr, refl, subst, sym}
 use Rattle.std.proofs.Common.{zero-add}
-use Rattle.std.specs.Prelude.{MatchResult, IfErr, IfOk, OnOk}
+use Rattle.std.specs.Prelude.{MatchResult, IfErr, IfOk}
 use Rattle.labelcore.specs.Lines.{lines, ended_lines, open_line, unless_empty}
 use Rattle.filter.specs.Line.{RaisesOneCount}
 use Rattle.filter.specs.Output.{image_of, outcome}

@@ -1,12 +1,10 @@
 -- What a line's end does to the sinks (docs/SPECIFICATION.md, Lines).
-use Rattle.std.specs.Prelude.{◌≡◌, ℕ, Bool, List, [], Option, Some, None, Result, MatchResult}
+use Rattle.std.specs.Prelude.{◌≡◌, ℕ, Bool, List, [], Result, MatchResult}
 use Rattle.labelcore.specs.Device.{Begins, Rises, Unflushed}
 use Rattle.labelcore.specs.OptionValues.{OptionValues}
-use Rattle.labelcore.specs.declared.fault.Fault.{Fault}
-use Rattle.filter.specs.Output.{Outcome, skipped, refused, drawn, image_of, message_of, is_refusal}
-use Rattle.filter.specs.Readback.{ReadsBack}
+use Rattle.filter.specs.Output.{Outcome, image_of, message_of}
 use Rattle.filter.specs.declared.status.RunFault.{RunFault}
-use Rattle.filter.specs.declared.status.RunFault.TheVariants.{Read, WriteOut, WriteMessages, Spent}
+use Rattle.filter.specs.declared.status.RunFault.TheVariants.{WriteOut, WriteMessages}
 
 -- the sink that failed took a beginning of its text, and the other took nothing
 abbrev pub FailsInLine : OptionValues → (took_out took_err : List ℕ → Type 0) (number : ℕ) → Outcome → RunFault → Type 0
