@@ -1,4 +1,4 @@
-use Rattle.std.proofs.Common.{◌≡◌, ℕ, flat_map}
+use Rattle.std.proofs.Common.{ℕ, flat_map}
 use Rattle.labelcore.proofs.WritingLemmas.{HasWritten}
 use Rattle.picture.specs.Private.Rows.{row_text}
 use Rattle.picture.specs.Text.{below, pixel_row}
