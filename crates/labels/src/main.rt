@@ -1,21 +1,13 @@
 //! The program `labels`: reads its words, runs the filter over a file or standard input, and ends.
 #![tactic(auto)]
 
-mod end;
-mod file;
-#[cfg(test)]
-mod tests;
-mod words;
-
-pub use end::End;
-pub use file::{OpenFault, open_file};
+use command::{Choice, End, OpenFault, WordsFault, open_file, options_of};
 use filter::{RunFault, run};
 use labelcore::{Held, Sink, Source, StdSink, StdSource};
 use std::alloc::Global;
 use std::env;
 use std::io::{ErrorKind, Write};
 use std::process::ExitCode;
-pub use words::{Choice, WordsFault, options_of};
 
 fn main(rt: HostRuntime) -> ExitCode {
     let end = end_of(&rt);

@@ -1,0 +1,270 @@
+-- What a parse that succeeds has checked, by the rules of the command.
+use Rattle.std.proofs.Common.{◌≡◌, ◌∙◌, ◌<◌, ◌⊎◌, ◌==◌, ◌||◌, not, Err, ap, refl, sym, subst, codes, cond, drop, ℕ}
+use Rattle.std.proofs.Common.{zero, suc, Bool, true, false, List, [], ◌∷◌, length, map, Option, Some, None, inl, inr}
+use Rattle.std.proofs.Common.{arith}
+use Rattle.std.specs.Prelude.{IfSome, option_map, slice_get, pos, unwrap_or}
+use Rattle.std.specs.List.{All, slice_index_or}
+use Rattle.std.specs.Str.{bytes_eq}
+use Rattle.std.specs.Str.Parse.{IsNumeral, starts_with_minus, without_leading_plus}
+use Rattle.std.specs.Borrow.{Bor}
+use Rattle.std.proofs.lemmas.Bool.{eqb-true, ne_eqb}
+use Rattle.std.proofs.lemmas.Int.{ints}
+use Rattle.std.proofs.lemmas.List.Elements.{All-get_or}
+use Rattle.std.proofs.lemmas.Slice.Eq.{bytes_eq-Decides}
+use Rattle.std.proofs.lemmas.Str.Parse.{digit_from_value}
+use Rattle.clap.specs.Lexer.{without_minus}
+use Rattle.clap.specs.Values.{Accepts, IsSignedIn, read_as}
+use Rattle.clap.specs.Facts.{Entry, EntryPasses, HasReading, PassesArg, ValuesPass, args_of, groups_of, parser_of_value}
+use Rattle.clap.specs.Matches.{matched_of, one_text}
+use Rattle.clap.specs.Walk.{Rule, Text, reading_by, rule_of}
+use Rattle.clap.proofs.CallerLemmas.{entry_by_id}
+use Rattle.clap.proofs.WalkLemmas.{both}
+use Rattle.clap.specs.Facts.{IsParsed}
+use Rattle.clap.specs.Matches.{found_of, has_subcommand}
+use Rattle.clap.specs.Walk.{is_empty}
+use Rattle.clap.specs.Words.{App, BuildsOrBreaks, HasKind, Kinds, Row, app_of, built, is_broken, is_buildable, kind_of}
+use Rattle.clap.specs.Simple.{has_plain_fields}
+use Rattle.clap.specs.declared.builder.command.Command.TheViews.{out-Command}
+use Rattle.clap.specs.declared.builder.value_parser.Reading.TheVariants as reading
+use Rattle.clap.specs.declared.error.Error.{Error}
+use Rattle.clap.specs.declared.error.kind.ErrorKind.TheVariants.{OutOfMemory}
+use Rattle.clap.specs.declared.parser.matches.ArgMatches.{ArgMatches}
+use Rattle.command.specs.Answers.{Answers, Refuses}
+use Rattle.command.specs.CommandLine.{HoldsNumber, HoldsValues, IsNumberIn, Invocation, bad, command_line, help}
+use Rattle.command.specs.CommandLine.{invocation_refused, invocation_by, run}
+use Rattle.command.specs.declared.words.WordsFault.{WordsFault}
+use Rattle.command.specs.declared.words.WordsFault.TheVariants.{Memory}
+use Rattle.command.proofs.OneKind.{IsOneAtMost}
+use Rattle.clap.specs.declared.builder.arg.Arg.{Arg}
+use Rattle.clap.specs.declared.builder.command.Command.{Command}
+use Rattle.clap.specs.declared.builder.value_parser.Reading.{Reading}
+use Rattle.clap.specs.declared.parser.matches.Found.{Found}
+use Rattle.clap.specs.declared.parser.matches.MatchedArg.{MatchedArg}
+
+abbrev pub EitherBy : Bool → Type 0 → Type 0 → Type 0
+EitherBy true a b = a ⊎ b
+EitherBy false a b = b
+
+-- one of the rules with this id has P; it computes at a list that is written out
+abbrev pub SomeRule : (Rule → Type 0) → Text → List Rule → Type 0
+SomeRule P id [] = ⊥
+SomeRule P id (r ∷ rs) = EitherBy (bytes_eq r.id id) (P r) (SomeRule P id rs)
+
+here : (t : Bool) (A B : Type 0) → t ≡ true → A → EitherBy t A B
+here true A B e a = inl a
+here false A B e a = cc
+
+later : (t : Bool) (A B : Type 0) → B → EitherBy t A B
+later true A B b = inr b
+later false A B b = b
+
+some_at : (P : Rule → Type 0) (id : Text) (xs : List Arg) (k : ℕ) (a : Arg) → k < length xs → slice_index_or xs k a ≡ a
+    → bytes_eq a.id.now id ≡ true → P (rule_of a) → SomeRule P id (map rule_of xs)
+some_at P id [] k a lt at same p = absurd (omega arith)
+some_at P id (x ∷ xs) zero a lt at same p =
+    here (bytes_eq x.id.now id) _ _ (ap (λ (y : Arg). bytes_eq y.id.now id) at ∙ same)
+    (subst (λ (y : Arg). P (rule_of y)) (sym at) p)
+some_at P id (x ∷ xs) (suc k) a lt at same p = later (bytes_eq x.id.now id) _ _
+    (some_at P id xs k a (omega arith) at same p)
+
+abbrev pub Accepted : Text → Rule → Type 0
+Accepted v r = Accepts r.ignore_case (parser_of_value r.parser) v
+
+abbrev pub ReadHow : Reading → Rule → Type 0
+ReadHow how r = reading_by r ≡ how
+
+-- the text that a getter reads is a value that passed a rule of its id, read as such a rule says
+abbrev pub ReadByRules : List Rule → Text → Text → Type 0
+ReadByRules rules id text = (v : Text) × (how : Reading) × (text ≡ read_as how v) × SomeRule (Accepted v) id rules
+    × SomeRule (ReadHow how) id rules
+
+module _ (c : Command) (f : Found) (passes : ValuesPass c f) (no_groups : groups_of c ≡ []) (id : Text)
+    (named : id ≡ [] → ⊥) where
+  first_read : (x : MatchedArg) (e : Entry) → e.1 ≡ x → e.0.now ≡ id → EntryPasses c e
+      → IfSome (option_map (λ s. read_as x.reading s.now) (slice_get x.vals.items 0))
+      (ReadByRules (map rule_of (args_of c)) id)
+  first_read x e same_x key pass =
+      let no_group : e.1.is_group ≡ true → ⊥ = λ g. elim (pass.3 g) [
+        | inl empty ↦ named (sym key ∙ empty)
+        | inr lots ↦
+            let bad : 0 < 0 = rw no_groups at lots in
+            absurd (omega arith)
+      ] in
+      let all : All (λ v. PassesArg c id v.now) x.vals.items = elim pass.0 [
+        | inl g ↦ absurd (no_group g)
+        | inr vals ↦ subst (λ (w : Text). All (λ v. PassesArg c w v.now) x.vals.items) key (rw same_x at vals)
+      ] in
+      let how : HasReading c id x.reading = elim pass.4 [
+        | inl g ↦ absurd (no_group g)
+        | inr h ↦ subst (λ (y : MatchedArg). HasReading c id y.reading) same_x
+            (subst (λ (w : Text). HasReading c w e.1.reading) key h)
+      ] in
+      go x.vals.items all how
+    where
+      go : (vs : List (Bor Text)) → All (λ v. PassesArg c id v.now) vs → HasReading c id x.reading
+          → IfSome (option_map (λ s. read_as x.reading s.now) (slice_get vs 0))
+          (ReadByRules (map rule_of (args_of c)) id)
+      go [] all how = tt
+      go (v ∷ vs) all how =
+          let p = All-get_or (λ v. PassesArg c id v.now) (v ∷ vs) 0 v (omega arith) all in (
+            v.now,
+            x.reading,
+            refl,
+            some_at (Accepted v.now) id (args_of c) p.0 p.1 p.2 p.3 p.4.0 p.4.1,
+            some_at (ReadHow x.reading) id (args_of c) how.0 how.1 how.2 how.3 how.4.0 how.4.1,
+          )
+
+  pub text_by_rules : IfSome (one_text f id) (ReadByRules (map rule_of (args_of c)) id)
+  text_by_rules = go (matched_of f id) refl
+    where
+      go : (o : Option MatchedArg) → matched_of f id ≡ o
+          → IfSome (one_text f id) (ReadByRules (map rule_of (args_of c)) id)
+      go None e = rw e tt
+      go (Some x) e =
+          let got = entry_by_id (EntryPasses c) f.entries.items id x passes e in
+          rw e (first_read x got.0 got.1 ((bytes_eq-Decides got.0.0.now id).0 got.2) got.3)
+
+-- ---- numbers
+
+without_minus-cond : (t : Text) → without_minus t ≡ cond (starts_with_minus t) (drop 1 t) t
+without_minus-cond [] = refl
+without_minus-cond (x ∷ xs) = go (x == 45)
+  where
+    go : (b : Bool) → unwrap_or (cond b (Some xs) None) (x ∷ xs) ≡ cond b xs (x ∷ xs)
+    go true = refl
+    go false = refl
+
+no_plus : (ds : Text) → IsNumeral 10 ds → without_leading_plus ds ≡ ds
+no_plus [] h = refl
+no_plus (d ∷ ds) h =
+    let plus : (d == 43) ≡ false = ne_eqb _ _ (λ e. omega (arith, digit_from_value d h.1.0)) in
+    ap (λ (b : Bool). drop (cond b 1 0) (d ∷ ds)) plus
+
+-- a text in a range with no negative number reads as a number in it
+signed_number : (low high : ℕ) (v : Text) → IsSignedIn (pos low) (pos high) v → IsNumberIn low high (without_minus v)
+signed_number low high v passed = rw without_minus-cond (go (starts_with_minus v) refl)
+  where
+    go : (b : Bool) → starts_with_minus v ≡ b → IsNumberIn low high (cond (starts_with_minus v) (drop 1 v) v)
+    go true minus =
+        let low_ok = rw minus at passed.2 in
+        let numeral : IsNumeral 10 (drop 1 v) = rw minus at passed.0 in
+        rw (minus, no_plus (drop 1 v) numeral) (numeral, omega (arith, ints), omega (arith, ints))
+    go false minus =
+        let low_ok = rw minus at passed.2 in
+        let high_ok = rw minus at passed.3 in
+        let numeral = rw minus at passed.0 in
+        rw minus (numeral, omega (arith, ints), omega (arith, ints))
+
+-- ---- this command
+
+abbrev rules : List Rule
+rules = (built command_line).top.rules
+
+number_holds : (f : Found) (id : Text) (low high : ℕ) → IfSome (one_text f id) (ReadByRules rules id)
+    → ((v : Text) → SomeRule (Accepted v) id rules → IsSignedIn (pos low) (pos high) v)
+    → ((how : Reading) → SomeRule (ReadHow how) id rules → reading.WithoutMinus ≡ how)
+    → HoldsNumber low high id f
+number_holds f id low high read accepted how = go (one_text f id) read
+  where
+    go : (o : Option Text) → IfSome o (ReadByRules rules id) → IfSome o (IsNumberIn low high)
+    go None h = tt
+    go (Some text) h =
+        let is : text ≡ without_minus h.0 = h.2 ∙ ap (λ r. read_as r h.0) (sym (how h.1 h.4)) in
+        rw is (signed_number low high h.0 (accepted h.0 h.3))
+
+only : {A : Type 0} → A ⊎ ⊥ → A
+only (inl a) = a
+only (inr b) = absurd b
+
+bool_texts : (v : Text) → (bytes_eq v (codes "true") || bytes_eq v (codes "false")) ≡ true
+    → (v ≡ codes "true") ⊎ (v ≡ codes "false")
+bool_texts v h = go (bytes_eq v (codes "true")) refl
+  where
+    go : (b : Bool) → bytes_eq v (codes "true") ≡ b → (v ≡ codes "true") ⊎ (v ≡ codes "false")
+    go true e = inl ((bytes_eq-Decides v (codes "true")).0 e)
+    go false e =
+        let off : bytes_eq v (codes "false") ≡ true = rw e at h in
+        inr ((bytes_eq-Decides v (codes "false")).0 off)
+
+flag_holds : (f : Found) → IfSome (one_text f (codes "escapes")) (ReadByRules rules (codes "escapes"))
+    → IfSome (one_text f (codes "escapes")) (λ t. (t ≡ codes "true") ⊎ (t ≡ codes "false"))
+flag_holds f read = go (one_text f (codes "escapes")) read
+  where
+    go : (o : Option Text) → IfSome o (ReadByRules rules (codes "escapes"))
+        → IfSome o (λ t. (t ≡ codes "true") ⊎ (t ≡ codes "false"))
+    go None h = tt
+    go (Some text) h =
+        let is : text ≡ h.0 = h.2 ∙ ap (λ r. read_as r h.0) (sym (only h.4)) in
+        rw is (bool_texts h.0 (only h.3))
+
+no_items : {X : Type 0} (xs : List X) → is_empty xs ≡ true → xs ≡ []
+no_items [] e = refl
+no_items (x ∷ xs) e =
+    let bad : length (x ∷ xs) ≡ 0 = eqb-true _ _ e in
+    absurd (omega arith)
+
+not_true : (b : Bool) → not b ≡ true → b ≡ false
+not_true true e = cc
+not_true false e = refl
+
+named : (x : ℕ) (xs : Text) → x ∷ xs ≡ [] → ⊥
+named x xs e = cc
+
+-- a parse that succeeds with the built command has checked the numbers and the switch
+pub values_hold : (c : Command) (m : ArgMatches) → app_of c ≡ built command_line
+    → ((out-Command c).has_globals ≡ false → IsParsed c (found_of m) (has_subcommand m)) → HoldsValues (found_of m)
+values_hold c m is parsed =
+    let f = found_of m in
+    let is_plain : has_plain_fields (out-Command c) ≡ true = ap (λ (a : App). a.top.is_plain) is in
+    let parts = both _ _ is_plain in
+    let no_groups : groups_of c ≡ [] = no_items _ parts.0 in
+    let no_globals : (out-Command c).has_globals ≡ false = not_true _ (both _ _ (both _ _ parts.1).1).0 in
+    let same : map rule_of (args_of c) ≡ rules = ap (λ (a : App). a.top.rules) is in
+    let read : (id : Text) → (id ≡ [] → ⊥) → IfSome (one_text f id) (ReadByRules rules id) =
+    λ id named. subst (λ rs. IfSome (one_text f id) (ReadByRules rs id)) same
+    (text_by_rules c f (parsed no_globals).values no_groups id named) in
+    record {
+      scale = number_holds f (codes "scale") 1 8 (read (codes "scale") (named _ _)) (λ v h. only h) (λ how h. only h);
+      height = number_holds f (codes "height") 1 500 (read (codes "height") (named _ _)) (λ v h. only h)
+          (λ how h. only h);
+      min_version = number_holds f (codes "min-version") 1 10 (read (codes "min-version") (named _ _)) (λ v h. only h)
+          (λ how h. only h);
+      mask = number_holds f (codes "mask") 0 7 (read (codes "mask") (named _ _)) (λ v h. only h) (λ how h. only h);
+      escapes = flag_holds f (read (codes "escapes") (named _ _));
+    }
+
+-- the built command, after a call that builds it
+pub still_built : (old new : Command) → app_of old ≡ built command_line → (is_broken new ≡ true → ⊥)
+    → BuildsOrBreaks old new → app_of new ≡ built command_line
+still_built old new is whole (inl broken) = absurd (whole broken)
+still_built old new is whole (inr (builds, names, inl same)) = same ∙ is
+still_built old new is whole (inr (builds, names, inr again)) = again (ap is_buildable is) ∙ ap built is
+
+-- ---- what a refused parse answers
+
+memory_refuses : (r : Invocation) → Refuses r Memory
+memory_refuses (run s name) = tt
+memory_refuses help = tt
+memory_refuses bad = tt
+
+pub memory_answers : (r : Invocation) → Answers r (Err Memory)
+memory_answers (run s name) = tt
+memory_answers help = tt
+memory_answers bad = tt
+
+pub refused : (kinds : Kinds) (rows : List Row) (e : Error) (fault : WordsFault) → IsOneAtMost kinds → HasKind kinds e
+    → (kind_of e ≡ OutOfMemory → fault ≡ Memory) → Refuses (invocation_refused (kind_of e)) fault
+    → Answers (invocation_by kinds rows) (Err fault)
+unfolding IsOneAtMost
+refused kinds rows e fault one (inl memory) as_memory other =
+    rw (as_memory memory) (memory_answers (invocation_by kinds rows))
+refused [] rows e fault one (inr among) as_memory other = absurd among
+refused (k ∷ []) rows e fault one (inr (inl is)) as_memory other =
+    answers_err (invocation_refused k) fault (subst (λ x. Refuses (invocation_refused x) fault) is other)
+  where
+    answers_err : (r : Invocation) (w : WordsFault) → Refuses r w → Answers r (Err w)
+    answers_err (run s name) w h = h
+    answers_err help w h = h
+    answers_err bad w h = h
+refused (k ∷ []) rows e fault one (inr (inr never)) as_memory other = absurd never
+refused (k ∷ l ∷ ks) rows e fault one (inr among) as_memory other = absurd one

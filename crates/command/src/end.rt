@@ -1,0 +1,48 @@
+//! How the program ends.
+ghost use Rattle.std.specs.Prelude.{◌≡◌};
+ghost use Rattle.command.specs.End.{line_of, exit_status};
+
+use filter::{RunFault, Status};
+
+/// How the program ends.
+#[derive(Clone, Copy, Debug)]
+pub enum End {
+    /// The filter ran, with this answer.
+    Ran(Result<Status, RunFault>),
+    /// Help was printed.
+    Helped,
+    /// The words are not the command's.
+    BadWords,
+    /// The file can't be opened.
+    NoFile,
+    /// Memory ran out before the filter ran.
+    NoMemory,
+}
+
+impl End {
+    /// The status of the process.
+    pub fn status(&self) -> u8
+        ensures { result ≡ exit_status self.now }
+    {
+        match self {
+            End::Ran(Ok(Status::Clean)) | End::Helped => 0,
+            End::Ran(Ok(Status::Refused)) => 1,
+            End::BadWords => 2,
+            End::Ran(Err(_)) | End::NoFile | End::NoMemory => 3,
+        }
+    }
+
+    /// The line for the standard error, or the empty text.
+    pub fn line(&self) -> &'static str
+        ensures { result.now ≡ line_of self.now }
+    {
+        match self {
+            End::Ran(Ok(_)) | End::Helped => "",
+            End::BadWords => "labels: bad words\n",
+            End::Ran(Err(RunFault::Read)) => "labels: read failed\n",
+            End::Ran(Err(_)) => "labels: write failed\n",
+            End::NoFile => "labels: cannot open file\n",
+            End::NoMemory => "labels: no memory\n",
+        }
+    }
+}

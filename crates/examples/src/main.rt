@@ -1,0 +1,63 @@
+//! Two examples over the libraries: a filter that is fed piece by piece, as by a caller that reads for itself, and one
+//! QR symbol, shown on a dark terminal through a grid of this program's own.
+#![tactic(auto)]
+
+mod negative;
+mod pieces;
+mod symbol;
+
+use filter::Status;
+use labelcore::{Format, Level, MemSink, Options, StdSink};
+use negative::Negative;
+use picture::{Framed, write_ascii};
+use pieces::draw_in_two;
+use std::io;
+use symbol::symbol_of;
+
+fn main(rt: HostRuntime) -> io::Result<()> {
+    feed_pieces(&rt)?;
+    show_symbol(&rt)
+}
+
+/// Draws labels from a text in two pieces, and tells what came of it.
+fn feed_pieces(rt: &HostRuntime) -> io::Result<()> {
+    let Some(options) = Options::new(Format::Pbm, 1, 1, Level::M, 1, None, false) else {
+        return println!(rt; "options out of range");
+    };
+    let mut images: MemSink<4096> = MemSink::new(4096, 4096);
+    let mut messages: MemSink<1024> = MemSink::new(1024, 1024);
+    // The cut goes through the first line, as a cut between two reads may.
+    let answer = draw_in_two(
+        options,
+        b"ean8 7351",
+        b"353\nean8 123\n",
+        &mut images,
+        &mut messages,
+    );
+    let told = match answer {
+        Ok(Status::Clean) => "every line was drawn",
+        Ok(Status::Refused) => "some line was refused",
+        Err(_) => "a sink failed",
+    };
+    println!(rt; "{told}")?;
+    println!(rt;
+        "{} bytes of pictures, {} of messages",
+        images.bytes().len(),
+        messages.bytes().len()
+    )
+}
+
+/// Draws one QR symbol with the libraries alone, light on dark.
+fn show_symbol(rt: &HostRuntime) -> io::Result<()> {
+    let Some(options) = Options::new(Format::Ascii, 1, 1, Level::M, 1, Some(2), false) else {
+        return println!(rt; "options out of range");
+    };
+    let Ok(symbol) = symbol_of(&options, b"01234567") else {
+        return println!(rt; "the data does not fit");
+    };
+    let picture = Negative::new(Framed::new(symbol, 4, 4, 4, 4));
+    match write_ascii(&picture, &mut StdSink::new(rt.stdout())) {
+        Ok(()) => Ok(()),
+        Err(_) => println!(rt; "a write failed"),
+    }
+}

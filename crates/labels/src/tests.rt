@@ -1,2 +1,0 @@
-//! The words, the file that they name, and how the program ends.
-mod words;

@@ -1,0 +1,402 @@
+//! Known symbols, and the shortest lists of segments found by listing them all.
+ghost use Rattle.qrdata.specs.Segments.{IsSegmentation, cost};
+ghost use Rattle.qrdata.specs.Versions.{capacity};
+ghost use Rattle.std.specs.Prelude.{◌≤◌};
+
+use crate::layers::support::qr_options;
+use labelcore::{Fault, Level};
+use qrdata::{Mode, Plan, Segment, Version, Words, choose, codewords};
+use std::process::Abort;
+
+fn planned(rt: &impl Abort, level: Level, min_version: u8, data: &[u8]) -> Plan
+    ensures cut { IsSegmentation result.version result.segments «data».now }
+    ensures fits { cost result.version result.segments ≤ capacity result.version result.level }
+{
+    match choose(&qr_options(rt, level, min_version), data) {
+        Ok(plan) => plan,
+        Err(_) => panic!(rt; "data does not fit"),
+    }
+}
+
+fn expect_refused(rt: &impl Abort, level: Level, data: &[u8]) {
+    match choose(&qr_options(rt, level, 1), data) {
+        Ok(_) => panic!(rt; "data fits"),
+        Err(fault) => assert!(rt; fault == Fault::DoesNotFit(level)),
+    }
+}
+
+fn expect_version(rt: &impl Abort, plan: &Plan, number: u8, bits: u32) {
+    assert!(rt; plan.version().number() == number);
+    assert!(rt; plan.bits() == bits);
+}
+
+fn words_of(plan: &Plan, data: &[u8]) -> Words
+    requires cut { IsSegmentation plan.now.version plan.now.segments «data».now }
+    requires fits { cost plan.now.version plan.now.segments
+        ≤ capacity plan.now.version plan.now.level }
+{
+    let mut words = Words::new();
+    words.push(7);
+    codewords(plan, data, &mut words);
+    words
+}
+
+fn expect_words(rt: &impl Abort, words: &Words, from: usize, expected: &[u8]) {
+    let all = words.as_slice();
+    assert!(rt; from <= all.len());
+    assert!(rt; all[from..].starts_with(expected));
+}
+
+fn expect_segments(rt: &impl Abort, plan: &Plan, expected: &[Segment]) {
+    assert!(rt; plan.segments() == expected);
+}
+
+/// Each version's number, side, codewords, and data codewords at the levels L, M, Q and H.
+const SIZES: [(u8, usize, usize, [usize; 4]); 10] = [
+    (1, 21, 26, [19, 16, 13, 9]),
+    (2, 25, 44, [34, 28, 22, 16]),
+    (3, 29, 70, [55, 44, 34, 26]),
+    (4, 33, 100, [80, 64, 48, 36]),
+    (5, 37, 134, [108, 86, 62, 46]),
+    (6, 41, 172, [136, 108, 76, 60]),
+    (7, 45, 196, [156, 124, 88, 66]),
+    (8, 49, 242, [194, 154, 110, 86]),
+    (9, 53, 292, [232, 182, 132, 100]),
+    (10, 57, 346, [274, 216, 154, 122]),
+];
+
+fn expect_data_words(rt: &impl Abort, version: Version, data: &[usize; 4]) {
+    assert!(rt; version.data_words(Level::L) == data[0]);
+    assert!(rt; version.data_words(Level::M) == data[1]);
+    assert!(rt; version.data_words(Level::Q) == data[2]);
+    assert!(rt; version.data_words(Level::H) == data[3]);
+}
+
+#[test]
+fn sizes(rt: HostRuntime) {
+    assert!(rt; Version::new(0).is_none());
+    assert!(rt; Version::new(11).is_none());
+    for (number, side, total, data) in SIZES {
+        let Some(version) = Version::new(number) else {
+            panic!(rt; "there is such a version")
+        };
+        assert!(rt; version.number() == number);
+        assert!(rt; version.side() == side);
+        assert!(rt; version.total_words() == total);
+        expect_data_words(&rt, version, &data);
+    }
+}
+
+#[test]
+fn standard_symbols(rt: HostRuntime) {
+    let digits = planned(&rt, Level::M, 1, b"01234567");
+    let words = words_of(&digits, b"01234567");
+    assert!(rt; words.len() == 26);
+    expect_words(
+        &rt,
+        &words,
+        0,
+        &[
+            0x10, 0x20, 0x0C, 0x56, 0x61, 0x80, 0xEC, 0x11, 0xEC, 0x11, 0xEC, 0x11, 0xEC, 0x11,
+            0xEC, 0x11, 0xA5, 0x24, 0xD4, 0xC1, 0xED, 0x36, 0xC7, 0x87, 0x2C, 0x55,
+        ],
+    );
+    let hello = planned(&rt, Level::Q, 1, b"HELLO WORLD");
+    let words = words_of(&hello, b"HELLO WORLD");
+    assert!(rt; words.len() == 26);
+    expect_words(
+        &rt,
+        &words,
+        0,
+        &[
+            32, 91, 11, 120, 209, 114, 220, 77, 67, 64, 236, 17, 236, 168, 72, 22, 82, 217, 54,
+            156, 0, 46, 15, 180, 122, 16,
+        ],
+    );
+}
+
+#[test]
+fn one_digit(rt: HostRuntime) {
+    let plan = planned(&rt, Level::H, 1, b"1");
+    expect_version(&rt, &plan, 1, 18);
+    let words = words_of(&plan, b"1");
+    assert!(rt; words.len() == 26);
+    expect_words(
+        &rt,
+        &words,
+        0,
+        &[0x10, 0x04, 0x40, 0xEC, 0x11, 0xEC, 0x11, 0xEC, 0x11],
+    );
+}
+
+#[test]
+fn terminator_of_one_bit(rt: HostRuntime) {
+    let data = [b'1'; 42];
+    let plan = planned(&rt, Level::L, 1, &data[..41]);
+    expect_version(&rt, &plan, 1, 151);
+    let words = words_of(&plan, &data[..41]);
+    expect_words(&rt, &words, 0, &[0x10, 0xA4, 0x6F]);
+    expect_words(&rt, &words, 18, &[0x16]);
+    let longer = planned(&rt, Level::L, 1, &data);
+    assert!(rt; longer.version().number() == 2);
+}
+
+#[test]
+fn terminator_of_four_bits(rt: HostRuntime) {
+    let data = [b'a'; 18];
+    let plan = planned(&rt, Level::L, 1, &data[..17]);
+    expect_version(&rt, &plan, 1, 148);
+    let words = words_of(&plan, &data[..17]);
+    expect_words(&rt, &words, 0, &[0x41]);
+    expect_words(&rt, &words, 1, &[0x16; 17]);
+    expect_words(&rt, &words, 18, &[0x10]);
+    let longer = planned(&rt, Level::L, 1, &data);
+    assert!(rt; longer.version().number() == 2);
+    let words = words_of(&longer, &data);
+    expect_words(&rt, &words, 0, &[0x41, 0x26]);
+    expect_words(&rt, &words, 2, &[0x16; 17]);
+    expect_words(
+        &rt,
+        &words,
+        19,
+        &[
+            0x10, 0xEC, 0x11, 0xEC, 0x11, 0xEC, 0x11, 0xEC, 0x11, 0xEC, 0x11, 0xEC, 0x11, 0xEC,
+            0x11,
+        ],
+    );
+}
+
+#[test]
+fn longest_data(rt: HostRuntime) {
+    let letters = [b'a'; 272];
+    let plan = planned(&rt, Level::L, 1, &letters[..271]);
+    expect_version(&rt, &plan, 10, 2188);
+    expect_refused(&rt, Level::L, &letters);
+    let digits = [b'1'; 653];
+    let plan = planned(&rt, Level::L, 1, &digits[..652]);
+    expect_version(&rt, &plan, 10, 2190);
+    assert!(rt; words_of(&plan, &digits[..652]).len() == 346);
+    expect_refused(&rt, Level::L, &digits);
+    let mut mixed = [b'1'; 646];
+    mixed[0] = b'a';
+    let plan = planned(&rt, Level::L, 1, &mixed[..645]);
+    expect_version(&rt, &plan, 10, 2191);
+    expect_refused(&rt, Level::L, &mixed);
+}
+
+#[test]
+fn uneven_blocks(rt: HostRuntime) {
+    let data = [b'a'; 30];
+    let plan = planned(&rt, Level::Q, 5, &data);
+    assert!(rt; plan.version().number() == 5);
+    assert!(rt; plan.level() == Level::Q);
+    assert!(rt; planned(&rt, Level::Q, 1, &data).version().number() == 3);
+    let words = words_of(&plan, &data);
+    assert!(rt; words.len() == 62 + 72);
+    expect_words(
+        &rt,
+        &words,
+        0,
+        &[0x41, 0x16, 0x16, 0xEC, 0xE6, 0x16, 0x10, 0x11],
+    );
+    expect_words(&rt, &words, 56, &[0x16, 0x16, 0xEC, 0xEC, 0x11, 0x11]);
+}
+
+/// The data word of each place in `interleaving_order`: the place itself, but for the first two, which begin with the
+/// mode and the count, and the last, which ends with the terminator.
+fn placed_word(place: u8) -> u8 {
+    match place {
+        0 => 0x43,
+        1 => 0xC1,
+        61 => 0x30,
+        _ => place,
+    }
+}
+
+#[test]
+fn interleaving_order(rt: HostRuntime) {
+    let mut data = [0; 60];
+    for place in 0..60u8 {
+        data[usize::from(place)] = (place + 1) % 16 * 16 + (place + 2) / 16;
+    }
+    let plan = planned(&rt, Level::Q, 5, &data);
+    expect_segments(&rt, &plan, &[segment(Mode::Byte, 60)]);
+    let words = words_of(&plan, &data);
+    assert!(rt; words.len() == 62 + 72);
+    for place in 0..15u8 {
+        let row = [place, 15 + place, 30 + place, 46 + place];
+        for (block, index) in row.iter().enumerate() {
+            let at = usize::from(place).saturating_mul(4).saturating_add(block);
+            assert!(rt; words.as_slice().get(at) == Some(&placed_word(*index)));
+        }
+    }
+    expect_words(&rt, &words, 60, &[placed_word(45), placed_word(61)]);
+}
+
+const fn segment(mode: Mode, len: u16) -> Segment {
+    Segment { mode, len }
+}
+
+#[test]
+fn mixed_segments(rt: HostRuntime) {
+    let plan = planned(&rt, Level::H, 1, b"a123456789");
+    expect_version(&rt, &plan, 1, 64);
+    expect_segments(
+        &rt,
+        &plan,
+        &[segment(Mode::Byte, 1), segment(Mode::Numeric, 9)],
+    );
+    expect_words(
+        &rt,
+        &words_of(&plan, b"a123456789"),
+        0,
+        &[0x40, 0x16, 0x11, 0x02, 0x47, 0xB7, 0x23, 0x15, 0x00],
+    );
+
+    let plan = planned(&rt, Level::Q, 1, b"ab1234567890cd");
+    expect_version(&rt, &plan, 1, 104);
+    expect_segments(
+        &rt,
+        &plan,
+        &[
+            segment(Mode::Byte, 2),
+            segment(Mode::Numeric, 10),
+            segment(Mode::Byte, 2),
+        ],
+    );
+    expect_words(
+        &rt,
+        &words_of(&plan, b"ab1234567890cd"),
+        0,
+        &[
+            0x40, 0x26, 0x16, 0x21, 0x02, 0x87, 0xB7, 0x23, 0x15, 0x04, 0x02, 0x63, 0x64,
+        ],
+    );
+}
+
+#[test]
+fn one_segment_where_more_save_nothing(rt: HostRuntime) {
+    let plan = planned(&rt, Level::M, 1, b"a123");
+    expect_version(&rt, &plan, 1, 44);
+    expect_segments(&rt, &plan, &[segment(Mode::Byte, 4)]);
+
+    let plan = planned(&rt, Level::M, 1, b"a12b");
+    expect_version(&rt, &plan, 1, 44);
+    expect_segments(&rt, &plan, &[segment(Mode::Byte, 4)]);
+    expect_words(
+        &rt,
+        &words_of(&plan, b"a12b"),
+        0,
+        &[
+            0x40, 0x46, 0x13, 0x13, 0x26, 0x20, 0xEC, 0x11, 0xEC, 0x11, 0xEC, 0x11, 0xEC, 0x11,
+            0xEC, 0x11,
+        ],
+    );
+}
+
+#[test]
+fn empty_data(rt: HostRuntime) {
+    let plan = planned(&rt, Level::M, 1, b"");
+    expect_version(&rt, &plan, 1, 0);
+    assert!(rt; plan.segments().is_empty());
+    expect_words(&rt, &words_of(&plan, b""), 0, &[0, 0xEC, 0x11]);
+}
+
+/// The bits of a list of segments in versions 1 to 9. The data is cut after each byte whose bit in `cuts` is set, and
+/// the modes of the pieces are the digits of `modes` to the base 3. There is none if a mode lacks a byte.
+fn listed(data: &[u8], cuts: u32, modes: u32) -> Option<u32> {
+    let mut total: u32 = 0;
+    let mut len: u32 = 0;
+    let mut cuts_left = cuts;
+    let mut modes_left = modes;
+    for (i, byte) in data.iter().enumerate() {
+        let mode = modes_left % 3;
+        if mode == 0 && *byte != b'1' || mode == 1 && *byte == b'a' {
+            return None;
+        }
+        len = len.saturating_add(1);
+        if cuts_left % 2 == 1 || i + 1 == data.len() {
+            let bits = match mode {
+                0 => (len.saturating_mul(10).saturating_add(2) / 3).saturating_add(14),
+                1 => (len.saturating_mul(11).saturating_add(1) / 2).saturating_add(13),
+                _ => len.saturating_mul(8).saturating_add(12),
+            };
+            total = total.saturating_add(bits);
+            len = 0;
+            modes_left /= 3;
+        }
+        cuts_left /= 2;
+    }
+    Some(total)
+}
+
+fn fewest_bits(data: &[u8]) -> u32 {
+    let mut least = u32::MAX;
+    for cuts in 0..32 {
+        for modes in 0..729 {
+            if let Some(bits) = listed(data, cuts, modes) {
+                if bits < least {
+                    least = bits;
+                }
+            }
+        }
+    }
+    least
+}
+
+/// The text whose characters are the digits of a number to the base 3, of which `1`, `A` and `a` are the digits.
+fn text_of(number: u32) -> [u8; 6] {
+    let characters = [b'1', b'A', b'a'];
+    let mut text = [b'1'; 6];
+    let mut rest = number;
+    for character in text.iter_mut() {
+        *character = characters[(rest % 3) as usize];
+        rest /= 3;
+    }
+    text
+}
+
+#[test]
+fn no_list_costs_less(rt: HostRuntime) {
+    for (shorter, texts) in [3, 9, 27, 81, 243, 729].iter().enumerate() {
+        for number in 0..*texts {
+            let text = text_of(number);
+            let plan = planned(&rt, Level::M, 1, &text[..shorter + 1]);
+            assert!(rt; plan.bits() == fewest_bits(&text[..shorter + 1]));
+        }
+    }
+}
+
+#[test]
+fn values_of_characters(rt: HostRuntime) {
+    for byte in 0u8..=255 {
+        let value = match byte {
+            b'0'..=b'9' => byte - b'0',
+            b'A'..=b'Z' => byte - b'A' + 10,
+            b' ' => 36,
+            b'$' => 37,
+            b'%' => 38,
+            b'*' => 39,
+            b'+' => 40,
+            b'-' => 41,
+            b'.' => 42,
+            b'/' => 43,
+            b':' => 44,
+            _ => 45,
+        };
+        // The pair of an `A` and the byte, whose values make a number of 11 bits, or two bytes.
+        let data = [b'A', byte];
+        let words = words_of(&planned(&rt, Level::L, 1, &data), &data);
+        if value == 45 {
+            expect_words(&rt, &words, 0, &[0x40, 0x24]);
+        } else {
+            let pair = 450 + u16::from(value);
+            expect_words(
+                &rt,
+                &words,
+                0,
+                &[0x20, 0x10 + (pair / 256) as u8, (pair % 256) as u8],
+            );
+        }
+    }
+}

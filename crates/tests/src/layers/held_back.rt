@@ -1,0 +1,118 @@
+//! Bytes that are held back: how many, which calls they go on at, and what a failure leaves.
+use crate::layers::support::{flushes, sends_on, takes, takes_none, takes_some};
+use labelcore::{FailAt, Held, MemSink, Sink};
+use std::process::Abort;
+
+/// Whether the memory below has the one text, and the other is held back.
+fn stands(sink: &Held<MemSink<8>>, below: &[u8], held: &[u8]) -> bool {
+    sink.sink().bytes() == below && sink.held() == held
+}
+
+/// Whether the memory below the counted calls has the one text, and the other is held back.
+fn stands_counted(sink: &Held<FailAt<MemSink<8>>>, below: &[u8], held: &[u8]) -> bool {
+    sink.sink().device().bytes() == below && sink.held() == held
+}
+
+#[test]
+fn bytes_are_held_back(rt: HostRuntime) {
+    let mut sink = Held::new(MemSink::<8>::new(3, 8));
+    assert!(rt; takes(&mut sink, b"abcd"));
+    assert!(rt; stands(&sink, b"", b"abcd"));
+    assert!(rt; sends_on(&mut sink));
+    assert!(rt; stands(&sink, b"abcd", b""));
+    assert!(rt; takes(&mut sink, b"efghij"));
+    assert!(rt; !flushes(&mut sink));
+    assert!(rt; stands(&sink, b"abcdefgh", b"ij"));
+    assert!(rt; sink.sink().failures() == 1);
+}
+
+/// Writes of 1,000 bytes and a last one, so many bytes in all.
+fn write_letters(rt: &impl Abort, count: usize, sink: &mut impl Sink) {
+    let letters = [b'a'; 1000];
+    for _ in 0..count / 1000 {
+        assert!(rt; takes(sink, &letters));
+    }
+    assert!(rt; takes(sink, &letters[..count % 1000]));
+}
+
+#[test]
+fn a_full_room_goes_on_at_the_next_byte(rt: HostRuntime) {
+    for (count, below, held) in [
+        (65_535, 0, 65_535),
+        (65_536, 0, 65_536),
+        (65_537, 65_536, 1),
+        (66_000, 65_536, 464),
+    ] {
+        let mut sink = Held::new(MemSink::<66000>::new(66000, 66000));
+        write_letters(&rt, count, &mut sink);
+        assert!(rt; sink.sink().bytes().len() == below);
+        assert!(rt; sink.held().len() == held);
+        assert!(rt; flushes(&mut sink));
+        assert!(rt; sink.sink().bytes().len() == count);
+        assert!(rt; sink.held().is_empty());
+    }
+}
+
+#[test]
+fn a_sink_of_one_byte_a_call_gets_all_bytes_in_order(rt: HostRuntime) {
+    let mut sink = Held::new(FailAt::new(MemSink::<8>::new(1, 8), 0));
+    assert!(rt; takes(&mut sink, b"abcde"));
+    assert!(rt; sink.sink().calls() == 0);
+    assert!(rt; sends_on(&mut sink));
+    assert!(rt; sink.sink().calls() == 5);
+    assert!(rt; takes(&mut sink, b"fgh"));
+    assert!(rt; flushes(&mut sink));
+    assert!(rt; sink.sink().calls() == 9);
+    assert!(rt; stands_counted(&sink, b"abcdefgh", b""));
+}
+
+/// The call of the sink below at which a text that is sent on in pieces of two bytes fails.
+#[test]
+fn a_failing_call_leaves_what_did_not_go_on(rt: HostRuntime) {
+    for (call, sent, left) in [
+        (1, b"".as_slice(), b"abcde".as_slice()),
+        (2, b"ab".as_slice(), b"cde".as_slice()),
+        (3, b"abcd".as_slice(), b"e".as_slice()),
+    ] {
+        let mut sink = Held::new(FailAt::new(MemSink::<8>::new(2, 8), call));
+        assert!(rt; takes(&mut sink, b"abcde"));
+        assert!(rt; !sends_on(&mut sink));
+        assert!(rt; stands_counted(&sink, sent, left));
+        assert!(rt; takes(&mut sink, b"fgh"));
+        assert!(rt; flushes(&mut sink));
+        assert!(rt; stands_counted(&sink, b"abcdefgh", b""));
+    }
+}
+
+/// The fourth call is the flush below, at which nothing is held any more.
+#[test]
+fn a_flush_that_fails_below_holds_nothing(rt: HostRuntime) {
+    let mut sink = Held::new(FailAt::new(MemSink::<8>::new(2, 8), 4));
+    assert!(rt; takes(&mut sink, b"abcde"));
+    assert!(rt; !flushes(&mut sink));
+    assert!(rt; stands_counted(&sink, b"abcde", b""));
+    assert!(rt; flushes(&mut sink));
+    assert!(rt; sink.sink().calls() == 5);
+}
+
+#[test]
+fn a_write_into_a_full_room_fails_as_the_sink_below(rt: HostRuntime) {
+    let mut sink = Held::new(FailAt::new(MemSink::<66000>::new(66000, 66000), 1));
+    write_letters(&rt, 65_536, &mut sink);
+    assert!(rt; takes_none(&mut sink, b"b"));
+    assert!(rt; sink.held().len() == 65_536);
+    assert!(rt; takes_some(&mut sink, b"b", 1));
+    assert!(rt; sink.held() == b"b".as_slice());
+    assert!(rt; sink.sink().device().bytes().len() == 65_536);
+}
+
+#[test]
+fn sending_on_is_no_call(rt: HostRuntime) {
+    let mut sink = FailAt::new(Held::new(MemSink::<8>::new(8, 8)), 2);
+    assert!(rt; takes_some(&mut sink, b"ab", 2));
+    assert!(rt; sends_on(&mut sink));
+    assert!(rt; sink.calls() == 1);
+    assert!(rt; sink.device().sink().bytes() == b"ab".as_slice());
+    assert!(rt; !flushes(&mut sink));
+    assert!(rt; sends_on(&mut sink));
+}

@@ -1,0 +1,136 @@
+//! Runs over devices that stop, fail or take little, and the filter piece by piece.
+ghost use Rattle.std.specs.Prelude.{◌<◌};
+
+use crate::runs::support::{DEFAULT, EAN8, Named, answer_of, feed_piece, finish, joined, low};
+use filter::{Filter, RunFault, Status};
+use labelcore::{MemSink, MemSource, Options, StdSink, StdSource};
+use std::process::Abort;
+use std::test::Fail;
+
+#[test]
+fn standard_devices(rt: HostRuntime) -> Result<(), Fail> {
+    let alloc = rt.alloc();
+    let mut out = Vec::new(alloc);
+    let mut err = Vec::new(alloc);
+    let mut source = StdSource::new(b"ean8 7351353\n#\npdf x".as_slice());
+    let answer = answer_of(
+        low(&rt, false),
+        &mut source,
+        &mut StdSink::new(&mut out),
+        &mut StdSink::new(&mut err),
+    );
+    assert!(rt; answer == Ok(Status::Refused));
+    assert!(rt; out.as_slice() == EAN8);
+    assert!(rt; err.as_slice() == b"line 3: unknown symbology\n".as_slice());
+    Ok(())
+}
+
+#[test]
+fn pieces(rt: HostRuntime) {
+    let mut filter = Filter::new(low(&rt, false));
+    let mut out: MemSink<200> = MemSink::new(7, 200);
+    let mut err: MemSink<200> = MemSink::new(200, 200);
+    assert!(rt; feed_piece(&mut filter, b"", &mut out, &mut err).is_ok());
+    assert!(rt; feed_piece(&mut filter, b"ean8 73", &mut out, &mut err).is_ok());
+    assert!(rt; out.bytes().is_empty());
+    assert!(rt; feed_piece(&mut filter, b"51353\nqr", &mut out, &mut err).is_ok());
+    assert!(rt; out.bytes() == EAN8);
+    assert!(rt; err.bytes().is_empty());
+    assert!(rt; finish(filter, &mut out, &mut err) == Ok(Status::Refused));
+    assert!(rt; out.bytes() == EAN8);
+    assert!(rt; err.bytes() == b"line 2: no data\n".as_slice());
+}
+
+#[test]
+fn single_bytes(rt: HostRuntime) {
+    let mut filter = Filter::new(low(&rt, false));
+    let mut out: MemSink<200> = MemSink::new(200, 200);
+    let mut err: MemSink<200> = MemSink::new(200, 200);
+    for byte in b"ean8 7351353" {
+        assert!(rt; feed_piece(&mut filter, &[*byte], &mut out, &mut err).is_ok());
+        assert!(rt; out.bytes().is_empty());
+    }
+    assert!(rt; feed_piece(&mut filter, b"\n", &mut out, &mut err).is_ok());
+    assert!(rt; out.bytes() == EAN8);
+    assert!(rt; finish(filter, &mut out, &mut err) == Ok(Status::Clean));
+}
+
+/// A run over two symbols and a sink of 1,000 bytes leaves these in it.
+fn assert_full(rt: &impl Abort, options: Options, want: &[u8]) {
+    let mut source = MemSource::new(b"qr 01234567\nqr 01234567\n", 4096, false);
+    let mut out: MemSink<1000> = MemSink::new(1000, 1000);
+    let mut err: MemSink<8> = MemSink::new(8, 8);
+    let answer = answer_of(options, &mut source, &mut out, &mut err);
+    assert!(rt; answer == Err(RunFault::WriteOut));
+    assert!(rt; out.bytes() == want);
+}
+
+#[test]
+fn full_sink(rt: HostRuntime) {
+    let options = Named {
+        mask: Some(2),
+        ..DEFAULT
+    }
+    .options(&rt);
+    let mut filter = Filter::new(options);
+    let mut out: MemSink<1000> = MemSink::new(1000, 1000);
+    let mut err: MemSink<8> = MemSink::new(8, 8);
+    assert!(rt;
+        feed_piece(
+            &mut filter,
+            b"qr 01234567\nqr 01234567\n",
+            &mut out,
+            &mut err
+        ) == Err(RunFault::WriteOut)
+    );
+    assert!(rt; out.bytes().len() == 1000);
+    assert!(rt; out.bytes().starts_with(b"P1\n29 29\n"));
+    let (first, second) = out.bytes().split_at(879);
+    assert!(rt; first.starts_with(second));
+    for piece in [
+        b"#\n".as_slice(),
+        b"".as_slice(),
+        b"ean8 7351353\n".as_slice(),
+    ] {
+        assert!(rt; feed_piece(&mut filter, piece, &mut out, &mut err) == Err(RunFault::Spent));
+    }
+    assert!(rt; out.bytes().len() == 1000);
+    assert!(rt; out.failures() == 1);
+    assert!(rt; err.failures() == 0);
+    assert!(rt; finish(filter, &mut out, &mut err) == Err(RunFault::Spent));
+    assert!(rt; out.failures() == 1);
+    assert_full(&rt, options, out.bytes());
+}
+
+#[test]
+fn nine_bytes_of_the_second_image(rt: HostRuntime) -> Result<(), Fail> {
+    let mut source = MemSource::new(b"ean8 7351353\nean8 7351353\n", 4096, false);
+    let mut out: MemSink<100> = MemSink::new(4096, 100);
+    let mut err: MemSink<8> = MemSink::new(8, 8);
+    assert!(rt;
+        answer_of(low(&rt, false), &mut source, &mut out, &mut err) == Err(RunFault::WriteOut)
+    );
+    let want = joined(rt.alloc(), &[EAN8, b"P1\n81 1\n0"])?;
+    assert!(rt; out.bytes() == want.as_slice());
+    Ok(())
+}
+
+/// Runs over a source that fails after its bytes: the open line is not drawn.
+fn assert_read_fails(rt: &impl Abort, piece: usize)
+    requires { 0 < piece }
+{
+    let mut source = MemSource::new(b"ean8 7351353\nqr 0", piece, true);
+    let mut out: MemSink<200> = MemSink::new(200, 200);
+    let mut err: MemSink<8> = MemSink::new(8, 8);
+    assert!(rt; answer_of(low(rt, false), &mut source, &mut out, &mut err) == Err(RunFault::Read));
+    assert!(rt; out.bytes() == EAN8);
+    assert!(rt; err.bytes().is_empty());
+}
+
+#[test]
+fn failing_source(rt: HostRuntime) {
+    assert_read_fails(&rt, 1);
+    assert_read_fails(&rt, 2);
+    assert_read_fails(&rt, 7);
+    assert_read_fails(&rt, 4096);
+}

@@ -1,0 +1,172 @@
+//! Output that is held back, over writers in memory.
+ghost use Rattle.std.specs.Prelude.{◌<◌};
+
+use crate::runs::support::{EAN8, answer_of, joined, low, repeated};
+use filter::{RunFault, Status};
+use labelcore::{FailAt, Held, IoFault, MemSink, MemSource, Sink, Source, StdSink};
+use std::alloc::Global;
+use std::cell::RefCell;
+use std::io::{self, ErrorKind, Write};
+use std::process::Abort;
+use std::test::Fail;
+
+/// Adds its bytes to a text that several writers share, or fails.
+#[derive(Drop)]
+struct SharedWriter<'a> {
+    text: &'a RefCell<Vec<u8>>,
+    fails: bool,
+}
+
+impl Write for SharedWriter<'_> {
+    fn write(&mut self, bytes: &[u8]) -> io::Result<usize> {
+        match self.text.try_borrow_mut() {
+            Ok(mut text) if !self.fails => {
+                text.extend_from_slice(bytes)?;
+                Ok(bytes.len())
+            }
+            _ => Err(ErrorKind::Other.into()),
+        }
+    }
+
+    fn flush(&mut self) -> io::Result<()> {
+        Ok(())
+    }
+}
+
+/// Runs over lines that are drawn, refused and drawn, with both outputs into one text.
+fn run_into_one(rt: &impl Abort, text: &RefCell<Vec<u8>>, fails: bool) -> Result<Status, RunFault> {
+    let mut source = MemSource::new(b"ean8 7351353\npdf x\nean8 7351353\n", 4096, false);
+    let mut out = Held::new(StdSink::new(SharedWriter { text, fails }));
+    let mut err = StdSink::new(SharedWriter { text, fails: false });
+    let answer = answer_of(low(rt, false), &mut source, &mut out, &mut err);
+    let _ = out.send_on();
+    answer
+}
+
+#[test]
+fn both_outputs_stand_in_the_order_of_the_lines(rt: HostRuntime) -> Result<(), Fail> {
+    let alloc = rt.alloc();
+    let text = RefCell::new(Vec::new(alloc));
+    assert!(rt; run_into_one(&rt, &text, false) == Ok(Status::Refused));
+    let want = joined(alloc, &[EAN8, b"line 2: unknown symbology\n", EAN8])?;
+    assert!(rt; text.into_inner().as_slice() == want.as_slice());
+    Ok(())
+}
+
+#[test]
+fn no_message_stands_after_output_that_failed_to_go_out(rt: HostRuntime) {
+    let text = RefCell::new(Vec::new(rt.alloc()));
+    let answer = run_into_one(&rt, &text, true);
+    assert!(rt; answer == Err(RunFault::WriteOut));
+    assert!(rt; text.into_inner().as_slice().is_empty());
+}
+
+/// A source that tells how long a text was at its last read.
+#[derive(Drop)]
+struct WatchingSource<'a, S: Drop> {
+    source: S,
+    text: &'a RefCell<Vec<u8>>,
+    seen: usize,
+}
+
+impl<S: Source + Drop> Source for WatchingSource<'_, S> {
+    ghost failures = { λ s. S.failures s.source };
+
+    ghost at_end = { λ s. S.at_end s.source };
+
+    ghost gave = { λ s t xs. S.gave s.source t.source xs };
+
+    fn read(&mut self, buf: &mut [u8]) -> Result<usize, IoFault> {
+        if let Ok(text) = self.text.try_borrow() {
+            self.seen = text.len();
+        }
+        self.source.read(buf)
+    }
+
+    ghost gave_none = { λ s. S.gave_none s.source };
+
+    ghost gave_joined = { λ s t u xs ys. S.gave_joined s.source t.source u.source xs ys };
+}
+
+#[test]
+fn output_goes_out_before_each_read(rt: HostRuntime) {
+    let text = RefCell::new(Vec::new(rt.alloc()));
+    let mut source = WatchingSource {
+        source: MemSource::new(b"ean8 7351353\nean8 7351353\n", 13, false),
+        text: &text,
+        seen: 0,
+    };
+    let mut out = Held::new(StdSink::new(SharedWriter {
+        text: &text,
+        fails: false,
+    }));
+    let mut err: MemSink<8> = MemSink::new(8, 8);
+    let answer = answer_of(low(&rt, false), &mut source, &mut out, &mut err);
+    assert!(rt; answer == Ok(Status::Clean));
+    assert!(rt; source.seen == 2 * EAN8.len());
+}
+
+#[test]
+fn output_that_fails_as_it_is_sent_out_is_a_failed_write(rt: HostRuntime) {
+    let mut source = MemSource::new(b"ean8 7351353\nqr 0", 4096, false);
+    let mut out = Held::new(FailAt::new(MemSink::<200>::new(200, 200), 1));
+    let mut err: MemSink<8> = MemSink::new(8, 8);
+    let answer = answer_of(low(&rt, false), &mut source, &mut out, &mut err);
+    assert!(rt; answer == Err(RunFault::WriteOut));
+    assert!(rt; out.sink().device().bytes().is_empty());
+    assert!(rt; out.held() == EAN8);
+    assert!(rt; out.send_on().is_ok());
+    assert!(rt; out.sink().device().bytes() == EAN8);
+}
+
+/// Lines that are drawn and refused in turn, each of 13 or 6 bytes.
+const IN_TURN: &[u8] = b"ean8 7351353\npdf x\nean8 7351353\npdf x\nean8 7351353\n";
+
+/// The messages of the refused lines.
+const REFUSED_IN_TURN: &[u8] = b"line 2: unknown symbology\nline 4: unknown symbology\n";
+
+/// A run over the lines, `piece` bytes a read, whose held output fails to go out at this call, after so many labels and
+/// messages went out. What was held goes out after it.
+fn assert_sending_fails(
+    rt: &impl Abort,
+    alloc: Global,
+    piece: usize,
+    call: u64,
+    labels: usize,
+    messages: usize,
+) -> Result<(), Fail>
+    requires { 0 < piece }
+{
+    let mut source = MemSource::new(IN_TURN, piece, false);
+    let mut out = Held::new(FailAt::new(MemSink::<273>::new(273, 273), call));
+    let mut err: MemSink<52> = MemSink::new(52, 52);
+    let answer = answer_of(low(rt, false), &mut source, &mut out, &mut err);
+    assert!(rt; answer == Err(RunFault::WriteOut));
+    let before = repeated(alloc, EAN8, labels)?;
+    assert!(rt; out.sink().device().bytes() == before.as_slice());
+    assert!(rt; out.held() == EAN8);
+    assert!(rt; err.bytes().len() == 26usize.saturating_mul(messages));
+    assert!(rt; REFUSED_IN_TURN.starts_with(err.bytes()));
+    assert!(rt; out.send_on().is_ok());
+    assert!(rt; out.sink().device().bytes().starts_with(before.as_slice()));
+    assert!(rt; out.sink().device().bytes().ends_with(EAN8));
+    Ok(())
+}
+
+#[test]
+fn each_sending_before_a_read_fails(rt: HostRuntime) -> Result<(), Fail> {
+    let alloc = rt.alloc();
+    // A byte a read: each label goes out before the read after its line.
+    assert_sending_fails(&rt, alloc, 1, 1, 0, 0)?;
+    assert_sending_fails(&rt, alloc, 1, 2, 1, 1)?;
+    assert_sending_fails(&rt, alloc, 1, 3, 2, 2)
+}
+
+#[test]
+fn each_sending_before_a_message_fails(rt: HostRuntime) -> Result<(), Fail> {
+    let alloc = rt.alloc();
+    // All lines in one read: a label goes out before the message after it, the last one before the next read.
+    assert_sending_fails(&rt, alloc, 4096, 1, 0, 0)?;
+    assert_sending_fails(&rt, alloc, 4096, 2, 1, 1)?;
+    assert_sending_fails(&rt, alloc, 4096, 3, 2, 2)
+}

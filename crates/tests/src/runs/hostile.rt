@@ -1,0 +1,214 @@
+//! Hostile use: devices that fail at each call or at each byte, very long lines, every byte, and input that breaks off.
+use crate::runs::support::{
+    EAN8, REFUSALS, answer_of, assert_came_to, first_lines, joined, line_ends, low, refused_lines,
+    repeated, run_by,
+};
+use filter::{RunFault, Status};
+use labelcore::{FailAt, MemSink, MemSource, Options};
+use std::alloc::{AllocError, Global};
+use std::process::Abort;
+use std::test::Fail;
+
+#[test]
+fn every_limit_of_the_images(rt: HostRuntime) -> Result<(), Fail> {
+    let all = joined(rt.alloc(), &[EAN8, EAN8])?;
+    assert!(rt; all.len() == 182);
+    for limit in 0..183 {
+        let mut source = MemSource::new(b"ean8 7351353\nean8 7351353\n", 4096, false);
+        let mut out: MemSink<182> = MemSink::new(182, limit);
+        let mut err: MemSink<1> = MemSink::new(1, 1);
+        let answer = answer_of(low(&rt, false), &mut source, &mut out, &mut err);
+        assert!(rt; all.starts_with(out.bytes()));
+        assert!(rt; out.bytes().len() == limit);
+        let want = if limit < 182 {
+            Err(RunFault::WriteOut)
+        } else {
+            Ok(Status::Clean)
+        };
+        assert!(rt; answer == want);
+    }
+    Ok(())
+}
+
+#[test]
+fn every_limit_of_the_messages(rt: HostRuntime) {
+    let all = b"line 1: unknown symbology\nline 2: unknown symbology\n";
+    assert!(rt; all.len() == 52);
+    for limit in 0..53 {
+        let mut source = MemSource::new(b"pdf x\npdf x\n", 4096, false);
+        let mut out: MemSink<1> = MemSink::new(1, 1);
+        let mut err: MemSink<52> = MemSink::new(52, limit);
+        let answer = answer_of(low(&rt, false), &mut source, &mut out, &mut err);
+        assert!(rt; all.starts_with(err.bytes()));
+        assert!(rt; err.bytes().len() == limit);
+        let want = if limit < 52 {
+            Err(RunFault::WriteMessages)
+        } else {
+            Ok(Status::Refused)
+        };
+        assert!(rt; answer == want);
+    }
+}
+
+/// A run whose devices fail at these calls, counted from 1; 0 is none. Each read and each write moves one byte.
+#[derive(Drop)]
+struct FailedRun<'a> {
+    answer: Result<Status, RunFault>,
+    source: FailAt<MemSource<'a>>,
+    out: FailAt<MemSink<91>>,
+    err: FailAt<MemSink<39>>,
+}
+
+impl<'a> FailedRun<'a> {
+    fn new(options: Options, input: &'a [u8], read: u64, out: u64, err: u64) -> Self {
+        let mut source = FailAt::new(MemSource::new(input, 1, false), read);
+        let mut out = FailAt::new(MemSink::new(1, 91), out);
+        let mut err = FailAt::new(MemSink::new(1, 39), err);
+        let answer = answer_of(options, &mut source, &mut out, &mut err);
+        FailedRun {
+            answer,
+            source,
+            out,
+            err,
+        }
+    }
+
+    /// It answered this, after so many calls of each device, and the sinks hold so many bytes of their texts.
+    fn assert(
+        &self,
+        rt: &impl Abort,
+        answer: RunFault,
+        calls: (u64, u64, u64),
+        held: (usize, usize),
+    ) {
+        assert!(rt; self.answer == Err(answer));
+        assert!(rt; self.source.calls() == calls.0);
+        assert!(rt; self.out.calls() == calls.1);
+        assert!(rt; self.err.calls() == calls.2);
+        let out = self.out.device().bytes();
+        let err = self.err.device().bytes();
+        assert!(rt; out.len() == held.0 && err.len() == held.1);
+        assert!(rt; EAN8.starts_with(out));
+        assert!(rt; TOO_LONG.starts_with(err));
+    }
+}
+
+/// The message of the line that is too long.
+const TOO_LONG: &[u8] = b"line 1: line is longer than 1100 bytes\n";
+
+/// A line that is too long, a long comment and a label.
+fn long_lines(alloc: Global, letters: &[u8], comment: &[u8]) -> Result<Vec<u8>, AllocError> {
+    joined(alloc, &[letters, b"\n#", comment, b"\nean8 7351353"])
+}
+
+/// A line of 1,101 letters, a comment of 2,000 and a label.
+fn rather_long_lines(alloc: Global) -> Result<Vec<u8>, AllocError> {
+    let letters = repeated(alloc, b"a", 1101)?;
+    let comment = repeated(alloc, b"a", 2000)?;
+    long_lines(alloc, letters.as_slice(), comment.as_slice())
+}
+
+#[test]
+fn each_read_fails(rt: HostRuntime) -> Result<(), Fail> {
+    let input = rather_long_lines(rt.alloc())?;
+    assert!(rt; input.len() == 3116);
+    for call in 1..3118 {
+        let failed = FailedRun::new(low(&rt, false), input.as_slice(), call, 0, 0);
+        let err = if call <= 1102 { 0 } else { 39 };
+        failed.assert(&rt, RunFault::Read, (call, 0, err as u64), (0, err));
+    }
+    Ok(())
+}
+
+#[test]
+fn each_write_of_the_image_and_its_flush_fail(rt: HostRuntime) -> Result<(), Fail> {
+    let input = rather_long_lines(rt.alloc())?;
+    for call in 1..93 {
+        let failed = FailedRun::new(low(&rt, false), input.as_slice(), 0, call, 0);
+        failed.assert(
+            &rt,
+            RunFault::WriteOut,
+            (3117, call, 39),
+            (call as usize - 1, 39),
+        );
+    }
+    Ok(())
+}
+
+#[test]
+fn each_write_of_the_message_and_its_flush_fail(rt: HostRuntime) -> Result<(), Fail> {
+    let input = rather_long_lines(rt.alloc())?;
+    for call in 1..40 {
+        let failed = FailedRun::new(low(&rt, false), input.as_slice(), 0, 0, call);
+        failed.assert(
+            &rt,
+            RunFault::WriteMessages,
+            (1102, 0, call),
+            (0, call as usize - 1),
+        );
+    }
+    let failed = FailedRun::new(low(&rt, false), input.as_slice(), 0, 0, 40);
+    failed.assert(&rt, RunFault::WriteMessages, (3117, 92, 40), (91, 39));
+    Ok(())
+}
+
+#[test]
+fn lines_of_ten_million_letters(rt: HostRuntime) -> Result<(), Fail> {
+    let alloc = rt.alloc();
+    let thousand = repeated(alloc, b"a", 1000)?;
+    let letters = repeated(alloc, thousand.as_slice(), 10_000)?;
+    assert!(rt; letters.len() == 10_000_000);
+    let input = long_lines(alloc, letters.as_slice(), letters.as_slice())?;
+    let mut source = MemSource::new(input.as_slice(), 4096, false);
+    let mut out: MemSink<91> = MemSink::new(91, 91);
+    let mut err: MemSink<39> = MemSink::new(39, 39);
+    let answer = answer_of(low(&rt, false), &mut source, &mut out, &mut err);
+    assert!(rt; answer == Ok(Status::Refused));
+    assert!(rt; out.bytes() == EAN8);
+    assert!(rt; err.bytes() == TOO_LONG);
+    Ok(())
+}
+
+#[test]
+fn every_byte(rt: HostRuntime) -> Result<(), Fail> {
+    let alloc = rt.alloc();
+    let mut input = Vec::new(alloc);
+    for byte in 0..=255u8 {
+        input.extend_from_slice(b"code128 ")?;
+        input.push(byte)?;
+        input.push(b'\n')?;
+    }
+    let mut messages = joined(alloc, &[b"line 11: no data\n"])?;
+    for line in 130..258 {
+        let message = format!(in alloc; "line {line}: byte 1 is not ASCII\n")?;
+        messages.extend_from_slice(message.as_bytes())?;
+    }
+    let came = run_by(alloc, low(&rt, false), input.as_slice(), 4096);
+    assert!(rt; came.out.len() == 9525);
+    for image in came.out.as_slice().chunks(75) {
+        assert!(rt; image.starts_with(b"P1\n66 1\n"));
+    }
+    assert_came_to(&rt, &came, came.out.as_slice(), messages.as_slice());
+    Ok(())
+}
+
+#[test]
+fn input_that_breaks_off(rt: HostRuntime) -> Result<(), Fail> {
+    let alloc = rt.alloc();
+    let input = refused_lines(alloc)?;
+    for end in 0..input.len() {
+        let front = &input.as_slice()[..end];
+        let came = run_by(alloc, low(&rt, true), front, 4096);
+        let same = run_by(alloc, low(&rt, true), front, 1);
+        assert!(rt; came.answer.is_ok());
+        assert!(rt; came.answer == same.answer);
+        assert!(rt; came.out.as_slice() == same.out.as_slice());
+        assert!(rt; came.err.as_slice() == same.err.as_slice());
+        let ended = line_ends(front);
+        let told = came.err.as_slice();
+        assert!(rt; first_lines(told, ended) == first_lines(REFUSALS, ended));
+        let lines = line_ends(told);
+        assert!(rt; lines == ended || lines == ended.saturating_add(1));
+    }
+    Ok(())
+}

@@ -1,0 +1,363 @@
+//! The words of the command line, the file that they name, and how the program ends.
+use command::{Choice, End, OpenFault, WordsFault, open_file, options_of};
+use filter::{RunFault, Status, run};
+use labelcore::{Format, Level, MemSink, Options};
+use std::alloc::{AllocError, Global};
+use std::fs;
+use std::process::Abort;
+use std::rt::Files;
+use std::test::Fail;
+
+/// The image of `ean8 7351353`, one module high.
+const EAN8: &[u8] =
+    b"P1\n81 1\n0000000101011101101111010110001001100101010100001010011101000010100010\n01010000000\n";
+
+/// The words of a command line.
+fn words_of(alloc: Global, texts: &[&str]) -> Result<Vec<String>, AllocError> {
+    let mut words = Vec::new(alloc);
+    for text in texts {
+        words.push(String::from_str(alloc, text)?)?;
+    }
+    Ok(words)
+}
+
+/// What words choose.
+fn choice_of(alloc: Global, texts: &[&str]) -> Result<Choice, Fail> {
+    let words = words_of(alloc, texts)?;
+    Ok(options_of(alloc, words.as_slice())?)
+}
+
+/// Whether words are refused as bad.
+fn are_bad(alloc: Global, texts: &[&str]) -> Result<bool, AllocError> {
+    let words = words_of(alloc, texts)?;
+    Ok(matches!(&options_of(alloc, words.as_slice()), Err(WordsFault::Bad)))
+}
+
+#[test]
+fn refuses_words(rt: HostRuntime) -> Result<(), Fail> {
+    let alloc = rt.alloc();
+    assert!(rt; are_bad(alloc, &["--scale", "9"])?);
+    assert!(rt; are_bad(alloc, &["--level", "l"])?);
+    assert!(rt; are_bad(alloc, &["--level", "Q", "--level", "M"])?);
+    assert!(rt; are_bad(alloc, &["--height"])?);
+    assert!(rt; are_bad(alloc, &["--mask", "8"])?);
+    assert!(rt; are_bad(alloc, &["a", "b"])?);
+    Ok(())
+}
+
+#[test]
+fn names_settings(rt: HostRuntime) -> Result<(), Fail> {
+    let alloc = rt.alloc();
+    let plain = choice_of(alloc, &[])?;
+    let default = Options::new(Format::Pbm, 1, 50, Level::M, 1, None, false);
+    assert!(rt; Some(plain.options) == default && plain.file.is_none());
+    let all = [
+        "--format",
+        "ascii",
+        "--scale=8",
+        "--height",
+        "1",
+        "--level",
+        "H",
+        "--min-version",
+        "10",
+        "--mask",
+        "0",
+        "--escapes",
+        "-",
+    ];
+    let all = choice_of(alloc, all.as_slice())?;
+    assert!(rt;
+        Some(all.options) == Options::new(Format::Ascii, 8, 1, Level::H, 10, Some(0), true)
+    );
+    assert!(rt; all.file.as_ref().is_some_and(|name| name.as_str() == "-"));
+    Ok(())
+}
+
+/// The words of worked labels, and the options that the tests of the filter draw these labels with.
+#[test]
+fn names_the_options_of_worked_labels(rt: HostRuntime) -> Result<(), Fail> {
+    let alloc = rt.alloc();
+    for (words, format, scale, height, level, min_version, mask, escapes) in [
+        (
+            ["--height", "1"].as_slice(),
+            Format::Pbm,
+            1,
+            1,
+            Level::M,
+            1,
+            None,
+            false,
+        ),
+        (
+            ["--height", "1", "--escapes"].as_slice(),
+            Format::Pbm,
+            1,
+            1,
+            Level::M,
+            1,
+            None,
+            true,
+        ),
+        (
+            ["--height", "1", "--scale", "7"].as_slice(),
+            Format::Pbm,
+            7,
+            1,
+            Level::M,
+            1,
+            None,
+            false,
+        ),
+        (
+            ["--height", "1", "--format", "ascii"].as_slice(),
+            Format::Ascii,
+            1,
+            1,
+            Level::M,
+            1,
+            None,
+            false,
+        ),
+        (
+            ["--height", "1", "--scale", "8", "--format", "ascii"].as_slice(),
+            Format::Ascii,
+            8,
+            1,
+            Level::M,
+            1,
+            None,
+            false,
+        ),
+        (
+            ["--escapes"].as_slice(),
+            Format::Pbm,
+            1,
+            50,
+            Level::M,
+            1,
+            None,
+            true,
+        ),
+        (
+            ["--level", "L"].as_slice(),
+            Format::Pbm,
+            1,
+            50,
+            Level::L,
+            1,
+            None,
+            false,
+        ),
+        (
+            ["--level", "Q"].as_slice(),
+            Format::Pbm,
+            1,
+            50,
+            Level::Q,
+            1,
+            None,
+            false,
+        ),
+        (
+            ["--level", "H"].as_slice(),
+            Format::Pbm,
+            1,
+            50,
+            Level::H,
+            1,
+            None,
+            false,
+        ),
+        (
+            ["--level", "H", "--height", "1"].as_slice(),
+            Format::Pbm,
+            1,
+            1,
+            Level::H,
+            1,
+            None,
+            false,
+        ),
+        (
+            ["--level", "Q", "--min-version", "5"].as_slice(),
+            Format::Pbm,
+            1,
+            50,
+            Level::Q,
+            5,
+            None,
+            false,
+        ),
+        (
+            ["--level", "Q", "--mask", "6"].as_slice(),
+            Format::Pbm,
+            1,
+            50,
+            Level::Q,
+            1,
+            Some(6),
+            false,
+        ),
+        (
+            ["--mask", "2"].as_slice(),
+            Format::Pbm,
+            1,
+            50,
+            Level::M,
+            1,
+            Some(2),
+            false,
+        ),
+        (
+            ["--mask", "2", "--format", "ascii"].as_slice(),
+            Format::Ascii,
+            1,
+            50,
+            Level::M,
+            1,
+            Some(2),
+            false,
+        ),
+    ] {
+        let named = Options::new(format, scale, height, level, min_version, mask, escapes);
+        assert!(rt; Some(choice_of(alloc, words)?.options) == named);
+    }
+    Ok(())
+}
+
+#[test]
+fn helps(rt: HostRuntime) -> Result<(), Fail> {
+    let alloc = rt.alloc();
+    let words = words_of(alloc, &["--help"])?;
+    match options_of(alloc, words.as_slice()) {
+        Err(WordsFault::Help(text)) => {
+            for part in [
+                "\nUsage: labels [OPTIONS] [FILE]\n",
+                "--format <pbm|ascii>",
+                "--height <1-500>",
+                "[default: 50]",
+                "\nLines: NAME[,KEY=VALUE].. DATA",
+                "\n  ean13 ",
+                "\n  ean8 ",
+                "\n  upca ",
+                "\n  code128 ",
+                "\n  qr ",
+                "\nStatus: 0 ",
+            ] {
+                assert!(rt; text.as_str().contains(part));
+            }
+        }
+        _ => panic!(rt; "no help"),
+    }
+    Ok(())
+}
+
+#[test]
+fn shows_faults(rt: HostRuntime) -> Result<(), Fail> {
+    let alloc = rt.alloc();
+    let faults = [
+        RunFault::Read,
+        RunFault::WriteOut,
+        RunFault::WriteMessages,
+        RunFault::Spent,
+    ];
+    let texts = [
+        "read failed",
+        "write failed",
+        "message write failed",
+        "filter is spent",
+    ];
+    for (fault, text) in faults.iter().zip(texts.iter()) {
+        let shown = format!(in alloc; "{fault}")?;
+        assert!(rt; shown.as_str() == *text);
+    }
+    Ok(())
+}
+
+#[test]
+fn finds_no_file(rt: HostRuntime) {
+    let opened = open_file(&rt, rt.alloc(), "there-is-no-such-file");
+    assert!(rt; matches!(&opened, Err(OpenFault::NoFile)));
+    assert!(rt; End::NoFile.line() == "labels: cannot open file\n" && End::NoFile.status() == 3);
+}
+
+#[test]
+fn ends(rt: HostRuntime) {
+    for (end, status, line) in [
+        (End::Ran(Ok(Status::Clean)), 0, ""),
+        (End::Ran(Ok(Status::Refused)), 1, ""),
+        (End::Ran(Err(RunFault::Read)), 3, "labels: read failed\n"),
+        (
+            End::Ran(Err(RunFault::WriteOut)),
+            3,
+            "labels: write failed\n",
+        ),
+        (
+            End::Ran(Err(RunFault::WriteMessages)),
+            3,
+            "labels: write failed\n",
+        ),
+        (End::Helped, 0, ""),
+        (End::BadWords, 2, "labels: bad words\n"),
+        (End::NoFile, 3, "labels: cannot open file\n"),
+        (End::NoMemory, 3, "labels: no memory\n"),
+    ] {
+        assert_eq!(rt; end.status(), status);
+        assert!(rt; end.line() == line);
+    }
+}
+
+const NAME: &str = "one-label.txt";
+
+/// The run of one label over a file, or `None` where memory ran out before it.
+fn run_of_file<R: Abort + Files>(
+    rt: &R,
+    alloc: Global,
+    words: &[String],
+    out: &mut MemSink<91>,
+) -> Option<Result<Status, RunFault>> {
+    let choice = match options_of(alloc, words) {
+        Ok(choice) => choice,
+        Err(WordsFault::Memory) => return None,
+        Err(_) => panic!(rt; "words refused"),
+    };
+    let Some(name) = &choice.file else {
+        panic!(rt; "no file");
+    };
+    let mut source = match open_file(rt, alloc, name.as_str()) {
+        Ok(source) => source,
+        Err(OpenFault::Memory) => return None,
+        Err(OpenFault::NoFile) => panic!(rt; "not opened"),
+    };
+    let mut err: MemSink<1> = MemSink::new(1, 1);
+    Some(run(choice.options, &mut source, out, &mut err))
+}
+
+#[test]
+fn runs_over_a_file_or_has_no_memory(rt: HostRuntime) -> Result<(), Fail> {
+    let alloc = rt.alloc();
+    fs::write(&rt, NAME, "ean8 7351353\n")?;
+    let words = words_of(alloc, &["--height", "1", NAME])?;
+    let mut out: MemSink<91> = MemSink::new(91, 91);
+    match run_of_file(&rt, alloc, words.as_slice(), &mut out) {
+        Some(answer) => {
+            assert_eq!(rt; answer, Ok(Status::Clean));
+            assert_eq!(rt; out.bytes(), EAN8);
+        }
+        None => assert_eq!(rt; out.bytes(), b"".as_slice()),
+    }
+    Ok(())
+}
+
+#[test]
+fn runs_over_a_file(rt: HostRuntime) -> Result<(), Fail> {
+    let alloc = rt.alloc();
+    fs::write(&rt, "a-label.txt", "ean8 7351353\n")?;
+    let words = words_of(alloc, &["--height", "1", "a-label.txt"])?;
+    let mut out: MemSink<91> = MemSink::new(91, 91);
+    let answer = run_of_file(&rt, alloc, words.as_slice(), &mut out);
+    assert_eq!(rt; answer, Some(Ok(Status::Clean)));
+    assert_eq!(rt; out.bytes(), EAN8);
+    Ok(())
+}
