@@ -22,7 +22,7 @@ import textwrap
 TOP = os.path.dirname(os.path.dirname(os.path.abspath(__file__)))
 ROOT = ("filter", "Run", "RunsWhole")
 # The crates in the order in which a reader meets them, from the headline down.
-CRATES = ["filter", "labelcore", "picture", "linear", "qrmatrix", "qrdata", "gf256", "labels"]
+CRATES = ["filter", "labelcore", "picture", "linear", "qrmatrix", "qrdata", "gf256", "command"]
 PAGE = os.path.join(TOP, "docs", "DEFINITIONS.md")
 MARKS = [("<!-- believed: begin -->", "<!-- believed: end -->"), ("<!-- other: begin -->", "<!-- other: end -->")]
 

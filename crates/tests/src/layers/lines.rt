@@ -171,6 +171,21 @@ fn escapes_are_read(rt: HostRuntime) {
     assert!(rt; item == Item::Draw(Symbology::Code128, plain, b"a\\x01b"));
 }
 
+/// The message of a refusal is this text.
+fn assert_message(rt: &impl Abort, number: u64, fault: &Fault, want: &[u8]) {
+    let mut sink = MemSink::<128>::new(7, 128);
+    assert!(rt; write_fault(number, fault, &mut sink).is_ok());
+    assert!(rt; sink.bytes() == want);
+}
+
+/// A sink of ten bytes gets the first ten of this text.
+fn assert_cut_message(rt: &impl Abort, number: u64, fault: &Fault, want: &[u8]) {
+    let mut sink = MemSink::<128>::new(7, 10);
+    assert!(rt; write_fault(number, fault, &mut sink).is_err());
+    assert!(rt; Some(sink.bytes()) == want.get(..10));
+    assert!(rt; sink.failures() == 1);
+}
+
 #[test]
 fn messages_are_written(rt: HostRuntime) {
     for (number, fault, want) in [
@@ -231,26 +246,29 @@ fn messages_are_written(rt: HostRuntime) {
             b"line 18446744073709551615: bad value in setting 2\n".as_slice(),
         ),
     ] {
-        let mut sink = MemSink::<128>::new(7, 128);
-        assert!(rt; write_fault(number, &fault, &mut sink).is_ok());
-        assert!(rt; sink.bytes() == want);
-        let mut sink = MemSink::<128>::new(7, 10);
-        assert!(rt; write_fault(number, &fault, &mut sink).is_err());
-        assert!(rt; Some(sink.bytes()) == want.get(..10));
-        assert!(rt; sink.failures() == 1);
+        assert_message(&rt, number, &fault, want);
+        assert_cut_message(&rt, number, &fault, want);
     }
 }
 
 #[test]
-fn memory_gives_and_takes(rt: HostRuntime) {
+fn memory_gives_its_bytes(rt: HostRuntime) {
     let mut buf = [0; 4];
     let mut source = MemSource::new(b"abcde", 3, false);
     assert!(rt; gives(&mut source, &mut buf, 3));
     assert!(rt; buf == *b"abc\0");
     assert!(rt; gives(&mut source, &mut buf, 2));
     assert!(rt; gives(&mut source, &mut buf, 0));
+}
+
+#[test]
+fn memory_fails_after_its_bytes(rt: HostRuntime) {
     let mut source = MemSource::new(b"", 1, true);
-    assert!(rt; gives_none(&mut source, &mut buf));
+    assert!(rt; gives_none(&mut source, &mut [0; 4]));
+}
+
+#[test]
+fn memory_takes_bytes_up_to_its_limit(rt: HostRuntime) {
     let mut sink = MemSink::<8>::new(2, 3);
     assert!(rt; takes_some(&mut sink, b"abc", 2));
     assert!(rt; !takes(&mut sink, b"cd"));

@@ -30,12 +30,15 @@ fn pieces(rt: HostRuntime) {
     let mut filter = Filter::new(low(&rt, false));
     let mut out: MemSink<200> = MemSink::new(7, 200);
     let mut err: MemSink<200> = MemSink::new(200, 200);
-    assert!(rt; feed_piece(&mut filter, b"", &mut out, &mut err).is_ok());
-    assert!(rt; feed_piece(&mut filter, b"ean8 73", &mut out, &mut err).is_ok());
-    assert!(rt; out.bytes().is_empty());
-    assert!(rt; feed_piece(&mut filter, b"51353\nqr", &mut out, &mut err).is_ok());
-    assert!(rt; out.bytes() == EAN8);
-    assert!(rt; err.bytes().is_empty());
+    for (piece, images) in [
+        (b"".as_slice(), b"".as_slice()),
+        (b"ean8 73".as_slice(), b"".as_slice()),
+        (b"51353\nqr".as_slice(), EAN8),
+    ] {
+        assert!(rt; feed_piece(&mut filter, piece, &mut out, &mut err).is_ok());
+        assert!(rt; out.bytes() == images);
+        assert!(rt; err.bytes().is_empty());
+    }
     assert!(rt; finish(filter, &mut out, &mut err) == Ok(Status::Refused));
     assert!(rt; out.bytes() == EAN8);
     assert!(rt; err.bytes() == b"line 2: no data\n".as_slice());

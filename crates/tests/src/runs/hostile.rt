@@ -169,20 +169,31 @@ fn lines_of_ten_million_letters(rt: HostRuntime) -> Result<(), Fail> {
     Ok(())
 }
 
-#[test]
-fn every_byte(rt: HostRuntime) -> Result<(), Fail> {
-    let alloc = rt.alloc();
-    let mut input = Vec::new(alloc);
+/// A line of each byte as its data; 10 ends its line early.
+fn lines_of_each_byte(alloc: Global) -> Result<Vec<u8>, AllocError> {
+    let mut lines = Vec::new(alloc);
     for byte in 0..=255u8 {
-        input.extend_from_slice(b"code128 ")?;
-        input.push(byte)?;
-        input.push(b'\n')?;
+        lines.extend_from_slice(b"code128 ")?;
+        lines.extend_from_slice(&[byte, b'\n'])?;
     }
+    Ok(lines)
+}
+
+/// What these lines are told.
+fn messages_of_each_byte(alloc: Global) -> Result<Vec<u8>, AllocError> {
     let mut messages = joined(alloc, &[b"line 11: no data\n"])?;
     for line in 130..258 {
         let message = format!(in alloc; "line {line}: byte 1 is not ASCII\n")?;
         messages.extend_from_slice(message.as_bytes())?;
     }
+    Ok(messages)
+}
+
+#[test]
+fn every_byte(rt: HostRuntime) -> Result<(), Fail> {
+    let alloc = rt.alloc();
+    let input = lines_of_each_byte(alloc)?;
+    let messages = messages_of_each_byte(alloc)?;
     let came = run_by(alloc, low(&rt, false), input.as_slice(), 4096);
     assert!(rt; came.out.len() == 9525);
     for image in came.out.as_slice().chunks(75) {
