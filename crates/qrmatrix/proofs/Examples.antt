@@ -93,7 +93,8 @@ module_of_rows mask x y lm =
           elim (cases_lt x 21) [
             | inl lx ↦
                 sym (ap (λ w. bit w x) at
-                ∙ same_beq _ _ (all_below_at 21 (λ x. beq (bit (row mask y) x) (module_at 1 M mask codewords x y)) parts.1 x lx))
+                ∙ same_beq _ _
+                (all_below_at 21 (λ x. beq (bit (row mask y) x) (module_at 1 M mask codewords x y)) parts.1 x lx))
             | inr gx ↦
                 module_outside 1 M mask codewords x y (rw (le-ltb x 21 gx) refl)
                 ∙ sym (ap (λ w. bit w x) at ∙ above_bit (row mask y) 21 x (ltb-true _ _ parts.0) gx)

@@ -22,7 +22,7 @@ use Rattle.qrmatrix.specs.Functions.{Role, Function, Format, Version, Free, form
 use Rattle.qrmatrix.specs.Functions.{is_free_role}
 use Rattle.qrmatrix.specs.Information.{format_word, version_word}
 use Rattle.qrmatrix.specs.declared.function.PatternRow.{PatternRow}
-use Rattle.qrmatrix.proofs.EachVersion.{by_version}
+use Rattle.qrmatrix.proofs.ByVersion.{by_version}
 use Rattle.qrmatrix.proofs.LeastMask.{mapped_all}
 use Rattle.qrmatrix.proofs.RowBits.{above_bit, one_bit, same_beq}
 use Rattle.qrmatrix.proofs.Sums.{all_below_at}
