@@ -89,7 +89,10 @@ places : (v : ℕ) → 1 ≤ v → v ≤ 10 → Places v
 unfolding walk key is_found is_below is_walked
 places =
     by_version Places
-    (refl, refl, refl, refl, refl) (refl, refl, refl, refl, refl) (refl, refl, refl, refl, refl) (refl, refl, refl, refl, refl) (refl, refl, refl, refl, refl) (refl, refl, refl, refl, refl) (refl, refl, refl, refl, refl) (refl, refl, refl, refl, refl) (refl, refl, refl, refl, refl) (refl, refl, refl, refl, refl)
+    (refl, refl, refl, refl, refl) (refl, refl, refl, refl, refl) (refl, refl, refl, refl, refl)
+    (refl, refl, refl, refl, refl) (refl, refl, refl, refl, refl) (refl, refl, refl, refl, refl)
+    (refl, refl, refl, refl, refl) (refl, refl, refl, refl, refl) (refl, refl, refl, refl, refl)
+    (refl, refl, refl, refl, refl)
 
 -- what is computed of words of rows
 abbrev Left : ℕ → List ℕ → Type 0
@@ -104,7 +107,9 @@ left : (v : ℕ) → 1 ≤ v → v ≤ 10 → Left v (taken_words v)
 unfolding walk is_left taken_words total_codewords remainder_bits version_word binary_remainder
 left =
     by_version (λ v. Left v (taken_words v))
-    (refl, refl, refl) (refl, refl, refl) (refl, refl, refl) (refl, refl, refl) (refl, refl, refl) (refl, refl, refl) (refl, refl, refl) (refl, refl, refl) (refl, refl, refl) (refl, refl, refl)
+    (refl, refl, refl) (refl, refl, refl) (refl, refl, refl) (refl, refl, refl)
+    (refl, refl, refl) (refl, refl, refl) (refl, refl, refl) (refl, refl, refl)
+    (refl, refl, refl) (refl, refl, refl)
 
 -- tests that agree inside pass the same places
 same_filter : (p q inside : ℕ × ℕ → Bool) → ((a : ℕ × ℕ) → inside a ≡ true → p a ≡ q a) → (xs : List (ℕ × ℕ))

@@ -22,6 +22,7 @@ use Rattle.qrmatrix.specs.Functions.{Role, Function, Format, Version, Free, form
 use Rattle.qrmatrix.specs.Functions.{is_free_role}
 use Rattle.qrmatrix.specs.Information.{format_word, version_word}
 use Rattle.qrmatrix.specs.declared.function.PatternRow.{PatternRow}
+use Rattle.qrmatrix.proofs.Alignments.{near_role, near_role_is}
 use Rattle.qrmatrix.proofs.ByVersion.{by_version}
 use Rattle.qrmatrix.proofs.LeastMask.{mapped_all}
 use Rattle.qrmatrix.proofs.RowBits.{above_bit, one_bit, same_beq}
@@ -67,10 +68,10 @@ right_place v row x r index =
     && (beq (bit row.dark x) (drawn_by v r) && same_index (index_of r) index)
 
 right_row : ℕ → ℕ → PatternRow → Bool
-unfolding right_place role format_bit same_index index_of
+unfolding right_place near_role format_bit same_index index_of
 right_row v y row =
     (nat_lt row.taken (2 ^ side_of v) && nat_lt row.dark (2 ^ side_of v))
-    && all_below (side_of v) (λ x. right_place v row x (role v x y) (format_bit (side_of v) x y))
+    && all_below (side_of v) (λ x. right_place v row x (near_role v x y) (format_bit (side_of v) x y))
 
 right_rows : ℕ → Bool
 unfolding right_row function_row
@@ -83,7 +84,7 @@ rows_right = by_version (λ v. right_rows v ≡ true) refl refl refl refl refl r
 
 -- what is right of a row
 record IsRight (v y : ℕ) (row : PatternRow) : Type 0 where
-  places : (x : ℕ) → x < side_of v → right_place v row x (role v x y) (format_bit (side_of v) x y) ≡ true
+  places : (x : ℕ) → x < side_of v → right_place v row x (near_role v x y) (format_bit (side_of v) x y) ≡ true
   narrow_taken : row.taken < 2 ^ side_of v
   narrow_dark : row.dark < 2 ^ side_of v
 
@@ -93,11 +94,11 @@ row_is_right v l h y ly =
     let row = function_row v y in
     let n = side_of v in
     let whole = and_parts (nat_lt row.taken (2 ^ n) && nat_lt row.dark (2 ^ n))
-    (all_below n (λ x. right_place v row x (role v x y) (format_bit n x y)))
+    (all_below n (λ x. right_place v row x (near_role v x y) (format_bit n x y)))
     (all_below_at n (λ y. right_row v y (function_row v y)) (rows_right v l h) y ly) in
     let narrow = and_parts (nat_lt row.taken (2 ^ n)) (nat_lt row.dark (2 ^ n)) whole.0 in
     record {
-      places = λ x lx. all_below_at n (λ x. right_place v row x (role v x y) (format_bit n x y)) whole.1 x lx;
+      places = λ x lx. all_below_at n (λ x. right_place v row x (near_role v x y) (format_bit n x y)) whole.1 x lx;
       narrow_taken = ltb-true _ _ narrow.0;
       narrow_dark = ltb-true _ _ narrow.1;
     }
@@ -123,7 +124,9 @@ has_role v row x r index h =
 
 role_at : (v : ℕ) → 1 ≤ v → v ≤ 10 → (x y : ℕ) → x < side_of v → y < side_of v
     → HasRole v (function_row v y) x (role v x y) (format_bit (side_of v) x y)
-role_at v l h x y lx ly = has_role v (function_row v y) x _ _ ((row_is_right v l h y ly).places x lx)
+role_at v l h x y lx ly =
+    subst (λ r. HasRole v (function_row v y) x r (format_bit (side_of v) x y)) (near_role_is v x y)
+    (has_role v (function_row v y) x _ _ ((row_is_right v l h y ly).places x lx))
 
 pub function_row_is : (v : ℕ) → 1 ≤ v → v ≤ 10 → (y : ℕ) → y < side_of v → HasFunctions v y (function_row v y)
 unfolding is_free
