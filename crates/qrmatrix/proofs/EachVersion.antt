@@ -1,30 +1,23 @@
 -- What is computed for each of the ten versions.
-use Rattle.std.proofs.Common.{◌≡◌, ℕ, zero, suc, ◌+◌, ◌-◌, ◌*◌, ◌≤◌, refl, arith}
-use Rattle.std.specs.Prelude.{map, Bool, true, cond, not, ◌&&◌, ◌||◌, ◌==◌, nat_lt, ◌/◌, ◌%◌, length}
+use Rattle.std.proofs.Common.{◌≡◌, ℕ, ◌+◌, ◌-◌, ◌*◌, ◌<◌, ◌≤◌, refl, sym, ap, ◌∙◌, arith, List, [], ◌∷◌}
+use Rattle.std.specs.Prelude.{map, Bool, true, cond, not, ◌&&◌, ◌||◌, ◌==◌, nat_lt, ◌/◌, ◌%◌, length, slice_index}
 use Rattle.std.specs.List.{range_with_len, list_all, filter}
-use Rattle.qrmatrix.specs.Counting.{all_below}
+use Rattle.std.proofs.lemmas.Bool.{and_parts, ltb-true}
+use Rattle.std.proofs.lemmas.List.FromFn.{get_or-map-range_with_len}
+use Rattle.qrmatrix.specs.Bits.{bit}
+use Rattle.qrmatrix.specs.Counting.{all_below, count_below, one_if, sum_below}
 use Rattle.qrdata.specs.Versions.{side_of, total_codewords}
-use Rattle.qrmatrix.specs.Functions.{is_free, role}
+use Rattle.qrmatrix.specs.Functions.{is_free}
 use Rattle.qrmatrix.specs.Placement.{key, free_count, remainder_bits}
+use Rattle.qrmatrix.specs.Information.{version_word}
+use Rattle.gf256.specs.BinaryPolynomial.{binary_remainder}
 use Rattle.qrmatrix.specs.Modules.{is_inside}
+use Rattle.qrmatrix.specs.Private.FunctionRows.{function_row}
 use Rattle.qrmatrix.specs.Reading.{walk}
-
--- a fact on each version
-pub by_version : (P : ℕ → Type 0) → P 1 → P 2 → P 3 → P 4 → P 5 → P 6 → P 7 → P 8 → P 9 → P 10 → (v : ℕ) → 1 ≤ v
-    → v ≤ 10 → P v
-by_version P p1 p2 p3 p4 p5 p6 p7 p8 p9 p10 (suc zero) l h = p1
-by_version P p1 p2 p3 p4 p5 p6 p7 p8 p9 p10 (suc (suc zero)) l h = p2
-by_version P p1 p2 p3 p4 p5 p6 p7 p8 p9 p10 (suc (suc (suc zero))) l h = p3
-by_version P p1 p2 p3 p4 p5 p6 p7 p8 p9 p10 (suc (suc (suc (suc zero)))) l h = p4
-by_version P p1 p2 p3 p4 p5 p6 p7 p8 p9 p10 (suc (suc (suc (suc (suc zero))))) l h = p5
-by_version P p1 p2 p3 p4 p5 p6 p7 p8 p9 p10 (suc (suc (suc (suc (suc (suc zero)))))) l h = p6
-by_version P p1 p2 p3 p4 p5 p6 p7 p8 p9 p10 (suc (suc (suc (suc (suc (suc (suc zero))))))) l h = p7
-by_version P p1 p2 p3 p4 p5 p6 p7 p8 p9 p10 (suc (suc (suc (suc (suc (suc (suc (suc zero)))))))) l h = p8
-by_version P p1 p2 p3 p4 p5 p6 p7 p8 p9 p10 (suc (suc (suc (suc (suc (suc (suc (suc (suc zero))))))))) l h = p9
-by_version P p1 p2 p3 p4 p5 p6 p7 p8 p9 p10 (suc (suc (suc (suc (suc (suc (suc (suc (suc (suc zero)))))))))) l h = p10
-by_version P p1 p2 p3 p4 p5 p6 p7 p8 p9 p10 zero l h = absurd (omega arith)
-by_version P p1 p2 p3 p4 p5 p6 p7 p8 p9 p10 (suc (suc (suc (suc (suc (suc (suc (suc (suc (suc (suc n))))))))))) l h =
-    absurd (omega arith)
+use Rattle.qrmatrix.proofs.ByVersion.{by_version}
+use Rattle.qrmatrix.proofs.FunctionWords.{function_row_is}
+use Rattle.qrmatrix.proofs.RowBits.{not_not}
+use Rattle.qrmatrix.proofs.Sums.{all_below_at, all_below_from, sum_below_same}
 
 -- the place of a key
 unfoldable pub place_column : ℕ → ℕ → ℕ
@@ -66,117 +59,106 @@ pub record Computed (v : ℕ) : Type 0 where
   pub area : length (filter (λ (p : ℕ × ℕ). is_free v p.0 p.1) (walk (side_of v))) ≡ 8 * total_codewords v
       + remainder_bits v
 
+-- the words of the rows of a version
+taken_words : ℕ → List ℕ
+unfolding function_row
+taken_words v = map (λ y. (function_row v y).taken) (range_with_len 0 (side_of v))
+
+-- whether words of rows leave a place free
+is_left : List ℕ → ℕ → ℕ → Bool
+is_left words x y = not (bit (slice_index words y) x)
+
+left_is : (v : ℕ) → 1 ≤ v → v ≤ 10 → (x y : ℕ) → x < side_of v → y < side_of v
+    → is_left (taken_words v) x y ≡ is_free v x y
+unfolding is_left taken_words
+left_is v l h x y lx ly =
+    ap (λ w. not (bit w x))
+    (get_or-map-range_with_len (λ y. (function_row v y).taken) 0 (side_of v) y y 0 ly (omega arith))
+    ∙ ap not ((function_row_is v l h y ly).taken x lx) ∙ not_not (is_free v x y)
+
+-- what is computed of keys and places
+abbrev Places : ℕ → Type 0
+Places v =
+    (map (λ (p : ℕ × ℕ). key (side_of v) p.0 p.1) (walk (side_of v)) ≡ range_with_len 0 (side_of v * (side_of v - 1)))
+    × (all_below (side_of v) (λ y. all_below (side_of v) (λ x. is_found (side_of v) x y)) ≡ true)
+    × (all_below (side_of v) (λ y. all_below (side_of v) (λ x. is_below (side_of v) x y)) ≡ true)
+    × (list_all (λ (p : ℕ × ℕ). is_walked (side_of v) p) (walk (side_of v)) ≡ true)
+    × (list_all (λ (p : ℕ × ℕ). is_inside (side_of v) p.0 p.1) (walk (side_of v)) ≡ true)
+
+places : (v : ℕ) → 1 ≤ v → v ≤ 10 → Places v
+unfolding walk key is_found is_below is_walked
+places =
+    by_version Places
+    (refl, refl, refl, refl, refl) (refl, refl, refl, refl, refl) (refl, refl, refl, refl, refl)
+    (refl, refl, refl, refl, refl) (refl, refl, refl, refl, refl) (refl, refl, refl, refl, refl)
+    (refl, refl, refl, refl, refl) (refl, refl, refl, refl, refl) (refl, refl, refl, refl, refl)
+    (refl, refl, refl, refl, refl)
+
+-- what is computed of words of rows
+abbrev Left : ℕ → List ℕ → Type 0
+Left v words =
+    (all_below (side_of v) (λ y. not (is_left words 6 y)) ≡ true)
+    × (sum_below (side_of v) (λ y. count_below (side_of v) (λ x. is_left words x y))
+    ≡ 8 * total_codewords v + remainder_bits v)
+    × (length (filter (λ (p : ℕ × ℕ). is_left words p.0 p.1) (walk (side_of v)))
+    ≡ 8 * total_codewords v + remainder_bits v)
+
+left : (v : ℕ) → 1 ≤ v → v ≤ 10 → Left v (taken_words v)
+unfolding walk is_left taken_words total_codewords remainder_bits version_word binary_remainder
+left =
+    by_version (λ v. Left v (taken_words v))
+    (refl, refl, refl) (refl, refl, refl) (refl, refl, refl) (refl, refl, refl)
+    (refl, refl, refl) (refl, refl, refl) (refl, refl, refl) (refl, refl, refl)
+    (refl, refl, refl) (refl, refl, refl)
+
+-- tests that agree inside pass the same places
+same_filter : (p q inside : ℕ × ℕ → Bool) → ((a : ℕ × ℕ) → inside a ≡ true → p a ≡ q a) → (xs : List (ℕ × ℕ))
+    → list_all inside xs ≡ true → filter p xs ≡ filter q xs
+same_filter p q inside h [] i = refl
+same_filter p q inside h (x ∷ xs) i =
+    let parts = and_parts (inside x) (list_all inside xs) i in
+    let here = h x parts.0 in
+    let rest = same_filter p q inside h xs parts.1 in
+    rw (here, rest) refl
+
+module _ (v : ℕ) (l : 1 ≤ v) (h : v ≤ 10) where
+  outside_rows : all_below (side_of v) (λ y. is_outside v y) ≡ true
+  unfolding is_outside
+  outside_rows =
+      all_below_from (side_of v) (λ y. is_outside v y)
+      (λ y ly. ap not (sym (left_is v l h 6 y (omega arith) ly))
+      ∙ all_below_at (side_of v) (λ y. not (is_left (taken_words v) 6 y)) (left v l h).0 y ly)
+
+  counted : free_count v ≡ 8 * total_codewords v + remainder_bits v
+  unfolding free_count
+  counted =
+      let words = taken_words v in
+      let n = side_of v in
+      sym (sum_below_same n (λ y. count_below n (λ x. is_left words x y)) (λ y. count_below n (λ x. is_free v x y))
+      (λ y ly. sum_below_same n (λ x. one_if (is_left words x y)) (λ x. one_if (is_free v x y))
+      (λ x lx. ap one_if (left_is v l h x y lx ly)))) ∙ (left v l h).1
+
+  filtered : length (filter (λ (p : ℕ × ℕ). is_free v p.0 p.1) (walk (side_of v)))
+      ≡ 8 * total_codewords v + remainder_bits v
+  filtered =
+      let n = side_of v in
+      let words = taken_words v in
+      sym (ap length (same_filter (λ (p : ℕ × ℕ). is_left words p.0 p.1) (λ (p : ℕ × ℕ). is_free v p.0 p.1)
+      (λ (p : ℕ × ℕ). is_inside n p.0 p.1)
+      (λ p i. let parts = and_parts (nat_lt p.0 n) (nat_lt p.1 n) i in
+      left_is v l h p.0 p.1 (ltb-true _ _ parts.0) (ltb-true _ _ parts.1))
+      (walk n) (places v l h).4)) ∙ (left v l h).2
+
 pub computed : (v : ℕ) → 1 ≤ v → v ≤ 10 → Computed v
-unfolding walk key is_found is_below is_outside is_walked is_free role free_count total_codewords remainder_bits
-computed =
-    by_version Computed
-    (record {
-      keys = refl;
-      found = refl;
-      below = refl;
-      outside = refl;
-      walked = refl;
-      inside = refl;
-      count =
-          refl;
-      area = refl;
-    })
-    (record {
-      keys = refl;
-      found = refl;
-      below = refl;
-      outside = refl;
-      walked = refl;
-      inside = refl;
-      count =
-          refl;
-      area = refl;
-    })
-    (record {
-      keys = refl;
-      found = refl;
-      below = refl;
-      outside = refl;
-      walked = refl;
-      inside = refl;
-      count =
-          refl;
-      area = refl;
-    })
-    (record {
-      keys = refl;
-      found = refl;
-      below = refl;
-      outside = refl;
-      walked = refl;
-      inside = refl;
-      count =
-          refl;
-      area = refl;
-    })
-    (record {
-      keys = refl;
-      found = refl;
-      below = refl;
-      outside = refl;
-      walked = refl;
-      inside = refl;
-      count =
-          refl;
-      area = refl;
-    })
-    (record {
-      keys = refl;
-      found = refl;
-      below = refl;
-      outside = refl;
-      walked = refl;
-      inside = refl;
-      count =
-          refl;
-      area = refl;
-    })
-    (record {
-      keys = refl;
-      found = refl;
-      below = refl;
-      outside = refl;
-      walked = refl;
-      inside = refl;
-      count =
-          refl;
-      area = refl;
-    })
-    (record {
-      keys = refl;
-      found = refl;
-      below = refl;
-      outside = refl;
-      walked = refl;
-      inside = refl;
-      count =
-          refl;
-      area = refl;
-    })
-    (record {
-      keys = refl;
-      found = refl;
-      below = refl;
-      outside = refl;
-      walked = refl;
-      inside = refl;
-      count =
-          refl;
-      area = refl;
-    })
-    (record {
-      keys = refl;
-      found = refl;
-      below = refl;
-      outside = refl;
-      walked = refl;
-      inside = refl;
-      count =
-          refl;
-      area = refl;
-    })
+computed v l h =
+    let p = places v l h in
+    record {
+      keys = p.0;
+      found = p.1;
+      below = p.2;
+      outside = outside_rows v l h;
+      walked = p.3;
+      inside = p.4;
+      count = counted v l h;
+      area = filtered v l h;
+    }

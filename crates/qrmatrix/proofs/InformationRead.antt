@@ -13,7 +13,7 @@ use Rattle.qrmatrix.specs.Information.{format_word, version_word}
 use Rattle.qrmatrix.specs.Modules.{is_inside}
 use Rattle.qrmatrix.specs.Reading.{format_copy_1, format_copy_2, version_copy_1, version_copy_2, word_at}
 use Rattle.qrmatrix.specs.Reading.{read_format_word, shows_version}
-use Rattle.qrmatrix.proofs.EachVersion.{by_version}
+use Rattle.qrmatrix.proofs.ByVersion.{by_version}
 
 -- a fact on each mask
 pub by_mask : (P : ℕ → Type 0) → P 0 → P 1 → P 2 → P 3 → P 4 → P 5 → P 6 → P 7 → (mask : ℕ) → mask < 8 → P mask

@@ -7,7 +7,7 @@ use Rattle.labelcore.specs.declared.options.Level.{Level}
 use Rattle.labelcore.specs.declared.options.Level.TheVariants.{L, M, Q, H}
 use Rattle.qrmatrix.specs.Information.{level_indicator, format_word, version_word, IsCodeword, FormatWordsAreListed}
 use Rattle.qrmatrix.specs.Information.{FormatWordsAreCodewords, VersionWordsAreListed, VersionWordsAreCodewords}
-use Rattle.qrmatrix.proofs.EachVersion.{by_version}
+use Rattle.qrmatrix.proofs.ByVersion.{by_version}
 use Rattle.qrmatrix.proofs.InformationRead.{by_mask}
 
 pub listed_format_words : FormatWordsAreListed

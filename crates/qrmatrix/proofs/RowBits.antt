@@ -143,7 +143,7 @@ pub one_bit_lowest : (i : ℕ) → bit 1 i ≡ (i == 0)
 one_bit_lowest zero = refl
 one_bit_lowest (suc i) = no_bit 1 (suc i) (bit_at-suc 1 i ∙ bit_at-zero i) ∙ sym (ne_eqb (suc i) 0 (λ e. omega arith))
 
-not_not : (b : Bool) → not (not b) ≡ b
+pub not_not : (b : Bool) → not (not b) ≡ b
 not_not true = refl
 not_not false = refl
 
