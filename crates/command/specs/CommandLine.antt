@@ -1,7 +1,7 @@
 -- The command line `labels [options] [FILE]`: which words it takes, and what they ask for
 -- (docs/SPECIFICATION.md, Options).
-use Rattle.std.specs.Prelude.{◌≡◌, ◌≤◌, ◌⊎◌, ◌++◌, ℕ, Bool, true, false, List, [], ◌∷◌, Option, Some, None, pos, codes}
-use Rattle.std.specs.Prelude.{if◌then◌else◌, option_map, option_and_then, unwrap_or, IfSome}
+use Rattle.std.specs.Prelude.{◌≡◌, ◌≤◌, ◌⊎◌, ◌++◌, ℕ, Bool, true, false, List, [], ◌∷◌, Option, Some, pos, codes}
+use Rattle.std.specs.Prelude.{option_map, option_and_then, unwrap_or, IfSome}
 use Rattle.std.specs.Option.{option_map_or}
 use Rattle.std.specs.Str.{bytes_eq}
 use Rattle.std.specs.Str.Parse.{IsNumeral, digits_value, without_leading_plus}
