@@ -1,11 +1,12 @@
 -- The command line `labels [options] [FILE]`: which words it takes, and what they ask for
 -- (docs/SPECIFICATION.md, Options).
-use Rattle.std.specs.Prelude.{◌≡◌, ◌≤◌, ◌⊎◌, ℕ, Bool, true, false, List, [], ◌∷◌, Option, Some, None, pos, codes}
-use Rattle.std.specs.Prelude.{if◌then◌else◌, option_map, option_and_then, unwrap_or, IfSome}
+use Rattle.std.specs.Prelude.{◌≡◌, ◌≤◌, ◌⊎◌, ◌++◌, ℕ, Bool, true, false, List, [], ◌∷◌, Option, Some, pos, codes}
+use Rattle.std.specs.Prelude.{option_map, option_and_then, unwrap_or, IfSome}
 use Rattle.std.specs.Option.{option_map_or}
 use Rattle.std.specs.Str.{bytes_eq}
 use Rattle.std.specs.Str.Parse.{IsNumeral, digits_value, without_leading_plus}
 use Rattle.clap.specs.Words.{App, Kinds, Row, Rule, Text, fault_of, first_of, matches_of, new_rule, one_of, one_text}
+use Rattle.clap.specs.Words.{with_rule}
 use Rattle.clap.specs.Simple.{new_shape}
 use Rattle.clap.specs.declared.builder.action.ArgAction.TheVariants.{SetTrue}
 use Rattle.clap.specs.declared.builder.value_parser.ValueParser.TheVariants as parser
@@ -36,19 +37,30 @@ switch name = record (new_rule name) { long = Some name; action = Some SetTrue }
 abbrev pub file_argument : Rule
 file_argument = record (new_rule (codes "file")) { value_names = 1 }
 
+-- the options of the pictures
+abbrev pub picture_options : List Rule
+picture_options = text_option (codes "format")
+    ∷ number_option (codes "scale") 1 8
+    ∷ number_option (codes "height") 1 500
+    ∷ []
+
+-- the options of QR symbols
+abbrev pub symbol_options : List Rule
+symbol_options = text_option (codes "level")
+    ∷ number_option (codes "min-version") 1 10
+    ∷ number_option (codes "mask") 0 7
+    ∷ []
+
+-- a command with these options more, after its own
+abbrev pub with_rules : App → List Rule → App
+with_rules a [] = a
+with_rules a (r ∷ rs) = with_rules (with_rule a r) rs
+
 -- the command reads words with no program's name before them
 abbrev pub command_line : App
 command_line = record {
   top = record (new_shape (codes "labels")) {
-    rules = text_option (codes "format")
-        ∷ number_option (codes "scale") 1 8
-        ∷ number_option (codes "height") 1 500
-        ∷ text_option (codes "level")
-        ∷ number_option (codes "min-version") 1 10
-        ∷ number_option (codes "mask") 0 7
-        ∷ switch (codes "escapes")
-        ∷ file_argument
-        ∷ [];
+    rules = picture_options ++ symbol_options ++ switch (codes "escapes") ∷ file_argument ∷ [];
     no_binary_name = true;
   };
   subs = [];

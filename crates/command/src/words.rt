@@ -3,7 +3,8 @@ ghost use Rattle.std.specs.Prelude.{◌≡◌, IfOk, map, string_bytes, codes};
 ghost use Rattle.clap.specs.Words.{app_of, first_value, found_of, kind_of, one_text, rows_of};
 ghost use Rattle.command.specs.CommandLine.{HoldsNumber, HoldsValues, command_line, format_of};
 ghost use Rattle.command.specs.CommandLine.{number_of, invocation_refused, invocation_of, run_of};
-ghost use Rattle.command.specs.CommandLine.{file_argument, options_named, switch, text_option};
+ghost use Rattle.command.specs.CommandLine.{file_argument, options_named, picture_options, symbol_options};
+ghost use Rattle.command.specs.CommandLine.{switch, text_option, with_rules};
 ghost use Rattle.clap.specs.Words.{built, rule_of};
 ghost use Rattle.command.specs.Answers.{Answers, Refuses};
 ghost use Rattle.std.specs.Prelude.{Some, false, option_map};
@@ -113,59 +114,68 @@ fn built_command<'a>(alloc: Global) -> Result<Command<'a>, AllocError>
 fn command<'a>(alloc: Global) -> Result<Command<'a>, AllocError>
     ensures { IfOk result (λ c. app_of c ≡ command_line) }
 {
-    let format = text_option(
-        alloc,
-        "format",
-        "pbm|ascii",
-        "The pictures, as plain PBM or as text [default: pbm]",
-    );
-    let scale = number_option(
-        alloc,
-        "scale",
-        "1-8",
-        value_parser!(u8).range(1..=8),
-        "The side of a module in pixels [default: 1]",
-    );
-    let height = number_option(
-        alloc,
-        "height",
-        "1-500",
-        value_parser!(u16).range(1..=500),
-        "The height of EAN, UPC and Code 128 symbols in modules [default: 50]",
-    );
-    let level = text_option(
-        alloc,
-        "level",
-        "L|M|Q|H",
-        "The error correction of QR symbols [default: M]",
-    );
-    let min_version = number_option(
-        alloc,
-        "min-version",
-        "1-10",
-        value_parser!(u8).range(1..=10),
-        "The least version of QR symbols [default: 1]",
-    );
-    let mask = number_option(
-        alloc,
-        "mask",
-        "0-7",
-        value_parser!(u8).range(0..=7),
-        "The mask of QR symbols [default: the one of the least penalty]",
-    );
-    let escapes = switch(alloc, "escapes", "Read \\\\, \\n and \\xHH in the data");
-    Command::new(alloc, "labels")
+    let command = Command::new(alloc, "labels")
         .no_binary_name(true)
         .about(ABOUT)
-        .after_help(AFTER_HELP)
-        .arg(format)?
-        .arg(scale)?
-        .arg(height)?
-        .arg(level)?
-        .arg(min_version)?
-        .arg(mask)?
-        .arg(escapes)?
+        .after_help(AFTER_HELP);
+    let command = with_pictures(alloc, command)?;
+    with_symbols(alloc, command)?
+        .arg(switch(alloc, "escapes", "Read \\\\, \\n and \\xHH in the data"))?
         .arg(file_argument(alloc))
+}
+
+/// Adds the options of the pictures.
+fn with_pictures<'a>(alloc: Global, command: Command<'a>) -> Result<Command<'a>, AllocError>
+    ensures { IfOk result (λ c. app_of c ≡ with_rules (app_of command.entry) picture_options) }
+{
+    command
+        .arg(text_option(
+            alloc,
+            "format",
+            "pbm|ascii",
+            "The pictures, as plain PBM or as text [default: pbm]",
+        ))?
+        .arg(number_option(
+            alloc,
+            "scale",
+            "1-8",
+            value_parser!(u8).range(1..=8),
+            "The side of a module in pixels [default: 1]",
+        ))?
+        .arg(number_option(
+            alloc,
+            "height",
+            "1-500",
+            value_parser!(u16).range(1..=500),
+            "The height of EAN, UPC and Code 128 symbols in modules [default: 50]",
+        ))
+}
+
+/// Adds the options of QR symbols.
+fn with_symbols<'a>(alloc: Global, command: Command<'a>) -> Result<Command<'a>, AllocError>
+    ensures { IfOk result (λ c. app_of c ≡ with_rules (app_of command.entry) symbol_options) }
+{
+    command
+        .arg(text_option(
+            alloc,
+            "level",
+            "L|M|Q|H",
+            "The error correction of QR symbols [default: M]",
+        ))?
+        .arg(number_option(
+            alloc,
+            "min-version",
+            "1-10",
+            value_parser!(u8).range(1..=10),
+            "The least version of QR symbols [default: 1]",
+        ))?
+        .arg(number_option(
+            alloc,
+            "mask",
+            "0-7",
+            value_parser!(u8).range(0..=7),
+            "The mask of QR symbols [default: the one of the least penalty]",
+        ))
 }
 
 fn format_of(text: &str) -> Option<Format>
