@@ -13,4 +13,5 @@ returns c =
     let escapes_is : rule_of c.switch.result ≡ switch (codes "escapes") = c.switch.ensures.rule in
     let escapes = c.in_ok-arg.ensures.shape c.switch.ensures.local ∙ ap₂ with_rule symbols escapes_is in
     let file_is : rule_of c.file_argument.result ≡ file_argument = c.file_argument.ensures.rule in
-    IfOk-weaker c.arg-2.result _ _ (λ d h. h.shape c.file_argument.ensures.local ∙ ap₂ with_rule escapes file_is) c.arg-2.ensures
+    IfOk-weaker c.arg-2.result _ _ (λ d h. h.shape c.file_argument.ensures.local ∙ ap₂ with_rule escapes file_is)
+    c.arg-2.ensures

@@ -21,4 +21,5 @@ returns c =
     { parser = Some p }) to_7 in
     let one = c.in_ok-arg.ensures.shape c.text_option.ensures.local ∙ ap (with_rule _) level_is in
     let two = c.in_ok-arg-2.ensures.shape c.number_option.ensures.local ∙ ap₂ with_rule one min_version_is in
-    IfOk-weaker c.arg-3.result _ _ (λ d h. h.shape c.number_option-2.ensures.local ∙ ap₂ with_rule two mask_is) c.arg-3.ensures
+    IfOk-weaker c.arg-3.result _ _ (λ d h. h.shape c.number_option-2.ensures.local ∙ ap₂ with_rule two mask_is)
+    c.arg-3.ensures
