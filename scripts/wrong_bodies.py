@@ -5,7 +5,8 @@ usage: scripts/wrong_bodies.py [--built] [CRATE ..]
 
 A wrong body is a file like a must-fail edit, with one line more. `refused: FUNCTION` names the function whose proof has
 to fail, by its path below the crate, as a check prints it. `file: FILE` and pairs of `old: TEXT` and `new: TEXT` change
-the code; each TEXT stands in the file once.
+the code; each TEXT stands in the file once. `alone: WHY` keeps it apart from others, as a constant that several
+functions read.
 
 `rt` tries each must-fail edit by a check of the crate. Here one check tries many: a proof reads of other functions their
 contracts alone, so wrong bodies of several functions stand in one copy of the crate, and the check tells of each function
@@ -46,6 +47,7 @@ class WrongBody:
     name: str
     functions: list
     changes: list  # (file, old, new)
+    alone: bool = False
     apart: set = dataclasses.field(default_factory=set)  # functions that it calls, which were wrong beside it
 
 
@@ -58,6 +60,8 @@ def read_body(path):
             text = text.removeprefix(" ")
             if key == "refused":
                 body.functions += text.split()
+            elif key == "alone":
+                body.alone = True
             elif key == "file":
                 file = text
             elif key == "old":
@@ -92,6 +96,8 @@ def together(bodies, folder):
     """Returns as many of the wrong bodies as fit in one copy, each in functions of its own, and the changed texts."""
     chosen, texts = [], {}
     for body in bodies:
+        if chosen and (body.alone or chosen[0].alone):
+            continue
         beside = {name for it in chosen for name in it.functions}
         apart = {name for it in chosen for name in it.apart}
         if not (beside & {*body.functions, *body.apart} or apart & {*body.functions}):
