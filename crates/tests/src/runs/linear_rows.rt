@@ -165,32 +165,37 @@ fn no_empty_line_after_rows_of_whole_lines(rt: HostRuntime) -> Result<(), Fail> 
     Ok(())
 }
 
+/// Lines that are refused without escapes, and their messages.
+const REFUSED: &[(&[u8], &[u8])] = &[
+    (
+        b"ean13 4006381333932\n",
+        b"line 1: check digit is 2, should be 1\n",
+    ),
+    (
+        b"ean8 73513530\n",
+        b"line 1: check digit is 0, should be 7\n",
+    ),
+    (b"ean8 7351353\r\n", b"line 1: not a digit at byte 8\n"),
+    (b"upca 12345\n", b"line 1: wrong number of digits: 5\n"),
+    (b"ean8", b"line 1: no data\n"),
+    (b"qr,height=3 1\n", b"line 1: unknown setting 1\n"),
+    (b"ean8, 7351353\n", b"line 1: unknown setting 1\n"),
+    (b"ean8,height=0 1\n", b"line 1: bad value in setting 1\n"),
+    (b"qr,level=H,mask=8\n", b"line 1: bad value in setting 2\n"),
+    (
+        b"qr,mask=3,level=h,size=2 x\n",
+        b"line 1: bad value in setting 2\n",
+    ),
+    (b"qr,level=H\n", b"line 1: no data\n"),
+    (b"pdf,height=9 x\n", b"line 1: unknown symbology\n"),
+];
+
 #[test]
-fn data_is_refused(rt: HostRuntime) -> Result<(), Fail> {
-    let alloc = rt.alloc();
+fn data_is_refused(rt: HostRuntime) {
     let options = low(&rt, false);
-    for (input, message) in [
-        (
-            b"ean13 4006381333932\n".as_slice(),
-            b"line 1: check digit is 2, should be 1\n".as_slice(),
-        ),
-        (
-            b"ean8 73513530\n".as_slice(),
-            b"line 1: check digit is 0, should be 7\n".as_slice(),
-        ),
-        (
-            b"ean8 7351353\r\n".as_slice(),
-            b"line 1: not a digit at byte 8\n".as_slice(),
-        ),
-        (
-            b"upca 12345\n".as_slice(),
-            b"line 1: wrong number of digits: 5\n".as_slice(),
-        ),
-        (b"ean8".as_slice(), b"line 1: no data\n".as_slice()),
-    ] {
-        assert_row(&rt, alloc, options, input, b"", message);
+    for (input, message) in REFUSED {
+        assert_row(&rt, rt.alloc(), options, input, b"", message);
     }
-    Ok(())
 }
 
 #[test]
@@ -257,25 +262,6 @@ fn settings_hold_for_their_line(rt: HostRuntime) -> Result<(), Fail> {
             both.as_slice(),
             b"",
         ),
-        (b"qr,height=3 1\n", b"", b"line 1: unknown setting 1\n"),
-        (b"ean8, 7351353\n", b"", b"line 1: unknown setting 1\n"),
-        (
-            b"ean8,height=0 1\n",
-            b"",
-            b"line 1: bad value in setting 1\n",
-        ),
-        (
-            b"qr,level=H,mask=8\n",
-            b"",
-            b"line 1: bad value in setting 2\n",
-        ),
-        (
-            b"qr,mask=3,level=h,size=2 x\n",
-            b"",
-            b"line 1: bad value in setting 2\n",
-        ),
-        (b"qr,level=H\n", b"", b"line 1: no data\n"),
-        (b"pdf,height=9 x\n", b"", b"line 1: unknown symbology\n"),
     ] {
         assert_row(&rt, alloc, options, input, out, message);
     }
