@@ -5,4 +5,4 @@ mod hostile;
 mod linear_rows;
 mod qr_rows;
 mod streams;
-mod support;
+pub mod support;

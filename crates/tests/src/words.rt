@@ -1,4 +1,5 @@
 //! The words of the command line, the file that they name, and how the program ends.
+use crate::runs::support::{DEFAULT, EAN8, LEVEL_L, LOW, Named};
 use command::{Choice, End, OpenFault, WordsFault, open_file, options_of};
 use filter::{RunFault, Status, run};
 use labelcore::{Format, Level, MemSink, Options};
@@ -7,10 +8,6 @@ use std::fs;
 use std::process::Abort;
 use std::rt::Files;
 use std::test::Fail;
-
-/// The image of `ean8 7351353`, one module high.
-const EAN8: &[u8] =
-    b"P1\n81 1\n0000000101011101101111010110001001100101010100001010011101000010100010\n01010000000\n";
 
 /// The words of a command line.
 fn words_of(alloc: Global, texts: &[&str]) -> Result<Vec<String>, AllocError> {
@@ -36,12 +33,16 @@ fn are_bad(alloc: Global, texts: &[&str]) -> Result<bool, AllocError> {
 #[test]
 fn refuses_words(rt: HostRuntime) -> Result<(), Fail> {
     let alloc = rt.alloc();
-    assert!(rt; are_bad(alloc, &["--scale", "9"])?);
-    assert!(rt; are_bad(alloc, &["--level", "l"])?);
-    assert!(rt; are_bad(alloc, &["--level", "Q", "--level", "M"])?);
-    assert!(rt; are_bad(alloc, &["--height"])?);
-    assert!(rt; are_bad(alloc, &["--mask", "8"])?);
-    assert!(rt; are_bad(alloc, &["a", "b"])?);
+    for words in [
+        ["--scale", "9"].as_slice(),
+        ["--level", "l"].as_slice(),
+        ["--level", "Q", "--level", "M"].as_slice(),
+        ["--height"].as_slice(),
+        ["--mask", "8"].as_slice(),
+        ["a", "b"].as_slice(),
+    ] {
+        assert!(rt; are_bad(alloc, words)?);
+    }
     Ok(())
 }
 
@@ -75,153 +76,101 @@ fn names_settings(rt: HostRuntime) -> Result<(), Fail> {
 }
 
 /// The words of worked labels, and the options that the tests of the filter draw these labels with.
+const WORKED: &[(&[&str], Named)] = &[
+    (&["--height", "1"], LOW),
+    (
+        &["--height", "1", "--escapes"],
+        Named {
+            escapes: true,
+            ..LOW
+        },
+    ),
+    (
+        &["--height", "1", "--scale", "7"],
+        Named { scale: 7, ..LOW },
+    ),
+    (
+        &["--height", "1", "--format", "ascii"],
+        Named {
+            format: Format::Ascii,
+            ..LOW
+        },
+    ),
+    (
+        &["--height", "1", "--scale", "8", "--format", "ascii"],
+        Named {
+            format: Format::Ascii,
+            scale: 8,
+            ..LOW
+        },
+    ),
+    (
+        &["--escapes"],
+        Named {
+            escapes: true,
+            ..DEFAULT
+        },
+    ),
+    (&["--level", "L"], LEVEL_L),
+    (
+        &["--level", "Q"],
+        Named {
+            level: Level::Q,
+            ..DEFAULT
+        },
+    ),
+    (
+        &["--level", "H"],
+        Named {
+            level: Level::H,
+            ..DEFAULT
+        },
+    ),
+    (
+        &["--level", "H", "--height", "1"],
+        Named {
+            level: Level::H,
+            ..LOW
+        },
+    ),
+    (
+        &["--level", "Q", "--min-version", "5"],
+        Named {
+            level: Level::Q,
+            min_version: 5,
+            ..DEFAULT
+        },
+    ),
+    (
+        &["--level", "Q", "--mask", "6"],
+        Named {
+            level: Level::Q,
+            mask: Some(6),
+            ..DEFAULT
+        },
+    ),
+    (
+        &["--mask", "2"],
+        Named {
+            mask: Some(2),
+            ..DEFAULT
+        },
+    ),
+    (
+        &["--mask", "2", "--format", "ascii"],
+        Named {
+            format: Format::Ascii,
+            mask: Some(2),
+            ..DEFAULT
+        },
+    ),
+];
+
 #[test]
 fn names_the_options_of_worked_labels(rt: HostRuntime) -> Result<(), Fail> {
     let alloc = rt.alloc();
-    for (words, format, scale, height, level, min_version, mask, escapes) in [
-        (
-            ["--height", "1"].as_slice(),
-            Format::Pbm,
-            1,
-            1,
-            Level::M,
-            1,
-            None,
-            false,
-        ),
-        (
-            ["--height", "1", "--escapes"].as_slice(),
-            Format::Pbm,
-            1,
-            1,
-            Level::M,
-            1,
-            None,
-            true,
-        ),
-        (
-            ["--height", "1", "--scale", "7"].as_slice(),
-            Format::Pbm,
-            7,
-            1,
-            Level::M,
-            1,
-            None,
-            false,
-        ),
-        (
-            ["--height", "1", "--format", "ascii"].as_slice(),
-            Format::Ascii,
-            1,
-            1,
-            Level::M,
-            1,
-            None,
-            false,
-        ),
-        (
-            ["--height", "1", "--scale", "8", "--format", "ascii"].as_slice(),
-            Format::Ascii,
-            8,
-            1,
-            Level::M,
-            1,
-            None,
-            false,
-        ),
-        (
-            ["--escapes"].as_slice(),
-            Format::Pbm,
-            1,
-            50,
-            Level::M,
-            1,
-            None,
-            true,
-        ),
-        (
-            ["--level", "L"].as_slice(),
-            Format::Pbm,
-            1,
-            50,
-            Level::L,
-            1,
-            None,
-            false,
-        ),
-        (
-            ["--level", "Q"].as_slice(),
-            Format::Pbm,
-            1,
-            50,
-            Level::Q,
-            1,
-            None,
-            false,
-        ),
-        (
-            ["--level", "H"].as_slice(),
-            Format::Pbm,
-            1,
-            50,
-            Level::H,
-            1,
-            None,
-            false,
-        ),
-        (
-            ["--level", "H", "--height", "1"].as_slice(),
-            Format::Pbm,
-            1,
-            1,
-            Level::H,
-            1,
-            None,
-            false,
-        ),
-        (
-            ["--level", "Q", "--min-version", "5"].as_slice(),
-            Format::Pbm,
-            1,
-            50,
-            Level::Q,
-            5,
-            None,
-            false,
-        ),
-        (
-            ["--level", "Q", "--mask", "6"].as_slice(),
-            Format::Pbm,
-            1,
-            50,
-            Level::Q,
-            1,
-            Some(6),
-            false,
-        ),
-        (
-            ["--mask", "2"].as_slice(),
-            Format::Pbm,
-            1,
-            50,
-            Level::M,
-            1,
-            Some(2),
-            false,
-        ),
-        (
-            ["--mask", "2", "--format", "ascii"].as_slice(),
-            Format::Ascii,
-            1,
-            50,
-            Level::M,
-            1,
-            Some(2),
-            false,
-        ),
-    ] {
-        let named = Options::new(format, scale, height, level, min_version, mask, escapes);
-        assert!(rt; Some(choice_of(alloc, words)?.options) == named);
+    for (words, named) in WORKED {
+        assert!(rt; choice_of(alloc, words)?.options == named.options(&rt));
     }
     Ok(())
 }

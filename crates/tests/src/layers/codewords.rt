@@ -87,46 +87,119 @@ fn sizes(rt: HostRuntime) {
     }
 }
 
-#[test]
-fn standard_symbols(rt: HostRuntime) {
-    let digits = planned(&rt, Level::M, 1, b"01234567");
-    let words = words_of(&digits, b"01234567");
-    assert!(rt; words.len() == 26);
-    expect_words(
-        &rt,
-        &words,
-        0,
+/// Data in version 1: the level, the data, the bits, the segments, and the first codewords.
+const KNOWN: &[(Level, &[u8], u32, &[Segment], &[u8])] = &[
+    (
+        Level::M,
+        b"01234567",
+        41,
+        &[Segment {
+            mode: Mode::Numeric,
+            len: 8,
+        }],
         &[
             0x10, 0x20, 0x0C, 0x56, 0x61, 0x80, 0xEC, 0x11, 0xEC, 0x11, 0xEC, 0x11, 0xEC, 0x11,
             0xEC, 0x11, 0xA5, 0x24, 0xD4, 0xC1, 0xED, 0x36, 0xC7, 0x87, 0x2C, 0x55,
         ],
-    );
-    let hello = planned(&rt, Level::Q, 1, b"HELLO WORLD");
-    let words = words_of(&hello, b"HELLO WORLD");
-    assert!(rt; words.len() == 26);
-    expect_words(
-        &rt,
-        &words,
-        0,
+    ),
+    (
+        Level::Q,
+        b"HELLO WORLD",
+        74,
+        &[Segment {
+            mode: Mode::Alphanumeric,
+            len: 11,
+        }],
         &[
             32, 91, 11, 120, 209, 114, 220, 77, 67, 64, 236, 17, 236, 168, 72, 22, 82, 217, 54,
             156, 0, 46, 15, 180, 122, 16,
         ],
-    );
-}
+    ),
+    (
+        Level::H,
+        b"1",
+        18,
+        &[Segment {
+            mode: Mode::Numeric,
+            len: 1,
+        }],
+        &[0x10, 0x04, 0x40, 0xEC, 0x11, 0xEC, 0x11, 0xEC, 0x11],
+    ),
+    (
+        Level::H,
+        b"a123456789",
+        64,
+        &[
+            Segment {
+                mode: Mode::Byte,
+                len: 1,
+            },
+            Segment {
+                mode: Mode::Numeric,
+                len: 9,
+            },
+        ],
+        &[0x40, 0x16, 0x11, 0x02, 0x47, 0xB7, 0x23, 0x15, 0x00],
+    ),
+    (
+        Level::Q,
+        b"ab1234567890cd",
+        104,
+        &[
+            Segment {
+                mode: Mode::Byte,
+                len: 2,
+            },
+            Segment {
+                mode: Mode::Numeric,
+                len: 10,
+            },
+            Segment {
+                mode: Mode::Byte,
+                len: 2,
+            },
+        ],
+        &[
+            0x40, 0x26, 0x16, 0x21, 0x02, 0x87, 0xB7, 0x23, 0x15, 0x04, 0x02, 0x63, 0x64,
+        ],
+    ),
+    // One segment where more save nothing.
+    (
+        Level::M,
+        b"a123",
+        44,
+        &[Segment {
+            mode: Mode::Byte,
+            len: 4,
+        }],
+        &[],
+    ),
+    (
+        Level::M,
+        b"a12b",
+        44,
+        &[Segment {
+            mode: Mode::Byte,
+            len: 4,
+        }],
+        &[
+            0x40, 0x46, 0x13, 0x13, 0x26, 0x20, 0xEC, 0x11, 0xEC, 0x11, 0xEC, 0x11, 0xEC, 0x11,
+            0xEC, 0x11,
+        ],
+    ),
+    (Level::M, b"", 0, &[], &[0, 0xEC, 0x11]),
+];
 
 #[test]
-fn one_digit(rt: HostRuntime) {
-    let plan = planned(&rt, Level::H, 1, b"1");
-    expect_version(&rt, &plan, 1, 18);
-    let words = words_of(&plan, b"1");
-    assert!(rt; words.len() == 26);
-    expect_words(
-        &rt,
-        &words,
-        0,
-        &[0x10, 0x04, 0x40, 0xEC, 0x11, 0xEC, 0x11, 0xEC, 0x11],
-    );
+fn known_symbols(rt: HostRuntime) {
+    for (level, data, bits, segments, front) in KNOWN {
+        let plan = planned(&rt, *level, 1, data);
+        expect_version(&rt, &plan, 1, *bits);
+        expect_segments(&rt, &plan, segments);
+        let words = words_of(&plan, data);
+        assert!(rt; words.len() == 26);
+        expect_words(&rt, &words, 0, front);
+    }
 }
 
 #[test]
@@ -202,16 +275,13 @@ fn uneven_blocks(rt: HostRuntime) {
     expect_words(&rt, &words, 56, &[0x16, 0x16, 0xEC, 0xEC, 0x11, 0x11]);
 }
 
-/// The data word of each place in `interleaving_order`: the place itself, but for the first two, which begin with the
-/// mode and the count, and the last, which ends with the terminator.
-fn placed_word(place: u8) -> u8 {
-    match place {
-        0 => 0x43,
-        1 => 0xC1,
-        61 => 0x30,
-        _ => place,
-    }
-}
+/// The data words of four blocks of 15, 15, 16 and 16 in turn, where the word at each place is the place itself, but for
+/// the first two, which begin with the mode and the count, and the last, which ends with the terminator.
+const IN_TURN: [u8; 62] = [
+    0x43, 15, 30, 46, 0xC1, 16, 31, 47, 2, 17, 32, 48, 3, 18, 33, 49, 4, 19, 34, 50, 5, 20, 35, 51,
+    6, 21, 36, 52, 7, 22, 37, 53, 8, 23, 38, 54, 9, 24, 39, 55, 10, 25, 40, 56, 11, 26, 41, 57, 12,
+    27, 42, 58, 13, 28, 43, 59, 14, 29, 44, 60, 45, 0x30,
+];
 
 #[test]
 fn interleaving_order(rt: HostRuntime) {
@@ -220,86 +290,17 @@ fn interleaving_order(rt: HostRuntime) {
         data[usize::from(place)] = (place + 1) % 16 * 16 + (place + 2) / 16;
     }
     let plan = planned(&rt, Level::Q, 5, &data);
-    expect_segments(&rt, &plan, &[segment(Mode::Byte, 60)]);
+    expect_segments(
+        &rt,
+        &plan,
+        &[Segment {
+            mode: Mode::Byte,
+            len: 60,
+        }],
+    );
     let words = words_of(&plan, &data);
     assert!(rt; words.len() == 62 + 72);
-    for place in 0..15u8 {
-        let row = [place, 15 + place, 30 + place, 46 + place];
-        for (block, index) in row.iter().enumerate() {
-            let at = usize::from(place).saturating_mul(4).saturating_add(block);
-            assert!(rt; words.as_slice().get(at) == Some(&placed_word(*index)));
-        }
-    }
-    expect_words(&rt, &words, 60, &[placed_word(45), placed_word(61)]);
-}
-
-const fn segment(mode: Mode, len: u16) -> Segment {
-    Segment { mode, len }
-}
-
-#[test]
-fn mixed_segments(rt: HostRuntime) {
-    let plan = planned(&rt, Level::H, 1, b"a123456789");
-    expect_version(&rt, &plan, 1, 64);
-    expect_segments(
-        &rt,
-        &plan,
-        &[segment(Mode::Byte, 1), segment(Mode::Numeric, 9)],
-    );
-    expect_words(
-        &rt,
-        &words_of(&plan, b"a123456789"),
-        0,
-        &[0x40, 0x16, 0x11, 0x02, 0x47, 0xB7, 0x23, 0x15, 0x00],
-    );
-
-    let plan = planned(&rt, Level::Q, 1, b"ab1234567890cd");
-    expect_version(&rt, &plan, 1, 104);
-    expect_segments(
-        &rt,
-        &plan,
-        &[
-            segment(Mode::Byte, 2),
-            segment(Mode::Numeric, 10),
-            segment(Mode::Byte, 2),
-        ],
-    );
-    expect_words(
-        &rt,
-        &words_of(&plan, b"ab1234567890cd"),
-        0,
-        &[
-            0x40, 0x26, 0x16, 0x21, 0x02, 0x87, 0xB7, 0x23, 0x15, 0x04, 0x02, 0x63, 0x64,
-        ],
-    );
-}
-
-#[test]
-fn one_segment_where_more_save_nothing(rt: HostRuntime) {
-    let plan = planned(&rt, Level::M, 1, b"a123");
-    expect_version(&rt, &plan, 1, 44);
-    expect_segments(&rt, &plan, &[segment(Mode::Byte, 4)]);
-
-    let plan = planned(&rt, Level::M, 1, b"a12b");
-    expect_version(&rt, &plan, 1, 44);
-    expect_segments(&rt, &plan, &[segment(Mode::Byte, 4)]);
-    expect_words(
-        &rt,
-        &words_of(&plan, b"a12b"),
-        0,
-        &[
-            0x40, 0x46, 0x13, 0x13, 0x26, 0x20, 0xEC, 0x11, 0xEC, 0x11, 0xEC, 0x11, 0xEC, 0x11,
-            0xEC, 0x11,
-        ],
-    );
-}
-
-#[test]
-fn empty_data(rt: HostRuntime) {
-    let plan = planned(&rt, Level::M, 1, b"");
-    expect_version(&rt, &plan, 1, 0);
-    assert!(rt; plan.segments().is_empty());
-    expect_words(&rt, &words_of(&plan, b""), 0, &[0, 0xEC, 0x11]);
+    expect_words(&rt, &words, 0, &IN_TURN);
 }
 
 /// The bits of a list of segments in versions 1 to 9. The data is cut after each byte whose bit in `cuts` is set, and

@@ -30,14 +30,9 @@ fn is_sized(grid: &impl Grid, width: usize, height: usize) -> bool {
     grid.width() == width && grid.height() == height
 }
 
-/// Whether a pixel of a grid is there, and dark.
-fn is_dark(grid: &impl Grid, x: usize, y: usize) -> bool {
-    x < grid.width() && y < grid.height() && grid.dark(x, y)
-}
-
-/// Whether a pixel of a grid is there, and light.
-fn is_light(grid: &impl Grid, x: usize, y: usize) -> bool {
-    x < grid.width() && y < grid.height() && !grid.dark(x, y)
+/// Whether a pixel of a grid is there, and of this colour.
+fn has_pixel(grid: &impl Grid, x: usize, y: usize, dark: bool) -> bool {
+    x < grid.width() && y < grid.height() && grid.dark(x, y) == dark
 }
 
 /// Whether so many rows from this one on are known to be equal.
@@ -60,14 +55,13 @@ fn bars_are_asked(rt: HostRuntime) {
     let row = [true, false];
     let bars = Bars::new(&row, 3);
     assert!(rt; is_sized(&bars, 2, 3));
-    assert!(rt; is_dark(&bars, 0, 2));
-    assert!(rt; is_light(&bars, 1, 2));
+    assert!(rt; has_pixel(&bars, 0, 2, true));
+    assert!(rt; has_pixel(&bars, 1, 2, false));
     let framed = Framed::new(bars, 4, 1, 0, 2);
     assert!(rt; is_sized(&framed, 7, 5));
-    assert!(rt; is_light(&framed, 3, 0));
-    assert!(rt; is_dark(&framed, 4, 0));
-    assert!(rt; is_dark(&framed, 4, 2));
-    assert!(rt; is_light(&framed, 4, 3));
+    for (x, y, dark) in [(3, 0, false), (4, 0, true), (4, 2, true), (4, 3, false)] {
+        assert!(rt; has_pixel(&framed, x, y, dark));
+    }
 }
 
 #[test]
@@ -75,14 +69,12 @@ fn larger_pixels_are_asked(rt: HostRuntime) {
     let row = [true, false];
     let scaled = Scaled::new(Framed::new(Bars::new(&row, 3), 4, 1, 0, 2), 2);
     assert!(rt; is_sized(&scaled, 14, 10));
-    assert!(rt; is_light(&scaled, 7, 5));
-    assert!(rt; is_dark(&scaled, 9, 5));
-    assert!(rt; is_light(&scaled, 9, 6));
-    assert!(rt; is_light(&scaled, 10, 5));
-    assert!(rt; has_equal_rows(&scaled, 0, 6));
-    assert!(rt; has_equal_rows(&scaled, 5, 1));
-    assert!(rt; has_equal_rows(&scaled, 6, 4));
-    assert!(rt; has_equal_rows(&scaled, 9, 1));
+    for (x, y, dark) in [(7, 5, false), (9, 5, true), (9, 6, false), (10, 5, false)] {
+        assert!(rt; has_pixel(&scaled, x, y, dark));
+    }
+    for (y, rows) in [(0, 6), (5, 1), (6, 4), (9, 1)] {
+        assert!(rt; has_equal_rows(&scaled, y, rows));
+    }
     let mut pixels = [false; 14];
     assert!(rt; has_row(&scaled, 6, &pixels));
     pixels[8] = true;

@@ -1,6 +1,4 @@
 //! Runs over devices that stop, fail or take little, and the filter piece by piece.
-ghost use Rattle.std.specs.Prelude.{◌<◌};
-
 use crate::runs::support::{DEFAULT, EAN8, Named, answer_of, feed_piece, finish, joined, low};
 use filter::{Filter, RunFault, Status};
 use labelcore::{MemSink, MemSource, Options, StdSink, StdSource};
@@ -119,9 +117,8 @@ fn nine_bytes_of_the_second_image(rt: HostRuntime) -> Result<(), Fail> {
 }
 
 /// Runs over a source that fails after its bytes: the open line is not drawn.
-fn assert_read_fails(rt: &impl Abort, piece: usize)
-    requires { 0 < piece }
-{
+fn assert_read_fails(rt: &impl Abort, piece: usize) {
+    assert!(rt; piece > 0);
     let mut source = MemSource::new(b"ean8 7351353\nqr 0", piece, true);
     let mut out: MemSink<200> = MemSink::new(200, 200);
     let mut err: MemSink<8> = MemSink::new(8, 8);
@@ -132,8 +129,7 @@ fn assert_read_fails(rt: &impl Abort, piece: usize)
 
 #[test]
 fn failing_source(rt: HostRuntime) {
-    assert_read_fails(&rt, 1);
-    assert_read_fails(&rt, 2);
-    assert_read_fails(&rt, 7);
-    assert_read_fails(&rt, 4096);
+    for piece in [1, 2, 7, 4096] {
+        assert_read_fails(&rt, piece);
+    }
 }

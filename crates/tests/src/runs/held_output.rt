@@ -1,6 +1,4 @@
 //! Output that is held back, over writers in memory.
-ghost use Rattle.std.specs.Prelude.{◌<◌};
-
 use crate::runs::support::{EAN8, answer_of, joined, low, repeated};
 use filter::{RunFault, Status};
 use labelcore::{FailAt, Held, IoFault, MemSink, MemSource, Sink, Source, StdSink};
@@ -125,48 +123,40 @@ const IN_TURN: &[u8] = b"ean8 7351353\npdf x\nean8 7351353\npdf x\nean8 7351353\
 /// The messages of the refused lines.
 const REFUSED_IN_TURN: &[u8] = b"line 2: unknown symbology\nline 4: unknown symbology\n";
 
-/// A run over the lines, `piece` bytes a read, whose held output fails to go out at this call, after so many labels and
-/// messages went out. What was held goes out after it.
+/// A run over the lines, `piece` bytes a read, whose held output fails to go out after so many labels and messages went
+/// out. What was held goes out after it.
 fn assert_sending_fails(
     rt: &impl Abort,
     alloc: Global,
     piece: usize,
-    call: u64,
-    labels: usize,
-    messages: usize,
-) -> Result<(), Fail>
-    requires { 0 < piece }
-{
+    sent: usize,
+) -> Result<(), Fail> {
+    assert!(rt; piece > 0);
+    let call = (sent as u64).saturating_add(1);
     let mut source = MemSource::new(IN_TURN, piece, false);
     let mut out = Held::new(FailAt::new(MemSink::<273>::new(273, 273), call));
     let mut err: MemSink<52> = MemSink::new(52, 52);
     let answer = answer_of(low(rt, false), &mut source, &mut out, &mut err);
     assert!(rt; answer == Err(RunFault::WriteOut));
-    let before = repeated(alloc, EAN8, labels)?;
+    let before = repeated(alloc, EAN8, sent)?;
     assert!(rt; out.sink().device().bytes() == before.as_slice());
     assert!(rt; out.held() == EAN8);
-    assert!(rt; err.bytes().len() == 26usize.saturating_mul(messages));
+    assert!(rt; err.bytes().len() == 26usize.saturating_mul(sent));
     assert!(rt; REFUSED_IN_TURN.starts_with(err.bytes()));
     assert!(rt; out.send_on().is_ok());
-    assert!(rt; out.sink().device().bytes().starts_with(before.as_slice()));
-    assert!(rt; out.sink().device().bytes().ends_with(EAN8));
+    let all = out.sink().device().bytes();
+    assert!(rt; all.starts_with(before.as_slice()) && all.ends_with(EAN8));
     Ok(())
 }
 
+/// A byte a read: each label goes out before the read after its line. All lines in one read: a label goes out before
+/// the message after it, the last one before the next read.
 #[test]
-fn each_sending_before_a_read_fails(rt: HostRuntime) -> Result<(), Fail> {
-    let alloc = rt.alloc();
-    // A byte a read: each label goes out before the read after its line.
-    assert_sending_fails(&rt, alloc, 1, 1, 0, 0)?;
-    assert_sending_fails(&rt, alloc, 1, 2, 1, 1)?;
-    assert_sending_fails(&rt, alloc, 1, 3, 2, 2)
-}
-
-#[test]
-fn each_sending_before_a_message_fails(rt: HostRuntime) -> Result<(), Fail> {
-    let alloc = rt.alloc();
-    // All lines in one read: a label goes out before the message after it, the last one before the next read.
-    assert_sending_fails(&rt, alloc, 4096, 1, 0, 0)?;
-    assert_sending_fails(&rt, alloc, 4096, 2, 1, 1)?;
-    assert_sending_fails(&rt, alloc, 4096, 3, 2, 2)
+fn each_sending_fails(rt: HostRuntime) -> Result<(), Fail> {
+    for piece in [1, 4096] {
+        for sent in 0..3 {
+            assert_sending_fails(&rt, rt.alloc(), piece, sent)?;
+        }
+    }
+    Ok(())
 }

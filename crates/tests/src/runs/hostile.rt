@@ -1,11 +1,10 @@
 //! Hostile use: devices that fail at each call or at each byte, very long lines, every byte, and input that breaks off.
 use crate::runs::support::{
-    EAN8, REFUSALS, answer_of, assert_came_to, first_lines, joined, line_ends, low, refused_lines,
-    repeated, run_by,
+    EAN8, REFUSALS, TOO_LONG, answer_of, assert_came_to, first_lines, joined, line_ends,
+    long_lines, low, rather_long_lines, refused_lines, repeated, run_by,
 };
 use filter::{RunFault, Status};
 use labelcore::{FailAt, MemSink, MemSource, Options};
-use std::alloc::{AllocError, Global};
 use std::process::Abort;
 use std::test::Fail;
 
@@ -91,21 +90,6 @@ impl<'a> FailedRun<'a> {
         assert!(rt; EAN8.starts_with(out));
         assert!(rt; TOO_LONG.starts_with(err));
     }
-}
-
-/// The message of the line that is too long.
-const TOO_LONG: &[u8] = b"line 1: line is longer than 1100 bytes\n";
-
-/// A line that is too long, a long comment and a label.
-fn long_lines(alloc: Global, letters: &[u8], comment: &[u8]) -> Result<Vec<u8>, AllocError> {
-    joined(alloc, &[letters, b"\n#", comment, b"\nean8 7351353"])
-}
-
-/// A line of 1,101 letters, a comment of 2,000 and a label.
-fn rather_long_lines(alloc: Global) -> Result<Vec<u8>, AllocError> {
-    let letters = repeated(alloc, b"a", 1101)?;
-    let comment = repeated(alloc, b"a", 2000)?;
-    long_lines(alloc, letters.as_slice(), comment.as_slice())
 }
 
 #[test]

@@ -1,9 +1,8 @@
 //! Worked labels of EAN-13, EAN-8, UPC-A and Code 128, and the lines that they refuse.
 use crate::runs::support::{
-    DEFAULT, EAN8, EAN13_ROW, LOW, Named, REFUSALS, assert_row, bars, has_lines_of, joined,
-    letters, line_ends, low, refused_lines, repeated, run_by,
+    DEFAULT, EAN8, EAN13_ROW, LOW, Named, REFUSALS, TOO_LONG, assert_row, bars, has_lines_of,
+    joined, letters, line_ends, low, rather_long_lines, refused_lines, repeated, run_by,
 };
-use filter::Status;
 use labelcore::{Format, Options};
 use std::alloc::Global;
 use std::process::Abort;
@@ -29,8 +28,6 @@ fn ean8_one_module_high(rt: HostRuntime) -> Result<(), Fail> {
     let options = low(&rt, false);
     assert_row(&rt, alloc, options, b"ean8 7351353\n", EAN8, b"");
     assert_row(&rt, alloc, options, b"ean8 73513537\n", EAN8, b"");
-    let came = run_by(alloc, options, b"ean8 7351353\n", 4096);
-    assert!(rt; came.answer == Ok(Status::Clean));
     Ok(())
 }
 
@@ -168,32 +165,37 @@ fn no_empty_line_after_rows_of_whole_lines(rt: HostRuntime) -> Result<(), Fail> 
     Ok(())
 }
 
+/// Lines that are refused without escapes, and their messages.
+const REFUSED: &[(&[u8], &[u8])] = &[
+    (
+        b"ean13 4006381333932\n",
+        b"line 1: check digit is 2, should be 1\n",
+    ),
+    (
+        b"ean8 73513530\n",
+        b"line 1: check digit is 0, should be 7\n",
+    ),
+    (b"ean8 7351353\r\n", b"line 1: not a digit at byte 8\n"),
+    (b"upca 12345\n", b"line 1: wrong number of digits: 5\n"),
+    (b"ean8", b"line 1: no data\n"),
+    (b"qr,height=3 1\n", b"line 1: unknown setting 1\n"),
+    (b"ean8, 7351353\n", b"line 1: unknown setting 1\n"),
+    (b"ean8,height=0 1\n", b"line 1: bad value in setting 1\n"),
+    (b"qr,level=H,mask=8\n", b"line 1: bad value in setting 2\n"),
+    (
+        b"qr,mask=3,level=h,size=2 x\n",
+        b"line 1: bad value in setting 2\n",
+    ),
+    (b"qr,level=H\n", b"line 1: no data\n"),
+    (b"pdf,height=9 x\n", b"line 1: unknown symbology\n"),
+];
+
 #[test]
-fn data_is_refused(rt: HostRuntime) -> Result<(), Fail> {
-    let alloc = rt.alloc();
+fn data_is_refused(rt: HostRuntime) {
     let options = low(&rt, false);
-    for (input, message) in [
-        (
-            b"ean13 4006381333932\n".as_slice(),
-            b"line 1: check digit is 2, should be 1\n".as_slice(),
-        ),
-        (
-            b"ean8 73513530\n".as_slice(),
-            b"line 1: check digit is 0, should be 7\n".as_slice(),
-        ),
-        (
-            b"ean8 7351353\r\n".as_slice(),
-            b"line 1: not a digit at byte 8\n".as_slice(),
-        ),
-        (
-            b"upca 12345\n".as_slice(),
-            b"line 1: wrong number of digits: 5\n".as_slice(),
-        ),
-        (b"ean8".as_slice(), b"line 1: no data\n".as_slice()),
-    ] {
-        assert_row(&rt, alloc, options, input, b"", message);
+    for (input, message) in REFUSED {
+        assert_row(&rt, rt.alloc(), options, input, b"", message);
     }
-    Ok(())
 }
 
 #[test]
@@ -206,8 +208,6 @@ fn each_refusal_of_a_linear_line(rt: HostRuntime) -> Result<(), Fail> {
     .options(&rt);
     let input = refused_lines(alloc)?;
     assert_row(&rt, alloc, options, input.as_slice(), b"", REFUSALS);
-    let came = run_by(alloc, options, input.as_slice(), 4096);
-    assert!(rt; came.answer == Ok(Status::Refused));
     Ok(())
 }
 
@@ -215,77 +215,30 @@ fn each_refusal_of_a_linear_line(rt: HostRuntime) -> Result<(), Fail> {
 fn lines_are_skipped_refused_and_counted(rt: HostRuntime) -> Result<(), Fail> {
     let alloc = rt.alloc();
     let options = low(&rt, false);
-    assert_row(&rt, alloc, options, b"", b"", b"");
-    assert!(rt; run_by(alloc, options, b"", 1).answer == Ok(Status::Clean));
-    assert_row(
-        &rt,
-        alloc,
-        options,
-        b"#\n\npdf x\n",
-        b"",
-        b"line 3: unknown symbology\n",
-    );
-    let letters = repeated(alloc, b"a", 1101)?;
-    let comment = repeated(alloc, b"a", 2000)?;
-    let input = joined(
-        alloc,
-        &[
-            letters.as_slice(),
-            b"\n#",
-            comment.as_slice(),
-            b"\nean8 7351353",
-        ],
-    )?;
-    assert_row(
-        &rt,
-        alloc,
-        options,
-        input.as_slice(),
-        EAN8,
-        b"line 1: line is longer than 1100 bytes\n",
-    );
+    let long = rather_long_lines(alloc)?;
     let letters = repeated(alloc, b"a", 1100)?;
-    assert_row(
-        &rt,
-        alloc,
-        options,
-        letters.as_slice(),
-        b"",
-        b"line 1: unknown symbology\n",
-    );
+    for (input, out, message) in [
+        (b"".as_slice(), b"".as_slice(), b"".as_slice()),
+        (b"#\n\npdf x\n", b"", b"line 3: unknown symbology\n"),
+        (long.as_slice(), EAN8, TOO_LONG),
+        (letters.as_slice(), b"", b"line 1: unknown symbology\n"),
+    ] {
+        assert_row(&rt, alloc, options, input, out, message);
+    }
     Ok(())
 }
 
 #[test]
-fn escaped_digits(rt: HostRuntime) -> Result<(), Fail> {
-    let alloc = rt.alloc();
+fn escaped_digits(rt: HostRuntime) {
     let options = low(&rt, true);
-    assert_row(&rt, alloc, options, b"ean8 73\\x35\\x31353\n", EAN8, b"");
-    assert_row(
-        &rt,
-        alloc,
-        options,
-        b"ean8 \\\n",
-        b"",
-        b"line 1: bad escape at byte 1\n",
-    );
-    assert_row(
-        &rt,
-        alloc,
-        options,
-        b"ean8 \\x4\n",
-        b"",
-        b"line 1: bad escape at byte 1\n",
-    );
-    assert_row(
-        &rt,
-        alloc,
-        options,
-        b"ean8 7\\\\x\n",
-        b"",
-        b"line 1: not a digit at byte 2\n",
-    );
-    Ok(())
+    for (input, out, message) in [
+        (b"ean8 73\\x35\\x31353\n".as_slice(), EAN8, b"".as_slice()),
+        (b"ean8 \\\n", b"", b"line 1: bad escape at byte 1\n"),
+        (b"ean8 \\x4\n", b"", b"line 1: bad escape at byte 1\n"),
+        (b"ean8 7\\\\x\n", b"", b"line 1: not a digit at byte 2\n"),
+    ] {
+        assert_row(&rt, rt.alloc(), options, input, out, message);
+    }
 }
 
 #[test]
@@ -296,59 +249,21 @@ fn settings_hold_for_their_line(rt: HostRuntime) -> Result<(), Fail> {
         b"0000000101011101101111010110001001100101010100001010011101000010100010\n01010000000\n";
     let two = bars(alloc, b"P1\n81 2\n", row, 2)?;
     assert!(rt; two.len() == 174);
-    assert_row(
-        &rt,
-        alloc,
-        options,
-        b"ean8,height=2 7351353\n",
-        two.as_slice(),
-        b"",
-    );
-    assert_row(
-        &rt,
-        alloc,
-        options,
-        b"ean8,height=500,height=002 7351353\n",
-        two.as_slice(),
-        b"",
-    );
     let both = joined(alloc, &[two.as_slice(), EAN8])?;
-    assert_row(
-        &rt,
-        alloc,
-        options,
-        b"ean8,height=2 7351353\nean8 7351353\n",
-        both.as_slice(),
-        b"",
-    );
-    for (input, message) in [
+    for (input, out, message) in [
         (
-            b"qr,height=3 1\n".as_slice(),
-            b"line 1: unknown setting 1\n".as_slice(),
+            b"ean8,height=2 7351353\n".as_slice(),
+            two.as_slice(),
+            b"".as_slice(),
         ),
+        (b"ean8,height=500,height=002 7351353\n", two.as_slice(), b""),
         (
-            b"ean8, 7351353\n".as_slice(),
-            b"line 1: unknown setting 1\n".as_slice(),
-        ),
-        (
-            b"ean8,height=0 1\n".as_slice(),
-            b"line 1: bad value in setting 1\n".as_slice(),
-        ),
-        (
-            b"qr,level=H,mask=8\n".as_slice(),
-            b"line 1: bad value in setting 2\n".as_slice(),
-        ),
-        (
-            b"qr,mask=3,level=h,size=2 x\n".as_slice(),
-            b"line 1: bad value in setting 2\n".as_slice(),
-        ),
-        (b"qr,level=H\n".as_slice(), b"line 1: no data\n".as_slice()),
-        (
-            b"pdf,height=9 x\n".as_slice(),
-            b"line 1: unknown symbology\n".as_slice(),
+            b"ean8,height=2 7351353\nean8 7351353\n",
+            both.as_slice(),
+            b"",
         ),
     ] {
-        assert_row(&rt, alloc, options, input, b"", message);
+        assert_row(&rt, alloc, options, input, out, message);
     }
     Ok(())
 }

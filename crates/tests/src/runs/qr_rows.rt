@@ -1,6 +1,6 @@
 //! Worked labels of QR.
 use crate::runs::support::{
-    DEFAULT, LEVEL_L, Named, assert_row, joined, letters, repeated, run_by,
+    DEFAULT, LEVEL_L, LOW, Named, assert_row, joined, letters, repeated, run_by,
 };
 use labelcore::{Format, Level};
 use std::alloc::{AllocError, Global};
@@ -51,85 +51,22 @@ fn plain_pbm(alloc: Global, header: &[u8], rows: &[&[u8]]) -> Result<Vec<u8>, Al
 }
 
 /// A line is drawn with this header, and nothing is refused.
-fn assert_header(
-    rt: &impl Abort,
-    alloc: Global,
-    named: Named,
-    line: &[u8],
-    header: &[u8],
-) -> Result<(), Fail> {
+fn assert_header(rt: &impl Abort, alloc: Global, named: Named, line: &[u8], header: &[u8]) {
     let options = named.options(rt);
     let came = run_by(alloc, options, line, 4096);
     assert!(rt; came.out.starts_with(header));
     assert_row(rt, alloc, options, line, came.out.as_slice(), b"");
-    Ok(())
 }
 
-/// A line of a name and so many equal bytes is drawn with this header.
-fn assert_long(
-    rt: &impl Abort,
-    alloc: Global,
-    named: Named,
-    byte: &[u8],
-    times: usize,
-    header: &[u8],
-) -> Result<(), Fail> {
-    let data = repeated(alloc, byte, times)?;
-    let line = joined(alloc, &[b"qr ", data.as_slice()])?;
-    assert_header(rt, alloc, named, line.as_slice(), header)
-}
-
-/// A line of this front and so many equal bytes does not fit at level L.
-fn assert_does_not_fit(
-    rt: &impl Abort,
+/// A line of this front and so many equal bytes.
+fn long_line(
     alloc: Global,
     front: &[u8],
     byte: &[u8],
     times: usize,
-) -> Result<(), Fail> {
+) -> Result<Vec<u8>, AllocError> {
     let data = repeated(alloc, byte, times)?;
-    let line = joined(alloc, &[front, data.as_slice()])?;
-    let options = LEVEL_L.options(rt);
-    let message = b"line 1: data does not fit version 10-L\n";
-    assert_row(rt, alloc, options, line.as_slice(), b"", message);
-    Ok(())
-}
-
-#[test]
-fn standard_example(rt: HostRuntime) -> Result<(), Fail> {
-    let alloc = rt.alloc();
-    let want = plain_pbm(alloc, b"P1\n29 29\n", EXAMPLE.as_slice())?;
-    assert!(rt; want.len() == 879);
-    let options = Named {
-        mask: Some(2),
-        ..DEFAULT
-    }
-    .options(&rt);
-    assert_row(&rt, alloc, options, b"qr 01234567\n", want.as_slice(), b"");
-    let options = Named {
-        level: Level::H,
-        height: 1,
-        ..DEFAULT
-    }
-    .options(&rt);
-    assert_row(
-        &rt,
-        alloc,
-        options,
-        b"qr,level=M,mask=2 01234567\n",
-        want.as_slice(),
-        b"",
-    );
-    let options = Named {
-        mask: Some(2),
-        format: Format::Ascii,
-        ..DEFAULT
-    }
-    .options(&rt);
-    let want = letters(alloc, EXAMPLE.as_slice())?;
-    assert!(rt; want.len() == 1712);
-    assert_row(&rt, alloc, options, b"qr 01234567\n", want.as_slice(), b"");
-    Ok(())
+    joined(alloc, &[front, data.as_slice()])
 }
 
 /// The symbol of `HELLO WORLD` at level Q under mask 6, in its quiet zone, as another encoder draws it.
@@ -166,86 +103,104 @@ const HELLO: [&[u8]; 29] = [
 ];
 
 #[test]
-fn hello_world(rt: HostRuntime) -> Result<(), Fail> {
+fn known_symbols(rt: HostRuntime) -> Result<(), Fail> {
     let alloc = rt.alloc();
-    let want = plain_pbm(alloc, b"P1\n29 29\n", HELLO.as_slice())?;
-    let options = Named {
-        level: Level::Q,
-        mask: Some(6),
+    let example = plain_pbm(alloc, b"P1\n29 29\n", EXAMPLE.as_slice())?;
+    let text = letters(alloc, EXAMPLE.as_slice())?;
+    let hello = plain_pbm(alloc, b"P1\n29 29\n", HELLO.as_slice())?;
+    assert!(rt; example.len() == 879);
+    assert!(rt; text.len() == 1712);
+    let masked = Named {
+        mask: Some(2),
         ..DEFAULT
+    };
+    for (named, line, want) in [
+        (masked, b"qr 01234567\n".as_slice(), example.as_slice()),
+        (
+            Named {
+                level: Level::H,
+                ..LOW
+            },
+            b"qr,level=M,mask=2 01234567\n",
+            example.as_slice(),
+        ),
+        (
+            Named {
+                format: Format::Ascii,
+                ..masked
+            },
+            b"qr 01234567\n",
+            text.as_slice(),
+        ),
+        (
+            Named {
+                level: Level::Q,
+                mask: Some(6),
+                ..DEFAULT
+            },
+            b"qr HELLO WORLD\n",
+            hello.as_slice(),
+        ),
+    ] {
+        assert_row(&rt, alloc, named.options(&rt), line, want, b"");
     }
-    .options(&rt);
-    assert_row(
-        &rt,
-        alloc,
-        options,
-        b"qr HELLO WORLD\n",
-        want.as_slice(),
-        b"",
-    );
     Ok(())
 }
 
 #[test]
 fn least_versions(rt: HostRuntime) -> Result<(), Fail> {
-    let alloc = rt.alloc();
-    assert_long(&rt, alloc, LEVEL_L, b"1", 41, b"P1\n29 29\n")?;
-    assert_long(&rt, alloc, LEVEL_L, b"1", 42, b"P1\n33 33\n")?;
-    assert_long(&rt, alloc, LEVEL_L, b"a", 17, b"P1\n29 29\n")?;
-    assert_long(&rt, alloc, LEVEL_L, b"a", 18, b"P1\n33 33\n")?;
     let fifth = Named {
         level: Level::Q,
         min_version: 5,
         ..DEFAULT
     };
-    assert_long(&rt, alloc, fifth, b"a", 30, b"P1\n45 45\n")
+    for (named, front, byte, times, header) in [
+        (LEVEL_L, b"qr ".as_slice(), b"1", 41, b"P1\n29 29\n"),
+        (LEVEL_L, b"qr ", b"1", 42, b"P1\n33 33\n"),
+        (LEVEL_L, b"qr ", b"a", 17, b"P1\n29 29\n"),
+        (LEVEL_L, b"qr ", b"a", 18, b"P1\n33 33\n"),
+        (fifth, b"qr ", b"a", 30, b"P1\n45 45\n"),
+        (LEVEL_L, b"qr ", b"a", 271, b"P1\n65 65\n"),
+        (LEVEL_L, b"qr ", b"1", 652, b"P1\n65 65\n"),
+        (LEVEL_L, b"qr a", b"1", 644, b"P1\n65 65\n"),
+    ] {
+        let line = long_line(rt.alloc(), front, byte, times)?;
+        assert_header(&rt, rt.alloc(), named, line.as_slice(), header);
+    }
+    Ok(())
 }
 
 #[test]
-fn most_bytes(rt: HostRuntime) -> Result<(), Fail> {
+fn data_that_does_not_fit(rt: HostRuntime) -> Result<(), Fail> {
     let alloc = rt.alloc();
-    assert_long(&rt, alloc, LEVEL_L, b"a", 271, b"P1\n65 65\n")?;
-    assert_does_not_fit(&rt, alloc, b"qr ", b"a", 272)
+    let options = LEVEL_L.options(&rt);
+    for (front, byte, times) in [
+        (b"qr ".as_slice(), b"a", 272),
+        (b"qr ", b"1", 653),
+        (b"qr a", b"1", 645),
+    ] {
+        let line = long_line(alloc, front, byte, times)?;
+        let message = b"line 1: data does not fit version 10-L\n";
+        assert_row(&rt, alloc, options, line.as_slice(), b"", message);
+    }
+    Ok(())
 }
 
 #[test]
-fn most_digits(rt: HostRuntime) -> Result<(), Fail> {
-    let alloc = rt.alloc();
-    assert_long(&rt, alloc, LEVEL_L, b"1", 652, b"P1\n65 65\n")?;
-    assert_does_not_fit(&rt, alloc, b"qr ", b"1", 653)
-}
-
-#[test]
-fn most_digits_after_a_letter(rt: HostRuntime) -> Result<(), Fail> {
-    let alloc = rt.alloc();
-    let data = repeated(alloc, b"1", 644)?;
-    let line = joined(alloc, &[b"qr a", data.as_slice()])?;
-    assert_header(&rt, alloc, LEVEL_L, line.as_slice(), b"P1\n65 65\n")?;
-    assert_does_not_fit(&rt, alloc, b"qr a", b"1", 645)
-}
-
-#[test]
-fn mixed_segments(rt: HostRuntime) -> Result<(), Fail> {
-    let alloc = rt.alloc();
-    assert_header(
-        &rt,
-        alloc,
-        Named {
-            level: Level::H,
-            ..DEFAULT
-        },
-        b"qr a123456789\n",
-        b"P1\n29 29\n",
-    )?;
-    assert_header(
-        &rt,
-        alloc,
-        Named {
-            level: Level::Q,
-            ..DEFAULT
-        },
-        b"qr ab1234567890cd\n",
-        b"P1\n29 29\n",
-    )?;
-    assert_header(&rt, alloc, DEFAULT, b"qr a123\n", b"P1\n29 29\n")
+fn mixed_segments(rt: HostRuntime) {
+    let high = Named {
+        level: Level::H,
+        ..DEFAULT
+    };
+    let quartile = Named {
+        level: Level::Q,
+        ..DEFAULT
+    };
+    for (named, line) in [
+        (high, b"qr a123456789\n".as_slice()),
+        (quartile, b"qr ab1234567890cd\n"),
+        (DEFAULT, b"qr a123\n"),
+    ] {
+        assert_header(&rt, rt.alloc(), named, line, b"P1\n29 29\n");
+    }
 }

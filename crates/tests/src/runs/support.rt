@@ -191,6 +191,21 @@ pub fn refused_lines(alloc: Global) -> Result<Vec<u8>, AllocError> {
     Ok(lines)
 }
 
+/// The message of the line that is too long.
+pub const TOO_LONG: &[u8] = b"line 1: line is longer than 1100 bytes\n";
+
+/// A line that is too long, a long comment and a label.
+pub fn long_lines(alloc: Global, letters: &[u8], comment: &[u8]) -> Result<Vec<u8>, AllocError> {
+    joined(alloc, &[letters, b"\n#", comment, b"\nean8 7351353"])
+}
+
+/// A line of 1,101 letters, a comment of 2,000 and a label.
+pub fn rather_long_lines(alloc: Global) -> Result<Vec<u8>, AllocError> {
+    let letters = repeated(alloc, b"a", 1101)?;
+    let comment = repeated(alloc, b"a", 2000)?;
+    long_lines(alloc, letters.as_slice(), comment.as_slice())
+}
+
 /// A header, and then the text of one row of pixels for each of the rows.
 pub fn bars(alloc: Global, header: &[u8], row: &[u8], rows: usize) -> Result<Vec<u8>, AllocError> {
     let pixels = repeated(alloc, row, rows)?;

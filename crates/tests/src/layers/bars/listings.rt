@@ -1,8 +1,8 @@
 //! Each row of the tables against the symbols that Zint 2.11.1 draws.
-ghost use Rattle.std.specs.Prelude.{◌≢◌, []};
+ghost use Rattle.std.specs.Prelude.{◌<◌};
 
 use super::{assert_drawn, assert_row, assert_widths, push_widths};
-use linear::{Ean8, Ean13, Row};
+use linear::{Code128, Ean8, Ean13, Row};
 
 /// The widths of the values 0 to 105, as `zint -b 20 --dump` and, for 102, `zint -b 16 --dump` draw them: 0 to 99 and
 /// 105 in the symbols of two digits, 103 in that of bytes 1 and 2, 104 in that of `ab`, 101 in that of `ab` and the
@@ -24,123 +24,111 @@ static WIDTHS: [&[u8; 6]; 106] = [
     b"211214", b"211232",
 ];
 
-/// The row of the characters of three values, and of the stop character.
-fn row_of(start: u8, value: u8, check: u8) -> Row {
+/// The row of two digits alone: the start value of set C, their value, the check value 105 + value, modulo 103, and the
+/// stop character.
+fn row_of(value: u8) -> Row
+    requires { value < 100 }
+{
     let mut row = Row::new();
-    for value in [start, value, check] {
-        if let Some(listed) = WIDTHS.get(usize::from(value)) {
-            push_widths(&mut row, listed.as_slice());
-        }
-    }
+    push_widths(&mut row, WIDTHS[105]);
+    push_widths(&mut row, WIDTHS[usize::from(value)]);
+    push_widths(&mut row, WIDTHS[usize::from((105 + value) % 103)]);
     push_widths(&mut row, b"2331112");
     row
 }
 
-/// Two digits alone are the start value of set C, their value, and the check value 105 + value, modulo 103.
 #[test]
 fn widths_of_each_value(rt: HostRuntime) {
     for value in 0..100u8 {
         let data = [b'0' + value / 10, b'0' + value % 10];
-        let want = row_of(105, value, (105 + value) % 103);
+        let want = row_of(value);
         assert!(rt; want.len() == 46);
-        assert_row(&rt, &data, &want);
+        assert_row::<Code128>(&rt, &data, &want);
     }
 }
 
 /// The values that no pair of digits has: 102 as a check value, the start values 103 and 104, the changes 100 and 101.
-#[test]
-fn widths_of_the_other_values(rt: HostRuntime) {
-    assert_widths(&rt, b"0050", b"211232 212222 231131 411131 2331112");
-    assert_widths(&rt, b"\x01\x02", b"211412 121124 121421 131141 2331112");
-    assert_widths(&rt, b"ab", b"211214 121124 121421 114113 2331112");
-    assert_widths(
-        &rt,
+const OTHER_VALUES: &[(&[u8], &[u8])] = &[
+    (b"0050", b"211232 212222 231131 411131 2331112"),
+    (b"\x01\x02", b"211412 121124 121421 131141 2331112"),
+    (b"ab", b"211214 121124 121421 114113 2331112"),
+    (
         b"ab\x01\x02\x03",
         b"211214 121124 121421 311141 121124 121421 141122 213113 2331112",
-    );
-    assert_widths(
-        &rt,
+    ),
+    (
         b"1234ab",
         b"211232 112232 131123 114131 121124 121421 113123 2331112",
-    );
-    assert_widths(
-        &rt,
+    ),
+    (
         b"\x01\x02a\x03",
         b"211412 121124 121421 411311 121124 141122 331121 2331112",
-    );
-    assert_widths(
-        &rt,
+    ),
+    (
         b"ab\x01c",
         b"211214 121124 121421 411311 121124 141122 312113 2331112",
-    );
-}
+    ),
+];
 
 /// Symbols of `zint -b 13 --dump`: each first digit, and each digit in each number set.
-#[test]
-fn digits_in_each_number_set(rt: HostRuntime) {
-    assert_drawn::<Ean13>(
-        &rt,
+const EAN13_SYMBOLS: &[(&[u8], &[u8])] = &[
+    (
         b"021403579861",
         b"10100100110011001010001100011010111101011000101010100010011101001001000101000011001101011100101",
-    );
-    assert_drawn::<Ean13>(
-        &rt,
+    ),
+    (
         b"170634891525",
         b"10101110110001101000010101111010011101000100101010111010011001101001110110110010011101000100101",
-    );
-    assert_drawn::<Ean13>(
-        &rt,
+    ),
+    (
         b"209854732610",
         b"10100011010001011000100101110010100011001000101010100001011011001010000110011011100101100110101",
-    );
-    assert_drawn::<Ean13>(
-        &rt,
+    ),
+    (
         b"383794120654",
         b"10101101110111101001000100101110011101001100101010110110011100101010000100111010111001010000101",
-    );
-    assert_drawn::<Ean13>(
-        &rt,
+    ),
+    (
         b"406175294838",
         b"10100011010000101001100101110110111001001101101010111010010111001001000100001010010001100110101",
-    );
-    assert_drawn::<Ean13>(
-        &rt,
+    ),
+    (
         b"534879652013",
         b"10101111010011101000100101110110001011000010101010100111011011001110010110011010000101100110101",
-    );
-    assert_drawn::<Ean13>(
-        &rt,
+    ),
+    (
         b"669274801358",
         b"10101011110010111001101100100010100011011011101010111001011001101000010100111010010001001110101",
-    );
-    assert_drawn::<Ean13>(
-        &rt,
+    ),
+    (
         b"765780391242",
         b"10101011110111001011101100010010001101010000101010111010011001101101100101110011011001011100101",
-    );
-    assert_drawn::<Ean13>(
-        &rt,
+    ),
+    (
         b"883061459277",
         b"10101101110100001000110100001010110011010001101010100111011101001101100100010010001001011100101",
-    );
-    assert_drawn::<Ean13>(
-        &rt,
+    ),
+    (
         b"948035912760",
         b"10101000110001001010011101111010111001000101101010110011011011001000100101000011100101101100101",
-    );
-}
+    ),
+];
 
 /// Symbols of `zint -b 13 --dump` with seven digits: each digit in a left or right half.
-#[test]
-fn short_symbols(rt: HostRuntime) {
-    assert_drawn::<Ean8>(
-        &rt,
+const EAN8_SYMBOLS: &[(&[u8], &[u8])] = &[
+    (
         b"2468013",
         b"1010010011010001101011110110111010101110010110011010000101011100101",
-    );
-    assert_drawn::<Ean8>(
-        &rt,
+    ),
+    (
         b"9753108",
         b"1010001011011101101100010111101010101100110111001010010001100110101",
-    );
+    ),
+];
+
+#[test]
+fn rows_are_drawn(rt: HostRuntime) {
+    assert_widths(&rt, OTHER_VALUES);
+    assert_drawn::<Ean13>(&rt, EAN13_SYMBOLS);
+    assert_drawn::<Ean8>(&rt, EAN8_SYMBOLS);
 }
