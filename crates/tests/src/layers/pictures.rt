@@ -50,6 +50,25 @@ fn has_row(grid: &impl Grid, y: usize, row: &[bool; 14]) -> bool {
     pixels == *row
 }
 
+/// Pixels of the framed bars below: column, row, and whether it is dark.
+const FRAMED_PIXELS: &[(usize, usize, bool)] = &[
+    (3, 0, false),
+    (4, 0, true),
+    (4, 2, true),
+    (4, 3, false),
+];
+
+/// Pixels of their picture at scale 2.
+const LARGER_PIXELS: &[(usize, usize, bool)] = &[
+    (7, 5, false),
+    (9, 5, true),
+    (9, 6, false),
+    (10, 5, false),
+];
+
+/// How many rows from this one on are known to be equal in it.
+const LARGER_EQUAL_ROWS: &[(usize, usize)] = &[(0, 6), (5, 1), (6, 4), (9, 1)];
+
 #[test]
 fn bars_are_asked(rt: HostRuntime) {
     let row = [true, false];
@@ -59,8 +78,8 @@ fn bars_are_asked(rt: HostRuntime) {
     assert!(rt; has_pixel(&bars, 1, 2, false));
     let framed = Framed::new(bars, 4, 1, 0, 2);
     assert!(rt; is_sized(&framed, 7, 5));
-    for (x, y, dark) in [(3, 0, false), (4, 0, true), (4, 2, true), (4, 3, false)] {
-        assert!(rt; has_pixel(&framed, x, y, dark));
+    for (x, y, dark) in FRAMED_PIXELS {
+        assert!(rt; has_pixel(&framed, *x, *y, *dark));
     }
 }
 
@@ -69,11 +88,11 @@ fn larger_pixels_are_asked(rt: HostRuntime) {
     let row = [true, false];
     let scaled = Scaled::new(Framed::new(Bars::new(&row, 3), 4, 1, 0, 2), 2);
     assert!(rt; is_sized(&scaled, 14, 10));
-    for (x, y, dark) in [(7, 5, false), (9, 5, true), (9, 6, false), (10, 5, false)] {
-        assert!(rt; has_pixel(&scaled, x, y, dark));
+    for (x, y, dark) in LARGER_PIXELS {
+        assert!(rt; has_pixel(&scaled, *x, *y, *dark));
     }
-    for (y, rows) in [(0, 6), (5, 1), (6, 4), (9, 1)] {
-        assert!(rt; has_equal_rows(&scaled, y, rows));
+    for (y, rows) in LARGER_EQUAL_ROWS {
+        assert!(rt; has_equal_rows(&scaled, *y, *rows));
     }
     let mut pixels = [false; 14];
     assert!(rt; has_row(&scaled, 6, &pixels));

@@ -5,6 +5,7 @@ use crate::runs::support::{
 };
 use filter::{RunFault, Status};
 use labelcore::{FailAt, MemSink, MemSource, Options};
+use std::alloc::{AllocError, Global};
 use std::process::Abort;
 use std::test::Fail;
 
