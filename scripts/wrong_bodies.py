@@ -1,18 +1,19 @@
 #!/usr/bin/env python3
 """Tries the wrong bodies of crates/*/wrong-bodies: the prover must refuse each.
 
-usage: scripts/wrong_bodies.py [--built] [CRATE ..]
+usage: scripts/wrong_bodies.py [--built] [--show] [CRATE ..]
 
 A wrong body is a file like a must-fail edit, with one line more. `refused: FUNCTION` names the function whose proof has
 to fail, by its path below the crate, as a check prints it. `file: FILE` and pairs of `old: TEXT` and `new: TEXT` change
 the code; each TEXT stands in the file once. `alone: WHY` keeps it apart from others, as a constant that several
 functions read.
 
-`rt` tries each must-fail edit by a check of the crate. Here one check tries many: a proof reads of other functions their
-contracts alone, so wrong bodies of several functions stand in one copy of the crate, and the check tells of each function
-whether it is refused. What fails only because it calls another is not judged, and is tried again without that one.
+`rt` tries each must-fail edit by a check of the crate. Here one check tries many: a proof reads of other functions
+their contracts alone, so wrong bodies of several functions stand in one copy of the crate, and the check tells of each
+function whether it is refused. What fails only because it calls another is not judged, and is tried again without it.
 
---built takes the libraries below as `rt ci` left them; else they are built where they changed.
+--built takes the libraries below as `rt ci` left them; else they are built where they changed. --show prints of each
+wrong body what the check says of its functions.
 The status is 0 where each wrong body is refused. The last line is `N passed, M failed`, as of `rt ci`.
 """
 
@@ -122,13 +123,18 @@ def check(rtlib, crate, texts, functions, kept):
         return subprocess.run([*rtlib.guarded(), *words], errors="replace", **how).stdout
 
 
+def verdict(crate, said, function):
+    """Returns what a check says of a function, or nothing."""
+    line = re.search(rf"^fn {crate.name}::{re.escape(function)}: (.*)$", said, re.M)
+    return line[1] if line else ""
+
+
 def called_unproved(crate, said, function):
     """Returns the functions that this one calls, itself or through others, and that were not proved."""
     found, left = set(), [function]
     while left:
-        name = left.pop()
-        line = re.search(rf"^fn {crate.name}::{re.escape(name)}: .*it calls (.*)$", said, re.M)
-        called = re.findall(rf"`{crate.name}::(\S+)`", line[1]) if line else []
+        calls = verdict(crate, said, left.pop()).partition("it calls ")[2]
+        called = re.findall(rf"`{crate.name}::(\S+)`", calls)
         left += [it for it in called if it not in found]
         found |= {*called}
     return found
@@ -138,12 +144,13 @@ def judged(crate, body, said):
     """Returns whether each function of a wrong body is refused, or None where one fails only by what it calls."""
     answers = []
     for function in body.functions:
-        line = re.search(rf"^fn {crate.name}::{re.escape(function)}: (.*)$", said, re.M)
-        answers.append(False if not line or line[1] == "proved" else bool(REFUSED.match(line[1])) or None)
+        words = verdict(crate, said, function)
+        is_proved = not words or words.startswith("proved")
+        answers.append(False if is_proved else bool(REFUSED.match(words)) or None)
     return False if False in answers else None if None in answers else True
 
 
-def try_all(rtlib, crate):
+def try_all(rtlib, crate, shows):
     """Tries the wrong bodies of a crate, and returns how many are refused and a line on each that isn't."""
     left, refused, lines, checks = bodies_of(crate), 0, [], 0
     with tempfile.TemporaryDirectory(prefix="wrong-bodies-kept-") as kept:
@@ -155,6 +162,8 @@ def try_all(rtlib, crate):
             checks += 1
             answers = [(body, judged(crate, body, said)) for body in chosen]
             refused += sum(answer is True for _, answer in answers)
+            for body, name in [(it, name) for it, answer in answers if shows and answer for name in it.functions]:
+                print(f"{crate.name}/{body.name}: {name}: {verdict(crate, said, name)}")
             lines += [f"{body.name}: NOT REFUSED" for body, answer in answers if answer is False]
             if not re.search(r"^only=", said, re.M):
                 lines += ["the check did not reach its end:", *said.split("\n")[:6]]
@@ -177,7 +186,7 @@ def main(words):
             return 1
     crates.sort(key=lambda it: -len(bodies_of(it)))
     with concurrent.futures.ThreadPoolExecutor(len(os.sched_getaffinity(0))) as pool:
-        given = [*pool.map(lambda it: try_all(rtlib, it), crates)]
+        given = [*pool.map(lambda it: try_all(rtlib, it, "--show" in words), crates)]
     failed = [f"{crate.name}/{line}" for crate, (_, lines) in zip(crates, given) for line in lines]
     print(*failed, sep="\n", end="\n" if failed else "")
     print(f"{sum(refused for refused, _ in given)} passed, {len(failed)} failed")
