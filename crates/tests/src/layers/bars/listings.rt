@@ -4,25 +4,18 @@ ghost use Rattle.std.specs.Prelude.{◌<◌};
 use super::{assert_drawn, assert_row, assert_widths, push_widths};
 use linear::{Code128, Ean8, Ean13, Row};
 
-/// The widths of the values 0 to 105, as `zint -b 20 --dump` and, for 102, `zint -b 16 --dump` draw them: 0 to 99 and
-/// 105 in the symbols of two digits, 103 in that of bytes 1 and 2, 104 in that of `ab`, 101 in that of `ab` and the
-/// bytes 1, 2 and 3, 100 in that of `1234ab`, and 102 in that of `[01]12345678901231`.
-static WIDTHS: [&[u8; 6]; 106] = [
-    b"212222", b"222122", b"222221", b"121223", b"121322", b"131222", b"122213", b"122312",
-    b"132212", b"221213", b"221312", b"231212", b"112232", b"122132", b"122231", b"113222",
-    b"123122", b"123221", b"223211", b"221132", b"221231", b"213212", b"223112", b"312131",
-    b"311222", b"321122", b"321221", b"312212", b"322112", b"322211", b"212123", b"212321",
-    b"232121", b"111323", b"131123", b"131321", b"112313", b"132113", b"132311", b"211313",
-    b"231113", b"231311", b"112133", b"112331", b"132131", b"113123", b"113321", b"133121",
-    b"313121", b"211331", b"231131", b"213113", b"213311", b"213131", b"311123", b"311321",
-    b"331121", b"312113", b"312311", b"332111", b"314111", b"221411", b"431111", b"111224",
-    b"111422", b"121124", b"121421", b"141122", b"141221", b"112214", b"112412", b"122114",
-    b"122411", b"142112", b"142211", b"241211", b"221114", b"413111", b"241112", b"134111",
-    b"111242", b"121142", b"121241", b"114212", b"124112", b"124211", b"411212", b"421112",
-    b"421211", b"212141", b"214121", b"412121", b"111143", b"111341", b"131141", b"114113",
-    b"114311", b"411113", b"411311", b"113141", b"114131", b"311141", b"411131", b"211412",
-    b"211214", b"211232",
-];
+/// The widths of the values 0 to 105, six digits each, as `zint -b 20 --dump` and, for 102, `zint -b 16 --dump` draw
+/// them: 0 to 99 and 105 in the symbols of two digits, 103 in that of bytes 1 and 2, 104 in that of `ab`, 101 in that
+/// of `ab` and the bytes 1, 2 and 3, 100 in that of `1234ab`, and 102 in that of `[01]12345678901231`.
+const WIDTHS: &[u8] = b"\
+    212222222122222221121223121322131222122213122312132212221213221312231212112232122132122231\
+    113222123122123221223211221132221231213212223112312131311222321122321221312212322112322211\
+    212123212321232121111323131123131321112313132113132311211313231113231311112133112331132131\
+    113123113321133121313121211331231131213113213311213131311123311321331121312113312311332111\
+    314111221411431111111224111422121124121421141122141221112214112412122114122411142112142211\
+    241211221114413111241112134111111242121142121241114212124112124211411212421112421211212141\
+    214121412121111143111341131141114113114311411113411311113141114131311141411131211412211214\
+    211232";
 
 /// The row of two digits alone: the start value of set C, their value, the check value 105 + value, modulo 103, and the
 /// stop character.
@@ -30,9 +23,12 @@ fn row_of(value: u8) -> Row
     requires { value < 100 }
 {
     let mut row = Row::new();
-    push_widths(&mut row, WIDTHS[105]);
-    push_widths(&mut row, WIDTHS[usize::from(value)]);
-    push_widths(&mut row, WIDTHS[usize::from((105 + value) % 103)]);
+    for character in [105, value, (105 + value) % 103] {
+        let place = 6 * usize::from(character);
+        if let Some(widths) = WIDTHS.get(place..place + 6) {
+            push_widths(&mut row, widths);
+        }
+    }
     push_widths(&mut row, b"2331112");
     row
 }
