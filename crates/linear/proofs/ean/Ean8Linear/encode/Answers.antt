@@ -1,9 +1,8 @@
-use Rattle.std.proofs.Common.{◌≡◌, ◌+◌, ◌≤◌, ◌++◌, ℕ, Bool, List, [], Ok, length, take, drop, replicate, sym, ap, ◌∙◌}
+use Rattle.std.proofs.Common.{◌≡◌, ◌+◌, ◌≤◌, ◌++◌, ℕ, Bool, List, [], length, take, drop, replicate, sym, ap, ◌∙◌}
 use Rattle.std.proofs.Common.{subst, arith}
 use Rattle.std.specs.Prelude.{IfOk}
 use Rattle.linear.specs.declared.ean.NumberSet.TheVariants.{A}
 use Rattle.linear.specs.declared.limits.TheConstants.{MAX_MODULES}
-use Rattle.linear.specs.Digits.{full_digits}
 use Rattle.linear.specs.Ean.{symbol, ean8_bars}
 use Rattle.linear.proofs.EanLaws.{ean8_read_back}
 use Rattle.linear.proofs.ean.Ean8Linear.encode.Goals as goal
