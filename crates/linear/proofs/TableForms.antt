@@ -3,11 +3,11 @@ use Rattle.std.proofs.Common.{◌≡◌, ℕ, ◌<◌, List, [], ◌∷◌, ◌+
 use Rattle.std.specs.List.{range_with_len}
 use Rattle.std.proofs.lemmas.List.FromFn.{get_or-map-range_with_len}
 use Rattle.std.proofs.lemmas.List.{get_or_append_left, get_or_default}
-use Rattle.linear.specs.declared.tables.TheConstants.{SET_A, SET_B, SET_C, CHARACTERS, STOP}
+use Rattle.linear.specs.declared.tables.TheConstants.{SET_A, SET_B, SET_C, LEFT_SETS, CHARACTERS, STOP}
 use Rattle.linear.specs.declared.ean.NumberSet.{NumberSet}
 use Rattle.linear.specs.declared.ean.NumberSet.TheVariants.{A, B, C}
-use Rattle.linear.specs.Tables.{number_set_a, character_widths}
-use Rattle.linear.specs.Ean.{pattern}
+use Rattle.linear.specs.Tables.{number_set_a, left_half_sets, character_widths}
+use Rattle.linear.specs.Ean.{pattern, left_sets}
 use Rattle.linear.specs.Code128.{characters, character_bars}
 
 -- the code's characters of the values 0 to 105, and its stop character
@@ -50,3 +50,16 @@ read_digit set i digit d same h = ap (λ table. get_or table i d) (digits_are se
 pub read_in : (set one : NumberSet) (i digit : ℕ) (d : List Bool) → set ≡ one → i ≡ digit → digit < 10
     → get_or (digits_of one) i d ≡ pattern set digit
 read_in set one i digit d e same h = read_digit one i digit d same h ∙ ap (λ s. pattern s digit) (sym e)
+
+-- the number sets of left halves
+unfoldable pub sets_of_left : List (List NumberSet)
+sets_of_left = LEFT_SETS
+
+left_sets_are : sets_of_left ≡ map left_sets (range_with_len 0 10)
+unfolding sets_of_left left_half_sets
+left_sets_are = refl
+
+pub read_left_sets : (i digit : ℕ) (d : List NumberSet) → i ≡ digit → digit < 10
+    → get_or sets_of_left i d ≡ left_sets digit
+read_left_sets i digit d same h = ap (λ table. get_or table i d) left_sets_are
+    ∙ get_or-map-range_with_len left_sets 0 10 i digit d (omega arith) (omega arith)

@@ -196,7 +196,6 @@ fn picked_set_of(byte: u8, rest: &[u8]) -> CodeSet
 }
 
 /// The values that the data is written in, from a set on: at most two a byte.
-#[tactic(auto, using(crate::proofs::WrittenLemmas::pair_at, crate::proofs::WrittenLemmas::byte_at))]
 pub fn written(data: &[u8], start: CodeSet) -> Values
     requires ascii { All (λ byte. byte < 128) «data».now }
     requires few { length «data».now ≤ MAX_BYTES }

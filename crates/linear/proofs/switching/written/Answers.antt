@@ -1,24 +1,36 @@
 use Rattle.std.proofs.Common.{◌≡◌, ◌+◌, ◌-◌, ◌++◌, ℕ, List, length, take, drop, get_or, sym, ap, ◌∙◌, append_assoc}
-use Rattle.std.proofs.Common.{append-nil, [], subst, ◌<◌, All, arith}
+use Rattle.std.proofs.Common.{append-nil, [], subst, ◌<◌, ◌≤◌, All, arith, Bool, true}
 use Rattle.std.proofs.lemmas.List.{take_all, drop_all, length-drop}
 use Rattle.std.proofs.lemmas.List.Elements.{All-from_recursion, recursion_from_All}
 use Rattle.linear.proofs.Code128Laws.{written_characters}
+use Rattle.linear.specs.declared.switching.CodeSet.{CodeSet}
 use Rattle.linear.specs.declared.switching.CodeSet.TheVariants.{C}
 use Rattle.linear.specs.CodeSets.{is_pair_next, pair_values, byte_written, written}
-use Rattle.linear.proofs.WrittenLemmas.{pair_at, byte_at}
+use Rattle.linear.proofs.WrittenLemmas.{PairAt, pair_at, byte_at}
 use Rattle.linear.proofs.switching.written.Goals as goal
 
 -- what stands behind `&xs[i..]`
 rest_is : (xs : List ℕ) (i : ℕ) → take (length xs - i) (drop i xs) ≡ drop i xs
 rest_is xs i = take_all (length xs - i) (drop i xs) (let e = length-drop i xs in omega arith)
 
+-- where a pair is next, in the code's words
+pair_in : (set : CodeSet) (xs : List ℕ) (i : ℕ) (b : Bool) → i ≤ length xs
+    → b ≡ is_pair_next set (take (length xs - i) (drop i xs)) → b ≡ true → PairAt set xs i
+pair_in set xs i b le is h = pair_at set xs i le (ap (is_pair_next set) (sym (rest_is xs i)) ∙ sym is ∙ h)
+
+pub bounds-data-i-then-is_pair_next : goal.bounds-data-i-then-is_pair_next
+bounds-data-i-then-is_pair_next c =
+    let p = pair_in c.loop-i.set c.args.data.now c.loop-i.i _ c.loop-i.invariant.within c.is_pair_next.ensures
+    c.if-is_pair_next.true in
+    let w = p.within in omega arith
+
+pub push_pair-requires-clause-first : goal.push_pair-requires-clause-first
+push_pair-requires-clause-first c = (pair_in c.loop-i.set c.args.data.now c.loop-i.i _ c.loop-i.invariant.within
+    c.is_pair_next.ensures c.if-is_pair_next.true).first
+
 pub push_pair-requires-clause-second : goal.push_pair-requires-clause-second
-push_pair-requires-clause-second c =
-    let i = c.loop-i.i in
-    let xs = c.args.data.now in
-    let pair = ap (is_pair_next c.loop-i.set) (sym (rest_is xs i)) ∙ sym c.is_pair_next.ensures
-    ∙ c.if-is_pair_next.true in
-    (pair_at c.loop-i.set xs i c.loop-i.invariant.within pair).second
+push_pair-requires-clause-second c = (pair_in c.loop-i.set c.args.data.now c.loop-i.i _ c.loop-i.invariant.within
+    c.is_pair_next.ensures c.if-is_pair_next.true).second
 
 pub loop-i-preserved-then-is_pair_next : goal.loop-i-preserved-then-is_pair_next
 loop-i-preserved-then-is_pair_next c =
@@ -26,8 +38,7 @@ loop-i-preserved-then-is_pair_next c =
     let xs = c.args.data.now in
     let set = c.loop-i.set in
     let before = c.loop-i.values.items in
-    let pair = ap (is_pair_next set) (sym (rest_is xs i)) ∙ sym c.is_pair_next.ensures ∙ c.if-is_pair_next.true in
-    let p = pair_at set xs i c.loop-i.invariant.within pair in
+    let p = pair_in set xs i _ c.loop-i.invariant.within c.is_pair_next.ensures c.if-is_pair_next.true in
     let after = written C (drop (i + 2) xs) in
     record {
       within = p.within;
