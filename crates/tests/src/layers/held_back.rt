@@ -35,21 +35,27 @@ fn write_letters(rt: &impl Abort, count: usize, sink: &mut impl Sink) {
     assert!(rt; takes(sink, &letters[..count % 1000]));
 }
 
+/// Whether so many bytes went on to the memory below, and so many are held back.
+fn counts(sink: &Held<MemSink<66000>>, below: usize, held: usize) -> bool {
+    sink.sink().bytes().len() == below && sink.held().len() == held
+}
+
+/// Bytes that are written, and how many of them go on before the flush and are held back.
+const ROOMS: &[(usize, usize, usize)] = &[
+    (65_535, 0, 65_535),
+    (65_536, 0, 65_536),
+    (65_537, 65_536, 1),
+    (66_000, 65_536, 464),
+];
+
 #[test]
 fn a_full_room_goes_on_at_the_next_byte(rt: HostRuntime) {
-    for (count, below, held) in [
-        (65_535, 0, 65_535),
-        (65_536, 0, 65_536),
-        (65_537, 65_536, 1),
-        (66_000, 65_536, 464),
-    ] {
+    for (count, below, held) in ROOMS {
         let mut sink = Held::new(MemSink::<66000>::new(66000, 66000));
-        write_letters(&rt, count, &mut sink);
-        assert!(rt; sink.sink().bytes().len() == below);
-        assert!(rt; sink.held().len() == held);
+        write_letters(&rt, *count, &mut sink);
+        assert!(rt; counts(&sink, *below, *held));
         assert!(rt; flushes(&mut sink));
-        assert!(rt; sink.sink().bytes().len() == count);
-        assert!(rt; sink.held().is_empty());
+        assert!(rt; counts(&sink, *count, 0));
     }
 }
 
@@ -66,20 +72,18 @@ fn a_sink_of_one_byte_a_call_gets_all_bytes_in_order(rt: HostRuntime) {
     assert!(rt; stands_counted(&sink, b"abcdefgh", b""));
 }
 
+/// Calls of the sink below that fail, and the texts that were sent before and are left.
+const FAILING_CALLS: &[(u64, &[u8], &[u8])] =
+    &[(1, b"", b"abcde"), (2, b"ab", b"cde"), (3, b"abcd", b"e")];
+
 /// The call of the sink below at which a text that is sent on in pieces of two bytes fails.
 #[test]
 fn a_failing_call_leaves_what_did_not_go_on(rt: HostRuntime) {
-    for (call, sent, left) in [
-        (1, b"".as_slice(), b"abcde".as_slice()),
-        (2, b"ab".as_slice(), b"cde".as_slice()),
-        (3, b"abcd".as_slice(), b"e".as_slice()),
-    ] {
-        let mut sink = Held::new(FailAt::new(MemSink::<8>::new(2, 8), call));
-        assert!(rt; takes(&mut sink, b"abcde"));
-        assert!(rt; !sends_on(&mut sink));
+    for (call, sent, left) in FAILING_CALLS {
+        let mut sink = Held::new(FailAt::new(MemSink::<8>::new(2, 8), *call));
+        assert!(rt; takes(&mut sink, b"abcde") && !sends_on(&mut sink));
         assert!(rt; stands_counted(&sink, sent, left));
-        assert!(rt; takes(&mut sink, b"fgh"));
-        assert!(rt; flushes(&mut sink));
+        assert!(rt; takes(&mut sink, b"fgh") && flushes(&mut sink));
         assert!(rt; stands_counted(&sink, b"abcdefgh", b""));
     }
 }

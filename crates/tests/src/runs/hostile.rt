@@ -1,6 +1,6 @@
 //! Hostile use: devices that fail at each call or at each byte, very long lines, every byte, and input that breaks off.
 use crate::runs::support::{
-    EAN8, REFUSALS, RunResult, TOO_LONG, answer_of, answer_to, assert_came_to, first_lines, joined, line_ends,
+    EAN8, REFUSALS, TOO_LONG, answer_of, answer_to, assert_came_to, first_lines, joined, line_ends,
     long_lines, low, rather_long_lines, refused_lines, repeated, run_by,
 };
 use filter::{RunFault, Status};
@@ -147,12 +147,8 @@ fn lines_of_ten_million_letters(rt: HostRuntime) -> Result<(), Fail> {
     let letters = ten_million_letters(alloc)?;
     assert!(rt; letters.len() == 10_000_000);
     let input = long_lines(alloc, letters.as_slice(), letters.as_slice())?;
-    let mut out: MemSink<91> = MemSink::new(91, 91);
-    let mut err: MemSink<39> = MemSink::new(39, 39);
-    let answer = answer_to(&rt, input.as_slice(), &mut out, &mut err);
-    assert!(rt; answer == Ok(Status::Refused));
-    assert!(rt; out.bytes() == EAN8);
-    assert!(rt; err.bytes() == TOO_LONG);
+    let came = run_by(alloc, low(&rt, false), input.as_slice(), 4096);
+    assert_came_to(&rt, &came, EAN8, TOO_LONG);
     Ok(())
 }
 
@@ -190,13 +186,6 @@ fn every_byte(rt: HostRuntime) -> Result<(), Fail> {
     Ok(())
 }
 
-/// Both runs came to the same.
-fn assert_same(rt: &impl Abort, one: &RunResult, other: &RunResult) {
-    assert!(rt; one.answer == other.answer);
-    assert!(rt; one.out.as_slice() == other.out.as_slice());
-    assert!(rt; one.err.as_slice() == other.err.as_slice());
-}
-
 /// The messages of the lines that ended are those of all lines, and at most the line that breaks off has one more.
 fn assert_told(rt: &impl Abort, told: &[u8], ended: usize) {
     assert!(rt; first_lines(told, ended) == first_lines(REFUSALS, ended));
@@ -212,9 +201,10 @@ fn input_that_breaks_off(rt: HostRuntime) -> Result<(), Fail> {
     for end in 0..input.len() {
         let front = &input.as_slice()[..end];
         let came = run_by(alloc, options, front, 4096);
-        assert!(rt; came.answer.is_ok());
-        assert_same(&rt, &came, &run_by(alloc, options, front, 1));
-        assert_told(&rt, came.err.as_slice(), line_ends(front));
+        let (images, told) = (came.out.as_slice(), came.err.as_slice());
+        assert_came_to(&rt, &came, images, told);
+        assert_came_to(&rt, &run_by(alloc, options, front, 1), images, told);
+        assert_told(&rt, told, line_ends(front));
     }
     Ok(())
 }
