@@ -46,46 +46,33 @@ fn refuses_words(rt: HostRuntime) -> Result<(), Fail> {
     Ok(())
 }
 
-/// Words choose these options and this file.
-fn assert_chooses(
-    rt: &impl Abort,
-    alloc: Global,
-    texts: &[&str],
-    options: Option<Options>,
-    file: Option<&str>,
-) -> Result<(), Fail> {
-    let choice = choice_of(alloc, texts)?;
-    assert!(rt; Some(choice.options) == options);
-    match &choice.file {
-        Some(name) => assert!(rt; file == Some(name.as_str())),
-        None => assert!(rt; file.is_none()),
-    }
-    Ok(())
-}
-
-/// Words that name each setting and the standard input.
-const ALL_SETTINGS: &[&str] = &[
-    "--format",
-    "ascii",
-    "--scale=8",
-    "--height",
-    "1",
-    "--level",
-    "H",
-    "--min-version",
-    "10",
-    "--mask",
-    "0",
-    "--escapes",
-    "-",
-];
-
 #[test]
 fn names_settings(rt: HostRuntime) -> Result<(), Fail> {
+    let alloc = rt.alloc();
+    let plain = choice_of(alloc, &[])?;
     let default = Options::new(Format::Pbm, 1, 50, Level::M, 1, None, false);
-    assert_chooses(&rt, rt.alloc(), &[], default, None)?;
-    let all = Options::new(Format::Ascii, 8, 1, Level::H, 10, Some(0), true);
-    assert_chooses(&rt, rt.alloc(), ALL_SETTINGS, all, Some("-"))
+    assert!(rt; Some(plain.options) == default && plain.file.is_none());
+    let all = [
+        "--format",
+        "ascii",
+        "--scale=8",
+        "--height",
+        "1",
+        "--level",
+        "H",
+        "--min-version",
+        "10",
+        "--mask",
+        "0",
+        "--escapes",
+        "-",
+    ];
+    let all = choice_of(alloc, all.as_slice())?;
+    assert!(rt;
+        Some(all.options) == Options::new(Format::Ascii, 8, 1, Level::H, 10, Some(0), true)
+    );
+    assert!(rt; all.file.as_ref().is_some_and(|name| name.as_str() == "-"));
+    Ok(())
 }
 
 /// The words of worked labels, and the options that the tests of the filter draw these labels with.
@@ -225,8 +212,9 @@ const FAULTS: &[(RunFault, &str)] = &[
 
 #[test]
 fn shows_faults(rt: HostRuntime) -> Result<(), Fail> {
+    let alloc = rt.alloc();
     for (fault, text) in FAULTS {
-        let shown = format!(in rt.alloc(); "{fault}")?;
+        let shown = format!(in alloc; "{fault}")?;
         assert!(rt; shown.as_str() == *text);
     }
     Ok(())
@@ -244,8 +232,16 @@ const ENDS: &[(End, u8, &str)] = &[
     (End::Ran(Ok(Status::Clean)), 0, ""),
     (End::Ran(Ok(Status::Refused)), 1, ""),
     (End::Ran(Err(RunFault::Read)), 3, "labels: read failed\n"),
-    (End::Ran(Err(RunFault::WriteOut)), 3, "labels: write failed\n"),
-    (End::Ran(Err(RunFault::WriteMessages)), 3, "labels: write failed\n"),
+    (
+        End::Ran(Err(RunFault::WriteOut)),
+        3,
+        "labels: write failed\n",
+    ),
+    (
+        End::Ran(Err(RunFault::WriteMessages)),
+        3,
+        "labels: write failed\n",
+    ),
     (End::Helped, 0, ""),
     (End::BadWords, 2, "labels: bad words\n"),
     (End::NoFile, 3, "labels: cannot open file\n"),
@@ -286,33 +282,26 @@ fn run_of_file<R: Abort + Files>(
     Some(run(choice.options, &mut source, out, &mut err))
 }
 
-/// Writes a file of one label, and runs over it.
-fn run_of_new_file<R: Abort + Files>(
-    rt: &R,
-    alloc: Global,
-    name: &str,
-    out: &mut MemSink<91>,
-) -> Result<Option<Result<Status, RunFault>>, Fail> {
+/// Writes a file of one label and runs over it. Answers whether memory sufficed, and expects no image where it ran out.
+fn draws_file<R: Abort + Files>(rt: &R, alloc: Global, name: &str) -> Result<bool, Fail> {
     fs::write(rt, name, "ean8 7351353\n")?;
     let words = words_of(alloc, &["--height", "1", name])?;
-    Ok(run_of_file(rt, alloc, words.as_slice(), out))
+    let mut out: MemSink<91> = MemSink::new(91, 91);
+    let answer = run_of_file(rt, alloc, words.as_slice(), &mut out);
+    let images = if answer.is_some() { EAN8 } else { b"" };
+    assert!(rt; out.bytes() == images);
+    assert!(rt; matches!(answer, None | Some(Ok(Status::Clean))));
+    Ok(answer.is_some())
 }
 
 #[test]
 fn runs_over_a_file_or_has_no_memory(rt: HostRuntime) -> Result<(), Fail> {
-    let mut out: MemSink<91> = MemSink::new(91, 91);
-    match run_of_new_file(&rt, rt.alloc(), NAME, &mut out)? {
-        Some(answer) => assert!(rt; answer == Ok(Status::Clean) && out.bytes() == EAN8),
-        None => assert!(rt; out.bytes().is_empty()),
-    }
+    let _ = draws_file(&rt, rt.alloc(), NAME)?;
     Ok(())
 }
 
 #[test]
 fn runs_over_a_file(rt: HostRuntime) -> Result<(), Fail> {
-    let mut out: MemSink<91> = MemSink::new(91, 91);
-    let answer = run_of_new_file(&rt, rt.alloc(), "a-label.txt", &mut out)?;
-    assert!(rt; answer == Some(Ok(Status::Clean)));
-    assert!(rt; out.bytes() == EAN8);
+    assert!(rt; draws_file(&rt, rt.alloc(), "a-label.txt")?);
     Ok(())
 }

@@ -35,16 +35,6 @@ fn has_pixel(grid: &impl Grid, x: usize, y: usize, dark: bool) -> bool {
     x < grid.width() && y < grid.height() && grid.dark(x, y) == dark
 }
 
-/// Whether each of the pixels is there, and of its colour.
-fn has_pixels(grid: &impl Grid, pixels: &[(usize, usize, bool)]) -> bool {
-    for (x, y, dark) in pixels {
-        if !has_pixel(grid, *x, *y, *dark) {
-            return false;
-        }
-    }
-    true
-}
-
 /// Whether so many rows from this one on are known to be equal.
 fn has_equal_rows(grid: &impl Grid, y: usize, rows: usize) -> bool {
     y < grid.height() && grid.equal_rows(y) == rows
@@ -79,11 +69,6 @@ const LARGER_PIXELS: &[(usize, usize, bool)] = &[
 /// How many rows from this one on are known to be equal in it.
 const LARGER_EQUAL_ROWS: &[(usize, usize)] = &[(0, 6), (5, 1), (6, 4), (9, 1)];
 
-/// Its row 5, with one larger pixel dark.
-const LARGER_ROW: &[bool; 14] = &[
-    false, false, false, false, false, false, false, false, true, true, false, false, false, false,
-];
-
 #[test]
 fn bars_are_asked(rt: HostRuntime) {
     let row = [true, false];
@@ -93,7 +78,9 @@ fn bars_are_asked(rt: HostRuntime) {
     assert!(rt; has_pixel(&bars, 1, 2, false));
     let framed = Framed::new(bars, 4, 1, 0, 2);
     assert!(rt; is_sized(&framed, 7, 5));
-    assert!(rt; has_pixels(&framed, FRAMED_PIXELS));
+    for (x, y, dark) in FRAMED_PIXELS {
+        assert!(rt; has_pixel(&framed, *x, *y, *dark));
+    }
 }
 
 #[test]
@@ -101,12 +88,17 @@ fn larger_pixels_are_asked(rt: HostRuntime) {
     let row = [true, false];
     let scaled = Scaled::new(Framed::new(Bars::new(&row, 3), 4, 1, 0, 2), 2);
     assert!(rt; is_sized(&scaled, 14, 10));
-    assert!(rt; has_pixels(&scaled, LARGER_PIXELS));
+    for (x, y, dark) in LARGER_PIXELS {
+        assert!(rt; has_pixel(&scaled, *x, *y, *dark));
+    }
     for (y, rows) in LARGER_EQUAL_ROWS {
         assert!(rt; has_equal_rows(&scaled, *y, *rows));
     }
-    assert!(rt; has_row(&scaled, 6, &[false; 14]));
-    assert!(rt; has_row(&scaled, 5, LARGER_ROW));
+    let mut pixels = [false; 14];
+    assert!(rt; has_row(&scaled, 6, &pixels));
+    pixels[8] = true;
+    pixels[9] = true;
+    assert!(rt; has_row(&scaled, 5, &pixels));
 }
 
 #[test]
@@ -190,24 +182,19 @@ fn is_line(line: &[u8]) -> bool {
     line_ends == 1 && line.ends_with(b"\n")
 }
 
-/// Expects eight lines of 1,296 letters and an empty line.
-fn expect_large_lines(rt: &impl Abort, text: &[u8]) {
-    assert!(rt; text.len() == 10377);
-    let (lines, rest) = text.split_at(10376);
-    assert!(rt; rest == b"\n".as_slice());
-    for line in lines.chunks(1297) {
-        assert!(rt; is_line(line));
-    }
-}
-
-/// `ean8 7351353` at scale 8.
+/// `ean8 7351353` at scale 8: eight lines of 1,296 letters and an empty line.
 #[test]
 fn ascii_of_large_pixels(rt: HostRuntime) {
     let modules = modules_of(EAN8_MODULES);
     let framed = Framed::new(Bars::new(&modules, 1), 7, 7, 0, 0);
     let mut sink = MemSink::<10377>::new(4096, 10377);
     assert!(rt; write_ascii(&Scaled::new(framed, 8), &mut sink).is_ok());
-    expect_large_lines(&rt, sink.bytes());
+    assert!(rt; sink.bytes().len() == 10377);
+    let (lines, rest) = sink.bytes().split_at(10376);
+    assert!(rt; rest == b"\n".as_slice());
+    for line in lines.chunks(1297) {
+        assert!(rt; is_line(line));
+    }
 }
 
 #[test]

@@ -1,5 +1,7 @@
 //! Runs over devices that stop, fail or take little, and the filter piece by piece.
-use crate::runs::support::{DEFAULT, EAN8, Named, answer_of, answer_to, feed_piece, finish, joined, low};
+use crate::runs::support::{
+    DEFAULT, EAN8, Named, answer_of, answer_to, feed_piece, finish, joined, low,
+};
 use filter::{Filter, RunFault, Status};
 use labelcore::{MemSink, MemSource, Options, Sink, StdSink, StdSource};
 use std::process::Abort;
@@ -89,12 +91,7 @@ fn assert_two_images(rt: &impl Abort, text: &[u8]) {
 const LATER_PIECES: &[&[u8]] = &[b"#\n", b"", b"ean8 7351353\n"];
 
 /// A filter that is spent takes no piece.
-fn assert_spent(
-    rt: &impl Abort,
-    filter: &mut Filter,
-    out: &mut impl Sink,
-    err: &mut impl Sink,
-) {
+fn assert_spent(rt: &impl Abort, filter: &mut Filter, out: &mut impl Sink, err: &mut impl Sink) {
     for piece in LATER_PIECES {
         assert!(rt; feed_piece(filter, piece, out, err) == Err(RunFault::Spent));
     }

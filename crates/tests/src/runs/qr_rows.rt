@@ -161,7 +161,14 @@ fn known_symbols(rt: HostRuntime) -> Result<(), Fail> {
         format: Format::Ascii,
         ..MASKED
     };
-    assert_row(&rt, alloc, ascii.options(&rt), b"qr 01234567\n", text.as_slice(), b"");
+    assert_row(
+        &rt,
+        alloc,
+        ascii.options(&rt),
+        b"qr 01234567\n",
+        text.as_slice(),
+        b"",
+    );
     Ok(())
 }
 
@@ -196,8 +203,11 @@ fn least_versions(rt: HostRuntime) -> Result<(), Fail> {
 }
 
 /// Fronts of lines, and the byte that follows each so many times that the data does not fit.
-const TOO_MUCH_DATA: &[(&[u8], &[u8], usize)] =
-    &[(b"qr ", b"a", 272), (b"qr ", b"1", 653), (b"qr a", b"1", 645)];
+const TOO_MUCH_DATA: &[(&[u8], &[u8], usize)] = &[
+    (b"qr ", b"a", 272),
+    (b"qr ", b"1", 653),
+    (b"qr a", b"1", 645),
+];
 
 #[test]
 fn data_that_does_not_fit(rt: HostRuntime) -> Result<(), Fail> {

@@ -104,7 +104,12 @@ pub fn answer_to(
     out: &mut impl Sink,
     err: &mut impl Sink,
 ) -> Result<Status, RunFault> {
-    answer_of(low(rt, false), &mut MemSource::new(input, 4096, false), out, err)
+    answer_of(
+        low(rt, false),
+        &mut MemSource::new(input, 4096, false),
+        out,
+        err,
+    )
 }
 
 /// What a filter answers to a piece.

@@ -76,20 +76,15 @@ fn line_ends(text: &[u8]) -> usize {
     count
 }
 
-/// The plain PBM file of the grid, of at most four rows.
-fn assert_pbm<G: Grid>(rt: &impl Abort, grid: &G) {
+/// Both texts of the grid, of at most four rows.
+fn assert_texts<G: Grid>(rt: &impl Abort, grid: &G) {
     let mut sink = MemSink::<61000>::new(4096, 61000);
     let mut slow = MemSink::<61000>::new(4096, 61000);
     assert!(rt; write_pbm(grid, &mut sink).is_ok());
     assert!(rt; write_pbm_slowly(grid, &mut slow).is_ok());
-    let (text, rows) = (sink.bytes(), slow.bytes());
-    assert!(rt; text.starts_with(b"P1\n") && text.ends_with(rows));
-    assert!(rt; line_ends(text) == line_ends(rows).wrapping_add(2));
-}
-
-/// Both texts of the grid, of at most four rows.
-fn assert_texts<G: Grid>(rt: &impl Abort, grid: &G) {
-    assert_pbm(rt, grid);
+    assert!(rt; sink.bytes().starts_with(b"P1\n"));
+    assert!(rt; sink.bytes().ends_with(slow.bytes()));
+    assert!(rt; line_ends(sink.bytes()) == line_ends(slow.bytes()).wrapping_add(2));
     let mut sink = MemSink::<121000>::new(4096, 121000);
     let mut slow = MemSink::<121000>::new(4096, 121000);
     assert!(rt; write_ascii(grid, &mut sink).is_ok());
