@@ -46,32 +46,40 @@ fn refuses_words(rt: HostRuntime) -> Result<(), Fail> {
     Ok(())
 }
 
+/// Whether words choose these options and this file.
+fn chooses(
+    alloc: Global,
+    texts: &[&str],
+    options: Option<Options>,
+    file: Option<&str>,
+) -> Result<bool, Fail> {
+    let choice = choice_of(alloc, texts)?;
+    Ok(Some(choice.options) == options && choice.file.as_deref() == file)
+}
+
+/// Words that name each setting and the standard input.
+const ALL_SETTINGS: &[&str] = &[
+    "--format",
+    "ascii",
+    "--scale=8",
+    "--height",
+    "1",
+    "--level",
+    "H",
+    "--min-version",
+    "10",
+    "--mask",
+    "0",
+    "--escapes",
+    "-",
+];
+
 #[test]
 fn names_settings(rt: HostRuntime) -> Result<(), Fail> {
-    let alloc = rt.alloc();
-    let plain = choice_of(alloc, &[])?;
     let default = Options::new(Format::Pbm, 1, 50, Level::M, 1, None, false);
-    assert!(rt; Some(plain.options) == default && plain.file.is_none());
-    let all = [
-        "--format",
-        "ascii",
-        "--scale=8",
-        "--height",
-        "1",
-        "--level",
-        "H",
-        "--min-version",
-        "10",
-        "--mask",
-        "0",
-        "--escapes",
-        "-",
-    ];
-    let all = choice_of(alloc, all.as_slice())?;
-    assert!(rt;
-        Some(all.options) == Options::new(Format::Ascii, 8, 1, Level::H, 10, Some(0), true)
-    );
-    assert!(rt; all.file.as_ref().is_some_and(|name| name.as_str() == "-"));
+    assert!(rt; chooses(rt.alloc(), &[], default, None)?);
+    let all = Options::new(Format::Ascii, 8, 1, Level::H, 10, Some(0), true);
+    assert!(rt; chooses(rt.alloc(), ALL_SETTINGS, all, Some("-"))?);
     Ok(())
 }
 
@@ -282,7 +290,7 @@ fn run_of_file<R: Abort + Files>(
     Some(run(choice.options, &mut source, out, &mut err))
 }
 
-/// Writes a file of one label and runs over it. Answers whether memory sufficed, and expects no image where it ran out.
+/// Writes a file of one label and runs over it. Answers whether memory sufficed; if not, it expects no image.
 fn draws_file<R: Abort + Files>(rt: &R, alloc: Global, name: &str) -> Result<bool, Fail> {
     fs::write(rt, name, "ean8 7351353\n")?;
     let words = words_of(alloc, &["--height", "1", name])?;

@@ -7,44 +7,36 @@ use labelcore::{MemSink, MemSource, Options, Sink, StdSink, StdSource};
 use std::process::Abort;
 use std::test::Fail;
 
-/// Runs over a source and sinks of std.
-fn run_by_standard(
-    options: Options,
-    out: &mut Vec<u8>,
-    err: &mut Vec<u8>,
-) -> Result<Status, RunFault> {
-    let mut source = StdSource::new(b"ean8 7351353\n#\npdf x".as_slice());
-    answer_of(
-        options,
-        &mut source,
-        &mut StdSink::new(out),
-        &mut StdSink::new(err),
-    )
-}
-
 #[test]
 fn standard_devices(rt: HostRuntime) -> Result<(), Fail> {
     let alloc = rt.alloc();
     let mut out = Vec::new(alloc);
     let mut err = Vec::new(alloc);
-    let answer = run_by_standard(low(&rt, false), &mut out, &mut err);
+    let mut source = StdSource::new(b"ean8 7351353\n#\npdf x".as_slice());
+    let answer = answer_of(
+        low(&rt, false),
+        &mut source,
+        &mut StdSink::new(&mut out),
+        &mut StdSink::new(&mut err),
+    );
     assert!(rt; answer == Ok(Status::Refused));
     assert!(rt; out.as_slice() == EAN8);
     assert!(rt; err.as_slice() == b"line 3: unknown symbology\n".as_slice());
     Ok(())
 }
 
-/// Pieces of two lines, and the images after each.
-const PIECES: &[(&[u8], &[u8])] = &[(b"", b""), (b"ean8 73", b""), (b"51353\nqr", EAN8)];
-
 #[test]
 fn pieces(rt: HostRuntime) {
     let mut filter = Filter::new(low(&rt, false));
     let mut out: MemSink<200> = MemSink::new(7, 200);
     let mut err: MemSink<200> = MemSink::new(200, 200);
-    for (piece, images) in PIECES {
+    for (piece, images) in [
+        (b"".as_slice(), b"".as_slice()),
+        (b"ean8 73".as_slice(), b"".as_slice()),
+        (b"51353\nqr".as_slice(), EAN8),
+    ] {
         assert!(rt; feed_piece(&mut filter, piece, &mut out, &mut err).is_ok());
-        assert!(rt; out.bytes() == *images);
+        assert!(rt; out.bytes() == images);
         assert!(rt; err.bytes().is_empty());
     }
     assert!(rt; finish(filter, &mut out, &mut err) == Ok(Status::Refused));
