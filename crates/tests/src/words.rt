@@ -46,32 +46,40 @@ fn refuses_words(rt: HostRuntime) -> Result<(), Fail> {
     Ok(())
 }
 
+/// Whether words choose these options and this file.
+fn chooses(
+    alloc: Global,
+    texts: &[&str],
+    options: Option<Options>,
+    file: Option<&str>,
+) -> Result<bool, Fail> {
+    let choice = choice_of(alloc, texts)?;
+    Ok(Some(choice.options) == options && choice.file.as_deref() == file)
+}
+
+/// Words that name each setting and the standard input.
+const ALL_SETTINGS: &[&str] = &[
+    "--format",
+    "ascii",
+    "--scale=8",
+    "--height",
+    "1",
+    "--level",
+    "H",
+    "--min-version",
+    "10",
+    "--mask",
+    "0",
+    "--escapes",
+    "-",
+];
+
 #[test]
 fn names_settings(rt: HostRuntime) -> Result<(), Fail> {
-    let alloc = rt.alloc();
-    let plain = choice_of(alloc, &[])?;
     let default = Options::new(Format::Pbm, 1, 50, Level::M, 1, None, false);
-    assert!(rt; Some(plain.options) == default && plain.file.is_none());
-    let all = [
-        "--format",
-        "ascii",
-        "--scale=8",
-        "--height",
-        "1",
-        "--level",
-        "H",
-        "--min-version",
-        "10",
-        "--mask",
-        "0",
-        "--escapes",
-        "-",
-    ];
-    let all = choice_of(alloc, all.as_slice())?;
-    assert!(rt;
-        Some(all.options) == Options::new(Format::Ascii, 8, 1, Level::H, 10, Some(0), true)
-    );
-    assert!(rt; all.file.as_ref().is_some_and(|name| name.as_str() == "-"));
+    assert!(rt; chooses(rt.alloc(), &[], default, None)?);
+    let all = Options::new(Format::Ascii, 8, 1, Level::H, 10, Some(0), true);
+    assert!(rt; chooses(rt.alloc(), ALL_SETTINGS, all, Some("-"))?);
     Ok(())
 }
 
@@ -202,22 +210,18 @@ fn helps(rt: HostRuntime) -> Result<(), Fail> {
     Ok(())
 }
 
+/// Faults of a run, and the text of each.
+const FAULTS: &[(RunFault, &str)] = &[
+    (RunFault::Read, "read failed"),
+    (RunFault::WriteOut, "write failed"),
+    (RunFault::WriteMessages, "message write failed"),
+    (RunFault::Spent, "filter is spent"),
+];
+
 #[test]
 fn shows_faults(rt: HostRuntime) -> Result<(), Fail> {
     let alloc = rt.alloc();
-    let faults = [
-        RunFault::Read,
-        RunFault::WriteOut,
-        RunFault::WriteMessages,
-        RunFault::Spent,
-    ];
-    let texts = [
-        "read failed",
-        "write failed",
-        "message write failed",
-        "filter is spent",
-    ];
-    for (fault, text) in faults.iter().zip(texts.iter()) {
+    for (fault, text) in FAULTS {
         let shown = format!(in alloc; "{fault}")?;
         assert!(rt; shown.as_str() == *text);
     }
@@ -231,29 +235,32 @@ fn finds_no_file(rt: HostRuntime) {
     assert!(rt; End::NoFile.line() == "labels: cannot open file\n" && End::NoFile.status() == 3);
 }
 
+/// Ends of the program, and the status and the line of each.
+const ENDS: &[(End, u8, &str)] = &[
+    (End::Ran(Ok(Status::Clean)), 0, ""),
+    (End::Ran(Ok(Status::Refused)), 1, ""),
+    (End::Ran(Err(RunFault::Read)), 3, "labels: read failed\n"),
+    (
+        End::Ran(Err(RunFault::WriteOut)),
+        3,
+        "labels: write failed\n",
+    ),
+    (
+        End::Ran(Err(RunFault::WriteMessages)),
+        3,
+        "labels: write failed\n",
+    ),
+    (End::Helped, 0, ""),
+    (End::BadWords, 2, "labels: bad words\n"),
+    (End::NoFile, 3, "labels: cannot open file\n"),
+    (End::NoMemory, 3, "labels: no memory\n"),
+];
+
 #[test]
 fn ends(rt: HostRuntime) {
-    for (end, status, line) in [
-        (End::Ran(Ok(Status::Clean)), 0, ""),
-        (End::Ran(Ok(Status::Refused)), 1, ""),
-        (End::Ran(Err(RunFault::Read)), 3, "labels: read failed\n"),
-        (
-            End::Ran(Err(RunFault::WriteOut)),
-            3,
-            "labels: write failed\n",
-        ),
-        (
-            End::Ran(Err(RunFault::WriteMessages)),
-            3,
-            "labels: write failed\n",
-        ),
-        (End::Helped, 0, ""),
-        (End::BadWords, 2, "labels: bad words\n"),
-        (End::NoFile, 3, "labels: cannot open file\n"),
-        (End::NoMemory, 3, "labels: no memory\n"),
-    ] {
-        assert_eq!(rt; end.status(), status);
-        assert!(rt; end.line() == line);
+    for (end, status, line) in ENDS {
+        assert!(rt; end.status() == *status);
+        assert!(rt; end.line() == *line);
     }
 }
 
@@ -283,30 +290,26 @@ fn run_of_file<R: Abort + Files>(
     Some(run(choice.options, &mut source, out, &mut err))
 }
 
+/// Writes a file of one label and runs over it. Answers whether memory sufficed; if not, it expects no image.
+fn draws_file<R: Abort + Files>(rt: &R, alloc: Global, name: &str) -> Result<bool, Fail> {
+    fs::write(rt, name, "ean8 7351353\n")?;
+    let words = words_of(alloc, &["--height", "1", name])?;
+    let mut out: MemSink<91> = MemSink::new(91, 91);
+    let answer = run_of_file(rt, alloc, words.as_slice(), &mut out);
+    let images = if answer.is_some() { EAN8 } else { b"" };
+    assert!(rt; out.bytes() == images);
+    assert!(rt; matches!(answer, None | Some(Ok(Status::Clean))));
+    Ok(answer.is_some())
+}
+
 #[test]
 fn runs_over_a_file_or_has_no_memory(rt: HostRuntime) -> Result<(), Fail> {
-    let alloc = rt.alloc();
-    fs::write(&rt, NAME, "ean8 7351353\n")?;
-    let words = words_of(alloc, &["--height", "1", NAME])?;
-    let mut out: MemSink<91> = MemSink::new(91, 91);
-    match run_of_file(&rt, alloc, words.as_slice(), &mut out) {
-        Some(answer) => {
-            assert_eq!(rt; answer, Ok(Status::Clean));
-            assert_eq!(rt; out.bytes(), EAN8);
-        }
-        None => assert_eq!(rt; out.bytes(), b"".as_slice()),
-    }
+    let _ = draws_file(&rt, rt.alloc(), NAME)?;
     Ok(())
 }
 
 #[test]
 fn runs_over_a_file(rt: HostRuntime) -> Result<(), Fail> {
-    let alloc = rt.alloc();
-    fs::write(&rt, "a-label.txt", "ean8 7351353\n")?;
-    let words = words_of(alloc, &["--height", "1", "a-label.txt"])?;
-    let mut out: MemSink<91> = MemSink::new(91, 91);
-    let answer = run_of_file(&rt, alloc, words.as_slice(), &mut out);
-    assert_eq!(rt; answer, Some(Ok(Status::Clean)));
-    assert_eq!(rt; out.bytes(), EAN8);
+    assert!(rt; draws_file(&rt, rt.alloc(), "a-label.txt")?);
     Ok(())
 }

@@ -35,21 +35,27 @@ fn write_letters(rt: &impl Abort, count: usize, sink: &mut impl Sink) {
     assert!(rt; takes(sink, &letters[..count % 1000]));
 }
 
+/// Whether so many bytes went on to the memory below, and so many are held back.
+fn counts(sink: &Held<MemSink<66000>>, below: usize, held: usize) -> bool {
+    sink.sink().bytes().len() == below && sink.held().len() == held
+}
+
+/// Bytes that are written, and how many of them go on before the flush and are held back.
+const ROOMS: &[(usize, usize, usize)] = &[
+    (65_535, 0, 65_535),
+    (65_536, 0, 65_536),
+    (65_537, 65_536, 1),
+    (66_000, 65_536, 464),
+];
+
 #[test]
 fn a_full_room_goes_on_at_the_next_byte(rt: HostRuntime) {
-    for (count, below, held) in [
-        (65_535, 0, 65_535),
-        (65_536, 0, 65_536),
-        (65_537, 65_536, 1),
-        (66_000, 65_536, 464),
-    ] {
+    for (count, below, held) in ROOMS {
         let mut sink = Held::new(MemSink::<66000>::new(66000, 66000));
-        write_letters(&rt, count, &mut sink);
-        assert!(rt; sink.sink().bytes().len() == below);
-        assert!(rt; sink.held().len() == held);
+        write_letters(&rt, *count, &mut sink);
+        assert!(rt; counts(&sink, *below, *held));
         assert!(rt; flushes(&mut sink));
-        assert!(rt; sink.sink().bytes().len() == count);
-        assert!(rt; sink.held().is_empty());
+        assert!(rt; counts(&sink, *count, 0));
     }
 }
 

@@ -54,20 +54,24 @@ fn version_of(rt: &impl Abort, level: Level, text: &[u8]) -> usize {
     }
 }
 
+/// Expects that so many of the characters fit in the version after this one, and one more in the next alone.
+fn expect_limit(rt: &impl Abort, level: Level, text: &[u8; 653], most: usize, before: usize) {
+    assert!(rt; most < 653);
+    let version = version_of(rt, level, &text[..most]);
+    assert!(rt; version == before.saturating_add(1), "{most}");
+    let next = version_of(rt, level, &text[..most + 1]);
+    assert!(rt; next == before.saturating_add(2), "{most}");
+}
+
+/// The levels in the order of the tables.
+const LEVELS: &[Level] = &[Level::L, Level::M, Level::Q, Level::H];
+
 /// Expects that so many of one character fit in a version, and one more in the next alone.
 fn expect_most(rt: &impl Abort, character: u8, rows: &[[usize; 4]; 10]) {
     let text = [character; 653];
     for (place, row) in rows.iter().enumerate() {
-        for (level, most) in [Level::L, Level::M, Level::Q, Level::H].iter().zip(row) {
-            assert!(rt; *most < 653);
-            assert!(rt;
-                version_of(rt, *level, &text[..*most]) == place + 1,
-                "{most}"
-            );
-            assert!(rt;
-                version_of(rt, *level, &text[..*most + 1]) == place + 2,
-                "{most}"
-            );
+        for (level, most) in LEVELS.iter().zip(row) {
+            expect_limit(rt, *level, &text, *most, place);
         }
     }
 }

@@ -1,7 +1,9 @@
 //! Runs over devices that stop, fail or take little, and the filter piece by piece.
-use crate::runs::support::{DEFAULT, EAN8, Named, answer_of, feed_piece, finish, joined, low};
+use crate::runs::support::{
+    DEFAULT, EAN8, Named, answer_of, answer_to, feed_piece, finish, joined, low,
+};
 use filter::{Filter, RunFault, Status};
-use labelcore::{MemSink, MemSource, Options, StdSink, StdSource};
+use labelcore::{MemSink, MemSource, Options, Sink, StdSink, StdSource};
 use std::process::Abort;
 use std::test::Fail;
 
@@ -56,14 +58,35 @@ fn single_bytes(rt: HostRuntime) {
     assert!(rt; finish(filter, &mut out, &mut err) == Ok(Status::Clean));
 }
 
+/// Two lines of a symbol each.
+const TWO_SYMBOLS: &[u8] = b"qr 01234567\nqr 01234567\n";
+
 /// A run over two symbols and a sink of 1,000 bytes leaves these in it.
 fn assert_full(rt: &impl Abort, options: Options, want: &[u8]) {
-    let mut source = MemSource::new(b"qr 01234567\nqr 01234567\n", 4096, false);
+    let mut source = MemSource::new(TWO_SYMBOLS, 4096, false);
     let mut out: MemSink<1000> = MemSink::new(1000, 1000);
     let mut err: MemSink<8> = MemSink::new(8, 8);
     let answer = answer_of(options, &mut source, &mut out, &mut err);
     assert!(rt; answer == Err(RunFault::WriteOut));
     assert!(rt; out.bytes() == want);
+}
+
+/// The text is an image of 879 bytes, and the beginning of the same image.
+fn assert_two_images(rt: &impl Abort, text: &[u8]) {
+    assert!(rt; text.len() == 1000);
+    assert!(rt; text.starts_with(b"P1\n29 29\n"));
+    let (first, second) = text.split_at(879);
+    assert!(rt; first.starts_with(second));
+}
+
+/// Pieces that a filter is fed after a failure.
+const LATER_PIECES: &[&[u8]] = &[b"#\n", b"", b"ean8 7351353\n"];
+
+/// A filter that is spent takes no piece.
+fn assert_spent(rt: &impl Abort, filter: &mut Filter, out: &mut impl Sink, err: &mut impl Sink) {
+    for piece in LATER_PIECES {
+        assert!(rt; feed_piece(filter, piece, out, err) == Err(RunFault::Spent));
+    }
 }
 
 #[test]
@@ -76,25 +99,10 @@ fn full_sink(rt: HostRuntime) {
     let mut filter = Filter::new(options);
     let mut out: MemSink<1000> = MemSink::new(1000, 1000);
     let mut err: MemSink<8> = MemSink::new(8, 8);
-    assert!(rt;
-        feed_piece(
-            &mut filter,
-            b"qr 01234567\nqr 01234567\n",
-            &mut out,
-            &mut err
-        ) == Err(RunFault::WriteOut)
-    );
-    assert!(rt; out.bytes().len() == 1000);
-    assert!(rt; out.bytes().starts_with(b"P1\n29 29\n"));
-    let (first, second) = out.bytes().split_at(879);
-    assert!(rt; first.starts_with(second));
-    for piece in [
-        b"#\n".as_slice(),
-        b"".as_slice(),
-        b"ean8 7351353\n".as_slice(),
-    ] {
-        assert!(rt; feed_piece(&mut filter, piece, &mut out, &mut err) == Err(RunFault::Spent));
-    }
+    let answer = feed_piece(&mut filter, TWO_SYMBOLS, &mut out, &mut err);
+    assert!(rt; answer == Err(RunFault::WriteOut));
+    assert_two_images(&rt, out.bytes());
+    assert_spent(&rt, &mut filter, &mut out, &mut err);
     assert!(rt; out.bytes().len() == 1000);
     assert!(rt; out.failures() == 1);
     assert!(rt; err.failures() == 0);
@@ -105,12 +113,10 @@ fn full_sink(rt: HostRuntime) {
 
 #[test]
 fn nine_bytes_of_the_second_image(rt: HostRuntime) -> Result<(), Fail> {
-    let mut source = MemSource::new(b"ean8 7351353\nean8 7351353\n", 4096, false);
     let mut out: MemSink<100> = MemSink::new(4096, 100);
     let mut err: MemSink<8> = MemSink::new(8, 8);
-    assert!(rt;
-        answer_of(low(&rt, false), &mut source, &mut out, &mut err) == Err(RunFault::WriteOut)
-    );
+    let answer = answer_to(&rt, b"ean8 7351353\nean8 7351353\n", &mut out, &mut err);
+    assert!(rt; answer == Err(RunFault::WriteOut));
     let want = joined(rt.alloc(), &[EAN8, b"P1\n81 1\n0"])?;
     assert!(rt; out.bytes() == want.as_slice());
     Ok(())

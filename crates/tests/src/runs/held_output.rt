@@ -1,8 +1,7 @@
 //! Output that is held back, over writers in memory.
-use crate::runs::support::{EAN8, answer_of, joined, low, repeated};
+use crate::runs::support::{EAN8, answer_of, answer_to, joined, low, repeated};
 use filter::{RunFault, Status};
 use labelcore::{FailAt, Held, IoFault, MemSink, MemSource, Sink, Source, StdSink};
-use std::alloc::Global;
 use std::cell::RefCell;
 use std::io::{self, ErrorKind, Write};
 use std::process::Abort;
@@ -104,17 +103,25 @@ fn output_goes_out_before_each_read(rt: HostRuntime) {
     assert!(rt; source.seen == 2 * EAN8.len());
 }
 
-#[test]
-fn output_that_fails_as_it_is_sent_out_is_a_failed_write(rt: HostRuntime) {
-    let mut source = MemSource::new(b"ean8 7351353\nqr 0", 4096, false);
-    let mut out = Held::new(FailAt::new(MemSink::<200>::new(200, 200), 1));
-    let mut err: MemSink<8> = MemSink::new(8, 8);
-    let answer = answer_of(low(&rt, false), &mut source, &mut out, &mut err);
-    assert!(rt; answer == Err(RunFault::WriteOut));
-    assert!(rt; out.sink().device().bytes().is_empty());
+/// The images sent on stand in memory, and one more is held, which goes out after them.
+fn assert_one_is_held<const N: usize>(
+    rt: &impl Abort,
+    out: &mut Held<FailAt<MemSink<N>>>,
+    sent: &[u8],
+) {
+    assert!(rt; out.sink().device().bytes() == sent);
     assert!(rt; out.held() == EAN8);
     assert!(rt; out.send_on().is_ok());
-    assert!(rt; out.sink().device().bytes() == EAN8);
+    assert!(rt; out.sink().device().bytes().strip_prefix(sent) == Some(EAN8));
+}
+
+#[test]
+fn output_that_fails_as_it_is_sent_out_is_a_failed_write(rt: HostRuntime) {
+    let mut out = Held::new(FailAt::new(MemSink::<200>::new(200, 200), 1));
+    let mut err: MemSink<8> = MemSink::new(8, 8);
+    let answer = answer_to(&rt, b"ean8 7351353\nqr 0", &mut out, &mut err);
+    assert!(rt; answer == Err(RunFault::WriteOut));
+    assert_one_is_held(&rt, &mut out, b"");
 }
 
 /// Lines that are drawn and refused in turn, each of 13 or 6 bytes.
@@ -125,12 +132,7 @@ const REFUSED_IN_TURN: &[u8] = b"line 2: unknown symbology\nline 4: unknown symb
 
 /// A run over the lines, `piece` bytes a read, whose held output fails to go out after so many labels and messages went
 /// out. What was held goes out after it.
-fn assert_sending_fails(
-    rt: &impl Abort,
-    alloc: Global,
-    piece: usize,
-    sent: usize,
-) -> Result<(), Fail> {
+fn assert_sending_fails(rt: &impl Abort, piece: usize, sent: usize, images: &[u8]) {
     assert!(rt; piece > 0);
     let call = (sent as u64).saturating_add(1);
     let mut source = MemSource::new(IN_TURN, piece, false);
@@ -138,15 +140,9 @@ fn assert_sending_fails(
     let mut err: MemSink<52> = MemSink::new(52, 52);
     let answer = answer_of(low(rt, false), &mut source, &mut out, &mut err);
     assert!(rt; answer == Err(RunFault::WriteOut));
-    let before = repeated(alloc, EAN8, sent)?;
-    assert!(rt; out.sink().device().bytes() == before.as_slice());
-    assert!(rt; out.held() == EAN8);
     assert!(rt; err.bytes().len() == 26usize.saturating_mul(sent));
     assert!(rt; REFUSED_IN_TURN.starts_with(err.bytes()));
-    assert!(rt; out.send_on().is_ok());
-    let all = out.sink().device().bytes();
-    assert!(rt; all.starts_with(before.as_slice()) && all.ends_with(EAN8));
-    Ok(())
+    assert_one_is_held(rt, &mut out, images);
 }
 
 /// A byte a read: each label goes out before the read after its line. All lines in one read: a label goes out before
@@ -155,7 +151,8 @@ fn assert_sending_fails(
 fn each_sending_fails(rt: HostRuntime) -> Result<(), Fail> {
     for piece in [1, 4096] {
         for sent in 0..3 {
-            assert_sending_fails(&rt, rt.alloc(), piece, sent)?;
+            let images = repeated(rt.alloc(), EAN8, sent)?;
+            assert_sending_fails(&rt, piece, sent, images.as_slice());
         }
     }
     Ok(())

@@ -1,6 +1,6 @@
 //! Hostile use: devices that fail at each call or at each byte, very long lines, every byte, and input that breaks off.
 use crate::runs::support::{
-    EAN8, REFUSALS, TOO_LONG, answer_of, assert_came_to, first_lines, joined, line_ends,
+    EAN8, REFUSALS, TOO_LONG, answer_of, answer_to, assert_came_to, first_lines, joined, line_ends,
     long_lines, low, rather_long_lines, refused_lines, repeated, run_by,
 };
 use filter::{RunFault, Status};
@@ -14,10 +14,9 @@ fn every_limit_of_the_images(rt: HostRuntime) -> Result<(), Fail> {
     let all = joined(rt.alloc(), &[EAN8, EAN8])?;
     assert!(rt; all.len() == 182);
     for limit in 0..183 {
-        let mut source = MemSource::new(b"ean8 7351353\nean8 7351353\n", 4096, false);
         let mut out: MemSink<182> = MemSink::new(182, limit);
         let mut err: MemSink<1> = MemSink::new(1, 1);
-        let answer = answer_of(low(&rt, false), &mut source, &mut out, &mut err);
+        let answer = answer_to(&rt, b"ean8 7351353\nean8 7351353\n", &mut out, &mut err);
         assert!(rt; all.starts_with(out.bytes()));
         assert!(rt; out.bytes().len() == limit);
         let want = if limit < 182 {
@@ -35,10 +34,9 @@ fn every_limit_of_the_messages(rt: HostRuntime) {
     let all = b"line 1: unknown symbology\nline 2: unknown symbology\n";
     assert!(rt; all.len() == 52);
     for limit in 0..53 {
-        let mut source = MemSource::new(b"pdf x\npdf x\n", 4096, false);
         let mut out: MemSink<1> = MemSink::new(1, 1);
         let mut err: MemSink<52> = MemSink::new(52, limit);
-        let answer = answer_of(low(&rt, false), &mut source, &mut out, &mut err);
+        let answer = answer_to(&rt, b"pdf x\npdf x\n", &mut out, &mut err);
         assert!(rt; all.starts_with(err.bytes()));
         assert!(rt; err.bytes().len() == limit);
         let want = if limit < 52 {
@@ -137,20 +135,20 @@ fn each_write_of_the_message_and_its_flush_fail(rt: HostRuntime) -> Result<(), F
     Ok(())
 }
 
+/// Ten million letters.
+fn ten_million_letters(alloc: Global) -> Result<Vec<u8>, AllocError> {
+    let thousand = repeated(alloc, b"a", 1000)?;
+    repeated(alloc, thousand.as_slice(), 10_000)
+}
+
 #[test]
 fn lines_of_ten_million_letters(rt: HostRuntime) -> Result<(), Fail> {
     let alloc = rt.alloc();
-    let thousand = repeated(alloc, b"a", 1000)?;
-    let letters = repeated(alloc, thousand.as_slice(), 10_000)?;
+    let letters = ten_million_letters(alloc)?;
     assert!(rt; letters.len() == 10_000_000);
     let input = long_lines(alloc, letters.as_slice(), letters.as_slice())?;
-    let mut source = MemSource::new(input.as_slice(), 4096, false);
-    let mut out: MemSink<91> = MemSink::new(91, 91);
-    let mut err: MemSink<39> = MemSink::new(39, 39);
-    let answer = answer_of(low(&rt, false), &mut source, &mut out, &mut err);
-    assert!(rt; answer == Ok(Status::Refused));
-    assert!(rt; out.bytes() == EAN8);
-    assert!(rt; err.bytes() == TOO_LONG);
+    let came = run_by(alloc, low(&rt, false), input.as_slice(), 4096);
+    assert_came_to(&rt, &came, EAN8, TOO_LONG);
     Ok(())
 }
 
@@ -188,23 +186,25 @@ fn every_byte(rt: HostRuntime) -> Result<(), Fail> {
     Ok(())
 }
 
+/// The messages of the lines that ended are those of all lines, and at most the line that breaks off has one more.
+fn assert_told(rt: &impl Abort, told: &[u8], ended: usize) {
+    assert!(rt; first_lines(told, ended) == first_lines(REFUSALS, ended));
+    let lines = line_ends(told);
+    assert!(rt; lines == ended || lines == ended.saturating_add(1));
+}
+
 #[test]
 fn input_that_breaks_off(rt: HostRuntime) -> Result<(), Fail> {
     let alloc = rt.alloc();
     let input = refused_lines(alloc)?;
+    let options = low(&rt, true);
     for end in 0..input.len() {
         let front = &input.as_slice()[..end];
-        let came = run_by(alloc, low(&rt, true), front, 4096);
-        let same = run_by(alloc, low(&rt, true), front, 1);
-        assert!(rt; came.answer.is_ok());
-        assert!(rt; came.answer == same.answer);
-        assert!(rt; came.out.as_slice() == same.out.as_slice());
-        assert!(rt; came.err.as_slice() == same.err.as_slice());
-        let ended = line_ends(front);
-        let told = came.err.as_slice();
-        assert!(rt; first_lines(told, ended) == first_lines(REFUSALS, ended));
-        let lines = line_ends(told);
-        assert!(rt; lines == ended || lines == ended.saturating_add(1));
+        let came = run_by(alloc, options, front, 4096);
+        let (images, told) = (came.out.as_slice(), came.err.as_slice());
+        assert_came_to(&rt, &came, images, told);
+        assert_came_to(&rt, &run_by(alloc, options, front, 1), images, told);
+        assert_told(&rt, told, line_ends(front));
     }
     Ok(())
 }

@@ -1,6 +1,6 @@
 //! Worked labels of QR.
 use crate::runs::support::{
-    DEFAULT, LEVEL_L, LOW, Named, assert_row, joined, letters, repeated, run_by,
+    DEFAULT, LEVEL_L, Named, assert_row, joined, letters, repeated, run_by,
 };
 use labelcore::{Format, Level};
 use std::alloc::{AllocError, Global};
@@ -8,7 +8,7 @@ use std::process::Abort;
 use std::test::Fail;
 
 /// The symbol of `01234567` at level M under mask 2, in its quiet zone.
-const EXAMPLE: [&[u8]; 29] = [
+const EXAMPLE: &[&[u8]] = &[
     b"00000000000000000000000000000",
     b"00000000000000000000000000000",
     b"00000000000000000000000000000",
@@ -70,7 +70,7 @@ fn long_line(
 }
 
 /// The symbol of `HELLO WORLD` at level Q under mask 6, in its quiet zone, as another encoder draws it.
-const HELLO: [&[u8]; 29] = [
+const HELLO: &[&[u8]] = &[
     b"00000000000000000000000000000",
     b"00000000000000000000000000000",
     b"00000000000000000000000000000",
@@ -102,105 +102,135 @@ const HELLO: [&[u8]; 29] = [
     b"00000000000000000000000000000",
 ];
 
-#[test]
-fn known_symbols(rt: HostRuntime) -> Result<(), Fail> {
-    let alloc = rt.alloc();
-    let example = plain_pbm(alloc, b"P1\n29 29\n", EXAMPLE.as_slice())?;
-    let text = letters(alloc, EXAMPLE.as_slice())?;
-    let hello = plain_pbm(alloc, b"P1\n29 29\n", HELLO.as_slice())?;
-    assert!(rt; example.len() == 879);
-    assert!(rt; text.len() == 1712);
-    let masked = Named {
-        mask: Some(2),
-        ..DEFAULT
-    };
-    for (named, line, want) in [
-        (masked, b"qr 01234567\n".as_slice(), example.as_slice()),
-        (
-            Named {
-                level: Level::H,
-                ..LOW
-            },
-            b"qr,level=M,mask=2 01234567\n",
-            example.as_slice(),
-        ),
-        (
-            Named {
-                format: Format::Ascii,
-                ..masked
-            },
-            b"qr 01234567\n",
-            text.as_slice(),
-        ),
-        (
-            Named {
-                level: Level::Q,
-                mask: Some(6),
-                ..DEFAULT
-            },
-            b"qr HELLO WORLD\n",
-            hello.as_slice(),
-        ),
-    ] {
-        assert_row(&rt, alloc, named.options(&rt), line, want, b"");
+/// The default options but for mask 2.
+const MASKED: Named = Named {
+    mask: Some(2),
+    ..DEFAULT
+};
+
+/// The default options but for level Q.
+const QUARTILE: Named = Named {
+    level: Level::Q,
+    ..DEFAULT
+};
+
+/// The default options but for level H.
+const HIGH: Named = Named {
+    level: Level::H,
+    ..DEFAULT
+};
+
+/// Lines of the first symbol.
+const EXAMPLE_LINES: &[(Named, &[u8])] = &[
+    (MASKED, b"qr 01234567\n"),
+    (Named { height: 1, ..HIGH }, b"qr,level=M,mask=2 01234567\n"),
+];
+
+/// A line of the second one.
+const HELLO_LINES: &[(Named, &[u8])] = &[(
+    Named {
+        mask: Some(6),
+        ..QUARTILE
+    },
+    b"qr HELLO WORLD\n",
+)];
+
+/// Each line is drawn as the plain PBM of these rows.
+fn assert_symbol(
+    rt: &impl Abort,
+    alloc: Global,
+    rows: &[&[u8]],
+    lines: &[(Named, &[u8])],
+) -> Result<(), AllocError> {
+    let want = plain_pbm(alloc, b"P1\n29 29\n", rows)?;
+    assert!(rt; want.len() == 879);
+    for (named, line) in lines {
+        assert_row(rt, alloc, named.options(rt), line, want.as_slice(), b"");
     }
     Ok(())
 }
 
 #[test]
-fn least_versions(rt: HostRuntime) -> Result<(), Fail> {
-    let fifth = Named {
-        level: Level::Q,
-        min_version: 5,
-        ..DEFAULT
+fn known_symbols(rt: HostRuntime) -> Result<(), Fail> {
+    let alloc = rt.alloc();
+    assert_symbol(&rt, alloc, EXAMPLE, EXAMPLE_LINES)?;
+    assert_symbol(&rt, alloc, HELLO, HELLO_LINES)?;
+    let text = letters(alloc, EXAMPLE)?;
+    assert!(rt; text.len() == 1712);
+    let ascii = Named {
+        format: Format::Ascii,
+        ..MASKED
     };
-    for (named, front, byte, times, header) in [
-        (LEVEL_L, b"qr ".as_slice(), b"1", 41, b"P1\n29 29\n"),
-        (LEVEL_L, b"qr ", b"1", 42, b"P1\n33 33\n"),
-        (LEVEL_L, b"qr ", b"a", 17, b"P1\n29 29\n"),
-        (LEVEL_L, b"qr ", b"a", 18, b"P1\n33 33\n"),
-        (fifth, b"qr ", b"a", 30, b"P1\n45 45\n"),
-        (LEVEL_L, b"qr ", b"a", 271, b"P1\n65 65\n"),
-        (LEVEL_L, b"qr ", b"1", 652, b"P1\n65 65\n"),
-        (LEVEL_L, b"qr a", b"1", 644, b"P1\n65 65\n"),
-    ] {
-        let line = long_line(rt.alloc(), front, byte, times)?;
-        assert_header(&rt, rt.alloc(), named, line.as_slice(), header);
+    assert_row(
+        &rt,
+        alloc,
+        ascii.options(&rt),
+        b"qr 01234567\n",
+        text.as_slice(),
+        b"",
+    );
+    Ok(())
+}
+
+/// Options, the front of a line, the byte that follows it so many times, and the header of the picture.
+const LEAST_VERSIONS: &[(Named, &[u8], &[u8], usize, &[u8])] = &[
+    (LEVEL_L, b"qr ", b"1", 41, b"P1\n29 29\n"),
+    (LEVEL_L, b"qr ", b"1", 42, b"P1\n33 33\n"),
+    (LEVEL_L, b"qr ", b"a", 17, b"P1\n29 29\n"),
+    (LEVEL_L, b"qr ", b"a", 18, b"P1\n33 33\n"),
+    (
+        Named {
+            min_version: 5,
+            ..QUARTILE
+        },
+        b"qr ",
+        b"a",
+        30,
+        b"P1\n45 45\n",
+    ),
+    (LEVEL_L, b"qr ", b"a", 271, b"P1\n65 65\n"),
+    (LEVEL_L, b"qr ", b"1", 652, b"P1\n65 65\n"),
+    (LEVEL_L, b"qr a", b"1", 644, b"P1\n65 65\n"),
+];
+
+#[test]
+fn least_versions(rt: HostRuntime) -> Result<(), Fail> {
+    for (named, front, byte, times, header) in LEAST_VERSIONS {
+        let line = long_line(rt.alloc(), front, byte, *times)?;
+        assert_header(&rt, rt.alloc(), *named, line.as_slice(), header);
     }
     Ok(())
 }
+
+/// Fronts of lines, and the byte that follows each so many times that the data does not fit.
+const TOO_MUCH_DATA: &[(&[u8], &[u8], usize)] = &[
+    (b"qr ", b"a", 272),
+    (b"qr ", b"1", 653),
+    (b"qr a", b"1", 645),
+];
 
 #[test]
 fn data_that_does_not_fit(rt: HostRuntime) -> Result<(), Fail> {
     let alloc = rt.alloc();
     let options = LEVEL_L.options(&rt);
-    for (front, byte, times) in [
-        (b"qr ".as_slice(), b"a", 272),
-        (b"qr ", b"1", 653),
-        (b"qr a", b"1", 645),
-    ] {
-        let line = long_line(alloc, front, byte, times)?;
+    for (front, byte, times) in TOO_MUCH_DATA {
+        let line = long_line(alloc, front, byte, *times)?;
         let message = b"line 1: data does not fit version 10-L\n";
         assert_row(&rt, alloc, options, line.as_slice(), b"", message);
     }
     Ok(())
 }
 
+/// Options, and a line of several segments.
+const MIXED: &[(Named, &[u8])] = &[
+    (HIGH, b"qr a123456789\n"),
+    (QUARTILE, b"qr ab1234567890cd\n"),
+    (DEFAULT, b"qr a123\n"),
+];
+
 #[test]
 fn mixed_segments(rt: HostRuntime) {
-    let high = Named {
-        level: Level::H,
-        ..DEFAULT
-    };
-    let quartile = Named {
-        level: Level::Q,
-        ..DEFAULT
-    };
-    for (named, line) in [
-        (high, b"qr a123456789\n".as_slice()),
-        (quartile, b"qr ab1234567890cd\n"),
-        (DEFAULT, b"qr a123\n"),
-    ] {
-        assert_header(&rt, rt.alloc(), named, line, b"P1\n29 29\n");
+    for (named, line) in MIXED {
+        assert_header(&rt, rt.alloc(), *named, line, b"P1\n29 29\n");
     }
 }

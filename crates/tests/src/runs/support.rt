@@ -97,6 +97,21 @@ pub fn answer_of(
     run(options, source, out, err)
 }
 
+/// What a run over the input answers, 4,096 bytes a read, for pictures one module high without escapes.
+pub fn answer_to(
+    rt: &impl Abort,
+    input: &[u8],
+    out: &mut impl Sink,
+    err: &mut impl Sink,
+) -> Result<Status, RunFault> {
+    answer_of(
+        low(rt, false),
+        &mut MemSource::new(input, 4096, false),
+        out,
+        err,
+    )
+}
+
 /// What a filter answers to a piece.
 pub fn feed_piece(
     filter: &mut Filter,
