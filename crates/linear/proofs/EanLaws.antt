@@ -1,7 +1,7 @@
 -- What is drawn as EAN or UPC is read back (ISO/IEC 15420, symbol formats).
 use Rattle.std.proofs.Common.{◌≡◌, ℕ, ◌+◌, ◌-◌, ◌*◌, ◌<◌, Bool, true, false, cond, Ok, Err, Result, Some, None, Option}
 use Rattle.std.proofs.Common.{List, [], ◌∷◌, ◌++◌, length, take, drop, refl, sym, ap, subst, ◌∙◌, arith, length-append}
-use Rattle.std.proofs.Common.{append_assoc, eqb, eq-eqb, inl, inr, map, ◌%◌, lit≤}
+use Rattle.std.proofs.Common.{append_assoc, eqb, eq-eqb, inl, inr, map, ◌%◌, ◌≤◌, lit≤}
 use Rattle.std.specs.Prelude.{option_map, option_and_then, flat_map, replicate, slice_index, position, All, IfOk}
 use Rattle.std.specs.Option.{option_zip}
 use Rattle.std.specs.Result.{result_ok}
@@ -15,6 +15,7 @@ use Rattle.labelcore.specs.declared.fault.Fault.{Fault}
 use Rattle.labelcore.specs.declared.fault.Fault.TheVariants.{WrongNumberOfDigits, WrongCheckDigit}
 use Rattle.linear.specs.declared.ean.NumberSet.{NumberSet}
 use Rattle.linear.specs.declared.ean.NumberSet.TheVariants.{A, C}
+use Rattle.linear.specs.declared.limits.TheConstants.{MAX_MODULES}
 use Rattle.linear.specs.Digits.{digit_value, weighted_sum, checked, completed, full_digits, check_digit}
 use Rattle.linear.specs.Modules.{each_group}
 use Rattle.linear.specs.Tables.{left_half_sets}
@@ -222,6 +223,12 @@ ean8_full full f =
     ap (λ xs. xs ++ drop 4 full) (zipped_bytes sets (take 4 full) (sym long_left)) ∙ take-append-drop 4 full in
     ap (λ o. option_and_then (λ (halves : List ℕ × List ℕ). result_ok (completed 7 (halves.0 ++ halves.1))) o) halves
     ∙ ap (λ xs. result_ok (completed 7 xs)) whole ∙ full_checked 7 full f
+
+-- bars that stand in a row that was empty fit in it
+pub does_fit : (old row bars : List Bool) → old ≡ [] → row ≡ bars → length row ≤ length old + 95
+    → length bars ≤ MAX_MODULES
+does_fit old row bars empty e h =
+    subst (λ xs. length xs ≤ MAX_MODULES) e (let none = ap length empty in omega arith)
 
 -- what is drawn of data that is full is read back
 pub ean8_read_back : (bytes : List ℕ) → IfOk (full_digits 7 bytes) (λ full. read_ean8 (ean8_bars full) ≡ Some full)

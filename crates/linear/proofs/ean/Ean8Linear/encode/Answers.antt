@@ -1,10 +1,9 @@
-use Rattle.std.proofs.Common.{◌≡◌, ◌+◌, ◌≤◌, ◌++◌, ℕ, Bool, List, [], length, take, drop, replicate, sym, ap, ◌∙◌}
-use Rattle.std.proofs.Common.{subst, arith}
+use Rattle.std.proofs.Common.{◌≡◌, ◌≤◌, ◌++◌, ℕ, Bool, List, [], length, take, drop, replicate, sym, ap, ◌∙◌, subst}
 use Rattle.std.specs.Prelude.{IfOk}
 use Rattle.linear.specs.declared.ean.NumberSet.TheVariants.{A}
 use Rattle.linear.specs.declared.limits.TheConstants.{MAX_MODULES}
 use Rattle.linear.specs.Ean.{symbol, ean8_bars}
-use Rattle.linear.proofs.EanLaws.{ean8_read_back}
+use Rattle.linear.proofs.EanLaws.{does_fit, ean8_read_back}
 use Rattle.linear.proofs.ean.Ean8Linear.encode.Goals as goal
 
 -- the code's halves are those of the full data
@@ -14,11 +13,6 @@ is_drawn whole full left right old row same l r empty e =
     e ∙ ap (λ xs. xs ++ symbol (replicate 4 A) left right) empty
     ∙ ap (λ xs. symbol (replicate 4 A) xs right) (l ∙ ap (λ xs. take 4 xs) same)
     ∙ ap (λ xs. symbol (replicate 4 A) (take 4 whole) xs) (r ∙ ap (λ xs. drop 4 xs) same)
-
-does_fit : (old row bars : List Bool) → old ≡ [] → row ≡ bars → length row ≤ length old + 95
-    → length bars ≤ MAX_MODULES
-does_fit old row bars empty e h =
-    subst (λ xs. length xs ≤ MAX_MODULES) e (let none = ap length empty in omega arith)
 
 pub returns-clause-drawn : goal.returns-clause-drawn
 returns-clause-drawn c = subst (λ answer. IfOk answer (λ full. c.push_symbol.new.row.items ≡ ean8_bars full))

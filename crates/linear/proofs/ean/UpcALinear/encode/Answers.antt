@@ -1,8 +1,8 @@
-use Rattle.std.proofs.Common.{◌≡◌, ◌+◌, ◌≤◌, ◌++◌, ℕ, Bool, List, [], ◌∷◌, length, sym, ap, ◌∙◌, subst, arith}
+use Rattle.std.proofs.Common.{◌≡◌, ◌≤◌, ◌++◌, ℕ, Bool, List, [], ◌∷◌, length, sym, ap, ◌∙◌, subst}
 use Rattle.std.specs.Prelude.{IfOk}
 use Rattle.linear.specs.declared.limits.TheConstants.{MAX_MODULES}
 use Rattle.linear.specs.Ean.{ean13_bars, upca_bars}
-use Rattle.linear.proofs.EanLaws.{upca_read_back}
+use Rattle.linear.proofs.EanLaws.{does_fit, upca_read_back}
 use Rattle.linear.proofs.ean.UpcALinear.encode.Goals as goal
 
 -- the bars are those of the full data after a 0
@@ -10,11 +10,6 @@ is_drawn : (whole full : List ℕ) (old row : List Bool) → full ≡ 48 ∷ who
     → row ≡ upca_bars whole
 is_drawn whole full old row same empty e =
     e ∙ ap (λ xs. xs ++ ean13_bars full) empty ∙ ap (λ xs. ean13_bars xs) same
-
-does_fit : (old row bars : List Bool) → old ≡ [] → row ≡ bars → length row ≤ length old + 95
-    → length bars ≤ MAX_MODULES
-does_fit old row bars empty e h =
-    subst (λ xs. length xs ≤ MAX_MODULES) e (let none = ap length empty in omega arith)
 
 pub returns-clause-drawn : goal.returns-clause-drawn
 returns-clause-drawn c = subst (λ answer. IfOk answer (λ full. c.push_ean13.new.row.items ≡ upca_bars full))
