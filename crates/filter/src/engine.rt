@@ -26,6 +26,7 @@ pub fn run<S: Source, O: Sink, E: Sink>(
     ensures whole { IfOk result (RunsWhole options (S.gave source.old source.new)
         (O.took out.old out.new) (E.took err.old err.new)) }
     ensures ended { OnOk result (S.at_end source.new ≡ true) }
+    ensures nothing_left { OnOk result (S.ends source.new) }
     ensures flushed { OnOk result ((O.is_flushed out.new ≡ true) × (E.is_flushed err.new ≡ true)) }
     ensures no_failure { OnOk result ((S.failures source.new ≡ S.failures source.old)
         × (O.failures out.new ≡ O.failures out.old) × (E.failures err.new ≡ E.failures err.old)) }

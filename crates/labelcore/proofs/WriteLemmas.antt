@@ -1,5 +1,5 @@
 -- A lemma on a text that is written piece by piece.
-use Rattle.std.proofs.Common.{◌≡◌, List, ℕ, [], ◌++◌, ◌+◌, ◌-◌, ◌≤◌, length, take, drop, append_assoc, ◌∙◌, ap, sym}
+use Rattle.std.proofs.Common.{◌≡◌, List, ℕ, [], ◌++◌, ◌+◌, ◌-◌, ◌≤◌, length, take, drop, append_assoc, ◌∙◌, ap, sym, subst}
 use Rattle.std.proofs.Common.{arith, length-drop, length-take}
 use Rattle.std.specs.Prelude.{slice_range}
 use borrow.Rule.Slice.PartMut.{put_mid}
@@ -44,3 +44,13 @@ PassesOn-more took s t old mid new more h e = record {
       ap (λ (xs : List ℕ). xs ++ more) (sym (append-nil old) ∙ h.cut)
       ∙ (append_assoc h.sent mid more ∙ ap (λ (xs : List ℕ). h.sent ++ xs) (sym e));
 }
+
+-- nothing is held from a place to itself
+pub slice_range-none : (bytes : List ℕ) (s e : ℕ) → s ≡ e → slice_range bytes s e ≡ []
+slice_range-none bytes s e same = let none : e - s ≡ 0 = omega arith in ap (λ (n : ℕ). take n (drop s bytes)) none
+
+-- where nothing is held, all was passed on
+pub PassesOn-all : {S : Type 0} (took : S → S → List ℕ → Type 0) (s t : S) (old new more : List ℕ) → new ≡ []
+    → PassesOn took s t old new more → took s t (old ++ more)
+PassesOn-all took s t old new more none h =
+    subst (took s t) (sym (h.cut ∙ (ap (λ (xs : List ℕ). h.sent ++ xs) none ∙ append-nil h.sent))) h.taken

@@ -1,5 +1,5 @@
 //! A sink that holds bytes back.
-ghost use Rattle.std.specs.Prelude.{◌≡◌, ◌+◌, ◌<◌, ◌≤◌, ◌++◌, [], true, false, length, take, IfOk, OnOk, MatchResult};
+ghost use Rattle.std.specs.Prelude.{◌≡◌, ◌+◌, ◌<◌, ◌≤◌, ◌++◌, ℕ, List, [], true, false, length, take, IfOk, OnOk, MatchResult};
 ghost use borrow.Rule.Slice.PartMut.{put_mid};
 ghost use Rattle.labelcore.specs.Device.{CountsFailure};
 ghost use Rattle.labelcore.specs.Passing.{PassesOn};
@@ -13,7 +13,7 @@ const ROOM: usize = 65536;
 /// Holds bytes back before another sink, which then takes them in large pieces: when there is no room for more, when
 /// they are sent on, and at a flush.
 #[derive(Drop)]
-pub struct Held<S> {
+pub struct Held<S: Sink> {
     sink: S,
     // What is held stands here from `start` to `end`. It begins further on where a call failed in the middle of it. A
     // vector would write over all of it when it is cleared.
@@ -23,6 +23,8 @@ pub struct Held<S> {
     is_flushed: bool,
     ghost ordered: { start ≤ end },
     ghost within: { end ≤ 65536 },
+    ghost emptied: { is_flushed ≡ true → start ≡ end },
+    ghost below: { is_flushed ≡ true → S.is_flushed sink ≡ true },
 }
 
 impl<S: Sink> Held<S> {
@@ -56,6 +58,18 @@ impl<S: Sink> Held<S> {
     {
         let all = &self.bytes[..];
         &all[self.start..self.end]
+    }
+
+    /// A flushed sink holds nothing back, and the sink below it is flushed. So that one took all that this one took, and
+    /// what was held before.
+    pub fn reaches(&self)
+        ensures held { ⟦<Held<S> as Sink>⟧.is_flushed self.now ≡ true → held_back self.now ≡ [] }
+        ensures below { ⟦<Held<S> as Sink>⟧.is_flushed self.now ≡ true
+            → S.is_flushed (sink_of self.now) ≡ true }
+        ensures bytes { ⟦<Held<S> as Sink>⟧.is_flushed self.now ≡ true → (old : S) (old_held text : List ℕ)
+            → PassesOn S.took old (sink_of self.now) old_held (held_back self.now) text
+            → S.took old (sink_of self.now) (old_held ++ text) }
+    {
     }
 
     /// Passes on what is held back.

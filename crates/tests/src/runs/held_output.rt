@@ -73,6 +73,8 @@ impl<S: Source + Drop> Source for WatchingSource<'_, S> {
 
     ghost gave = { λ s t xs. S.gave s.source t.source xs };
 
+    ghost ends = { λ s. S.ends s.source };
+
     fn read(&mut self, buf: &mut [u8]) -> Result<usize, IoFault> {
         if let Ok(text) = self.text.try_borrow() {
             self.seen = text.len();
