@@ -3,7 +3,7 @@ use Rattle.std.proofs.Common.{◌≡◌, refl, codes, [], ◌∷◌, Some, true}
 use Rattle.clap.proofs.OnLiterals.{clap_on_literals}
 use Rattle.command.specs.CommandLine.{bad, help, invocation_of, run}
 use Rattle.labelcore.specs.declared.options.Format.TheVariants.{Ascii}
-use Rattle.labelcore.specs.declared.options.Level.TheVariants.{H}
+use Rattle.qrdata.specs.declared.level.Level.TheVariants.{H}
 use Rattle.labelcore.specs.OptionValues.{OptionValues, level_named}
 
 scale-9 : invocation_of (codes "--scale" ∷ codes "9" ∷ []) ≡ bad

@@ -10,7 +10,7 @@ use Rattle.clap.specs.declared.parser.matches.Found.{Found}
 use Rattle.clap.proofs.WalkLemmas.{first_value-rows, one_text-rows}
 use Rattle.labelcore.specs.OptionValues.{IsMask, OptionValues}
 use Rattle.labelcore.specs.declared.options.Format.{Format}
-use Rattle.labelcore.specs.declared.options.Level.{Level}
+use Rattle.qrdata.specs.declared.level.Level.{Level}
 use Rattle.command.specs.CommandLine.{HoldsNumber, IsNumberIn, format_in, is_on, level_in, number_named, number_of, run}
 use Rattle.command.specs.CommandLine.{run_of, options_named, options_with}
 

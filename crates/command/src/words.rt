@@ -12,7 +12,8 @@ ghost use Rattle.std.specs.Prelude.{Some, false, option_map};
 use clap::builder::ValueParser;
 use clap::error::ErrorKind;
 use clap::{Arg, ArgAction, ArgMatches, Command, value_parser};
-use labelcore::{Format, Level, Options};
+use labelcore::{Format, Options};
+use qrdata::Level;
 use std::alloc::{AllocError, Global};
 
 /// What the words of a run choose.

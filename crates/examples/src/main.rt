@@ -7,7 +7,9 @@ mod pieces;
 mod symbol;
 
 use filter::Status;
-use labelcore::{Format, Level, MemSink, Options, StdSink};
+use device::{MemSink, StdSink};
+use labelcore::{Format, Options};
+use qrdata::Level;
 use negative::Negative;
 use picture::{Framed, write_ascii};
 use pieces::draw_in_two;

@@ -1,10 +1,11 @@
 //! A filter that is fed in two pieces.
 ghost use Rattle.std.specs.Prelude.{◌≡◌, ◌++◌, true, IfOk, OnOk};
 ghost use Rattle.filter.specs.Output.{status_of};
-ghost use Rattle.labelcore.specs.Lines.{lines};
+ghost use Rattle.device.specs.Lines.{lines};
 
 use filter::{Filter, RunFault, Status};
-use labelcore::{Options, Sink};
+use device::Sink;
+use labelcore::Options;
 
 /// Draws the labels of a text that comes in two pieces, wherever it is cut. The answer is that of the whole text.
 pub fn draw_in_two<O: Sink, E: Sink>(

@@ -1,11 +1,11 @@
 -- A worked row, computed.
 use Rattle.std.proofs.Common.{◌≡◌, ℕ, List, [], ◌∷◌, map, refl, None, codes, false}
 use Rattle.labelcore.specs.declared.options.Format.TheVariants.{Pbm}
-use Rattle.labelcore.specs.declared.options.Level.TheVariants.{M}
+use Rattle.qrdata.specs.declared.level.Level.TheVariants.{M}
 use Rattle.labelcore.specs.OptionValues.{OptionValues}
 use Rattle.std.specs.Fmt.{digits}
 use Rattle.labelcore.specs.LineItem.{request, head_read, symbology_named}
-use Rattle.labelcore.specs.Lines.{line_limit}
+use Rattle.labelcore.specs.HeldLine.{line_limit}
 use Rattle.linear.specs.Tables.{number_set_a}
 use Rattle.filter.specs.Label.{Label, label_of}
 use Rattle.filter.specs.Output.{outcome, images, messages, messages_after}

@@ -2,9 +2,10 @@
 use Rattle.std.proofs.Common.{◌≡◌, ◌≢◌, ℕ, ◌+◌, ◌-◌, ◌^◌, min, Bool, ◌||◌, false, List, [], ◌∷◌, ◌++◌, length, take}
 use Rattle.std.proofs.Common.{append_assoc, refl, ap, subst, sym, ◌∙◌, arith, add-zero, length-append, length-take}
 use Rattle.std.proofs.lemmas.List.{append-nil}
-use Rattle.labelcore.specs.Lines.{LF, held, line_limit, lines, ended_lines, open_line, unless_empty}
-use Rattle.labelcore.proofs.LinesLemmas.{ended_lines-nil, open_line-nil, ended_lines-push_lf, ended_lines-push_other}
-use Rattle.labelcore.proofs.LinesLemmas.{open_line-push_lf, open_line-push_other, some_added}
+use Rattle.labelcore.specs.HeldLine.{held_line, line_limit}
+use Rattle.device.specs.Lines.{LF, lines, ended_lines, open_line, unless_empty}
+use Rattle.device.proofs.LinesLemmas.{ended_lines-nil, open_line-nil, ended_lines-push_lf, ended_lines-push_other}
+use Rattle.device.proofs.LinesLemmas.{open_line-push_lf, open_line-push_other, some_added}
 use Rattle.filter.specs.Output.{Outcome, outcome, image_of, message_of, is_refusal, line_number, images, messages_after}
 use Rattle.filter.specs.Output.{any_refused}
 use Rattle.filter.specs.Line.{FailsInLine}
@@ -19,11 +20,11 @@ use Rattle.labelcore.specs.OptionValues.{OptionValues}
 
 module _ (options : OptionValues) where
   -- a new filter
-  pub StandsAt-new : (state : FilterState) → state.options ≡ options → state.line ≡ held [] → state.line_count ≡ 0
+  pub StandsAt-new : (state : FilterState) → state.options ≡ options → state.line ≡ held_line [] → state.line_count ≡ 0
       → state.is_refused ≡ false → state.is_spent ≡ false → StandsAt options state []
   StandsAt-new state o l n r s = record {
     options_are = o;
-    line = l ∙ ap held (sym open_line-nil);
+    line = l ∙ ap held_line (sym open_line-nil);
     line_count = n ∙ ap (λ (ls : List (List ℕ)). min (length ls) (2 ^ 64 - 1)) (sym ended_lines-nil);
     is_refused = r ∙ (sym (any_refused-nil options) ∙ ap (any_refused options) (sym ended_lines-nil));
     is_spent = s;
@@ -31,21 +32,21 @@ module _ (options : OptionValues) where
 
   module _ (old new : FilterState) (text : List ℕ) (byte : ℕ) (at : StandsAt options old text) where
     -- a byte of the line
-    pub StandsAt-other : byte ≢ LF → new.options ≡ old.options → new.line ≡ held (open_line text ++ byte ∷ [])
+    pub StandsAt-other : byte ≢ LF → new.options ≡ old.options → new.line ≡ held_line (open_line text ++ byte ∷ [])
         → new.line_count ≡ old.line_count → new.is_refused ≡ old.is_refused → new.is_spent ≡ old.is_spent
         → StandsAt options new (text ++ byte ∷ [])
     StandsAt-other other o l n r s =
         let ended = ended_lines-push_other text byte other in
         record {
           options_are = o ∙ at.options_are;
-          line = l ∙ ap held (sym (open_line-push_other text byte other));
+          line = l ∙ ap held_line (sym (open_line-push_other text byte other));
           line_count = n ∙ (at.line_count ∙ ap (λ (ls : List (List ℕ)). min (length ls) (2 ^ 64 - 1)) (sym ended));
           is_refused = r ∙ (at.is_refused ∙ ap (any_refused options) (sym ended));
           is_spent = s ∙ at.is_spent;
         }
 
     -- the end of the line
-    pub StandsAt-lf : byte ≡ LF → new.options ≡ old.options → new.line ≡ held []
+    pub StandsAt-lf : byte ≡ LF → new.options ≡ old.options → new.line ≡ held_line []
         → new.line_count ≡ line_number (length (ended_lines text))
         → new.is_refused ≡ (old.is_refused || is_refusal (outcome options (open_line text)))
         → new.is_spent ≡ old.is_spent → StandsAt options new (text ++ byte ∷ [])
@@ -55,7 +56,7 @@ module _ (options : OptionValues) where
         ∙ ended_lines-push_lf text in
         record {
           options_are = o ∙ at.options_are;
-          line = l ∙ ap held (sym (ap open_line text' ∙ open_line-push_lf text));
+          line = l ∙ ap held_line (sym (ap open_line text' ∙ open_line-push_lf text));
           line_count = n ∙ (ap (λ (k : ℕ). min k (2 ^ 64 - 1))
               (sym (length-append (ended_lines text) (open_line text ∷ [])))
               ∙ ap (λ (ls : List (List ℕ)). min (length ls) (2 ^ 64 - 1)) (sym ended));

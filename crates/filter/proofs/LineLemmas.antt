@@ -6,7 +6,7 @@ use Rattle.labelcore.specs.LineItem.{item}
 use Rattle.labelcore.specs.Message.{message}
 use Rattle.labelcore.specs.declared.fault.Fault.{Fault}
 use Rattle.filter.specs.Output.{Outcome, skipped, refused, drawn, outcome, outcome_of_item, image_of}
-use Rattle.labelcore.specs.Device.{Begins}
+use Rattle.device.specs.Device.{Begins}
 use Rattle.filter.specs.Line.{FailsInLine}
 use Rattle.filter.specs.Private.LineEnd.{EndsLine, FailsInMessage, refusal_of}
 use Rattle.filter.specs.Readback.{ReadsBack}

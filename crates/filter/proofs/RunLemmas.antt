@@ -2,7 +2,7 @@
 use Rattle.std.proofs.Common.{ℕ, Result, Ok, Err, List, [], ◌∷◌, ◌++◌, length, ◌⊎◌, inl, inr, refl, subst, sym}
 use Rattle.std.proofs.Common.{zero-add}
 use Rattle.std.specs.Prelude.{MatchResult, IfErr, IfOk}
-use Rattle.labelcore.specs.Lines.{lines, ended_lines, open_line, unless_empty}
+use Rattle.device.specs.Lines.{lines, ended_lines, open_line, unless_empty}
 use Rattle.filter.specs.Line.{RaisesOneCount}
 use Rattle.filter.specs.Output.{image_of, outcome}
 use Rattle.filter.specs.Filter.{TookLines, StopsInLine, TookPiece, StopsInFinish}

@@ -1,7 +1,8 @@
 -- Where a filter stands in its input, and what it does to its sinks (docs/SPECIFICATION.md, The filter as a library).
 use Rattle.std.specs.Prelude.{◌≡◌, ℕ, ◌+◌, ◌-◌, ◌^◌, min, Bool, false, ◌⊎◌, List, ◌∷◌, ◌++◌, length, Result}
 use Rattle.std.specs.Prelude.{MatchResult}
-use Rattle.labelcore.specs.Lines.{Held, held, lines, ended_lines, open_line, unless_empty}
+use Rattle.labelcore.specs.HeldLine.{HeldLine, held_line}
+use Rattle.device.specs.Lines.{lines, ended_lines, open_line, unless_empty}
 use Rattle.labelcore.specs.OptionValues.{OptionValues}
 use Rattle.filter.specs.Output.{outcome, images, messages_after, line_number, any_refused, status_of}
 use Rattle.filter.specs.Line.{FailsInLine}
@@ -13,7 +14,7 @@ use Rattle.filter.specs.declared.status.Status.{Status}
 -- what a filter keeps between pieces
 pub record FilterState : Type 0 where
   pub options : OptionValues
-  pub line : Held
+  pub line : HeldLine
   pub line_count : ℕ
   pub is_refused : Bool
   pub is_spent : Bool
@@ -21,7 +22,7 @@ pub record FilterState : Type 0 where
 -- the filter has these options and was fed this text
 pub record StandsAt (options : OptionValues) (state : FilterState) (text : List ℕ) : Type 0 where
   pub options_are : state.options ≡ options
-  pub line : state.line ≡ held (open_line text)
+  pub line : state.line ≡ held_line (open_line text)
   pub line_count : state.line_count ≡ min (length (ended_lines text)) (2 ^ 64 - 1)
   pub is_refused : state.is_refused ≡ any_refused options (ended_lines text)
   pub is_spent : state.is_spent ≡ false

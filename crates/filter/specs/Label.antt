@@ -6,8 +6,8 @@ use Rattle.labelcore.specs.declared.fault.Fault.{Fault}
 use Rattle.labelcore.specs.declared.fault.Fault.TheVariants.{DoesNotFit}
 use Rattle.labelcore.specs.OptionValues.{OptionValues}
 use Rattle.linear.specs.Digits.{full_digits}
-use Rattle.linear.specs.Ean.{ean13_bars, ean8_bars, upca_bars}
-use Rattle.linear.specs.Code128.{full_code128, code128_bars}
+use Rattle.linear.specs.Ean.{ean13_row, ean8_row, upca_row}
+use Rattle.linear.specs.Code128.{full_code128, code128_row}
 use Rattle.qrdata.specs.Codewords.{symbol_codewords}
 use Rattle.qrdata.specs.Fewest.{chosen_segments, chosen_version}
 use Rattle.qrdata.specs.Versions.{side_of}
@@ -63,8 +63,8 @@ qr_label options bytes (Some version) =
 
 -- the symbol of the data, or why there is none
 unfoldable pub label_of : OptionValues → Symbology → List ℕ → Result Label Fault
-label_of options Ean13 bytes = linear_label Ean13 ean13_bars options (full_digits 12 bytes)
-label_of options Ean8 bytes = linear_label Ean8 ean8_bars options (full_digits 7 bytes)
-label_of options UpcA bytes = linear_label UpcA upca_bars options (full_digits 11 bytes)
-label_of options Code128 bytes = linear_label Code128 code128_bars options (full_code128 bytes)
+label_of options Ean13 bytes = linear_label Ean13 ean13_row options (full_digits 12 bytes)
+label_of options Ean8 bytes = linear_label Ean8 ean8_row options (full_digits 7 bytes)
+label_of options UpcA bytes = linear_label UpcA upca_row options (full_digits 11 bytes)
+label_of options Code128 bytes = linear_label Code128 code128_row options (full_code128 bytes)
 label_of options Qr bytes = qr_label options bytes (chosen_version options.min_version options.level bytes)

@@ -1,6 +1,6 @@
 -- What a line's end does to the sinks (docs/SPECIFICATION.md, Lines).
 use Rattle.std.specs.Prelude.{◌≡◌, ℕ, Bool, List, [], Result, MatchResult}
-use Rattle.labelcore.specs.Device.{Begins, Rises, Unflushed}
+use Rattle.device.specs.Device.{Begins, Rises, Unflushed}
 use Rattle.labelcore.specs.OptionValues.{OptionValues}
 use Rattle.filter.specs.Output.{Outcome, image_of, message_of}
 use Rattle.filter.specs.declared.status.RunFault.{RunFault}

@@ -1,9 +1,9 @@
 -- A run over a whole input: the headline, and what stands where the run stops before the end (docs/SPECIFICATION.md,
 -- The filter as a library).
 use Rattle.std.specs.Prelude.{◌≡◌, ℕ, ◌-◌, ◌^◌, ◌≤◌, ◌⊎◌, List, length}
-use Rattle.labelcore.specs.Device.{Rises}
+use Rattle.device.specs.Device.{Rises}
 use Rattle.labelcore.specs.OptionValues.{OptionValues}
-use Rattle.labelcore.specs.Lines.{lines, ended_lines}
+use Rattle.device.specs.Lines.{lines, ended_lines}
 use Rattle.filter.specs.Output.{images, messages, status_of}
 use Rattle.filter.specs.Readback.{AreRead, accepted, cut}
 use Rattle.filter.specs.declared.status.Status.{Status}

@@ -1,6 +1,6 @@
 //! Drawing the symbol of a line.
 ghost use Rattle.std.specs.Prelude.{Bool, None, ◌≡◌, ◌≢◌, ◌+◌, ◌*◌, ◌<◌, ◌≤◌, List, ℕ, [], length, IfOk};
-ghost use Rattle.labelcore.specs.Writing.{WritesText};
+ghost use Rattle.device.specs.Writing.{WritesText};
 ghost use Rattle.picture.specs.Picture.{scaled, symbol_picture};
 ghost use Rattle.qrdata.specs.Fewest.{chosen_segments};
 ghost use Rattle.qrdata.specs.Versions.{capacity};
@@ -11,7 +11,8 @@ ghost use Rattle.filter.specs.Private.LineEnd.{refusal_of};
 ghost use Rattle.filter.specs.Readback.{IsReadable, ReadsBack, read_linear, read_modules};
 ghost use Rattle.labelcore.specs.declared.symbology.Symbology.TheVariants.{Qr};
 
-use labelcore::{Fault, Format, IoFault, Options, Sink, Symbology};
+use device::{IoFault, Sink};
+use labelcore::{Fault, Format, Options, Symbology};
 use linear::{Code128, Ean8, Ean13, Linear, Row, UpcA};
 use picture::{Bars, Framed, Grid, Scaled, modules_of_pixels, write_ascii, write_pbm};
 use qrdata::{Plan, Words, choose, codewords};
@@ -57,12 +58,12 @@ fn draw_linear<L: Linear, O: Sink>(
     requires none { L.reading [] ≡ None }
     ensures writes { WritesText O.Sink out.old out.new
         (image_of options.now
-        (outcome_of_label (linear_label symbology L.bars options.now (L.full_data bytes.now))))
+        (outcome_of_label (linear_label symbology L.row_of options.now (L.full_data bytes.now))))
         result }
     ensures refusal { IfOk result (λ refusal. refusal ≡ refusal_of
-        (outcome_of_label (linear_label symbology L.bars options.now (L.full_data bytes.now)))) }
+        (outcome_of_label (linear_label symbology L.row_of options.now (L.full_data bytes.now)))) }
     ensures read { ReadsBack
-        (outcome_of_label (linear_label symbology L.bars options.now (L.full_data bytes.now))) }
+        (outcome_of_label (linear_label symbology L.row_of options.now (L.full_data bytes.now))) }
 {
     modules_of_pixels();
     let mut row = Row::new();

@@ -5,7 +5,8 @@ ghost use Rattle.filter.specs.Run.{RunsWhole, RunStops, RunRaises, GaveTooMuch};
 
 use crate::filter::Filter;
 use crate::status::{RunFault, Status};
-use labelcore::{Options, Sink, Source};
+use device::{Sink, Source};
+use labelcore::Options;
 use picture::{files_of_texts, modules_of_pixels, pixels_of_texts};
 
 /// Reads the source to its end, at most 4,096 bytes a read, and writes what its lines come to: images to `out`,
@@ -46,7 +47,7 @@ pub fn run<S: Source, O: Sink, E: Sink>(
     let mut buffer = [0u8; 4096];
     for _turn in 0..u64::MAX {
         // A read may wait, and then what earlier lines came to should have gone out.
-        if out.send_on().is_err() {
+        if out.pass_on().is_err() {
             return Err(RunFault::WriteOut);
         }
         let Ok(count) = source.read(&mut buffer) else {

@@ -1,16 +1,17 @@
 //! The filter, fed piece by piece.
 ghost use Rattle.std.specs.Prelude.{◌≡◌, ℕ, Bool, true, false, List, [], ◌∷◌, ◌++◌, length, Err, OnOk, OnErr, IfOk};
 ghost use Rattle.std.specs.Prelude.{IfErr};
-ghost use Rattle.labelcore.specs.Device.{Unflushed};
+ghost use Rattle.device.specs.Device.{Unflushed};
 ghost use Rattle.labelcore.specs.OptionValues.{OptionValues};
-ghost use Rattle.labelcore.specs.Lines.{lines, ended_lines, open_line, unless_empty};
+ghost use Rattle.device.specs.Lines.{lines, ended_lines, open_line, unless_empty};
 ghost use Rattle.filter.specs.Output.{any_refused, status_of};
 ghost use Rattle.filter.specs.Filter.{FilterState, StandsAt, TookLines, StopsInLine, FeedsPiece, EndsInput};
 ghost use Rattle.filter.specs.Line.{CountsFault, FlushedImagesAtMost};
 
 use crate::line::finish_line;
 use crate::status::{RunFault, Status};
-use labelcore::{LineBuf, Options, Sink};
+use device::Sink;
+use labelcore::{LineBuf, Options};
 use std::marker::Model;
 
 /// What is held of the open line, and what the lines before it came to.

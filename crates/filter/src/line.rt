@@ -1,9 +1,9 @@
 //! What the end of a line does.
 ghost use Rattle.std.specs.Prelude.{◌≡◌, ◌≢◌, ℕ, true, List, [], IfOk, IfErr, OnOk};
-ghost use Rattle.labelcore.specs.Device.{Unflushed};
+ghost use Rattle.device.specs.Device.{Unflushed};
 ghost use Rattle.labelcore.specs.ItemView.{item_seen};
 ghost use Rattle.labelcore.specs.LineItem.{HasData, KeepsRun};
-ghost use Rattle.labelcore.specs.Lines.{held};
+ghost use Rattle.labelcore.specs.HeldLine.{held_line};
 ghost use Rattle.labelcore.specs.Message.{message};
 ghost use Rattle.filter.specs.Output.{outcome, outcome_of_data, outcome_of_item};
 ghost use Rattle.filter.specs.Line.{FailsInLine, CountsFault};
@@ -11,7 +11,8 @@ ghost use Rattle.filter.specs.Private.LineEnd.{EndsLine, FailsInMessage};
 
 use crate::draw::draw;
 use crate::status::RunFault;
-use labelcore::{Fault, Item, LineBuf, Options, Scratch, Sink, Symbology, parse, write_fault};
+use device::Sink;
+use labelcore::{Fault, Item, LineBuf, Options, Scratch, Symbology, parse, write_fault};
 
 /// Writes the line's image or its message, and says whether it is refused.
 pub fn finish_line<O: Sink, E: Sink>(
@@ -21,10 +22,10 @@ pub fn finish_line<O: Sink, E: Sink>(
     out: &mut O,
     err: &mut E,
 ) -> Result<bool, RunFault>
-    ensures ends { (text : List ℕ) → line.now ≡ held text → IfOk result
+    ensures ends { (text : List ℕ) → line.now ≡ held_line text → IfOk result
         (EndsLine options.now (O.took out.old out.new) (E.took err.old err.new) number
         (outcome options.now text)) }
-    ensures fails { (text : List ℕ) → line.now ≡ held text → IfErr result
+    ensures fails { (text : List ℕ) → line.now ≡ held_line text → IfErr result
         (FailsInLine options.now (O.took out.old out.new) (E.took err.old err.new) number
         (outcome options.now text)) }
     ensures counts { CountsFault (O.failures out.old) (O.failures out.new)
@@ -111,7 +112,7 @@ fn refuse<O: Sink, E: Sink>(
     ensures unflushed { Unflushed (O.is_flushed out.old) (O.is_flushed out.new)
         × Unflushed (E.is_flushed err.old) (E.is_flushed err.new) }
 {
-    if out.send_on().is_err() {
+    if out.pass_on().is_err() {
         return Err(RunFault::WriteOut);
     }
     match write_fault(number, fault, err) {

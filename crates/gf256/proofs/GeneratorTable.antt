@@ -7,7 +7,7 @@ use Rattle.std.proofs.Math.Nat.{mod-eq_of_lt}
 use Rattle.gf256.specs.BinaryPolynomial.{binary_product, binary_remainder}
 use Rattle.gf256.specs.Field.{field_product, field_power}
 use Rattle.gf256.specs.Polynomial.{polynomial_sum, polynomial_product, scaled}
-use Rattle.gf256.specs.Parity.{generator}
+use Rattle.gf256.specs.ErrorCorrection.{generator}
 use Rattle.gf256.specs.declared.tables.TheConstants.{GENERATORS}
 use Rattle.gf256.proofs.AllBelow.{all_below, all_below-at}
 use Rattle.gf256.proofs.LogarithmTables.{exp, field_power-table}
@@ -27,7 +27,7 @@ same_numbers-is (x ∷ xs) (y ∷ ys) h =
     let parts = and_parts (x == y) (same_numbers xs ys) h in
     ap (λ n. n ∷ xs) (eqb-true _ _ parts.0) ∙ ap (λ l. y ∷ l) (same_numbers-is xs ys parts.1)
 
--- the logarithms of the generator of k parity words in the table
+-- the logarithms of the generator of k error correction codewords in the table
 unfoldable pub logarithms_at : ℕ → List ℕ
 logarithms_at k = take k (drop (k * (k - 1) / 2) GENERATORS)
 

@@ -1,7 +1,7 @@
-//! Generator polynomials and the parity codewords of a block (ISO/IEC 18004, 7.5.2 and annex A).
+//! Generator polynomials and the error correction codewords of a block (ISO/IEC 18004, 7.5.2 and annex A).
 ghost use Rattle.gf256.specs.Field.{alpha, field_power, field_product};
-ghost use Rattle.gf256.specs.Parity.{HasRoots, IsRemainder, ParityIsRemainder, RemaindersAreCodewords, generator};
-ghost use Rattle.gf256.specs.Parity.{parity_of};
+ghost use Rattle.gf256.specs.ErrorCorrection.{HasRoots, IsRemainder, EcCodewordsAreRemainder, RemaindersHaveRoots, generator};
+ghost use Rattle.gf256.specs.ErrorCorrection.{ec_codewords_of};
 ghost use Rattle.gf256.specs.Polynomial.{zeros};
 ghost use Rattle.std.specs.Prelude.{◌≡◌, ◌+◌, ◌<◌, ◌≤◌, ℕ, List, ◌∷◌, ◌++◌, length, map, slice_index, EachIndex};
 ghost use Rattle.std.specs.Prelude.{bit_xor};
@@ -10,7 +10,7 @@ use crate::field::{logarithm_of, product_of_powers};
 use crate::tables::GENERATORS;
 use std::marker::Model;
 
-/// The generator polynomial of blocks with a given number of parity codewords. Clauses see it as that number.
+/// The generator polynomial of blocks with a given number of error correction codewords. Clauses see it as that number.
 #[derive(Drop)]
 pub struct Generator {
     count: usize,
@@ -25,7 +25,7 @@ impl Model for Generator {
 }
 
 impl Generator {
-    /// The generator polynomial of blocks with `k` parity codewords, the product of x + alpha^i over the i below `k`.
+    /// The generator polynomial of blocks with `k` error correction codewords, the product of x + alpha^i over the i below `k`.
     pub fn new(k: usize) -> Generator
         requires at_least_one { 1 ≤ k }
         requires at_most_thirty { k ≤ 30 }
@@ -34,22 +34,22 @@ impl Generator {
         Generator { count: k }
     }
 
-    /// Writes the parity codewords of a block into `out`, which has room for exactly these: the remainder of the block
+    /// Writes the error correction codewords of a block into `out`, which has room for exactly these: the remainder of the block
     /// times x^k by the generator polynomial, the highest coefficient first. What `out` held does not count.
-    pub fn parity(&self, block: &[u8], out: &mut [u8])
+    pub fn ec_codewords(&self, block: &[u8], out: &mut [u8])
         requires { length out.old ≡ self.now }
-        ensures value { out.new ≡ parity_of self.now block.now }
+        ensures value { out.new ≡ ec_codewords_of self.now block.now }
 
         // There is one remainder, and it makes a codeword.
         ensures remainder { IsRemainder self.now block.now out.new }
-        ensures only { (parity : List ℕ) → IsRemainder self.now block.now parity
-            → parity ≡ out.new }
-        ensures codeword { HasRoots self.now (block.now ++ out.new) }
+        ensures only { (ec_codewords : List ℕ) → IsRemainder self.now block.now ec_codewords
+            → ec_codewords ≡ out.new }
+        ensures roots { HasRoots self.now (block.now ++ out.new) }
     {
         let logarithms = logarithms_of(self.count);
         clear(out);
-        for &word in block {
-            shift(logarithms, out, word);
+        for &codeword in block {
+            shift(logarithms, out, codeword);
         }
     }
 }
@@ -73,18 +73,18 @@ fn clear(register: &mut [u8])
     register.fill(0);
 }
 
-/// Moves each word of the register up by one place, and adds the multiple of the divisor that cancels the word that
-/// leaves the register and the new word. The divisor is given by the logarithms of its coefficients but the highest.
-fn shift(logarithms: &[u8], register: &mut [u8], word: u8)
+/// Moves each codeword of the register up by one place, and adds the multiple of the divisor that cancels the codeword that
+/// leaves the register and the new codeword. The divisor is given by the logarithms of its coefficients but the highest.
+fn shift(logarithms: &[u8], register: &mut [u8], codeword: u8)
     requires some { 0 < length logarithms.now }
     requires same { length register.old ≡ length logarithms.now }
     ensures { EachIndex register.new (λ j.
         slice_index register.new j
         ≡ bit_xor (slice_index register.old (j + 1))
-        (field_product (bit_xor (slice_index register.old 0) word)
+        (field_product (bit_xor (slice_index register.old 0) codeword)
         (field_power alpha (slice_index logarithms.now j)))) }
 {
-    let feedback = register[0] ^ word;
+    let feedback = register[0] ^ codeword;
     if feedback == 0 {
         move_up(register);
     } else {
@@ -92,7 +92,7 @@ fn shift(logarithms: &[u8], register: &mut [u8], word: u8)
     }
 }
 
-/// Moves each word of the register up by one place, and a 0 into the last.
+/// Moves each codeword of the register up by one place, and a 0 into the last.
 fn move_up(register: &mut [u8])
     requires { 0 < length register.old }
     ensures { EachIndex register.new (λ j.
@@ -105,7 +105,7 @@ fn move_up(register: &mut [u8])
     register[last] = 0;
 }
 
-/// Moves each word of the register up by one place, and adds to each the product of alpha^logarithm and a coefficient.
+/// Moves each codeword of the register up by one place, and adds to each the product of alpha^logarithm and a coefficient.
 fn move_up_and_add(logarithm: u8, logarithms: &[u8], register: &mut [u8])
     requires some { 0 < length logarithms.now }
     requires same { length register.old ≡ length logarithms.now }
@@ -122,9 +122,9 @@ fn move_up_and_add(logarithm: u8, logarithms: &[u8], register: &mut [u8])
     register[last] = product_of_powers(logarithm, logarithms[last]);
 }
 
-/// For crates above: whatever the block, the parity codewords of the definition are a remainder by the generator
+/// For crates above: whatever the block, the error correction codewords of the definition are a remainder by the generator
 /// polynomial, and a block followed by a remainder is a codeword. It does nothing when it runs.
-pub fn parity_is_sound()
-    ensures remainder { ParityIsRemainder }
-    ensures codeword { RemaindersAreCodewords }
+pub fn ec_codewords_are_sound()
+    ensures remainder { EcCodewordsAreRemainder }
+    ensures roots { RemaindersHaveRoots }
 {}

@@ -1,6 +1,6 @@
-//! The field of 256 elements of QR Code, and the parity codewords of its blocks (ISO/IEC 18004, 7.5.2).
+//! The field of 256 elements of QR Code, and the error correction codewords of its blocks (ISO/IEC 18004, 7.5.2).
 //!
-//! A [`Generator`] is made once for a number of parity codewords and serves all blocks with as many. Nothing here takes
+//! A [`Generator`] is made once for a number of error correction codewords and serves all blocks with as many. Nothing here takes
 //! memory.
 #![tactic(auto)]
 
@@ -9,4 +9,4 @@ mod generator;
 mod tables;
 
 pub use field::{mul, pow_alpha};
-pub use generator::{Generator, parity_is_sound};
+pub use generator::{Generator, ec_codewords_are_sound};

@@ -48,7 +48,7 @@ pub(crate) const LOGARITHMS: [u8; 256] = [
     214, 244, 234, 168, 80, 88, 175,
 ];
 
-/// The generator polynomials of 1 to 30 parity codewords, one after another (annex A). Each is given by the
+/// The generator polynomials of 1 to 30 error correction codewords, one after another (annex A). Each is given by the
 /// logarithms of its coefficients, from high to low, but for the highest, which is 1.
 pub(crate) const GENERATORS: [u8; 465] = [
     // 1

@@ -2,7 +2,7 @@
 use Rattle.std.specs.Prelude.{None, false}
 use Rattle.labelcore.specs.OptionValues.{OptionValues}
 use Rattle.labelcore.specs.declared.options.Format.TheVariants.{Pbm}
-use Rattle.labelcore.specs.declared.options.Level.TheVariants.{M}
+use Rattle.qrdata.specs.declared.level.Level.TheVariants.{M}
 
 -- plain PBM, one pixel a module, 50 modules high, level M, any version, the mask of the least penalty, no escapes
 abbrev pub default_options : OptionValues

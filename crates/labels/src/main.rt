@@ -3,7 +3,7 @@
 
 use command::{Choice, End, OpenFault, WordsFault, open_file, options_of};
 use filter::{RunFault, run};
-use labelcore::{Held, Sink, Source, StdSink, StdSource};
+use device::{Buffered, Sink, Source, StdSink, StdSource};
 use std::alloc::Global;
 use std::env;
 use std::io::{ErrorKind, Write};
@@ -68,10 +68,10 @@ fn run_choice(rt: &HostRuntime, alloc: Global, choice: Choice) -> End {
 
 /// Runs the filter over a source, into standard output, held back between reads and messages, and standard error.
 fn run_over<S: Source + Drop>(rt: &HostRuntime, choice: &Choice, mut source: S) -> End {
-    let mut out = Held::new(StdSink::new(rt.stdout()));
+    let mut out = Buffered::new(StdSink::new(rt.stdout()));
     let mut err = StdSink::new(rt.stderr());
     let answer = run(choice.options, &mut source, &mut out, &mut err);
     // After a fault, what earlier lines came to still goes out.
-    let _ = out.send_on();
+    let _ = out.pass_on();
     End::Ran(answer)
 }

@@ -10,7 +10,7 @@ use Rattle.std.specs.Char.{IsAsciiDigit, is_ascii_digit}
 use Rattle.std.specs.List.{AllByRecursion, prefix_len}
 use Rattle.std.proofs.lemmas.Slice.Eq.{bytes_eq-Decides}
 use Rattle.std.proofs.lemmas.List.Elements.{recursion_from_All}
-use Rattle.labelcore.specs.declared.fault.Fault.TheVariants.{NotAscii}
+use Rattle.linear.specs.declared.refusal.Refusal.TheVariants.{NotAscii}
 use Rattle.std.proofs.lemmas.Bool.{cases_lt, true≢false}
 use Rattle.std.proofs.lemmas.Bool.Decides.{nat_tests}
 use Rattle.linear.specs.declared.switching.CodeSet.{CodeSet}
@@ -18,13 +18,13 @@ use Rattle.linear.specs.declared.switching.CodeSet.TheVariants.{A, B, C}
 use Rattle.linear.specs.CodeSets.{has_character, character_value, pair_value, change_value, shift_value, leading_digits}
 use Rattle.linear.specs.CodeSets.{next_special, is_next, picked_set, is_even_run, is_pair_next, pair_values, Written}
 use Rattle.linear.specs.CodeSets.{changed_to, byte_written, written, start_set, start_value}
-use Rattle.linear.specs.Code128.{character_bars, check_value, with_check, full_code128, code128_bars}
+use Rattle.linear.specs.Code128.{character_modules, check_value, with_check, full_code128, code128_row}
 use Rattle.linear.specs.Code128Reading.{Meaning, meaning, other_set, read_values, inner, group_value, group_count}
 use Rattle.linear.specs.Code128Reading.{symbol_data, read_code128}
 use Rattle.linear.specs.Modules.{same_modules, each_group}
 use Rattle.linear.proofs.DigitLaws.{IfOk-from_each, chosen, fails_from_None, not_refused}
 use Rattle.linear.proofs.GroupLaws.{take-append, drop-append}
-use Rattle.linear.proofs.CharacterLaws.{length-character_bars, length-stop, same_stop, group_value-character_bars}
+use Rattle.linear.proofs.CharacterLaws.{length-character_modules, length-stop, same_stop, group_value-character_modules}
 
 -- a character of set A stands for its byte
 meaning-a : (byte : ℕ) → byte < 96 → meaning A (character_value byte) ≡ Meaning.text (byte ∷ [])
@@ -307,51 +307,51 @@ written_characters set (first ∷ second ∷ rest) d =
 
 -- characters in a row
 pub length-characters : (values : List ℕ) → AreCharacters values
-    → length (flat_map character_bars values) ≡ 11 * length values
+    → length (flat_map character_modules values) ≡ 11 * length values
 length-characters [] a = refl
 length-characters (value ∷ values) a =
-    let first = length-character_bars value a.0 in
+    let first = length-character_modules value a.0 in
     let rest = length-characters values a.1 in
-    length-append (character_bars value) (flat_map character_bars values) ∙ omega arith
+    length-append (character_modules value) (flat_map character_modules values) ∙ omega arith
 
 pub characters_found : (values : List ℕ) (after : List Bool) → AreCharacters values
-    → each_group group_value 11 (length values) (flat_map character_bars values ++ after) ≡ Some values
+    → each_group group_value 11 (length values) (flat_map character_modules values ++ after) ≡ Some values
 characters_found [] after a = refl
 characters_found (value ∷ values) after a =
-    let first = character_bars value in
-    let eleven : length first ≡ 11 = length-character_bars value a.0 in
+    let first = character_modules value in
+    let eleven : length first ≡ 11 = length-character_modules value a.0 in
     rw (
-      append_assoc first (flat_map character_bars values) after,
-      take-append 11 first (flat_map character_bars values ++ after) eleven,
-      drop-append 11 first (flat_map character_bars values ++ after) eleven,
-      group_value-character_bars value (let below = a.0 in omega arith),
+      append_assoc first (flat_map character_modules values) after,
+      take-append 11 first (flat_map character_modules values ++ after) eleven,
+      drop-append 11 first (flat_map character_modules values ++ after) eleven,
+      group_value-character_modules value (let below = a.0 in omega arith),
       characters_found values after a.1,
     ) refl
 
 -- a row of characters and the stop character is read as the characters' data
 pub row_read : (values : List ℕ) → AreCharacters values
-    → read_code128 (flat_map character_bars values ++ character_bars 106) ≡ symbol_data values
+    → read_code128 (flat_map character_modules values ++ character_modules 106) ≡ symbol_data values
 row_read values a =
-    let row : List Bool = flat_map character_bars values ++ character_bars 106 in
-    let front : length (flat_map character_bars values) ≡ 11 * length values = length-characters values a in
-    let end : length (character_bars 106) ≡ 13 = length-stop in
-    let long : length row ≡ length (flat_map character_bars values) + length (character_bars 106) =
-    length-append (flat_map character_bars values) (character_bars 106) in
+    let row : List Bool = flat_map character_modules values ++ character_modules 106 in
+    let front : length (flat_map character_modules values) ≡ 11 * length values = length-characters values a in
+    let end : length (character_modules 106) ≡ 13 = length-stop in
+    let long : length row ≡ length (flat_map character_modules values) + length (character_modules 106) =
+    length-append (flat_map character_modules values) (character_modules 106) in
     let count : group_count row ≡ length values = omega arith in
-    let stop : drop (11 * length values) row ≡ character_bars 106 =
-    drop-append (11 * length values) (flat_map character_bars values) (character_bars 106) front in
+    let stop : drop (11 * length values) row ≡ character_modules 106 =
+    drop-append (11 * length values) (flat_map character_modules values) (character_modules 106) front in
     let whole : ℕ → Option (List ℕ) =
-    λ n. cond (eqb (length row) (11 * n + 13) && same_modules (drop (11 * n) row) (character_bars 106))
+    λ n. cond (eqb (length row) (11 * n + 13) && same_modules (drop (11 * n) row) (character_modules 106))
     (option_and_then symbol_data (each_group group_value 11 n row)) None in
     let found : Bool → List Bool → Option (List ℕ) =
-    λ b xs. cond (b && same_modules xs (character_bars 106))
+    λ b xs. cond (b && same_modules xs (character_modules 106))
     (option_and_then symbol_data (each_group group_value 11 (length values) row)) None in
     ap whole count
     ∙ ap (λ b. found b (drop (11 * length values) row))
     (eq-eqb (length row) (11 * length values + 13) (omega arith))
     ∙ ap (found true) stop
     ∙ ap (λ b. cond b (option_and_then symbol_data (each_group group_value 11 (length values) row)) None) same_stop
-    ∙ ap (option_and_then symbol_data) (characters_found values (character_bars 106) a)
+    ∙ ap (option_and_then symbol_data) (characters_found values (character_modules 106) a)
 
 -- the values between the start and the check value
 inner_is : (start check : ℕ) (values : List ℕ) → inner (start ∷ (values ++ check ∷ [])) ≡ values
@@ -384,7 +384,7 @@ start_below B = lit< tt
 start_below C = lit< tt
 
 pub code128_read : (bytes : List ℕ) → AllByRecursion (λ byte. byte < 128) bytes
-    → read_code128 (code128_bars bytes) ≡ Some bytes
+    → read_code128 (code128_row bytes) ≡ Some bytes
 code128_read bytes d =
     let set = start_set bytes in
     let values = written set bytes in
@@ -404,18 +404,18 @@ ascii_from_None : (bytes : List ℕ) → position (λ byte. leb 128 byte) bytes 
     → AllByRecursion (λ byte. byte < 128) bytes
 ascii_from_None bytes h = recursion_from_All (λ byte. byte < 128) bytes (all_ascii_from_None bytes h)
 
-code128_full : (bytes full : List ℕ) → full_code128 bytes ≡ Ok full → read_code128 (code128_bars full) ≡ Some full
+code128_full : (bytes full : List ℕ) → full_code128 bytes ≡ Ok full → read_code128 (code128_row full) ≡ Some full
 code128_full bytes full h =
     elim (chosen (ltb 80 (length bytes)) _ _ _ h) [
       | inl p ↦ absurd (let e = p.1 in cc)
       | inr p ↦
           let parts = not_refused NotAscii (position (λ byte. leb 128 byte) bytes) (Ok bytes) full p.1 in
           let same : bytes ≡ full = (let e = parts.1 in cc) in
-          let P : List ℕ → Type 0 = λ xs. read_code128 (code128_bars xs) ≡ Some xs in
+          let P : List ℕ → Type 0 = λ xs. read_code128 (code128_row xs) ≡ Some xs in
           subst P same (code128_read bytes (ascii_from_None bytes parts.0))
     ]
 
 -- what is drawn of data that is full is read back
 pub code128_read_back : (bytes : List ℕ)
-    → IfOk (full_code128 bytes) (λ full. read_code128 (code128_bars full) ≡ Some full)
+    → IfOk (full_code128 bytes) (λ full. read_code128 (code128_row full) ≡ Some full)
 code128_read_back bytes = IfOk-from_each (full_code128 bytes) _ (code128_full bytes)

@@ -11,16 +11,16 @@ use Rattle.std.specs.List.{AllByRecursion}
 use Rattle.std.proofs.lemmas.Bool.Decides.{nat_tests}
 use Rattle.std.proofs.lemmas.List.{get_or-append_right, length-take-le, length-drop, take-append-drop}
 use Rattle.std.proofs.lemmas.List.Elements.{All-append, All-take, All-drop, All-from_recursion, recursion_from_All}
-use Rattle.labelcore.specs.declared.fault.Fault.{Fault}
-use Rattle.labelcore.specs.declared.fault.Fault.TheVariants.{WrongNumberOfDigits, WrongCheckDigit}
+use Rattle.linear.specs.declared.refusal.Refusal.{Refusal}
+use Rattle.linear.specs.declared.refusal.Refusal.TheVariants.{WrongNumberOfDigits, WrongCheckDigit}
 use Rattle.linear.specs.declared.ean.NumberSet.{NumberSet}
 use Rattle.linear.specs.declared.ean.NumberSet.TheVariants.{A, C}
 use Rattle.linear.specs.declared.limits.TheConstants.{MAX_MODULES}
 use Rattle.linear.specs.Digits.{digit_value, weighted_sum, checked, completed, full_digits, check_digit}
 use Rattle.linear.specs.Modules.{each_group}
 use Rattle.linear.specs.Tables.{left_half_sets}
-use Rattle.linear.specs.Ean.{pattern, patterns, normal_guard, centre_guard, symbol, left_sets, ean8_bars, ean13_bars}
-use Rattle.linear.specs.Ean.{upca_bars}
+use Rattle.linear.specs.Ean.{pattern, patterns, normal_guard, centre_guard, symbol, left_sets, ean8_row, ean13_row}
+use Rattle.linear.specs.Ean.{upca_row}
 use Rattle.linear.specs.EanReading.{digit_in, is_framed, read_halves, digit_in_a_or_b, with_first_digit, without_zero}
 use Rattle.linear.specs.EanReading.{read_ean8, read_ean13, read_upca}
 use Rattle.linear.proofs.PatternLaws.{length-pattern, digit_in-pattern, digit_in_a_or_b-pattern_a}
@@ -177,7 +177,7 @@ full_checked count full f =
     (Err (WrongCheckDigit (digit_value f.last) (check_digit f.digits))))
     (eq-eqb (digit_value f.last) (check_digit f.digits) f.right)
     ∙ ap Ok (sym f.whole) in
-    let by_length : Bool → Bool → Result (List ℕ) Fault =
+    let by_length : Bool → Bool → Result (List ℕ) Refusal =
     λ b d. cond b (Ok (full ++ (48 + check_digit full) ∷ []))
     (cond d (checked (take count full) (slice_index full count)) (Err (WrongNumberOfDigits (length full)))) in
     ap (λ b. result_ok (by_length b (eqb (length full) (count + 1)))) more
@@ -207,7 +207,7 @@ zipped_bytes [] (byte ∷ bytes) e = absurd (omega arith)
 zipped_bytes (set ∷ sets) [] e = absurd (omega arith)
 zipped_bytes (set ∷ sets) (byte ∷ bytes) e = ap (λ xs. byte ∷ xs) (zipped_bytes sets bytes (omega arith))
 
-ean8_full : (full : List ℕ) → IsFull 7 full → read_ean8 (ean8_bars full) ≡ Some full
+ean8_full : (full : List ℕ) → IsFull 7 full → read_ean8 (ean8_row full) ≡ Some full
 ean8_full full f =
     let sets : List NumberSet = replicate 4 A in
     let long : length full ≡ 8 = length-full 7 full f in
@@ -231,7 +231,7 @@ does_fit old row bars empty e h =
     subst (λ xs. length xs ≤ MAX_MODULES) e (let none = ap length empty in omega arith)
 
 -- what is drawn of data that is full is read back
-pub ean8_read_back : (bytes : List ℕ) → IfOk (full_digits 7 bytes) (λ full. read_ean8 (ean8_bars full) ≡ Some full)
+pub ean8_read_back : (bytes : List ℕ) → IfOk (full_digits 7 bytes) (λ full. read_ean8 (ean8_row full) ≡ Some full)
 ean8_read_back bytes = IfOk-from_each (full_digits 7 bytes) _ (λ full h. ean8_full full (full_from_Ok 7 bytes full h))
 
 -- EAN-13
@@ -260,7 +260,7 @@ zipped_seconds (set ∷ sets) [] e = absurd (omega arith)
 zipped_seconds (set ∷ sets) (byte ∷ bytes) e = ap (λ xs. byte ∷ xs) (zipped_seconds sets bytes (omega arith))
 
 -- thirteen digits with their check digit
-pub ean13_full : (full : List ℕ) → IsFull 12 full → read_ean13 (ean13_bars full) ≡ Some full
+pub ean13_full : (full : List ℕ) → IsFull 12 full → read_ean13 (ean13_row full) ≡ Some full
 ean13_full [] f = absurd (let e = length-full 12 [] f in omega arith)
 ean13_full (first ∷ rest) f =
     let sets : List NumberSet = left_sets (digit_value first) in
@@ -292,7 +292,7 @@ ean13_full (first ∷ rest) f =
     ∙ ap (λ xs. result_ok (completed 12 ((48 + digit_value first) ∷ xs))) digits
     ∙ ap (λ b. result_ok (completed 12 (b ∷ rest))) (digit_again first d.0) ∙ full_checked 12 (first ∷ rest) f
 
-pub ean13_read_back : (bytes : List ℕ) → IfOk (full_digits 12 bytes) (λ full. read_ean13 (ean13_bars full) ≡ Some full)
+pub ean13_read_back : (bytes : List ℕ) → IfOk (full_digits 12 bytes) (λ full. read_ean13 (ean13_row full) ≡ Some full)
 ean13_read_back bytes =
     IfOk-from_each (full_digits 12 bytes) _ (λ full h. ean13_full full (full_from_Ok 12 bytes full h))
 
@@ -309,7 +309,7 @@ with_zero full f = record {
       ap (λ s. (10 - s % 10) % 10) (sym e));
 }
 
-pub upca_read_back : (bytes : List ℕ) → IfOk (full_digits 11 bytes) (λ full. read_upca (upca_bars full) ≡ Some full)
+pub upca_read_back : (bytes : List ℕ) → IfOk (full_digits 11 bytes) (λ full. read_upca (upca_row full) ≡ Some full)
 upca_read_back bytes =
     IfOk-from_each (full_digits 11 bytes) _
     (λ full h. ap (λ o. option_and_then without_zero o)

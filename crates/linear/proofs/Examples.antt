@@ -1,13 +1,13 @@
 -- Worked symbols, computed from the definitions: EAN and UPC (ISO/IEC 15420), then Code 128 (ISO/IEC 15417).
 use Rattle.std.specs.Prelude.{◌≡◌, refl, Some, None, Ok, Err, codes, length, ◌+◌, ℕ, List, [], ◌∷◌}
-use Rattle.labelcore.specs.declared.fault.Fault.TheVariants.{NotADigit, WrongNumberOfDigits, WrongCheckDigit}
+use Rattle.linear.specs.declared.refusal.Refusal.TheVariants.{NotADigit, WrongNumberOfDigits, WrongCheckDigit}
 use Rattle.linear.specs.Modules.{modules}
 use Rattle.linear.specs.Digits.{weighted_sum, full_digits}
 use Rattle.linear.specs.Tables.{number_set_a, left_half_sets, character_widths}
-use Rattle.linear.specs.Ean.{ean8_bars, ean13_bars, upca_bars}
+use Rattle.linear.specs.Ean.{ean8_row, ean13_row, upca_row}
 use Rattle.linear.specs.EanReading.{read_ean8, read_ean13, read_upca}
 use Rattle.linear.specs.CodeSets.{start_value, start_set, written}
-use Rattle.linear.specs.Code128.{check_value, code128_bars, weighted_from}
+use Rattle.linear.specs.Code128.{check_value, code128_row, weighted_from}
 use Rattle.linear.specs.Code128Reading.{read_code128}
 
 -- `ean8 7351353`
@@ -26,12 +26,12 @@ wrong_ean8 = refl
 letter_ean8 : full_digits 7 (codes "73x1353") ≡ Err (NotADigit 3)
 letter_ean8 = refl
 
-row_ean8 : ean8_bars (codes "73513537")
+row_ean8 : ean8_row (codes "73513537")
     ≡ modules (codes "1010111011011110101100010011001010101000010100111010000101000100101")
 unfolding number_set_a
 row_ean8 = refl
 
-read_row_ean8 : read_ean8 (ean8_bars (codes "73513537")) ≡ Some (codes "73513537")
+read_row_ean8 : read_ean8 (ean8_row (codes "73513537")) ≡ Some (codes "73513537")
 unfolding number_set_a
 read_row_ean8 = refl
 
@@ -45,12 +45,12 @@ full_ean13 = refl
 wrong_ean13 : full_digits 12 (codes "4006381333932") ≡ Err (WrongCheckDigit 2 1)
 wrong_ean13 = refl
 
-row_ean13 : ean13_bars (codes "4006381333931")
+row_ean13 : ean13_row (codes "4006381333931")
     ≡ modules (codes "10100011010100111010111101111010001001011001101010100001010000101000010111010010000101100110101")
 unfolding left_half_sets number_set_a
 row_ean13 = refl
 
-read_row_ean13 : read_ean13 (ean13_bars (codes "4006381333931")) ≡ Some (codes "4006381333931")
+read_row_ean13 : read_ean13 (ean13_row (codes "4006381333931")) ≡ Some (codes "4006381333931")
 unfolding left_half_sets number_set_a
 read_row_ean13 = refl
 
@@ -61,11 +61,11 @@ sum_upca = refl
 full_upca : full_digits 11 (codes "03600029145") ≡ Ok (codes "036000291452")
 full_upca = refl
 
-same_as_ean13 : upca_bars (codes "036000291452") ≡ ean13_bars (codes "0036000291452")
+same_as_ean13 : upca_row (codes "036000291452") ≡ ean13_row (codes "0036000291452")
 unfolding left_half_sets
 same_as_ean13 = refl
 
-read_row_upca : read_upca (upca_bars (codes "036000291452")) ≡ Some (codes "036000291452")
+read_row_upca : read_upca (upca_row (codes "036000291452")) ≡ Some (codes "036000291452")
 unfolding left_half_sets number_set_a
 read_row_upca = refl
 
@@ -76,7 +76,7 @@ short_upca = refl
 full_zero_ean13 : full_digits 12 (codes "0036000291452") ≡ Ok (codes "0036000291452")
 full_zero_ean13 = refl
 
-length_zero_ean13 : length (ean13_bars (codes "0036000291452")) ≡ 95
+length_zero_ean13 : length (ean13_row (codes "0036000291452")) ≡ 95
 unfolding left_half_sets number_set_a
 length_zero_ean13 = refl
 
@@ -95,11 +95,11 @@ sum_letters = refl
 check_letters : check_value 104 (48 ∷ 42 ∷ 42 ∷ 17 ∷ 18 ∷ 19 ∷ 35 ∷ []) ≡ 55
 check_letters = refl
 
-length_letters : length (code128_bars (codes "PJJ123C")) ≡ 112
+length_letters : length (code128_row (codes "PJJ123C")) ≡ 112
 unfolding character_widths
 length_letters = refl
 
-read_letters : read_code128 (code128_bars (codes "PJJ123C")) ≡ Some (codes "PJJ123C")
+read_letters : read_code128 (code128_row (codes "PJJ123C")) ≡ Some (codes "PJJ123C")
 unfolding character_widths
 read_letters = refl
 
@@ -111,7 +111,7 @@ values_two_digits = refl
 check_two_digits : check_value 105 (42 ∷ []) ≡ 44
 check_two_digits = refl
 
-length_two_digits : length (code128_bars (codes "42")) ≡ 46
+length_two_digits : length (code128_row (codes "42")) ≡ 46
 unfolding character_widths
 length_two_digits = refl
 
@@ -137,7 +137,7 @@ sum_six_digits = refl
 check_six_digits : check_value 104 (33 ∷ 99 ∷ 12 ∷ 34 ∷ 56 ∷ []) ≡ 66
 check_six_digits = refl
 
-read_six_digits : read_code128 (code128_bars (codes "A123456")) ≡ Some (codes "A123456")
+read_six_digits : read_code128 (code128_row (codes "A123456")) ≡ Some (codes "A123456")
 unfolding character_widths
 read_six_digits = refl
 
@@ -152,7 +152,7 @@ sum_shift = refl
 check_shift : check_value 104 (65 ∷ 98 ∷ 65 ∷ 66 ∷ []) ≡ 0
 check_shift = refl
 
-read_shift : read_code128 (code128_bars (97 ∷ 1 ∷ 98 ∷ [])) ≡ Some (97 ∷ 1 ∷ 98 ∷ [])
+read_shift : read_code128 (code128_row (97 ∷ 1 ∷ 98 ∷ [])) ≡ Some (97 ∷ 1 ∷ 98 ∷ [])
 unfolding character_widths
 read_shift = refl
 
@@ -175,12 +175,12 @@ values_one_digit = refl
 check_one_digit : check_value 104 (17 ∷ []) ≡ 18
 check_one_digit = refl
 
-length_one_digit : length (code128_bars (codes "1")) ≡ 46
+length_one_digit : length (code128_row (codes "1")) ≡ 46
 unfolding character_widths
 length_one_digit = refl
 
 -- shifts both ways, and changes of set
-read_mixed : read_code128 (code128_bars (1 ∷ 97 ∷ 2 ∷ 98 ∷ 97 ∷ 3 ∷ [])) ≡ Some (1 ∷ 97 ∷ 2 ∷ 98 ∷ 97 ∷ 3 ∷ [])
+read_mixed : read_code128 (code128_row (1 ∷ 97 ∷ 2 ∷ 98 ∷ 97 ∷ 3 ∷ [])) ≡ Some (1 ∷ 97 ∷ 2 ∷ 98 ∷ 97 ∷ 3 ∷ [])
 unfolding character_widths
 read_mixed = refl
 

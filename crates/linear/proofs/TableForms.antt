@@ -8,7 +8,7 @@ use Rattle.linear.specs.declared.ean.NumberSet.{NumberSet}
 use Rattle.linear.specs.declared.ean.NumberSet.TheVariants.{A, B, C}
 use Rattle.linear.specs.Tables.{number_set_a, left_half_sets, character_widths}
 use Rattle.linear.specs.Ean.{pattern, left_sets}
-use Rattle.linear.specs.Code128.{characters, character_bars}
+use Rattle.linear.specs.Code128.{characters, character_modules}
 
 -- the code's characters of the values 0 to 105, and its stop character
 unfoldable pub all_characters : List (List Bool)
@@ -18,12 +18,12 @@ pub characters_are : characters ≡ all_characters
 unfolding all_characters character_widths
 characters_are = refl
 
-pub stop : STOP ≡ character_bars 106
+pub stop : STOP ≡ character_modules 106
 unfolding all_characters
 stop = sym (ap (λ table. get_or table 106 []) characters_are)
 
 pub read_character : (i value : ℕ) (d : List Bool) → i ≡ value → value < 106
-    → get_or CHARACTERS i d ≡ character_bars value
+    → get_or CHARACTERS i d ≡ character_modules value
 unfolding all_characters
 read_character i value d same h = ap (λ k. get_or CHARACTERS k d) same ∙ get_or_default CHARACTERS value d [] h
     ∙ sym (get_or_append_left CHARACTERS (STOP ∷ []) [] value h)

@@ -1,15 +1,15 @@
 -- The data and the rows of Code 128 symbols (ISO/IEC 15417, symbol structure and check character).
 use Rattle.std.specs.Prelude.{ℕ, ◌+◌, ◌*◌, ◌%◌, nat_lt, nat_le, if◌then◌else◌, Bool, true, not, Result, Ok, Err, List}
 use Rattle.std.specs.Prelude.{[], ◌∷◌, ◌++◌, length, map, replicate, position, flat_map, slice_index_or}
-use Rattle.labelcore.specs.declared.fault.Fault.{Fault}
-use Rattle.labelcore.specs.declared.fault.Fault.TheVariants.{DataTooLong, NotAscii}
+use Rattle.linear.specs.declared.refusal.Refusal.{Refusal}
+use Rattle.linear.specs.declared.refusal.Refusal.TheVariants.{DataTooLong, NotAscii}
 use Rattle.linear.specs.declared.switching.CodeSet.{CodeSet}
 use Rattle.linear.specs.Digits.{digit_value, unless_found}
 use Rattle.linear.specs.Tables.{character_widths}
 use Rattle.linear.specs.CodeSets.{start_value, start_set, written}
 
 -- the full data of a symbol: at most 80 bytes, each of them ASCII
-abbrev pub full_code128 : List ℕ → Result (List ℕ) Fault
+abbrev pub full_code128 : List ℕ → Result (List ℕ) Refusal
 full_code128 bytes =
     if nat_lt 80 (length bytes) then Err DataTooLong
     else unless_found NotAscii (position (λ byte. nat_le 128 byte) bytes) (Ok bytes)
@@ -33,8 +33,8 @@ abbrev pub characters : List (List Bool)
 characters = map (λ widths. bars_and_spaces true (map digit_value widths)) character_widths
 
 -- the modules of a value's character
-abbrev pub character_bars : ℕ → List Bool
-character_bars value = slice_index_or characters value []
+abbrev pub character_modules : ℕ → List Bool
+character_modules value = slice_index_or characters value []
 
 -- the values of a symbol before the stop character: the start value of a set, the values of the data, and the check
 -- value
@@ -42,6 +42,6 @@ abbrev pub with_check : CodeSet → List ℕ → List ℕ
 with_check set values = start_value set ∷ (values ++ check_value (start_value set) values ∷ [])
 
 -- the row of data: its values, the check value and the stop character
-abbrev pub code128_bars : List ℕ → List Bool
-code128_bars bytes =
-    flat_map character_bars (with_check (start_set bytes) (written (start_set bytes) bytes)) ++ character_bars 106
+abbrev pub code128_row : List ℕ → List Bool
+code128_row bytes =
+    flat_map character_modules (with_check (start_set bytes) (written (start_set bytes) bytes)) ++ character_modules 106

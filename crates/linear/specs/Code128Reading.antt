@@ -8,7 +8,7 @@ use Rattle.linear.specs.declared.switching.CodeSet.{CodeSet}
 use Rattle.linear.specs.declared.switching.CodeSet.TheVariants.{A, B, C}
 use Rattle.linear.specs.Modules.{same_modules, each_group}
 use Rattle.linear.specs.CodeSets.{change_value, shift_value}
-use Rattle.linear.specs.Code128.{characters, character_bars, with_check}
+use Rattle.linear.specs.Code128.{characters, character_modules, with_check}
 
 -- the value whose character is the group
 abbrev pub group_value : List Bool → Option ℕ
@@ -73,6 +73,6 @@ group_count row = (length row - 13) / 11
 -- the data of a row of modules that ends in the stop character
 abbrev pub read_code128 : List Bool → Option (List ℕ)
 read_code128 row =
-    if length row == 11 * group_count row + 13 && same_modules (drop (11 * group_count row) row) (character_bars 106)
+    if length row == 11 * group_count row + 13 && same_modules (drop (11 * group_count row) row) (character_modules 106)
     then option_and_then symbol_data (each_group group_value 11 (group_count row) row)
     else None

@@ -3,8 +3,8 @@ use Rattle.std.specs.Prelude.{ℕ, ◌+◌, ◌-◌, ◌*◌, ◌%◌, ◌==◌,
 use Rattle.std.specs.Prelude.{◌++◌, length, take, position, slice_index}
 use Rattle.std.specs.Char.{is_ascii_digit}
 use Rattle.std.specs.Option.{option_map_or}
-use Rattle.labelcore.specs.declared.fault.Fault.{Fault}
-use Rattle.labelcore.specs.declared.fault.Fault.TheVariants.{NotADigit, WrongNumberOfDigits, WrongCheckDigit}
+use Rattle.linear.specs.declared.refusal.Refusal.{Refusal}
+use Rattle.linear.specs.declared.refusal.Refusal.TheVariants.{NotADigit, WrongNumberOfDigits, WrongCheckDigit}
 
 -- the value of a digit's byte
 abbrev pub digit_value : ℕ → ℕ
@@ -24,24 +24,24 @@ abbrev pub check_digit : List ℕ → ℕ
 check_digit digits = (10 - weighted_sum digits % 10) % 10
 
 -- digits and a last one that is to be their check digit
-abbrev pub checked : List ℕ → ℕ → Result (List ℕ) Fault
+abbrev pub checked : List ℕ → ℕ → Result (List ℕ) Refusal
 checked digits last =
     if digit_value last == check_digit digits then Ok (digits ++ last ∷ [])
     else Err (WrongCheckDigit (digit_value last) (check_digit digits))
 
 -- digits, this many or with their check digit one more, with their check digit
-abbrev pub completed : ℕ → List ℕ → Result (List ℕ) Fault
+abbrev pub completed : ℕ → List ℕ → Result (List ℕ) Refusal
 completed count digits =
     if length digits == count then Ok (digits ++ (48 + check_digit digits) ∷ [])
     else if length digits == count + 1 then checked (take count digits) (slice_index digits count)
     else Err (WrongNumberOfDigits (length digits))
 
--- the result, or the fault of a byte that was found at an index, with its place from 1 on
-abbrev pub unless_found : (ℕ → Fault) → Option ℕ → Result (List ℕ) Fault → Result (List ℕ) Fault
-unless_found fault found result = option_map_or (λ index. Err (fault (index + 1))) found result
+-- the result, or the refusal of a byte that was found at an index, with its place from 1 on
+abbrev pub unless_found : (ℕ → Refusal) → Option ℕ → Result (List ℕ) Refusal → Result (List ℕ) Refusal
+unless_found refusal found result = option_map_or (λ index. Err (refusal (index + 1))) found result
 
 -- the full data of a symbol that has this many digits and a check digit: bytes that are no digits are refused first,
 -- then a wrong number of digits, then a wrong check digit
-abbrev pub full_digits : ℕ → List ℕ → Result (List ℕ) Fault
+abbrev pub full_digits : ℕ → List ℕ → Result (List ℕ) Refusal
 full_digits count bytes =
     unless_found NotADigit (position (λ byte. not (is_ascii_digit byte)) bytes) (completed count bytes)

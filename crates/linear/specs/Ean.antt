@@ -36,18 +36,18 @@ symbol sets left right =
     ++ (centre_guard ++ (flat_map (λ byte. pattern C (digit_value byte)) right ++ normal_guard)))
 
 -- EAN-8: four digits in set A and four in set C
-abbrev pub ean8_bars : List ℕ → List Bool
-ean8_bars full = symbol (replicate 4 A) (take 4 full) (drop 4 full)
+abbrev pub ean8_row : List ℕ → List Bool
+ean8_row full = symbol (replicate 4 A) (take 4 full) (drop 4 full)
 
 -- the number sets of the left half of an EAN-13 symbol, by its first digit: of the table's letters 65 is `A`
 abbrev pub left_sets : ℕ → List NumberSet
 left_sets digit = map (λ letter. if letter == 65 then A else B) (slice_index_or left_half_sets digit [])
 
 -- EAN-13: the first digit picks the sets of the next six, and the last six are in set C
-abbrev pub ean13_bars : List ℕ → List Bool
-ean13_bars [] = []
-ean13_bars (first ∷ rest) = symbol (left_sets (digit_value first)) (take 6 rest) (drop 6 rest)
+abbrev pub ean13_row : List ℕ → List Bool
+ean13_row [] = []
+ean13_row (first ∷ rest) = symbol (left_sets (digit_value first)) (take 6 rest) (drop 6 rest)
 
 -- UPC-A: the bars of EAN-13 for the same digits after a 0
-abbrev pub upca_bars : List ℕ → List Bool
-upca_bars full = ean13_bars (48 ∷ full)
+abbrev pub upca_row : List ℕ → List Bool
+upca_row full = ean13_row (48 ∷ full)

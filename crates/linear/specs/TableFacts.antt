@@ -2,7 +2,7 @@
 use Rattle.std.specs.Prelude.{◌≡◌, ℕ, ◌%◌, ◌<◌, ◌≤◌, length, count_by}
 use Rattle.linear.specs.declared.ean.NumberSet.{NumberSet}
 use Rattle.linear.specs.Ean.{pattern}
-use Rattle.linear.specs.Code128.{character_bars}
+use Rattle.linear.specs.Code128.{character_modules}
 
 -- the thirty patterns of a digit in a number set differ
 abbrev pub PatternsDiffer : Type 0
@@ -13,12 +13,12 @@ PatternsDiffer =
 -- the characters of the values 0 to 106 differ
 abbrev pub CharactersDiffer : Type 0
 CharactersDiffer =
-    (value other : ℕ) → value ≤ 106 → other ≤ 106 → character_bars value ≡ character_bars other → value ≡ other
+    (value other : ℕ) → value ≤ 106 → other ≤ 106 → character_modules value ≡ character_modules other → value ≡ other
 
 -- a character has eleven modules
 abbrev pub CharactersHaveElevenModules : Type 0
-CharactersHaveElevenModules = (value : ℕ) → value < 106 → length (character_bars value) ≡ 11
+CharactersHaveElevenModules = (value : ℕ) → value < 106 → length (character_modules value) ≡ 11
 
 -- the bars of a character are an even number of modules
-abbrev pub BarsAreEven : Type 0
-BarsAreEven = (value : ℕ) → value < 106 → count_by (λ dark. dark) (character_bars value) % 2 ≡ 0
+abbrev pub WidthsAreEven : Type 0
+WidthsAreEven = (value : ℕ) → value < 106 → count_by (λ dark. dark) (character_modules value) % 2 ≡ 0

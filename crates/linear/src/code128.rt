@@ -3,14 +3,14 @@ ghost use Rattle.std.specs.Prelude.{◌≡◌, [], ◌+◌, ◌*◌, ◌≤◌, 
 ghost use Rattle.std.specs.Prelude.{flat_map, position, nat_le};
 ghost use Rattle.arrayvec.specs.ArrayVec.{array_vec_len};
 ghost use Rattle.linear.specs.declared.limits.TheConstants.{MAX_BYTES, MAX_VALUES, MAX_MODULES};
-ghost use Rattle.linear.specs.Code128.{check_value, character_bars, full_code128, code128_bars};
+ghost use Rattle.linear.specs.Code128.{check_value, character_modules, full_code128, code128_row};
 
 use crate::limits::MAX_BYTES;
 use crate::linear::Linear;
+use crate::refusal::Refusal;
 use crate::row::{Row, push_modules};
 use crate::switching::{start_set, start_value, written};
 use crate::tables::{CHARACTERS, STOP};
-use labelcore::Fault;
 
 /// The check value of a start value and the values after it.
 fn check_value(start: u8, values: &[u8]) -> u8
@@ -29,7 +29,7 @@ fn check_value(start: u8, values: &[u8]) -> u8
 /// The modules of a value before the stop character.
 fn modules_of(value: u8) -> [bool; 11]
     requires { value < 106 }
-    ensures { result ≡ character_bars value }
+    ensures { result ≡ character_modules value }
 {
     CHARACTERS[usize::from(value)]
 }
@@ -38,7 +38,7 @@ fn modules_of(value: u8) -> [bool; 11]
 fn push_character(row: &mut Row, value: u8)
     requires value { value < 106 }
     requires room { array_vec_len row.old + 11 ≤ MAX_MODULES }
-    ensures drawn { row.new.items ≡ row.old.items ++ character_bars value }
+    ensures drawn { row.new.items ≡ row.old.items ++ character_modules value }
     ensures len { array_vec_len row.new ≡ array_vec_len row.old + 11 }
 {
     push_modules(row, &modules_of(value));
@@ -48,7 +48,7 @@ fn push_character(row: &mut Row, value: u8)
 fn push_characters(row: &mut Row, values: &[u8])
     requires values { All (λ value. value < 106) values.now }
     requires room { array_vec_len row.old + 11 * length values.now ≤ MAX_MODULES }
-    ensures drawn { row.new.items ≡ row.old.items ++ flat_map character_bars values.now }
+    ensures drawn { row.new.items ≡ row.old.items ++ flat_map character_modules values.now }
     ensures len { array_vec_len row.new ≡ array_vec_len row.old + 11 * length values.now }
 {
     for value in values {
@@ -60,7 +60,7 @@ fn push_characters(row: &mut Row, values: &[u8])
 #[tactic(auto, using(crate::proofs::TableForms::stop))]
 fn push_stop(row: &mut Row)
     requires { array_vec_len row.old + 13 ≤ MAX_MODULES }
-    ensures drawn { row.new.items ≡ row.old.items ++ character_bars 106 }
+    ensures drawn { row.new.items ≡ row.old.items ++ character_modules 106 }
     ensures len { array_vec_len row.new ≡ array_vec_len row.old + 13 }
 {
     push_modules(row, &STOP);
@@ -71,7 +71,7 @@ fn push_code128(row: &mut Row, data: &[u8])
     requires ascii { All (λ byte. byte < 128) «data».now }
     requires few { length «data».now ≤ MAX_BYTES }
     requires blank { row.old.items ≡ [] }
-    ensures drawn { row.new.items ≡ code128_bars «data».now }
+    ensures drawn { row.new.items ≡ code128_row «data».now }
     ensures len { array_vec_len row.new ≤ MAX_MODULES }
 {
     let set = start_set(data);
@@ -85,17 +85,17 @@ fn push_code128(row: &mut Row, data: &[u8])
 
 /// Whether data can be a symbol: at most 80 bytes, all of them ASCII.
 #[tactic(auto, using(crate::proofs::Code128Laws::all_ascii_from_None))]
-fn check_data(data: &[u8]) -> Result<(), Fault>
+fn check_data(data: &[u8]) -> Result<(), Refusal>
     ensures answer { MatchResult result (λ _. full_code128 «data».now ≡ Ok «data».now)
-        (λ fault. full_code128 «data».now ≡ Err fault) }
+        (λ refusal. full_code128 «data».now ≡ Err refusal) }
     ensures ascii { OnOk result (All (λ byte. byte < 128) «data».now) }
     ensures few { OnOk result (length «data».now ≤ MAX_BYTES) }
 {
     if data.len() > MAX_BYTES {
-        return Err(Fault::DataTooLong);
+        return Err(Refusal::DataTooLong);
     }
     if let Some(index) = first_not_ascii(data) {
-        return Err(Fault::NotAscii(index + 1));
+        return Err(Refusal::NotAscii(index + 1));
     }
     Ok(())
 }
@@ -113,12 +113,12 @@ fn first_not_ascii(bytes: &[u8]) -> Option<usize>
 pub struct Code128;
 
 impl Linear for Code128 {
-    ghost use Rattle.linear.specs.Code128.{full_code128, code128_bars};
+    ghost use Rattle.linear.specs.Code128.{full_code128, code128_row};
     ghost use Rattle.linear.specs.Code128Reading.{read_code128};
 
     ghost full_data = { full_code128 };
 
-    ghost bars = { code128_bars };
+    ghost row_of = { code128_row };
 
     ghost reading = { read_code128 };
 
@@ -130,7 +130,7 @@ impl Linear for Code128 {
 
     const QUIET_RIGHT: usize = 10;
 
-    fn encode(data: &[u8], row: &mut Row) -> Result<(), Fault> {
+    fn encode(data: &[u8], row: &mut Row) -> Result<(), Refusal> {
         row.clear();
         check_data(data)?;
         push_code128(row, data);

@@ -4,13 +4,13 @@ ghost use Rattle.std.specs.Char.{IsAsciiDigit};
 ghost use Rattle.arrayvec.specs.ArrayVec.{array_vec_len};
 ghost use Rattle.linear.specs.declared.limits.TheConstants.{MAX_MODULES};
 ghost use Rattle.linear.specs.Digits.{digit_value};
-ghost use Rattle.linear.specs.Ean.{pattern, patterns, symbol, ean13_bars};
+ghost use Rattle.linear.specs.Ean.{pattern, patterns, symbol, ean13_row};
 
 use crate::digits::full_digits;
 use crate::linear::Linear;
+use crate::refusal::Refusal;
 use crate::row::{Row, push_modules};
 use crate::tables::{CENTRE_GUARD, LEFT_SETS, NORMAL_GUARD, SET_A, SET_B, SET_C};
-use labelcore::Fault;
 
 /// A number set: each digit has a pattern of seven modules in each of the three.
 #[derive(Clone, Copy)]
@@ -97,12 +97,12 @@ pub struct Ean8;
 
 impl Linear for Ean8 {
     ghost use Rattle.linear.specs.Digits.{full_digits};
-    ghost use Rattle.linear.specs.Ean.{ean8_bars};
+    ghost use Rattle.linear.specs.Ean.{ean8_row};
     ghost use Rattle.linear.specs.EanReading.{read_ean8};
 
     ghost full_data = { full_digits 7 };
 
-    ghost bars = { ean8_bars };
+    ghost row_of = { ean8_row };
 
     ghost reading = { read_ean8 };
 
@@ -114,7 +114,7 @@ impl Linear for Ean8 {
 
     const QUIET_RIGHT: usize = 7;
 
-    fn encode(data: &[u8], row: &mut Row) -> Result<(), Fault> {
+    fn encode(data: &[u8], row: &mut Row) -> Result<(), Refusal> {
         row.clear();
         let full = full_digits(7, data)?;
         let (left, right) = full.split_at(4);
@@ -129,7 +129,7 @@ fn push_ean13(row: &mut Row, full: &[u8])
     requires digits { All IsAsciiDigit full.now }
     requires len { length full.now ≡ 13 }
     requires room { array_vec_len row.old + 95 ≤ MAX_MODULES }
-    ensures drawn { row.new.items ≡ row.old.items ++ ean13_bars full.now }
+    ensures drawn { row.new.items ≡ row.old.items ++ ean13_row full.now }
     ensures len { array_vec_len row.new ≤ array_vec_len row.old + 95 }
 {
     let sets = &LEFT_SETS[usize::from(full[0] - b'0')];
@@ -144,12 +144,12 @@ pub struct Ean13;
 
 impl Linear for Ean13 {
     ghost use Rattle.linear.specs.Digits.{full_digits};
-    ghost use Rattle.linear.specs.Ean.{ean13_bars};
+    ghost use Rattle.linear.specs.Ean.{ean13_row};
     ghost use Rattle.linear.specs.EanReading.{read_ean13};
 
     ghost full_data = { full_digits 12 };
 
-    ghost bars = { ean13_bars };
+    ghost row_of = { ean13_row };
 
     ghost reading = { read_ean13 };
 
@@ -161,7 +161,7 @@ impl Linear for Ean13 {
 
     const QUIET_RIGHT: usize = 7;
 
-    fn encode(data: &[u8], row: &mut Row) -> Result<(), Fault> {
+    fn encode(data: &[u8], row: &mut Row) -> Result<(), Refusal> {
         row.clear();
         let full = full_digits(12, data)?;
         push_ean13(row, &full);
@@ -177,12 +177,12 @@ pub struct UpcA;
 
 impl Linear for UpcA {
     ghost use Rattle.linear.specs.Digits.{full_digits};
-    ghost use Rattle.linear.specs.Ean.{upca_bars};
+    ghost use Rattle.linear.specs.Ean.{upca_row};
     ghost use Rattle.linear.specs.EanReading.{read_upca};
 
     ghost full_data = { full_digits 11 };
 
-    ghost bars = { upca_bars };
+    ghost row_of = { upca_row };
 
     ghost reading = { read_upca };
 
@@ -194,7 +194,7 @@ impl Linear for UpcA {
 
     const QUIET_RIGHT: usize = 9;
 
-    fn encode(data: &[u8], row: &mut Row) -> Result<(), Fault> {
+    fn encode(data: &[u8], row: &mut Row) -> Result<(), Refusal> {
         row.clear();
         let mut full = full_digits(11, data)?;
         full.insert(0, b'0');

@@ -1,8 +1,8 @@
 //! The tables of the standards in the form that rows are made of: a module is true where dark.
 
 ghost use Rattle.std.specs.Prelude.{◌≡◌, length};
-ghost use Rattle.linear.specs.Code128.{character_bars};
-ghost use Rattle.linear.specs.TableFacts.{PatternsDiffer, CharactersDiffer, CharactersHaveElevenModules, BarsAreEven};
+ghost use Rattle.linear.specs.Code128.{character_modules};
+ghost use Rattle.linear.specs.TableFacts.{PatternsDiffer, CharactersDiffer, CharactersHaveElevenModules, WidthsAreEven};
 
 use crate::ean::NumberSet::{self, A, B};
 
@@ -193,6 +193,6 @@ pub fn table_laws()
     ensures patterns_differ { PatternsDiffer }
     ensures characters_differ { CharactersDiffer }
     ensures characters_have_eleven_modules { CharactersHaveElevenModules }
-    ensures bars_are_even { BarsAreEven }
-    ensures stop { length (character_bars 106) ≡ 13 }
+    ensures bars_are_even { WidthsAreEven }
+    ensures stop { length (character_modules 106) ≡ 13 }
 {}

@@ -8,7 +8,7 @@ use Rattle.std.specs.List.{range_with_len}
 use Rattle.std.proofs.lemmas.List.{take_all, length-take, length-take-le}
 use Rattle.std.proofs.lemmas.List.FromFn.{length-map-range_with_len}
 use Rattle.std.proofs.lemmas.Bool.{eq-eqb, ne_eqb, eqb-false}
-use Rattle.labelcore.specs.Lines.{LF}
+use Rattle.device.specs.Lines.{LF}
 use Rattle.picture.specs.Picture.{Picture}
 use Rattle.picture.specs.Text.{below, piece, pixel_row, pbm_digit, pbm_header, pbm_line, pbm_row, pbm_text}
 use Rattle.picture.proofs.WritingLemmas.{flat_map-below_more, take_piece}

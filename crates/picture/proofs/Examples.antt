@@ -1,7 +1,7 @@
 -- Worked pictures, computed.
 use Rattle.std.specs.Prelude.{◌≡◌, Bool, ◌==◌, List, [], ◌∷◌, ◌++◌, map, length, codes, refl, true, false, Some, take}
 use Rattle.std.specs.Fmt.{digits}
-use Rattle.labelcore.specs.Lines.{lines, ended_lines, open_line}
+use Rattle.device.specs.Lines.{lines, ended_lines, open_line}
 use Rattle.picture.specs.Picture.{Picture, Zone, bars, framed, scaled}
 use Rattle.picture.specs.Text.{pbm_text, ascii_text}
 use Rattle.picture.specs.Read.{pbm_pixels, ascii_pixels, raster, pbm_files, ascii_files, sample}

@@ -4,8 +4,8 @@ use Rattle.std.specs.List.{list_all}
 use Rattle.std.proofs.lemmas.Bool.{and_parts, not-true, eqb-false}
 use Rattle.std.proofs.lemmas.List.Concat.{flat_map-cons}
 use Rattle.std.proofs.lemmas.List.Elements.{All-nil, All-cons}
-use Rattle.labelcore.specs.Lines.{LF, HasNoLF, IsCut, ended_lines, open_line, unless_empty, lines, with_ends}
-use Rattle.labelcore.proofs.LinesLemmas.{IsCut-ended_lines, ended_lines-cut, open_line-cut}
+use Rattle.device.specs.Lines.{LF, HasNoLF, IsCut, ended_lines, open_line, unless_empty, lines, with_ends}
+use Rattle.device.proofs.LinesLemmas.{IsCut-ended_lines, ended_lines-cut, open_line-cut}
 
 -- the byte that ends a line
 abbrev pub is_line_feed : ℕ → Bool

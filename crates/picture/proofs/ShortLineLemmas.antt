@@ -8,7 +8,7 @@ use Rattle.std.proofs.lemmas.Bool.{or_parts, or_cases, eqb-false, eqb-true, le-l
 use Rattle.std.proofs.lemmas.List.Folds.{list_all-append}
 use Rattle.std.proofs.lemmas.Fmt.{decimal_is_IsNumeral, length-decimal-le}
 use Rattle.std.proofs.lemmas.Str.Parse.{digit_from_value}
-use Rattle.labelcore.specs.Lines.{lines}
+use Rattle.device.specs.Lines.{lines}
 use Rattle.picture.specs.Picture.{Picture}
 use Rattle.picture.specs.Text.{pbm_digit}
 use Rattle.picture.proofs.ColumnLemmas.{pbm_pixel, pbm_columns}

@@ -8,8 +8,8 @@ use Rattle.std.specs.Cmp.Lexicographic.{pointwise}
 use Rattle.std.specs.Str.{bytes_eq}
 use Rattle.std.specs.Str.Parse.{digits_value}
 use Rattle.std.specs.Char.{is_digit}
-use Rattle.labelcore.specs.Lines.{LF, lines}
-use Rattle.labelcore.specs.Steps.{◌>>=◌}
+use Rattle.device.specs.Lines.{LF, lines}
+use Rattle.qrdata.specs.Steps.{◌>>=◌}
 use Rattle.picture.specs.Picture.{Picture, Zone}
 use Rattle.picture.specs.Text.{below, pixel_row}
 

@@ -3,7 +3,7 @@ use Rattle.std.specs.Prelude.{ℕ, ◌*◌, Bool, List, [], ◌∷◌, ◌++◌,
 use Rattle.std.specs.Prelude.{if◌then◌else◌}
 use Rattle.std.specs.Int.{div_ceil}
 use Rattle.std.specs.List.{range_with_len}
-use Rattle.labelcore.specs.Lines.{LF}
+use Rattle.device.specs.Lines.{LF}
 use Rattle.picture.specs.Picture.{Picture}
 
 -- the numbers below n

@@ -1,12 +1,12 @@
 //! Text pictures.
 ghost use Rattle.std.specs.Prelude.{◌≡◌, ◌*◌, ◌<◌, ◌≤◌, Some, [], ◌∷◌, flat_map, length, take};
-ghost use Rattle.labelcore.specs.Writing.{WritesText};
+ghost use Rattle.device.specs.Writing.{WritesText};
 ghost use Rattle.picture.specs.Read.{ascii_pixels, raster};
 ghost use Rattle.picture.specs.Text.{ascii_pixel, ascii_text};
 
 use crate::grid::Grid;
 use crate::rows::{PixelText, write_rows};
-use labelcore::{IoFault, Sink, write_whole};
+use device::{IoFault, Sink, write_whole};
 
 /// Writes the grid as text, a line for each row: `##` where dark and two spaces where light, and an empty line after
 /// them. An error is the sink's, and leaves a beginning of the text written.
@@ -25,7 +25,7 @@ struct AsciiPixels;
 
 impl PixelText for AsciiPixels {
     ghost use Rattle.std.specs.Prelude.{flat_map};
-    ghost use Rattle.labelcore.specs.Lines.{LF};
+    ghost use Rattle.device.specs.Lines.{LF};
 
     ghost line = { λ pixels. flat_map ascii_pixel pixels };
 

@@ -1,15 +1,15 @@
 //! Plain PBM files, pbm(5).
 ghost use Rattle.std.specs.Prelude.{◌≡◌, ◌+◌, ◌<◌, ◌≤◌, Some, ◌++◌, ◌∷◌, [], length, map};
-ghost use Rattle.labelcore.specs.Writing.{WritesText};
+ghost use Rattle.device.specs.Writing.{WritesText};
 ghost use Rattle.picture.specs.Read.{pbm_pixels, raster};
-ghost use Rattle.labelcore.specs.Lines.{LF};
+ghost use Rattle.device.specs.Lines.{LF};
 ghost use Rattle.picture.specs.Text.{pbm_digit, pbm_header, pbm_text};
 
 use crate::grid::Grid;
 use crate::rows::{PixelText, write_rows};
 use arrayvec::ArrayVec;
+use device::{IoFault, Sink, write_whole};
 use itoa::Buffer;
-use labelcore::{IoFault, Sink, write_whole};
 
 /// Writes the grid as a plain PBM file, pbm(5): two lines of header, and each row in lines of at most 70 pixels. An
 /// error is the sink's, and leaves a beginning of the file written.

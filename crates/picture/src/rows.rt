@@ -1,12 +1,12 @@
 //! The rows of a grid as text, in lines of 70 pixels.
 ghost use Rattle.std.specs.Prelude.{◌≡◌, ℕ, ◌+◌, ◌*◌, ◌%◌, ◌^◌, ◌<◌, ◌≤◌, Bool, List, length, map, take};
 ghost use Rattle.std.specs.List.{range_with_len};
-ghost use Rattle.labelcore.specs.Writing.{WritesText};
+ghost use Rattle.device.specs.Writing.{WritesText};
 ghost use Rattle.picture.specs.Private.Rows.{row_text, rows_text};
 ghost use Rattle.picture.specs.Text.{piece, pixel_row};
 
 use crate::grid::Grid;
-use labelcore::{IoFault, Sink, write_whole};
+use device::{IoFault, Sink, write_whole};
 
 /// The most pixels of a line, which are written at once.
 const LINE: usize = 70;

@@ -8,8 +8,8 @@ use Rattle.qrdata.specs.declared.mode.Mode.{Mode}
 use Rattle.qrdata.specs.declared.mode.Mode.TheVariants.{Numeric, Alphanumeric, Byte}
 use Rattle.qrdata.specs.declared.mode.Segment.{Segment}
 use Rattle.qrdata.specs.Private.ChoiceView.{ChoiceView}
-use Rattle.qrdata.specs.declared.table.Choices.{Choices}
-use Rattle.qrdata.specs.declared.table.TheConstants.{ABSENT}
+use Rattle.qrdata.specs.declared.segmentation.Choices.{Choices}
+use Rattle.qrdata.specs.declared.segmentation.TheConstants.{ABSENT}
 use Rattle.qrdata.specs.Segments.{IsSegmentation, cost, has_character, segment_length}
 use Rattle.qrdata.specs.Private.Table.{best_choice, better_choice, choices_of, fewest_bits, next_choices}
 use Rattle.qrdata.proofs.Runs.{run_byte, run_length, run_nothing, run_tells}

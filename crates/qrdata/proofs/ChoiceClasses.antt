@@ -6,10 +6,10 @@ use Rattle.std.specs.Char.{is_ascii_digit}
 use Rattle.qrdata.specs.declared.mode.Mode.{Mode}
 use Rattle.qrdata.specs.declared.mode.Mode.TheVariants.{Numeric, Alphanumeric, Byte}
 use Rattle.qrdata.specs.Private.ChoiceView.{ChoiceView}
-use Rattle.qrdata.specs.declared.table.Choices.{Choices}
-use Rattle.qrdata.specs.declared.table.Digits.{Digits}
-use Rattle.qrdata.specs.declared.table.Characters.{Characters}
-use Rattle.qrdata.specs.declared.table.TheConstants.{ABSENT}
+use Rattle.qrdata.specs.declared.segmentation.Choices.{Choices}
+use Rattle.qrdata.specs.declared.segmentation.Digits.{Digits}
+use Rattle.qrdata.specs.declared.segmentation.Characters.{Characters}
+use Rattle.qrdata.specs.declared.segmentation.TheConstants.{ABSENT}
 use Rattle.qrdata.specs.Segments.{has_character, payload_length, segment_length, segment_of}
 use Rattle.qrdata.specs.Private.Table.{absent_choice, better_choice, choices_of, fewest_bits, longer_choice}
 use Rattle.qrdata.specs.Private.Table.{next_characters, next_choices, next_digits, short_choice}

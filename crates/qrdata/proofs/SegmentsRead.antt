@@ -9,7 +9,7 @@ use Rattle.std.proofs.lemmas.List.{take-append-drop, length-take-le}
 use Rattle.qrdata.specs.declared.mode.Mode.{Mode}
 use Rattle.qrdata.specs.declared.mode.Mode.TheVariants.{Numeric, Alphanumeric, Byte}
 use Rattle.qrdata.specs.declared.mode.Segment.{Segment}
-use Rattle.labelcore.specs.Steps.{◌>>=◌}
+use Rattle.qrdata.specs.Steps.{◌>>=◌}
 use Rattle.qrdata.specs.Bits.{bits_of, number_of}
 use Rattle.qrdata.specs.Segments.{IsSegmentation, count_width, has_character, mode_indicator, modes, payload_bits}
 use Rattle.qrdata.specs.Segments.{segment_bits, segments_bits}

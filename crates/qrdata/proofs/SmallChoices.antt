@@ -5,10 +5,10 @@ use Rattle.std.specs.Prelude.{nat_lt}
 use Rattle.qrdata.specs.declared.mode.Mode.{Mode}
 use Rattle.qrdata.specs.declared.mode.Mode.TheVariants.{Numeric, Alphanumeric, Byte}
 use Rattle.qrdata.specs.Private.ChoiceView.{ChoiceView}
-use Rattle.qrdata.specs.declared.table.Choices.{Choices}
-use Rattle.qrdata.specs.declared.table.Digits.{Digits}
-use Rattle.qrdata.specs.declared.table.Characters.{Characters}
-use Rattle.qrdata.specs.declared.table.TheConstants.{ABSENT}
+use Rattle.qrdata.specs.declared.segmentation.Choices.{Choices}
+use Rattle.qrdata.specs.declared.segmentation.Digits.{Digits}
+use Rattle.qrdata.specs.declared.segmentation.Characters.{Characters}
+use Rattle.qrdata.specs.declared.segmentation.TheConstants.{ABSENT}
 use Rattle.qrdata.specs.Segments.{has_character, segment_length, segment_of}
 use Rattle.qrdata.specs.Private.Table.{AreSmall, absent_choice, best_choice, better_choice, choices_of, longer_choice}
 use Rattle.qrdata.specs.Private.Table.{next_characters, next_choices, next_digits, short_choice}

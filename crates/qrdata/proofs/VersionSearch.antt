@@ -3,7 +3,7 @@ use Rattle.std.proofs.Common.{◌≡◌, ℕ, zero, suc, ◌+◌, ◌-◌, ◌<�
 use Rattle.std.specs.Prelude.{nat_le, Some, None}
 use Rattle.std.specs.List.{find, range_with_len}
 use Rattle.std.proofs.lemmas.Bool.{cases_lt, le-leb, lt-leb}
-use Rattle.labelcore.specs.declared.options.Level.{Level}
+use Rattle.qrdata.specs.declared.level.Level.{Level}
 use Rattle.qrdata.specs.Segments.{cost}
 use Rattle.qrdata.specs.Versions.{capacity}
 use Rattle.qrdata.specs.Fewest.{NoneFits, chosen_segments, chosen_version}

@@ -9,30 +9,30 @@ use Rattle.std.proofs.lemmas.List.Elements.{All-from_get_or, recursion_from_All}
 use Rattle.std.proofs.lemmas.List.Sums.{sum_by-cons}
 use Rattle.std.proofs.Math.Nat.{div-eq_of_lt, mod-eq_of_lt}
 use Rattle.std.proofs.lemmas.Nat.{pow_pos}
-use Rattle.labelcore.specs.declared.options.Level.{Level}
+use Rattle.qrdata.specs.declared.level.Level.{Level}
 use Rattle.qrdata.specs.declared.mode.Mode.{Mode}
 use Rattle.qrdata.specs.declared.mode.Mode.TheVariants.{Numeric}
 use Rattle.qrdata.specs.declared.mode.Segment.{Segment}
 use Rattle.qrdata.specs.declared.bits.Bits.{Bits}
-use Rattle.qrdata.specs.Private.BitsInWords.{bits_in}
+use Rattle.qrdata.specs.Private.BitsInCodewords.{bits_in}
 use Rattle.qrdata.specs.Bits.{bits_of, codewords_of, number_of}
 use Rattle.qrdata.specs.Codewords.{largest, split_by}
 use Rattle.qrdata.specs.Segments.{IsSegmentation, alphanumeric_bits, alphanumeric_value, byte_bits, cost, count_width}
 use Rattle.qrdata.specs.Segments.{segment_bits, segment_length, segment_of, segments_bits}
-use Rattle.qrdata.specs.Versions.{block_count, block_lengths, data_codewords, parity_length}
+use Rattle.qrdata.specs.Versions.{block_count, block_lengths, data_codewords, ec_codewords_per_block}
 use Rattle.qrdata.proofs.BlockLaws.{split_lengths}
 use Rattle.qrdata.proofs.BitStrings.{bits_of-nil, drop_front, length-bits_of, number_of-bits_of, take_front}
 use Rattle.qrdata.proofs.Dealing.{Blocks, longest}
 use Rattle.qrdata.proofs.PayloadSteps.{drop_next, drop_none}
 use Rattle.qrdata.proofs.Payloads.{AreBytes}
-use Rattle.gf256.specs.Parity.{parity_of, ParityIsRemainder, RemaindersAreCodewords}
+use Rattle.gf256.specs.ErrorCorrection.{ec_codewords_of, EcCodewordsAreRemainder, RemaindersHaveRoots}
 use Rattle.qrdata.specs.Codewords.{aligned, data_of, terminated}
 use Rattle.qrdata.specs.Versions.{capacity}
 use Rattle.qrdata.specs.Segments.{payload_length}
 use Rattle.qrdata.proofs.Lengths.{length-segment_bits, length-segments_bits}
 use Rattle.qrdata.proofs.Padding.{aligned_is, length-byte_bits, length-padded}
 use Rattle.qrdata.proofs.BlockLaws.{length-split_by}
-use Rattle.qrdata.proofs.RoundTrip.{AreBytes-split, HasParity-from_law, lengths_hold}
+use Rattle.qrdata.proofs.RoundTrip.{AreBytes-split, HasEcCodewords-from_law, lengths_hold}
 use Rattle.qrdata.proofs.VersionTable.{HasSoundBlocks-of, total_is}
 
 -- characters
@@ -106,21 +106,21 @@ unfolding bits_of
 bits_of-zero zero = refl
 bits_of-zero (suc width) = rw (bit_zero width, bits_of-zero width) refl
 
--- the longest of the blocks that the words are cut into has the greatest of the lengths
-pub longest-split_by : (lengths words : List ℕ) → sum lengths ≡ length words
-    → longest (split_by lengths words) ≡ largest lengths
-longest-split_by lengths words whole = ap largest (split_lengths lengths words (omega arith))
+-- the longest of the blocks that the codewords are cut into has the greatest of the lengths
+pub longest-split_by : (lengths codewords : List ℕ) → sum lengths ≡ length codewords
+    → longest (split_by lengths codewords) ≡ largest lengths
+longest-split_by lengths codewords whole = ap largest (split_lengths lengths codewords (omega arith))
 
 -- the blocks that are left are the next one and the others
-pub split_by-next : (lengths words : List ℕ) (i start : ℕ) → i < length lengths
-    → split_by (drop i lengths) (drop start words) ≡ take (get_or lengths i 0) (drop start words)
-    ∷ split_by (drop (i + 1) lengths) (drop (start + get_or lengths i 0) words)
+pub split_by-next : (lengths codewords : List ℕ) (i start : ℕ) → i < length lengths
+    → split_by (drop i lengths) (drop start codewords) ≡ take (get_or lengths i 0) (drop start codewords)
+    ∷ split_by (drop (i + 1) lengths) (drop (start + get_or lengths i 0) codewords)
 unfolding split_by
-split_by-next lengths words i start h = rw (drop_more lengths i 0 h, ← drop-drop (get_or lengths i 0) start words) refl
+split_by-next lengths codewords i start h = rw (drop_more lengths i 0 h, ← drop-drop (get_or lengths i 0) start codewords) refl
 
-pub split_by-none_left : (lengths words : List ℕ) (i : ℕ) → length lengths ≤ i → split_by (drop i lengths) words ≡ []
+pub split_by-none_left : (lengths codewords : List ℕ) (i : ℕ) → length lengths ≤ i → split_by (drop i lengths) codewords ≡ []
 unfolding split_by
-split_by-none_left lengths words i h = rw (drop_all i lengths h) refl
+split_by-none_left lengths codewords i h = rw (drop_all i lengths h) refl
 
 -- what is made of each block in the same length is cut apart again
 pub split_by-flat_map : (f : List ℕ → List ℕ) (k : ℕ) (P : List ℕ → Type 0) (blocks : Blocks)
@@ -147,41 +147,41 @@ pub AreBytes-slice : (bytes : List ℕ) → ((i : ℕ) → get_or bytes i 0 < 25
 AreBytes-slice bytes each = recursion_from_All (λ b. b < 256) bytes
     (All-from_get_or (λ b. b < 256) bytes 0 (λ i h. each i))
 
--- the parity of the blocks of a symbol
+-- the error correction codewords of the blocks of a symbol
 pub record HasBlocks (version : ℕ) (level : Level) (message : List ℕ) : Type 0 where
   pub count : length (block_lengths version level) ≡ block_count version level
   pub whole : sum (block_lengths version level) ≡ length message
-  pub parities : length (flat_map (parity_of (parity_length version level))
-      (split_by (block_lengths version level) message)) ≡ block_count version level * parity_length version level
-  pub cut : split_by (replicate (length (block_lengths version level)) (parity_length version level))
-      (flat_map (parity_of (parity_length version level)) (split_by (block_lengths version level) message))
-      ≡ map (parity_of (parity_length version level)) (split_by (block_lengths version level) message)
+  pub ec_blocks : length (flat_map (ec_codewords_of (ec_codewords_per_block version level))
+      (split_by (block_lengths version level) message)) ≡ block_count version level * ec_codewords_per_block version level
+  pub cut : split_by (replicate (length (block_lengths version level)) (ec_codewords_per_block version level))
+      (flat_map (ec_codewords_of (ec_codewords_per_block version level)) (split_by (block_lengths version level) message))
+      ≡ map (ec_codewords_of (ec_codewords_per_block version level)) (split_by (block_lengths version level) message)
   pub few : block_count version level ≤ 8
-  pub some_parity : 1 ≤ parity_length version level
-  pub few_parity : parity_length version level ≤ 30
-  pub total : length message + block_count version level * parity_length version level ≤ 346
+  pub some_ec_codewords : 1 ≤ ec_codewords_per_block version level
+  pub few_ec_codewords : ec_codewords_per_block version level ≤ 30
+  pub total : length message + block_count version level * ec_codewords_per_block version level ≤ 346
 
 pub HasBlocks-message : (version : ℕ) (level : Level) (message : List ℕ) → 1 ≤ version → version ≤ 10
-    → ParityIsRemainder → RemaindersAreCodewords → AreBytes message
+    → EcCodewordsAreRemainder → RemaindersHaveRoots → AreBytes message
     → length message ≡ data_codewords version level → HasBlocks version level message
 HasBlocks-message version level message low high remainder codeword w whole =
-    let k = parity_length version level in
+    let k = ec_codewords_per_block version level in
     let lengths = block_lengths version level in
     let blocks = split_by (block_lengths version level) message in
     let sound = HasSoundBlocks-of version level low high in
     let shapes = lengths_hold version level in
-    let law = HasParity-from_law remainder codeword k sound.some_parity in
+    let law = HasEcCodewords-from_law remainder codeword k sound.some_ec_codewords in
     let bytes : AllByRecursion AreBytes blocks = AreBytes-split lengths message w in
     let same : length blocks ≡ length lengths = length-split_by lengths message in
     record {
       count = shapes.1;
       whole = shapes.0 ∙ sym whole;
-      parities = length-flat_map (parity_of k) k AreBytes blocks law.count bytes ∙ ap (λ n. n * k) (same ∙ shapes.1);
-      cut = rw (← same) (split_by-flat_map (parity_of k) k AreBytes blocks law.count bytes);
+      ec_blocks = length-flat_map (ec_codewords_of k) k AreBytes blocks law.count bytes ∙ ap (λ n. n * k) (same ∙ shapes.1);
+      cut = rw (← same) (split_by-flat_map (ec_codewords_of k) k AreBytes blocks law.count bytes);
       few = sound.few_blocks;
-      some_parity = sound.some_parity;
-      few_parity = sound.few_parity;
-      total = omega (arith, total_is version level low high, sound.few_words);
+      some_ec_codewords = sound.some_ec_codewords;
+      few_ec_codewords = sound.few_ec_codewords;
+      total = omega (arith, total_is version level low high, sound.few_codewords);
     }
 
 -- the bits of a segment of the first bytes
@@ -206,39 +206,39 @@ length-data_of version level segments bytes held fits =
     (omega (arith, length-segments_bits version segments bytes held))
 
 -- the codewords of the bits of bytes are the bytes
-pub codewords_of-byte_bits : (words : List ℕ) → AreBytes words → codewords_of (length words) (byte_bits words) ≡ words
+pub codewords_of-byte_bits : (codewords : List ℕ) → AreBytes codewords → codewords_of (length codewords) (byte_bits codewords) ≡ codewords
 unfolding codewords_of byte_bits
 codewords_of-byte_bits [] w = refl
-codewords_of-byte_bits (word ∷ words) w =
-    let front : take 8 (bits_of 8 word ++ byte_bits words) ≡ bits_of 8 word =
-    take_front 8 (bits_of 8 word) (byte_bits words) (length-bits_of 8 word) in
-    let rest : drop 8 (bits_of 8 word ++ byte_bits words) ≡ byte_bits words =
-    drop_front 8 (bits_of 8 word) (byte_bits words) (length-bits_of 8 word) in
-    let value : number_of (bits_of 8 word) ≡ word = number_of-bits_of 8 word ∙ mod-eq_of_lt w.0 in
-    rw (front, rest, value, codewords_of-byte_bits words w.1) refl
+codewords_of-byte_bits (codeword ∷ codewords) w =
+    let front : take 8 (bits_of 8 codeword ++ byte_bits codewords) ≡ bits_of 8 codeword =
+    take_front 8 (bits_of 8 codeword) (byte_bits codewords) (length-bits_of 8 codeword) in
+    let rest : drop 8 (bits_of 8 codeword ++ byte_bits codewords) ≡ byte_bits codewords =
+    drop_front 8 (bits_of 8 codeword) (byte_bits codewords) (length-bits_of 8 codeword) in
+    let value : number_of (bits_of 8 codeword) ≡ codeword = number_of-bits_of 8 codeword ∙ mod-eq_of_lt w.0 in
+    rw (front, rest, value, codewords_of-byte_bits codewords w.1) refl
 
 -- bits that end with a codeword are those of their codewords
-pub whole_words : (words : List ℕ) (count number n : ℕ) → AreBytes words → count < 8
-    → length (byte_bits words ++ bits_of count number) ≡ 8 * n
-    → words ≡ codewords_of (length (byte_bits words ++ bits_of count number) / 8)
-    (byte_bits words ++ bits_of count number)
-whole_words words count number n w few whole =
-    let long : length (byte_bits words ++ bits_of count number) ≡ 8 * length words + count =
+pub whole_codewords : (codewords : List ℕ) (count number n : ℕ) → AreBytes codewords → count < 8
+    → length (byte_bits codewords ++ bits_of count number) ≡ 8 * n
+    → codewords ≡ codewords_of (length (byte_bits codewords ++ bits_of count number) / 8)
+    (byte_bits codewords ++ bits_of count number)
+whole_codewords codewords count number n w few whole =
+    let long : length (byte_bits codewords ++ bits_of count number) ≡ 8 * length codewords + count =
     omega (
       arith,
-      length-append (byte_bits words) (bits_of count number),
-      length-byte_bits words,
+      length-append (byte_bits codewords) (bits_of count number),
+      length-byte_bits codewords,
       length-bits_of count number,
     ) in
     let none : count ≡ 0 = omega (arith, long, whole) in
-    let size : length (byte_bits words ++ bits_of count number) / 8 ≡ length words = omega (arith, long, none) in
-    rw (size, none, bits_of-nil, append-nil) (sym (codewords_of-byte_bits words w))
+    let size : length (byte_bits codewords ++ bits_of count number) / 8 ≡ length codewords = omega (arith, long, none) in
+    rw (size, none, bits_of-nil, append-nil) (sym (codewords_of-byte_bits codewords w))
 
-pub length-bits_in : (bits : Bits) → length (bits_in bits) ≡ 8 * length bits.words.items + bits.rest.count
+pub length-bits_in : (bits : Bits) → length (bits_in bits) ≡ 8 * length bits.codewords.items + bits.rest.count
 length-bits_in bits =
     omega (
       arith,
-      length-append (byte_bits bits.words.items) (bits_of bits.rest.count bits.rest.number),
-      length-byte_bits bits.words.items,
+      length-append (byte_bits bits.codewords.items) (bits_of bits.rest.count bits.rest.number),
+      length-byte_bits bits.codewords.items,
       length-bits_of bits.rest.count bits.rest.number,
     )

@@ -2,12 +2,12 @@
 use Rattle.std.specs.Prelude.{ℕ, zero, suc, ◌-◌, ◌*◌, ◌/◌, ◌%◌, List, [], ◌∷◌, ◌++◌, map, length, take, drop, replicate}
 use Rattle.std.specs.Prelude.{slice_get, Bool, false, max, min}
 use Rattle.std.specs.List.{filter_map, flat_map, range_with_len}
-use Rattle.gf256.specs.Parity.{parity_of}
-use Rattle.labelcore.specs.declared.options.Level.{Level}
+use Rattle.gf256.specs.ErrorCorrection.{ec_codewords_of}
+use Rattle.qrdata.specs.declared.level.Level.{Level}
 use Rattle.qrdata.specs.declared.mode.Segment.{Segment}
 use Rattle.qrdata.specs.Bits.{codewords_of}
 use Rattle.qrdata.specs.Segments.{segments_bits}
-use Rattle.qrdata.specs.Versions.{data_codewords, block_lengths, parity_length}
+use Rattle.qrdata.specs.Versions.{data_codewords, block_lengths, ec_codewords_per_block}
 
 -- the bits followed by the terminator, four zeros or as many as are left
 unfoldable pub terminated : ℕ → List Bool → List Bool
@@ -35,29 +35,29 @@ padded size bits = filled size (aligned (terminated (8 * size) bits))
 unfoldable pub data_of : ℕ → Level → List Segment → List ℕ → List ℕ
 data_of version level segments bytes = padded (data_codewords version level) (segments_bits version segments bytes)
 
--- words cut into blocks of these lengths
+-- codewords cut into blocks of these lengths
 unfoldable pub split_by : List ℕ → List ℕ → List (List ℕ)
-split_by [] words = []
-split_by (n ∷ lengths) words = take n words ∷ split_by lengths (drop n words)
+split_by [] codewords = []
+split_by (n ∷ lengths) codewords = take n codewords ∷ split_by lengths (drop n codewords)
 
--- the words at a place of the blocks that have one, block by block
-abbrev pub words_at : List (List ℕ) → ℕ → List ℕ
-words_at blocks place = filter_map (λ block. slice_get block place) blocks
+-- the codewords at a place of the blocks that have one, block by block
+abbrev pub codewords_at : List (List ℕ) → ℕ → List ℕ
+codewords_at blocks place = filter_map (λ block. slice_get block place) blocks
 
 -- the greatest of some numbers, 0 if there is none
 abbrev pub largest : List ℕ → ℕ
 largest [] = 0
 largest (n ∷ ns) = max n (largest ns)
 
--- the words of the blocks in the order of their places, and at one place in the order of the blocks
+-- the codewords of the blocks in the order of their places, and at one place in the order of the blocks
 unfoldable pub interleaved : List (List ℕ) → List ℕ
-interleaved blocks = flat_map (words_at blocks) (range_with_len 0 (largest (map length blocks)))
+interleaved blocks = flat_map (codewords_at blocks) (range_with_len 0 (largest (map length blocks)))
 
--- the codewords of a symbol: the blocks of its data codewords interleaved, then their parity codewords interleaved
+-- the codewords of a symbol: the blocks of its data codewords interleaved, then their error correction codewords interleaved
 unfoldable pub final_message : ℕ → Level → List ℕ → List ℕ
-final_message version level words =
-    let blocks = split_by (block_lengths version level) words in
-    interleaved blocks ++ interleaved (map (parity_of (parity_length version level)) blocks)
+final_message version level codewords =
+    let blocks = split_by (block_lengths version level) codewords in
+    interleaved blocks ++ interleaved (map (ec_codewords_of (ec_codewords_per_block version level)) blocks)
 
 -- the codewords of the symbol of segments of the data
 unfoldable pub symbol_codewords : ℕ → Level → List Segment → List ℕ → List ℕ

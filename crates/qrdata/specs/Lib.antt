@@ -1,8 +1,9 @@
 pub mod Bits
 pub mod Codewords
 pub mod Fewest
+pub mod PlanView
 pub mod Private
 pub mod Reading
 pub mod Segments
+pub mod Steps
 pub mod Versions
-pub mod PlanView

@@ -1,10 +1,38 @@
 -- A plan as clauses see it: what is chosen for a symbol (ISO/IEC 18004, 7.4.1).
-use Rattle.std.specs.Prelude.{ℕ, List}
-use Rattle.labelcore.specs.declared.options.Level.{Level}
+use Rattle.std.specs.Prelude.{◌≡◌, ◌≤◌, ◌<◌, ℕ, List, Option, Some, None, length}
+use Rattle.qrdata.specs.declared.level.Level.{Level}
 use Rattle.qrdata.specs.declared.mode.Segment.{Segment}
+use Rattle.qrdata.specs.Fewest.{NoneFits, chosen_segments, chosen_version}
+use Rattle.qrdata.specs.Segments.{IsSegmentation, cost, segments_bits}
+use Rattle.qrdata.specs.Versions.{capacity}
 
--- the version, the level and the segments of a symbol
+-- the version, the level and the segments of a symbol, and the data that they cut
 pub record PlanView : Type 0 where
   pub version : ℕ
   pub level : Level
   pub segments : List Segment
+  pub bytes : List ℕ
+
+-- the segments are segments of the data, and fit the data codewords
+pub record HasFittingSegments (plan : PlanView) : Type 0 where
+  pub cut : IsSegmentation plan.version plan.segments plan.bytes
+  pub fits : cost plan.version plan.segments ≤ capacity plan.version plan.level
+
+-- The plan of the data at a level: its version is the smallest from the lowest one in which some segments of the data
+-- fit, and in it no segments have fewer bits.
+pub record IsBestPlan (lowest : ℕ) (level : Level) (bytes : List ℕ) (plan : PlanView) : Type 0 where
+  pub version : chosen_version lowest level bytes ≡ Some plan.version
+  pub same_level : plan.level ≡ level
+  pub same_bytes : plan.bytes ≡ bytes
+  pub segments : plan.segments ≡ chosen_segments plan.version bytes
+  pub cut : IsSegmentation plan.version plan.segments bytes
+  pub fits : cost plan.version plan.segments ≤ capacity plan.version level
+  pub bits : length (segments_bits plan.version plan.segments bytes) ≡ cost plan.version plan.segments
+  pub fewest : (others : List Segment) → IsSegmentation plan.version others bytes
+      → cost plan.version plan.segments ≤ cost plan.version others
+  pub smallest : (v : ℕ) → lowest ≤ v → v < plan.version → NoneFits v level bytes
+
+-- no segments of the data fit a version from the lowest one to 10
+pub record FitsNowhere (lowest : ℕ) (level : Level) (bytes : List ℕ) : Type 0 where
+  pub version : chosen_version lowest level bytes ≡ None
+  pub nowhere : (v : ℕ) → lowest ≤ v → v ≤ 10 → NoneFits v level bytes

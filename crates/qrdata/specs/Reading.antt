@@ -5,13 +5,13 @@ use Rattle.std.specs.Prelude.{Option, Some, None}
 use Rattle.std.specs.List.{concat, count_by, find, list_all, range_with_len, sum_by, zip}
 use Rattle.gf256.specs.Field.{alpha, field_power}
 use Rattle.gf256.specs.Polynomial.{evaluate}
-use Rattle.labelcore.specs.declared.options.Level.{Level}
-use Rattle.labelcore.specs.Steps.{◌>>=◌}
+use Rattle.qrdata.specs.declared.level.Level.{Level}
+use Rattle.qrdata.specs.Steps.{◌>>=◌}
 use Rattle.qrdata.specs.declared.mode.Mode.{Mode}
 use Rattle.qrdata.specs.declared.mode.Mode.TheVariants.{Numeric, Alphanumeric, Byte}
 use Rattle.qrdata.specs.Bits.{number_of}
 use Rattle.qrdata.specs.Segments.{alphanumeric_characters, byte_bits, count_width, mode_indicator, modes}
-use Rattle.qrdata.specs.Versions.{block_count, block_lengths, data_codewords, parity_length, total_codewords}
+use Rattle.qrdata.specs.Versions.{block_count, block_lengths, data_codewords, ec_codewords_per_block, total_codewords}
 
 -- the number in the first bits, if it is below a limit, and the bits after it
 unfoldable pub number_at : ℕ → ℕ → List Bool → Option (ℕ × List Bool)
@@ -70,28 +70,28 @@ segments_at version (suc n) bits = if is_end bits then Some [] else do
   others ← segments_at version n first.1
   Some (first.0 ++ others)
 
--- Where word i of block b stands among words that are dealt in turn to blocks of these lengths: after the words of the
+-- Where codeword i of block b stands among codewords that are dealt in turn to blocks of these lengths: after the codewords of the
 -- rounds before it, and in its own round after those of the blocks before it. A full block is passed over.
 abbrev pub dealt_place : List ℕ → ℕ → ℕ → ℕ
 dealt_place lengths b i = sum_by (min i) lengths + count_by (nat_lt i) (take b lengths)
 
--- the words dealt in turn to blocks of these lengths
+-- the codewords dealt in turn to blocks of these lengths
 unfoldable pub dealt : List ℕ → List ℕ → List (List ℕ)
-dealt lengths words =
-    map (λ b. map (λ i. slice_index words (dealt_place lengths b i)) (range_with_len 0 (slice_index lengths b)))
+dealt lengths codewords =
+    map (λ b. map (λ i. slice_index codewords (dealt_place lengths b i)) (range_with_len 0 (slice_index lengths b)))
     (range_with_len 0 (length lengths))
 
--- whether the polynomial of a block and its parity is 0 at alpha^0 to alpha^(k-1)
-abbrev pub is_codeword : ℕ → List ℕ × List ℕ → Bool
-is_codeword k block = list_all (λ i. evaluate (block.0 ++ block.1) (field_power alpha i) == 0) (range_with_len 0 k)
+-- whether the polynomial of a block and its error correction codewords is 0 at alpha^0 to alpha^(k-1)
+abbrev pub has_roots : ℕ → List ℕ × List ℕ → Bool
+has_roots k block = list_all (λ i. evaluate (block.0 ++ block.1) (field_power alpha i) == 0) (range_with_len 0 k)
 
--- The data that the codewords of a symbol hold: dealt to blocks, each block a codeword of its parity, and the
+-- The data that the codewords of a symbol hold: dealt to blocks, each block a codeword of its error correction codewords, and the
 -- data codewords joined and read as segments.
 unfoldable pub data_in : ℕ → Level → List ℕ → Option (List ℕ)
-data_in version level words =
+data_in version level codewords =
     let size = data_codewords version level in
-    let parity = parity_length version level in
-    let blocks = dealt (block_lengths version level) (take size words) in
-    let parities = dealt (replicate (block_count version level) parity) (drop size words) in
-    if length words == total_codewords version && list_all (is_codeword parity) (zip blocks parities)
+    let ec_codewords = ec_codewords_per_block version level in
+    let blocks = dealt (block_lengths version level) (take size codewords) in
+    let ec_blocks = dealt (replicate (block_count version level) ec_codewords) (drop size codewords) in
+    if length codewords == total_codewords version && list_all (has_roots ec_codewords) (zip blocks ec_blocks)
     then segments_at version (8 * size) (byte_bits (concat blocks)) else None

@@ -2,8 +2,8 @@
 use Rattle.std.specs.Prelude.{ℕ, ◌+◌, ◌-◌, ◌*◌, ◌≤◌, List, [], ◌∷◌, length, map, slice_get, slice_index, sum, unwrap_or}
 use Rattle.std.specs.Prelude.{replicate}
 use Rattle.std.specs.List.{flat_map}
-use Rattle.labelcore.specs.declared.options.Level.{Level}
-use Rattle.labelcore.specs.declared.options.Level.TheVariants.{L, M, Q, H}
+use Rattle.qrdata.specs.declared.level.Level.{Level}
+use Rattle.qrdata.specs.declared.level.Level.TheVariants.{L, M, Q, H}
 
 -- the versions are 1 to 10
 abbrev pub IsVersion : ℕ → Type 0
@@ -13,7 +13,7 @@ IsVersion version = (1 ≤ version) × (version ≤ 10)
 abbrev pub side_of : ℕ → ℕ
 side_of version = 17 + 4 * version
 
--- how many codewords a symbol has, data and parity (table 1)
+-- how many codewords a symbol has, data and error correction codewords (table 1)
 unfoldable pub total_codewords : ℕ → ℕ
 total_codewords version = slice_index (26 ∷ 44 ∷ 70 ∷ 100 ∷ 134 ∷ 172 ∷ 196 ∷ 242 ∷ 292 ∷ 346 ∷ []) (version - 1)
 
@@ -53,9 +53,9 @@ block_count version level = length (block_lengths version level)
 unfoldable pub data_codewords : ℕ → Level → ℕ
 data_codewords version level = sum (block_lengths version level)
 
--- how many parity codewords each block has, the first as many as the others
-unfoldable pub parity_length : ℕ → Level → ℕ
-parity_length version level =
+-- how many error correction codewords each block has, the first as many as the others
+unfoldable pub ec_codewords_per_block : ℕ → Level → ℕ
+ec_codewords_per_block version level =
     slice_index (map (λ (group : ℕ × ℕ × ℕ). group.1 - group.2) (groups_of version level)) 0
 
 -- the data bits of a symbol

@@ -10,7 +10,7 @@ ghost use Rattle.std.specs.Char.{is_ascii_digit};
 ghost use Rattle.std.specs.List.{list_all};
 ghost use Rattle.std.specs.Prelude.{◌≡◌, ◌+◌, ◌*◌, ◌/◌, ◌^◌, ◌<◌, ◌≤◌, [], ◌++◌, All, IsTrue, length};
 
-use crate::blocks::{MAX_WORDS, Words};
+use crate::blocks::{Codewords, MAX_CODEWORDS};
 use crate::mode::{Mode, Segment, value_of};
 use crate::version::Version;
 
@@ -21,7 +21,7 @@ const MAX_BITS: usize = 2192;
 #[derive(Drop)]
 pub(crate) struct Bits {
     /// The codewords, the first bits.
-    pub(crate) words: Words,
+    pub(crate) codewords: Codewords,
     rest: Rest,
 }
 
@@ -46,14 +46,14 @@ fn power_of_two(n: usize) -> u32
 }
 
 impl Bits {
-    ghost use Rattle.qrdata.specs.Private.BitsInWords.{bits_in};
+    ghost use Rattle.qrdata.specs.Private.BitsInCodewords.{bits_in};
 
     /// No bits.
     pub(crate) fn new() -> Bits
         ensures { bits_in result ≡ [] }
     {
         Bits {
-            words: Words::new(),
+            codewords: Codewords::new(),
             rest: Rest {
                 number: 0,
                 count: 0,
@@ -74,7 +74,7 @@ impl Bits {
         while count >= 8 {
             count -= 8;
             let unit = power_of_two(count);
-            self.words.push((value / unit) as u8);
+            self.codewords.push((value / unit) as u8);
             value %= unit;
         }
         self.rest = Rest {
@@ -162,7 +162,7 @@ impl Bits {
         ensures { bits_in self.new ≡ bits_in self.old ++ segment_bits version mode bytes.now }
     {
         self.push_number(u32::from(mode.indicator()), 4);
-        self.push_number(bytes.len() as u32, mode.count_bits(version));
+        self.push_number(bytes.len() as u32, mode.count_width(version));
         self.push_payload(mode, bytes);
     }
 
@@ -185,7 +185,7 @@ impl Bits {
     fn len(&self) -> usize
         ensures { result ≡ length (bits_in self.now) }
     {
-        8 * self.words.len() + self.rest.count
+        8 * self.codewords.len() + self.rest.count
     }
 
     /// Writes the terminator, four zeros or as many as are left in so many codewords, and zeros to the end of a
@@ -194,14 +194,14 @@ impl Bits {
         requires fits { length (bits_in self.old) ≤ 8 * size }
         requires size { size ≤ MAX_BITS / 8 }
         ensures bits { bits_in self.new ≡ aligned (terminated (8 * size) (bits_in self.old)) }
-        ensures words { self.new.words.items
+        ensures codewords { self.new.codewords.items
             ≡ codewords_of (length (bits_in self.new) / 8) (bits_in self.new) }
-        ensures count { array_vec_len self.new.words ≤ size }
+        ensures count { array_vec_len self.new.codewords ≤ size }
     {
         let left = 8 * size - self.len();
         self.push_number(0, left.min(4));
         self.push_number(0, (8 - self.rest.count) % 8);
-        are_bytes(self.words.as_slice());
+        are_bytes(self.codewords.as_slice());
     }
 }
 
@@ -212,17 +212,17 @@ fn are_bytes(bytes: &[u8])
 {}
 
 /// Writes so many pad codewords, of which there are two in turn.
-pub(crate) fn push_padding(count: usize, words: &mut Words)
-    requires room { array_vec_len words.old + count ≤ MAX_WORDS }
-    ensures { words.new.items ≡ words.old.items ++ pad_codewords count }
+pub(crate) fn push_padding(count: usize, codewords: &mut Codewords)
+    requires room { array_vec_len codewords.old + count ≤ MAX_CODEWORDS }
+    ensures { codewords.new.items ≡ codewords.old.items ++ pad_codewords count }
 {
     let mut left = count;
     while left >= 2 {
-        words.push(0xEC);
-        words.push(0x11);
+        codewords.push(0xEC);
+        codewords.push(0x11);
         left -= 2;
     }
     if left == 1 {
-        words.push(0xEC);
+        codewords.push(0xEC);
     }
 }

@@ -1,7 +1,7 @@
-//! Blocks, their parity codewords and interleaving (ISO/IEC 18004, 7.5 and 7.6).
+//! Blocks, their error correction codewords and interleaving (ISO/IEC 18004, 7.5 and 7.6).
 ghost use Rattle.arrayvec.specs.ArrayVec.{array_vec_len};
-ghost use Rattle.gf256.specs.Parity.{parity_of};
-ghost use Rattle.qrdata.specs.Codewords.{interleaved, largest, split_by, words_at};
+ghost use Rattle.gf256.specs.ErrorCorrection.{ec_codewords_of};
+ghost use Rattle.qrdata.specs.Codewords.{interleaved, largest, split_by, codewords_at};
 ghost use Rattle.std.specs.List.{flat_map};
 ghost use Rattle.std.specs.Prelude.{length, ◌≡◌, ◌+◌, ◌≤◌, ◌<◌, ◌++◌, sum, ◌*◌, ◌/◌, replicate};
 
@@ -9,22 +9,22 @@ use arrayvec::ArrayVec;
 use gf256::Generator;
 
 /// The most codewords of a symbol, those of version 10.
-pub(crate) const MAX_WORDS: usize = 346;
+pub(crate) const MAX_CODEWORDS: usize = 346;
 
 /// The codewords of a symbol.
-pub type Words = ArrayVec<u8, MAX_WORDS>;
+pub type Codewords = ArrayVec<u8, MAX_CODEWORDS>;
 
-/// Writes the words at one place of the blocks, block by block. The blocks have these lengths, one after another.
-fn push_place(lengths: &[usize], words: &[u8], place: usize, out: &mut Words)
-    requires whole { sum lengths.now ≡ length words.now }
+/// Writes the codewords at one place of the blocks, block by block. The blocks have these lengths, one after another.
+fn push_place(lengths: &[usize], codewords: &[u8], place: usize, out: &mut Codewords)
+    requires whole { sum lengths.now ≡ length codewords.now }
     requires room { array_vec_len out.old
-        + length (words_at (split_by lengths.now words.now) place) ≤ MAX_WORDS }
-    ensures { out.new.items ≡ out.old.items ++ words_at (split_by lengths.now words.now) place }
+        + length (codewords_at (split_by lengths.now codewords.now) place) ≤ MAX_CODEWORDS }
+    ensures { out.new.items ≡ out.old.items ++ codewords_at (split_by lengths.now codewords.now) place }
 {
     let mut start = 0;
     for size in lengths {
         if place < *size {
-            out.push(words[start + place]);
+            out.push(codewords[start + place]);
         }
         start += *size;
     }
@@ -43,15 +43,15 @@ fn greatest(lengths: &[usize]) -> usize
     most
 }
 
-/// Writes the words of the blocks in the order of their places, and at one place in the order of the blocks.
-pub(crate) fn interleave(lengths: &[usize], words: &[u8], out: &mut Words)
-    requires whole { sum lengths.now ≡ length words.now }
-    requires room { array_vec_len out.old + length words.now ≤ MAX_WORDS }
-    ensures { out.new.items ≡ out.old.items ++ interleaved (split_by lengths.now words.now) }
+/// Writes the codewords of the blocks in the order of their places, and at one place in the order of the blocks.
+pub(crate) fn interleave(lengths: &[usize], codewords: &[u8], out: &mut Codewords)
+    requires whole { sum lengths.now ≡ length codewords.now }
+    requires room { array_vec_len out.old + length codewords.now ≤ MAX_CODEWORDS }
+    ensures { out.new.items ≡ out.old.items ++ interleaved (split_by lengths.now codewords.now) }
 {
     let rounds = greatest(lengths);
     for place in 0..rounds {
-        push_place(lengths, words, place, out);
+        push_place(lengths, codewords, place, out);
     }
 }
 
@@ -70,45 +70,50 @@ pub(crate) fn push_lengths(lengths: &mut Lengths, count: usize, size: usize)
     }
 }
 
-/// Writes words at the end.
-fn push_words(out: &mut Words, words: &[u8])
-    requires room { array_vec_len out.old + length words.now ≤ MAX_WORDS }
-    ensures { out.new.items ≡ out.old.items ++ words.now }
+/// Writes codewords at the end.
+fn push_codewords(out: &mut Codewords, codewords: &[u8])
+    requires room { array_vec_len out.old + length codewords.now ≤ MAX_CODEWORDS }
+    ensures { out.new.items ≡ out.old.items ++ codewords.now }
 {
-    for word in words {
-        out.push(*word);
+    for codeword in codewords {
+        out.push(*codeword);
     }
 }
 
-/// Writes the parity codewords of a block.
-fn push_block_parity(generator: &Generator, count: usize, block: &[u8], out: &mut Words)
+/// Writes the error correction codewords of a block.
+fn push_block_ec_codewords(generator: &Generator, count: usize, block: &[u8], out: &mut Codewords)
     requires count { generator.now ≡ count }
     requires low { 1 ≤ count }
     requires high { count ≤ 30 }
-    requires room { array_vec_len out.old + count ≤ MAX_WORDS }
-    ensures words { out.new.items ≡ out.old.items ++ parity_of count block.now }
+    requires room { array_vec_len out.old + count ≤ MAX_CODEWORDS }
+    ensures codewords { out.new.items ≡ out.old.items ++ ec_codewords_of count block.now }
     ensures len { array_vec_len out.new ≡ array_vec_len out.old + count }
 {
-    let mut parity = [0; 30];
-    generator.parity(block, &mut parity[..count]);
-    push_words(out, &parity[..count]);
+    let mut ec_codewords = [0; 30];
+    generator.ec_codewords(block, &mut ec_codewords[..count]);
+    push_codewords(out, &ec_codewords[..count]);
 }
 
-/// Writes the parity codewords of each block. The blocks have these lengths, one after another.
-pub(crate) fn push_parity(count: usize, lengths: &[usize], words: &[u8], out: &mut Words)
+/// Writes the error correction codewords of each block. The blocks have these lengths, one after another.
+pub(crate) fn push_ec_codewords(
+    count: usize,
+    lengths: &[usize],
+    codewords: &[u8],
+    out: &mut Codewords,
+)
     requires low { 1 ≤ count }
     requires high { count ≤ 30 }
-    requires whole { sum lengths.now ≡ length words.now }
+    requires whole { sum lengths.now ≡ length codewords.now }
     requires few { length lengths.now ≤ 8 }
     requires room { array_vec_len out.old ≤ 106 }
     ensures { out.new.items
-        ≡ out.old.items ++ flat_map (parity_of count) (split_by lengths.now words.now) }
+        ≡ out.old.items ++ flat_map (ec_codewords_of count) (split_by lengths.now codewords.now) }
 {
     let generator = Generator::new(count);
     let mut start = 0;
     for size in lengths {
         let end = start + *size;
-        push_block_parity(&generator, count, &words[start..end], out);
+        push_block_ec_codewords(&generator, count, &codewords[start..end], out);
         start = end;
     }
 }

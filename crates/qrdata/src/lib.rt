@@ -7,14 +7,16 @@
 
 mod bits;
 mod blocks;
+mod final_message;
+mod level;
 mod mode;
 mod plan;
-mod symbol;
-mod table;
+mod segmentation;
 mod version;
 
-pub use blocks::Words;
+pub use blocks::Codewords;
+pub use final_message::codewords;
+pub use level::Level;
 pub use mode::{Mode, Segment};
-pub use plan::{Plan, choose};
-pub use symbol::codewords;
+pub use plan::{DoesNotFit, Plan, choose};
 pub use version::Version;

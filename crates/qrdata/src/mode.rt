@@ -38,7 +38,7 @@ impl Mode {
     }
 
     /// The bits of the character count indicator in a version.
-    pub(crate) fn count_bits(self, version: Version) -> usize
+    pub(crate) fn count_width(self, version: Version) -> usize
         ensures { result ≡ count_width version self }
     {
         let short = version.number() < 10;
@@ -50,7 +50,7 @@ impl Mode {
     }
 
     /// The bits of a payload of so many bytes.
-    pub(crate) fn payload_bits(self, len: usize) -> usize
+    pub(crate) fn payload_length(self, len: usize) -> usize
         requires { len < 65536 }
         ensures { result ≡ payload_length self len }
     {

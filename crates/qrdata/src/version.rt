@@ -1,14 +1,14 @@
 //! The sizes of versions 1 to 10 (ISO/IEC 18004, tables 1, 7 and 9).
-ghost use Rattle.qrdata.specs.Versions.{IsVersion, block_count, block_lengths, data_codewords, parity_length, side_of};
+ghost use Rattle.qrdata.specs.Versions.{IsVersion, block_count, block_lengths, data_codewords, ec_codewords_per_block, side_of};
 ghost use Rattle.qrdata.specs.Versions.{total_codewords};
 ghost use Rattle.std.specs.Prelude.{None, Some, ◌≡◌, ◌+◌, ◌*◌, ◌/◌, ◌<◌, ◌≤◌, ◌↔◌, ◌⊎◌, IfSome, IsNone, ℕ};
 
 use crate::blocks::{Lengths, push_lengths};
+use crate::level::Level;
 use arrayvec::ArrayVec;
-use labelcore::Level;
 use std::marker::Model;
 
-/// The codewords of a symbol, data and parity. In each of these tables place 0 is version 1. They are proved to hold
+/// The codewords of a symbol, data and error correction codewords. In each of these tables place 0 is version 1. They are proved to hold
 /// what `specs/Versions.antt` lists in the standard's notation.
 const TOTAL: [usize; 10] = [26, 44, 70, 100, 134, 172, 196, 242, 292, 346];
 
@@ -24,17 +24,17 @@ const BLOCKS_Q: [usize; 10] = [1, 1, 2, 2, 4, 4, 6, 6, 8, 8];
 /// The blocks of a symbol at level H.
 const BLOCKS_H: [usize; 10] = [1, 1, 2, 4, 4, 4, 5, 6, 8, 8];
 
-/// The parity codewords of each block at level L.
-const PARITY_L: [usize; 10] = [7, 10, 15, 20, 26, 18, 20, 24, 30, 18];
+/// The error correction codewords of each block at level L.
+const EC_CODEWORDS_L: [usize; 10] = [7, 10, 15, 20, 26, 18, 20, 24, 30, 18];
 
-/// The parity codewords of each block at level M.
-const PARITY_M: [usize; 10] = [10, 16, 26, 18, 24, 16, 18, 22, 22, 26];
+/// The error correction codewords of each block at level M.
+const EC_CODEWORDS_M: [usize; 10] = [10, 16, 26, 18, 24, 16, 18, 22, 22, 26];
 
-/// The parity codewords of each block at level Q.
-const PARITY_Q: [usize; 10] = [13, 22, 18, 26, 18, 24, 18, 22, 20, 24];
+/// The error correction codewords of each block at level Q.
+const EC_CODEWORDS_Q: [usize; 10] = [13, 22, 18, 26, 18, 24, 18, 22, 20, 24];
 
-/// The parity codewords of each block at level H.
-const PARITY_H: [usize; 10] = [17, 28, 22, 16, 22, 28, 26, 26, 24, 28];
+/// The error correction codewords of each block at level H.
+const EC_CODEWORDS_H: [usize; 10] = [17, 28, 22, 16, 22, 28, 26, 26, 24, 28];
 
 /// A version of a symbol, 1 to 10. Clauses see it as that number.
 #[derive(Clone, Copy, Debug, PartialEq, Eq, Drop)]
@@ -96,23 +96,23 @@ impl Version {
         17 + 4 * usize::from(self.number)
     }
 
-    /// The codewords of a symbol, data and parity.
-    pub fn total_words(self) -> usize
+    /// The codewords of a symbol, data and error correction codewords.
+    pub fn total_codewords(self) -> usize
         ensures { result ≡ total_codewords self }
     {
         TOTAL[usize::from(self.number) - 1]
     }
 
     /// The data codewords of a symbol at a level, of all its blocks.
-    pub fn data_words(self, level: Level) -> usize
+    pub fn data_codewords(self, level: Level) -> usize
         ensures { result ≡ data_codewords self level }
     {
         self.known();
-        self.total_words() - self.blocks(level) * self.parity(level)
+        self.total_codewords() - self.block_count(level) * self.ec_codewords_per_block(level)
     }
 
     /// The blocks of a symbol at a level.
-    pub(crate) fn blocks(self, level: Level) -> usize
+    pub(crate) fn block_count(self, level: Level) -> usize
         ensures { result ≡ block_count self level }
     {
         let place = usize::from(self.number) - 1;
@@ -124,16 +124,16 @@ impl Version {
         }
     }
 
-    /// The parity codewords of each block at a level.
-    pub(crate) fn parity(self, level: Level) -> usize
-        ensures { result ≡ parity_length self level }
+    /// The error correction codewords of each block at a level.
+    pub(crate) fn ec_codewords_per_block(self, level: Level) -> usize
+        ensures { result ≡ ec_codewords_per_block self level }
     {
         let place = usize::from(self.number) - 1;
         match level {
-            Level::L => PARITY_L[place],
-            Level::M => PARITY_M[place],
-            Level::Q => PARITY_Q[place],
-            Level::H => PARITY_H[place],
+            Level::L => EC_CODEWORDS_L[place],
+            Level::M => EC_CODEWORDS_M[place],
+            Level::Q => EC_CODEWORDS_Q[place],
+            Level::H => EC_CODEWORDS_H[place],
         }
     }
 
@@ -142,11 +142,15 @@ impl Version {
         ensures { result.items ≡ block_lengths self level }
     {
         self.known();
-        let blocks = self.blocks(level);
-        let words = self.data_words(level);
+        let blocks = self.block_count(level);
+        let codewords = self.data_codewords(level);
         let mut lengths = Lengths::new();
-        push_lengths(&mut lengths, blocks - words % blocks, words / blocks);
-        push_lengths(&mut lengths, words % blocks, words / blocks + 1);
+        push_lengths(
+            &mut lengths,
+            blocks - codewords % blocks,
+            codewords / blocks,
+        );
+        push_lengths(&mut lengths, codewords % blocks, codewords / blocks + 1);
         lengths
     }
 }

@@ -11,7 +11,7 @@ use Rattle.std.proofs.lemmas.List.{get_or_past}
 use Rattle.std.proofs.lemmas.List.FromFn.{get_or-map-range_with_len, length-map-range_with_len}
 use Rattle.std.specs.List.{range_with_len}
 use Rattle.gf256.specs.BinaryPolynomial.{binary_remainder}
-use Rattle.labelcore.specs.declared.options.Level.TheVariants.{M}
+use Rattle.qrdata.specs.declared.level.Level.TheVariants.{M}
 use Rattle.qrdata.specs.Bits.{codewords_of, number_of}
 use Rattle.qrdata.specs.Versions.{total_codewords}
 use Rattle.qrmatrix.specs.Bits.{bit}

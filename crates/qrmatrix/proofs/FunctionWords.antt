@@ -10,8 +10,8 @@ use Rattle.std.proofs.lemmas.Bool.{and_parts, cases_eq, eqb-true, ltb-true, ne_e
 use Rattle.std.proofs.lemmas.Nat.Bits.{bit_at-lt, shr_and_one}
 use Rattle.std.proofs.Math.Pow.{pow_mono}
 use Rattle.gf256.specs.BinaryPolynomial.{binary_remainder}
-use Rattle.labelcore.specs.declared.options.Level.{Level}
-use Rattle.labelcore.specs.declared.options.Level.TheVariants.{L, M, Q, H}
+use Rattle.qrdata.specs.declared.level.Level.{Level}
+use Rattle.qrdata.specs.declared.level.Level.TheVariants.{L, M, Q, H}
 use Rattle.qrdata.specs.Versions.{side_of}
 use Rattle.qrmatrix.specs.Bits.{bit}
 use Rattle.qrmatrix.specs.Counting.{all_below}

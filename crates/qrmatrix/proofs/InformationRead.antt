@@ -3,9 +3,9 @@ use Rattle.std.proofs.Common.{◌≡◌, ℕ, zero, suc, ◌<◌, ◌≤◌, Lis
 use Rattle.std.specs.Prelude.{map, nat_le, reverse}
 use Rattle.std.specs.List.{range_with_len, list_all}
 use Rattle.gf256.specs.BinaryPolynomial.{binary_remainder}
-use Rattle.labelcore.specs.declared.options.Level.{Level}
+use Rattle.qrdata.specs.declared.level.Level.{Level}
 use Rattle.qrmatrix.specs.Functions.{Role, Format, Version, role}
-use Rattle.labelcore.specs.declared.options.Level.TheVariants.{L, M, Q, H}
+use Rattle.qrdata.specs.declared.level.Level.TheVariants.{L, M, Q, H}
 use Rattle.qrdata.specs.Bits.{number_of}
 use Rattle.qrdata.specs.Versions.{side_of}
 use Rattle.qrmatrix.specs.Bits.{bit}

@@ -3,8 +3,8 @@ use Rattle.std.proofs.Common.{◌≡◌, ℕ, ◌*◌, ◌+◌, ◌/◌, ◌^◌
 use Rattle.std.specs.Prelude.{bit_xor}
 use Rattle.gf256.specs.BinaryPolynomial.{binary_product, binary_remainder}
 use Rattle.gf256.proofs.ProductRemainders.{binary_quotient, binary_quotient-lt}
-use Rattle.labelcore.specs.declared.options.Level.{Level}
-use Rattle.labelcore.specs.declared.options.Level.TheVariants.{L, M, Q, H}
+use Rattle.qrdata.specs.declared.level.Level.{Level}
+use Rattle.qrdata.specs.declared.level.Level.TheVariants.{L, M, Q, H}
 use Rattle.qrmatrix.specs.Information.{level_indicator, format_word, version_word, IsCodeword, FormatWordsAreListed}
 use Rattle.qrmatrix.specs.Information.{FormatWordsAreCodewords, VersionWordsAreListed, VersionWordsAreCodewords}
 use Rattle.qrmatrix.proofs.ByVersion.{by_version}

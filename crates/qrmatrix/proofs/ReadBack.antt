@@ -4,7 +4,7 @@ use Rattle.std.proofs.Common.{[], ◌∷◌, length, Option, Some, None, eq-eqb}
 use Rattle.std.specs.Prelude.{unwrap_or, map, nat_lt, reverse, All}
 use Rattle.std.specs.List.{range_with_len, filter, list_all}
 use Rattle.std.proofs.lemmas.Bool.{and_from, and_parts, lt-ltb, le-leb}
-use Rattle.labelcore.specs.declared.options.Level.{Level}
+use Rattle.qrdata.specs.declared.level.Level.{Level}
 use Rattle.qrmatrix.specs.Functions.{Role, Function, Format, Version, Free, is_free, is_free_role, role, fixed}
 use Rattle.qrmatrix.specs.Functions.{fixed_by}
 use Rattle.qrmatrix.specs.Counting.{all_below}

@@ -2,8 +2,8 @@
 use Rattle.std.specs.Prelude.{◌≡◌, ℕ, ◌+◌, ◌*◌, ◌/◌, ◌^◌, ◌<◌, ◌≤◌, bit_xor, [], ◌∷◌, map}
 use Rattle.std.specs.List.{flat_map, range_with_len}
 use Rattle.gf256.specs.BinaryPolynomial.{binary_product, binary_remainder}
-use Rattle.labelcore.specs.declared.options.Level.{Level}
-use Rattle.labelcore.specs.declared.options.Level.TheVariants.{L, M, Q, H}
+use Rattle.qrdata.specs.declared.level.Level.{Level}
+use Rattle.qrdata.specs.declared.level.Level.TheVariants.{L, M, Q, H}
 
 -- the error correction level indicator (Table 12)
 abbrev pub level_indicator : Level → ℕ

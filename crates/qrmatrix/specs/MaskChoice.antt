@@ -1,7 +1,7 @@
 -- Which mask a symbol gets (ISO/IEC 18004, 7.8.1).
 use Rattle.std.specs.Prelude.{ℕ, List, Option, None, Some, map, nat_le}
 use Rattle.std.specs.List.{range_with_len, list_all, position_or_len}
-use Rattle.labelcore.specs.declared.options.Level.{Level}
+use Rattle.qrdata.specs.declared.level.Level.{Level}
 use Rattle.qrdata.specs.Versions.{side_of}
 use Rattle.qrmatrix.specs.Modules.{module_at}
 use Rattle.qrmatrix.specs.Penalty.{penalty}

@@ -1,6 +1,6 @@
 -- The modules of a symbol by their coordinates (ISO/IEC 18004, 7.7 to 7.10).
 use Rattle.std.specs.Prelude.{ℕ, Bool, ◌&&◌, nat_lt, List, unwrap_or}
-use Rattle.labelcore.specs.declared.options.Level.{Level}
+use Rattle.qrdata.specs.declared.level.Level.{Level}
 use Rattle.qrdata.specs.Versions.{side_of}
 use Rattle.qrmatrix.specs.Functions.{fixed}
 use Rattle.qrmatrix.specs.Masks.{is_flipped, flip_if}

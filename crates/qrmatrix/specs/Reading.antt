@@ -4,9 +4,9 @@ use Rattle.std.specs.Prelude.{List, [], ◌∷◌, ◌++◌, map, reverse, Optio
 use Rattle.std.specs.Bool.{beq}
 use Rattle.std.specs.List.{range_with_len, filter}
 use Rattle.gf256.specs.BinaryPolynomial.{binary_remainder}
-use Rattle.labelcore.specs.declared.options.Level.{Level}
-use Rattle.labelcore.specs.declared.options.Level.TheVariants.{L, M, Q, H}
-use Rattle.labelcore.specs.Steps.{◌>>=◌}
+use Rattle.qrdata.specs.declared.level.Level.{Level}
+use Rattle.qrdata.specs.declared.level.Level.TheVariants.{L, M, Q, H}
+use Rattle.qrdata.specs.Steps.{◌>>=◌}
 use Rattle.qrdata.specs.Bits.{number_of, codewords_of}
 use Rattle.qrdata.specs.Versions.{total_codewords, side_of}
 use Rattle.qrmatrix.specs.Counting.{all_below}

@@ -5,8 +5,7 @@ ghost use Rattle.qrmatrix.specs.Private.FunctionRows;
 
 use crate::information::format_word;
 use crate::square::{SIDE, Square};
-use labelcore::Level;
-use qrdata::Version;
+use qrdata::{Level, Version};
 
 /// The modules of row `y` that show a one of the format word, in either of its two copies (ISO/IEC 18004, 7.9). Outside
 /// of row 8 they are in column 8.

@@ -5,8 +5,7 @@ ghost use Rattle.qrmatrix.specs.Information;
 ghost use Rattle.qrmatrix.specs.Information.{FormatWordsAreListed, FormatWordsAreCodewords, VersionWordsAreListed};
 ghost use Rattle.qrmatrix.specs.Information.{VersionWordsAreCodewords};
 
-use labelcore::Level;
-use qrdata::Version;
+use qrdata::{Level, Version};
 
 /// The remainder of `message`, of degree below `degree + count`, by `modulus`, of that degree, as polynomials over two
 /// elements: bit i of a number is the coefficient of x^i.

@@ -14,8 +14,7 @@ ghost use Rattle.qrmatrix.specs.Private.Squares.{IsWithin};
 use crate::penalty::penalty;
 use crate::square::{SIDE, Square};
 use crate::unmasked::Unmasked;
-use labelcore::Level;
-use qrdata::{Version, Words};
+use qrdata::{Codewords, Level, Version};
 use std::marker::Model;
 
 /// The modules of a QR Code symbol.
@@ -49,7 +48,7 @@ impl Matrix {
     /// Draws the codewords of a symbol under the given mask, 0 to 7, or else under the mask of the least penalty, the
     /// first of several (ISO/IEC 18004, 7.7 to 7.10). The modules read back as the version, the level and the
     /// codewords.
-    pub fn draw(version: Version, level: Level, mask: Option<u8>, words: &Words) -> Matrix
+    pub fn draw(version: Version, level: Level, mask: Option<u8>, words: &Codewords) -> Matrix
         requires count { length words.now.items ≡ total_codewords version }
         requires mask { IfSome mask (λ k. k < 8) }
         ensures side { result.side ≡ side_of version }

@@ -13,13 +13,13 @@ ghost use Rattle.qrmatrix.specs.Private.WordPairs.{ArePairs, ShowsTwo};
 ghost use Rattle.qrmatrix.specs.Private.Drawing.{MarksFunctions};
 
 use crate::square::{SIDE, Square};
-use qrdata::{Version, Words};
+use qrdata::{Codewords, Version};
 
 /// How many numbers of two codewords there are: enough that each module of the largest symbol has a bit.
 const PAIRS: usize = 400;
 
 /// Bit `i` of the codewords, the high bit of each first, and light past their end.
-fn codeword_bit(words: &Words, i: usize) -> bool
+fn codeword_bit(words: &Codewords, i: usize) -> bool
     ensures { result ≡ Placement.codeword_bit words.now.items i }
 {
     match words.get(i / 8) {
@@ -30,7 +30,7 @@ fn codeword_bit(words: &Words, i: usize) -> bool
 
 /// Places bit `i` on the module, if it is free, and says how many bits are placed then.
 fn place_module(
-    words: &Words,
+    words: &Codewords,
     function: &Square,
     modules: &mut Square,
     x: usize,
@@ -102,7 +102,7 @@ fn place_two(two: u64, modules: &mut Square, x: usize, y: usize)
 
 /// Places the codewords on the free modules, strip after strip from the right, upwards and downwards in turn (ISO/IEC
 /// 18004, 7.7.3).
-pub fn place(version: Version, words: &Words, function: &Square, modules: &mut Square)
+pub fn place(version: Version, words: &Codewords, function: &Square, modules: &mut Square)
     requires marked { MarksFunctions version function.now }
     requires light { (x y : ℕ) → x < side_of version → y < side_of version
         → is_free version x y ≡ true → value_at modules.old x y ≡ false }

@@ -15,8 +15,7 @@ use crate::mask::apply_mask;
 use crate::penalty::penalty;
 use crate::placement::place;
 use crate::square::Square;
-use labelcore::Level;
-use qrdata::{Version, Words};
+use qrdata::{Codewords, Level, Version};
 
 /// Draws the function patterns on two blank squares: their modules, and those that are dark.
 fn draw_functions(version: Version, function: &mut Square, modules: &mut Square)
@@ -48,7 +47,7 @@ pub struct Unmasked {
 
 impl Unmasked {
     /// Draws the codewords without a mask.
-    pub fn draw(version: Version, level: Level, words: &Words) -> Unmasked
+    pub fn draw(version: Version, level: Level, words: &Codewords) -> Unmasked
         ensures version { result.version ≡ version }
         ensures level { result.level ≡ level }
         ensures placed { Places result words.now.items }

@@ -2,7 +2,7 @@
 mod bars;
 mod codewords;
 mod field;
-mod held_back;
+mod buffered_bytes;
 mod lines;
 mod pictures;
 mod segments;

@@ -2,7 +2,9 @@
 use crate::runs::support::{DEFAULT, EAN8, LEVEL_L, LOW, Named};
 use command::{Choice, End, OpenFault, WordsFault, open_file, options_of};
 use filter::{RunFault, Status, run};
-use labelcore::{Format, Level, MemSink, Options};
+use device::MemSink;
+use labelcore::{Format, Options};
+use qrdata::Level;
 use std::alloc::{AllocError, Global};
 use std::fs;
 use std::process::Abort;

@@ -1,6 +1,6 @@
 -- What the private contracts of a line's end say.
 use Rattle.std.specs.Prelude.{◌≡◌, ℕ, Bool, List, [], Option, Some, None}
-use Rattle.labelcore.specs.Device.{Begins}
+use Rattle.device.specs.Device.{Begins}
 use Rattle.labelcore.specs.OptionValues.{OptionValues}
 use Rattle.labelcore.specs.declared.fault.Fault.{Fault}
 use Rattle.filter.specs.Output.{Outcome, refused, image_of, message_of, is_refusal}

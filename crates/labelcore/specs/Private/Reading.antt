@@ -2,12 +2,12 @@
 use Rattle.std.specs.Prelude.{ℕ, ◌+◌, ◌<◌, ◌≤◌, ◌≡◌, List, length, drop, Err, if◌then◌else◌}
 use Rattle.labelcore.specs.declared.fault.Fault.TheVariants.{LineTooLong}
 use Rattle.labelcore.specs.OptionValues.{OptionValues}
-use Rattle.labelcore.specs.Lines.{Held}
+use Rattle.labelcore.specs.HeldLine.{HeldLine}
 use Rattle.labelcore.specs.LineItem.{LineItem, skip, refuse, is_skipped, item_of_request, request}
 use Rattle.labelcore.specs.Escapes.{naming, unescaped_from}
 
 -- what a line asks for, by what is held of it
-abbrev pub item_of_held : OptionValues → Held → LineItem
+abbrev pub item_of_held : OptionValues → HeldLine → LineItem
 item_of_held options line =
     if is_skipped line.bytes then skip
     else if line.is_too_long then refuse LineTooLong

@@ -4,10 +4,10 @@ use Rattle.std.specs.Prelude.{◌≡◌, ℕ, suc, ◌+◌, ◌^◌, ◌<◌, �
 use Rattle.std.specs.Prelude.{if◌then◌else◌, ◌==◌, ◌&&◌, ◌||◌, Some}
 use Rattle.std.specs.Char.{is_ascii_digit}
 use Rattle.qrdata.specs.Private.ChoiceView.{ChoiceView}
-use Rattle.qrdata.specs.declared.table.Digits.{Digits}
-use Rattle.qrdata.specs.declared.table.Characters.{Characters}
-use Rattle.qrdata.specs.declared.table.Choices.{Choices}
-use Rattle.qrdata.specs.declared.table.TheConstants.{ABSENT}
+use Rattle.qrdata.specs.declared.segmentation.Digits.{Digits}
+use Rattle.qrdata.specs.declared.segmentation.Characters.{Characters}
+use Rattle.qrdata.specs.declared.segmentation.Choices.{Choices}
+use Rattle.qrdata.specs.declared.segmentation.TheConstants.{ABSENT}
 use Rattle.qrdata.specs.declared.mode.Mode.{Mode}
 use Rattle.qrdata.specs.declared.mode.Mode.TheVariants.{Numeric, Alphanumeric, Byte}
 use Rattle.qrdata.specs.declared.mode.Segment.{Segment}

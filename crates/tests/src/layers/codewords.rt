@@ -4,8 +4,9 @@ ghost use Rattle.qrdata.specs.Versions.{capacity};
 ghost use Rattle.std.specs.Prelude.{◌≤◌};
 
 use crate::layers::support::qr_options;
-use labelcore::{Fault, Level};
-use qrdata::{Mode, Plan, Segment, Version, Words, choose, codewords};
+use labelcore::Fault;
+use qrdata::Level;
+use qrdata::{Mode, Plan, Segment, Version, Codewords, choose, codewords};
 use std::process::Abort;
 
 fn planned(rt: &impl Abort, level: Level, min_version: u8, data: &[u8]) -> Plan
@@ -30,18 +31,18 @@ fn expect_version(rt: &impl Abort, plan: &Plan, number: u8, bits: u32) {
     assert!(rt; plan.bits() == bits);
 }
 
-fn words_of(plan: &Plan, data: &[u8]) -> Words
+fn words_of(plan: &Plan, data: &[u8]) -> Codewords
     requires cut { IsSegmentation plan.now.version plan.now.segments «data».now }
     requires fits { cost plan.now.version plan.now.segments
         ≤ capacity plan.now.version plan.now.level }
 {
-    let mut words = Words::new();
+    let mut words = Codewords::new();
     words.push(7);
     codewords(plan, data, &mut words);
     words
 }
 
-fn expect_words(rt: &impl Abort, words: &Words, from: usize, expected: &[u8]) {
+fn expect_words(rt: &impl Abort, words: &Codewords, from: usize, expected: &[u8]) {
     let all = words.as_slice();
     assert!(rt; from <= all.len());
     assert!(rt; all[from..].starts_with(expected));

@@ -1,21 +1,21 @@
 //! Bytes that are held back: how many, which calls they go on at, and what a failure leaves.
 use crate::layers::support::{flushes, sends_on, takes, takes_none, takes_some};
-use labelcore::{FailAt, Held, MemSink, Sink};
+use device::{FailAt, Buffered, MemSink, Sink};
 use std::process::Abort;
 
 /// Whether the memory below has the one text, and the other is held back.
-fn stands(sink: &Held<MemSink<8>>, below: &[u8], held: &[u8]) -> bool {
+fn stands(sink: &Buffered<MemSink<8>>, below: &[u8], held: &[u8]) -> bool {
     sink.sink().bytes() == below && sink.held() == held
 }
 
 /// Whether the memory below the counted calls has the one text, and the other is held back.
-fn stands_counted(sink: &Held<FailAt<MemSink<8>>>, below: &[u8], held: &[u8]) -> bool {
+fn stands_counted(sink: &Buffered<FailAt<MemSink<8>>>, below: &[u8], held: &[u8]) -> bool {
     sink.sink().device().bytes() == below && sink.held() == held
 }
 
 #[test]
-fn bytes_are_held_back(rt: HostRuntime) {
-    let mut sink = Held::new(MemSink::<8>::new(3, 8));
+fn bytes_are_buffered_bytes(rt: HostRuntime) {
+    let mut sink = Buffered::new(MemSink::<8>::new(3, 8));
     assert!(rt; takes(&mut sink, b"abcd"));
     assert!(rt; stands(&sink, b"", b"abcd"));
     assert!(rt; sends_on(&mut sink));
@@ -36,7 +36,7 @@ fn write_letters(rt: &impl Abort, count: usize, sink: &mut impl Sink) {
 }
 
 /// Whether so many bytes went on to the memory below, and so many are held back.
-fn counts(sink: &Held<MemSink<66000>>, below: usize, held: usize) -> bool {
+fn counts(sink: &Buffered<MemSink<66000>>, below: usize, held: usize) -> bool {
     sink.sink().bytes().len() == below && sink.held().len() == held
 }
 
@@ -51,7 +51,7 @@ const ROOMS: &[(usize, usize, usize)] = &[
 #[test]
 fn a_full_room_goes_on_at_the_next_byte(rt: HostRuntime) {
     for (count, below, held) in ROOMS {
-        let mut sink = Held::new(MemSink::<66000>::new(66000, 66000));
+        let mut sink = Buffered::new(MemSink::<66000>::new(66000, 66000));
         write_letters(&rt, *count, &mut sink);
         assert!(rt; counts(&sink, *below, *held));
         assert!(rt; flushes(&mut sink));
@@ -61,7 +61,7 @@ fn a_full_room_goes_on_at_the_next_byte(rt: HostRuntime) {
 
 #[test]
 fn a_sink_of_one_byte_a_call_gets_all_bytes_in_order(rt: HostRuntime) {
-    let mut sink = Held::new(FailAt::new(MemSink::<8>::new(1, 8), 0));
+    let mut sink = Buffered::new(FailAt::new(MemSink::<8>::new(1, 8), 0));
     assert!(rt; takes(&mut sink, b"abcde"));
     assert!(rt; sink.sink().calls() == 0);
     assert!(rt; sends_on(&mut sink));
@@ -80,7 +80,7 @@ fn a_failing_call_leaves_what_did_not_go_on(rt: HostRuntime) {
         (2, b"ab".as_slice(), b"cde".as_slice()),
         (3, b"abcd".as_slice(), b"e".as_slice()),
     ] {
-        let mut sink = Held::new(FailAt::new(MemSink::<8>::new(2, 8), call));
+        let mut sink = Buffered::new(FailAt::new(MemSink::<8>::new(2, 8), call));
         assert!(rt; takes(&mut sink, b"abcde"));
         assert!(rt; !sends_on(&mut sink));
         assert!(rt; stands_counted(&sink, sent, left));
@@ -93,7 +93,7 @@ fn a_failing_call_leaves_what_did_not_go_on(rt: HostRuntime) {
 /// The fourth call is the flush below, at which nothing is held any more.
 #[test]
 fn a_flush_that_fails_below_holds_nothing(rt: HostRuntime) {
-    let mut sink = Held::new(FailAt::new(MemSink::<8>::new(2, 8), 4));
+    let mut sink = Buffered::new(FailAt::new(MemSink::<8>::new(2, 8), 4));
     assert!(rt; takes(&mut sink, b"abcde"));
     assert!(rt; !flushes(&mut sink));
     assert!(rt; stands_counted(&sink, b"abcde", b""));
@@ -103,7 +103,7 @@ fn a_flush_that_fails_below_holds_nothing(rt: HostRuntime) {
 
 #[test]
 fn a_write_into_a_full_room_fails_as_the_sink_below(rt: HostRuntime) {
-    let mut sink = Held::new(FailAt::new(MemSink::<66000>::new(66000, 66000), 1));
+    let mut sink = Buffered::new(FailAt::new(MemSink::<66000>::new(66000, 66000), 1));
     write_letters(&rt, 65_536, &mut sink);
     assert!(rt; takes_none(&mut sink, b"b"));
     assert!(rt; sink.held().len() == 65_536);
@@ -114,7 +114,7 @@ fn a_write_into_a_full_room_fails_as_the_sink_below(rt: HostRuntime) {
 
 #[test]
 fn sending_on_is_no_call(rt: HostRuntime) {
-    let mut sink = FailAt::new(Held::new(MemSink::<8>::new(8, 8)), 2);
+    let mut sink = FailAt::new(Buffered::new(MemSink::<8>::new(8, 8)), 2);
     assert!(rt; takes_some(&mut sink, b"ab", 2));
     assert!(rt; sends_on(&mut sink));
     assert!(rt; sink.calls() == 1);

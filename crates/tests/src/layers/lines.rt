@@ -1,9 +1,8 @@
 //! Worked rows, and each public call once.
 use crate::layers::support::{flushes, gives, gives_none, takes, takes_some};
-use labelcore::{
-    FailAt, Fault, Format, Item, Level, LineBuf, MemSink, MemSource, Options, Scratch, Symbology,
-    first_bad_settings, items_of_lines, lines_of_texts, parse, units_of_data, write_fault,
-};
+use device::{FailAt, MemSink, MemSource};
+use labelcore::{Fault, Format, Item, LineBuf, Options, Scratch, Symbology, first_bad_settings, items_of_lines, lines_of_texts, parse, units_of_data, write_fault};
+use qrdata::Level;
 use std::process::Abort;
 
 /// The options of the rows: one module high.

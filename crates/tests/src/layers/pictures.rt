@@ -1,7 +1,7 @@
 //! Worked texts, and each public call once.
 mod widths;
 
-use labelcore::{MemSink, write_whole};
+use device::{MemSink, write_whole};
 use picture::{
     Bars, Framed, Grid, Scaled, files_of_texts, modules_of_pixels, pixels_of_texts, write_ascii,
     write_pbm,

@@ -3,7 +3,7 @@
 ghost use Rattle.std.specs.Prelude.{length, ◌≤◌, ◌<◌};
 
 use crate::layers::support::qr_options;
-use labelcore::Level;
+use qrdata::Level;
 use qrdata::{Mode, Plan, Segment, Version, choose};
 use std::process::Abort;
 

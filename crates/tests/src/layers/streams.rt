@@ -1,6 +1,6 @@
 //! What no clause says of the devices over std: which calls reach the reader and the writer.
 use crate::layers::support::{flushes, gives, sends_on, takes, takes_some};
-use labelcore::{StdSink, StdSource};
+use device::{StdSink, StdSource};
 use std::cell::Cell;
 use std::io::{self, ErrorKind, Read, Write};
 

@@ -1,5 +1,7 @@
 //! What the tests share: options of QR symbols, and one call of a device each, with whether it answers as it should.
-use labelcore::{Format, Level, Options, Sink, Source, write_whole};
+use device::{Sink, Source, write_whole};
+use labelcore::{Format, Options};
+use qrdata::Level;
 use std::process::Abort;
 
 /// The defaults but for the level and the least version.
@@ -38,7 +40,7 @@ pub fn flushes(sink: &mut impl Sink) -> bool {
 
 /// Whether sending on succeeds; it fails if not.
 pub fn sends_on(sink: &mut impl Sink) -> bool {
-    sink.send_on().is_ok()
+    sink.pass_on().is_ok()
 }
 
 /// Whether one read gives so many bytes.

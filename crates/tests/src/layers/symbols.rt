@@ -5,8 +5,8 @@ ghost use Rattle.qrdata.specs.Versions.{side_of, total_codewords};
 mod slow;
 
 use arrayvec::ArrayVec;
-use labelcore::Level;
-use qrdata::{Version, Words};
+use qrdata::Level;
+use qrdata::{Version, Codewords};
 use qrmatrix::{Matrix, information_laws};
 
 /// The codewords of the digits 01234567 in version 1 at level M (ISO/IEC 18004, Annex I).
@@ -110,7 +110,7 @@ enum Filling {
 
 impl Filling {
     /// So many codewords.
-    fn words(self, count: usize) -> Words {
+    fn words(self, count: usize) -> Codewords {
         let mut words = ArrayVec::new();
         for i in 0..count {
             let _ = words.try_push(match self {
@@ -124,7 +124,7 @@ impl Filling {
 }
 
 /// Whether the symbol has the modules, the mask and the penalty of the slow form.
-fn agrees(version: Version, level: Level, mask: Option<u8>, words: &Words) -> bool
+fn agrees(version: Version, level: Level, mask: Option<u8>, words: &Codewords) -> bool
     requires count { length words.now.items ≡ total_codewords version }
     requires mask { IfSome mask (λ k. k < 8) }
 {

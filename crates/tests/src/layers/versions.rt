@@ -1,6 +1,6 @@
 //! How much data each version holds, beside the listing of the standard (ISO/IEC 18004, table 7).
 use crate::layers::support::qr_options;
-use labelcore::Level;
+use qrdata::Level;
 use qrdata::choose;
 use std::process::Abort;
 

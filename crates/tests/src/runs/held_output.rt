@@ -1,7 +1,7 @@
 //! Output that is held back, over writers in memory.
 use crate::runs::support::{EAN8, answer_of, answer_to, joined, low, repeated};
 use filter::{RunFault, Status};
-use labelcore::{FailAt, Held, IoFault, MemSink, MemSource, Sink, Source, StdSink};
+use device::{FailAt, Buffered, IoFault, MemSink, MemSource, Sink, Source, StdSink};
 use std::cell::RefCell;
 use std::io::{self, ErrorKind, Write};
 use std::process::Abort;
@@ -33,10 +33,10 @@ impl Write for SharedWriter<'_> {
 /// Runs over lines that are drawn, refused and drawn, with both outputs into one text.
 fn run_into_one(rt: &impl Abort, text: &RefCell<Vec<u8>>, fails: bool) -> Result<Status, RunFault> {
     let mut source = MemSource::new(b"ean8 7351353\npdf x\nean8 7351353\n", 4096, false);
-    let mut out = Held::new(StdSink::new(SharedWriter { text, fails }));
+    let mut out = Buffered::new(StdSink::new(SharedWriter { text, fails }));
     let mut err = StdSink::new(SharedWriter { text, fails: false });
     let answer = answer_of(low(rt, false), &mut source, &mut out, &mut err);
-    let _ = out.send_on();
+    let _ = out.pass_on();
     answer
 }
 
@@ -95,7 +95,7 @@ fn output_goes_out_before_each_read(rt: HostRuntime) {
         text: &text,
         seen: 0,
     };
-    let mut out = Held::new(StdSink::new(SharedWriter {
+    let mut out = Buffered::new(StdSink::new(SharedWriter {
         text: &text,
         fails: false,
     }));
@@ -108,18 +108,18 @@ fn output_goes_out_before_each_read(rt: HostRuntime) {
 /// The images sent on stand in memory, and one more is held, which goes out after them.
 fn assert_one_is_held<const N: usize>(
     rt: &impl Abort,
-    out: &mut Held<FailAt<MemSink<N>>>,
+    out: &mut Buffered<FailAt<MemSink<N>>>,
     sent: &[u8],
 ) {
     assert!(rt; out.sink().device().bytes() == sent);
     assert!(rt; out.held() == EAN8);
-    assert!(rt; out.send_on().is_ok());
+    assert!(rt; out.pass_on().is_ok());
     assert!(rt; out.sink().device().bytes().strip_prefix(sent) == Some(EAN8));
 }
 
 #[test]
 fn output_that_fails_as_it_is_sent_out_is_a_failed_write(rt: HostRuntime) {
-    let mut out = Held::new(FailAt::new(MemSink::<200>::new(200, 200), 1));
+    let mut out = Buffered::new(FailAt::new(MemSink::<200>::new(200, 200), 1));
     let mut err: MemSink<8> = MemSink::new(8, 8);
     let answer = answer_to(&rt, b"ean8 7351353\nqr 0", &mut out, &mut err);
     assert!(rt; answer == Err(RunFault::WriteOut));
@@ -138,7 +138,7 @@ fn assert_sending_fails(rt: &impl Abort, piece: usize, sent: usize, images: &[u8
     assert!(rt; piece > 0);
     let call = (sent as u64).saturating_add(1);
     let mut source = MemSource::new(IN_TURN, piece, false);
-    let mut out = Held::new(FailAt::new(MemSink::<273>::new(273, 273), call));
+    let mut out = Buffered::new(FailAt::new(MemSink::<273>::new(273, 273), call));
     let mut err: MemSink<52> = MemSink::new(52, 52);
     let answer = answer_of(low(rt, false), &mut source, &mut out, &mut err);
     assert!(rt; answer == Err(RunFault::WriteOut));

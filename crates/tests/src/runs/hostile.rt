@@ -4,7 +4,8 @@ use crate::runs::support::{
     long_lines, low, rather_long_lines, refused_lines, repeated, run_by,
 };
 use filter::{RunFault, Status};
-use labelcore::{FailAt, MemSink, MemSource, Options};
+use device::{FailAt, MemSink, MemSource};
+use labelcore::Options;
 use std::alloc::{AllocError, Global};
 use std::process::Abort;
 use std::test::Fail;

@@ -2,7 +2,8 @@
 use crate::runs::support::{
     DEFAULT, LEVEL_L, Named, assert_row, joined, letters, repeated, run_by,
 };
-use labelcore::{Format, Level};
+use labelcore::Format;
+use qrdata::Level;
 use std::alloc::{AllocError, Global};
 use std::process::Abort;
 use std::test::Fail;

@@ -2,7 +2,9 @@
 ghost use Rattle.std.specs.Prelude.{◌<◌};
 
 use filter::{Filter, RunFault, Status, run};
-use labelcore::{Format, Level, MemSource, Options, Sink, Source, StdSink};
+use device::{MemSource, Sink, Source, StdSink};
+use labelcore::{Format, Options};
+use qrdata::Level;
 use std::alloc::{AllocError, Global};
 use std::process::Abort;
 

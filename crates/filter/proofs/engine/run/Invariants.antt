@@ -1,5 +1,5 @@
 use Rattle.std.proofs.Common.{◌≡◌, ◌≤◌, List, ℕ, [], length}
-use Rattle.labelcore.specs.Device.{Unflushed}
+use Rattle.device.specs.Device.{Unflushed}
 use Rattle.filter.specs.Filter.{StandsAt, TookPiece}
 use Rattle.filter.proofs.engine.run.Given as goal
 

@@ -1,6 +1,6 @@
 use Rattle.std.proofs.Common.{◌≡◌, ◌+◌, ◌-◌, ◌*◌, ◌/◌, ◌∷◌, map, take, drop, subst, sym, arith}
 use Rattle.gf256.specs.Field.{field_power}
-use Rattle.gf256.specs.Parity.{generator}
+use Rattle.gf256.specs.ErrorCorrection.{generator}
 use Rattle.gf256.specs.declared.tables.TheConstants.{GENERATORS}
 use Rattle.gf256.proofs.GeneratorTable.{generator-logarithms, logarithms_at}
 use Rattle.gf256.proofs.generator.logarithms_of.Goals as goal

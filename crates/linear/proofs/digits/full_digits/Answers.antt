@@ -1,5 +1,5 @@
 use Rattle.std.proofs.Common.{sym, ap, ◌∙◌}
-use Rattle.labelcore.specs.declared.fault.Fault.TheVariants.{NotADigit}
+use Rattle.linear.specs.declared.refusal.Refusal.TheVariants.{NotADigit}
 use Rattle.linear.specs.Digits.{completed, unless_found}
 use Rattle.linear.proofs.digits.full_digits.Goals as goal
 

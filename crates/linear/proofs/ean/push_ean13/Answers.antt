@@ -3,7 +3,7 @@ use Rattle.std.proofs.Common.{sym, ap, ◌∙◌, arith}
 use Rattle.std.proofs.lemmas.List.{take_all}
 use Rattle.std.specs.Char.{IsAsciiDigit}
 use Rattle.linear.specs.Digits.{digit_value}
-use Rattle.linear.specs.Ean.{left_sets, symbol, ean13_bars}
+use Rattle.linear.specs.Ean.{left_sets, symbol, ean13_row}
 use Rattle.linear.proofs.PatternLaws.{length-left_sets}
 use Rattle.linear.proofs.TableForms.{sets_of_left, read_left_sets}
 use Rattle.linear.proofs.ean.push_ean13.Goals as goal
@@ -19,7 +19,7 @@ same_left left i digit e h six = ap length (read_left_sets i digit [] e h) ∙ l
 symbol_is : (full left right : List ℕ) (i : ℕ) → length full ≡ 13 → i ≡ get_or full 0 0 - 48
     → get_or full 0 0 - 48 < 10 → left ≡ take 6 (take (length full - 1) (drop 1 full))
     → right ≡ drop 6 (take (length full - 1) (drop 1 full))
-    → symbol (get_or sets_of_left i []) left right ≡ ean13_bars full
+    → symbol (get_or sets_of_left i []) left right ≡ ean13_row full
 symbol_is [] left right i long e h l r = absurd (omega arith)
 symbol_is (first ∷ rest) left right i long e h l r =
     let whole = take_all (length (first ∷ rest) - 1) rest (omega arith) in

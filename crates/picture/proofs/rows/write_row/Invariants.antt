@@ -1,5 +1,5 @@
 use Rattle.std.proofs.Common.{ℕ, flat_map, take}
-use Rattle.labelcore.proofs.WritingLemmas.{HasWritten}
+use Rattle.device.proofs.WritingLemmas.{HasWritten}
 use Rattle.picture.specs.Text.{below, piece}
 use Rattle.picture.proofs.rows.write_row.Given as goal
 

@@ -3,7 +3,7 @@ use Rattle.std.specs.List.{range_with_len}
 use Rattle.std.proofs.Math.ListN.{replicate}
 use Rattle.std.proofs.lemmas.List.{length-take-le, take_at}
 use Rattle.std.proofs.lemmas.List.FromFn.{length-map-range_with_len}
-use Rattle.labelcore.specs.Writing.{WritesText}
+use Rattle.device.specs.Writing.{WritesText}
 use Rattle.picture.specs.Text.{below, piece}
 use Rattle.picture.proofs.WritingLemmas.{piece_asked}
 use Rattle.picture.proofs.rows.write_wide_line.Goals as goal

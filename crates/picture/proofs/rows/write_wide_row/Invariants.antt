@@ -1,5 +1,5 @@
 use Rattle.std.proofs.Common.{ℕ, flat_map}
-use Rattle.labelcore.proofs.WritingLemmas.{HasWritten}
+use Rattle.device.proofs.WritingLemmas.{HasWritten}
 use Rattle.picture.specs.Text.{below, piece, pixel_row}
 use Rattle.picture.proofs.rows.write_wide_row.Given as goal
 

@@ -1,5 +1,5 @@
 use Rattle.std.proofs.Common.{◌≡◌, ◌≤◌, ◌∙◌, ℕ, List, length, arith, inl, inr, refl}
-use Rattle.labelcore.specs.declared.options.Level.{Level}
+use Rattle.qrdata.specs.declared.level.Level.{Level}
 use Rattle.std.proofs.lemmas.Bool.{cases_lt}
 use Rattle.qrdata.specs.Fewest.{chosen_segments}
 use Rattle.qrdata.specs.Segments.{cost}
@@ -12,30 +12,30 @@ use Rattle.qrdata.proofs.Tables.{NamesBest-of, capacity_as_wide, fewest_bits-bel
 use Rattle.qrdata.proofs.VersionTable.{capacity-le, capacity-rising}
 use Rattle.qrdata.proofs.plan.plan_between.Goals as goal
 
-pub overflow_mul-data_words : goal.overflow_mul-data_words
-overflow_mul-data_words c = omega (
+pub overflow_mul-data_codewords : goal.overflow_mul-data_codewords
+overflow_mul-data_codewords c = omega (
   arith,
-  (rw c.of-widest.ensures at c.data_words.ensures),
+  (rw c.of-widest.ensures at c.data_codewords.ensures),
   capacity-le c.args.level c.args.highest (omega (arith, c.requires.low, c.requires.some)) c.requires.high,
 )
 
-pub returns-then-bytes-data_words-clause-none : goal.returns-then-bytes-data_words-clause-none
-returns-then-bytes-data_words-clause-none c = λ v from to.
+pub returns-then-bytes-data_codewords-clause-none : goal.returns-then-bytes-data_codewords-clause-none
+returns-then-bytes-data_codewords-clause-none c = λ v from to.
     let segments = chosen_segments v c.args.bytes.now in
     let many = third v segments c.args.bytes.now (chosen_segments-is v c.args.bytes.now) in
     omega (
       arith,
-      c.if-bytes-data_words.true,
-      (rw c.of-widest.ensures at c.data_words.ensures),
+      c.if-bytes-data_codewords.true,
+      (rw c.of-widest.ensures at c.data_codewords.ensures),
       many,
       capacity-rising c.args.level v c.args.highest (omega (arith, c.requires.low)) to c.requires.high,
     )
 
-pub overflow_mul-data_words-in-loop-number : goal.overflow_mul-data_words-in-loop-number
-overflow_mul-data_words-in-loop-number c =
+pub overflow_mul-data_codewords-in-loop-number : goal.overflow_mul-data_codewords-in-loop-number
+overflow_mul-data_codewords-in-loop-number c =
     omega (
       arith,
-      (rw c.of-version.ensures at c.data_words-in-loop-number.ensures),
+      (rw c.of-version.ensures at c.data_codewords-in-loop-number.ensures),
       capacity-le c.args.level c.loop-number.number (omega (arith, c.loop-number.auto.number))
           (omega (arith, c.loop-number-test.true)),
     )
@@ -43,8 +43,8 @@ overflow_mul-data_words-in-loop-number c =
 pub overflow_cast-bits : goal.overflow_cast-bits
 overflow_cast-bits c = omega (
   arith,
-  (rw c.of-version.ensures at c.data_words-in-loop-number.ensures),
-  c.if-bits-data_words.true,
+  (rw c.of-version.ensures at c.data_codewords-in-loop-number.ensures),
+  c.if-bits-data_codewords.true,
   capacity-le c.args.level c.loop-number.number (omega (arith, c.loop-number.auto.number))
       (omega (arith, c.loop-number-test.true)),
 )
@@ -65,8 +65,8 @@ plan_of-requires-clause-firsts c =
     c.fill-bits.new.firsts c.requires.few
     (omega (
       arith,
-      (rw c.of-version.ensures at c.data_words-in-loop-number.ensures),
-      c.if-bits-data_words.true,
+      (rw c.of-version.ensures at c.data_codewords-in-loop-number.ensures),
+      c.if-bits-data_codewords.true,
       capacity_as_wide number c.args.highest c.args.level same (omega (arith, c.loop-number.auto.number))
           (omega (arith, c.loop-number-test.true)),
     )) (rw c.of-widest.ensures at c.fill-bits.ensures.firsts))
@@ -78,7 +78,7 @@ plan_of-requires-clause-bits c =
     rw c.of-version.ensures (fitting number c.args.highest c.args.level c.args.bytes.now c.fill-bits.result same
     (omega (arith, c.loop-number.auto.number)) (omega (arith, c.loop-number-test.true)) c.requires.few
     (rw c.of-widest.ensures at c.fill-bits.ensures.bits)
-    (omega (arith, (rw c.of-version.ensures at c.data_words-in-loop-number.ensures), c.if-bits-data_words.true)))
+    (omega (arith, (rw c.of-version.ensures at c.data_codewords-in-loop-number.ensures), c.if-bits-data_codewords.true)))
 
 pub plan_of-requires-clause-short : goal.plan_of-requires-clause-short
 plan_of-requires-clause-short c =
@@ -86,7 +86,7 @@ plan_of-requires-clause-short c =
     let bytes = c.args.bytes.now in
     let same = c.requires.same number c.loop-number.auto.number (omega (arith, c.loop-number-test.true)) in
     let fits : c.fill-bits.result ≤ capacity number c.args.level =
-    omega (arith, (rw c.of-version.ensures at c.data_words-in-loop-number.ensures), c.if-bits-data_words.true) in
+    omega (arith, (rw c.of-version.ensures at c.data_codewords-in-loop-number.ensures), c.if-bits-data_codewords.true) in
     let bits = fitting number c.args.highest c.args.level bytes c.fill-bits.result same
     (omega (arith, c.loop-number.auto.number)) (omega (arith, c.loop-number-test.true)) c.requires.few
     (rw c.of-widest.ensures at c.fill-bits.ensures.bits) fits in
@@ -94,12 +94,12 @@ plan_of-requires-clause-short c =
     (omega (arith, c.loop-number.auto.number)) (omega (arith, c.loop-number-test.true))
     (chosen_segments-is number bytes) (omega (arith, bits, fits)))
 
-pub returns-then-bits-data_words-clause-some : goal.returns-then-bits-data_words-clause-some
-returns-then-bits-data_words-clause-some c =
+pub returns-then-bits-data_codewords-clause-some : goal.returns-then-bits-data_codewords-clause-some
+returns-then-bits-data_codewords-clause-some c =
     let number = c.loop-number.number in
     let same = c.requires.same number c.loop-number.auto.number (omega (arith, c.loop-number-test.true)) in
     let fits : c.fill-bits.result ≤ capacity number c.args.level =
-    omega (arith, (rw c.of-version.ensures at c.data_words-in-loop-number.ensures), c.if-bits-data_words.true) in
+    omega (arith, (rw c.of-version.ensures at c.data_codewords-in-loop-number.ensures), c.if-bits-data_codewords.true) in
     let bits = fitting number c.args.highest c.args.level c.args.bytes.now c.fill-bits.result same
     (omega (arith, c.loop-number.auto.number)) (omega (arith, c.loop-number-test.true)) c.requires.few
     (rw c.of-widest.ensures at c.fill-bits.ensures.bits) fits in
@@ -107,6 +107,7 @@ returns-then-bits-data_words-clause-some c =
       from = c.loop-number.auto.number;
       to = omega (arith, c.loop-number-test.true);
       same_level = refl;
+      same_bytes = refl;
       same_segments = refl;
       fits = omega (arith, bits, fits);
       least = c.loop-number.invariant;
@@ -123,8 +124,8 @@ loop-number-preserved c = λ u from below. elim (cases_lt u c.loop-number.number
       omega (
         arith,
         (rw c.of-widest.ensures at c.fill-bits.ensures.bits),
-        (rw c.of-version.ensures at c.data_words-in-loop-number.ensures),
-        c.if-bits-data_words.false,
+        (rw c.of-version.ensures at c.data_codewords-in-loop-number.ensures),
+        c.if-bits-data_codewords.false,
         fewest_bits-below c.loop-number.number c.args.highest same c.args.bytes.now,
       ) in
       rw here at long

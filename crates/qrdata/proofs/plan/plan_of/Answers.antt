@@ -4,6 +4,7 @@ use Rattle.std.proofs.lemmas.List.{drop_all}
 use Rattle.qrdata.specs.declared.mode.Segment.{Segment}
 use Rattle.qrdata.specs.Fewest.{chosen_segments}
 use Rattle.qrdata.proofs.BestLaw.{chosen_segments-nil}
+use Rattle.qrdata.proofs.FewestBits.{chosen_segments-is}
 use Rattle.qrdata.proofs.Tables.{IsNamed-first}
 use Rattle.qrdata.proofs.plan.plan_of.Goals as goal
 
@@ -49,8 +50,12 @@ whole version bytes place segments e past = rw (drop_all place bytes past, chose
 
 pub invariant_of-result : goal.invariant_of-result
 invariant_of-result c =
-    rw (whole c.args.version c.args.bytes.now c.loop-place.place c.loop-place.segments.items c.loop-place.invariant.0
-    c.loop-place-test.false) c.requires.bits
+    let bytes = c.args.bytes.now in
+    rw (whole c.args.version bytes c.loop-place.place c.loop-place.segments.items c.loop-place.invariant.0
+    c.loop-place-test.false) (
+      c.requires.bits,
+      record { cut = chosen_segments-is c.args.version bytes; fits = omega (arith, c.requires.bits, c.requires.fits) },
+    )
 
 pub returns : goal.returns
 returns c =

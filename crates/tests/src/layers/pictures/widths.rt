@@ -1,5 +1,5 @@
 //! Rows at the widths where their form changes, against the slow form, which asks for each pixel.
-use labelcore::{IoFault, MemSink, Sink, write_whole};
+use device::{IoFault, MemSink, Sink, write_whole};
 use picture::{Bars, Framed, Grid, write_ascii, write_pbm};
 use std::process::Abort;
 

@@ -8,9 +8,9 @@ mod square;
 ghost use Rattle.std.specs.Prelude.{◌≡◌, ◌+◌, ◌*◌, ◌<◌, ◌≤◌, IfSome};
 ghost use Rattle.qrdata.specs.Versions.{side_of};
 
-use labelcore::Level;
+use qrdata::Level;
 use penalty::penalty;
-use qrdata::{Version, Words};
+use qrdata::{Version, Codewords};
 use square::Square;
 
 /// The modules of a symbol.
@@ -25,7 +25,7 @@ pub struct Symbol {
 
 impl Symbol {
     /// Draws the codewords under the given mask, or else under the first of the least penalty.
-    pub fn draw(version: Version, level: Level, mask: Option<u8>, words: &Words) -> Symbol
+    pub fn draw(version: Version, level: Level, mask: Option<u8>, words: &Codewords) -> Symbol
         requires { IfSome mask (λ k. k < 8) }
     {
         let mask = match mask {
@@ -59,7 +59,7 @@ impl Symbol {
 }
 
 /// The first mask of the least penalty.
-fn least_mask(version: Version, level: Level, words: &Words) -> u8
+fn least_mask(version: Version, level: Level, words: &Codewords) -> u8
     ensures { result < 8 }
 {
     let mut best = 0;
@@ -75,7 +75,7 @@ fn least_mask(version: Version, level: Level, words: &Words) -> u8
 }
 
 /// The modules of the symbol under a mask.
-fn modules_under(version: Version, level: Level, mask: u8, words: &Words) -> Square
+fn modules_under(version: Version, level: Level, mask: u8, words: &Codewords) -> Square
     requires { mask < 8 }
 {
     let n = version.side();
@@ -102,7 +102,7 @@ fn modules_under(version: Version, level: Level, mask: u8, words: &Words) -> Squ
 }
 
 /// Places the codewords on the free modules: a cursor goes along the strips and counts the free modules.
-fn place(n: usize, words: &Words, function: &Square, modules: &mut Square)
+fn place(n: usize, words: &Codewords, function: &Square, modules: &mut Square)
     requires least { 21 ≤ n }
     requires most { n ≤ 57 }
 {
@@ -126,7 +126,7 @@ fn place(n: usize, words: &Words, function: &Square, modules: &mut Square)
 }
 
 /// Bit `i` of the codewords, the high bit of each first, and light past their end.
-fn codeword_bit(words: &Words, i: usize) -> bool {
+fn codeword_bit(words: &Codewords, i: usize) -> bool {
     match words.get(i / 8) {
         Some(word) => (*word >> (7 - i % 8)) & 1 == 1,
         None => false,

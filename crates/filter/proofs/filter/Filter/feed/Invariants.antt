@@ -1,5 +1,5 @@
 use Rattle.std.proofs.Common.{◌≡◌, List, ℕ, ◌++◌, take}
-use Rattle.labelcore.specs.Device.{Unflushed}
+use Rattle.device.specs.Device.{Unflushed}
 use Rattle.labelcore.specs.OptionValues.{OptionValues}
 use Rattle.filter.specs.Filter.{StandsAt, TookPiece}
 use Rattle.filter.proofs.filter.Filter.feed.Given as goal

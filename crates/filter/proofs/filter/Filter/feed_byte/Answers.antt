@@ -1,5 +1,5 @@
 use Rattle.std.proofs.Common.{◌≡◌, ◌||◌, refl, sym, subst, length}
-use Rattle.labelcore.specs.Lines.{open_line, ended_lines}
+use Rattle.device.specs.Lines.{open_line, ended_lines}
 use Rattle.filter.specs.Filter.{FilterState, StandsAt}
 use Rattle.filter.specs.Output.{outcome, is_refusal, line_number}
 use Rattle.filter.proofs.FilterLemmas.{StandsAt-other, StandsAt-lf, line_number-counts, TookPiece-other, TookPiece-lf}

@@ -1,6 +1,6 @@
 use Rattle.std.proofs.Common.{◌≡◌, length, refl, sym, subst}
 use Rattle.std.proofs.lemmas.Bool.{false≢true}
-use Rattle.labelcore.specs.Lines.{ended_lines, open_line}
+use Rattle.device.specs.Lines.{ended_lines, open_line}
 use Rattle.filter.specs.Filter.{FilterState, StandsAt}
 use Rattle.filter.proofs.FilterLemmas.{line_number-counts, no_rest, a_rest, any_refused-no_rest, any_refused-rest}
 use Rattle.filter.proofs.FilterLemmas.{TookLines-none, TookLines-one, StopsInLine-one}

@@ -1,6 +1,6 @@
 use Rattle.std.proofs.Common.{◌/◌, take, sym, flat_map, arith}
 use Rattle.std.specs.Prelude.{slice_range}
-use Rattle.labelcore.proofs.WritingLemmas.{HasWritten-call, WritesText-begun, WritesText-last}
+use Rattle.device.proofs.WritingLemmas.{HasWritten-call, WritesText-begun, WritesText-last}
 use Rattle.picture.specs.Text.{ascii_pixel}
 use Rattle.picture.proofs.LetterLemmas.{ascii_halves}
 use Rattle.picture.proofs.ascii.AsciiPixelsPixelText.write_line.Goals as goal

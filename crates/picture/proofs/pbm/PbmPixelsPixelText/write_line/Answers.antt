@@ -1,6 +1,6 @@
 use Rattle.std.proofs.Common.{List, ℕ, ◌+◌, ap, ◌∙◌, subst, take, arith}
 use Rattle.std.proofs.Math.ListN.{set}
-use Rattle.labelcore.specs.Writing.{WritesText}
+use Rattle.device.specs.Writing.{WritesText}
 use Rattle.picture.proofs.LetterLemmas.{digits_cut}
 use Rattle.picture.proofs.pbm.PbmPixelsPixelText.write_line.Goals as goal
 

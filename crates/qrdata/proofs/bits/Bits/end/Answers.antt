@@ -2,11 +2,11 @@ use Rattle.std.proofs.Common.{◌≡◌, ◌-◌, ◌*◌, ◌%◌, ◌<◌, ◌
 use Rattle.std.proofs.Common.{false, min, Bool}
 use Rattle.std.proofs.lemmas.List.Elements.{recursion_from_All}
 use Rattle.qrdata.specs.Bits.{bits_of}
-use Rattle.qrdata.specs.Private.BitsInWords.{bits_in}
+use Rattle.qrdata.specs.Private.BitsInCodewords.{bits_in}
 use Rattle.qrdata.specs.Codewords.{aligned, terminated}
 use Rattle.qrdata.proofs.BitStrings.{length-bits_of}
 use Rattle.qrdata.proofs.Padding.{aligned_is}
-use Rattle.qrdata.proofs.Writing.{aligned-fits, bits_of-zero, length-bits_in, whole_words}
+use Rattle.qrdata.proofs.Writing.{aligned-fits, bits_of-zero, length-bits_in, whole_codewords}
 use Rattle.qrdata.proofs.bits.Bits.end.Goals as goal
 
 pub push_number-requires-2-clause-room : goal.push_number-requires-2-clause-room
@@ -40,13 +40,13 @@ returns-clause-bits c =
     (over ∙ ap (λ l. length l % 8) ended) in
     c.push_number-2.ensures ∙ (ap (λ l. l ++ bits_of ((8 - rest.count) % 8) 0) ended ∙ ap (λ z. whole ++ z) zeros)
 
-pub returns-clause-words : goal.returns-clause-words
-returns-clause-words c =
+pub returns-clause-codewords : goal.returns-clause-codewords
+returns-clause-codewords c =
     let size = aligned_is c.args.size (bits_in c.args.self.now) c.requires.fits in
-    let words = c.push_number-2.new.self.words.items in
+    let codewords = c.push_number-2.new.self.codewords.items in
     let rest = c.push_number-2.new.self.rest in
-    whole_words words rest.count rest.number size.0
-    (recursion_from_All (λ b. b < 256) words (rw c.as_slice.ensures.value at c.are_bytes.ensures)) rest.few
+    whole_codewords codewords rest.count rest.number size.0
+    (recursion_from_All (λ b. b < 256) codewords (rw c.as_slice.ensures.value at c.are_bytes.ensures)) rest.few
     (ap length (returns-clause-bits c) ∙ omega (arith, ap length size.2, length-append {A = Bool}, size.3))
 
 pub returns-clause-count : goal.returns-clause-count

@@ -11,15 +11,15 @@ use Rattle.qrdata.proofs.bits.Bits.push_number.Goals as goal
 
 pub loop-count-init : goal.loop-count-init
 loop-count-init c =
-    let words = c.args.self.now.words.items in
+    let codewords = c.args.self.now.codewords.items in
     let rest = c.args.self.now.rest in
-    let long = length-append (byte_bits words) (bits_of rest.count rest.number) in
+    let long = length-append (byte_bits codewords) (bits_of rest.count rest.number) in
     rw c.power_of_two-unit.ensures (record {
       written = rw (bits_of-joined rest.count c.args.width rest.number c.args.number)
-          (sym (append_assoc (byte_bits words) (bits_of rest.count rest.number) (bits_of c.args.width c.args.number)));
+          (sym (append_assoc (byte_bits codewords) (bits_of rest.count rest.number) (bits_of c.args.width c.args.number)));
       small = joined-lt rest.count c.args.width rest.number c.args.number rest.small;
       few = omega (arith, rest.few, c.requires.narrow);
-      room = omega (arith, long, length-byte_bits words, length-bits_of rest.count rest.number, c.requires.room);
+      room = omega (arith, long, length-byte_bits codewords, length-bits_of rest.count rest.number, c.requires.room);
     })
 
 pub power_of_two-unit-requires-in-loop-count : goal.power_of_two-unit-requires-in-loop-count
@@ -40,11 +40,11 @@ pub loop-count-preserved : goal.loop-count-preserved
 loop-count-preserved c =
     let n = c.loop-count.count - 8 in
     let value = c.loop-count.value in
-    let words = c.loop-count.self.words.items in
+    let codewords = c.loop-count.self.codewords.items in
     let count : c.loop-count.count ≡ 8 + n = omega (arith, c.loop-count-test.true) in
     let parts : bits_of c.loop-count.count value ≡ bits_of 8 (value / 2 ^ n) ++ bits_of n value =
     ap (λ k. bits_of k value) count ∙ bits_of-parts 8 n value in
-    let pushed : c.push.new.self.items ≡ words ++ value / 2 ^ n ∷ [] =
+    let pushed : c.push.new.self.items ≡ codewords ++ value / 2 ^ n ∷ [] =
     rw (← c.power_of_two-unit-in-loop-count.ensures) c.push.ensures.items in
     rw c.power_of_two-unit-in-loop-count.ensures (record {
       written = rw (pushed, byte_bits-append, byte_bits-single, append_assoc, bits_of-low)

@@ -1,6 +1,6 @@
 use Rattle.std.proofs.Common.{◌≡◌, ◌+◌, ◌-◌, ◌++◌, drop, take, length, get_or, append_assoc, append-nil, arith, ap}
 use Rattle.std.proofs.Common.{length-append}
-use Rattle.qrdata.specs.Private.BitsInWords.{bits_in}
+use Rattle.qrdata.specs.Private.BitsInCodewords.{bits_in}
 use Rattle.qrdata.specs.Segments.{segment_bits}
 use Rattle.std.proofs.lemmas.List.{drop-drop, length-drop}
 use Rattle.qrdata.proofs.Writing.{default_segment, IsSegmentation-next, length-segment_bits_front, cost-next}

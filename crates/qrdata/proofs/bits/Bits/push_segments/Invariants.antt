@@ -1,5 +1,5 @@
 use Rattle.std.proofs.Common.{◌≡◌, ◌+◌, ◌≤◌, ◌++◌, drop, length}
-use Rattle.qrdata.specs.Private.BitsInWords.{bits_in}
+use Rattle.qrdata.specs.Private.BitsInCodewords.{bits_in}
 use Rattle.qrdata.specs.Segments.{IsSegmentation, cost, segments_bits}
 use Rattle.qrdata.proofs.bits.Bits.push_segments.Given as goal
 

@@ -4,17 +4,17 @@ use Rattle.std.proofs.lemmas.List.{length-replicate}
 use Rattle.qrdata.proofs.VersionTable.{block_lengths-even, capacity-le, HasSoundBlocks-of}
 use Rattle.qrdata.proofs.version.Version.lengths.Goals as goal
 
-pub nonzero_rem-words : goal.nonzero_rem-words
-nonzero_rem-words c = omega (
+pub nonzero_rem-codewords : goal.nonzero_rem-codewords
+nonzero_rem-codewords c = omega (
   arith,
-  c.blocks-blocks.ensures,
+  c.block_count-blocks.ensures,
   (HasSoundBlocks-of c.args.self c.args.level c.known.ensures.0 c.known.ensures.1).some_blocks,
 )
 
 pub overflow_sub-blocks : goal.overflow_sub-blocks
 overflow_sub-blocks c =
-    let some : 0 < c.blocks-blocks.result = nonzero_rem-words c in
-    omega (arith, mod-lt c.data_words-words.result some)
+    let some : 0 < c.block_count-blocks.result = nonzero_rem-codewords c in
+    omega (arith, mod-lt c.data_codewords-codewords.result some)
 
 pub push_lengths-requires : goal.push_lengths-requires
 push_lengths-requires c = record {
@@ -22,38 +22,38 @@ push_lengths-requires c = record {
       omega (
         arith,
         ap length c.new-lengths.ensures,
-        c.blocks-blocks.ensures,
+        c.block_count-blocks.ensures,
         (HasSoundBlocks-of c.args.self c.args.level c.known.ensures.0 c.known.ensures.1).few_blocks,
       );
 }
 
-pub overflow_add-words : goal.overflow_add-words
-overflow_add-words c =
+pub overflow_add-codewords : goal.overflow_add-codewords
+overflow_add-codewords c =
     omega (
       arith,
-      div-le_self c.data_words-words.result c.blocks-blocks.result,
-      c.data_words-words.ensures,
+      div-le_self c.data_codewords-codewords.result c.block_count-blocks.result,
+      c.data_codewords-codewords.ensures,
       capacity-le c.args.level c.args.self c.known.ensures.0 c.known.ensures.1,
     )
 
 pub push_lengths-requires-2 : goal.push_lengths-requires-2
 push_lengths-requires-2 c =
-    let some : 0 < c.blocks-blocks.result =
+    let some : 0 < c.block_count-blocks.result =
     omega (
       arith,
-      c.blocks-blocks.ensures,
+      c.block_count-blocks.ensures,
       (HasSoundBlocks-of c.args.self c.args.level c.known.ensures.0 c.known.ensures.1).some_blocks,
     ) in
-    let short = c.blocks-blocks.result - c.data_words-words.result % c.blocks-blocks.result in
+    let short = c.block_count-blocks.result - c.data_codewords-codewords.result % c.block_count-blocks.result in
     record {
       room = omega (
         arith,
         ap length c.push_lengths.ensures,
         ap length c.new-lengths.ensures,
-        length-append c.new-lengths.result.items (replicate short (c.data_words-words.result / c.blocks-blocks.result)),
-        length-replicate short (c.data_words-words.result / c.blocks-blocks.result),
-        mod-lt c.data_words-words.result some,
-        c.blocks-blocks.ensures,
+        length-append c.new-lengths.result.items (replicate short (c.data_codewords-codewords.result / c.block_count-blocks.result)),
+        length-replicate short (c.data_codewords-codewords.result / c.block_count-blocks.result),
+        mod-lt c.data_codewords-codewords.result some,
+        c.block_count-blocks.ensures,
         (HasSoundBlocks-of c.args.self c.args.level c.known.ensures.0 c.known.ensures.1).few_blocks,
       );
     }
@@ -64,27 +64,27 @@ returns c =
       c.push_lengths-2.ensures,
       c.push_lengths.ensures,
       c.new-lengths.ensures,
-      c.blocks-blocks.ensures,
-      c.data_words-words.ensures,
+      c.block_count-blocks.ensures,
+      c.data_codewords-codewords.ensures,
     ) (block_lengths-even c.args.self c.args.level c.known.ensures.0 c.known.ensures.1)
 
-pub nonzero_div-words : goal.nonzero_div-words
-nonzero_div-words c = omega (
+pub nonzero_div-codewords : goal.nonzero_div-codewords
+nonzero_div-codewords c = omega (
   arith,
-  c.blocks-blocks.ensures,
+  c.block_count-blocks.ensures,
   (HasSoundBlocks-of c.args.self c.args.level c.known.ensures.0 c.known.ensures.1).some_blocks,
 )
 
-pub nonzero_rem-words-2 : goal.nonzero_rem-words-2
-nonzero_rem-words-2 c = omega (
+pub nonzero_rem-codewords-2 : goal.nonzero_rem-codewords-2
+nonzero_rem-codewords-2 c = omega (
   arith,
-  c.blocks-blocks.ensures,
+  c.block_count-blocks.ensures,
   (HasSoundBlocks-of c.args.self c.args.level c.known.ensures.0 c.known.ensures.1).some_blocks,
 )
 
-pub nonzero_div-words-2 : goal.nonzero_div-words-2
-nonzero_div-words-2 c = omega (
+pub nonzero_div-codewords-2 : goal.nonzero_div-codewords-2
+nonzero_div-codewords-2 c = omega (
   arith,
-  c.blocks-blocks.ensures,
+  c.block_count-blocks.ensures,
   (HasSoundBlocks-of c.args.self c.args.level c.known.ensures.0 c.known.ensures.1).some_blocks,
 )

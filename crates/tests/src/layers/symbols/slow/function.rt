@@ -2,7 +2,7 @@
 ghost use Rattle.std.specs.Prelude.{◌+◌, ◌*◌, ◌<◌, ◌≤◌, IfSome};
 ghost use Rattle.qrdata.specs.Versions.{side_of};
 
-use labelcore::Level;
+use qrdata::Level;
 use qrdata::Version;
 
 /// The format words of the masks 0 to 7 at the levels L, M, Q and H (ISO/IEC 18004, Table C.1).

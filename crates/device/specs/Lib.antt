@@ -1,0 +1,9 @@
+pub mod Buffered
+pub mod Device
+pub mod FailAt
+pub mod Lines
+pub mod Memory
+pub mod Passing
+pub mod Private
+pub mod Streams
+pub mod Writing

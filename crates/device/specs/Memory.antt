@@ -1,0 +1,28 @@
+-- What the clauses of the devices in memory see of them (docs/SPECIFICATION.md, The filter as a library).
+use Rattle.std.specs.Prelude.{ℕ, Bool, List}
+use Rattle.device.specs.declared.memory.MemSource.{MemSource}
+use Rattle.device.specs.declared.memory.MemSink.{MemSink}
+
+-- the bytes that a source has left
+abbrev pub left_in : MemSource → List ℕ
+left_in source = source.rest.now
+
+-- whether its reads fail after them
+abbrev pub fails_after : MemSource → Bool
+fails_after source = source.fails
+
+-- the most bytes that a read gives
+abbrev pub read_limit : MemSource → ℕ
+read_limit source = source.piece
+
+-- the bytes that a sink holds
+abbrev pub held_by : {N : ℕ} → MemSink N → List ℕ
+held_by sink = sink.held.items
+
+-- the most bytes that a write takes
+abbrev pub write_limit : {N : ℕ} → MemSink N → ℕ
+write_limit sink = sink.piece
+
+-- the most bytes that a sink holds
+abbrev pub room_of : {N : ℕ} → MemSink N → ℕ
+room_of sink = sink.limit

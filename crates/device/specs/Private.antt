@@ -1,0 +1,3 @@
+-- Lemmas that the laws of devices cite: nothing here has to be believed.
+pub mod Joined
+pub mod Passed

@@ -1,0 +1,178 @@
+//! A sink that buffers bytes.
+ghost use Rattle.std.specs.Prelude.{◌≡◌, ◌+◌, ◌<◌, ◌≤◌, ◌++◌, ℕ, List, [], true, false, length, take, IfOk, OnOk, MatchResult};
+ghost use borrow.Rule.Slice.PartMut.{put_mid};
+ghost use Rattle.device.specs.Device.{CountsFailure};
+ghost use Rattle.device.specs.Passing.{PassesOn};
+ghost use Rattle.device.specs.Private.Passed.{PassesOn_none, PassesOn_joined};
+
+use crate::{IoFault, Sink};
+
+/// The most bytes that are buffered.
+const ROOM: usize = 65536;
+
+/// Buffers bytes before another sink, which then takes them in large pieces: when there is no room for more, when
+/// they are passed on, and at a flush.
+#[derive(Drop)]
+pub struct Buffered<S: Sink> {
+    sink: S,
+    // What is buffered stands here from `start` to `end`. It begins further on where a call failed in the middle of it. A
+    // vector would write over all of it when it is cleared.
+    bytes: [u8; ROOM],
+    start: usize,
+    end: usize,
+    is_flushed: bool,
+    ghost ordered: { start ≤ end },
+    ghost within: { end ≤ 65536 },
+    ghost emptied: { is_flushed ≡ true → start ≡ end },
+    ghost below: { is_flushed ≡ true → S.is_flushed sink ≡ true },
+}
+
+impl<S: Sink> Buffered<S> {
+    ghost use Rattle.device.specs.Buffered.{sink_of, buffered_bytes};
+
+    /// Buffers nothing, and is not flushed.
+    pub fn new(sink: S) -> Self
+        ensures sink { sink_of result ≡ sink }
+        ensures buffered { buffered_bytes result ≡ [] }
+        ensures flushed { ⟦<Buffered<S> as Sink>⟧.is_flushed result ≡ false }
+    {
+        Buffered {
+            sink,
+            bytes: [0; ROOM],
+            start: 0,
+            end: 0,
+            is_flushed: false,
+        }
+    }
+
+    /// The sink below.
+    pub fn sink(&self) -> &S
+        ensures { result.now ≡ sink_of self.now }
+    {
+        &self.sink
+    }
+
+    /// The bytes that are buffered.
+    pub fn buffered(&self) -> &[u8]
+        ensures { result.now ≡ buffered_bytes self.now }
+    {
+        let all = &self.bytes[..];
+        &all[self.start..self.end]
+    }
+
+    /// A flushed sink buffers nothing, and the sink below it is flushed. So that one took all that this one took, and
+    /// what was buffered before.
+    pub fn reaches(&self)
+        ensures buffered { ⟦<Buffered<S> as Sink>⟧.is_flushed self.now ≡ true → buffered_bytes self.now ≡ [] }
+        ensures below { ⟦<Buffered<S> as Sink>⟧.is_flushed self.now ≡ true
+            → S.is_flushed (sink_of self.now) ≡ true }
+        ensures bytes { ⟦<Buffered<S> as Sink>⟧.is_flushed self.now ≡ true → (old : S) (old_buffered text : List ℕ)
+            → PassesOn S.took old (sink_of self.now) old_buffered (buffered_bytes self.now) text
+            → S.took old (sink_of self.now) (old_buffered ++ text) }
+    {
+    }
+
+    /// Passes on what is buffered.
+    fn drain(&mut self) -> Result<(), IoFault>
+        ensures bytes { PassesOn S.took (sink_of self.old) (sink_of self.new)
+            (buffered_bytes self.old) (buffered_bytes self.new) [] }
+        ensures count { CountsFailure (S.failures (sink_of self.old))
+            (S.failures (sink_of self.new)) result }
+        ensures flushed { ⟦<Buffered<S> as Sink>⟧.is_flushed self.new ≡ ⟦<Buffered<S> as Sink>⟧.is_flushed self.old }
+        ensures buffered { OnOk result (self.new.end ≡ 0) }
+    {
+        while self.start < self.end {
+            let all = &self.bytes[..];
+            let count = self.sink.write(&all[self.start..self.end])?;
+            self.start += count;
+        }
+        self.start = 0;
+        self.end = 0;
+        Ok(())
+    }
+
+    /// Passes on what is buffered, if there is no room for more.
+    fn make_room(&mut self) -> Result<(), IoFault>
+        ensures bytes { PassesOn S.took (sink_of self.old) (sink_of self.new)
+            (buffered_bytes self.old) (buffered_bytes self.new) [] }
+        ensures count { CountsFailure (S.failures (sink_of self.old))
+            (S.failures (sink_of self.new)) result }
+        ensures flushed { ⟦<Buffered<S> as Sink>⟧.is_flushed self.new ≡ ⟦<Buffered<S> as Sink>⟧.is_flushed self.old }
+        ensures room { OnOk result (self.new.end < 65536) }
+    {
+        if self.end < ROOM {
+            return Ok(());
+        }
+        self.drain()
+    }
+
+    /// Buffers bytes for which there is room.
+    fn buffer(&mut self, bytes: &[u8])
+        requires { self.old.end + length bytes.now ≤ 65536 }
+        ensures sink { sink_of self.new ≡ sink_of self.old }
+        ensures buffered { buffered_bytes self.new ≡ buffered_bytes self.old ++ bytes.now }
+        ensures flushed { ⟦<Buffered<S> as Sink>⟧.is_flushed self.new ≡ false }
+    {
+        put(&mut self.bytes[..], self.end, bytes);
+        self.end += bytes.len();
+        self.is_flushed = false;
+    }
+}
+
+impl<S: Sink> Sink for Buffered<S> {
+    ghost use Rattle.device.specs.Buffered.{sink_of, buffered_bytes};
+
+    ghost failures = { λ s. S.failures s.sink };
+
+    ghost is_flushed = { λ s. s.is_flushed };
+
+    ghost took = { λ s t xs. PassesOn S.took s.sink t.sink (buffered_bytes s) (buffered_bytes t) xs };
+
+    fn write(&mut self, bytes: &[u8]) -> Result<usize, IoFault> {
+        self.make_room()?;
+        let count = bytes.len().min(ROOM - self.end);
+        self.buffer(&bytes[..count]);
+        Ok(count)
+    }
+
+    fn flush(&mut self) -> Result<(), IoFault>
+        ensures bytes { PassesOn S.took (sink_of self.old) (sink_of self.new)
+            (buffered_bytes self.old) (buffered_bytes self.new) [] }
+        ensures count { CountsFailure (S.failures (sink_of self.old))
+            (S.failures (sink_of self.new)) result }
+        ensures flushed { MatchResult result (λ _. ⟦<Buffered<S> as Sink>⟧.is_flushed self.new ≡ true)
+            (λ _. ⟦<Buffered<S> as Sink>⟧.is_flushed self.new ≡ ⟦<Buffered<S> as Sink>⟧.is_flushed self.old) }
+        ensures buffered { OnOk result (buffered_bytes self.new ≡ []) }
+        ensures below { OnOk result (S.is_flushed (sink_of self.new) ≡ true) }
+    {
+        self.drain()?;
+        self.sink.flush()?;
+        self.is_flushed = true;
+        Ok(())
+    }
+
+    fn pass_on(&mut self) -> Result<(), IoFault>
+        ensures bytes { PassesOn S.took (sink_of self.old) (sink_of self.new)
+            (buffered_bytes self.old) (buffered_bytes self.new) [] }
+        ensures count { CountsFailure (S.failures (sink_of self.old))
+            (S.failures (sink_of self.new)) result }
+        ensures flushed { ⟦<Buffered<S> as Sink>⟧.is_flushed self.new ≡ ⟦<Buffered<S> as Sink>⟧.is_flushed self.old }
+        ensures buffered { OnOk result (buffered_bytes self.new ≡ []) }
+    {
+        self.drain()
+    }
+
+    ghost took_none = { λ s. PassesOn_none S.took s.sink (buffered_bytes s) (S.took_none s.sink) };
+
+    ghost took_joined = { λ s t u xs ys. PassesOn_joined S.took s.sink t.sink u.sink
+        (buffered_bytes s) (buffered_bytes t) (buffered_bytes u) xs ys
+        (S.took_joined s.sink t.sink u.sink) };
+}
+
+/// Puts bytes at a place.
+fn put(room: &mut [u8], at: usize, bytes: &[u8])
+    requires { at + length bytes.now ≤ length room.old }
+    ensures { room.new ≡ put_mid at (length bytes.now) room.old bytes.now }
+{
+    room[at..at + bytes.len()].copy_from_slice(bytes);
+}

@@ -1,0 +1,177 @@
+//! A device that fails at one call.
+ghost use Rattle.std.specs.Prelude.{◌≡◌, ◌+◌, ◌-◌, ◌^◌, ◌<◌, ◌≤◌, ◌==◌, ◌↔◌, [], true, false, length, take, min, IfOk};
+ghost use Rattle.std.specs.Prelude.{IsTrue, MatchResult};
+ghost use Rattle.device.specs.Device.{CountsFailure, total_failures};
+ghost use Rattle.device.specs.FailAt.{device_of, calls_of, failing_call, own_failures, FailsNext, CountsCall};
+ghost use Rattle.device.specs.FailAt.{FailsAlone};
+
+use crate::{IoFault, Sink, Source};
+
+/// Fails at the call of this number, which does not reach the device. Every other call does. Calls are counted from 1,
+/// so that with 0 none fails.
+#[derive(Drop)]
+pub struct FailAt<D> {
+    device: D,
+    failing: u64,
+    calls: u64,
+    failures: u64,
+}
+
+impl<D> FailAt<D> {
+    /// No call so far.
+    pub fn new(device: D, failing: u64) -> Self
+        ensures device { device_of result ≡ device }
+        ensures calls { calls_of result ≡ 0 }
+        ensures failing { failing_call result ≡ failing }
+        ensures failures { own_failures result ≡ 0 }
+    {
+        FailAt {
+            device,
+            failing,
+            calls: 0,
+            failures: 0,
+        }
+    }
+
+    /// The device below.
+    pub fn device(&self) -> &D
+        ensures { result.now ≡ device_of self.now }
+    {
+        &self.device
+    }
+
+    /// The calls so far.
+    pub fn calls(&self) -> u64
+        ensures { result ≡ calls_of self.now }
+    {
+        self.calls
+    }
+
+    /// Counts a call, and says whether it is the one that fails.
+    fn fails_now(&mut self) -> bool
+        ensures others { self.new ≡ record self.old { calls = self.new.calls } }
+        ensures counts { CountsCall self.old self.new }
+        ensures fails { IsTrue result ↔ FailsNext self.old }
+    {
+        if self.calls == u64::MAX {
+            return false;
+        }
+        self.calls += 1;
+        self.calls == self.failing
+    }
+
+    /// Counts a failure of its own.
+    fn count_failure(&mut self)
+        ensures { self.new
+            ≡ record self.old { failures = min (self.old.failures + 1) (2 ^ 64 - 1) } }
+    {
+        self.failures = self.failures.saturating_add(1);
+    }
+}
+
+impl<D: Source> Source for FailAt<D> {
+    ghost failures = { λ s. total_failures s.failures (D.failures s.device) };
+
+    ghost at_end = { λ s. D.at_end s.device };
+
+    ghost gave = { λ s t xs. D.gave s.device t.device xs };
+
+    ghost ends = { λ s. D.ends s.device };
+
+    fn read(&mut self, buf: &mut [u8]) -> Result<usize, IoFault>
+        requires { 0 < length buf.old }
+        ensures bound { IfOk result (λ n. n ≤ length buf.new) }
+        ensures bytes { MatchResult result
+            (λ n. D.gave (device_of self.old) (device_of self.new) (take n buf.new))
+            (λ _. D.gave (device_of self.old) (device_of self.new) []) }
+        ensures count { CountsFailure (⟦<FailAt<D> as Source>⟧.failures self.old)
+            (⟦<FailAt<D> as Source>⟧.failures self.new) result }
+        ensures end { MatchResult result (λ n. D.at_end (device_of self.new) ≡ (n == 0))
+            (λ _. D.at_end (device_of self.new) ≡ D.at_end (device_of self.old)) }
+        ensures nothing_left { IfOk result (λ n. n ≡ 0 → D.ends (device_of self.new)) }
+        ensures call { CountsCall self.old self.new }
+        ensures fails { FailsNext self.old → FailsAlone self.old self.new result }
+        ensures own { ¬ FailsNext self.old → own_failures self.new ≡ own_failures self.old }
+        ensures below { ¬ FailsNext self.old → CountsFailure (D.failures (device_of self.old))
+            (D.failures (device_of self.new)) result }
+    {
+        if self.fails_now() {
+            self.count_failure();
+            return Err(IoFault);
+        }
+        self.device.read(buf)
+    }
+
+    ghost gave_none = { λ s. D.gave_none s.device };
+
+    ghost gave_joined = { λ s t u xs ys. D.gave_joined s.device t.device u.device xs ys };
+}
+
+impl<D: Sink> Sink for FailAt<D> {
+    ghost failures = { λ s. total_failures s.failures (D.failures s.device) };
+
+    ghost is_flushed = { λ s. D.is_flushed s.device };
+
+    ghost took = { λ s t xs. D.took s.device t.device xs };
+
+    fn write(&mut self, bytes: &[u8]) -> Result<usize, IoFault>
+        requires { 0 < length bytes.now }
+        ensures some { IfOk result (λ n. 0 < n) }
+        ensures bound { IfOk result (λ n. n ≤ length bytes.now) }
+        ensures bytes { MatchResult result
+            (λ n. D.took (device_of self.old) (device_of self.new) (take n bytes.now))
+            (λ _. D.took (device_of self.old) (device_of self.new) []) }
+        ensures count { CountsFailure (⟦<FailAt<D> as Sink>⟧.failures self.old)
+            (⟦<FailAt<D> as Sink>⟧.failures self.new) result }
+        ensures flushed { MatchResult result (λ _. D.is_flushed (device_of self.new) ≡ false)
+            (λ _. D.is_flushed (device_of self.new) ≡ D.is_flushed (device_of self.old)) }
+        ensures call { CountsCall self.old self.new }
+        ensures fails { FailsNext self.old → FailsAlone self.old self.new result }
+        ensures own { ¬ FailsNext self.old → own_failures self.new ≡ own_failures self.old }
+        ensures below { ¬ FailsNext self.old → CountsFailure (D.failures (device_of self.old))
+            (D.failures (device_of self.new)) result }
+    {
+        if self.fails_now() {
+            self.count_failure();
+            return Err(IoFault);
+        }
+        self.device.write(bytes)
+    }
+
+    fn flush(&mut self) -> Result<(), IoFault>
+        ensures bytes { D.took (device_of self.old) (device_of self.new) [] }
+        ensures count { CountsFailure (⟦<FailAt<D> as Sink>⟧.failures self.old)
+            (⟦<FailAt<D> as Sink>⟧.failures self.new) result }
+        ensures flushed { MatchResult result (λ _. D.is_flushed (device_of self.new) ≡ true)
+            (λ _. D.is_flushed (device_of self.new) ≡ D.is_flushed (device_of self.old)) }
+        ensures call { CountsCall self.old self.new }
+        ensures fails { FailsNext self.old → FailsAlone self.old self.new result }
+        ensures own { ¬ FailsNext self.old → own_failures self.new ≡ own_failures self.old }
+        ensures below { ¬ FailsNext self.old → CountsFailure (D.failures (device_of self.old))
+            (D.failures (device_of self.new)) result }
+    {
+        if self.fails_now() {
+            self.count_failure();
+            return Err(IoFault);
+        }
+        self.device.flush()
+    }
+
+    /// Is not counted as a call, and reaches the device.
+    fn pass_on(&mut self) -> Result<(), IoFault>
+        ensures bytes { D.took (device_of self.old) (device_of self.new) [] }
+        ensures count { CountsFailure (⟦<FailAt<D> as Sink>⟧.failures self.old)
+            (⟦<FailAt<D> as Sink>⟧.failures self.new) result }
+        ensures flushed { D.is_flushed (device_of self.new)
+            ≡ D.is_flushed (device_of self.old) }
+        ensures others { self.new ≡ record self.old { device = self.new.device } }
+        ensures below { CountsFailure (D.failures (device_of self.old))
+            (D.failures (device_of self.new)) result }
+    {
+        self.device.pass_on()
+    }
+
+    ghost took_none = { λ s. D.took_none s.device };
+
+    ghost took_joined = { λ s t u xs ys. D.took_joined s.device t.device u.device xs ys };
+}

@@ -1,0 +1,196 @@
+//! Devices in memory.
+ghost use Rattle.std.specs.Prelude.{◌≡◌, ◌+◌, ◌-◌, ◌<◌, ◌≤◌, ◌==◌, ◌↔◌, ◌++◌, [], true, false, length, take, drop, min};
+ghost use Rattle.std.specs.Prelude.{IfOk, IsOk, IsErr, IsTrue, MatchResult, refl};
+ghost use Rattle.std.proofs.lemmas.List.{append-nil};
+ghost use Rattle.std.proofs.Common.{sym};
+ghost use Rattle.device.specs.Device.{CountsFailure};
+ghost use Rattle.device.specs.Private.Joined.{cut_joined, grown_joined};
+
+use crate::{IoFault, Sink, Source};
+use arrayvec::ArrayVec;
+
+/// Gives its bytes, at most `piece` a read. After them each read gives nothing, or fails.
+#[derive(Drop)]
+pub struct MemSource<'a> {
+    rest: &'a [u8],
+    piece: usize,
+    fails: bool,
+    failures: u64,
+    at_end: bool,
+    ghost positive: { 0 < piece },
+    ghost ended: { at_end ≡ true → rest.now ≡ [] },
+}
+
+impl<'a> MemSource<'a> {
+    ghost use Rattle.device.specs.Memory.{left_in, fails_after, read_limit};
+
+    /// No failure, and not at the end.
+    pub fn new(bytes: &'a [u8], piece: usize, fails: bool) -> Self
+        requires { 0 < piece }
+        ensures bytes { left_in result ≡ bytes.now }
+        ensures piece { read_limit result ≡ piece }
+        ensures fails { fails_after result ≡ fails }
+        ensures failures { ⟦<MemSource<'a> as Source>⟧.failures result ≡ 0 }
+        ensures end { ⟦<MemSource<'a> as Source>⟧.at_end result ≡ false }
+    {
+        MemSource {
+            rest: bytes,
+            piece,
+            fails,
+            failures: 0,
+            at_end: false,
+        }
+    }
+}
+
+impl<'a> Source for MemSource<'a> {
+    ghost failures = { λ s. s.failures };
+
+    ghost at_end = { λ s. s.at_end };
+
+    ghost gave = { λ s t xs. s.rest.now ≡ xs ++ t.rest.now };
+
+    ghost ends = { λ s. s.rest.now ≡ [] };
+
+    ghost use Rattle.device.specs.Memory.{left_in, fails_after, read_limit};
+
+    fn read(&mut self, buf: &mut [u8]) -> Result<usize, IoFault>
+        requires { 0 < length buf.old }
+        ensures bound { IfOk result (λ n. n ≤ length buf.new) }
+        ensures bytes { MatchResult result (λ n. left_in self.old
+            ≡ take n buf.new ++ left_in self.new)
+            (λ _. left_in self.old ≡ [] ++ left_in self.new) }
+        ensures count { CountsFailure (⟦<MemSource<'a> as Source>⟧.failures self.old)
+            (⟦<MemSource<'a> as Source>⟧.failures self.new) result }
+        ensures end { MatchResult result (λ n. ⟦<MemSource<'a> as Source>⟧.at_end self.new ≡ (n == 0))
+            (λ _. ⟦<MemSource<'a> as Source>⟧.at_end self.new ≡ ⟦<MemSource<'a> as Source>⟧.at_end self.old) }
+        ensures nothing_left { IfOk result (λ n. n ≡ 0 → left_in self.new ≡ []) }
+        ensures amount { IfOk result (λ n.
+            n ≡ min (min (read_limit self.old) (length buf.old)) (length (left_in self.old))) }
+        ensures fails { IsErr result ↔ ((left_in self.old ≡ []) × (fails_after self.old ≡ true)) }
+        ensures limit { read_limit self.new ≡ read_limit self.old }
+        ensures mode { fails_after self.new ≡ fails_after self.old }
+    {
+        if self.rest.is_empty() && self.fails {
+            self.failures = self.failures.saturating_add(1);
+            return Err(IoFault);
+        }
+        let count = self.piece.min(buf.len()).min(self.rest.len());
+        let all = self.rest;
+        buf[..count].copy_from_slice(&all[..count]);
+        self.rest = &all[count..];
+        self.at_end = count == 0;
+        Ok(count)
+    }
+
+    ghost gave_none = { λ s. refl };
+
+    ghost gave_joined = { λ s t u xs ys. cut_joined s.rest.now t.rest.now u.rest.now xs ys };
+}
+
+/// Holds what it takes: at most `piece` bytes a write, and `limit` in all.
+#[derive(Drop)]
+pub struct MemSink<const N: usize> {
+    held: ArrayVec<u8, N>,
+    piece: usize,
+    limit: usize,
+    failures: u64,
+    is_flushed: bool,
+    ghost positive: { 0 < piece },
+    ghost in_range: { limit ≤ N },
+}
+
+impl<const N: usize> MemSink<N> {
+    ghost use Rattle.device.specs.Memory.{held_by, write_limit, room_of};
+
+    /// No bytes, no failure, and not flushed.
+    pub fn new(piece: usize, limit: usize) -> Self
+        requires piece_positive { 0 < piece }
+        requires limit_in_range { limit ≤ N }
+        ensures bytes { held_by result ≡ [] }
+        ensures piece { write_limit result ≡ piece }
+        ensures limit { room_of result ≡ limit }
+        ensures failures { ⟦<MemSink<N> as Sink>⟧.failures result ≡ 0 }
+        ensures flushed { ⟦<MemSink<N> as Sink>⟧.is_flushed result ≡ false }
+    {
+        MemSink {
+            held: ArrayVec::new(),
+            piece,
+            limit,
+            failures: 0,
+            is_flushed: false,
+        }
+    }
+
+    /// The bytes that it took.
+    pub fn bytes(&self) -> &[u8]
+        ensures { result.now ≡ held_by self.now }
+    {
+        self.held.as_slice()
+    }
+
+    /// How often a write failed.
+    pub fn failures(&self) -> u64
+        ensures { result ≡ ⟦<MemSink<N> as Sink>⟧.failures self.now }
+    {
+        self.failures
+    }
+}
+
+impl<const N: usize> Sink for MemSink<N> {
+    ghost failures = { λ s. s.failures };
+
+    ghost is_flushed = { λ s. s.is_flushed };
+
+    ghost took = { λ s t xs. t.held.items ≡ s.held.items ++ xs };
+
+    ghost use Rattle.device.specs.Memory.{held_by, write_limit, room_of};
+
+    fn write(&mut self, bytes: &[u8]) -> Result<usize, IoFault>
+        requires { 0 < length bytes.now }
+        ensures some { IfOk result (λ n. 0 < n) }
+        ensures bound { IfOk result (λ n. n ≤ length bytes.now) }
+        ensures bytes { MatchResult result (λ n. held_by self.new
+            ≡ held_by self.old ++ take n bytes.now)
+            (λ _. held_by self.new ≡ held_by self.old ++ []) }
+        ensures count { CountsFailure (⟦<MemSink<N> as Sink>⟧.failures self.old)
+            (⟦<MemSink<N> as Sink>⟧.failures self.new) result }
+        ensures flushed { MatchResult result (λ _. ⟦<MemSink<N> as Sink>⟧.is_flushed self.new ≡ false)
+            (λ _. ⟦<MemSink<N> as Sink>⟧.is_flushed self.new ≡ ⟦<MemSink<N> as Sink>⟧.is_flushed self.old) }
+        ensures amount { IfOk result (λ n.
+            n ≡ min (min (write_limit self.old) (room_of self.old - length (held_by self.old)))
+            (length bytes.now)) }
+        ensures fails { IsErr result ↔ (room_of self.old ≤ length (held_by self.old)) }
+        ensures limit { write_limit self.new ≡ write_limit self.old }
+        ensures room { room_of self.new ≡ room_of self.old }
+    {
+        if self.held.len() >= self.limit {
+            self.failures = self.failures.saturating_add(1);
+            return Err(IoFault);
+        }
+        let free = self.limit - self.held.len();
+        let count = self.piece.min(free).min(bytes.len());
+        let _ = self.held.try_extend_from_slice(&bytes[..count]);
+        self.is_flushed = false;
+        Ok(count)
+    }
+
+    fn flush(&mut self) -> Result<(), IoFault>
+        ensures bytes { held_by self.new ≡ held_by self.old ++ [] }
+        ensures count { CountsFailure (⟦<MemSink<N> as Sink>⟧.failures self.old)
+            (⟦<MemSink<N> as Sink>⟧.failures self.new) result }
+        ensures flushed { MatchResult result (λ _. ⟦<MemSink<N> as Sink>⟧.is_flushed self.new ≡ true)
+            (λ _. ⟦<MemSink<N> as Sink>⟧.is_flushed self.new ≡ ⟦<MemSink<N> as Sink>⟧.is_flushed self.old) }
+        ensures answer { IsOk result }
+        ensures limit { write_limit self.new ≡ write_limit self.old }
+        ensures room { room_of self.new ≡ room_of self.old }
+    {
+        self.is_flushed = true;
+        Ok(())
+    }
+
+    ghost took_none = { λ s. sym (append-nil s.held.items) };
+
+    ghost took_joined = { λ s t u xs ys.
+        grown_joined s.held.items t.held.items u.held.items xs ys };
+}

@@ -1,0 +1,38 @@
+//! What gives bytes.
+ghost use Rattle.std.specs.Prelude.{◌≡◌, ℕ, ◌<◌, ◌≤◌, ◌==◌, Bool, List, [], ◌++◌, length, take, IfOk, MatchResult};
+ghost use Rattle.device.specs.Device.{CountsFailure};
+
+use crate::IoFault;
+
+/// A device that gives bytes, up to its end.
+pub trait Source {
+    /// How often a read failed. The count stops at the greatest `u64`.
+    ghost failures: { Self → ℕ };
+
+    /// The last read that succeeded gave nothing.
+    ghost at_end: { Self → Bool };
+
+    /// From the first state to the second, reads gave these bytes.
+    ghost gave: { Self → Self → List ℕ → Type 0 };
+
+    /// Nothing is left to give, as far as is known of this source.
+    ghost ends: { Self → Type 0 };
+
+    /// Puts some bytes at the front of `buf`, and says how many; 0 is the end. After an `Err` no byte was given.
+    fn read(&mut self, buf: &mut [u8]) -> Result<usize, IoFault>
+        requires { 0 < length buf.old }
+        ensures bound { IfOk result (λ n. n ≤ length buf.new) }
+        ensures bytes { MatchResult result (λ n. gave self.old self.new (take n buf.new))
+            (λ _. gave self.old self.new []) }
+        ensures count { CountsFailure (failures self.old) (failures self.new) result }
+        ensures end { MatchResult result (λ n. at_end self.new ≡ (n == 0))
+            (λ _. at_end self.new ≡ at_end self.old) }
+        ensures nothing_left { IfOk result (λ n. n ≡ 0 → ends self.new) };
+
+    /// With no read, nothing is given.
+    ghost gave_none: { (device : Self) → gave device device [] };
+
+    /// What reads one after another gave is joined.
+    ghost gave_joined: { (first second third : Self) (xs ys : List ℕ) → gave first second xs
+        → gave second third ys → gave first third (xs ++ ys) };
+}

@@ -1,9 +1,0 @@
--- Bytes that go to a sink through others that are held back (docs/SPECIFICATION.md, The filter as a library).
-use Rattle.std.specs.Prelude.{◌≡◌, ℕ, List, ◌++◌}
-
--- the sink took a front of what was held and what was added, and what is held now is the rest
-pub record PassesOn {S : Type 0} (took : S → S → List ℕ → Type 0) (old new : S)
-    (old_held new_held added : List ℕ) : Type 0 where
-  pub sent : List ℕ
-  pub taken : took old new sent
-  pub cut : old_held ++ added ≡ sent ++ new_held

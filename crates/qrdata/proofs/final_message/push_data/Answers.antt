@@ -1,0 +1,66 @@
+use Rattle.std.proofs.Common.{◌≡◌, ◌*◌, ◌/◌, length, arith, ap, refl, ◌∙◌}
+use Rattle.qrdata.specs.Bits.{codewords_of}
+use Rattle.qrdata.specs.Private.BitsInCodewords.{bits_in}
+use Rattle.qrdata.specs.Codewords.{aligned, terminated, filled, padded, data_of}
+use Rattle.qrdata.specs.Segments.{segments_bits}
+use Rattle.qrdata.specs.Versions.{data_codewords}
+use Rattle.qrdata.proofs.VersionTable.{capacity-le}
+use Rattle.qrdata.proofs.Lengths.{length-segments_bits}
+use Rattle.qrdata.proofs.Padding.{length-codewords_of}
+use Rattle.qrdata.proofs.final_message.push_data.Goals as goal
+
+pub push_segments-requires-clause-room : goal.push_segments-requires-clause-room
+push_segments-requires-clause-room c =
+    omega (
+      arith,
+      ap length c.requires.empty,
+      c.requires.fits,
+      capacity-le c.args.level c.args.version c.known.ensures.0 c.known.ensures.1,
+    )
+
+pub end-requires : goal.end-requires
+end-requires c =
+    let bits = segments_bits c.args.version c.args.segments.now c.args.bytes.now in
+    let whole : bits_in c.push_segments.new.self ≡ bits = rw (c.push_segments.ensures, c.requires.empty) refl in
+    record {
+      fits = omega (
+        arith,
+        ap length whole,
+        c.requires.fits,
+        c.data_codewords-size.ensures,
+        length-segments_bits c.args.version c.args.segments.now c.args.bytes.now c.requires.cut,
+      );
+      size = omega (
+        arith,
+        c.data_codewords-size.ensures,
+        capacity-le c.args.level c.args.version c.known.ensures.0 c.known.ensures.1,
+      );
+    }
+
+pub returns : goal.returns
+unfolding data_of padded filled
+returns c =
+    let bits = segments_bits c.args.version c.args.segments.now c.args.bytes.now in
+    let size = data_codewords c.args.version c.args.level in
+    let whole : bits_in c.push_segments.new.self ≡ bits = rw (c.push_segments.ensures, c.requires.empty) refl in
+    let ended : bits_in c.end.new.self ≡ aligned (terminated (8 * size) bits) =
+    rw (c.end.ensures.bits, whole, c.data_codewords-size.ensures) refl in
+    let codewords : c.end.new.self.codewords.items
+    ≡ codewords_of (length (aligned (terminated (8 * size) bits)) / 8) (aligned (terminated (8 * size) bits)) =
+    c.end.ensures.codewords ∙ ap (λ l. codewords_of (length l / 8) l) ended in
+    let count : c.len.result ≡ length (aligned (terminated (8 * size) bits)) / 8 =
+    c.len.ensures.value ∙ (ap length codewords
+    ∙ length-codewords_of (length (aligned (terminated (8 * size) bits)) / 8) (aligned (terminated (8 * size) bits))) in
+    rw (c.push_padding.ensures, count, codewords, c.data_codewords-size.ensures) refl
+
+pub push_padding-requires : goal.push_padding-requires
+push_padding-requires c =
+    record {
+      room = omega (
+        arith,
+        c.len.ensures.value,
+        c.end.ensures.count,
+        c.data_codewords-size.ensures,
+        capacity-le c.args.level c.args.version c.known.ensures.0 c.known.ensures.1,
+      );
+    }

@@ -1,6 +1,0 @@
-use Rattle.qrdata.proofs.VersionTable.{coded_total_is}
-use Rattle.qrdata.proofs.version.Version.total_words.Goals as goal
-
-pub returns : goal.returns
-returns c = rw (c.from.ensures, ← c.self.view_is)
-    (coded_total_is c.self.inside.number c.self.invariant.0 c.self.invariant.1)

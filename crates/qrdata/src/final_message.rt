@@ -1,0 +1,90 @@
+//! The codewords of a symbol (ISO/IEC 18004, 7.4 to 7.6).
+ghost use Rattle.arrayvec.specs.ArrayVec.{array_vec_len};
+ghost use Rattle.qrdata.specs.Private.BitsInCodewords.{bits_in};
+ghost use Rattle.qrdata.specs.Codewords.{data_of, final_message, symbol_codewords};
+ghost use Rattle.qrdata.specs.Versions.{capacity};
+ghost use Rattle.qrdata.specs.Reading.{data_in};
+ghost use Rattle.qrdata.specs.Segments.{IsSegmentation, cost};
+ghost use Rattle.qrdata.specs.Versions.{data_codewords, ec_codewords_per_block, total_codewords};
+ghost use Rattle.qrdata.specs.declared.mode.Segment.{Segment};
+ghost use Rattle.std.specs.Prelude.{Some, length, ◌≡◌, ◌+◌, ◌≤◌, ◌++◌, ◌/◌, [], map};
+
+use crate::bits::{Bits, push_padding};
+use crate::blocks::{Codewords, Lengths, interleave, push_ec_codewords, push_lengths};
+use crate::level::Level;
+use crate::mode::Segment;
+use crate::plan::Plan;
+use crate::version::Version;
+
+/// Writes the codewords of the symbol of a plan into `codewords`, in the order in which they are placed: the data
+/// codewords of its blocks interleaved, then their error correction codewords interleaved (ISO/IEC 18004, 7.6). What
+/// `codewords` held is dropped.
+pub fn codewords(plan: &Plan, codewords: &mut Codewords)
+    ensures codewords { codewords.new.items
+        ≡ symbol_codewords plan.now.version plan.now.level plan.now.segments plan.now.bytes }
+    ensures count { length codewords.new.items ≡ total_codewords plan.now.version }
+
+    // They read back as the data: each block is a multiple of its generator, and the segments stop where they should.
+    ensures read { data_in plan.now.version plan.now.level codewords.new.items ≡ Some plan.now.bytes }
+{
+    write_codewords(
+        plan.version(),
+        plan.level(),
+        plan.segments(),
+        plan.bytes(),
+        codewords,
+    );
+}
+
+/// Writes the codewords of segments.
+fn write_codewords(
+    version: Version,
+    level: Level,
+    segments: &[Segment],
+    bytes: &[u8],
+    codewords: &mut Codewords,
+)
+    requires cut { IsSegmentation version segments.now bytes.now }
+    requires fits { cost version segments.now ≤ capacity version level }
+    ensures codewords { codewords.new.items ≡ symbol_codewords version level segments.now bytes.now }
+    ensures count { length codewords.new.items ≡ total_codewords version }
+    ensures read { data_in version level codewords.new.items ≡ Some bytes.now }
+{
+    version.known();
+    let mut message = Bits::new();
+    push_data(version, level, segments, bytes, &mut message);
+    write_symbol(version, level, message.codewords.as_slice(), codewords);
+    gf256::ec_codewords_are_sound();
+}
+
+/// Writes the data codewords of the segments.
+fn push_data(version: Version, level: Level, segments: &[Segment], bytes: &[u8], message: &mut Bits)
+    requires empty { bits_in message.old ≡ [] }
+    requires cut { IsSegmentation version segments.now bytes.now }
+    requires fits { cost version segments.now ≤ capacity version level }
+    ensures { message.new.codewords.items ≡ data_of version level segments.now bytes.now }
+{
+    version.known();
+    let size = version.data_codewords(level);
+    message.push_segments(version, segments, bytes);
+    message.end(size);
+    push_padding(size - message.codewords.len(), &mut message.codewords);
+}
+
+/// Writes the blocks of the data codewords interleaved, and then their error correction codewords interleaved.
+fn write_symbol(version: Version, level: Level, message: &[u8], codewords: &mut Codewords)
+    requires whole { length message.now ≡ data_codewords version level }
+    ensures { codewords.new.items ≡ final_message version level message.now }
+{
+    gf256::ec_codewords_are_sound();
+    version.known();
+    let count = version.ec_codewords_per_block(level);
+    let lengths = version.lengths(level);
+    let mut ec_lengths = Lengths::new();
+    push_lengths(&mut ec_lengths, lengths.len(), count);
+    let mut ec_codewords = Codewords::new();
+    push_ec_codewords(count, lengths.as_slice(), message, &mut ec_codewords);
+    codewords.clear();
+    interleave(lengths.as_slice(), message, codewords);
+    interleave(ec_lengths.as_slice(), ec_codewords.as_slice(), codewords);
+}
