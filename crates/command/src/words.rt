@@ -12,8 +12,7 @@ ghost use Rattle.std.specs.Prelude.{Some, false, option_map};
 use clap::builder::ValueParser;
 use clap::error::ErrorKind;
 use clap::{Arg, ArgAction, ArgMatches, Command, value_parser};
-use labelcore::{Format, Options};
-use qrdata::Level;
+use labelcore::{Format, Options, level_of};
 use std::alloc::{AllocError, Global};
 
 /// What the words of a run choose.
@@ -209,7 +208,7 @@ fn options_named(matches: &ArgMatches<'_>) -> Option<Options>
     ensures { result ≡ options_named (rows_of (found_of matches.now)) }
 {
     let format = format_of(matches.get_str("format").unwrap_or("pbm"))?;
-    let level = Level::named(matches.get_str("level").unwrap_or("M").as_bytes())?;
+    let level = level_of(matches.get_str("level").unwrap_or("M").as_bytes())?;
     let scale = small_number(matches, "scale").unwrap_or(1);
     let height = number(matches, "height").unwrap_or(50);
     let min_version = small_number(matches, "min-version").unwrap_or(1);

@@ -10,7 +10,7 @@ use Rattle.std.proofs.lemmas.Bool.{cases_lt, le-ltb}
 use Rattle.std.proofs.lemmas.List.{get_or_past}
 use Rattle.std.proofs.lemmas.List.Elements.{All-from_recursion}
 use Rattle.std.proofs.lemmas.List.FromFn.{get_or-map-range_with_len, length-map-range_with_len}
-use Rattle.labelcore.specs.declared.fault.Fault.{Fault}
+use Rattle.linear.specs.declared.refusal.Refusal.{Refusal}
 use Rattle.labelcore.specs.declared.options.Format.{Format}
 use Rattle.labelcore.specs.declared.options.Format.TheVariants.{Pbm, Ascii}
 use Rattle.qrdata.specs.declared.level.Level.{Level}
@@ -169,7 +169,7 @@ some_row reading (module_ ∷ row) full none e = omega arith
 
 -- a linear symbol whose row is read
 pub linear_readable : BarsAreOneRow → (symbology : Symbology) (row : List ℕ → List Bool)
-    (reading : List Bool → Option (List ℕ)) (options : OptionValues) (r : Result (List ℕ) Fault) → 1 ≤ options.height
+    (reading : List Bool → Option (List ℕ)) (options : OptionValues) (r : Result (List ℕ) Refusal) → 1 ≤ options.height
     → options.height ≤ 500 →
     ((rows : List (List Bool)) → read_modules symbology rows ≡ read_linear reading rows) → reading [] ≡ None →
     ((full : List ℕ) → r ≡ Ok full → (length (row full) ≤ 1795) × (reading (row full) ≡ Some full))

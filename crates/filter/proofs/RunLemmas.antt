@@ -1,10 +1,10 @@
 -- From pieces to a run over a whole input.
-use Rattle.std.proofs.Common.{ℕ, Result, Ok, Err, List, [], ◌∷◌, ◌++◌, length, ◌⊎◌, inl, inr, refl, subst, sym}
+use Rattle.std.proofs.Common.{ℕ, Result, Ok, Err, List, [], ◌∷◌, ◌++◌, ◌+◌, length, ◌⊎◌, inl, inr, refl, subst, sym}
 use Rattle.std.proofs.Common.{zero-add}
 use Rattle.std.specs.Prelude.{MatchResult, IfErr, IfOk}
 use Rattle.device.specs.Lines.{lines, ended_lines, open_line, unless_empty}
-use Rattle.filter.specs.Line.{RaisesOneCount}
-use Rattle.filter.specs.Output.{image_of, outcome}
+use Rattle.filter.specs.Line.{FailsInLine, RaisesOneCount}
+use Rattle.filter.specs.Output.{Outcome, image_of, images, line_number, messages_after, outcome}
 use Rattle.filter.specs.Filter.{TookLines, StopsInLine, TookPiece, StopsInFinish}
 use Rattle.filter.specs.Run.{StopsInText, RunStops}
 use Rattle.filter.specs.declared.status.RunFault.{RunFault}
@@ -41,6 +41,40 @@ module _ (options : OptionValues) where
   RunStops-at_end took_out took_err text o o' e e' WriteOut r s = s
   RunStops-at_end took_out took_err text o o' e e' WriteMessages r s = s
   RunStops-at_end took_out took_err text o o' e e' Spent r s = absurd r
+
+  -- where one sink took a text, another one took it too
+  module _ (out out' err : List ℕ → Type 0) (widen : (text : List ℕ) → out text → out' text) where
+    FailsInLine-by : (took_err : List ℕ → Type 0) (number : ℕ) (o : Outcome) (front : List ℕ) (fault : RunFault)
+        → FailsInLine options (λ bytes. out (front ++ bytes)) took_err number o fault
+        → FailsInLine options (λ bytes. out' (front ++ bytes)) took_err number o fault
+    FailsInLine-by took_err number o front Read fails = fails
+    FailsInLine-by took_err number o front WriteOut fails =
+        ((fails.0.0, fails.0.1, widen (front ++ fails.0.0) fails.0.2), fails.1)
+    FailsInLine-by took_err number o front WriteMessages fails = (widen (front ++ []) fails.0, fails.1)
+    FailsInLine-by took_err number o front Spent fails = fails
+
+    TookLines-by : (before : ℕ) (ls : List (List ℕ)) → TookLines options out err before ls
+        → TookLines options out' err before ls
+    TookLines-by before ls h = record { out = widen _ h.out; err = h.err; read = h.read }
+
+    StopsInText-by : (text : List ℕ) (fault : RunFault) → StopsInText options out err text fault
+        → StopsInText options out' err text fault
+    StopsInText-by text fault (inl s) = inl (record {
+      earlier = s.earlier;
+      line = s.line;
+      later = s.later;
+      cut = s.cut;
+      wrote = FailsInLine-by (λ bytes. err (messages_after options 0 s.earlier ++ bytes))
+          (line_number (0 + length s.earlier)) (outcome options s.line) (images options s.earlier) fault s.wrote;
+    })
+    StopsInText-by text fault (inr took) = inr (TookLines-by 0 (lines text) took)
+
+    pub RunStops-by : (text : List ℕ) (fault : RunFault) → RunStops options out err text fault
+        → RunStops options out' err text fault
+    RunStops-by text Read took = TookLines-by 0 (ended_lines text) took
+    RunStops-by text WriteOut s = StopsInText-by text WriteOut s
+    RunStops-by text WriteMessages s = StopsInText-by text WriteMessages s
+    RunStops-by text Spent s = s
 
   module _ {O E : Type 0} (took_out : O → O → List ℕ → Type 0) (took_err : E → E → List ℕ → Type 0)
       (out_joined : (s t u : O) (xs ys : List ℕ) → took_out s t xs → took_out t u ys → took_out s u (xs ++ ys))

@@ -4,7 +4,9 @@ use Rattle.labelcore.specs.declared.symbology.Symbology.{Symbology}
 use Rattle.labelcore.specs.declared.symbology.Symbology.TheVariants.{Ean13, Ean8, UpcA, Code128, Qr}
 use Rattle.labelcore.specs.declared.fault.Fault.{Fault}
 use Rattle.labelcore.specs.declared.fault.Fault.TheVariants.{DoesNotFit}
+use Rattle.labelcore.specs.Faults.{fault_of}
 use Rattle.labelcore.specs.OptionValues.{OptionValues}
+use Rattle.linear.specs.declared.refusal.Refusal.{Refusal}
 use Rattle.linear.specs.Digits.{full_digits}
 use Rattle.linear.specs.Ean.{ean13_row, ean8_row, upca_row}
 use Rattle.linear.specs.Code128.{full_code128, code128_row}
@@ -30,13 +32,14 @@ quiet_zone Code128 = record { left = 10; right = 10; top = 0; bottom = 0 }
 quiet_zone Qr = record { left = 4; right = 4; top = 4; bottom = 4 }
 
 -- the bars of full data, as high as the options say
-abbrev pub linear_label : Symbology → (List ℕ → List Bool) → OptionValues → Result (List ℕ) Fault → Result Label Fault
+abbrev pub linear_label : Symbology → (List ℕ → List Bool) → OptionValues → Result (List ℕ) Refusal
+    → Result Label Fault
 linear_label symbology row options (Ok full) = Ok (record {
   symbology = symbology;
   full = full;
   modules = bars (row full) options.height;
 })
-linear_label symbology row options (Err fault) = Err fault
+linear_label symbology row options (Err refusal) = Err (fault_of refusal)
 
 -- the codewords of the data in a version
 unfoldable pub qr_codewords : OptionValues → List ℕ → ℕ → List ℕ

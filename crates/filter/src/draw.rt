@@ -3,8 +3,6 @@ ghost use Rattle.std.specs.Prelude.{Bool, None, ◌≡◌, ◌≢◌, ◌+◌, �
 ghost use Rattle.device.specs.Writing.{WritesText};
 ghost use Rattle.picture.specs.Picture.{scaled, symbol_picture};
 ghost use Rattle.qrdata.specs.Fewest.{chosen_segments};
-ghost use Rattle.qrdata.specs.Versions.{capacity};
-ghost use Rattle.qrdata.specs.Segments.{IsSegmentation, cost};
 ghost use Rattle.filter.specs.Label.{linear_label, qr_codewords, qr_modules, quiet_zone};
 ghost use Rattle.filter.specs.Output.{outcome_of_data, outcome_of_label, image_of, text_of};
 ghost use Rattle.filter.specs.Private.LineEnd.{refusal_of};
@@ -15,7 +13,7 @@ use device::{IoFault, Sink};
 use labelcore::{Fault, Format, Options, Symbology};
 use linear::{Code128, Ean8, Ean13, Linear, Row, UpcA};
 use picture::{Bars, Framed, Grid, Scaled, modules_of_pixels, write_ascii, write_pbm};
-use qrdata::{Plan, Words, choose, codewords};
+use qrdata::{Codewords, Plan, Version, choose, codewords};
 use qrmatrix::Matrix;
 
 /// Writes the image of the data's symbol, and says why it is refused, if it is.
@@ -67,8 +65,8 @@ fn draw_linear<L: Linear, O: Sink>(
 {
     modules_of_pixels();
     let mut row = Row::new();
-    if let Err(fault) = L::encode(bytes, &mut row) {
-        return Ok(Some(fault));
+    if let Err(refusal) = L::encode(bytes, &mut row) {
+        return Ok(Some(Fault::from(refusal)));
     }
     let bars = Bars::new(row.as_slice(), usize::from(options.height()));
     write_picture(
@@ -89,34 +87,35 @@ fn draw_qr<O: Sink>(options: &Options, bytes: &[u8], out: &mut O) -> Result<Opti
         ≡ refusal_of (outcome_of_data options.now Qr bytes.now)) }
     ensures read { ReadsBack (outcome_of_data options.now Qr bytes.now) }
 {
-    match choose(options, bytes) {
+    let min_version = Version::of(options.min_version());
+    match choose(min_version, options.level(), bytes) {
         Ok(plan) => {
-            let matrix = matrix_of(options, &plan, bytes);
+            let matrix = matrix_of(options, &plan);
             write_picture(options, Framed::new(matrix, 4, 4, 4, 4), out)?;
             Ok(None)
         }
-        Err(fault) => Ok(Some(fault)),
+        Err(refusal) => Ok(Some(Fault::from(refusal))),
     }
 }
 
 /// The symbol of a plan.
 #[tactic(auto, unfolding(crate::specs::Label::qr_modules, crate::specs::Label::qr_codewords))]
-fn matrix_of(options: &Options, plan: &Plan, bytes: &[u8]) -> Matrix
-    requires held { IsSegmentation plan.now.version plan.now.segments bytes.now }
-    requires fits { cost plan.now.version plan.now.segments
-        ≤ capacity plan.now.version plan.now.level }
-    requires chosen { plan.now.segments ≡ chosen_segments plan.now.version bytes.now }
+fn matrix_of(options: &Options, plan: &Plan) -> Matrix
+    requires chosen { plan.now.segments ≡ chosen_segments plan.now.version plan.now.bytes }
     requires level { plan.now.level ≡ options.now.level }
     ensures modules { symbol_picture result ≡ qr_modules options.now plan.now.version
-        (qr_codewords options.now bytes.now plan.now.version) }
+        (qr_codewords options.now plan.now.bytes plan.now.version) }
     ensures side { result.side ≤ 57 }
-    ensures read { IsReadable
-        (record { symbology = Qr; full = bytes.now; modules = symbol_picture result }) }
+    ensures read { IsReadable (record {
+      symbology = Qr;
+      full = plan.now.bytes;
+      modules = symbol_picture result;
+    }) }
 {
     modules_of_pixels();
-    let mut words = Words::new();
-    codewords(plan, bytes, &mut words);
-    Matrix::draw(plan.version(), plan.level(), options.mask(), &words)
+    let mut all = Codewords::new();
+    codewords(plan, &mut all);
+    Matrix::draw(plan.version(), plan.level(), options.mask(), &all)
 }
 
 /// Writes the text of a picture, each of its modules a square of pixels.

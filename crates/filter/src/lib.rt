@@ -10,7 +10,9 @@ mod engine;
 mod filter;
 mod line;
 mod status;
+mod streams;
 
 pub use engine::run;
 pub use filter::Filter;
 pub use status::{RunFault, Status};
+pub use streams::run_streams;

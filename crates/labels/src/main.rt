@@ -2,11 +2,11 @@
 #![tactic(auto)]
 
 use command::{Choice, End, OpenFault, WordsFault, open_file, options_of};
-use filter::{RunFault, run};
-use device::{Buffered, Sink, Source, StdSink, StdSource};
+use device::{Buffered, StdSink, StdSource};
+use filter::{RunFault, run_streams};
 use std::alloc::Global;
 use std::env;
-use std::io::{ErrorKind, Write};
+use std::io::{ErrorKind, Read, Write};
 use std::process::ExitCode;
 
 fn main(rt: HostRuntime) -> ExitCode {
@@ -66,12 +66,9 @@ fn run_choice(rt: &HostRuntime, alloc: Global, choice: Choice) -> End {
     }
 }
 
-/// Runs the filter over a source, into standard output, held back between reads and messages, and standard error.
-fn run_over<S: Source + Drop>(rt: &HostRuntime, choice: &Choice, mut source: S) -> End {
+/// Runs the filter over a source, into standard output through a buffer, and standard error.
+fn run_over<R: Read + Drop>(rt: &HostRuntime, choice: &Choice, mut source: StdSource<R>) -> End {
     let mut out = Buffered::new(StdSink::new(rt.stdout()));
     let mut err = StdSink::new(rt.stderr());
-    let answer = run(choice.options, &mut source, &mut out, &mut err);
-    // After a fault, what earlier lines came to still goes out.
-    let _ = out.pass_on();
-    End::Ran(answer)
+    End::Ran(run_streams(choice.options, &mut source, &mut out, &mut err))
 }

@@ -65,8 +65,8 @@ impl Version {
         }
     }
 
-    /// The version of a number that is one.
-    pub(crate) fn of(number: u8) -> Version
+    /// The version of a number that is known to be one, 1 to 10.
+    pub fn of(number: u8) -> Version
         requires { IsVersion number }
         ensures { result ≡ number }
     {

@@ -21,7 +21,7 @@ returns-in_err-level c =
     ∙ c.in_ok-format.was in
     let text-2 = text_read f (codes "level") _ _ _ c.get_str-2.ensures c.unwrap_or-2.ensures in
     let none : level_in (rows_of f) ≡ None = sym (ap level_named text-2) ∙ sym (ap level_named c.as_bytes.ensures.value)
-    ∙ sym c.named.ensures ∙ c.in_err-level.was in
+    ∙ sym c.level_of.ensures ∙ c.in_err-level.was in
     c.from_residual-in_err-level.ensures ∙ sym (no_level (rows_of f) c.in_ok-format.format format none)
 
 pub returns : goal.returns
@@ -33,7 +33,7 @@ returns c =
     ∙ c.in_ok-format.was in
     let text-2 = text_read f (codes "level") _ _ _ c.get_str-2.ensures c.unwrap_or-2.ensures in
     let level : level_in rows ≡ Some c.in_ok-level.level = sym (ap level_named text-2)
-    ∙ sym (ap level_named c.as_bytes.ensures.value) ∙ sym c.named.ensures ∙ c.in_ok-level.was in
+    ∙ sym (ap level_named c.as_bytes.ensures.value) ∙ sym c.level_of.ensures ∙ c.in_ok-level.was in
     let scale = default_read f (codes "scale") _ 1 _ c.small_number.ensures c.unwrap_or-scale.ensures in
     let height = default_read f (codes "height") _ 50 _ c.number.ensures c.unwrap_or-height.ensures in
     let min_version = default_read f (codes "min-version")
