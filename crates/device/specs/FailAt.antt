@@ -1,5 +1,6 @@
 -- What the clauses of a device that fails at one call see of it (docs/SPECIFICATION.md, The filter as a library).
 use Rattle.std.specs.Prelude.{◌≡◌, ℕ, ◌+◌, ◌-◌, ◌^◌, ◌<◌, min, Result, IsErr}
+use Rattle.device.specs.Device.{CountsFailure}
 use Rattle.device.specs.declared.fail_at.FailAt.{FailAt}
 
 -- the device below
@@ -32,3 +33,11 @@ pub record FailsAlone {D T E : Type 0} (old new : FailAt D) (r : Result T E) : T
   pub device : device_of new ≡ device_of old
   pub count : own_failures new ≡ min (own_failures old + 1) (2 ^ 64 - 1)
   pub answer : IsErr r
+
+-- what a call says that is counted, where `failures` counts those of the device below: the call that fails does not
+-- reach the device, and any other fails as the device does
+pub record FailsInTurn {D T E : Type 0} (failures : D → ℕ) (old new : FailAt D) (r : Result T E) : Type 0 where
+  pub call : CountsCall old new
+  pub fails : FailsNext old → FailsAlone old new r
+  pub own : ¬ FailsNext old → own_failures new ≡ own_failures old
+  pub below : ¬ FailsNext old → CountsFailure (failures (device_of old)) (failures (device_of new)) r

@@ -5,5 +5,7 @@ pub mod Lines
 pub mod Memory
 pub mod Passing
 pub mod Private
+pub mod Sink
+pub mod Source
 pub mod Streams
 pub mod Writing

@@ -1,14 +1,15 @@
 //! A sink that buffers bytes.
 ghost use Rattle.std.specs.Prelude.{◌≡◌, ◌+◌, ◌<◌, ◌≤◌, ◌++◌, ℕ, List, [], true, false, length, take, IfOk, OnOk, MatchResult};
 ghost use borrow.Rule.Slice.PartMut.{put_mid};
-ghost use Rattle.device.specs.Device.{CountsFailure};
 ghost use Rattle.device.specs.Passing.{PassesOn};
+ghost use Rattle.device.specs.Sink.{Flushes, PassesBuffered};
+ghost use Rattle.device.specs.declared.buffered.TheConstants.{ROOM};
 ghost use Rattle.device.specs.Private.Passed.{PassesOn_none, PassesOn_joined};
 
 use crate::{IoFault, Sink};
 
 /// The most bytes that are buffered.
-const ROOM: usize = 65536;
+const ROOM: usize = 32768;
 
 /// Buffers bytes before another sink, which then takes them in large pieces: when there is no room for more, when
 /// they are passed on, and at a flush.
@@ -22,7 +23,7 @@ pub struct Buffered<S: Sink> {
     end: usize,
     is_flushed: bool,
     ghost ordered: { start ≤ end },
-    ghost within: { end ≤ 65536 },
+    ghost within: { end ≤ ROOM },
     ghost emptied: { is_flushed ≡ true → start ≡ end },
     ghost below: { is_flushed ≡ true → S.is_flushed sink ≡ true },
 }
@@ -69,16 +70,12 @@ impl<S: Sink> Buffered<S> {
         ensures bytes { ⟦<Buffered<S> as Sink>⟧.is_flushed self.now ≡ true → (old : S) (old_buffered text : List ℕ)
             → PassesOn S.took old (sink_of self.now) old_buffered (buffered_bytes self.now) text
             → S.took old (sink_of self.now) (old_buffered ++ text) }
-    {
-    }
+    {}
 
     /// Passes on what is buffered.
     fn drain(&mut self) -> Result<(), IoFault>
-        ensures bytes { PassesOn S.took (sink_of self.old) (sink_of self.new)
-            (buffered_bytes self.old) (buffered_bytes self.new) [] }
-        ensures count { CountsFailure (S.failures (sink_of self.old))
-            (S.failures (sink_of self.new)) result }
-        ensures flushed { ⟦<Buffered<S> as Sink>⟧.is_flushed self.new ≡ ⟦<Buffered<S> as Sink>⟧.is_flushed self.old }
+        ensures passes { let sink = ⟦<Buffered<S> as Sink>⟧ in
+            PassesBuffered sink.failures sink.is_flushed sink.took self.old self.new result }
         ensures buffered { OnOk result (self.new.end ≡ 0) }
     {
         while self.start < self.end {
@@ -93,12 +90,9 @@ impl<S: Sink> Buffered<S> {
 
     /// Passes on what is buffered, if there is no room for more.
     fn make_room(&mut self) -> Result<(), IoFault>
-        ensures bytes { PassesOn S.took (sink_of self.old) (sink_of self.new)
-            (buffered_bytes self.old) (buffered_bytes self.new) [] }
-        ensures count { CountsFailure (S.failures (sink_of self.old))
-            (S.failures (sink_of self.new)) result }
-        ensures flushed { ⟦<Buffered<S> as Sink>⟧.is_flushed self.new ≡ ⟦<Buffered<S> as Sink>⟧.is_flushed self.old }
-        ensures room { OnOk result (self.new.end < 65536) }
+        ensures passes { let sink = ⟦<Buffered<S> as Sink>⟧ in
+            PassesBuffered sink.failures sink.is_flushed sink.took self.old self.new result }
+        ensures room { OnOk result (self.new.end < ROOM) }
     {
         if self.end < ROOM {
             return Ok(());
@@ -108,7 +102,7 @@ impl<S: Sink> Buffered<S> {
 
     /// Buffers bytes for which there is room.
     fn buffer(&mut self, bytes: &[u8])
-        requires { self.old.end + length bytes.now ≤ 65536 }
+        requires { self.old.end + length bytes.now ≤ ROOM }
         ensures sink { sink_of self.new ≡ sink_of self.old }
         ensures buffered { buffered_bytes self.new ≡ buffered_bytes self.old ++ bytes.now }
         ensures flushed { ⟦<Buffered<S> as Sink>⟧.is_flushed self.new ≡ false }
@@ -136,12 +130,8 @@ impl<S: Sink> Sink for Buffered<S> {
     }
 
     fn flush(&mut self) -> Result<(), IoFault>
-        ensures bytes { PassesOn S.took (sink_of self.old) (sink_of self.new)
-            (buffered_bytes self.old) (buffered_bytes self.new) [] }
-        ensures count { CountsFailure (S.failures (sink_of self.old))
-            (S.failures (sink_of self.new)) result }
-        ensures flushed { MatchResult result (λ _. ⟦<Buffered<S> as Sink>⟧.is_flushed self.new ≡ true)
-            (λ _. ⟦<Buffered<S> as Sink>⟧.is_flushed self.new ≡ ⟦<Buffered<S> as Sink>⟧.is_flushed self.old) }
+        ensures flushes { let sink = ⟦<Buffered<S> as Sink>⟧ in
+            Flushes sink.failures sink.is_flushed sink.took self.old self.new result }
         ensures buffered { OnOk result (buffered_bytes self.new ≡ []) }
         ensures below { OnOk result (S.is_flushed (sink_of self.new) ≡ true) }
     {
@@ -152,11 +142,8 @@ impl<S: Sink> Sink for Buffered<S> {
     }
 
     fn pass_on(&mut self) -> Result<(), IoFault>
-        ensures bytes { PassesOn S.took (sink_of self.old) (sink_of self.new)
-            (buffered_bytes self.old) (buffered_bytes self.new) [] }
-        ensures count { CountsFailure (S.failures (sink_of self.old))
-            (S.failures (sink_of self.new)) result }
-        ensures flushed { ⟦<Buffered<S> as Sink>⟧.is_flushed self.new ≡ ⟦<Buffered<S> as Sink>⟧.is_flushed self.old }
+        ensures passes { let sink = ⟦<Buffered<S> as Sink>⟧ in
+            PassesBuffered sink.failures sink.is_flushed sink.took self.old self.new result }
         ensures buffered { OnOk result (buffered_bytes self.new ≡ []) }
     {
         self.drain()

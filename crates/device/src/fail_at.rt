@@ -3,7 +3,9 @@ ghost use Rattle.std.specs.Prelude.{◌≡◌, ◌+◌, ◌-◌, ◌^◌, ◌<�
 ghost use Rattle.std.specs.Prelude.{IsTrue, MatchResult};
 ghost use Rattle.device.specs.Device.{CountsFailure, total_failures};
 ghost use Rattle.device.specs.FailAt.{device_of, calls_of, failing_call, own_failures, FailsNext, CountsCall};
-ghost use Rattle.device.specs.FailAt.{FailsAlone};
+ghost use Rattle.device.specs.FailAt.{FailsInTurn};
+ghost use Rattle.device.specs.Sink.{Flushes, PassesBuffered, WritesSome};
+ghost use Rattle.device.specs.Source.{ReadsSome};
 
 use crate::{IoFault, Sink, Source};
 
@@ -80,20 +82,9 @@ impl<D: Source> Source for FailAt<D> {
 
     fn read(&mut self, buf: &mut [u8]) -> Result<usize, IoFault>
         requires { 0 < length buf.old }
-        ensures bound { IfOk result (λ n. n ≤ length buf.new) }
-        ensures bytes { MatchResult result
-            (λ n. D.gave (device_of self.old) (device_of self.new) (take n buf.new))
-            (λ _. D.gave (device_of self.old) (device_of self.new) []) }
-        ensures count { CountsFailure (⟦<FailAt<D> as Source>⟧.failures self.old)
-            (⟦<FailAt<D> as Source>⟧.failures self.new) result }
-        ensures end { MatchResult result (λ n. D.at_end (device_of self.new) ≡ (n == 0))
-            (λ _. D.at_end (device_of self.new) ≡ D.at_end (device_of self.old)) }
-        ensures nothing_left { IfOk result (λ n. n ≡ 0 → D.ends (device_of self.new)) }
-        ensures call { CountsCall self.old self.new }
-        ensures fails { FailsNext self.old → FailsAlone self.old self.new result }
-        ensures own { ¬ FailsNext self.old → own_failures self.new ≡ own_failures self.old }
-        ensures below { ¬ FailsNext self.old → CountsFailure (D.failures (device_of self.old))
-            (D.failures (device_of self.new)) result }
+        ensures reads { let source = ⟦<FailAt<D> as Source>⟧ in
+            ReadsSome source.failures source.at_end source.gave source.ends self.old self.new buf.new result }
+        ensures turn { FailsInTurn D.failures self.old self.new result }
     {
         if self.fails_now() {
             self.count_failure();
@@ -116,20 +107,9 @@ impl<D: Sink> Sink for FailAt<D> {
 
     fn write(&mut self, bytes: &[u8]) -> Result<usize, IoFault>
         requires { 0 < length bytes.now }
-        ensures some { IfOk result (λ n. 0 < n) }
-        ensures bound { IfOk result (λ n. n ≤ length bytes.now) }
-        ensures bytes { MatchResult result
-            (λ n. D.took (device_of self.old) (device_of self.new) (take n bytes.now))
-            (λ _. D.took (device_of self.old) (device_of self.new) []) }
-        ensures count { CountsFailure (⟦<FailAt<D> as Sink>⟧.failures self.old)
-            (⟦<FailAt<D> as Sink>⟧.failures self.new) result }
-        ensures flushed { MatchResult result (λ _. D.is_flushed (device_of self.new) ≡ false)
-            (λ _. D.is_flushed (device_of self.new) ≡ D.is_flushed (device_of self.old)) }
-        ensures call { CountsCall self.old self.new }
-        ensures fails { FailsNext self.old → FailsAlone self.old self.new result }
-        ensures own { ¬ FailsNext self.old → own_failures self.new ≡ own_failures self.old }
-        ensures below { ¬ FailsNext self.old → CountsFailure (D.failures (device_of self.old))
-            (D.failures (device_of self.new)) result }
+        ensures writes { let sink = ⟦<FailAt<D> as Sink>⟧ in
+            WritesSome sink.failures sink.is_flushed sink.took self.old self.new bytes.now result }
+        ensures turn { FailsInTurn D.failures self.old self.new result }
     {
         if self.fails_now() {
             self.count_failure();
@@ -139,16 +119,9 @@ impl<D: Sink> Sink for FailAt<D> {
     }
 
     fn flush(&mut self) -> Result<(), IoFault>
-        ensures bytes { D.took (device_of self.old) (device_of self.new) [] }
-        ensures count { CountsFailure (⟦<FailAt<D> as Sink>⟧.failures self.old)
-            (⟦<FailAt<D> as Sink>⟧.failures self.new) result }
-        ensures flushed { MatchResult result (λ _. D.is_flushed (device_of self.new) ≡ true)
-            (λ _. D.is_flushed (device_of self.new) ≡ D.is_flushed (device_of self.old)) }
-        ensures call { CountsCall self.old self.new }
-        ensures fails { FailsNext self.old → FailsAlone self.old self.new result }
-        ensures own { ¬ FailsNext self.old → own_failures self.new ≡ own_failures self.old }
-        ensures below { ¬ FailsNext self.old → CountsFailure (D.failures (device_of self.old))
-            (D.failures (device_of self.new)) result }
+        ensures flushes { let sink = ⟦<FailAt<D> as Sink>⟧ in
+            Flushes sink.failures sink.is_flushed sink.took self.old self.new result }
+        ensures turn { FailsInTurn D.failures self.old self.new result }
     {
         if self.fails_now() {
             self.count_failure();
@@ -159,11 +132,8 @@ impl<D: Sink> Sink for FailAt<D> {
 
     /// Is not counted as a call, and reaches the device.
     fn pass_on(&mut self) -> Result<(), IoFault>
-        ensures bytes { D.took (device_of self.old) (device_of self.new) [] }
-        ensures count { CountsFailure (⟦<FailAt<D> as Sink>⟧.failures self.old)
-            (⟦<FailAt<D> as Sink>⟧.failures self.new) result }
-        ensures flushed { D.is_flushed (device_of self.new)
-            ≡ D.is_flushed (device_of self.old) }
+        ensures passes { let sink = ⟦<FailAt<D> as Sink>⟧ in
+            PassesBuffered sink.failures sink.is_flushed sink.took self.old self.new result }
         ensures others { self.new ≡ record self.old { device = self.new.device } }
         ensures below { CountsFailure (D.failures (device_of self.old))
             (D.failures (device_of self.new)) result }

@@ -3,8 +3,9 @@ ghost use Rattle.std.specs.Prelude.{◌≡◌, ◌+◌, ◌-◌, ◌<◌, ◌≤
 ghost use Rattle.std.specs.Prelude.{IfOk, IsOk, IsErr, IsTrue, MatchResult, refl};
 ghost use Rattle.std.proofs.lemmas.List.{append-nil};
 ghost use Rattle.std.proofs.Common.{sym};
-ghost use Rattle.device.specs.Device.{CountsFailure};
 ghost use Rattle.device.specs.Private.Joined.{cut_joined, grown_joined};
+ghost use Rattle.device.specs.Sink.{Flushes, WritesSome};
+ghost use Rattle.device.specs.Source.{ReadsSome};
 
 use crate::{IoFault, Sink, Source};
 use arrayvec::ArrayVec;
@@ -56,15 +57,8 @@ impl<'a> Source for MemSource<'a> {
 
     fn read(&mut self, buf: &mut [u8]) -> Result<usize, IoFault>
         requires { 0 < length buf.old }
-        ensures bound { IfOk result (λ n. n ≤ length buf.new) }
-        ensures bytes { MatchResult result (λ n. left_in self.old
-            ≡ take n buf.new ++ left_in self.new)
-            (λ _. left_in self.old ≡ [] ++ left_in self.new) }
-        ensures count { CountsFailure (⟦<MemSource<'a> as Source>⟧.failures self.old)
-            (⟦<MemSource<'a> as Source>⟧.failures self.new) result }
-        ensures end { MatchResult result (λ n. ⟦<MemSource<'a> as Source>⟧.at_end self.new ≡ (n == 0))
-            (λ _. ⟦<MemSource<'a> as Source>⟧.at_end self.new ≡ ⟦<MemSource<'a> as Source>⟧.at_end self.old) }
-        ensures nothing_left { IfOk result (λ n. n ≡ 0 → left_in self.new ≡ []) }
+        ensures reads { let source = ⟦<MemSource<'a> as Source>⟧ in
+            ReadsSome source.failures source.at_end source.gave source.ends self.old self.new buf.new result }
         ensures amount { IfOk result (λ n.
             n ≡ min (min (read_limit self.old) (length buf.old)) (length (left_in self.old))) }
         ensures fails { IsErr result ↔ ((left_in self.old ≡ []) × (fails_after self.old ≡ true)) }
@@ -148,15 +142,8 @@ impl<const N: usize> Sink for MemSink<N> {
 
     fn write(&mut self, bytes: &[u8]) -> Result<usize, IoFault>
         requires { 0 < length bytes.now }
-        ensures some { IfOk result (λ n. 0 < n) }
-        ensures bound { IfOk result (λ n. n ≤ length bytes.now) }
-        ensures bytes { MatchResult result (λ n. held_by self.new
-            ≡ held_by self.old ++ take n bytes.now)
-            (λ _. held_by self.new ≡ held_by self.old ++ []) }
-        ensures count { CountsFailure (⟦<MemSink<N> as Sink>⟧.failures self.old)
-            (⟦<MemSink<N> as Sink>⟧.failures self.new) result }
-        ensures flushed { MatchResult result (λ _. ⟦<MemSink<N> as Sink>⟧.is_flushed self.new ≡ false)
-            (λ _. ⟦<MemSink<N> as Sink>⟧.is_flushed self.new ≡ ⟦<MemSink<N> as Sink>⟧.is_flushed self.old) }
+        ensures writes { let sink = ⟦<MemSink<N> as Sink>⟧ in
+            WritesSome sink.failures sink.is_flushed sink.took self.old self.new bytes.now result }
         ensures amount { IfOk result (λ n.
             n ≡ min (min (write_limit self.old) (room_of self.old - length (held_by self.old)))
             (length bytes.now)) }
@@ -176,11 +163,8 @@ impl<const N: usize> Sink for MemSink<N> {
     }
 
     fn flush(&mut self) -> Result<(), IoFault>
-        ensures bytes { held_by self.new ≡ held_by self.old ++ [] }
-        ensures count { CountsFailure (⟦<MemSink<N> as Sink>⟧.failures self.old)
-            (⟦<MemSink<N> as Sink>⟧.failures self.new) result }
-        ensures flushed { MatchResult result (λ _. ⟦<MemSink<N> as Sink>⟧.is_flushed self.new ≡ true)
-            (λ _. ⟦<MemSink<N> as Sink>⟧.is_flushed self.new ≡ ⟦<MemSink<N> as Sink>⟧.is_flushed self.old) }
+        ensures flushes { let sink = ⟦<MemSink<N> as Sink>⟧ in
+            Flushes sink.failures sink.is_flushed sink.took self.old self.new result }
         ensures answer { IsOk result }
         ensures limit { write_limit self.new ≡ write_limit self.old }
         ensures room { room_of self.new ≡ room_of self.old }

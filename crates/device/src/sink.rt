@@ -1,6 +1,6 @@
 //! What takes bytes.
 ghost use Rattle.std.specs.Prelude.{◌≡◌, ℕ, ◌<◌, ◌≤◌, Bool, true, false, List, [], ◌++◌, length, take, IfOk, MatchResult};
-ghost use Rattle.device.specs.Device.{CountsFailure};
+ghost use Rattle.device.specs.Sink.{WritesSome, Flushes, PassesBuffered};
 
 use crate::IoFault;
 
@@ -18,26 +18,15 @@ pub trait Sink {
     /// Takes some bytes off the front of `bytes`, at least one, and says how many. After an `Err` no byte was taken.
     fn write(&mut self, bytes: &[u8]) -> Result<usize, IoFault>
         requires { 0 < length bytes.now }
-        ensures some { IfOk result (λ n. 0 < n) }
-        ensures bound { IfOk result (λ n. n ≤ length bytes.now) }
-        ensures bytes { MatchResult result (λ n. took self.old self.new (take n bytes.now))
-            (λ _. took self.old self.new []) }
-        ensures count { CountsFailure (failures self.old) (failures self.new) result }
-        ensures flushed { MatchResult result (λ _. is_flushed self.new ≡ false)
-            (λ _. is_flushed self.new ≡ is_flushed self.old) };
+        ensures { WritesSome failures is_flushed took self.old self.new bytes.now result };
 
     /// Passes on what it holds back, and takes no byte. After an `Err` it may hold some of that still.
     fn flush(&mut self) -> Result<(), IoFault>
-        ensures bytes { took self.old self.new [] }
-        ensures count { CountsFailure (failures self.old) (failures self.new) result }
-        ensures flushed { MatchResult result (λ _. is_flushed self.new ≡ true)
-            (λ _. is_flushed self.new ≡ is_flushed self.old) };
+        ensures { Flushes failures is_flushed took self.old self.new result };
 
     /// Sends on what it holds back: takes no byte, and flushes nothing. After an `Err` it may hold some of that still.
     fn pass_on(&mut self) -> Result<(), IoFault>
-        ensures bytes { took self.old self.new [] }
-        ensures count { CountsFailure (failures self.old) (failures self.new) result }
-        ensures flushed { is_flushed self.new ≡ is_flushed self.old }
+        ensures { PassesBuffered failures is_flushed took self.old self.new result }
     {
         Ok(())
     }

@@ -1,6 +1,6 @@
 //! What gives bytes.
 ghost use Rattle.std.specs.Prelude.{◌≡◌, ℕ, ◌<◌, ◌≤◌, ◌==◌, Bool, List, [], ◌++◌, length, take, IfOk, MatchResult};
-ghost use Rattle.device.specs.Device.{CountsFailure};
+ghost use Rattle.device.specs.Source.{ReadsSome};
 
 use crate::IoFault;
 
@@ -21,13 +21,7 @@ pub trait Source {
     /// Puts some bytes at the front of `buf`, and says how many; 0 is the end. After an `Err` no byte was given.
     fn read(&mut self, buf: &mut [u8]) -> Result<usize, IoFault>
         requires { 0 < length buf.old }
-        ensures bound { IfOk result (λ n. n ≤ length buf.new) }
-        ensures bytes { MatchResult result (λ n. gave self.old self.new (take n buf.new))
-            (λ _. gave self.old self.new []) }
-        ensures count { CountsFailure (failures self.old) (failures self.new) result }
-        ensures end { MatchResult result (λ n. at_end self.new ≡ (n == 0))
-            (λ _. at_end self.new ≡ at_end self.old) }
-        ensures nothing_left { IfOk result (λ n. n ≡ 0 → ends self.new) };
+        ensures { ReadsSome failures at_end gave ends self.old self.new buf.new result };
 
     /// With no read, nothing is given.
     ghost gave_none: { (device : Self) → gave device device [] };

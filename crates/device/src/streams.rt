@@ -1,7 +1,6 @@
 //! The readers and writers of std as devices.
 ghost use Rattle.std.specs.Prelude.{◌≡◌, ◌<◌, ◌≤◌, ◌==◌, [], false, length, take, IfOk, MatchResult};
 ghost use Rattle.std.specs.Io.KnownBytes.{Appends, Consumes, IsAtEnd};
-ghost use Rattle.device.specs.Device.{CountsFailure};
 ghost use Rattle.device.specs.Streams.{reader_of, writer_of};
 ghost use Rattle.device.specs.Private.Joined.{Appends_none, Appends_joined, Consumes_none, Consumes_joined};
 
@@ -40,21 +39,7 @@ impl<R: Read> Source for StdSource<R> {
 
     ghost ends = { λ s. IsAtEnd (R.remaining s.reader) };
 
-    fn read(&mut self, buf: &mut [u8]) -> Result<usize, IoFault>
-        requires { 0 < length buf.old }
-        ensures bound { IfOk result (λ n. n ≤ length buf.new) }
-        ensures bytes { MatchResult result
-            (λ n. Consumes (R.remaining (reader_of self.old)) (R.remaining (reader_of self.new))
-            (take n buf.new))
-            (λ _. Consumes (R.remaining (reader_of self.old))
-            (R.remaining (reader_of self.new)) []) }
-        ensures count { CountsFailure (⟦<StdSource<R> as Source>⟧.failures self.old)
-            (⟦<StdSource<R> as Source>⟧.failures self.new) result }
-        ensures end { MatchResult result (λ n. ⟦<StdSource<R> as Source>⟧.at_end self.new ≡ (n == 0))
-            (λ _. ⟦<StdSource<R> as Source>⟧.at_end self.new ≡ ⟦<StdSource<R> as Source>⟧.at_end self.old) }
-        ensures nothing_left { IfOk result (λ n. n ≡ 0
-            → IsAtEnd (R.remaining (reader_of self.new))) }
-    {
+    fn read(&mut self, buf: &mut [u8]) -> Result<usize, IoFault> {
         match self.reader.read(buf) {
             Ok(count) => {
                 self.at_end = count == 0;

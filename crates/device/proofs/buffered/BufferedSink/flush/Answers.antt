@@ -1,5 +1,7 @@
-use Rattle.std.proofs.Common.{subst, List, ℕ, [], ◌++◌}
+use Rattle.std.proofs.Common.{subst, List, ℕ, [], ◌++◌, ◌∙◌, refl}
 use Rattle.std.proofs.lemmas.List.{append-nil}
+use Rattle.std.proofs.lemmas.Result.{MatchResult-from_err}
+use Rattle.device.specs.Device.{Rises}
 use Rattle.device.specs.Passing.{PassesOn}
 use Rattle.device.proofs.buffered.BufferedSink.flush.Goals as goal
 
@@ -10,10 +12,21 @@ passed : {S : Type 0} (took : S → S → List ℕ → Type 0) (s t u : S) (old 
 passed took s t u old new joined h none =
     record { sent = h.sent; taken = subst (took s u) (append-nil h.sent) (joined _ _ h.taken none); cut = h.cut }
 
-pub returns-in_err-flush-clause-bytes : goal.returns-in_err-flush-clause-bytes
-returns-in_err-flush-clause-bytes g c =
-    passed g.S.Sink.took _ _ _ _ _ (g.met.S.Sink.took_joined _ _ _) c.in_ok-drain.ensures.bytes c.flush.ensures.bytes
+pub returns-in_err-flush-clause-flushes : goal.returns-in_err-flush-clause-flushes
+returns-in_err-flush-clause-flushes g c = record {
+  bytes = passed g.S.Sink.took _ _ _ _ _ (g.met.S.Sink.took_joined _ _ _) c.in_ok-drain.ensures.passes.bytes
+      c.flush.ensures.bytes;
+  count = MatchResult-from_err c.from_residual-in_err-flush.result _ _ c.from_residual-in_err-flush.ensures.0
+      (λ _. subst (λ n. Rises n (g.S.Sink.failures c.flush.new.self)) c.in_ok-drain.ensures.passes.count
+      c.in_err-flush.ensures.count);
+  flushed = MatchResult-from_err c.from_residual-in_err-flush.result _ _ c.from_residual-in_err-flush.ensures.0
+      (λ _. c.in_ok-drain.ensures.passes.flushed);
+}
 
-pub returns-clause-bytes : goal.returns-clause-bytes
-returns-clause-bytes g c =
-    passed g.S.Sink.took _ _ _ _ _ (g.met.S.Sink.took_joined _ _ _) c.in_ok-drain.ensures.bytes c.flush.ensures.bytes
+pub returns-clause-flushes : goal.returns-clause-flushes
+returns-clause-flushes g c = record {
+  bytes = passed g.S.Sink.took _ _ _ _ _ (g.met.S.Sink.took_joined _ _ _) c.in_ok-drain.ensures.passes.bytes
+      c.flush.ensures.bytes;
+  count = c.in_ok-flush.ensures.count ∙ c.in_ok-drain.ensures.passes.count;
+  flushed = refl;
+}
