@@ -25,6 +25,6 @@ returns-in-Err-clause-stops g c =
       h.0,
       h.1,
       RunStops-by c.args.options _ _ _
-          (λ text taken. passed_on g.W.Write.contents _ _ _ _ _ _ text taken c.pass_on.ensures.bytes) h.0
+          (λ text taken. passed_on g.W.Write.contents _ _ _ _ _ _ text taken c.pass_on.ensures.passes.bytes) h.0
           c.in-Err.fault h.2,
     )
