@@ -1,28 +1,32 @@
 -- A text is cut into lines in one way, and how the lines change as a byte is added at its end.
 use Rattle.std.proofs.Common.{◌≡◌, ◌≢◌, ℕ, Bool, true, false, eqb, ne_eqb, List, [], ◌∷◌, ◌++◌, refl, ap, subst, sym}
-use Rattle.std.proofs.Common.{◌∙◌, append_assoc}
-use Rattle.std.specs.List.{All}
+use Rattle.std.proofs.Common.{◌∙◌, ◌-◌, append_assoc, arith, length, length-append, take}
+use Rattle.std.proofs.Math.Seq.{take-append_seam}
+use Rattle.std.specs.List.{All, slice_index_or}
 use Rattle.std.proofs.lemmas.Grind.{flat_map-append}
 use Rattle.std.proofs.lemmas.Bool.{eqb-true, eqb-false}
 use Rattle.std.proofs.lemmas.List.{append-nil}
 use Rattle.std.proofs.lemmas.List.Concat.{flat_map-cons}
 use Rattle.std.proofs.lemmas.List.Elements.{All-nil, All-cons, All-head, All-tail, All-push, All-weaker}
 use Rattle.std.proofs.lemmas.List.Splits.{slice_split_none, slice_split_at}
-use Rattle.device.specs.Lines.{LF, parts, all_but_last, last_part, ended_lines, open_line, with_ends, ended_text}
+use Rattle.device.specs.Lines.{LF, parts, ended_lines, open_line, with_ends, ended_text}
 use Rattle.device.specs.Lines.{HasNoLF, IsCut, unless_empty, lines}
 
-all_but_last-push : (ps : List (List ℕ)) (p : List ℕ) → all_but_last (ps ++ p ∷ []) ≡ ps
-all_but_last-push [] p = refl
-all_but_last-push (q ∷ []) p = refl
-all_but_last-push (q ∷ r ∷ ps) p = ap (λ (xs : List (List ℕ)). q ∷ xs) (all_but_last-push (r ∷ ps) p)
+-- where a list with one part more ends
+length-push : (ps : List (List ℕ)) (p : List ℕ) → length (ps ++ p ∷ []) - 1 ≡ length ps
+length-push ps p = omega (arith, length-append ps (p ∷ []))
 
-last_part-push : (ps : List (List ℕ)) (p : List ℕ) → last_part (ps ++ p ∷ []) ≡ p
-last_part-push [] p = refl
-last_part-push (q ∷ []) p = refl
-last_part-push (q ∷ r ∷ ps) p = last_part-push (r ∷ ps) p
+take-push : (ps : List (List ℕ)) (p : List ℕ) → take (length (ps ++ p ∷ []) - 1) (ps ++ p ∷ []) ≡ ps
+take-push ps p = ap (λ n. take n (ps ++ p ∷ [])) (length-push ps p) ∙ take-append_seam ps (p ∷ [])
 
-line_end : List ℕ → List ℕ
-line_end line = line ++ LF ∷ []
+slice_index_or-length : (ps : List (List ℕ)) (p : List ℕ) → slice_index_or (ps ++ p ∷ []) (length ps) [] ≡ p
+slice_index_or-length [] p = refl
+slice_index_or-length (q ∷ ps) p = slice_index_or-length ps p
+
+slice_index_or-push : (ps : List (List ℕ)) (p : List ℕ)
+    → slice_index_or (ps ++ p ∷ []) (length (ps ++ p ∷ []) - 1) [] ≡ p
+slice_index_or-push ps p =
+    ap (λ n. slice_index_or (ps ++ p ∷ []) n []) (length-push ps p) ∙ slice_index_or-length ps p
 
 no_lf : (bytes : List ℕ) → HasNoLF bytes → All (λ byte. eqb byte LF ≡ false) bytes
 no_lf bytes h = All-weaker (λ byte. byte ≢ LF) (λ byte. eqb byte LF ≡ false) (λ byte n. ne_eqb byte LF n) bytes h
@@ -42,14 +46,15 @@ parts-cut (line ∷ ended) rest each last =
 pub ended_lines-cut : {text : List ℕ} {ended : List (List ℕ)} {rest : List ℕ} → IsCut text ended rest
     → ended_lines text ≡ ended
 unfolding ended_lines
-ended_lines-cut {text} {ended} {rest} cut = ap (λ t. all_but_last (parts t)) cut.whole
-    ∙ (ap all_but_last (parts-cut ended rest cut.each cut.rest_open) ∙ all_but_last-push ended rest)
+ended_lines-cut {text} {ended} {rest} cut = ap (λ t. take (length (parts t) - 1) (parts t)) cut.whole
+    ∙ (ap (λ ps. take (length ps - 1) ps) (parts-cut ended rest cut.each cut.rest_open) ∙ take-push ended rest)
 
 pub open_line-cut : {text : List ℕ} {ended : List (List ℕ)} {rest : List ℕ} → IsCut text ended rest
     → open_line text ≡ rest
 unfolding open_line
-open_line-cut {text} {ended} {rest} cut = ap (λ t. last_part (parts t)) cut.whole
-    ∙ (ap last_part (parts-cut ended rest cut.each cut.rest_open) ∙ last_part-push ended rest)
+open_line-cut {text} {ended} {rest} cut = ap (λ t. slice_index_or (parts t) (length (parts t) - 1) []) cut.whole
+    ∙ (ap (λ ps. slice_index_or ps (length ps - 1) []) (parts-cut ended rest cut.each cut.rest_open)
+    ∙ slice_index_or-push ended rest)
 
 -- some cut of a text
 pub record SomeCut (text : List ℕ) : Type 0 where

@@ -1,6 +1,6 @@
 -- The lines of a text (docs/SPECIFICATION.md, Lines).
-use Rattle.std.specs.Prelude.{◌≡◌, ◌≢◌, ℕ, All, ◌==◌, List, [], ◌∷◌, ◌++◌}
-use Rattle.std.specs.List.{slice_split, flat_map}
+use Rattle.std.specs.Prelude.{◌≡◌, ◌≢◌, ℕ, ◌-◌, All, ◌==◌, List, [], ◌∷◌, ◌++◌, length, take}
+use Rattle.std.specs.List.{slice_split, slice_index_or, flat_map}
 
 -- the line feed
 abbrev pub LF : ℕ
@@ -10,24 +10,13 @@ LF = 10
 abbrev pub parts : List ℕ → List (List ℕ)
 parts text = slice_split (λ byte. byte == LF) text
 
--- a list without its last part
-abbrev pub all_but_last : List (List ℕ) → List (List ℕ)
-all_but_last (part ∷ next ∷ parts) = part ∷ all_but_last (next ∷ parts)
-all_but_last fewer = []
-
--- the last part of a list, or the empty text
-abbrev pub last_part : List (List ℕ) → List ℕ
-last_part [] = []
-last_part (part ∷ []) = part
-last_part (part ∷ next ∷ parts) = last_part (next ∷ parts)
-
--- the lines that an LF ends
+-- the lines that an LF ends: all parts but the last
 unfoldable pub ended_lines : List ℕ → List (List ℕ)
-ended_lines text = all_but_last (parts text)
+ended_lines text = take (length (parts text) - 1) (parts text)
 
--- the bytes after the last LF
+-- the bytes after the last LF: the last part
 unfoldable pub open_line : List ℕ → List ℕ
-open_line text = last_part (parts text)
+open_line text = slice_index_or (parts text) (length (parts text) - 1) []
 
 -- a line, unless it is empty
 abbrev pub unless_empty : List ℕ → List (List ℕ)

@@ -1,5 +1,5 @@
 -- What the clauses of the devices in memory see of them (docs/SPECIFICATION.md, The filter as a library).
-use Rattle.std.specs.Prelude.{ℕ, Bool, List}
+use Rattle.std.specs.Prelude.{◌≡◌, ℕ, Bool, List}
 use Rattle.device.specs.declared.memory.MemSource.{MemSource}
 use Rattle.device.specs.declared.memory.MemSink.{MemSink}
 
@@ -15,6 +15,11 @@ fails_after source = source.fails
 abbrev pub read_limit : MemSource → ℕ
 read_limit source = source.piece
 
+-- two states of a source that gives its bytes in one way
+pub record GivesAlike (old new : MemSource) : Type 0 where
+  pub limit : read_limit new ≡ read_limit old
+  pub fails : fails_after new ≡ fails_after old
+
 -- the bytes that a sink holds
 abbrev pub held_by : {N : ℕ} → MemSink N → List ℕ
 held_by sink = sink.held.items
@@ -26,3 +31,8 @@ write_limit sink = sink.piece
 -- the most bytes that a sink holds
 abbrev pub room_of : {N : ℕ} → MemSink N → ℕ
 room_of sink = sink.limit
+
+-- two states of a sink with the same limits
+pub record TakesAlike {N : ℕ} (old new : MemSink N) : Type 0 where
+  pub limit : write_limit new ≡ write_limit old
+  pub room : room_of new ≡ room_of old

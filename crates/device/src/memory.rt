@@ -53,7 +53,7 @@ impl<'a> Source for MemSource<'a> {
 
     ghost ends = { λ s. s.rest.now ≡ [] };
 
-    ghost use Rattle.device.specs.Memory.{left_in, fails_after, read_limit};
+    ghost use Rattle.device.specs.Memory.{left_in, fails_after, read_limit, GivesAlike};
 
     fn read(&mut self, buf: &mut [u8]) -> Result<usize, IoFault>
         requires { 0 < length buf.old }
@@ -62,8 +62,7 @@ impl<'a> Source for MemSource<'a> {
         ensures amount { IfOk result (λ n.
             n ≡ min (min (read_limit self.old) (length buf.old)) (length (left_in self.old))) }
         ensures fails { IsErr result ↔ ((left_in self.old ≡ []) × (fails_after self.old ≡ true)) }
-        ensures limit { read_limit self.new ≡ read_limit self.old }
-        ensures mode { fails_after self.new ≡ fails_after self.old }
+        ensures alike { GivesAlike self.old self.new }
     {
         if self.rest.is_empty() && self.fails {
             self.failures = self.failures.saturating_add(1);
@@ -138,7 +137,7 @@ impl<const N: usize> Sink for MemSink<N> {
 
     ghost took = { λ s t xs. t.held.items ≡ s.held.items ++ xs };
 
-    ghost use Rattle.device.specs.Memory.{held_by, write_limit, room_of};
+    ghost use Rattle.device.specs.Memory.{held_by, write_limit, room_of, TakesAlike};
 
     fn write(&mut self, bytes: &[u8]) -> Result<usize, IoFault>
         requires { 0 < length bytes.now }
@@ -148,8 +147,7 @@ impl<const N: usize> Sink for MemSink<N> {
             n ≡ min (min (write_limit self.old) (room_of self.old - length (held_by self.old)))
             (length bytes.now)) }
         ensures fails { IsErr result ↔ (room_of self.old ≤ length (held_by self.old)) }
-        ensures limit { write_limit self.new ≡ write_limit self.old }
-        ensures room { room_of self.new ≡ room_of self.old }
+        ensures alike { TakesAlike self.old self.new }
     {
         if self.held.len() >= self.limit {
             self.failures = self.failures.saturating_add(1);
@@ -166,8 +164,7 @@ impl<const N: usize> Sink for MemSink<N> {
         ensures flushes { let sink = ⟦<MemSink<N> as Sink>⟧ in
             Flushes sink.failures sink.is_flushed sink.took self.old self.new result }
         ensures answer { IsOk result }
-        ensures limit { write_limit self.new ≡ write_limit self.old }
-        ensures room { room_of self.new ≡ room_of self.old }
+        ensures alike { TakesAlike self.old self.new }
     {
         self.is_flushed = true;
         Ok(())

@@ -9,22 +9,23 @@ pub trait Sink {
     /// How often a write or a flush failed. The count stops at the greatest `u64`.
     ghost failures: { Self → ℕ };
 
-    /// A flush succeeded, and nothing was written since.
+    /// The last flush succeeded, and nothing was written since.
     ghost is_flushed: { Self → Bool };
 
     /// From the first state to the second, writes took these bytes.
     ghost took: { Self → Self → List ℕ → Type 0 };
 
-    /// Takes some bytes off the front of `bytes`, at least one, and says how many. After an `Err` no byte was taken.
+    /// Takes at least one byte off the front of `bytes`, which is not empty, and returns how many it took. After an
+    /// `Err` it took none.
     fn write(&mut self, bytes: &[u8]) -> Result<usize, IoFault>
         requires { 0 < length bytes.now }
         ensures { WritesSome failures is_flushed took self.old self.new bytes.now result };
 
-    /// Passes on what it holds back, and takes no byte. After an `Err` it may hold some of that still.
+    /// Passes on what is buffered, here and below, and takes no byte. After an `Err` some of it may be buffered still.
     fn flush(&mut self) -> Result<(), IoFault>
         ensures { Flushes failures is_flushed took self.old self.new result };
 
-    /// Sends on what it holds back: takes no byte, and flushes nothing. After an `Err` it may hold some of that still.
+    /// Passes on what is buffered: takes no byte, and flushes nothing. After an `Err` some of it may be buffered still.
     fn pass_on(&mut self) -> Result<(), IoFault>
         ensures { PassesBuffered failures is_flushed took self.old self.new result }
     {

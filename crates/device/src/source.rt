@@ -18,7 +18,8 @@ pub trait Source {
     /// Nothing is left to give, as far as is known of this source.
     ghost ends: { Self → Type 0 };
 
-    /// Puts some bytes at the front of `buf`, and says how many; 0 is the end. After an `Err` no byte was given.
+    /// Puts bytes at the front of `buf`, which is not empty, and returns how many; 0 is the end. After an `Err` it gave
+    /// none.
     fn read(&mut self, buf: &mut [u8]) -> Result<usize, IoFault>
         requires { 0 < length buf.old }
         ensures { ReadsSome failures at_end gave ends self.old self.new buf.new result };
