@@ -4,35 +4,35 @@ use Rattle.std.proofs.Common.{inl, inr}
 use Rattle.std.specs.Prelude.{IfSome, IsSome, option_map, unwrap_or}
 use Rattle.std.specs.Option.{option_map_or}
 use Rattle.std.specs.Str.{bytes_eq}
-use Rattle.std.specs.Borrow.{Bor}
 use Rattle.clap.specs.Words.{Row, Text, first_of, first_value, one_text, rows_of}
 use Rattle.clap.specs.declared.parser.matches.Found.{Found}
 use Rattle.clap.proofs.WalkLemmas.{first_value-rows, one_text-rows}
 use Rattle.labelcore.specs.OptionValues.{IsMask, OptionValues}
 use Rattle.labelcore.specs.declared.options.Format.{Format}
 use Rattle.qrdata.specs.declared.level.Level.{Level}
-use Rattle.command.specs.CommandLine.{HoldsNumber, IsNumberIn, format_in, is_on, level_in, number_named, number_of, run}
-use Rattle.command.specs.CommandLine.{run_of, options_named, options_with}
+use Rattle.command.specs.CommandLine.{format_in, is_on, level_in, number_named, number_of, options_named, options_with}
+use Rattle.command.specs.CommandLine.{run, run_of}
+use Rattle.command.specs.Private.Checked.{HoldsNumber, IsNumberIn}
 
-unwrap_now : (o : Option (Bor Text)) (d : Bor Text) → (unwrap_or o d).now ≡ unwrap_or (option_map (λ s. s.now) o) d.now
-unwrap_now None d = refl
-unwrap_now (Some s) d = refl
+-- what is read of the text that is given for an option
+pub read_given : {X : Type 0} (f : Found) (id : Text) (read : Text → Option X) (default : Option X) (text : Text)
+    → Some text ≡ first_value f id → read text ≡ option_map_or read (first_of id (rows_of f)) default
+read_given f id read default text is = ap (λ o. option_map_or read o default) (is ∙ first_value-rows f id)
 
--- the text that is given for an option, or the default
-pub text_read : (f : Found) (id : Text) (o : Option (Bor Text)) (d s : Bor Text)
-    → option_map (λ x. x.now) o ≡ first_value f id → s ≡ unwrap_or o d
-    → s.now ≡ unwrap_or (first_of id (rows_of f)) d.now
-text_read f id o d s is given =
-    ap (λ (x : Bor Text). x.now) given ∙ unwrap_now o d ∙ ap (λ t. unwrap_or t d.now) (is ∙ first_value-rows f id)
+-- the default of an option that is not given
+pub read_default : {X : Type 0} (f : Found) (id : Text) (read : Text → Option X) (default : Option X)
+    → None ≡ first_value f id → default ≡ option_map_or read (first_of id (rows_of f)) default
+read_default f id read default is = ap (λ o. option_map_or read o default) (is ∙ first_value-rows f id)
 
 pub number_read : (f : Found) (id : Text) (o : Option ℕ) → o ≡ option_map number_of (one_text f id)
     → o ≡ number_named id (rows_of f)
 number_read f id o is = is ∙ ap (option_map number_of) (one_text-rows f id)
 
-pub default_read : (f : Found) (id : Text) (o : Option ℕ) (d n : ℕ) → o ≡ option_map number_of (one_text f id)
-    → n ≡ unwrap_or o d
-    → n ≡ unwrap_or (number_named id (rows_of f)) d
-default_read f id o d n is given = given ∙ ap (λ p. unwrap_or p d) (number_read f id o is)
+-- the number that is given for an option, or the default
+pub default_read : (f : Found) (id : Text) (o : Option ℕ) (d default n : ℕ) → o ≡ option_map number_of (one_text f id)
+    → n ≡ unwrap_or o d → d ≡ default → n ≡ unwrap_or (number_named id (rows_of f)) default
+default_read f id o d default n is given same =
+    given ∙ ap (λ x. unwrap_or o x) same ∙ ap (λ p. unwrap_or p default) (number_read f id o is)
 
 -- a number that is given lies in the range, and so does the default
 pub in_range : (f : Found) (id : Text) (low high d : ℕ) (o : Option ℕ) (n : ℕ)

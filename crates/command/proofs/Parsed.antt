@@ -29,11 +29,12 @@ use Rattle.clap.specs.declared.builder.value_parser.Reading.TheVariants as readi
 use Rattle.clap.specs.declared.error.Error.{Error}
 use Rattle.clap.specs.declared.error.kind.ErrorKind.TheVariants.{OutOfMemory}
 use Rattle.clap.specs.declared.parser.matches.ArgMatches.{ArgMatches}
-use Rattle.command.specs.Answers.{Answers, Refuses}
-use Rattle.command.specs.CommandLine.{HoldsNumber, HoldsValues, IsNumberIn, Invocation, bad, command_line, help}
+use Rattle.command.specs.Choosing.{Chooses, Refuses}
+use Rattle.command.specs.CommandLine.{Invocation, bad, command_line, help}
 use Rattle.command.specs.CommandLine.{invocation_refused, invocation_by, run}
-use Rattle.command.specs.declared.words.WordsFault.{WordsFault}
-use Rattle.command.specs.declared.words.WordsFault.TheVariants.{Memory}
+use Rattle.command.specs.Private.Checked.{HoldsNumber, HoldsValues, IsNumberIn}
+use Rattle.command.specs.declared.arguments.ArgumentsFault.{ArgumentsFault}
+use Rattle.command.specs.declared.arguments.ArgumentsFault.TheVariants.{Memory}
 use Rattle.command.proofs.OneKind.{IsOneAtMost}
 use Rattle.clap.specs.declared.builder.arg.Arg.{Arg}
 use Rattle.clap.specs.declared.builder.command.Command.{Command}
@@ -240,31 +241,26 @@ still_built old new is whole (inl broken) = absurd (whole broken)
 still_built old new is whole (inr (builds, names, inl same)) = same ∙ is
 still_built old new is whole (inr (builds, names, inr again)) = again (ap is_buildable is) ∙ ap built is
 
--- ---- what a refused parse answers
+-- ---- what a refused parse returns
 
-memory_refuses : (r : Invocation) → Refuses r Memory
-memory_refuses (run s name) = tt
-memory_refuses help = tt
-memory_refuses bad = tt
+pub Chooses-memory : (r : Invocation) → Chooses r (Err Memory)
+Chooses-memory (run s name) = tt
+Chooses-memory help = tt
+Chooses-memory bad = tt
 
-pub memory_answers : (r : Invocation) → Answers r (Err Memory)
-memory_answers (run s name) = tt
-memory_answers help = tt
-memory_answers bad = tt
-
-pub refused : (kinds : Kinds) (rows : List Row) (e : Error) (fault : WordsFault) → IsOneAtMost kinds → HasKind kinds e
+pub refused : (kinds : Kinds) (rows : List Row) (e : Error) (fault : ArgumentsFault) → IsOneAtMost kinds → HasKind kinds e
     → (kind_of e ≡ OutOfMemory → fault ≡ Memory) → Refuses (invocation_refused (kind_of e)) fault
-    → Answers (invocation_by kinds rows) (Err fault)
+    → Chooses (invocation_by kinds rows) (Err fault)
 unfolding IsOneAtMost
 refused kinds rows e fault one (inl memory) as_memory other =
-    rw (as_memory memory) (memory_answers (invocation_by kinds rows))
+    rw (as_memory memory) (Chooses-memory (invocation_by kinds rows))
 refused [] rows e fault one (inr among) as_memory other = absurd among
 refused (k ∷ []) rows e fault one (inr (inl is)) as_memory other =
-    answers_err (invocation_refused k) fault (subst (λ x. Refuses (invocation_refused x) fault) is other)
+    Chooses-err (invocation_refused k) fault (subst (λ x. Refuses (invocation_refused x) fault) is other)
   where
-    answers_err : (r : Invocation) (w : WordsFault) → Refuses r w → Answers r (Err w)
-    answers_err (run s name) w h = h
-    answers_err help w h = h
-    answers_err bad w h = h
+    Chooses-err : (r : Invocation) (w : ArgumentsFault) → Refuses r w → Chooses r (Err w)
+    Chooses-err (run s name) w h = h
+    Chooses-err help w h = h
+    Chooses-err bad w h = h
 refused (k ∷ []) rows e fault one (inr (inr never)) as_memory other = absurd never
 refused (k ∷ l ∷ ks) rows e fault one (inr among) as_memory other = absurd one

@@ -1,22 +1,21 @@
--- The command line `labels [options] [FILE]`: which words it takes, and what they ask for
+-- The command line `labels [options] [FILE]`: which arguments it takes, and what they ask for
 -- (docs/SPECIFICATION.md, Options).
-use Rattle.std.specs.Prelude.{◌≡◌, ◌≤◌, ◌⊎◌, ◌++◌, ℕ, Bool, true, false, List, [], ◌∷◌, Option, Some, pos, codes}
-use Rattle.std.specs.Prelude.{option_map, option_and_then, unwrap_or, IfSome}
+use Rattle.std.specs.Prelude.{◌++◌, ℕ, Bool, true, false, List, [], ◌∷◌, Option, Some, pos, codes}
+use Rattle.std.specs.Prelude.{option_map, option_and_then, unwrap_or}
 use Rattle.std.specs.Option.{option_map_or}
 use Rattle.std.specs.Str.{bytes_eq}
-use Rattle.std.specs.Str.Parse.{IsNumeral, digits_value, without_leading_plus}
-use Rattle.clap.specs.Words.{App, Kinds, Row, Rule, Text, fault_of, first_of, matches_of, new_rule, one_of, one_text}
-use Rattle.clap.specs.Words.{with_rule}
+use Rattle.std.specs.Str.Parse.{digits_value, without_leading_plus}
+use Rattle.clap.specs.Words.{App, Kinds, Row, Rule, Text, fault_of, first_of, matches_of, new_rule, one_of}
 use Rattle.clap.specs.Simple.{new_shape}
 use Rattle.clap.specs.declared.builder.action.ArgAction.TheVariants.{SetTrue}
 use Rattle.clap.specs.declared.builder.value_parser.ValueParser.TheVariants as parser
 use Rattle.clap.specs.declared.error.kind.ErrorKind.{ErrorKind}
 use Rattle.clap.specs.declared.error.kind.ErrorKind.TheVariants as kind
-use Rattle.clap.specs.declared.parser.matches.Found.{Found}
 use Rattle.labelcore.specs.declared.options.Format.{Format}
 use Rattle.labelcore.specs.declared.options.Format.TheVariants.{Pbm, Ascii}
 use Rattle.qrdata.specs.declared.level.Level.{Level}
 use Rattle.labelcore.specs.Names.{listed}
+use Rattle.labelcore.specs.Defaults.{default_options}
 use Rattle.labelcore.specs.OptionValues.{OptionValues, level_named}
 
 -- ---- the command
@@ -51,12 +50,7 @@ symbol_options = text_option (codes "level")
     ∷ number_option (codes "mask") 0 7
     ∷ []
 
--- a command with these options more, after its own
-abbrev pub with_rules : App → List Rule → App
-with_rules a [] = a
-with_rules a (r ∷ rs) = with_rules (with_rule a r) rs
-
--- the command reads words with no program's name before them
+-- the command: its arguments come without the program's name
 abbrev pub command_line : App
 command_line = record {
   top = record (new_shape (codes "labels")) {
@@ -86,70 +80,51 @@ format_of text = listed text ((codes "pbm", Pbm) ∷ (codes "ascii", Ascii) ∷ 
 
 -- the format given, or the default
 abbrev pub format_in : List Row → Option Format
-format_in rows = format_of (unwrap_or (first_of (codes "format") rows) (codes "pbm"))
+format_in rows = option_map_or format_of (first_of (codes "format") rows) (Some default_options.format)
 
 -- the level given, or the default
 abbrev pub level_in : List Row → Option Level
-level_in rows = level_named (unwrap_or (first_of (codes "level") rows) (codes "M"))
+level_in rows = option_map_or level_named (first_of (codes "level") rows) (Some default_options.level)
 
 -- the options given, each other at its default
 abbrev pub options_with : List Row → Format → Level → OptionValues
 options_with rows format level = record {
   format = format;
-  scale = unwrap_or (number_named (codes "scale") rows) 1;
-  height = unwrap_or (number_named (codes "height") rows) 50;
+  scale = unwrap_or (number_named (codes "scale") rows) default_options.scale;
+  height = unwrap_or (number_named (codes "height") rows) default_options.height;
   level = level;
-  min_version = unwrap_or (number_named (codes "min-version") rows) 1;
+  min_version = unwrap_or (number_named (codes "min-version") rows) default_options.min_version;
   mask = number_named (codes "mask") rows;
   escapes = is_on (codes "escapes") rows;
 }
 
--- the settings that the matches name, each of the others at its default; none where the format or the level is not
--- listed
+-- the options that the matches name, each other at its default; none if the format or the level is not listed
 abbrev pub options_named : List Row → Option OptionValues
 options_named rows = option_and_then (λ format.
     option_map (λ level. options_with rows format level) (level_in rows)) (format_in rows)
 
--- ---- what the words ask for
+-- ---- what the arguments ask for
 
--- a run with settings over a file or standard input, the help text, or nothing that the command takes
+-- a run with these options over a file or standard input, the help text, or nothing that the command takes
 pub data Invocation : Type 0 where
   run : OptionValues → Option Text → Invocation
   help : Invocation
   bad : Invocation
 
--- what a refused parse comes to
+-- what a refused parse asks for
 abbrev pub invocation_refused : ErrorKind → Invocation
 invocation_refused kind.DisplayHelp = help
 invocation_refused _ = bad
 
 -- the run that the matches name, if format and level are listed
 abbrev pub run_of : List Row → Invocation
-run_of rows = option_map_or (λ s. run s (first_of (codes "file") rows)) (options_named rows) bad
+run_of rows = option_map_or (λ options. run options (first_of (codes "file") rows)) (options_named rows) bad
 
 -- the first fault decides
 abbrev pub invocation_by : Kinds → List Row → Invocation
 invocation_by [] rows = run_of rows
 invocation_by (k ∷ ks) rows = invocation_refused k
 
--- what the words ask for
+-- what the arguments ask for
 abbrev pub invocation_of : List Text → Invocation
-invocation_of words = invocation_by (fault_of command_line words) (matches_of command_line words)
-
--- ---- what a parse that succeeds has checked
-
--- a numeral from low to high
-abbrev pub IsNumberIn : ℕ → ℕ → Text → Type 0
-IsNumberIn low high text = IsNumeral 10 (without_leading_plus text) × (low ≤ number_of text) × (number_of text ≤ high)
-
--- an option that was given holds a number from low to high
-abbrev pub HoldsNumber : ℕ → ℕ → Text → Found → Type 0
-HoldsNumber low high id f = IfSome (one_text f id) (IsNumberIn low high)
-
--- each number is in its range, and the switch is on or off
-pub record HoldsValues (f : Found) : Type 0 where
-  pub scale : HoldsNumber 1 8 (codes "scale") f
-  pub height : HoldsNumber 1 500 (codes "height") f
-  pub min_version : HoldsNumber 1 10 (codes "min-version") f
-  pub mask : HoldsNumber 0 7 (codes "mask") f
-  pub escapes : IfSome (one_text f (codes "escapes")) (λ t. (t ≡ codes "true") ⊎ (t ≡ codes "false"))
+invocation_of arguments = invocation_by (fault_of command_line arguments) (matches_of command_line arguments)

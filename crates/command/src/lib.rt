@@ -1,13 +1,13 @@
-//! The command `labels` around the filter: what its words ask for, the file that they name, and how it ends.
+//! The command `labels` around the filter: what its arguments ask for ([`options_of`]), the file that they name
+//! ([`open_file`]), and how it ends ([`End`]).
 //!
-//! It stands apart from the program, whose `main` makes these calls, so that the words are proved and tested as a
-//! library is.
+//! The program's `main` makes these calls. They are a library of their own, so that they are proved and tested as one.
 #![tactic(auto)]
 
+mod arguments;
 mod end;
 mod file;
-mod words;
 
+pub use arguments::{ArgumentsFault, Choice, VERSION, options_of};
 pub use end::End;
 pub use file::{OpenFault, open_file};
-pub use words::{Choice, WordsFault, options_of};

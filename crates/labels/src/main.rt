@@ -1,7 +1,7 @@
-//! The program `labels`: reads its words, runs the filter over a file or standard input, and ends.
+//! The program `labels`: reads its arguments, runs the filter over a file or standard input, and ends.
 #![tactic(auto)]
 
-use command::{Choice, End, OpenFault, WordsFault, open_file, options_of};
+use command::{ArgumentsFault, Choice, End, OpenFault, open_file, options_of};
 use device::{Buffered, StdSink, StdSource};
 use filter::{RunFault, run_streams};
 use std::alloc::Global;
@@ -11,36 +11,36 @@ use std::process::ExitCode;
 
 fn main(rt: HostRuntime) -> ExitCode {
     let end = end_of(&rt);
-    // A line that can't be written changes nothing.
+    // If the line can't be written, nothing changes: the status says how the program ended.
     let _ = rt.stderr().write_all(end.line().as_bytes());
     ExitCode::from(end.status())
 }
 
-/// Does what the words ask for, and says how it ended.
+/// Does what the arguments ask for, and returns how it ended.
 fn end_of(rt: &HostRuntime) -> End {
     let alloc = rt.alloc();
-    let words = match words_of(rt, alloc) {
-        Ok(words) => words,
+    let arguments = match arguments_of(rt, alloc) {
+        Ok(arguments) => arguments,
         Err(end) => return end,
     };
-    match options_of(alloc, words.as_slice()) {
+    match options_of(alloc, arguments.as_slice()) {
         Ok(choice) => run_choice(rt, alloc, choice),
-        Err(WordsFault::Help(text)) => help(rt, text.as_str()),
-        Err(WordsFault::Bad) => End::BadWords,
-        Err(WordsFault::Memory) => End::NoMemory,
+        Err(ArgumentsFault::Help(text)) => help(rt, text.as_str()),
+        Err(ArgumentsFault::Bad) => End::BadArguments,
+        Err(ArgumentsFault::Memory) => End::NoMemory,
     }
 }
 
-/// The words after the program's name.
-fn words_of(rt: &HostRuntime, alloc: Global) -> Result<Vec<String>, End> {
+/// The arguments after the program's name.
+fn arguments_of(rt: &HostRuntime, alloc: Global) -> Result<Vec<String>, End> {
     match env::args(rt) {
         Ok(args) => match args.skip(1).collect(alloc) {
-            Ok(words) => Ok(words),
+            Ok(arguments) => Ok(arguments),
             Err(_) => Err(End::NoMemory),
         },
         Err(error) => Err(match error.kind() {
             ErrorKind::OutOfMemory => End::NoMemory,
-            _ => End::BadWords,
+            _ => End::BadArguments,
         }),
     }
 }
@@ -66,7 +66,7 @@ fn run_choice(rt: &HostRuntime, alloc: Global, choice: Choice) -> End {
     }
 }
 
-/// Runs the filter over a source, into standard output through a buffer, and standard error.
+/// Runs the filter over a source: pictures go to standard output through a buffer, messages to standard error.
 fn run_over<R: Read + Drop>(rt: &HostRuntime, choice: &Choice, mut source: StdSource<R>) -> End {
     let mut out = Buffered::new(StdSink::new(rt.stdout()));
     let mut err = StdSink::new(rt.stderr());

@@ -1,8 +1,9 @@
 use Rattle.std.proofs.Common.{rules, ap, ap₂, codes, ◌≡◌, ◌∙◌, true, []}
 use Rattle.std.proofs.lemmas.Result.{IfOk-weaker}
 use Rattle.clap.specs.Words.{App, app_of, new_app, rule_of, with_rule}
-use Rattle.command.specs.CommandLine.{file_argument, picture_options, switch, symbol_options, with_rules}
-use Rattle.command.proofs.words.command.Goals as goal
+use Rattle.command.specs.CommandLine.{file_argument, picture_options, switch, symbol_options}
+use Rattle.command.specs.Private.Rules.{with_rules}
+use Rattle.command.proofs.arguments.command.Goals as goal
 
 pub returns : goal.returns
 returns c =

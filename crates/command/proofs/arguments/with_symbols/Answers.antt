@@ -4,7 +4,7 @@ use Rattle.clap.specs.Words.{rule_of, with_rule}
 use Rattle.clap.specs.declared.builder.value_parser.ValueParser.{ValueParser}
 use Rattle.clap.specs.declared.builder.value_parser.ValueParser.TheVariants as parser
 use Rattle.command.specs.CommandLine.{number_option, text_option}
-use Rattle.command.proofs.words.with_symbols.Goals as goal
+use Rattle.command.proofs.arguments.with_symbols.Goals as goal
 
 pub returns : goal.returns
 returns c =

@@ -1,56 +1,62 @@
-//! What the words of the command line ask for.
+//! What the arguments of the command line ask for.
 ghost use Rattle.std.specs.Prelude.{◌≡◌, IfOk, map, string_bytes, codes};
 ghost use Rattle.clap.specs.Words.{app_of, first_value, found_of, kind_of, one_text, rows_of};
-ghost use Rattle.command.specs.CommandLine.{HoldsNumber, HoldsValues, command_line, format_of};
-ghost use Rattle.command.specs.CommandLine.{number_of, invocation_refused, invocation_of, run_of};
-ghost use Rattle.command.specs.CommandLine.{file_argument, options_named, picture_options, symbol_options};
-ghost use Rattle.command.specs.CommandLine.{switch, text_option, with_rules};
+ghost use Rattle.command.specs.CommandLine.{command_line, file_argument, format_in, format_of, invocation_of};
+ghost use Rattle.command.specs.CommandLine.{invocation_refused, level_in, number_of, options_named, picture_options};
+ghost use Rattle.command.specs.CommandLine.{run_of, switch, symbol_options, text_option};
+ghost use Rattle.command.specs.Private.Checked.{HoldsNumber, HoldsValues};
+ghost use Rattle.command.specs.Private.Rules.{with_rules};
 ghost use Rattle.clap.specs.Words.{built, rule_of};
-ghost use Rattle.command.specs.Answers.{Answers, Refuses};
+ghost use Rattle.command.specs.Choosing.{Chooses, Refuses};
 ghost use Rattle.std.specs.Prelude.{Some, false, option_map};
 
 use clap::builder::ValueParser;
 use clap::error::ErrorKind;
 use clap::{Arg, ArgAction, ArgMatches, Command, value_parser};
 use labelcore::{Format, Options, level_of};
+use qrdata::Level;
 use std::alloc::{AllocError, Global};
 
-/// What the words of a run choose.
+/// What the arguments of a run choose.
 #[derive(Debug, Drop)]
 pub struct Choice {
+    /// The options of the run.
     pub options: Options,
-    /// The file to read; standard input, where there is none.
+    /// The file to read; standard input if there is none.
     pub file: Option<String>,
 }
 
-/// Why the words choose no run.
+/// Why the arguments choose no run.
 #[derive(Debug, Drop)]
-pub enum WordsFault {
-    /// Help was asked for, and this is its text.
+pub enum ArgumentsFault {
+    /// They ask for help, and this is its text.
     Help(String),
-    /// The command does not take the words.
+    /// The command does not take them.
     Bad,
     /// Memory ran out.
     Memory,
 }
 
-/// What stands before the usage in the help text.
-const ABOUT: &str =
-    "Draws EAN, UPC, Code 128 and QR Code labels: a picture for each line of the input.";
+/// The program and its version: the first line of the help text.
+pub const VERSION: &str = "labels 1.0.0";
 
-/// What stands after the options in the help text.
+/// What the help text says before the usage.
+const ABOUT: &str =
+    "Draws EAN, UPC, Code 128 and QR Code labels: one picture for each line of the input.";
+
+/// What the help text says after the options.
 const AFTER_HELP: &str = "\
 Lines: NAME[,KEY=VALUE].. DATA, where NAME and DATA are
   ean13 400638133393       12 digits, or 13 with the check digit
-  ean8 7351353             7 digits, or 8
-  upca 03600029145         11 digits, or 12
+  ean8 7351353             7 digits, or 8 with the check digit
+  upca 03600029145         11 digits, or 12 with the check digit
   code128 SHELF-7          1 to 80 bytes of ASCII
-  qr https://example.com   any bytes that fit version 10
-and KEY is height, or for qr level, min-version or mask (0 to 7 or auto). Empty lines and
+  qr https://example.com   any bytes that fit in version 10
+and KEY is height, or for qr level, min-version or mask (0 to 7, or auto). Empty lines and
 lines that begin with # draw nothing. A refused line gives a message on standard error.
 
-Status: 0 no line was refused, 1 some line was refused, 2 bad words (of this command),
-3 reading, writing, opening FILE or memory failed.
+Status: 0 no line was refused, 1 at least one line was refused, 2 labels does not take the
+arguments (bad words), 3 reading, writing or opening FILE failed, or memory ran out.
 
 Example: echo 'ean13 400638133393' | labels --scale 4 --height 70 > pencil.pbm";
 
@@ -91,14 +97,14 @@ fn switch<'a>(alloc: Global, name: &'a str, help: &'a str) -> Arg<'a>
         .action(ArgAction::SetTrue)
 }
 
-/// The file that the words may name.
+/// The file that the arguments may name.
 fn file_argument<'a>(alloc: Global) -> Arg<'a>
     ensures rule { rule_of result ≡ file_argument }
     ensures local { result.global ≡ false }
 {
     Arg::new(alloc, "file")
         .value_name("FILE")
-        .help("The file to read; standard input where there is none")
+        .help("The file to read; standard input if there is none")
 }
 
 /// The command line, built.
@@ -116,11 +122,16 @@ fn command<'a>(alloc: Global) -> Result<Command<'a>, AllocError>
 {
     let command = Command::new(alloc, "labels")
         .no_binary_name(true)
+        .before_help(VERSION)
         .about(ABOUT)
         .after_help(AFTER_HELP);
     let command = with_pictures(alloc, command)?;
     with_symbols(alloc, command)?
-        .arg(switch(alloc, "escapes", "Read \\\\, \\n and \\xHH in the data"))?
+        .arg(switch(
+            alloc,
+            "escapes",
+            "Read \\\\, \\n and \\xHH in the data as one byte each",
+        ))?
         .arg(file_argument(alloc))
 }
 
@@ -133,14 +144,14 @@ fn with_pictures<'a>(alloc: Global, command: Command<'a>) -> Result<Command<'a>,
             alloc,
             "format",
             "pbm|ascii",
-            "The pictures, as plain PBM or as text [default: pbm]",
+            "How pictures are written: as plain PBM or as text [default: pbm]",
         ))?
         .arg(number_option(
             alloc,
             "scale",
             "1-8",
             value_parser!(u8).range(1..=8),
-            "The side of a module in pixels [default: 1]",
+            "The width and height of a module in pixels [default: 1]",
         ))?
         .arg(number_option(
             alloc,
@@ -160,24 +171,25 @@ fn with_symbols<'a>(alloc: Global, command: Command<'a>) -> Result<Command<'a>, 
             alloc,
             "level",
             "L|M|Q|H",
-            "The error correction of QR symbols [default: M]",
+            "The error correction level of QR symbols [default: M]",
         ))?
         .arg(number_option(
             alloc,
             "min-version",
             "1-10",
             value_parser!(u8).range(1..=10),
-            "The least version of QR symbols [default: 1]",
+            "The smallest version of QR symbols [default: 1]",
         ))?
         .arg(number_option(
             alloc,
             "mask",
             "0-7",
             value_parser!(u8).range(0..=7),
-            "The mask of QR symbols [default: the one of the least penalty]",
+            "The mask of QR symbols [default: the mask with the lowest penalty]",
         ))
 }
 
+/// The format of this name.
 fn format_of(text: &str) -> Option<Format>
     ensures { result ≡ format_of text.now }
 {
@@ -188,6 +200,27 @@ fn format_of(text: &str) -> Option<Format>
     }
 }
 
+/// The format that the matches name, or the default.
+fn format_in(matches: &ArgMatches<'_>) -> Option<Format>
+    ensures { result ≡ format_in (rows_of (found_of matches.now)) }
+{
+    match matches.get_str("format") {
+        Some(name) => format_of(name),
+        None => Some(Options::default().format()),
+    }
+}
+
+/// The level that the matches name, or the default.
+fn level_in(matches: &ArgMatches<'_>) -> Option<Level>
+    ensures { result ≡ level_in (rows_of (found_of matches.now)) }
+{
+    match matches.get_str("level") {
+        Some(name) => level_of(name.as_bytes()),
+        None => Some(Options::default().level()),
+    }
+}
+
+/// The number that the matches name for an option, 0 to 65,535.
 fn number(matches: &ArgMatches<'_>, id: &str) -> Option<u16>
     requires { HoldsNumber 0 65535 id.now (found_of matches.now) }
     ensures { result ≡ option_map number_of (one_text (found_of matches.now) id.now) }
@@ -195,6 +228,7 @@ fn number(matches: &ArgMatches<'_>, id: &str) -> Option<u16>
     matches.get_one(id)
 }
 
+/// The number that the matches name for an option, 0 to 255.
 fn small_number(matches: &ArgMatches<'_>, id: &str) -> Option<u8>
     requires { HoldsNumber 0 255 id.now (found_of matches.now) }
     ensures { result ≡ option_map number_of (one_text (found_of matches.now) id.now) }
@@ -202,65 +236,68 @@ fn small_number(matches: &ArgMatches<'_>, id: &str) -> Option<u8>
     matches.get_one(id)
 }
 
-/// The settings that the matches name, where format and level are listed.
+/// The options that the matches name, each other at its default; none if the format or the level is not listed.
 fn options_named(matches: &ArgMatches<'_>) -> Option<Options>
     requires { HoldsValues (found_of matches.now) }
     ensures { result ≡ options_named (rows_of (found_of matches.now)) }
 {
-    let format = format_of(matches.get_str("format").unwrap_or("pbm"))?;
-    let level = level_of(matches.get_str("level").unwrap_or("M").as_bytes())?;
-    let scale = small_number(matches, "scale").unwrap_or(1);
-    let height = number(matches, "height").unwrap_or(50);
-    let min_version = small_number(matches, "min-version").unwrap_or(1);
+    let defaults = Options::default();
+    let format = format_in(matches)?;
+    let level = level_in(matches)?;
+    let scale = small_number(matches, "scale").unwrap_or(defaults.scale());
+    let height = number(matches, "height").unwrap_or(defaults.height());
+    let min_version = small_number(matches, "min-version").unwrap_or(defaults.min_version());
     let mask = small_number(matches, "mask");
     let escapes = matches.get_flag("escapes");
     Options::new(format, scale, height, level, min_version, mask, escapes)
 }
 
 /// The run that the matches ask for.
-fn choice_of(alloc: Global, matches: &ArgMatches<'_>) -> Result<Choice, WordsFault>
+fn choice_of(alloc: Global, matches: &ArgMatches<'_>) -> Result<Choice, ArgumentsFault>
     requires { HoldsValues (found_of matches.now) }
-    ensures { Answers (run_of (rows_of (found_of matches.now))) result }
+    ensures { Chooses (run_of (rows_of (found_of matches.now))) result }
 {
     let Some(options) = options_named(matches) else {
-        return Err(WordsFault::Bad);
+        return Err(ArgumentsFault::Bad);
     };
     let file = match matches.get_str("file") {
         Some(name) => match String::from_str(alloc, name) {
             Ok(name) => Some(name),
-            Err(_) => return Err(WordsFault::Memory),
+            Err(_) => return Err(ArgumentsFault::Memory),
         },
         None => None,
     };
     Ok(Choice { options, file })
 }
 
-/// What a refused parse comes to.
-fn fault_of(alloc: Global, error: &clap::Error) -> WordsFault
-    ensures memory { kind_of error.now ≡ ErrorKind.OutOfMemory → result ≡ WordsFault.Memory }
+/// Why a refused parse chooses no run.
+fn fault_of(alloc: Global, error: &clap::Error) -> ArgumentsFault
+    ensures memory { kind_of error.now ≡ ErrorKind.OutOfMemory → result ≡ ArgumentsFault.Memory }
     ensures other { Refuses (invocation_refused (kind_of error.now)) result }
 {
     match error.kind() {
-        ErrorKind::OutOfMemory => WordsFault::Memory,
+        ErrorKind::OutOfMemory => ArgumentsFault::Memory,
         ErrorKind::DisplayHelp => match format!(in alloc; "{error}") {
-            Ok(text) => WordsFault::Help(text),
-            Err(_) => WordsFault::Memory,
+            Ok(text) => ArgumentsFault::Help(text),
+            Err(_) => ArgumentsFault::Memory,
         },
-        _ => WordsFault::Bad,
+        _ => ArgumentsFault::Bad,
     }
 }
 
-/// What the words after the program's name ask for.
+/// What the arguments after the program's name ask for.
 ///
-/// `Help` has the text that `-h` or `--help` asks for, `Bad` comes for words that the command does not take, and
-/// `Memory` where memory ran out.
-pub fn options_of(alloc: Global, words: &[String]) -> Result<Choice, WordsFault>
-    ensures { Answers (invocation_of (map string_bytes words.now)) result }
+/// # Errors
+///
+/// `Help` with the text that `-h` or `--help` asks for, `Bad` if the command does not take the arguments, and `Memory`
+/// if memory ran out.
+pub fn options_of(alloc: Global, arguments: &[String]) -> Result<Choice, ArgumentsFault>
+    ensures { Chooses (invocation_of (map string_bytes arguments.now)) result }
 {
     let Ok(mut command) = built_command(alloc) else {
-        return Err(WordsFault::Memory);
+        return Err(ArgumentsFault::Memory);
     };
-    match command.try_get_matches_from_mut(words) {
+    match command.try_get_matches_from_mut(arguments) {
         Ok(matches) => choice_of(alloc, &matches),
         Err(error) => Err(fault_of(alloc, &error)),
     }

@@ -1,11 +1,11 @@
 use Rattle.std.proofs.Common.{◌≡◌, ◌∙◌, ap, codes, refl, sym, subst, Ok, Some, string_bytes, option_map}
 use Rattle.clap.specs.Words.{first_of, found_of, rows_of}
 use Rattle.clap.proofs.WalkLemmas.{first_value-rows}
-use Rattle.command.specs.Answers.{Answers}
+use Rattle.command.specs.Choosing.{Chooses}
 use Rattle.command.specs.CommandLine.{Invocation}
 use Rattle.command.proofs.Named.{run_named}
-use Rattle.command.proofs.words.choice_of.Goals as goal
-use Rattle.command.proofs.words.choice_of.Goals.{in-Some-get_str+in-Ok, in-None}
+use Rattle.command.proofs.arguments.choice_of.Goals as goal
+use Rattle.command.proofs.arguments.choice_of.Goals.{in-Some-get_str+in-Ok, in-None}
 
 pub returns : goal.returns
 returns c =
@@ -18,5 +18,5 @@ returns c =
       | in-None w ↦ ap (option_map string_bytes) w.file-is ∙ w.in-None.ensures ∙ first_value-rows f (codes "file")
     ] in
     let is = run_named rows c.in-Some.options _ c.in-Some.ensures file in
-    subst (λ (r : Invocation). Answers r (Ok (record { options = c.in-Some.options; file = c.match-get_str.file })))
+    subst (λ (r : Invocation). Chooses r (Ok (record { options = c.in-Some.options; file = c.match-get_str.file })))
     (sym is) (refl, refl)

@@ -1,0 +1,19 @@
+-- What `options_of` returns (docs/SPECIFICATION.md, Options).
+use Rattle.std.specs.Prelude.{◌≡◌, Result, Ok, Err, option_map, string_bytes}
+use Rattle.command.specs.CommandLine.{Invocation, run, help, bad}
+use Rattle.command.specs.declared.arguments.Choice.{Choice}
+use Rattle.command.specs.declared.arguments.ArgumentsFault.{ArgumentsFault}
+use Rattle.command.specs.declared.arguments.ArgumentsFault.TheVariants.{Help, Bad, Memory}
+
+-- the fault is the one that the arguments ask for, or memory ran out
+abbrev pub Refuses : Invocation → ArgumentsFault → Type 0
+Refuses help (Help text) = Unit {0}
+Refuses bad Bad = Unit {0}
+Refuses _ Memory = Unit {0}
+Refuses _ _ = ⊥
+
+-- the result is what the arguments ask for, or memory ran out
+abbrev pub Chooses : Invocation → Result Choice ArgumentsFault → Type 0
+Chooses (run options name) (Ok choice) = (choice.options ≡ options) × (option_map string_bytes choice.file ≡ name)
+Chooses _ (Ok choice) = ⊥
+Chooses invocation (Err fault) = Refuses invocation fault
