@@ -10,9 +10,9 @@ use Rattle.std.proofs.lemmas.Bool.{eq-eqb}
 use Rattle.device.specs.Lines.{lines}
 use Rattle.std.proofs.lemmas.List.Elements.{recursion_from_All}
 use Rattle.picture.specs.Picture.{Picture}
-use Rattle.picture.specs.RoundTrip.{FilesAreTexts, TextsAreRead}
+use Rattle.picture.specs.ReadingLaws.{FilesAreTexts, TextsAreRead}
 use Rattle.picture.specs.Text.{below, ascii_pixel, ascii_row, ascii_text, pixel_row}
-use Rattle.picture.specs.Read.{raster, ascii_line, ascii_lines, ascii_pixels, cut_after, whole_lines, ascii_files}
+use Rattle.picture.specs.Reading.{raster, ascii_line, ascii_lines, ascii_pixels, cut_after, whole_lines, ascii_files}
 use Rattle.picture.proofs.LineLemmas.{is_line_feed, has_no_line_feed, lines-line, lines-nil}
 use Rattle.picture.proofs.CutLemmas.{cut_after-at, cut_after-part}
 

@@ -11,12 +11,12 @@ use Rattle.std.proofs.lemmas.Fmt.{decimal_is_IsNumeral}
 use Rattle.std.proofs.lemmas.Str.Parse.{digit_from_value}
 use Rattle.std.proofs.lemmas.List.Elements.{recursion_from_All}
 use Rattle.picture.specs.Picture.{Picture}
-use Rattle.picture.specs.RoundTrip.{IsDrawable, FilesAreTexts}
+use Rattle.picture.specs.ReadingLaws.{IsDrawable, FilesAreTexts}
 use Rattle.picture.specs.Text.{below, pbm_digit, pbm_header, pbm_text}
 use Rattle.picture.proofs.ColumnLemmas.{pbm_line_end, pbm_pixel, pbm_columns, columns_text, texts_by_columns}
 use Rattle.picture.proofs.ColumnLemmas.{map_by_columns}
 use Rattle.picture.proofs.LineLemmas.{is_line_feed}
-use Rattle.picture.specs.Read.{cut_after, cut_before, onto_parts, is_magic, whole_lines, pbm_files}
+use Rattle.picture.specs.Reading.{cut_after, cut_before, onto_parts, is_magic, whole_lines, pbm_files}
 
 -- a list that is not empty
 data IsSome {X : Type 0} : List X → Type 0 where

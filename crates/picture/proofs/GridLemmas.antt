@@ -10,9 +10,10 @@ use Rattle.std.proofs.lemmas.List.{take-replicate, drop-replicate, get_or_append
 use borrow.Rule.Slice.PartMut.{put_mid}
 use Rattle.std.proofs.lemmas.Nat.{div_below, div-add-mod', div-mul-add, le-div, mul-le}
 use Rattle.std.proofs.lemmas.List.FromFn.{fill_by_all, length-map-range_with_len, get_or-map-range_with_len}
-use Rattle.picture.specs.Picture.{AreEqualRows, Picture, Zone, framed, scaled}
+use Rattle.picture.specs.Picture.{AreEqualRows, Picture, with_quiet_zone, enlargement}
+use Rattle.picture.specs.declared.quiet_zone.QuietZone.{QuietZone}
 use Rattle.picture.specs.Text.{below, pixel_row}
-use Rattle.picture.proofs.SampleLemmas.{dark-framed}
+use Rattle.picture.proofs.SampleLemmas.{dark-with_quiet_zone}
 use Rattle.picture.proofs.WritingLemmas.{map-below_add}
 
 map-range_same : (f g : ℕ → Bool) (a n : ℕ) → ((x : ℕ) → x < a + n → f x ≡ g x)
@@ -43,9 +44,9 @@ filled_from f x bs n size each = fill_by_all (λ i. f (x + i)) bs n false size e
     ∙ (map-from f x 0 n ∙ ap (λ (k : ℕ). map f (range_with_len k n)) (add-zero x))
 
 -- the rows of pixels of equal rows of modules, from the row y on
-pub scaled_equal : (p : Picture) (s y count : ℕ) → 0 < s → AreEqualRows p (y / s) count
-    → AreEqualRows (scaled p s) y (count * s - y % s)
-scaled_equal p s y count some same x k wide inside =
+pub equal_rows-enlargement : (p : Picture) (s y count : ℕ) → 0 < s → AreEqualRows p (y / s) count
+    → AreEqualRows (enlargement p s) y (count * s - y % s)
+equal_rows-enlargement p s y count some same x k wide inside =
     let whole : y / s * s + y % s ≡ y = div-add-mod' y s in
     let product : (y / s + count) * s ≡ y / s * s + count * s = omega arith in
     let low : y / s ≤ (y + k) / s = le-div (y / s) (y + k) s some (omega arith) in
@@ -54,9 +55,9 @@ scaled_equal p s y count some same x k wide inside =
     ap (p.dark (x / s)) place ∙ same (x / s) ((y + k) / s - y / s) (div_below x s p.width some wide) (omega arith)
 
 -- so many rows of modules are so many rows of pixels, from the row y on
-pub scaled_rows_inside : (y s count height : ℕ) → 0 < s → 0 < count → y / s + count ≤ height
+pub enlarged_rows_inside : (y s count height : ℕ) → 0 < s → 0 < count → y / s + count ≤ height
     → y + (count * s - y % s) ≤ height * s
-scaled_rows_inside y s count height some more inside =
+enlarged_rows_inside y s count height some more inside =
     let whole : y / s * s + y % s ≡ y = div-add-mod' y s in
     let least : 1 * s ≤ count * s = mul-le 1 s count s (omega arith) (omega arith) in
     let within : y % s < s = omega arith in
@@ -73,55 +74,55 @@ map-range_false f a (suc n) none =
     (λ x low high. none x (omega arith) (omega arith)))
 
 -- the zones round a picture
-module _ (p : Picture) (zone : Zone) where
-  dark_left : (x y : ℕ) → x < zone.left → (framed p zone).dark x y ≡ false
-  dark_left x y h = grind (arith, nat_tests)
+module _ (p : Picture) (zone : QuietZone) where
+  dark-left : (x y : ℕ) → x < zone.left → (with_quiet_zone p zone).dark x y ≡ false
+  dark-left x y h = grind (arith, nat_tests)
 
-  dark_right : (x y : ℕ) → zone.left + p.width ≤ x → (framed p zone).dark x y ≡ false
-  dark_right x y h = grind (arith, nat_tests)
+  dark-right : (x y : ℕ) → zone.left + p.width ≤ x → (with_quiet_zone p zone).dark x y ≡ false
+  dark-right x y h = grind (arith, nat_tests)
 
-  dark_above : (x y : ℕ) → y < zone.top → (framed p zone).dark x y ≡ false
-  dark_above x y h = grind (arith, nat_tests)
+  dark-above : (x y : ℕ) → y < zone.top → (with_quiet_zone p zone).dark x y ≡ false
+  dark-above x y h = grind (arith, nat_tests)
 
-  dark_below : (x y : ℕ) → zone.top + p.height ≤ y → (framed p zone).dark x y ≡ false
-  dark_below x y h = grind (arith, nat_tests)
+  dark-below : (x y : ℕ) → zone.top + p.height ≤ y → (with_quiet_zone p zone).dark x y ≡ false
+  dark-below x y h = grind (arith, nat_tests)
 
-  dark_inside : (x y : ℕ) → x < p.width → zone.top ≤ y → y < zone.top + p.height
-      → (framed p zone).dark (zone.left + x) y ≡ p.dark x (y - zone.top)
-  dark_inside x y wide low high =
+  dark-inside : (x y : ℕ) → x < p.width → zone.top ≤ y → y < zone.top + p.height
+      → (with_quiet_zone p zone).dark (zone.left + x) y ≡ p.dark x (y - zone.top)
+  dark-inside x y wide low high =
       let row : y ≡ zone.top + (y - zone.top) = omega arith in
-      ap ((framed p zone).dark (zone.left + x)) row ∙ dark-framed p zone x (y - zone.top) wide (omega arith)
+      ap ((with_quiet_zone p zone).dark (zone.left + x)) row ∙ dark-with_quiet_zone p zone x (y - zone.top) wide (omega arith)
 
-  pub framed_equal : (y count : ℕ) → zone.top ≤ y → (y - zone.top) + count ≤ p.height
-      → AreEqualRows p (y - zone.top) count → AreEqualRows (framed p zone) y count
-  framed_equal y count low inside same x k wide below =
+  pub equal_rows-with_quiet_zone : (y count : ℕ) → zone.top ≤ y → (y - zone.top) + count ≤ p.height
+      → AreEqualRows p (y - zone.top) count → AreEqualRows (with_quiet_zone p zone) y count
+  equal_rows-with_quiet_zone y count low inside same x k wide below =
       let row : (y + k) - zone.top ≡ (y - zone.top) + k = omega arith in
       grind (arith, nat_tests)
 
-  pub framed_row_above : (y : ℕ) → y < zone.top → replicate (zone.left + p.width + zone.right) false
-      ≡ pixel_row (framed p zone) y
-  framed_row_above y h = sym (map-range_false (λ x. (framed p zone).dark x y) 0 (zone.left + p.width + zone.right)
-      (λ x low high. dark_above x y h))
+  pub pixel_row-above : (y : ℕ) → y < zone.top → replicate (zone.left + p.width + zone.right) false
+      ≡ pixel_row (with_quiet_zone p zone) y
+  pixel_row-above y h = sym (map-range_false (λ x. (with_quiet_zone p zone).dark x y) 0 (zone.left + p.width + zone.right)
+      (λ x low high. dark-above x y h))
 
-  pub framed_row_below : (y : ℕ) → zone.top + p.height ≤ y
-      → replicate (zone.left + p.width + zone.right) false ≡ pixel_row (framed p zone) y
-  framed_row_below y h = sym (map-range_false (λ x. (framed p zone).dark x y) 0 (zone.left + p.width + zone.right)
-      (λ x low high. dark_below x y h))
+  pub pixel_row-below : (y : ℕ) → zone.top + p.height ≤ y
+      → replicate (zone.left + p.width + zone.right) false ≡ pixel_row (with_quiet_zone p zone) y
+  pixel_row-below y h = sym (map-range_false (λ x. (with_quiet_zone p zone).dark x y) 0 (zone.left + p.width + zone.right)
+      (λ x low high. dark-below x y h))
 
-  pub framed_row : (y : ℕ) → zone.top ≤ y → y < zone.top + p.height
-      → pixel_row (framed p zone) y ≡ replicate zone.left false
+  pub pixel_row-with_quiet_zone : (y : ℕ) → zone.top ≤ y → y < zone.top + p.height
+      → pixel_row (with_quiet_zone p zone) y ≡ replicate zone.left false
       ++ (pixel_row p (y - zone.top) ++ replicate zone.right false)
-  framed_row y low high =
-      let f : ℕ → Bool = λ x. (framed p zone).dark x y in
+  pixel_row-with_quiet_zone y low high =
+      let f : ℕ → Bool = λ x. (with_quiet_zone p zone).dark x y in
       let end = zone.left + p.width in
       let left : map f (below zone.left) ≡ replicate zone.left false =
-      map-range_false f 0 zone.left (λ x _ h. dark_left x y (omega arith)) in
+      map-range_false f 0 zone.left (λ x _ h. dark-left x y (omega arith)) in
       let right : map f (range_with_len end zone.right) ≡ replicate zone.right false =
-      map-range_false f end zone.right (λ x h _. dark_right x y h) in
+      map-range_false f end zone.right (λ x h _. dark-right x y h) in
       let inner : map f (range_with_len zone.left p.width) ≡ pixel_row p (y - zone.top) =
       sym (map-from f zone.left 0 p.width ∙ ap (λ (k : ℕ). map f (range_with_len k p.width)) (add-zero zone.left))
       ∙ map-range_same (λ x. f (zone.left + x)) (λ x. p.dark x (y - zone.top)) 0 p.width
-      (λ x h. dark_inside x y (omega arith) low high) in
+      (λ x h. dark-inside x y (omega arith) low high) in
       map-below_add f end zone.right
       ∙ (ap (λ (t : List Bool). t ++ map f (range_with_len end zone.right)) (map-below_add f zone.left p.width)
       ∙ (append_assoc (map f (below zone.left)) (map f (range_with_len zone.left p.width))
@@ -133,10 +134,10 @@ module _ (p : Picture) (zone : Zone) where
       ∙ ap (λ (t : List Bool). pixel_row p (y - zone.top) ++ t) right))))
 
 -- each of the first pixels so many times
-scaled_row : (p : Picture) (s y : ℕ) (bs : List Bool) → 0 < s → length bs ≡ p.width * s
+pixel_row-enlargement : (p : Picture) (s y : ℕ) (bs : List Bool) → 0 < s → length bs ≡ p.width * s
     → ((x : ℕ) → x < p.width → get_or bs x false ≡ p.dark x (y / s)) →
-    map (λ x. get_or bs (x / s) false) (below (length bs)) ≡ pixel_row (scaled p s) y
-scaled_row p s y bs some size each =
+    map (λ x. get_or bs (x / s) false) (below (length bs)) ≡ pixel_row (enlargement p s) y
+pixel_row-enlargement p s y bs some size each =
     ap (λ (n : ℕ). map (λ x. get_or bs (x / s) false) (below n)) size
     ∙ map-range_same (λ x. get_or bs (x / s) false) (λ x. p.dark (x / s) (y / s)) 0 (p.width * s)
     (λ x h. each (x / s) (div_below x s p.width some (omega arith)))
@@ -160,11 +161,11 @@ module _ (before wide next : List Bool) (x s : ℕ) (some : 0 < s)
       [ inl h ↦ spread_square k low h | inr h ↦ after k h ∙ wider k h size ]
 
 -- a row of the picture, over light pixels
-pub framed_put : (p : Picture) (zone : Zone) (y : ℕ) (light row : List Bool) (w : ℕ)
+pub put_mid-pixel_row : (p : Picture) (zone : QuietZone) (y : ℕ) (light row : List Bool) (w : ℕ)
     → light ≡ replicate (zone.left + p.width + zone.right) false → w ≡ p.width → zone.top ≤ y → y < zone.top + p.height
     → row ≡ pixel_row p (y - zone.top) →
-    put_mid zone.left (zone.left + w - zone.left) light row ≡ pixel_row (framed p zone) y
-framed_put p zone y light row w e width low high same =
+    put_mid zone.left (zone.left + w - zone.left) light row ≡ pixel_row (with_quiet_zone p zone) y
+put_mid-pixel_row p zone y light row w e width low high same =
     let n = zone.left + p.width + zone.right in
     let size : zone.left + w - zone.left ≡ p.width = omega arith in
     let rest : n - zone.left - p.width ≡ zone.right = omega arith in
@@ -178,17 +179,17 @@ framed_put p zone y light row w e width low high same =
     ∙ (ap (λ (t : List Bool). t ++ (row ++ drop p.width (drop zone.left (replicate n false)))) front
     ∙ (ap (λ (t : List Bool). replicate zone.left false ++ (row ++ t)) back
     ∙ (ap (λ (t : List Bool). replicate zone.left false ++ (t ++ replicate zone.right false)) same
-    ∙ sym (framed_row p zone y low high)))))
+    ∙ sym (pixel_row-with_quiet_zone p zone y low high)))))
 
 -- a row of the picture, and what stood after it
-pub scaled_put : (p : Picture) (s y : ℕ) (row before : List Bool) (w : ℕ) → 0 < s → w ≡ p.width
+pub spread-pixel_row : (p : Picture) (s y : ℕ) (row before : List Bool) (w : ℕ) → 0 < s → w ≡ p.width
     → length before ≡ p.width * s → row ≡ pixel_row p (y / s) →
     map (λ x. get_or (row ++ drop w before) (x / s) false) (below (length (row ++ drop w before)))
-    ≡ pixel_row (scaled p s) y
-scaled_put p s y row before w some width size same =
+    ≡ pixel_row (enlargement p s) y
+spread-pixel_row p s y row before w some width size same =
     let columns : length row ≡ p.width = ap length same ∙ length-map-range_with_len (λ x. p.dark x (y / s)) 0 p.width in
     let least : p.width * 1 ≤ p.width * s = mul-le p.width 1 p.width s (omega arith) (omega arith) in
-    scaled_row p s y (row ++ drop w before) some (length-append row (drop w before)
+    pixel_row-enlargement p s y (row ++ drop w before) some (length-append row (drop w before)
     ∙ omega (arith, length-drop w before))
     (λ x h. get_or_append_left row (drop w before) false x (omega arith)
     ∙ (ap (λ (t : List Bool). get_or t x false) same

@@ -6,10 +6,10 @@ use Rattle.std.specs.Str.{bytes_eq}
 use Rattle.std.proofs.lemmas.Bool.{eq-eqb, ne_eqb}
 use Rattle.std.proofs.lemmas.List.FromFn.{length-range_with_len}
 use Rattle.picture.specs.Picture.{Picture}
-use Rattle.picture.specs.RoundTrip.{TextsAreRead, IsDrawable}
+use Rattle.picture.specs.ReadingLaws.{TextsAreRead, IsDrawable}
 use Rattle.picture.specs.Text.{below, pixel_row, pbm_text}
 use Rattle.picture.proofs.ColumnLemmas.{columns_text, pbm_columns, text_by_columns}
-use Rattle.picture.specs.Read.{is_white, raster, raster_of, pbm_pixels, after_white, after_one_white, number_at}
+use Rattle.picture.specs.Reading.{is_white, raster, raster_of, pbm_pixels, after_white, after_one_white, number_at}
 use Rattle.picture.proofs.RasterLemmas.{strip, row_digits, strip-pbm_rows, list_all-row_digits, length-row_digits}
 use Rattle.picture.proofs.RasterLemmas.{rows_of-row_digits}
 use Rattle.picture.proofs.HeaderLemmas.{number_at-decimal, after_white-decimal}

@@ -9,10 +9,11 @@ use Rattle.std.proofs.lemmas.List.FromFn.{get_or-map-range_with_len, fill_by_all
 use Rattle.std.proofs.lemmas.Nat.{div-mul-add, mul-add-lt}
 use Rattle.std.proofs.lemmas.Bool.{le-leb, lt-ltb, le-ltb, and_from, cases_lt}
 use Rattle.std.proofs.Math.Nat.{mul-mod_left}
-use Rattle.picture.specs.Picture.{Picture, Zone, bars, framed, scaled}
-use Rattle.picture.specs.RoundTrip.{PixelsAreThePicture, ModulesAreSampled, BarsAreOneRow}
+use Rattle.picture.specs.Picture.{Picture, bars, with_quiet_zone, enlargement}
+use Rattle.picture.specs.declared.quiet_zone.QuietZone.{QuietZone}
+use Rattle.picture.specs.ReadingLaws.{PixelsAreThePicture, ModulesAreSampled, BarsAreOneRow}
 use Rattle.picture.specs.Text.{below, pixel_row}
-use Rattle.picture.specs.Read.{raster, pixel, cell, has_colour, is_inside, are_cells, sample, linear_row}
+use Rattle.picture.specs.Reading.{raster, pixel, cell, has_colour, is_inside, are_cells, sample, linear_row}
 
 -- the pixels of a raster are those of its picture
 pub pixel-raster : PixelsAreThePicture
@@ -47,34 +48,34 @@ beq-same : (b : Bool) → beq b b ≡ true
 beq-same true = refl
 beq-same false = refl
 
-scaled_place : (size scale k i : ℕ) → k < size → i < scale → k * scale + i < size * scale
-scaled_place size scale k i inside within = omega (arith, mul-add-lt k scale i size inside within)
+enlarged_place : (size scale k i : ℕ) → k < size → i < scale → k * scale + i < size * scale
+enlarged_place size scale k i inside within = omega (arith, mul-add-lt k scale i size inside within)
 
--- a pixel of a scaled picture
-scaled_pixel : (p : Picture) (scale column row x y : ℕ) → column < p.width → row < p.height → x < scale → y < scale →
-    pixel (raster (scaled p scale)) (column * scale + x) (row * scale + y) ≡ p.dark column row
-scaled_pixel p scale column row x y wide high inside within =
-    pixel-raster (scaled p scale) (column * scale + x) (row * scale + y)
-    (scaled_place p.width scale column x wide inside) (scaled_place p.height scale row y high within)
+-- a pixel of a enlargement picture
+pixel-enlargement : (p : Picture) (scale column row x y : ℕ) → column < p.width → row < p.height → x < scale → y < scale →
+    pixel (raster (enlargement p scale)) (column * scale + x) (row * scale + y) ≡ p.dark column row
+pixel-enlargement p scale column row x y wide high inside within =
+    pixel-raster (enlargement p scale) (column * scale + x) (row * scale + y)
+    (enlarged_place p.width scale column x wide inside) (enlarged_place p.height scale row y high within)
     ∙ rw (div-mul-add column scale x inside, div-mul-add row scale y within) refl
 
-cell-scaled : (p : Picture) (scale column row : ℕ) → column < p.width → row < p.height → 0 < scale
-    → cell (raster (scaled p scale)) scale column row ≡ p.dark column row
-cell-scaled p scale column row wide high some =
+cell-enlargement : (p : Picture) (scale column row : ℕ) → column < p.width → row < p.height → 0 < scale
+    → cell (raster (enlargement p scale)) scale column row ≡ p.dark column row
+cell-enlargement p scale column row wide high some =
     let x : column * scale ≡ column * scale + 0 = omega arith in
     let y : row * scale ≡ row * scale + 0 = omega arith in
-    ap (λ (k : ℕ). pixel (raster (scaled p scale)) k (row * scale)) x
-    ∙ (ap (λ (k : ℕ). pixel (raster (scaled p scale)) (column * scale + 0) k) y
-    ∙ scaled_pixel p scale column row 0 0 wide high some some)
+    ap (λ (k : ℕ). pixel (raster (enlargement p scale)) k (row * scale)) x
+    ∙ (ap (λ (k : ℕ). pixel (raster (enlargement p scale)) (column * scale + 0) k) y
+    ∙ pixel-enlargement p scale column row 0 0 wide high some some)
 
-has_colour-scaled : (p : Picture) (scale column row : ℕ) → column < p.width → row < p.height → 0 < scale →
-    has_colour (raster (scaled p scale)) scale column row (cell (raster (scaled p scale)) scale column row) ≡ true
-has_colour-scaled p scale column row wide high some =
+has_colour-enlargement : (p : Picture) (scale column row : ℕ) → column < p.width → row < p.height → 0 < scale →
+    has_colour (raster (enlargement p scale)) scale column row (cell (raster (enlargement p scale)) scale column row) ≡ true
+has_colour-enlargement p scale column row wide high some =
     list_all-below _ scale (λ y within. list_all-below _ scale (λ x inside.
-    rw (cell-scaled p scale column row wide high some, scaled_pixel p scale column row x y wide high inside within)
+    rw (cell-enlargement p scale column row wide high some, pixel-enlargement p scale column row x y wide high inside within)
     (beq-same (p.dark column row))))
 
--- a test of a framed picture, by the picture within
+-- a test of a with_quiet_zone picture, by the picture within
 nat_lt-add : (a b c : ℕ) → nat_lt (a + c) (b + c) ≡ nat_lt a b
 nat_lt-add a b c = elim (cases_lt a b) [
   | inl h ↦ lt-ltb (a + c) (b + c) (omega arith)
@@ -86,20 +87,20 @@ inside_or_light : (inside other dark : Bool) → other ≡ inside → (other || 
 inside_or_light true other dark e = rw e refl
 inside_or_light false other dark e = rw e refl
 
-is_inside-framed : (p : Picture) (zone : Zone) (column row : ℕ) →
-    is_inside zone (framed p zone).width (framed p zone).height column row
+is_inside-with_quiet_zone : (p : Picture) (zone : QuietZone) (column row : ℕ) →
+    is_inside zone (with_quiet_zone p zone).width (with_quiet_zone p zone).height column row
     ≡ (nat_le zone.left column && nat_lt column (zone.left + p.width) && nat_le zone.top row && nat_lt row
     (zone.top + p.height))
-is_inside-framed p zone column row = rw (
+is_inside-with_quiet_zone p zone column row = rw (
   nat_lt-add column (zone.left + p.width) zone.right,
   nat_lt-add row
       (zone.top + p.height) zone.bottom,
 ) refl
 
--- a module of a framed picture
-pub dark-framed : (p : Picture) (zone : Zone) (column row : ℕ) → column < p.width → row < p.height
-    → (framed p zone).dark (zone.left + column) (zone.top + row) ≡ p.dark column row
-dark-framed p zone column row wide high =
+-- a module of a with_quiet_zone picture
+pub dark-with_quiet_zone : (p : Picture) (zone : QuietZone) (column row : ℕ) → column < p.width → row < p.height
+    → (with_quiet_zone p zone).dark (zone.left + column) (zone.top + row) ≡ p.dark column row
+dark-with_quiet_zone p zone column row wide high =
     let x : (zone.left + column) - zone.left ≡ column = omega arith in
     let y : (zone.top + row) - zone.top ≡ row = omega arith in
     rw (
@@ -113,16 +114,16 @@ dark-framed p zone column row wide high =
       y,
     ) refl
 
-are_cells-scaled : (p : Picture) (zone : Zone) (scale : ℕ) → 0 < scale
-    → are_cells (raster (scaled (framed p zone) scale)) scale zone (framed p zone).width (framed p zone).height ≡ true
-are_cells-scaled p zone scale some =
-    list_all-below _ (framed p zone).height (λ row high. list_all-below _ (framed p zone).width (λ column wide.
-    and_from _ _ (has_colour-scaled (framed p zone) scale column row wide high some)
-    (rw (cell-scaled (framed p zone) scale column row wide high some)
+are_cells-enlargement : (p : Picture) (zone : QuietZone) (scale : ℕ) → 0 < scale
+    → are_cells (raster (enlargement (with_quiet_zone p zone) scale)) scale zone (with_quiet_zone p zone).width (with_quiet_zone p zone).height ≡ true
+are_cells-enlargement p zone scale some =
+    list_all-below _ (with_quiet_zone p zone).height (λ row high. list_all-below _ (with_quiet_zone p zone).width (λ column wide.
+    and_from _ _ (has_colour-enlargement (with_quiet_zone p zone) scale column row wide high some)
+    (rw (cell-enlargement (with_quiet_zone p zone) scale column row wide high some)
     (inside_or_light (nat_le zone.left column && nat_lt column (zone.left + p.width)
     && nat_le zone.top row && nat_lt row (zone.top + p.height))
-    (is_inside zone (framed p zone).width (framed p zone).height column row)
-    (p.dark (column - zone.left) (row - zone.top)) (is_inside-framed p zone column row)))))
+    (is_inside zone (with_quiet_zone p zone).width (with_quiet_zone p zone).height column row)
+    (p.dark (column - zone.left) (row - zone.top)) (is_inside-with_quiet_zone p zone column row)))))
 
 div_whole : (size scale : ℕ) → 0 < scale → (size * scale) / scale ≡ size
 div_whole size scale some = ap (λ (n : ℕ). n / scale) (let e : size * scale ≡ size * scale + 0 = omega arith in e)
@@ -131,23 +132,23 @@ div_whole size scale some = ap (λ (n : ℕ). n / scale) (let e : size * scale �
 mod_whole : (size scale : ℕ) → 0 < scale → (size * scale) % scale ≡ 0
 mod_whole size scale some = mul-mod_left size scale
 
-sampled : (p : Picture) (zone : Zone) (scale : ℕ) → 0 < scale →
-    map (λ row. map (λ column. cell (raster (scaled (framed p zone) scale)) scale (zone.left + column) (zone.top + row))
+sampled : (p : Picture) (zone : QuietZone) (scale : ℕ) → 0 < scale →
+    map (λ row. map (λ column. cell (raster (enlargement (with_quiet_zone p zone) scale)) scale (zone.left + column) (zone.top + row))
     (below p.width)) (below p.height) ≡ map (pixel_row p) (below p.height)
 sampled p zone scale some =
-    map-range (λ row. map (λ column. cell (raster (scaled (framed p zone) scale)) scale (zone.left + column)
+    map-range (λ row. map (λ column. cell (raster (enlargement (with_quiet_zone p zone) scale)) scale (zone.left + column)
     (zone.top + row)) (below p.width)) (pixel_row p) 0 p.height (λ row low high.
-    map-range (λ column. cell (raster (scaled (framed p zone) scale)) scale (zone.left + column) (zone.top + row))
+    map-range (λ column. cell (raster (enlargement (with_quiet_zone p zone) scale)) scale (zone.left + column) (zone.top + row))
     (λ x. p.dark x row) 0 p.width (λ column left wide.
-    cell-scaled (framed p zone) scale (zone.left + column) (zone.top + row) (omega arith) (omega arith) some
-    ∙ dark-framed p zone column row (omega arith) (omega arith)))
+    cell-enlargement (with_quiet_zone p zone) scale (zone.left + column) (zone.top + row) (omega arith) (omega arith) some
+    ∙ dark-with_quiet_zone p zone column row (omega arith) (omega arith)))
 
 -- what was drawn is sampled
 pub sample-raster : ModulesAreSampled
 unfolding sample
 sample-raster p zone scale some =
-    let w = (framed p zone).width in
-    let h = (framed p zone).height in
+    let w = (with_quiet_zone p zone).width in
+    let h = (with_quiet_zone p zone).height in
     let columns : w - zone.left - zone.right ≡ p.width = omega arith in
     let rows : h - zone.top - zone.bottom ≡ p.height = omega arith in
     rw (
@@ -157,7 +158,7 @@ sample-raster p zone scale some =
       mod_whole h scale some,
       le-leb (zone.left + zone.right) w (omega arith),
       le-leb (zone.top + zone.bottom) h (omega arith),
-      are_cells-scaled p zone scale some,
+      are_cells-enlargement p zone scale some,
       columns,
       rows,
       sampled p zone scale some,

@@ -3,6 +3,7 @@
 use Rattle.std.specs.Prelude.{◌≡◌, ℕ, ◌+◌, ◌-◌, ◌*◌, ◌/◌, ◌<◌, Bool, false, ◌&&◌, List, length, slice_index_or, nat_lt}
 use Rattle.std.specs.Prelude.{nat_le}
 use Rattle.qrmatrix.specs.Symbol.{Symbol, is_dark}
+use Rattle.picture.specs.declared.quiet_zone.QuietZone.{QuietZone}
 
 -- a picture: its width, its height, and whether the pixel at x and y is dark
 pub record Picture : Type 0 where
@@ -22,16 +23,9 @@ bars row height = record { width = length row; height = height; dark = λ x y. s
 abbrev pub symbol_picture : Symbol → Picture
 symbol_picture s = record { width = s.side; height = s.side; dark = is_dark s }
 
--- widths of a quiet zone
-pub record Zone : Type 0 where
-  pub left : ℕ
-  pub right : ℕ
-  pub top : ℕ
-  pub bottom : ℕ
-
 -- the picture in its quiet zone, which is light
-abbrev pub framed : Picture → Zone → Picture
-framed p zone = record {
+abbrev pub with_quiet_zone : Picture → QuietZone → Picture
+with_quiet_zone p zone = record {
   width = zone.left + p.width + zone.right;
   height = zone.top + p.height + zone.bottom;
   dark = λ x y.
@@ -40,5 +34,5 @@ framed p zone = record {
 }
 
 -- each pixel drawn as a square of so many pixels
-abbrev pub scaled : Picture → ℕ → Picture
-scaled p n = record { width = p.width * n; height = p.height * n; dark = λ x y. p.dark (x / n) (y / n) }
+abbrev pub enlargement : Picture → ℕ → Picture
+enlargement p n = record { width = p.width * n; height = p.height * n; dark = λ x y. p.dark (x / n) (y / n) }

@@ -1,7 +1,7 @@
 //! Text pictures.
 ghost use Rattle.std.specs.Prelude.{◌≡◌, ◌*◌, ◌<◌, ◌≤◌, Some, [], ◌∷◌, flat_map, length, take};
 ghost use Rattle.device.specs.Writing.{WritesText};
-ghost use Rattle.picture.specs.Read.{ascii_pixels, raster};
+ghost use Rattle.picture.specs.Reading.{ascii_pixels, raster};
 ghost use Rattle.picture.specs.Text.{ascii_pixel, ascii_text};
 
 use crate::grid::Grid;

@@ -1,9 +1,9 @@
 //! What reading finds in texts and pixels.
 ghost use Rattle.std.specs.Prelude.{◌<◌};
-ghost use Rattle.picture.specs.Read.{pbm_files, ascii_files, pbm_pixels, ascii_pixels};
+ghost use Rattle.picture.specs.Reading.{pbm_files, ascii_files, pbm_pixels, ascii_pixels};
 ghost use Rattle.picture.specs.Text.{pbm_text, ascii_text};
-ghost use Rattle.picture.specs.RoundTrip.{FilesAreTexts, TextsAreRead, IsDrawable};
-ghost use Rattle.picture.specs.RoundTrip.{PixelsAreThePicture, ModulesAreSampled, BarsAreOneRow};
+ghost use Rattle.picture.specs.ReadingLaws.{FilesAreTexts, TextsAreRead, IsDrawable};
+ghost use Rattle.picture.specs.ReadingLaws.{PixelsAreThePicture, ModulesAreSampled, BarsAreOneRow};
 
 /// A stream of texts is cut into these texts.
 pub fn files_of_texts()

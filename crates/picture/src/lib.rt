@@ -8,6 +8,7 @@ mod grid;
 mod laws;
 mod matrix;
 mod pbm;
+mod quiet_zone;
 mod rows;
 mod scaled;
 
@@ -17,4 +18,5 @@ pub use framed::Framed;
 pub use grid::Grid;
 pub use laws::{files_of_texts, modules_of_pixels, pixels_of_texts};
 pub use pbm::write_pbm;
+pub use quiet_zone::QuietZone;
 pub use scaled::Scaled;

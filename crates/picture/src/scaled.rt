@@ -1,6 +1,6 @@
 //! Pictures enlarged.
 ghost use Rattle.std.specs.Prelude.{◌≡◌, ℕ, ◌+◌, ◌*◌, ◌/◌, ◌<◌, ◌≤◌, false, length, map, slice_index_or};
-ghost use Rattle.picture.specs.Picture.{scaled};
+ghost use Rattle.picture.specs.Picture.{enlargement};
 ghost use Rattle.picture.specs.Text.{below};
 
 use crate::grid::Grid;
@@ -21,14 +21,14 @@ impl<G: Grid> Scaled<G> {
         requires some { 1 ≤ scale }
         requires width { (G.picture grid).width * scale ≤ 65535 }
         requires height { (G.picture grid).height * scale ≤ 65535 }
-        ensures { ⟦<Scaled<G> as Grid>⟧.picture result ≡ scaled (G.picture grid) scale }
+        ensures { ⟦<Scaled<G> as Grid>⟧.picture result ≡ enlargement (G.picture grid) scale }
     {
         Scaled { grid, scale }
     }
 }
 
 impl<G: Grid> Grid for Scaled<G> {
-    ghost picture = { λ s. scaled (G.picture s.grid) s.scale };
+    ghost picture = { λ s. enlargement (G.picture s.grid) s.scale };
 
     fn width(&self) -> usize {
         self.grid.width() * self.scale

@@ -1,7 +1,8 @@
 -- What reading finds in the texts and the pixels of pictures (pbm(5), the plain format).
 use Rattle.std.specs.Prelude.{◌≡◌, ℕ, ◌^◌, ◌<◌, All, Option, Some, List, Bool, map, flat_map}
-use Rattle.picture.specs.Picture.{Picture, Zone, bars, framed, scaled}
-use Rattle.picture.specs.Read.{Raster, raster, pixel, sample, linear_row}
+use Rattle.picture.specs.Picture.{Picture, bars, with_quiet_zone, enlargement}
+use Rattle.picture.specs.declared.quiet_zone.QuietZone.{QuietZone}
+use Rattle.picture.specs.Reading.{Raster, raster, pixel, sample, linear_row}
 
 -- a picture with a column, whose sizes are numbers of 64 bits
 pub record IsDrawable (p : Picture) : Type 0 where
@@ -20,8 +21,8 @@ FilesAreTexts text files IsSuch = (ps : List Picture) → All IsSuch ps → file
 -- the pixels of modules in their quiet zone, each a square, are sampled as these modules
 abbrev pub ModulesAreSampled : Type 0
 ModulesAreSampled =
-    (p : Picture) (zone : Zone) (scale : ℕ) → 0 < scale
-    → sample (raster (scaled (framed p zone) scale)) scale zone ≡ Some (raster p).rows
+    (p : Picture) (zone : QuietZone) (scale : ℕ) → 0 < scale
+    → sample (raster (enlargement (with_quiet_zone p zone) scale)) scale zone ≡ Some (raster p).rows
 
 -- the pixels of a picture are dark where it is
 abbrev pub PixelsAreThePicture : Type 0

@@ -10,7 +10,8 @@ use Rattle.std.specs.Str.Parse.{digits_value}
 use Rattle.std.specs.Char.{is_digit}
 use Rattle.device.specs.Lines.{LF, lines}
 use Rattle.qrdata.specs.Steps.{◌>>=◌}
-use Rattle.picture.specs.Picture.{Picture, Zone}
+use Rattle.picture.specs.Picture.{Picture}
+use Rattle.picture.specs.declared.quiet_zone.QuietZone.{QuietZone}
 use Rattle.picture.specs.Text.{below, pixel_row}
 
 -- the pixels of a picture, row by row
@@ -134,19 +135,19 @@ abbrev pub cell : Raster → ℕ → ℕ → ℕ → Bool
 cell r scale column row = pixel r (column * scale) (row * scale)
 
 -- whether the cell in this column and row is inside the zone
-abbrev pub is_inside : Zone → ℕ → ℕ → ℕ → ℕ → Bool
+abbrev pub is_inside : QuietZone → ℕ → ℕ → ℕ → ℕ → Bool
 is_inside zone columns rows column row =
     nat_le zone.left column && nat_lt (column + zone.right) columns
     && nat_le zone.top row && nat_lt (row + zone.bottom) rows
 
 -- each cell is of one colour, and light in the quiet zone
-abbrev pub are_cells : Raster → ℕ → Zone → ℕ → ℕ → Bool
+abbrev pub are_cells : Raster → ℕ → QuietZone → ℕ → ℕ → Bool
 are_cells r scale zone columns rows =
     list_all (λ row. list_all (λ column. has_colour r scale column row (cell r scale column row)
     && (is_inside zone columns rows column row || not (cell r scale column row))) (below columns)) (below rows)
 
 -- the modules inside the quiet zone, row by row, where all cells are of one colour and the zone is light
-unfoldable pub sample : Raster → ℕ → Zone → Option (List (List Bool))
+unfoldable pub sample : Raster → ℕ → QuietZone → Option (List (List Bool))
 sample r scale zone =
     let columns = r.width / scale in let rows = r.height / scale in
     if r.width % scale == 0 && r.height % scale == 0 && nat_le (zone.left + zone.right) columns
