@@ -27,12 +27,12 @@ impl PixelText for AsciiPixels {
     ghost use Rattle.std.specs.Prelude.{flat_map};
     ghost use Rattle.device.specs.Lines.{LF};
 
-    ghost line = { λ pixels. flat_map ascii_pixel pixels };
+    ghost text = { λ pixels. flat_map ascii_pixel pixels };
 
     ghost row_end = { LF ∷ [] };
 
     // In two halves, so that no text is longer than 70 bytes.
-    fn write_line<S: Sink>(pixels: &[bool], len: usize, sink: &mut S) -> Result<(), IoFault> {
+    fn write_piece<S: Sink>(pixels: &[bool], len: usize, sink: &mut S) -> Result<(), IoFault> {
         let half = len / 2;
         write_letters(&pixels[..half], sink)?;
         write_letters(&pixels[half..len], sink)

@@ -51,13 +51,13 @@ struct PbmPixels;
 
 impl PixelText for PbmPixels {
     ghost use Rattle.std.specs.Prelude.{[]};
-    ghost use Rattle.picture.specs.Text.{pbm_line};
+    ghost use Rattle.picture.specs.Text.{pbm_piece};
 
-    ghost line = { pbm_line };
+    ghost text = { pbm_piece };
 
     ghost row_end = { [] };
 
-    fn write_line<S: Sink>(pixels: &[bool], len: usize, sink: &mut S) -> Result<(), IoFault> {
+    fn write_piece<S: Sink>(pixels: &[bool], len: usize, sink: &mut S) -> Result<(), IoFault> {
         let mut text = digits(pixels);
         text[len] = b'\n';
         write_whole(&text[..len + 1], sink)

@@ -1,7 +1,7 @@
 use Rattle.std.proofs.Common.{◌≡◌, ◌∙◌, drop, length, ap}
 use Rattle.std.proofs.lemmas.List.{take_at}
 use Rattle.std.proofs.lemmas.List.FromFn.{length-map-range_with_len}
-use Rattle.picture.proofs.GridLemmas.{pixel_row-equal}
+use Rattle.picture.proofs.GridLaws.{pixel_row-equal}
 use Rattle.picture.proofs.rows.read_next_rows.Goals as goal
 
 pub returns-clause-kept : goal.returns-clause-kept

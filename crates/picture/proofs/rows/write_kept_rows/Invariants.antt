@@ -8,7 +8,7 @@ use Rattle.picture.proofs.rows.write_kept_rows.Given as goal
 abbrev pub invariant-loop-y : goal.invariant-loop-y
 invariant-loop-y g l =
     let p = g.G.Grid.picture l.grid in
-    let row = λ (y : ℕ). row_text g.T.PixelText.line g.T.PixelText.row_end (pixel_row p y) in
+    let row = λ (y : ℕ). row_text g.T.PixelText.text g.T.PixelText.row_end (pixel_row p y) in
     record {
       kept : (k : ℕ) → l.y ≤ k → k < l.next → take p.width l.room ≡ pixel_row p k;
       size : length l.room ≡ length l.initial.room;

@@ -1,6 +1,6 @@
 use Rattle.std.proofs.Common.{◌≡◌, ◌∙◌, ℕ, false, length, ap, arith}
 use Rattle.std.proofs.Math.ListN.{replicate}
-use Rattle.picture.proofs.GridLemmas.{pixel_row-above, pixel_row-below, put_mid-pixel_row}
+use Rattle.picture.proofs.GridLaws.{pixel_row-above, pixel_row-below, put_mid-pixel_row}
 use Rattle.picture.proofs.framed.FramedGrid.read_row.Goals as goal
 use Rattle.picture.proofs.framed.FramedGrid.read_row.Goals.{else-self-y-via-then-self-y+else-y-self}
 use Rattle.picture.proofs.framed.FramedGrid.read_row.Goals.{else-self-y-via-else-self-y}

@@ -1,5 +1,5 @@
 use Rattle.std.proofs.Common.{arith}
-use Rattle.picture.proofs.GridLemmas.{equal_rows-enlargement, enlarged_rows_inside}
+use Rattle.picture.proofs.GridLaws.{equal_rows-enlargement, enlarged_rows_inside}
 use Rattle.picture.proofs.scaled.ScaledGrid.equal_rows.Goals as goal
 
 pub returns-clause-in_height : goal.returns-clause-in_height

@@ -1,5 +1,5 @@
 use Rattle.std.proofs.Common.{◌∙◌, arith}
-use Rattle.picture.proofs.GridLemmas.{spread-pixel_row}
+use Rattle.picture.proofs.GridLaws.{spread-pixel_row}
 use Rattle.picture.proofs.scaled.ScaledGrid.read_row.Goals as goal
 
 pub returns : goal.returns

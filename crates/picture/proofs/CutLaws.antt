@@ -13,10 +13,27 @@ use Rattle.std.proofs.lemmas.List.Elements.{recursion_from_All}
 use Rattle.picture.specs.Picture.{Picture}
 use Rattle.picture.specs.ReadingLaws.{IsDrawable, FilesAreTexts}
 use Rattle.picture.specs.Text.{below, pbm_digit, pbm_header, pbm_text}
-use Rattle.picture.proofs.ColumnLemmas.{pbm_line_end, pbm_pixel, pbm_columns, columns_text, texts_by_columns}
-use Rattle.picture.proofs.ColumnLemmas.{map_by_columns}
-use Rattle.picture.proofs.LineLemmas.{is_line_feed}
-use Rattle.picture.specs.Reading.{cut_after, cut_before, onto_parts, is_magic, whole_lines, pbm_files}
+use Rattle.picture.proofs.ColumnLaws.{pbm_line_end, pbm_pixel, pbm_columns, columns_text, texts_by_columns}
+use Rattle.picture.proofs.ColumnLaws.{map_by_columns}
+use Rattle.picture.proofs.LineLaws.{is_line_feed}
+use Rattle.picture.specs.Reading.{parts, onto_parts, is_magic, whole_lines, pbm_files}
+
+-- the parts of a list, each but the last ended by an element that passes
+abbrev pub cut_after : {X : Type 0} → (X → Bool) → List X → List (List X)
+cut_after ends xs = parts (λ x next. ends x) xs
+
+-- the parts of a list, each but the first begun by an element that passes
+abbrev pub cut_before : {X : Type 0} → (X → Bool) → List X → List (List X)
+cut_before begins xs = parts (λ x next. begins next) xs
+
+onto_parts-nil : {X : Type 0} (b : Bool) (x : X) → onto_parts b x [] ≡ (x ∷ []) ∷ []
+onto_parts-nil true x = refl
+onto_parts-nil false x = refl
+
+cut_after-cons : {X : Type 0} (ends : X → Bool) (x : X) (xs : List X)
+    → cut_after ends (x ∷ xs) ≡ onto_parts (ends x) x (cut_after ends xs)
+cut_after-cons ends x [] = sym (onto_parts-nil (ends x) x)
+cut_after-cons ends x (y ∷ xs) = refl
 
 -- a list that is not empty
 data IsSome {X : Type 0} : List X → Type 0 where
@@ -35,24 +52,26 @@ onto_parts-append false x (part ∷ parts) more h = refl
 
 cut_after-some : {X : Type 0} (ends : X → Bool) (xs : List X) (y : X) (ys : List X)
     → IsSome (cut_after ends (xs ++ y ∷ ys))
-cut_after-some ends [] y ys = onto_parts-some (ends y) y (cut_after ends ys)
-cut_after-some ends (x ∷ xs) y ys = onto_parts-some (ends x) x (cut_after ends (xs ++ y ∷ ys))
+cut_after-some ends [] y ys = subst IsSome (sym (cut_after-cons ends y ys))
+    (onto_parts-some (ends y) y (cut_after ends ys))
+cut_after-some ends (x ∷ xs) y ys = subst IsSome (sym (cut_after-cons ends x (xs ++ y ∷ ys)))
+    (onto_parts-some (ends x) x (cut_after ends (xs ++ y ∷ ys)))
 
 -- an element that passes parts what stands before it from what follows
 pub cut_after-at : {X : Type 0} (ends : X → Bool) (xs : List X) (y : X) (ys : List X) → ends y ≡ true
     → cut_after ends (xs ++ y ∷ ys) ≡ cut_after ends (xs ++ y ∷ []) ++ cut_after ends ys
-cut_after-at ends [] y ys e = rw e refl
+cut_after-at ends [] y ys e = cut_after-cons ends y ys ∙ rw e refl
 cut_after-at ends (x ∷ xs) y ys e =
-    ap (onto_parts (ends x) x) (cut_after-at ends xs y ys e)
-    ∙ onto_parts-append (ends x) x (cut_after ends (xs ++ y ∷ [])) (cut_after ends ys) (cut_after-some ends xs y [])
+    cut_after-cons ends x (xs ++ y ∷ ys) ∙ ap (onto_parts (ends x) x) (cut_after-at ends xs y ys e)
+    ∙ rw (cut_after-cons ends x (xs ++ y ∷ [])) (onto_parts-append (ends x) x (cut_after ends (xs ++ y ∷ [])) (cut_after ends ys) (cut_after-some ends xs y []))
 
 -- one part, where nothing before its last element passes
 pub cut_after-part : {X : Type 0} (ends : X → Bool) (xs : List X) (y : X) → list_all (λ x. not (ends x)) xs ≡ true
     → ends y ≡ true → cut_after ends (xs ++ y ∷ []) ≡ (xs ++ y ∷ []) ∷ []
-cut_after-part ends [] y none e = rw e refl
+cut_after-part ends [] y none e = refl
 cut_after-part ends (x ∷ xs) y none e =
     let parts = and_parts (not (ends x)) (list_all (λ z. not (ends z)) xs) none in
-    rw (cut_after-part ends xs y parts.1 e, not-true (ends x) parts.0) refl
+    cut_after-cons ends x (xs ++ y ∷ []) ∙ rw (cut_after-part ends xs y parts.1 e, not-true (ends x) parts.0) refl
 
 cut_before-some : {X : Type 0} (begins : X → Bool) (x : X) (xs : List X) → IsSome (cut_before begins (x ∷ xs))
 cut_before-some begins x [] = some _ _
@@ -83,7 +102,7 @@ concat-onto_parts false x (part ∷ parts) = refl
 -- the parts, joined, are the list
 pub concat-cut_after : (ends : ℕ → Bool) (xs : List ℕ) → concat (cut_after ends xs) ≡ xs
 concat-cut_after ends [] = refl
-concat-cut_after ends (x ∷ xs) = concat-onto_parts (ends x) x (cut_after ends xs)
+concat-cut_after ends (x ∷ xs) = ap concat (cut_after-cons ends x xs) ∙ concat-onto_parts (ends x) x (cut_after ends xs)
     ∙ ap (λ (ys : List ℕ). x ∷ ys) (concat-cut_after ends xs)
 
 -- a text of whole lines
@@ -122,10 +141,14 @@ pub record IsFile (text : List ℕ) : Type 0 where
   whole : IsWhole text
   plain : has_no_P rest ≡ true
 
+-- the first line of a file comes off
+whole_lines-magic : (rest : List ℕ) → whole_lines (80 ∷ 49 ∷ 10 ∷ rest) ≡ (80 ∷ 49 ∷ 10 ∷ []) ∷ whole_lines rest
+whole_lines-magic rest = cut_after-at is_line_feed (80 ∷ 49 ∷ []) 10 rest refl
+
 file_lines : (rest : List ℕ) → has_no_P rest ≡ true
     → cut_before is_magic (whole_lines (80 ∷ 49 ∷ 10 ∷ rest)) ≡ whole_lines (80 ∷ 49 ∷ 10 ∷ rest) ∷ []
-file_lines rest plain = cut_before-part is_magic (80 ∷ 49 ∷ 10 ∷ []) (whole_lines rest)
-    (no_magic (whole_lines rest) (ap has_no_P (concat-cut_after is_line_feed rest) ∙ plain))
+file_lines rest plain = rw (whole_lines-magic rest) (cut_before-part is_magic (80 ∷ 49 ∷ 10 ∷ []) (whole_lines rest)
+    (no_magic (whole_lines rest) (ap has_no_P (concat-cut_after is_line_feed rest) ∙ plain)))
 
 pub pbm_files-file : (text more : List ℕ) → IsFile text
     → (let first = cut_before is_magic (whole_lines (text ++ more)) in
@@ -141,8 +164,9 @@ first_cut : (text more : List ℕ) → IsFile text → ((more ≡ []) ⊎ ((rest
 first_cut text more h (inl e) = rw (e, append-nil text) (text_lines text h)
 first_cut text more h (inr m) =
     ap (cut_before is_magic) (whole_lines-append text more h.whole)
-    ∙ rw (m.1) (cut_before-at is_magic (whole_lines text) (80 ∷ 49 ∷ 10 ∷ []) (whole_lines m.0) refl
-    ∙ ap (λ (parts : List (List (List ℕ))). parts ++ cut_before is_magic (whole_lines (80 ∷ 49 ∷ 10 ∷ m.0)))
+    ∙ rw (m.1, whole_lines-magic m.0)
+    (cut_before-at is_magic (whole_lines text) (80 ∷ 49 ∷ 10 ∷ []) (whole_lines m.0) refl
+    ∙ ap (λ (files : List (List (List ℕ))). files ++ cut_before is_magic ((80 ∷ 49 ∷ 10 ∷ []) ∷ whole_lines m.0))
     (text_lines text h))
 
 digit_no_P : (dark : Bool) (text : List ℕ) → has_no_P text ≡ true → has_no_P (pbm_digit dark ∷ text) ≡ true

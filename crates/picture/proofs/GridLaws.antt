@@ -13,8 +13,8 @@ use Rattle.std.proofs.lemmas.List.FromFn.{fill_by_all, length-map-range_with_len
 use Rattle.picture.specs.Picture.{AreEqualRows, Picture, with_quiet_zone, enlargement}
 use Rattle.picture.specs.declared.quiet_zone.QuietZone.{QuietZone}
 use Rattle.picture.specs.Text.{below, pixel_row}
-use Rattle.picture.proofs.SampleLemmas.{dark-with_quiet_zone}
-use Rattle.picture.proofs.WritingLemmas.{map-below_add}
+use Rattle.picture.proofs.SampleLaws.{dark-with_quiet_zone}
+use Rattle.picture.proofs.WritingLaws.{map-below_add}
 
 map-range_same : (f g : ℕ → Bool) (a n : ℕ) → ((x : ℕ) → x < a + n → f x ≡ g x)
     → map f (range_with_len a n) ≡ map g (range_with_len a n)

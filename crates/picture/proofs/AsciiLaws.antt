@@ -12,9 +12,9 @@ use Rattle.std.proofs.lemmas.List.Elements.{recursion_from_All}
 use Rattle.picture.specs.Picture.{Picture}
 use Rattle.picture.specs.ReadingLaws.{FilesAreTexts, TextsAreRead}
 use Rattle.picture.specs.Text.{below, ascii_pixel, ascii_row, ascii_text, pixel_row}
-use Rattle.picture.specs.Reading.{raster, ascii_line, ascii_lines, ascii_pixels, cut_after, whole_lines, ascii_files}
-use Rattle.picture.proofs.LineLemmas.{is_line_feed, has_no_line_feed, lines-line, lines-nil}
-use Rattle.picture.proofs.CutLemmas.{cut_after-at, cut_after-part}
+use Rattle.picture.specs.Reading.{raster, line_pixels, lines_pixels, ascii_pixels, whole_lines, ascii_files}
+use Rattle.picture.proofs.LineLaws.{is_line_feed, has_no_line_feed, lines-line, lines-nil}
+use Rattle.picture.proofs.CutLaws.{cut_after, cut_after-at, cut_after-part}
 
 -- the letters of a row
 abbrev pub letters : Picture → ℕ → List ℕ
@@ -43,18 +43,18 @@ rows_as_lines p (y ∷ ys) =
     ∙ (lines-line (letters p y) (flat_map (ascii_row p) ys ++ 10 ∷ []) (letters_no_line_feed p y (below p.width))
     ∙ ap (λ (ls : List (List ℕ)). letters p y ∷ ls) (rows_as_lines p ys))
 
-read_pixel : (dark : Bool) (rest : List ℕ) (pixels : List Bool) → ascii_line rest ≡ Some pixels
-    → ascii_line (ascii_pixel dark ++ rest) ≡ Some (dark ∷ pixels)
+read_pixel : (dark : Bool) (rest : List ℕ) (pixels : List Bool) → line_pixels rest ≡ Some pixels
+    → line_pixels (ascii_pixel dark ++ rest) ≡ Some (dark ∷ pixels)
 read_pixel true rest pixels e = rw e refl
 read_pixel false rest pixels e = rw e refl
 
-read_letters : (p : Picture) (y : ℕ) (xs : List ℕ) → ascii_line (flat_map (λ x. ascii_pixel (p.dark x y)) xs)
+read_letters : (p : Picture) (y : ℕ) (xs : List ℕ) → line_pixels (flat_map (λ x. ascii_pixel (p.dark x y)) xs)
     ≡ Some (map (λ x. p.dark x y) xs)
 read_letters p y [] = refl
 read_letters p y (x ∷ xs) = read_pixel (p.dark x y) (flat_map (λ x. ascii_pixel (p.dark x y)) xs)
     (map (λ x. p.dark x y) xs) (read_letters p y xs)
 
-read_rows : (p : Picture) (ys : List ℕ) → ascii_lines (map (letters p) ys ++ [] ∷ []) ≡ Some (map (pixel_row p) ys)
+read_rows : (p : Picture) (ys : List ℕ) → lines_pixels (map (letters p) ys ++ [] ∷ []) ≡ Some (map (pixel_row p) ys)
 read_rows p [] = refl
 read_rows p (y ∷ []) = rw (read_letters p y (below p.width)) refl
 read_rows p (y ∷ z ∷ ys) = rw (read_letters p y (below p.width), read_rows p (z ∷ ys)) refl
@@ -102,7 +102,7 @@ whole_row p y rest =
 whole_rows : (p : Picture) (ys : List ℕ) (more : List ℕ)
     → whole_lines ((flat_map (ascii_row p) ys ++ 10 ∷ []) ++ more)
     ≡ (map (ascii_row p) ys ++ (10 ∷ []) ∷ []) ++ whole_lines more
-whole_rows p [] more = refl
+whole_rows p [] more = cut_after-at is_line_feed [] 10 more refl
 whole_rows p (y ∷ ys) more =
     ap whole_lines (ap (λ (t : List ℕ). t ++ more) (row_regrouped (letters p y) (flat_map (ascii_row p) ys) (10 ∷ []))
     ∙ append_assoc (letters p y) (10 ∷ (flat_map (ascii_row p) ys ++ 10 ∷ [])) more)

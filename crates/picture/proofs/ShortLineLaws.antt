@@ -11,8 +11,8 @@ use Rattle.std.proofs.lemmas.Str.Parse.{digit_from_value}
 use Rattle.device.specs.Lines.{lines}
 use Rattle.picture.specs.Picture.{Picture}
 use Rattle.picture.specs.Text.{pbm_digit}
-use Rattle.picture.proofs.ColumnLemmas.{pbm_pixel, pbm_columns}
-use Rattle.picture.proofs.LineLemmas.{is_line_feed, has_no_line_feed, lines-line, lines-nil}
+use Rattle.picture.proofs.ColumnLaws.{pbm_pixel, pbm_columns}
+use Rattle.picture.proofs.LineLaws.{is_line_feed, has_no_line_feed, lines-line, lines-nil}
 
 -- no line is longer than 70 characters
 abbrev pub has_short_lines : List ℕ → Bool

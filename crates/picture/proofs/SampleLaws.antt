@@ -13,11 +13,12 @@ use Rattle.picture.specs.Picture.{Picture, bars, with_quiet_zone, enlargement}
 use Rattle.picture.specs.declared.quiet_zone.QuietZone.{QuietZone}
 use Rattle.picture.specs.ReadingLaws.{PixelsAreThePicture, ModulesAreSampled, BarsAreOneRow}
 use Rattle.picture.specs.Text.{below, pixel_row}
-use Rattle.picture.specs.Reading.{raster, pixel, cell, has_colour, is_inside, are_cells, sample, linear_row}
+use Rattle.qrmatrix.specs.Square.{value_at}
+use Rattle.picture.specs.Reading.{raster, cell, is_plain, is_module, are_cells, sample, common_row}
 
 -- the pixels of a raster are those of its picture
-pub pixel-raster : PixelsAreThePicture
-pixel-raster p x y wide high =
+pub value_at-raster : PixelsAreThePicture
+value_at-raster p x y wide high =
     ap (λ (row : List Bool). get_or row x false) (get_or-map-range_with_len (pixel_row p) 0 p.height y y [] high
     (omega arith))
     ∙ get_or-map-range_with_len (λ x. p.dark x y) 0 p.width x x false wide (omega arith)
@@ -51,11 +52,11 @@ beq-same false = refl
 enlarged_place : (size scale k i : ℕ) → k < size → i < scale → k * scale + i < size * scale
 enlarged_place size scale k i inside within = omega (arith, mul-add-lt k scale i size inside within)
 
--- a pixel of a enlargement picture
-pixel-enlargement : (p : Picture) (scale column row x y : ℕ) → column < p.width → row < p.height → x < scale → y < scale →
-    pixel (raster (enlargement p scale)) (column * scale + x) (row * scale + y) ≡ p.dark column row
-pixel-enlargement p scale column row x y wide high inside within =
-    pixel-raster (enlargement p scale) (column * scale + x) (row * scale + y)
+-- a pixel of an enlargement
+value_at-enlargement : (p : Picture) (scale column row x y : ℕ) → column < p.width → row < p.height → x < scale
+    → y < scale → value_at (raster (enlargement p scale)).rows (column * scale + x) (row * scale + y) ≡ p.dark column row
+value_at-enlargement p scale column row x y wide high inside within =
+    value_at-raster (enlargement p scale) (column * scale + x) (row * scale + y)
     (enlarged_place p.width scale column x wide inside) (enlarged_place p.height scale row y high within)
     ∙ rw (div-mul-add column scale x inside, div-mul-add row scale y within) refl
 
@@ -64,18 +65,21 @@ cell-enlargement : (p : Picture) (scale column row : ℕ) → column < p.width �
 cell-enlargement p scale column row wide high some =
     let x : column * scale ≡ column * scale + 0 = omega arith in
     let y : row * scale ≡ row * scale + 0 = omega arith in
-    ap (λ (k : ℕ). pixel (raster (enlargement p scale)) k (row * scale)) x
-    ∙ (ap (λ (k : ℕ). pixel (raster (enlargement p scale)) (column * scale + 0) k) y
-    ∙ pixel-enlargement p scale column row 0 0 wide high some some)
+    ap (λ (k : ℕ). value_at (raster (enlargement p scale)).rows k (row * scale)) x
+    ∙ (ap (λ (k : ℕ). value_at (raster (enlargement p scale)).rows (column * scale + 0) k) y
+    ∙ value_at-enlargement p scale column row 0 0 wide high some some)
 
-has_colour-enlargement : (p : Picture) (scale column row : ℕ) → column < p.width → row < p.height → 0 < scale →
-    has_colour (raster (enlargement p scale)) scale column row (cell (raster (enlargement p scale)) scale column row) ≡ true
-has_colour-enlargement p scale column row wide high some =
+is_plain-enlargement : (p : Picture) (scale column row : ℕ) → column < p.width → row < p.height → 0 < scale →
+    is_plain (raster (enlargement p scale)) scale column row ≡ true
+is_plain-enlargement p scale column row wide high some =
     list_all-below _ scale (λ y within. list_all-below _ scale (λ x inside.
-    rw (cell-enlargement p scale column row wide high some, pixel-enlargement p scale column row x y wide high inside within)
+    rw (
+      cell-enlargement p scale column row wide high some,
+      value_at-enlargement p scale column row x y wide high inside within,
+    )
     (beq-same (p.dark column row))))
 
--- a test of a with_quiet_zone picture, by the picture within
+-- a test of a picture in its quiet zone, by the picture within
 nat_lt-add : (a b c : ℕ) → nat_lt (a + c) (b + c) ≡ nat_lt a b
 nat_lt-add a b c = elim (cases_lt a b) [
   | inl h ↦ lt-ltb (a + c) (b + c) (omega arith)
@@ -87,11 +91,11 @@ inside_or_light : (inside other dark : Bool) → other ≡ inside → (other || 
 inside_or_light true other dark e = rw e refl
 inside_or_light false other dark e = rw e refl
 
-is_inside-with_quiet_zone : (p : Picture) (zone : QuietZone) (column row : ℕ) →
-    is_inside zone (with_quiet_zone p zone).width (with_quiet_zone p zone).height column row
+is_module-with_quiet_zone : (p : Picture) (zone : QuietZone) (column row : ℕ) →
+    is_module zone (with_quiet_zone p zone).width (with_quiet_zone p zone).height column row
     ≡ (nat_le zone.left column && nat_lt column (zone.left + p.width) && nat_le zone.top row && nat_lt row
     (zone.top + p.height))
-is_inside-with_quiet_zone p zone column row = rw (
+is_module-with_quiet_zone p zone column row = rw (
   nat_lt-add column (zone.left + p.width) zone.right,
   nat_lt-add row
       (zone.top + p.height) zone.bottom,
@@ -118,12 +122,12 @@ are_cells-enlargement : (p : Picture) (zone : QuietZone) (scale : ℕ) → 0 < s
     → are_cells (raster (enlargement (with_quiet_zone p zone) scale)) scale zone (with_quiet_zone p zone).width (with_quiet_zone p zone).height ≡ true
 are_cells-enlargement p zone scale some =
     list_all-below _ (with_quiet_zone p zone).height (λ row high. list_all-below _ (with_quiet_zone p zone).width (λ column wide.
-    and_from _ _ (has_colour-enlargement (with_quiet_zone p zone) scale column row wide high some)
+    and_from _ _ (is_plain-enlargement (with_quiet_zone p zone) scale column row wide high some)
     (rw (cell-enlargement (with_quiet_zone p zone) scale column row wide high some)
     (inside_or_light (nat_le zone.left column && nat_lt column (zone.left + p.width)
     && nat_le zone.top row && nat_lt row (zone.top + p.height))
-    (is_inside zone (with_quiet_zone p zone).width (with_quiet_zone p zone).height column row)
-    (p.dark (column - zone.left) (row - zone.top)) (is_inside-with_quiet_zone p zone column row)))))
+    (is_module zone (with_quiet_zone p zone).width (with_quiet_zone p zone).height column row)
+    (p.dark (column - zone.left) (row - zone.top)) (is_module-with_quiet_zone p zone column row)))))
 
 div_whole : (size scale : ℕ) → 0 < scale → (size * scale) / scale ≡ size
 div_whole size scale some = ap (λ (n : ℕ). n / scale) (let e : size * scale ≡ size * scale + 0 = omega arith in e)
@@ -177,10 +181,10 @@ same_rows row height [] = refl
 same_rows row height (y ∷ ys) = rw (pixel_row-bars row height y, pointwise-same row, same_rows row height ys) refl
 
 -- bars of some height have one row
-one_row : (row : List Bool) (n : ℕ) → linear_row (raster (bars row (suc n))).rows ≡ Some row
+one_row : (row : List Bool) (n : ℕ) → common_row (raster (bars row (suc n))).rows ≡ Some row
 one_row row n = rw (pixel_row-bars row (suc n) 0, same_rows row (suc n) (range_with_len (0 + 1) n)) refl
 
-pub linear_row-bars : BarsAreOneRow
-linear_row-bars row height some =
-    let P : ℕ → Type 0 = λ n. linear_row (raster (bars row n)).rows ≡ Some row in
+pub common_row-bars : BarsAreOneRow
+common_row-bars row height some =
+    let P : ℕ → Type 0 = λ n. common_row (raster (bars row n)).rows ≡ Some row in
     subst P (let e : suc (height - 1) ≡ height = omega arith in e) (one_row row (height - 1))

@@ -1,8 +1,8 @@
 use Rattle.std.proofs.Common.{List, ℕ, ◌+◌, ap, ◌∙◌, subst, take, arith}
 use Rattle.std.proofs.Math.ListN.{set}
 use Rattle.device.specs.Writing.{WritesText}
-use Rattle.picture.proofs.LetterLemmas.{digits_cut}
-use Rattle.picture.proofs.pbm.PbmPixelsPixelText.write_line.Goals as goal
+use Rattle.picture.proofs.LetterLaws.{digits_cut}
+use Rattle.picture.proofs.pbm.PbmPixelsPixelText.write_piece.Goals as goal
 
 pub returns : goal.returns
 returns g c =

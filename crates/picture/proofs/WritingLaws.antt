@@ -11,8 +11,8 @@ use Rattle.std.proofs.lemmas.Slice.{between_is}
 use Rattle.std.proofs.lemmas.Grind.{flat_map-append}
 use Rattle.std.proofs.lemmas.List.FromFn.{length-map-range_with_len}
 use Rattle.picture.specs.Picture.{Picture}
-use Rattle.picture.specs.Private.Rows.{row_text}
-use Rattle.picture.specs.Text.{below, piece, pixel_row, pbm_line, pbm_row, ascii_pixel, ascii_row}
+use Rattle.picture.specs.Private.Rows.{piece, row_text}
+use Rattle.picture.specs.Text.{below, pixel_row, pbm_piece, pbm_row, ascii_pixel, ascii_row}
 
 pub range_with_len-add : (a n m : ℕ) → range_with_len a (n + m) ≡ range_with_len a n ++ range_with_len (a + n) m
 range_with_len-add a zero m = rw (zero-add m, add-zero a) refl
@@ -105,14 +105,14 @@ piece_asked dark width k n some size =
     ]))
 
 -- the rows of plain PBM files end with nothing
-pub pbm_rows : (p : Picture) (ys : List ℕ) → flat_map (λ y. row_text pbm_line [] (pixel_row p y)) ys
+pub pbm_rows : (p : Picture) (ys : List ℕ) → flat_map (λ y. row_text pbm_piece [] (pixel_row p y)) ys
     ≡ flat_map (pbm_row p) ys
 pbm_rows p [] = refl
 pbm_rows p (y ∷ ys) =
     let row = pixel_row p y in
     let size : length row ≡ p.width = length-map-range_with_len (λ x. p.dark x y) 0 p.width in
-    rw (append-nil (flat_map (λ k. pbm_line (piece row k)) (below (div_ceil (length row) 70))), pbm_rows p ys)
-    (ap (λ (w : ℕ). flat_map (λ k. pbm_line (piece row k)) (below (div_ceil w 70)) ++ flat_map (pbm_row p) ys) size)
+    rw (append-nil (flat_map (λ k. pbm_piece (piece row k)) (below (div_ceil (length row) 70))), pbm_rows p ys)
+    (ap (λ (w : ℕ). flat_map (λ k. pbm_piece (piece row k)) (below (div_ceil w 70)) ++ flat_map (pbm_row p) ys) size)
 
 letters_of_pieces : (row : List Bool) (k : ℕ) → flat_map (λ k. flat_map ascii_pixel (piece row k)) (below k)
     ≡ flat_map ascii_pixel (take (70 * k) row)

@@ -10,8 +10,9 @@ use Rattle.std.proofs.lemmas.List.FromFn.{length-map-range_with_len}
 use Rattle.std.proofs.lemmas.Bool.{eq-eqb, ne_eqb, eqb-false}
 use Rattle.device.specs.Lines.{LF}
 use Rattle.picture.specs.Picture.{Picture}
-use Rattle.picture.specs.Text.{below, piece, pixel_row, pbm_digit, pbm_header, pbm_line, pbm_row, pbm_text}
-use Rattle.picture.proofs.WritingLemmas.{flat_map-below_more, take_piece}
+use Rattle.picture.specs.Private.Rows.{piece}
+use Rattle.picture.specs.Text.{below, pixel_row, pbm_digit, pbm_header, pbm_piece, pbm_row, pbm_text}
+use Rattle.picture.proofs.WritingLaws.{flat_map-below_more, take_piece}
 
 -- a line ends after each 70 pixels, and at the row's end
 abbrev pub pbm_line_end : ℕ → ℕ → List ℕ
@@ -73,30 +74,30 @@ line_ends width x short last = by_test ((x + 1) % 70 == 0) refl where
   by_test false e = let inside = eqb-false ((x + 1) % 70) 0 e in eq-eqb (x + 1) width (last (omega arith))
 
 -- a line of digits: no pixel but its last ends it
-pub pixels_text-pbm_line : (width x : ℕ) (dark : Bool) (ps : List Bool) → x % 70 + suc (length ps) ≤ 70
+pub pixels_text-pbm_piece : (width x : ℕ) (dark : Bool) (ps : List Bool) → x % 70 + suc (length ps) ≤ 70
     → x + suc (length ps) ≤ width → (x % 70 + suc (length ps) < 70 → x + suc (length ps) ≡ width) →
     pixels_text pbm_pixel_text width x (dark ∷ ps) ≡ map pbm_digit (dark ∷ ps) ++ 10 ∷ []
-pixels_text-pbm_line width x dark [] short inside last = rw (line_ends width x short last) refl
-pixels_text-pbm_line width x dark (next ∷ ps) short inside last =
+pixels_text-pbm_piece width x dark [] short inside last = rw (line_ends width x short last) refl
+pixels_text-pbm_piece width x dark (next ∷ ps) short inside last =
     let inner : (x + 1) % 70 ≡ x % 70 + 1 = omega arith in
     let not_line : ((x + 1) % 70 == 0) ≡ false = ne_eqb ((x + 1) % 70) 0 (λ e. omega arith) in
     let not_row : (x + 1 == width) ≡ false = ne_eqb (x + 1) width (λ e. omega arith) in
     rw (
       not_line,
       not_row,
-      pixels_text-pbm_line width (x + 1) next ps (omega arith) (omega arith)
+      pixels_text-pbm_piece width (x + 1) next ps (omega arith) (omega arith)
           (λ h. let e = last (omega arith) in omega arith),
     ) refl
 
 line_by_columns : (width x : ℕ) (ps : List Bool) → x % 70 ≡ 0 → 0 < length ps → length ps ≤ 70 → x + length ps ≤ width
-    → (length ps < 70 → x + length ps ≡ width) → pixels_text pbm_pixel_text width x ps ≡ pbm_line ps
+    → (length ps < 70 → x + length ps ≡ width) → pixels_text pbm_pixel_text width x ps ≡ pbm_piece ps
 line_by_columns width x [] begins some short inside last = absurd (omega arith)
 line_by_columns width x (dark ∷ ps) begins some short inside last =
-    pixels_text-pbm_line width x dark ps (omega arith) inside (λ h. last (omega arith))
+    pixels_text-pbm_piece width x dark ps (omega arith) inside (λ h. last (omega arith))
 
 -- the first pieces of a row are its first pixels
 pieces_by_columns : (row : List Bool) (k : ℕ) → k ≤ div_ceil (length row) 70
-    → flat_map (λ k. pbm_line (piece row k)) (below k) ≡ pixels_text pbm_pixel_text (length row) 0 (take (70 * k) row)
+    → flat_map (λ k. pbm_piece (piece row k)) (below k) ≡ pixels_text pbm_pixel_text (length row) 0 (take (70 * k) row)
 pieces_by_columns row zero h = refl
 pieces_by_columns row (suc k) h =
     let n = length row in
@@ -105,9 +106,9 @@ pieces_by_columns row (suc k) h =
     let line = piece row k in
     let size : length line ≡ min 70 (length row - 70 * k) =
     omega (arith, length-take {A = Bool} 70 (drop (70 * k) row), length-drop (70 * k) row) in
-    ap (λ (n : ℕ). flat_map (λ k. pbm_line (piece row k)) (below n)) next
-    ∙ (flat_map-below_more (λ k. pbm_line (piece row k)) k
-    ∙ (ap (λ (t : List ℕ). t ++ pbm_line line) (pieces_by_columns row k (omega arith))
+    ap (λ (n : ℕ). flat_map (λ k. pbm_piece (piece row k)) (below n)) next
+    ∙ (flat_map-below_more (λ k. pbm_piece (piece row k)) k
+    ∙ (ap (λ (t : List ℕ). t ++ pbm_piece line) (pieces_by_columns row k (omega arith))
     ∙ (ap (λ (t : List ℕ). pixels_text pbm_pixel_text n 0 front ++ t)
     (sym (line_by_columns n (70 * k) line (omega arith) (omega arith) (omega arith) (omega arith)
     (λ short. omega arith)))
@@ -119,7 +120,7 @@ row_by_columns : (p : Picture) (y : ℕ) → pbm_row p y ≡ pbm_columns p y
 row_by_columns p y =
     let row = pixel_row p y in
     let size : length row ≡ p.width = length-map-range_with_len (λ x. p.dark x y) 0 p.width in
-    ap (λ (n : ℕ). flat_map (λ k. pbm_line (piece row k)) (below (div_ceil n 70))) (sym size)
+    ap (λ (n : ℕ). flat_map (λ k. pbm_piece (piece row k)) (below (div_ceil n 70))) (sym size)
     ∙ (pieces_by_columns row (div_ceil (length row) 70) (omega arith)
     ∙ (ap (pixels_text pbm_pixel_text (length row) 0) (take_all (70 * div_ceil (length row) 70) row (omega arith))
     ∙ (ap (λ (n : ℕ). pixels_text pbm_pixel_text n 0 row) size
