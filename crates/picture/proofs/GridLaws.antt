@@ -29,7 +29,7 @@ pub pixel_row-equal : (p : Picture) (y count row : ℕ) → AreEqualRows p y cou
 pixel_row-equal p y count row same low high =
     let place : y + (row - y) ≡ row = omega arith in
     sym (ap (pixel_row p) (sym place) ∙ map-range_same (λ x. p.dark x (y + (row - y))) (λ x. p.dark x y) 0 p.width
-    (λ x h. same x (row - y) (omega arith) (omega arith)))
+    (λ x h. same.equal x (row - y) (omega arith) (omega arith)))
 
 -- the pixels from column x on, by their places
 pub map-from : (f : ℕ → Bool) (x a n : ℕ) → map (λ i. f (x + i)) (range_with_len a n) ≡ map f (range_with_len (x + a) n)
@@ -43,27 +43,27 @@ pub filled_from : (f : ℕ → Bool) (x : ℕ) (bs : List Bool) (n : ℕ) → le
 filled_from f x bs n size each = fill_by_all (λ i. f (x + i)) bs n false size each
     ∙ (map-from f x 0 n ∙ ap (λ (k : ℕ). map f (range_with_len k n)) (add-zero x))
 
--- the rows of pixels of equal rows of modules, from the row y on
+-- equal rows, each repeated, from the row y on
 pub equal_rows-enlargement : (p : Picture) (s y count : ℕ) → 0 < s → AreEqualRows p (y / s) count
     → AreEqualRows (enlargement p s) y (count * s - y % s)
-equal_rows-enlargement p s y count some same x k wide inside =
+equal_rows-enlargement p s y count some h =
+    let more : 0 < count = h.some in
+    let inside : y / s + count ≤ p.height = h.inside in
     let whole : y / s * s + y % s ≡ y = div-add-mod' y s in
     let product : (y / s + count) * s ≡ y / s * s + count * s = omega arith in
-    let low : y / s ≤ (y + k) / s = le-div (y / s) (y + k) s some (omega arith) in
-    let high : (y + k) / s < y / s + count = div_below (y + k) s (y / s + count) some (omega arith) in
-    let place : (y + k) / s ≡ y / s + ((y + k) / s - y / s) = omega arith in
-    ap (p.dark (x / s)) place ∙ same (x / s) ((y + k) / s - y / s) (div_below x s p.width some wide) (omega arith)
-
--- so many rows of modules are so many rows of pixels, from the row y on
-pub enlarged_rows_inside : (y s count height : ℕ) → 0 < s → 0 < count → y / s + count ≤ height
-    → y + (count * s - y % s) ≤ height * s
-enlarged_rows_inside y s count height some more inside =
-    let whole : y / s * s + y % s ≡ y = div-add-mod' y s in
     let least : 1 * s ≤ count * s = mul-le 1 s count s (omega arith) (omega arith) in
     let within : y % s < s = omega arith in
-    let product : (y / s + count) * s ≡ y / s * s + count * s = omega arith in
-    let most : (y / s + count) * s ≤ height * s = mul-le (y / s + count) s height s inside (omega arith) in
-    omega arith
+    let most : (y / s + count) * s ≤ p.height * s = mul-le (y / s + count) s p.height s inside (omega arith) in
+    record {
+      some = omega arith;
+      inside = omega arith;
+      equal = λ x k wide below.
+          let low : y / s ≤ (y + k) / s = le-div (y / s) (y + k) s some (omega arith) in
+          let high : (y + k) / s < y / s + count = div_below (y + k) s (y / s + count) some (omega arith) in
+          let place : (y + k) / s ≡ y / s + ((y + k) / s - y / s) = omega arith in
+          ap (p.dark (x / s)) place
+          ∙ h.equal (x / s) ((y + k) / s - y / s) (div_below x s p.width some wide) (omega arith);
+    }
 
 map-range_false : (f : ℕ → Bool) (a n : ℕ) → ((x : ℕ) → a ≤ x → x < a + n → f x ≡ false)
     → map f (range_with_len a n) ≡ replicate n false
@@ -93,11 +93,22 @@ module _ (p : Picture) (zone : QuietZone) where
       let row : y ≡ zone.top + (y - zone.top) = omega arith in
       ap ((with_quiet_zone p zone).dark (zone.left + x)) row ∙ dark-with_quiet_zone p zone x (y - zone.top) wide (omega arith)
 
-  pub equal_rows-with_quiet_zone : (y count : ℕ) → zone.top ≤ y → (y - zone.top) + count ≤ p.height
-      → AreEqualRows p (y - zone.top) count → AreEqualRows (with_quiet_zone p zone) y count
-  equal_rows-with_quiet_zone y count low inside same x k wide below =
+  dark-lower : (x y k : ℕ) → zone.top ≤ y → (y - zone.top) + k < p.height → ((column : ℕ) → column < p.width
+      → p.dark column ((y - zone.top) + k) ≡ p.dark column (y - zone.top))
+      → (with_quiet_zone p zone).dark x (y + k) ≡ (with_quiet_zone p zone).dark x y
+  dark-lower x y k low inside same =
       let row : (y + k) - zone.top ≡ (y - zone.top) + k = omega arith in
       grind (arith, nat_tests)
+
+  pub equal_rows-with_quiet_zone : (y count : ℕ) → zone.top ≤ y → AreEqualRows p (y - zone.top) count
+      → AreEqualRows (with_quiet_zone p zone) y count
+  equal_rows-with_quiet_zone y count low h = record {
+    some = h.some;
+    inside = let inside = h.inside in omega arith;
+    equal = λ x k wide below.
+        let inside = h.inside in
+        dark-lower x y k low (omega arith) (λ column narrow. h.equal column k narrow below);
+  }
 
   pub pixel_row-above : (y : ℕ) → y < zone.top → replicate (zone.left + p.width + zone.right) false
       ≡ pixel_row (with_quiet_zone p zone) y

@@ -1,6 +1,6 @@
 -- Pictures, by coordinates: x counts columns from the left and y rows from the top, both from 0 (ISO/IEC 15420, 15417
 -- and 18004, quiet zones).
-use Rattle.std.specs.Prelude.{◌≡◌, ℕ, ◌+◌, ◌-◌, ◌*◌, ◌/◌, ◌<◌, Bool, false, ◌&&◌, List, length, slice_index_or, nat_lt}
+use Rattle.std.specs.Prelude.{◌≡◌, ℕ, ◌+◌, ◌-◌, ◌*◌, ◌/◌, ◌<◌, ◌≤◌, Bool, false, ◌&&◌, List, length, slice_index_or, nat_lt}
 use Rattle.std.specs.Prelude.{nat_le}
 use Rattle.qrmatrix.specs.Symbol.{Symbol, is_dark}
 use Rattle.picture.specs.declared.quiet_zone.QuietZone.{QuietZone}
@@ -11,9 +11,15 @@ pub record Picture : Type 0 where
   pub height : ℕ
   pub dark : ℕ → ℕ → Bool
 
--- so many rows from the row y on have its pixels
-abbrev pub AreEqualRows : Picture → ℕ → ℕ → Type 0
-AreEqualRows p y count = (x k : ℕ) → x < p.width → k < count → p.dark x (y + k) ≡ p.dark x y
+-- the picture has at least one and `count` rows from the row y on, which all have the pixels of y
+pub record AreEqualRows (p : Picture) (y count : ℕ) : Type 0 where
+  pub some : 0 < count
+  pub inside : y + count ≤ p.height
+  pub equal : (x k : ℕ) → x < p.width → k < count → p.dark x (y + k) ≡ p.dark x y
+
+-- at most 65,535 columns and rows
+abbrev pub Fits : Picture → Type 0
+Fits p = (p.width ≤ 65535) × (p.height ≤ 65535)
 
 -- bars of one height, one for each module of the row
 abbrev pub bars : List Bool → ℕ → Picture

@@ -1,6 +1,6 @@
 //! Pictures in their quiet zones.
 ghost use Rattle.std.specs.Prelude.{◌≡◌, ◌+◌, ◌≤◌};
-ghost use Rattle.picture.specs.Picture.{with_quiet_zone};
+ghost use Rattle.picture.specs.Picture.{Fits, with_quiet_zone};
 
 use crate::grid::Grid;
 use crate::quiet_zone::QuietZone;
@@ -15,10 +15,9 @@ pub struct Framed<G: Grid> {
 }
 
 impl<G: Grid> Framed<G> {
-    /// The grid in this quiet zone, at most 65,535 columns and rows in all.
+    /// Returns the grid in this quiet zone: at most 65,535 columns and rows in all.
     pub fn new(grid: G, zone: QuietZone) -> Self
-        requires width { zone.left + (G.picture grid).width + zone.right ≤ 65535 }
-        requires height { zone.top + (G.picture grid).height + zone.bottom ≤ 65535 }
+        requires { Fits (with_quiet_zone (G.picture grid) zone) }
         ensures { ⟦<Framed<G> as Grid>⟧.picture result ≡ with_quiet_zone (G.picture grid) zone }
     {
         Framed { grid, zone }

@@ -1,7 +1,7 @@
 //! The light pixels round a symbol.
 
-/// The widths of the light border that a symbol needs on each side (ISO/IEC 15420, 15417 and 18004, quiet zone), in
-/// pixels.
+/// The light border that a reader needs round a symbol: its width on each side, in modules (ISO/IEC 15420, 15417 and
+/// 18004, quiet zone).
 #[derive(Clone, Copy, Debug, PartialEq, Eq)]
 pub struct QuietZone {
     pub left: usize,

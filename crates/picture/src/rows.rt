@@ -2,7 +2,7 @@
 ghost use Rattle.std.specs.Prelude.{◌≡◌, ℕ, ◌+◌, ◌*◌, ◌%◌, ◌^◌, ◌<◌, ◌≤◌, Bool, List, length, map, take};
 ghost use Rattle.std.specs.List.{range_with_len};
 ghost use Rattle.device.specs.Writing.{WritesText};
-ghost use Rattle.picture.specs.Private.Rows.{piece, row_text, rows_text};
+ghost use Rattle.picture.specs.Private.Rows.{KeepsRows, piece, row_text, rows_text};
 ghost use Rattle.picture.specs.Text.{pixel_row};
 
 use crate::grid::Grid;

@@ -13,17 +13,17 @@ loop-k-init g c = record { written = HasWritten-none g.S.Sink c.args.sink.now (g
 pub returns-in_err-write_piece : goal.returns-in_err-write_piece
 returns-in_err-write_piece g c =
     let k = c.loop-k.k in
-    let room = c.args.room.now in
-    let row = take c.args.width room in
+    let kept = c.args.kept.now in
+    let row = take c.args.width kept in
     let piece_text : ℕ → List ℕ = λ k. g.T.PixelText.text (piece row k) in
     let end = g.T.PixelText.row_end in
-    let size : length row ≡ c.args.width = length-take-le c.args.width room c.requires.fits in
+    let size : length row ≡ c.args.width = length-take-le c.args.width kept c.requires.fits in
     let inside : k < div_ceil (length row) 70 = omega arith in
     let front = flat_map-below_front piece_text k (div_ceil (length row) 70) inside in
     let text : flat_map piece_text (below (div_ceil (length row) 70)) ++ end
     ≡ (flat_map piece_text (below k) ++ piece_text k) ++ (front.0 ++ end) =
     ap (λ (t : List ℕ). t ++ end) front.1 ∙ append_assoc (flat_map piece_text (below k) ++ piece_text k) front.0 end in
-    let held = ap g.T.PixelText.text (piece_held room c.args.width k c.min.result (omega arith) c.requires.fits
+    let held = ap g.T.PixelText.text (piece_held kept c.args.width k c.min.result (omega arith) c.requires.fits
     (omega arith)) in
     WritesText-fails g.S.Sink g.met.S.Sink.took_joined _ _ _ (flat_map piece_text (below k)) _ (front.0 ++ end) _
     c.from_residual.result c.from_residual.ensures.0
@@ -33,9 +33,9 @@ returns-in_err-write_piece g c =
 pub loop-k-preserved : goal.loop-k-preserved
 loop-k-preserved g c =
     let k = c.loop-k.k in
-    let room = c.args.room.now in
-    let piece_text : ℕ → List ℕ = λ k. g.T.PixelText.text (piece (take c.args.width room) k) in
-    let held = ap g.T.PixelText.text (piece_held room c.args.width k c.min.result (omega arith) c.requires.fits
+    let kept = c.args.kept.now in
+    let piece_text : ℕ → List ℕ = λ k. g.T.PixelText.text (piece (take c.args.width kept) k) in
+    let held = ap g.T.PixelText.text (piece_held kept c.args.width k c.min.result (omega arith) c.requires.fits
     (omega arith)) in
     record {
       written = HasWritten-more g.S.Sink g.met.S.Sink.took_joined _ _ _ (flat_map piece_text (below k)) _ _
@@ -45,10 +45,10 @@ loop-k-preserved g c =
 
 pub returns : goal.returns
 returns g c =
-    let row = take c.args.width c.args.room.now in
+    let row = take c.args.width c.args.kept.now in
     let piece_text : ℕ → List ℕ = λ k. g.T.PixelText.text (piece row k) in
     let pieces : ℕ → List ℕ = λ n. flat_map piece_text (below n) in
-    let size : length row ≡ c.args.width = length-take-le c.args.width c.args.room.now c.requires.fits in
+    let size : length row ≡ c.args.width = length-take-le c.args.width c.args.kept.now c.requires.fits in
     let last : c.loop-k.k ≡ div_ceil (length row) 70 = omega arith in
     let text : pieces c.loop-k.k ++ c.row_end.result.now ≡ pieces (div_ceil (length row) 70) ++ g.T.PixelText.row_end =
     ap (λ (n : ℕ). pieces n ++ c.row_end.result.now) last

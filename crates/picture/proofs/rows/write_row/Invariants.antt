@@ -7,5 +7,5 @@ use Rattle.picture.proofs.rows.write_row.Given as goal
 -- the pieces so far were written
 abbrev pub invariant-loop-k : goal.invariant-loop-k
 invariant-loop-k g l =
-    let piece_text = λ (k : ℕ). g.T.PixelText.text (piece (take l.width l.room) k) in
+    let piece_text = λ (k : ℕ). g.T.PixelText.text (piece (take l.width l.kept) k) in
     record { written : HasWritten g.S.Sink l.initial.sink l.sink (flat_map piece_text (below l.k)) }
