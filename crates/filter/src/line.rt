@@ -60,9 +60,9 @@ fn finish_item<O: Sink, E: Sink>(
         × Unflushed (E.is_flushed err.old) (E.is_flushed err.new) }
 {
     match item {
-        Item::Skip => Ok(false),
-        Item::Refuse(fault) => refuse(number, &fault, out, err),
-        Item::Draw(symbology, own, bytes) => {
+        Item::Skipped => Ok(false),
+        Item::Refused(fault) => refuse(number, &fault, out, err),
+        Item::Drawn(symbology, own, bytes) => {
             draw_or_refuse(&own, symbology, bytes, number, out, err)
         }
     }
