@@ -7,17 +7,17 @@ use crate::filter::Filter;
 use crate::status::{RunFault, Status};
 use device::{Sink, Source};
 use labelcore::Options;
-use picture::{files_of_texts, modules_of_pixels, pixels_of_texts};
+use picture::reading_laws;
 
-/// Reads the source to its end, at most 4,096 bytes a read, and writes what its lines come to: images to `out`,
-/// messages to
-/// `err`. What `out` holds back it sends on before each read and each message. The answer says whether any line was
+/// Reads the source to its end, at most 4,096 bytes a read, and writes the images of its lines to `out`, their messages
+/// to `err`. Before each read and each message, `out` passes on what it has buffered. The status says whether a line was
 /// refused.
 ///
-/// `Read`, `WriteOut` and `WriteMessages` say which device failed; `Spent` is never answered. After `Read` every ended
-/// line's
-/// text is whole, the open line is not drawn and nothing is flushed. After 2^64 - 1 reads that gave bytes `Read` is
-/// answered too.
+/// # Errors
+///
+/// `Read`, `WriteOut` and `WriteMessages` say which device failed; `Spent` is never returned. After `Read` every ended
+/// line's text is whole, the open line is not drawn and nothing is flushed. `Read` also comes after 2^64 - 1 reads that
+/// gave bytes.
 pub fn run<S: Source, O: Sink, E: Sink>(
     options: Options,
     source: &mut S,
@@ -40,13 +40,11 @@ pub fn run<S: Source, O: Sink, E: Sink>(
         (E.failures err.old) (E.failures err.new)) }
 {
     options.ranges();
-    files_of_texts();
-    pixels_of_texts();
-    modules_of_pixels();
+    reading_laws();
     let mut filter = Filter::new(options);
     let mut buffer = [0u8; 4096];
     for _turn in 0..u64::MAX {
-        // A read may wait, and then what earlier lines came to should have gone out.
+        // A read may wait: the texts of earlier lines go out before it.
         if out.pass_on().is_err() {
             return Err(RunFault::WriteOut);
         }

@@ -1,7 +1,7 @@
 use Rattle.std.proofs.Common.{◌≡◌, ◌≤◌, List, ℕ, [], length}
 use Rattle.device.specs.Device.{Unflushed}
 use Rattle.filter.specs.Filter.{StandsAt, TookPiece}
-use Rattle.filter.proofs.engine.run.Given as goal
+use Rattle.filter.proofs.whole_run.run.Given as goal
 
 -- the filter was fed what the source gave so far, and each turn gave a byte or more
 abbrev pub invariant-loop-turn : goal.invariant-loop-turn

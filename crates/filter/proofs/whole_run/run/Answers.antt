@@ -12,7 +12,7 @@ use Rattle.filter.specs.Run.{RunsWhole, RunStops}
 use Rattle.filter.proofs.ReadLemmas.{images_read}
 use Rattle.filter.proofs.RunLemmas.{at_err, at_ok, RunStops-in_line, RunStops-between, TookPiece-sent, TookLines-finish}
 use Rattle.filter.proofs.RunLemmas.{RunStops-finish}
-use Rattle.filter.proofs.engine.run.Goals as goal
+use Rattle.filter.proofs.whole_run.run.Goals as goal
 
 pub loop-turn-init : goal.loop-turn-init
 loop-turn-init g c = record {
@@ -80,13 +80,7 @@ returns-then-count-eq0-clause-whole g c =
       stream = images c.args.options (lines h.given);
       given = subst (g.S.Source.gave c.args.source.now c.read.new.self) (append-nil h.given) gave;
       written = record { images_are = refl; out = took.out; err = took.err; status_is = s };
-      read = images_read (record {
-        pbm_files = c.files_of_texts.ensures.pbm;
-        ascii_files = c.files_of_texts.ensures.ascii;
-        pbm_texts = c.pixels_of_texts.ensures.pbm;
-        ascii_texts = c.pixels_of_texts.ensures.ascii;
-        sampled = c.modules_of_pixels.ensures.sampled;
-      }) c.args.options c.ranges-2.ensures.scale_low c.ranges-2.ensures.scale_high (lines h.given) took.read;
+      read = images_read c.reading_laws.ensures c.args.options c.ranges-2.ensures.scale_low c.ranges-2.ensures.scale_high (lines h.given) took.read;
     })
 
 pub returns-then-count-eq0-clause-stops : goal.returns-then-count-eq0-clause-stops
