@@ -6,8 +6,13 @@ use Rattle.labelcore.specs.HeldLine.{held_line, line_limit}
 use Rattle.device.specs.Lines.{LF, lines, ended_lines, open_line, unless_empty}
 use Rattle.device.proofs.LinesLemmas.{ended_lines-nil, open_line-nil, ended_lines-push_lf, ended_lines-push_other}
 use Rattle.device.proofs.LinesLemmas.{open_line-push_lf, open_line-push_other, some_added}
-use Rattle.filter.specs.Output.{Outcome, outcome, image_of, message_of, is_refusal, line_number, images, messages_after}
-use Rattle.filter.specs.Output.{any_refused}
+use Rattle.labelcore.specs.LineItem.{Outcome}
+use Rattle.filter.specs.Output.{outcome, image_of, message_of, is_refusal, line_number, images, messages_after}
+use Rattle.filter.specs.Output.{any_refused, status_if, status_of}
+use Rattle.filter.specs.Private.LineEnd.{worst}
+use Rattle.filter.specs.declared.status.Status.{Status}
+use Rattle.filter.specs.declared.status.Status.TheVariants.{Clean}
+use Rattle.filter.specs.Symbol.{Symbol}
 use Rattle.filter.specs.Line.{FailsInLine}
 use Rattle.std.specs.List.{AllByRecursion}
 use Rattle.filter.specs.Readback.{ReadsBack}
@@ -15,25 +20,25 @@ use Rattle.filter.specs.Filter.{FilterState, StandsAt, TookLines, StopsInLine, T
 use Rattle.filter.specs.declared.status.RunFault.{RunFault}
 use Rattle.filter.specs.declared.status.RunFault.TheVariants.{Read, WriteOut, WriteMessages, Spent}
 use Rattle.filter.proofs.OutputLemmas.{images-nil, images-append, images_one, messages_after-nil, messages_after-append}
-use Rattle.filter.proofs.OutputLemmas.{messages_after_one, any_refused-nil, any_refused-push}
+use Rattle.filter.proofs.OutputLemmas.{messages_after_one, any_refused-nil, any_refused-push, worst-status_if}
 use Rattle.labelcore.specs.OptionValues.{OptionValues}
 
 module _ (options : OptionValues) where
   -- a new filter
   pub StandsAt-new : (state : FilterState) → state.options ≡ options → state.line ≡ held_line [] → state.line_count ≡ 0
-      → state.is_refused ≡ false → state.is_spent ≡ false → StandsAt options state []
+      → state.status ≡ Clean → state.is_spent ≡ false → StandsAt options state []
   StandsAt-new state o l n r s = record {
     options_are = o;
     line = l ∙ ap held_line (sym open_line-nil);
     line_count = n ∙ ap (λ (ls : List (List ℕ)). min (length ls) (2 ^ 64 - 1)) (sym ended_lines-nil);
-    is_refused = r ∙ (sym (any_refused-nil options) ∙ ap (any_refused options) (sym ended_lines-nil));
+    status_is = r ∙ (sym (ap status_if (any_refused-nil options)) ∙ ap (status_of options) (sym ended_lines-nil));
     is_spent = s;
   }
 
   module _ (old new : FilterState) (text : List ℕ) (byte : ℕ) (at : StandsAt options old text) where
     -- a byte of the line
     pub StandsAt-other : byte ≢ LF → new.options ≡ old.options → new.line ≡ held_line (open_line text ++ byte ∷ [])
-        → new.line_count ≡ old.line_count → new.is_refused ≡ old.is_refused → new.is_spent ≡ old.is_spent
+        → new.line_count ≡ old.line_count → new.status ≡ old.status → new.is_spent ≡ old.is_spent
         → StandsAt options new (text ++ byte ∷ [])
     StandsAt-other other o l n r s =
         let ended = ended_lines-push_other text byte other in
@@ -41,14 +46,14 @@ module _ (options : OptionValues) where
           options_are = o ∙ at.options_are;
           line = l ∙ ap held_line (sym (open_line-push_other text byte other));
           line_count = n ∙ (at.line_count ∙ ap (λ (ls : List (List ℕ)). min (length ls) (2 ^ 64 - 1)) (sym ended));
-          is_refused = r ∙ (at.is_refused ∙ ap (any_refused options) (sym ended));
+          status_is = r ∙ (at.status_is ∙ ap (status_of options) (sym ended));
           is_spent = s ∙ at.is_spent;
         }
 
     -- the end of the line
     pub StandsAt-lf : byte ≡ LF → new.options ≡ old.options → new.line ≡ held_line []
         → new.line_count ≡ line_number (length (ended_lines text))
-        → new.is_refused ≡ (old.is_refused || is_refusal (outcome options (open_line text)))
+        → new.status ≡ worst old.status (status_if (is_refusal (outcome options (open_line text))))
         → new.is_spent ≡ old.is_spent → StandsAt options new (text ++ byte ∷ [])
     StandsAt-lf lf o l n r s =
         let text' : text ++ byte ∷ [] ≡ text ++ LF ∷ [] = ap (λ (b : ℕ). text ++ b ∷ []) lf in
@@ -60,9 +65,11 @@ module _ (options : OptionValues) where
           line_count = n ∙ (ap (λ (k : ℕ). min k (2 ^ 64 - 1))
               (sym (length-append (ended_lines text) (open_line text ∷ [])))
               ∙ ap (λ (ls : List (List ℕ)). min (length ls) (2 ^ 64 - 1)) (sym ended));
-          is_refused = r ∙ (ap (λ (b : Bool). b || is_refusal (outcome options (open_line text))) at.is_refused
-              ∙ (sym (any_refused-push options (ended_lines text) (open_line text))
-              ∙ ap (any_refused options) (sym ended)));
+          status_is = r ∙ (ap (λ (s : Status). worst s (status_if (is_refusal (outcome options (open_line text)))))
+              at.status_is
+              ∙ (worst-status_if (any_refused options (ended_lines text)) (is_refusal (outcome options (open_line text)))
+              ∙ (ap status_if (sym (any_refused-push options (ended_lines text) (open_line text)))
+              ∙ ap (status_of options) (sym ended))));
           is_spent = s ∙ at.is_spent;
         }
 
@@ -113,7 +120,7 @@ module _ (options : OptionValues) where
     }
 
   -- the same failure, where more stands before
-  FailsInLine-map : (o o' e e' : List ℕ → Type 0) (number : ℕ) (i : Outcome) (fault : RunFault)
+  FailsInLine-map : (o o' e e' : List ℕ → Type 0) (number : ℕ) (i : Outcome Symbol) (fault : RunFault)
       → ((bs : List ℕ) → o bs → o' bs) → ((bs : List ℕ) → e bs → e' bs) → FailsInLine options o e number i fault
       → FailsInLine options o' e' number i fault
   FailsInLine-map o o' e e' number i Read f g h = h
@@ -259,18 +266,19 @@ module _ (options : OptionValues) where
     pub a_rest : (state.line.bytes ≡ [] → ⊥) → unless_empty (open_line text) ≡ open_line text ∷ []
     a_rest n = unless_empty-line (open_line text) (λ e. n (ap (λ h. h.bytes) at.line ∙ e))
 
-    pub any_refused-no_rest : state.line.bytes ≡ [] → state.is_refused ≡ any_refused options (lines text)
-    any_refused-no_rest e = at.is_refused ∙ sym (ap (any_refused options)
+    pub status_of-no_rest : state.line.bytes ≡ [] → state.status ≡ status_of options (lines text)
+    status_of-no_rest e = at.status_is ∙ sym (ap (status_of options)
         (lines-split text ∙ (ap (λ (ls : List (List ℕ)). ended_lines text ++ ls) (no_rest e)
         ∙ append-nil (ended_lines text))))
 
-    pub any_refused-rest : (state.line.bytes ≡ [] → ⊥)
-        → (state.is_refused || is_refusal (outcome options (open_line text))) ≡ any_refused options (lines text)
-    any_refused-rest n =
-        ap (λ (b : Bool). b || is_refusal (outcome options (open_line text))) at.is_refused
-        ∙ (sym (any_refused-push options (ended_lines text) (open_line text))
-        ∙ ap (any_refused options) (sym (lines-split text
-        ∙ ap (λ (ls : List (List ℕ)). ended_lines text ++ ls) (a_rest n))))
+    pub status_of-rest : (state.line.bytes ≡ [] → ⊥)
+        → worst state.status (status_if (is_refusal (outcome options (open_line text)))) ≡ status_of options (lines text)
+    status_of-rest n =
+        ap (λ (s : Status). worst s (status_if (is_refusal (outcome options (open_line text))))) at.status_is
+        ∙ (worst-status_if (any_refused options (ended_lines text)) (is_refusal (outcome options (open_line text)))
+        ∙ (ap status_if (sym (any_refused-push options (ended_lines text) (open_line text)))
+        ∙ ap (status_of options) (sym (lines-split text
+        ∙ ap (λ (ls : List (List ℕ)). ended_lines text ++ ls) (a_rest n)))))
 
   -- no line, and one line
   module _ (took_out took_err : List ℕ → Type 0) (before : ℕ) where

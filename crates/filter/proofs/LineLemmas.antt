@@ -5,10 +5,17 @@ use Rattle.labelcore.specs.OptionValues.{OptionValues, KeepsRunOptions}
 use Rattle.labelcore.specs.LineItem.{item}
 use Rattle.labelcore.specs.Message.{message}
 use Rattle.labelcore.specs.declared.fault.Fault.{Fault}
-use Rattle.filter.specs.Output.{Outcome, skipped, refused, drawn, outcome, outcome_of_item, image_of}
+use Rattle.labelcore.specs.LineItem.{Outcome, skipped, refused, drawn}
+use Rattle.filter.specs.Output.{outcome, outcome_of_item, image_of}
 use Rattle.device.specs.Device.{Begins}
 use Rattle.filter.specs.Line.{FailsInLine}
-use Rattle.filter.specs.Private.LineEnd.{EndsLine, FailsInMessage, refusal_of}
+use Rattle.device.specs.Writing.{WritesText}
+use Rattle.device.specs.declared.sink.Sink.{Ghosts}
+use Rattle.filter.specs.Drawing.{DrawsOutcome, refusal_of}
+use Rattle.filter.specs.Private.LineEnd.{EndsLine, FailsInMessage}
+use Rattle.filter.specs.Symbol.{Symbol}
+use Rattle.filter.specs.declared.status.Status.{Status}
+use Rattle.filter.specs.declared.status.Status.TheVariants.{Clean, Refused}
 use Rattle.filter.specs.Readback.{ReadsBack}
 use Rattle.filter.specs.declared.status.RunFault.{RunFault}
 use Rattle.filter.specs.declared.status.RunFault.TheVariants.{Read, WriteOut, WriteMessages, Spent}
@@ -28,12 +35,12 @@ fails_refused options took_out took_err number fault WriteMessages none fails = 
 fails_refused options took_out took_err number fault Spent none fails = fails
 
 -- the message of a refusal was not written whole
-pub refused_fails : (options : OptionValues) (took_out took_err : List ℕ → Type 0) (number : ℕ) (o : Outcome)
-    (fault : Fault) (r : Result Bool RunFault) →
-    Some fault ≡ refusal_of o → took_out (image_of options o) → IfErr r (FailsInMessage took_err (message number fault))
+pub refused_fails : (options : OptionValues) (took_out took_err : List ℕ → Type 0) (number : ℕ) (o : Outcome Symbol)
+    (fault : Fault) (r : Result Status RunFault) → refusal_of o ≡ Err fault → took_out (image_of options o)
+    → IfErr r (FailsInMessage took_err (message number fault))
     → IfErr r (FailsInLine options took_out took_err number o)
 refused_fails options took_out took_err number skipped fault r e image fails = cc
-refused_fails options took_out took_err number (drawn label) fault r e image fails = cc
+refused_fails options took_out took_err number (drawn symbol) fault r e image fails = cc
 refused_fails options took_out took_err number (refused why) fault (Ok x) e image fails = tt
 refused_fails options took_out took_err number (refused why) fault (Err f) e image fails =
     let same : fault ≡ why = cc in
@@ -41,42 +48,43 @@ refused_fails options took_out took_err number (refused why) fault (Err f) e ima
     (subst (λ (w : Fault). FailsInMessage took_err (message number w) f) same fails)
 
 -- the message of a refusal was written whole
-pub refused_ends : (options : OptionValues) (took_out took_err : List ℕ → Type 0) (number : ℕ) (o : Outcome)
-    (fault : Fault) (r : Result Bool RunFault) →
-    Some fault ≡ refusal_of o → took_out (image_of options o) → ReadsBack o → IfOk r (λ x. x ≡ true)
-    → OnOk r (took_err (message number fault)) → IfOk r (EndsLine options took_out took_err number o)
-refused_ends options took_out took_err number skipped fault r e image read is told = cc
-refused_ends options took_out took_err number (drawn label) fault r e image read is told = cc
-refused_ends options took_out took_err number (refused why) fault (Err f) e image read is told = tt
-refused_ends options took_out took_err number (refused why) fault (Ok x) e image read is told =
+pub refused_ends : (options : OptionValues) (took_out took_err : List ℕ → Type 0) (number : ℕ) (o : Outcome Symbol)
+    (fault : Fault) (r : Result Status RunFault) → refusal_of o ≡ Err fault → took_out (image_of options o)
+    → ReadsBack o → IfOk r (λ status. status ≡ Refused) → OnOk r (took_err (message number fault))
+    → IfOk r (EndsLine options took_out took_err number o)
+refused_ends options took_out took_err number skipped fault r e image read is written = cc
+refused_ends options took_out took_err number (drawn symbol) fault r e image read is written = cc
+refused_ends options took_out took_err number (refused why) fault (Err f) e image read is written = tt
+refused_ends options took_out took_err number (refused why) fault (Ok x) e image read is written =
     let same : fault ≡ why = cc in
     record {
-      refused = is;
+      status_is = is;
       image = image;
-      message = subst (λ (w : Fault). took_err (message number w)) same told;
+      message = subst (λ (w : Fault). took_err (message number w)) same written;
       read = read;
     }
 
+-- a line without a refusal has no message
+pub drawn_ends : (options : OptionValues) (took_out took_err : List ℕ → Type 0) (number : ℕ) (o : Outcome Symbol)
+    → refusal_of o ≡ Ok tt → took_out (image_of options o) → took_err [] → ReadsBack o
+    → EndsLine options took_out took_err number o Clean
+drawn_ends options took_out took_err number skipped e image none read =
+    record { status_is = refl; image = image; message = none; read = read }
+drawn_ends options took_out took_err number (refused why) e image none read = cc
+drawn_ends options took_out took_err number (drawn symbol) e image none read =
+    record { status_is = refl; image = image; message = none; read = read }
+
 -- a line keeps the format and the scale of the run, so its image is the run's
 module _ (run own : OptionValues) (kept : KeepsRunOptions run own) where
-  image_of-own : (o : Outcome) → image_of own o ≡ image_of run o
+  image_of-own : (o : Outcome Symbol) → image_of own o ≡ image_of run o
   image_of-own skipped = refl
   image_of-own (refused fault) = refl
-  image_of-own (drawn label) = rw (kept.format, kept.scale) refl
+  image_of-own (drawn symbol) = rw (kept.format, kept.scale) refl
 
-  module _ (took_out took_err : List ℕ → Type 0) (number : ℕ) (o : Outcome) where
-    pub EndsLine-own : (r : Bool) → EndsLine own took_out took_err number o r
-        → EndsLine run took_out took_err number o r
-    EndsLine-own r ends = record {
-      refused = ends.refused;
-      image = subst took_out (image_of-own o) ends.image;
-      message = ends.message;
-      read = ends.read;
-    }
-
-    pub FailsInLine-own : (fault : RunFault) → FailsInLine own took_out took_err number o fault
-        → FailsInLine run took_out took_err number o fault
-    FailsInLine-own Read fails = fails
-    FailsInLine-own WriteOut fails = (subst (Begins took_out) (image_of-own o) fails.0, fails.1)
-    FailsInLine-own WriteMessages fails = fails
-    FailsInLine-own Spent fails = fails
+  pub DrawsOutcome-own : {S E : Type 0} (sink : Ghosts S) (old new : S) (o : Outcome Symbol)
+      (r : Result (Result (Unit {0}) Fault) E) → DrawsOutcome sink old new own o r → DrawsOutcome sink old new run o r
+  DrawsOutcome-own sink old new o r h = record {
+    writes = subst (λ (text : List ℕ). WritesText sink old new text r) (image_of-own o) h.writes;
+    refusal = h.refusal;
+    read = h.read;
+  }

@@ -6,7 +6,8 @@ use Rattle.std.proofs.lemmas.Grind.{flat_map-append}
 use Rattle.std.proofs.lemmas.List.{append-nil}
 use Rattle.std.proofs.lemmas.List.Folds.{list_any-append}
 use Rattle.filter.specs.Output.{outcome, image_of, message_of, is_refusal, line_number, images, messages_after}
-use Rattle.filter.specs.Output.{any_refused}
+use Rattle.filter.specs.Output.{any_refused, status_if}
+use Rattle.filter.specs.Private.LineEnd.{worst}
 use Rattle.labelcore.specs.OptionValues.{OptionValues}
 
 module _ (options : OptionValues) where
@@ -55,3 +56,8 @@ module _ (options : OptionValues) where
       list_any-append p xs (line ∷ [])
       ∙ (elim (is_refusal (outcome options line)) as (λ v. (list_any p xs || (v || false)) ≡ (list_any p xs || v))
       [ true ↦ refl | false ↦ refl ])
+
+-- the status of some lines and of others
+pub worst-status_if : (a b : Bool) → worst (status_if a) (status_if b) ≡ status_if (a || b)
+worst-status_if true b = refl
+worst-status_if false b = refl

@@ -23,13 +23,13 @@ use Rattle.qrmatrix.specs.Reading.{read_matrix}
 use Rattle.qrmatrix.specs.Square.{value_at}
 use Rattle.picture.specs.Picture.{Picture, bars}
 use Rattle.picture.specs.Text.{below, pixel_row, pbm_text, ascii_text}
-use Rattle.picture.specs.Read.{raster, pbm_files, ascii_files, pbm_pixels, ascii_pixels}
-use Rattle.picture.specs.RoundTrip.{IsDrawable, FilesAreTexts, TextsAreRead, PixelsAreThePicture, ModulesAreSampled}
-use Rattle.picture.specs.RoundTrip.{BarsAreOneRow}
-use Rattle.filter.specs.Label.{Label, quiet_zone, linear_label}
-use Rattle.filter.specs.Output.{Outcome, skipped, refused, drawn, outcome, outcome_of_label, image_of, images}
+use Rattle.picture.specs.Reading.{raster, pbm_files, ascii_files, pbm_pixels, ascii_pixels}
+use Rattle.picture.specs.ReadingLaws.{ReadingLaws, IsDrawable, PixelsAreThePicture, BarsAreOneRow}
+use Rattle.filter.specs.Symbol.{Symbol, quiet_zone, linear_symbol}
+use Rattle.labelcore.specs.LineItem.{Outcome, skipped, refused, drawn, outcome_of}
+use Rattle.filter.specs.Output.{outcome, image_of, images}
 use Rattle.filter.specs.Output.{picture_of, text_of}
-use Rattle.filter.specs.Readback.{cut, pixels, read_linear, read_modules, read_image, accepted, with_label, AreRead}
+use Rattle.filter.specs.Readback.{cut, pixels, read_linear, read_modules, read_image, drawn_symbols, with_symbol, AreRead}
 use Rattle.filter.specs.Readback.{IsReadable, ReadsBack}
 
 -- the quiet zones are narrow
@@ -56,110 +56,102 @@ some_sum a b c some = omega arith
 small_product : (a b : ℕ) → a ≤ 1840 → b ≤ 8 → a * b < 2 ^ 64
 small_product a b few scale = let m : a * b ≤ 1840 * b = mul-le-mul_right b few in omega arith
 
--- what the laws of `picture` say of reading
-pub record ReadingLaws : Type 0 where
-  pub pbm_files : FilesAreTexts pbm_text pbm_files IsDrawable
-  pub ascii_files : FilesAreTexts ascii_text ascii_files (λ p. 0 < p.width)
-  pub pbm_texts : TextsAreRead pbm_text pbm_pixels IsDrawable
-  pub ascii_texts : TextsAreRead ascii_text ascii_pixels (λ p. 0 < p.height)
-  pub sampled : ModulesAreSampled
-
 module _ (laws : ReadingLaws) (options : OptionValues) (low : 1 ≤ options.scale) (high : options.scale ≤ 8) where
-  drawable : (label : Label) → IsReadable label → IsDrawable (picture_of options label)
-  drawable label h =
-      let zone = quiet_zone label.symbology in
-      let wide : zone.left + label.modules.width + zone.right ≤ 1840 =
-      small_sum zone.left label.modules.width zone.right (zone_columns label.symbology) h.columns in
-      let tall : zone.top + label.modules.height + zone.bottom ≤ 1840 =
-      small_sum zone.top label.modules.height zone.bottom (omega (arith, zone_rows label.symbology))
+  drawable : (symbol : Symbol) → IsReadable symbol → IsDrawable (picture_of options symbol)
+  drawable symbol h =
+      let zone = quiet_zone symbol.symbology in
+      let wide : zone.left + symbol.modules.width + zone.right ≤ 1840 =
+      small_sum zone.left symbol.modules.width zone.right (zone_columns symbol.symbology) (omega (arith, h.columns)) in
+      let tall : zone.top + symbol.modules.height + zone.bottom ≤ 1840 =
+      small_sum zone.top symbol.modules.height zone.bottom (omega (arith, zone_rows symbol.symbology))
       (omega (arith, h.rows)) in
-      let some = mul-pos (some_sum zone.left label.modules.width zone.right h.some_columns) low in
+      let some = mul-pos (some_sum zone.left symbol.modules.width zone.right h.some_columns) low in
       record {
         some = some;
-        wide = small_product (zone.left + label.modules.width + zone.right) options.scale wide high;
-        high = small_product (zone.top + label.modules.height + zone.bottom) options.scale tall high;
+        wide = small_product (zone.left + symbol.modules.width + zone.right) options.scale wide high;
+        high = small_product (zone.top + symbol.modules.height + zone.bottom) options.scale tall high;
       }
 
-  some_rows : (label : Label) → IsReadable label → 0 < (picture_of options label).height
-  some_rows label h =
-      let zone = quiet_zone label.symbology in
-      mul-pos (some_sum zone.top label.modules.height zone.bottom h.some_rows) low
+  some_rows : (symbol : Symbol) → IsReadable symbol → 0 < (picture_of options symbol).height
+  some_rows symbol h =
+      let zone = quiet_zone symbol.symbology in
+      mul-pos (some_sum zone.top symbol.modules.height zone.bottom h.some_rows) low
 
-  text_read : (format : Format) (label : Label) → IsReadable label
-      → pixels format (text_of format (picture_of options label)) ≡ Some (raster (picture_of options label))
-  text_read Pbm label h = laws.pbm_texts (picture_of options label) (drawable label h)
-  text_read Ascii label h = laws.ascii_texts (picture_of options label) (some_rows label h)
+  text_read : (format : Format) (symbol : Symbol) → IsReadable symbol
+      → pixels format (text_of format (picture_of options symbol)) ≡ Some (raster (picture_of options symbol))
+  text_read Pbm symbol h = laws.pbm_texts (picture_of options symbol) (drawable symbol h)
+  text_read Ascii symbol h = laws.ascii_texts (picture_of options symbol) (some_rows symbol h)
 
   -- one image
-  image_read : (format : Format) (label : Label) → IsReadable label
-      → read_image format options.scale label.symbology (text_of format (picture_of options label)) ≡ Some label.full
+  image_read : (format : Format) (symbol : Symbol) → IsReadable symbol
+      → read_image format options.scale symbol.symbology (text_of format (picture_of options symbol)) ≡ Some symbol.full
   unfolding read_image
-  image_read format label h = rw (
-    text_read format label h,
-    laws.sampled label.modules (quiet_zone label.symbology)
+  image_read format symbol h = rw (
+    text_read format symbol h,
+    laws.sampled symbol.modules (quiet_zone symbol.symbology)
         options.scale low,
   ) h.read
 
-  are_drawable : (labels : List Label) → AllByRecursion IsReadable labels
-      → AllByRecursion IsDrawable (map (picture_of options) labels)
+  are_drawable : (symbols : List Symbol) → AllByRecursion IsReadable symbols
+      → AllByRecursion IsDrawable (map (picture_of options) symbols)
   are_drawable [] all = tt
-  are_drawable (label ∷ labels) all = (drawable label all.0, are_drawable labels all.1)
+  are_drawable (symbol ∷ symbols) all = (drawable symbol all.0, are_drawable symbols all.1)
 
-  have_columns : (labels : List Label) → AllByRecursion IsReadable labels
-      → AllByRecursion (λ (p : Picture). 0 < p.width) (map (picture_of options) labels)
+  have_columns : (symbols : List Symbol) → AllByRecursion IsReadable symbols
+      → AllByRecursion (λ (p : Picture). 0 < p.width) (map (picture_of options) symbols)
   have_columns [] all = tt
-  have_columns (label ∷ labels) all = ((drawable label all.0).some, have_columns labels all.1)
+  have_columns (symbol ∷ symbols) all = ((drawable symbol all.0).some, have_columns symbols all.1)
 
   -- a stream of images
-  stream_cut : (format : Format) (labels : List Label) → AllByRecursion IsReadable labels
-      → cut format (flat_map (text_of format) (map (picture_of options) labels))
-      ≡ map (text_of format) (map (picture_of options) labels)
-  stream_cut Pbm labels all = let ps = map (picture_of options) labels in
-      laws.pbm_files ps (All-from_recursion IsDrawable ps (are_drawable labels all))
-  stream_cut Ascii labels all = let ps = map (picture_of options) labels in
-      laws.ascii_files ps (All-from_recursion (λ (p : Picture). 0 < p.width) ps (have_columns labels all))
+  stream_cut : (format : Format) (symbols : List Symbol) → AllByRecursion IsReadable symbols
+      → cut format (flat_map (text_of format) (map (picture_of options) symbols))
+      ≡ map (text_of format) (map (picture_of options) symbols)
+  stream_cut Pbm symbols all = let ps = map (picture_of options) symbols in
+      laws.pbm_files ps (All-from_recursion IsDrawable ps (are_drawable symbols all))
+  stream_cut Ascii symbols all = let ps = map (picture_of options) symbols in
+      laws.ascii_files ps (All-from_recursion (λ (p : Picture). 0 < p.width) ps (have_columns symbols all))
 
-  all_read : (labels : List Label) → AllByRecursion IsReadable labels
-      → AreRead options.format options.scale (map (text_of options.format) (map (picture_of options) labels)) labels
+  all_read : (symbols : List Symbol) → AllByRecursion IsReadable symbols
+      → AreRead options.format options.scale (map (text_of options.format) (map (picture_of options) symbols)) symbols
   unfolding AreRead
   all_read [] all = tt
-  all_read (label ∷ labels) all = (image_read options.format label all.0, all_read labels all.1)
+  all_read (symbol ∷ symbols) all = (image_read options.format symbol all.0, all_read symbols all.1)
 
-  with_readable : (o : Outcome) → ReadsBack o → (labels : List Label) → AllByRecursion IsReadable labels
-      → AllByRecursion IsReadable (with_label o labels)
-  with_readable skipped r labels all = all
-  with_readable (refused fault) r labels all = all
-  with_readable (drawn label) r labels all = (r, all)
+  with_readable : (o : Outcome Symbol) → ReadsBack o → (symbols : List Symbol) → AllByRecursion IsReadable symbols
+      → AllByRecursion IsReadable (with_symbol o symbols)
+  with_readable skipped r symbols all = all
+  with_readable (refused fault) r symbols all = all
+  with_readable (drawn symbol) r symbols all = (r, all)
 
-  accepted_readable : (lines : List (List ℕ)) → AllByRecursion (λ line. ReadsBack (outcome options line)) lines
-      → AllByRecursion IsReadable (accepted options lines)
-  unfolding accepted
-  accepted_readable [] all = tt
-  accepted_readable (line ∷ lines) all = with_readable (outcome options line) all.0 (accepted options lines)
-      (accepted_readable lines all.1)
+  drawn_symbols_readable : (lines : List (List ℕ)) → AllByRecursion (λ line. ReadsBack (outcome options line)) lines
+      → AllByRecursion IsReadable (drawn_symbols options lines)
+  unfolding drawn_symbols
+  drawn_symbols_readable [] all = tt
+  drawn_symbols_readable (line ∷ lines) all = with_readable (outcome options line) all.0 (drawn_symbols options lines)
+      (drawn_symbols_readable lines all.1)
 
-  image_more : (o : Outcome) (more : List ℕ) (labels : List Label)
-      → more ≡ flat_map (text_of options.format) (map (picture_of options) labels)
-      → image_of options o ++ more ≡ flat_map (text_of options.format) (map (picture_of options) (with_label o labels))
-  image_more skipped more labels e = e
-  image_more (refused fault) more labels e = e
-  image_more (drawn label) more labels e = ap (λ (bytes : List ℕ). text_of options.format (picture_of options label)
+  image_more : (o : Outcome Symbol) (more : List ℕ) (symbols : List Symbol)
+      → more ≡ flat_map (text_of options.format) (map (picture_of options) symbols)
+      → image_of options o ++ more ≡ flat_map (text_of options.format) (map (picture_of options) (with_symbol o symbols))
+  image_more skipped more symbols e = e
+  image_more (refused fault) more symbols e = e
+  image_more (drawn symbol) more symbols e = ap (λ (bytes : List ℕ). text_of options.format (picture_of options symbol)
       ++ bytes) e
 
   images_are : (lines : List (List ℕ)) → images options lines
-      ≡ flat_map (text_of options.format) (map (picture_of options) (accepted options lines))
-  unfolding images accepted
+      ≡ flat_map (text_of options.format) (map (picture_of options) (drawn_symbols options lines))
+  unfolding images drawn_symbols
   images_are [] = refl
-  images_are (line ∷ lines) = image_more (outcome options line) (images options lines) (accepted options lines)
+  images_are (line ∷ lines) = image_more (outcome options line) (images options lines) (drawn_symbols options lines)
       (images_are lines)
 
   -- the images of lines, cut, are read as the full data of the symbols that are drawn
   pub images_read : (lines : List (List ℕ)) → AllByRecursion (λ line. ReadsBack (outcome options line)) lines
-      → AreRead options.format options.scale (cut options.format (images options lines)) (accepted options lines)
+      → AreRead options.format options.scale (cut options.format (images options lines)) (drawn_symbols options lines)
   images_read lines all =
-      let readable = accepted_readable lines all in
-      rw (images_are lines, stream_cut options.format (accepted options lines) readable)
-      (all_read (accepted options lines) readable)
+      let readable = drawn_symbols_readable lines all in
+      rw (images_are lines, stream_cut options.format (drawn_symbols options lines) readable)
+      (all_read (drawn_symbols options lines) readable)
 
 -- a row that is read is not empty
 some_row : (reading : List Bool → Option (List ℕ)) (row : List Bool) (full : List ℕ) → reading [] ≡ None
@@ -173,7 +165,7 @@ pub linear_readable : BarsAreOneRow → (symbology : Symbology) (row : List ℕ 
     → options.height ≤ 500 →
     ((rows : List (List Bool)) → read_modules symbology rows ≡ read_linear reading rows) → reading [] ≡ None →
     ((full : List ℕ) → r ≡ Ok full → (length (row full) ≤ 1795) × (reading (row full) ≡ Some full))
-    → ReadsBack (outcome_of_label (linear_label symbology row options r))
+    → ReadsBack (outcome_of (linear_symbol symbology row options r))
 linear_readable one_row symbology row reading options (Err fault) low high law none back = tt
 linear_readable one_row symbology row reading options (Ok full) low high law none back =
     let b = back full refl in
@@ -227,11 +219,11 @@ module _ (pixels_are : PixelsAreThePicture) (n : ℕ) (dark : ℕ → ℕ → Bo
   ]
 
   -- a QR symbol whose modules are read
-  pub qr_readable : (version : ℕ) (level : Level) (words bytes : List ℕ) → 0 < n → n ≤ 57
-      → read_matrix n dark ≡ Some (record { version = version; level = level; words = words })
-      → data_in version level words ≡ Some bytes →
+  pub qr_readable : (version : ℕ) (level : Level) (codewords bytes : List ℕ) → 0 < n → n ≤ 57
+      → read_matrix n dark ≡ Some (record { version = version; level = level; codewords = codewords })
+      → data_in version level codewords ≡ Some bytes →
       IsReadable (record { symbology = Qr; full = bytes; modules = record { width = n; height = n; dark = dark } })
-  qr_readable version level words bytes some most symbol data_read =
+  qr_readable version level codewords bytes some most symbol data_read =
       let rows = (raster square).rows in
       let count : length rows ≡ n = length-map-range_with_len (pixel_row square) 0 n in
       let values : value_at rows ≡ dark = fun_ext (λ x. fun_ext (λ y. square_value x y)) in

@@ -3,8 +3,10 @@ use Rattle.std.proofs.Common.{ℕ, Result, Ok, Err, List, [], ◌∷◌, ◌++�
 use Rattle.std.proofs.Common.{zero-add}
 use Rattle.std.specs.Prelude.{MatchResult, IfErr, IfOk}
 use Rattle.device.specs.Lines.{lines, ended_lines, open_line, unless_empty}
+use Rattle.filter.specs.Symbol.{Symbol}
 use Rattle.filter.specs.Line.{FailsInLine, RaisesOneCount}
-use Rattle.filter.specs.Output.{Outcome, image_of, images, line_number, messages_after, outcome}
+use Rattle.labelcore.specs.LineItem.{Outcome}
+use Rattle.filter.specs.Output.{image_of, images, line_number, messages_after, outcome}
 use Rattle.filter.specs.Filter.{TookLines, StopsInLine, TookPiece, StopsInFinish}
 use Rattle.filter.specs.Run.{StopsInText, RunStops}
 use Rattle.filter.specs.declared.status.RunFault.{RunFault}
@@ -44,7 +46,7 @@ module _ (options : OptionValues) where
 
   -- where one sink took a text, another one took it too
   module _ (out out' err : List ℕ → Type 0) (widen : (text : List ℕ) → out text → out' text) where
-    FailsInLine-by : (took_err : List ℕ → Type 0) (number : ℕ) (o : Outcome) (front : List ℕ) (fault : RunFault)
+    FailsInLine-by : (took_err : List ℕ → Type 0) (number : ℕ) (o : Outcome Symbol) (front : List ℕ) (fault : RunFault)
         → FailsInLine options (λ bytes. out (front ++ bytes)) took_err number o fault
         → FailsInLine options (λ bytes. out' (front ++ bytes)) took_err number o fault
     FailsInLine-by took_err number o front Read fails = fails

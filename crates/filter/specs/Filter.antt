@@ -4,7 +4,7 @@ use Rattle.std.specs.Prelude.{MatchResult}
 use Rattle.labelcore.specs.HeldLine.{HeldLine, held_line}
 use Rattle.device.specs.Lines.{lines, ended_lines, open_line, unless_empty}
 use Rattle.labelcore.specs.OptionValues.{OptionValues}
-use Rattle.filter.specs.Output.{outcome, images, messages_after, line_number, any_refused, status_of}
+use Rattle.filter.specs.Output.{outcome, images, messages_after, line_number, status_of}
 use Rattle.filter.specs.Line.{FailsInLine}
 use Rattle.filter.specs.Readback.{ReadsBack}
 use Rattle.std.specs.List.{AllByRecursion}
@@ -16,7 +16,7 @@ pub record FilterState : Type 0 where
   pub options : OptionValues
   pub line : HeldLine
   pub line_count : ℕ
-  pub is_refused : Bool
+  pub status : Status
   pub is_spent : Bool
 
 -- the filter has these options and was fed this text
@@ -24,7 +24,7 @@ pub record StandsAt (options : OptionValues) (state : FilterState) (text : List 
   pub options_are : state.options ≡ options
   pub line : state.line ≡ held_line (open_line text)
   pub line_count : state.line_count ≡ min (length (ended_lines text)) (2 ^ 64 - 1)
-  pub is_refused : state.is_refused ≡ any_refused options (ended_lines text)
+  pub status_is : state.status ≡ status_of options (ended_lines text)
   pub is_spent : state.is_spent ≡ false
 
 -- the sinks took the images and the messages of these lines, which so many lines stand before, and their symbols read

@@ -2,12 +2,14 @@
 use Rattle.std.specs.Prelude.{◌≡◌, ℕ, Bool, List, [], Result, MatchResult}
 use Rattle.device.specs.Device.{Begins, Rises, Unflushed}
 use Rattle.labelcore.specs.OptionValues.{OptionValues}
-use Rattle.filter.specs.Output.{Outcome, image_of, message_of}
+use Rattle.labelcore.specs.LineItem.{Outcome}
+use Rattle.filter.specs.Symbol.{Symbol}
+use Rattle.filter.specs.Output.{image_of, message_of}
 use Rattle.filter.specs.declared.status.RunFault.{RunFault}
 use Rattle.filter.specs.declared.status.RunFault.TheVariants.{WriteOut, WriteMessages}
 
 -- the sink that failed took a beginning of its text, and the other took nothing
-abbrev pub FailsInLine : OptionValues → (took_out took_err : List ℕ → Type 0) (number : ℕ) → Outcome → RunFault → Type 0
+abbrev pub FailsInLine : OptionValues → (took_out took_err : List ℕ → Type 0) (number : ℕ) → Outcome Symbol → RunFault → Type 0
 FailsInLine options took_out took_err number outcome WriteOut = Begins took_out (image_of options outcome) × took_err []
 FailsInLine options took_out took_err number outcome WriteMessages =
     took_out [] × Begins took_err (message_of number outcome)

@@ -1,48 +1,36 @@
 -- The images, the messages and the status of a text, line by line (docs/SPECIFICATION.md, Lines, Statuses).
-use Rattle.std.specs.Prelude.{ℕ, ◌+◌, ◌-◌, ◌^◌, min, Bool, true, false, if◌then◌else◌, List, [], ◌∷◌, ◌++◌, Result, Ok}
-use Rattle.std.specs.Prelude.{Err}
+use Rattle.std.specs.Prelude.{ℕ, ◌+◌, ◌-◌, ◌^◌, min, Bool, true, false, if◌then◌else◌, List, [], ◌∷◌, ◌++◌}
 use Rattle.std.specs.List.{flat_map, list_any}
-use Rattle.labelcore.specs.declared.fault.Fault.{Fault}
 use Rattle.labelcore.specs.declared.options.Format.{Format}
 use Rattle.labelcore.specs.declared.options.Format.TheVariants.{Pbm, Ascii}
 use Rattle.labelcore.specs.declared.symbology.Symbology.{Symbology}
 use Rattle.labelcore.specs.OptionValues.{OptionValues}
-use Rattle.labelcore.specs.LineItem.{LineItem, skip, refuse, draw, item}
+use Rattle.labelcore.specs.LineItem.{Outcome, Request, skipped, refused, drawn, item, outcome_of}
 use Rattle.labelcore.specs.Message.{message}
-use Rattle.picture.specs.Picture.{Picture, framed, scaled}
+use Rattle.picture.specs.Picture.{Picture, with_quiet_zone, enlargement}
 use Rattle.picture.specs.Text.{pbm_text, ascii_text}
-use Rattle.filter.specs.Label.{Label, label_of, quiet_zone}
+use Rattle.filter.specs.Symbol.{Symbol, symbol_of, quiet_zone}
 use Rattle.filter.specs.declared.status.Status.{Status}
 use Rattle.filter.specs.declared.status.Status.TheVariants.{Clean, Refused}
 
--- what a line comes to
-pub data Outcome : Type 0 where
-  skipped : Outcome
-  refused : Fault → Outcome
-  drawn : Label → Outcome
+-- what is drawn of data under the options of its line
+abbrev pub outcome_of_data : OptionValues → Symbology → List ℕ → Outcome Symbol
+outcome_of_data own symbology bytes = outcome_of (symbol_of own symbology bytes)
 
--- a label is drawn, and a fault refused
-abbrev pub outcome_of_label : Result Label Fault → Outcome
-outcome_of_label (Ok label) = drawn label
-outcome_of_label (Err fault) = refused fault
+-- what is drawn of an item
+abbrev pub outcome_of_item : Outcome Request → Outcome Symbol
+outcome_of_item skipped = skipped
+outcome_of_item (refused fault) = refused fault
+outcome_of_item (drawn asked) = outcome_of_data asked.options asked.symbology asked.bytes
 
--- what data comes to under the options of its line
-abbrev pub outcome_of_data : OptionValues → Symbology → List ℕ → Outcome
-outcome_of_data own symbology bytes = outcome_of_label (label_of own symbology bytes)
-
--- what an item comes to
-abbrev pub outcome_of_item : LineItem → Outcome
-outcome_of_item skip = skipped
-outcome_of_item (refuse fault) = refused fault
-outcome_of_item (draw asked) = outcome_of_data asked.options asked.symbology asked.bytes
-
--- what a line comes to
-unfoldable pub outcome : OptionValues → List ℕ → Outcome
+-- what is drawn of a line
+unfoldable pub outcome : OptionValues → List ℕ → Outcome Symbol
 outcome options line = outcome_of_item (item options line)
 
 -- the symbol in its quiet zone, each module a square of pixels
-abbrev pub picture_of : OptionValues → Label → Picture
-picture_of options label = scaled (framed label.modules (quiet_zone label.symbology)) options.scale
+abbrev pub picture_of : OptionValues → Symbol → Picture
+picture_of options symbol =
+    enlargement (with_quiet_zone symbol.modules (quiet_zone symbol.symbology)) options.scale
 
 -- the text of a picture in a format
 abbrev pub text_of : Format → Picture → List ℕ
@@ -50,21 +38,21 @@ text_of Pbm p = pbm_text p
 text_of Ascii p = ascii_text p
 
 -- the image that is drawn, or none
-abbrev pub image_of : OptionValues → Outcome → List ℕ
-image_of options (drawn label) = text_of options.format (picture_of options label)
+abbrev pub image_of : OptionValues → Outcome Symbol → List ℕ
+image_of options (drawn symbol) = text_of options.format (picture_of options symbol)
 image_of options other = []
 
 -- the message of a refusal, or none
-abbrev pub message_of : ℕ → Outcome → List ℕ
+abbrev pub message_of : ℕ → Outcome Symbol → List ℕ
 message_of number (refused fault) = message number fault
 message_of number other = []
 
 -- whether the line is refused
-abbrev pub is_refusal : Outcome → Bool
+abbrev pub is_refusal : Outcome Symbol → Bool
 is_refusal (refused fault) = true
 is_refusal other = false
 
--- the number of a line that so many lines stand before; it stops at the greatest `u64`
+-- the number of a line after this many lines; it stops at the greatest `u64`
 abbrev pub line_number : ℕ → ℕ
 line_number before = min (before + 1) (2 ^ 64 - 1)
 
@@ -72,7 +60,7 @@ line_number before = min (before + 1) (2 ^ 64 - 1)
 unfoldable pub images : OptionValues → List (List ℕ) → List ℕ
 images options lines = flat_map (λ line. image_of options (outcome options line)) lines
 
--- the messages of lines that so many lines stand before, joined
+-- the messages of lines after this many lines, joined
 unfoldable pub messages_after : OptionValues → ℕ → List (List ℕ) → List ℕ
 messages_after options before [] = []
 messages_after options before (line ∷ lines) = message_of (line_number before) (outcome options line)
@@ -86,6 +74,10 @@ messages options lines = messages_after options 0 lines
 unfoldable pub any_refused : OptionValues → List (List ℕ) → Bool
 any_refused options lines = list_any (λ line. is_refusal (outcome options line)) lines
 
+-- the status of lines some of which are refused, or none
+abbrev pub status_if : Bool → Status
+status_if is_refused = if is_refused then Refused else Clean
+
 -- the status of a run over these lines
 abbrev pub status_of : OptionValues → List (List ℕ) → Status
-status_of options lines = if any_refused options lines then Refused else Clean
+status_of options lines = status_if (any_refused options lines)

@@ -5,7 +5,7 @@ use Rattle.device.specs.Device.{Rises}
 use Rattle.labelcore.specs.OptionValues.{OptionValues}
 use Rattle.device.specs.Lines.{lines, ended_lines}
 use Rattle.filter.specs.Output.{images, messages, status_of}
-use Rattle.filter.specs.Readback.{AreRead, accepted, cut}
+use Rattle.filter.specs.Readback.{AreRead, drawn_symbols, cut}
 use Rattle.filter.specs.declared.status.Status.{Status}
 use Rattle.filter.specs.Filter.{TookLines, StopsInLine}
 use Rattle.filter.specs.declared.status.RunFault.{RunFault}
@@ -24,7 +24,7 @@ pub record WritesOutput (options : OptionValues) (took_out took_err : List ℕ �
 -- data of its line.
 abbrev pub ImagesAreRead : OptionValues → (text stream : List ℕ) → Type 0
 ImagesAreRead options text stream =
-    AreRead options.format options.scale (cut options.format stream) (accepted options (lines text))
+    AreRead options.format options.scale (cut options.format stream) (drawn_symbols options (lines text))
 
 -- A whole run: both halves, of the one text that the source gave and the one stream that the sink took.
 pub record RunsWhole (options : OptionValues) (gave took_out took_err : List ℕ → Type 0) (status : Status)

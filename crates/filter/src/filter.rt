@@ -4,7 +4,7 @@ ghost use Rattle.std.specs.Prelude.{IfErr};
 ghost use Rattle.device.specs.Device.{Unflushed};
 ghost use Rattle.labelcore.specs.OptionValues.{OptionValues};
 ghost use Rattle.device.specs.Lines.{lines, ended_lines, open_line, unless_empty};
-ghost use Rattle.filter.specs.Output.{any_refused, status_of};
+ghost use Rattle.filter.specs.Output.{status_of};
 ghost use Rattle.filter.specs.Filter.{FilterState, StandsAt, TookLines, StopsInLine, FeedsPiece, EndsInput};
 ghost use Rattle.filter.specs.Line.{CountsFault, FlushedImagesAtMost};
 
@@ -14,13 +14,13 @@ use device::Sink;
 use labelcore::{LineBuf, Options};
 use std::marker::Model;
 
-/// What is held of the open line, and what the lines before it came to.
+/// What is held of the open line, and the number and the status of the lines before it.
 #[derive(Drop)]
 pub struct Filter {
     options: Options,
     line: LineBuf,
     line_count: u64,
-    is_refused: bool,
+    status: Status,
     is_spent: bool,
 }
 
@@ -33,7 +33,7 @@ impl Model for Filter {
       options = f.options;
       line = f.line;
       line_count = f.line_count;
-      is_refused = f.is_refused;
+      status = f.status;
       is_spent = f.is_spent;
     } };
 }
@@ -47,7 +47,7 @@ impl Filter {
             options,
             line: LineBuf::new(),
             line_count: 0,
-            is_refused: false,
+            status: Status::Clean,
             is_spent: false,
         }
     }
@@ -74,8 +74,8 @@ impl Filter {
         }
         self.line_count = self.line_count.saturating_add(1);
         match finish_line(&self.options, &self.line, self.line_count, out, err) {
-            Ok(refused) => {
-                self.is_refused = self.is_refused || refused;
+            Ok(status) => {
+                self.status = self.status.worst(status);
                 self.line.clear();
                 Ok(())
             }
@@ -86,11 +86,13 @@ impl Filter {
         }
     }
 
-    /// Takes the next piece of the input: writes what the lines come to that it ends, flushes nothing, and holds the
-    /// rest.
+    /// Takes the next piece of the input: writes the images and messages of the lines that it ends, flushes nothing, and
+    /// holds the rest, at most 1,100 bytes.
+    ///
+    /// # Errors
     ///
     /// `WriteOut` and `WriteMessages` say which sink failed, in one of these lines: earlier lines' texts are whole, and
-    /// its own is a beginning. From then on the filter is spent, and every call answers `Spent` and calls no sink.
+    /// its own is a beginning. From then on the filter is spent: every call returns `Spent` and calls no sink.
     pub fn feed<O: Sink, E: Sink>(
         &mut self,
         piece: &[u8],
@@ -119,11 +121,13 @@ impl Filter {
         Ok(())
     }
 
-    /// Ends the input: the last line is written, if no LF ends it, and then both sinks are flushed, the images first.
+    /// Ends the input: writes the image or the message of the last line, if no LF ends it, and then flushes both sinks,
+    /// the images first.
+    ///
+    /// # Errors
     ///
     /// `WriteOut` and `WriteMessages` say which sink failed, in that line or in its flush. A filter that was spent
-    /// answers
-    /// `Spent` and calls no sink.
+    /// returns `Spent` and calls no sink.
     pub fn finish<O: Sink, E: Sink>(self, out: &mut O, err: &mut E) -> Result<Status, RunFault>
         ensures ends { (options : OptionValues) (text : List ℕ) → StandsAt options self text
             → EndsInput options (O.took out.old out.new) (E.took err.old err.new) text result }
@@ -141,19 +145,19 @@ impl Filter {
         if self.is_spent {
             return Err(RunFault::Spent);
         }
-        let refused = self.finish_open_line(out, err)?;
+        let status = self.finish_open_line(out, err)?;
         flush_both(out, err)?;
-        Ok(if refused {
-            Status::Refused
-        } else {
-            Status::Clean
-        })
+        Ok(status)
     }
 
-    /// Writes what the last line comes to, if no LF ends it, and says whether any line is refused.
-    fn finish_open_line<O: Sink, E: Sink>(&self, out: &mut O, err: &mut E) -> Result<bool, RunFault>
-        ensures refused { (options : OptionValues) (text : List ℕ) → StandsAt options self.now text
-            → IfOk result (λ r. r ≡ any_refused options (lines text)) }
+    /// Writes the image or the message of the last line, if no LF ends it. The status is that of all lines.
+    fn finish_open_line<O: Sink, E: Sink>(
+        &self,
+        out: &mut O,
+        err: &mut E,
+    ) -> Result<Status, RunFault>
+        ensures status { (options : OptionValues) (text : List ℕ) → StandsAt options self.now text
+            → IfOk result (λ status. status ≡ status_of options (lines text)) }
         ensures took { (options : OptionValues) (text : List ℕ) → StandsAt options self.now text
             → OnOk result (TookLines options
             (O.took out.old out.new) (E.took err.old err.new)
@@ -168,14 +172,11 @@ impl Filter {
             × Unflushed (E.is_flushed err.old) (E.is_flushed err.new) }
     {
         if self.line.is_empty() {
-            return Ok(self.is_refused);
+            return Ok(self.status);
         }
         let number = self.line_count.saturating_add(1);
         match finish_line(&self.options, &self.line, number, out, err) {
-            Ok(refused) => {
-                let any_refused = self.is_refused || refused;
-                Ok(any_refused)
-            }
+            Ok(status) => Ok(self.status.worst(status)),
             Err(fault) => Err(fault),
         }
     }

@@ -1,18 +1,19 @@
 //! The filter as a library: lines in, pictures and messages out.
 //!
-//! [`run`] reads a whole source. A [`Filter`] is fed piece by piece, by a caller who reads for itself. Neither takes
-//! memory: a filter holds at most 1,100 bytes of one line between pieces. An end of a line (`line`) draws its symbol
-//! (`draw`) or says why not.
+//! [`run`] reads a whole source, and [`run_streams`] does so between a reader and a writer of std. A [`Filter`] is fed
+//! piece by piece, by a caller who reads for itself. [`draw`] draws one symbol, with no line of text. None of them takes
+//! memory: a filter holds at most 1,100 bytes of one line between pieces.
 #![tactic(auto)]
 
-mod draw;
-mod engine;
+mod drawing;
 mod filter;
 mod line;
 mod status;
 mod streams;
+mod whole_run;
 
-pub use engine::run;
+pub use drawing::draw;
 pub use filter::Filter;
 pub use status::{RunFault, Status};
 pub use streams::run_streams;
+pub use whole_run::run;

@@ -1,27 +1,30 @@
 //! What the end of a line does.
-ghost use Rattle.std.specs.Prelude.{◌≡◌, ◌≢◌, ℕ, true, List, [], IfOk, IfErr, OnOk};
+ghost use Rattle.std.specs.Prelude.{◌≡◌, ℕ, List, [], IfOk, IfErr, OnOk};
 ghost use Rattle.device.specs.Device.{Unflushed};
+ghost use Rattle.labelcore.specs.HeldLine.{held_line};
 ghost use Rattle.labelcore.specs.ItemView.{item_seen};
 ghost use Rattle.labelcore.specs.LineItem.{HasData, KeepsRun};
-ghost use Rattle.labelcore.specs.HeldLine.{held_line};
 ghost use Rattle.labelcore.specs.Message.{message};
-ghost use Rattle.filter.specs.Output.{outcome, outcome_of_data, outcome_of_item};
+ghost use Rattle.labelcore.specs.OptionValues.{OptionValues};
+ghost use Rattle.filter.specs.Drawing.{DrawsOutcome};
 ghost use Rattle.filter.specs.Line.{FailsInLine, CountsFault};
+ghost use Rattle.filter.specs.Output.{outcome, outcome_of_item};
 ghost use Rattle.filter.specs.Private.LineEnd.{EndsLine, FailsInMessage};
+ghost use Rattle.filter.specs.declared.status.Status.TheVariants.{Refused};
 
-use crate::draw::draw;
-use crate::status::RunFault;
-use device::Sink;
-use labelcore::{Fault, Item, LineBuf, Options, Scratch, Symbology, parse, write_fault};
+use crate::drawing::draw;
+use crate::status::{RunFault, Status};
+use device::{IoFault, Sink};
+use labelcore::{Fault, Item, LineBuf, Options, Scratch, parse, write_fault};
 
-/// Writes the line's image or its message, and says whether it is refused.
+/// Writes the line's image or its message. The status says whether the line is refused.
 pub fn finish_line<O: Sink, E: Sink>(
     options: &Options,
     line: &LineBuf,
     number: u64,
     out: &mut O,
     err: &mut E,
-) -> Result<bool, RunFault>
+) -> Result<Status, RunFault>
     ensures ends { (text : List ℕ) → line.now ≡ held_line text → IfOk result
         (EndsLine options.now (O.took out.old out.new) (E.took err.old err.new) number
         (outcome options.now text)) }
@@ -35,64 +38,24 @@ pub fn finish_line<O: Sink, E: Sink>(
 {
     let mut scratch = Scratch::new();
     let item = parse(options, line, &mut scratch);
-    finish_item(options, item, number, out, err)
-}
-
-/// Writes the image or the message of what a line asks for.
-fn finish_item<O: Sink, E: Sink>(
-    options: &Options,
-    item: Item,
-    number: u64,
-    out: &mut O,
-    err: &mut E,
-) -> Result<bool, RunFault>
-    requires some_data { HasData (item_seen item) }
-    requires form { KeepsRun options.now (item_seen item) }
-    ensures ends { IfOk result (EndsLine options.now
-        (O.took out.old out.new) (E.took err.old err.new) number
-        (outcome_of_item (item_seen item.entry))) }
-    ensures fails { IfErr result (FailsInLine options.now
-        (O.took out.old out.new) (E.took err.old err.new) number
-        (outcome_of_item (item_seen item.entry))) }
-    ensures counts { CountsFault (O.failures out.old) (O.failures out.new)
-        (E.failures err.old) (E.failures err.new) result }
-    ensures unflushed { Unflushed (O.is_flushed out.old) (O.is_flushed out.new)
-        × Unflushed (E.is_flushed err.old) (E.is_flushed err.new) }
-{
-    match item {
-        Item::Skip => Ok(false),
-        Item::Refuse(fault) => refuse(number, &fault, out, err),
-        Item::Draw(symbology, own, bytes) => {
-            draw_or_refuse(&own, symbology, bytes, number, out, err)
-        }
+    match draw_item(item, out) {
+        Ok(Ok(())) => Ok(Status::Clean),
+        Ok(Err(fault)) => refuse(number, &fault, out, err),
+        Err(_) => Err(RunFault::WriteOut),
     }
 }
 
-/// Writes the image of data, or the message of its refusal.
-fn draw_or_refuse<O: Sink, E: Sink>(
-    options: &Options,
-    symbology: Symbology,
-    bytes: &[u8],
-    number: u64,
-    out: &mut O,
-    err: &mut E,
-) -> Result<bool, RunFault>
-    requires { bytes.now ≢ [] }
-    ensures ends { IfOk result (EndsLine options.now
-        (O.took out.old out.new) (E.took err.old err.new) number
-        (outcome_of_data options.now symbology bytes.now)) }
-    ensures fails { IfErr result (FailsInLine options.now
-        (O.took out.old out.new) (E.took err.old err.new) number
-        (outcome_of_data options.now symbology bytes.now)) }
-    ensures counts { CountsFault (O.failures out.old) (O.failures out.new)
-        (E.failures err.old) (E.failures err.new) result }
-    ensures unflushed { Unflushed (O.is_flushed out.old) (O.is_flushed out.new)
-        × Unflushed (E.is_flushed err.old) (E.is_flushed err.new) }
+/// Draws what a line asks for, or returns why the line is refused.
+fn draw_item<O: Sink>(item: Item, out: &mut O) -> Result<Result<(), Fault>, IoFault>
+    requires { HasData (item_seen item) }
+    ensures { (options : OptionValues) → KeepsRun options (item_seen item.entry)
+        → DrawsOutcome O.Sink out.old out.new options
+        (outcome_of_item (item_seen item.entry)) result }
 {
-    match draw(options, symbology, bytes, out) {
-        Ok(None) => Ok(false),
-        Ok(Some(fault)) => refuse(number, &fault, out, err),
-        Err(_) => Err(RunFault::WriteOut),
+    match item {
+        Item::Skipped => Ok(Ok(())),
+        Item::Refused(fault) => Ok(Err(fault)),
+        Item::Drawn(symbology, own, bytes) => draw(&own, symbology, bytes, out),
     }
 }
 
@@ -102,8 +65,8 @@ fn refuse<O: Sink, E: Sink>(
     fault: &Fault,
     out: &mut O,
     err: &mut E,
-) -> Result<bool, RunFault>
-    ensures refused { IfOk result (λ r. r ≡ true) }
+) -> Result<Status, RunFault>
+    ensures refused { IfOk result (λ status. status ≡ Refused) }
     ensures out { O.took out.old out.new [] }
     ensures message { OnOk result (E.took err.old err.new (message number fault.now)) }
     ensures fails { IfErr result (FailsInMessage (E.took err.old err.new) (message number fault.now)) }
@@ -116,7 +79,7 @@ fn refuse<O: Sink, E: Sink>(
         return Err(RunFault::WriteOut);
     }
     match write_fault(number, fault, err) {
-        Ok(()) => Ok(true),
+        Ok(()) => Ok(Status::Refused),
         Err(_) => Err(RunFault::WriteMessages),
     }
 }

@@ -5,8 +5,8 @@ ghost use Rattle.device.specs.Buffered.{buffered_bytes, sink_of};
 ghost use Rattle.device.specs.Streams.{reader_of, writer_of};
 ghost use Rattle.filter.specs.Run.{RunsWhole, RunStops};
 
-use crate::engine::run;
 use crate::status::{RunFault, Status};
+use crate::whole_run::run;
 use device::{Buffered, Sink, StdSink, StdSource};
 use labelcore::Options;
 use std::io::{Read, Write};

@@ -1,7 +1,7 @@
 -- The error correction codewords of a block (ISO/IEC 18004, 7.5.2 and annex A).
 use Rattle.std.specs.Prelude.{◌≡◌, ◌-◌, ◌<◌, ℕ, zero, suc, List, [], ◌∷◌, ◌++◌, length, drop, All}
 use Rattle.gf256.specs.Field.{alpha, field_power, IsElement}
-use Rattle.gf256.specs.Polynomial.{zeros, scaled, evaluate, polynomial_sum, polynomial_product}
+use Rattle.gf256.specs.Polynomial.{zeros, scalar_multiple, evaluate, polynomial_sum, polynomial_product}
 
 -- the generator polynomial of k codewords: the product of x + alpha^i over the i below k
 unfoldable pub generator : ℕ → List ℕ
@@ -14,7 +14,7 @@ unfoldable pub long_division : (n : ℕ) (low : List ℕ) → List ℕ → List 
 long_division zero low p = p
 long_division (suc n) low [] = []
 long_division (suc n) low (c ∷ p) =
-    long_division n low (polynomial_sum (scaled c low ++ zeros (length p - length low)) p)
+    long_division n low (polynomial_sum (scalar_multiple c low ++ zeros (length p - length low)) p)
 
 -- the k error correction codewords of a block: the remainder of its codewords times x^k by the generator
 unfoldable pub ec_codewords_of : ℕ → List ℕ → List ℕ

@@ -2,16 +2,17 @@
 use Rattle.std.specs.Prelude.{◌≡◌, Bool, ◌==◌, List, [], ◌∷◌, ◌++◌, map, length, codes, refl, true, false, Some, take}
 use Rattle.std.specs.Fmt.{digits}
 use Rattle.device.specs.Lines.{lines, ended_lines, open_line}
-use Rattle.picture.specs.Picture.{Picture, Zone, bars, framed, scaled}
+use Rattle.picture.specs.Picture.{Picture, bars, with_quiet_zone, enlargement}
+use Rattle.picture.specs.declared.quiet_zone.QuietZone.{QuietZone}
 use Rattle.picture.specs.Text.{pbm_text, ascii_text}
-use Rattle.picture.specs.Read.{pbm_pixels, ascii_pixels, raster, pbm_files, ascii_files, sample}
+use Rattle.picture.specs.Reading.{pbm_pixels, ascii_pixels, raster, pbm_files, ascii_files, sample}
 
 -- the modules of the symbol of `ean8 7351353`
 abbrev ean8_modules : List Bool
 ean8_modules = map (λ b. b == 49) (codes "1010111011011110101100010011001010101000010100111010000101000100101")
 
 abbrev ean8_picture : Picture
-ean8_picture = scaled (framed (bars ean8_modules 1) (record { left = 7; right = 7; top = 0; bottom = 0 })) 1
+ean8_picture = enlargement (with_quiet_zone (bars ean8_modules 1) (record { left = 7; right = 7; top = 0; bottom = 0 })) 1
 
 pbm_ean8 : pbm_text ean8_picture
     ≡ codes "P1\n81 1\n0000000101011101101111010110001001100101010100001010011101000010100010\n01010000000\n"
@@ -37,11 +38,11 @@ unfolding ascii_pixels lines ended_lines open_line
 ascii_ean8_read = refl
 
 -- three times as large, cut from a stream, and sampled
-abbrev zone : Zone
+abbrev zone : QuietZone
 zone = record { left = 2; right = 1; top = 0; bottom = 0 }
 
 abbrev large : Picture
-large = scaled (framed (bars (true ∷ false ∷ true ∷ true ∷ []) 2) zone) 3
+large = enlargement (with_quiet_zone (bars (true ∷ false ∷ true ∷ true ∷ []) 2) zone) 3
 
 pbm_cut : pbm_files (pbm_text large ++ pbm_text ean8_picture) ≡ pbm_text large ∷ pbm_text ean8_picture ∷ []
 unfolding digits

@@ -1,5 +1,5 @@
 pub mod Picture
 pub mod Private
-pub mod Read
-pub mod RoundTrip
+pub mod Reading
+pub mod ReadingLaws
 pub mod Text

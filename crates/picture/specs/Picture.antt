@@ -1,8 +1,9 @@
 -- Pictures, by coordinates: x counts columns from the left and y rows from the top, both from 0 (ISO/IEC 15420, 15417
 -- and 18004, quiet zones).
-use Rattle.std.specs.Prelude.{◌≡◌, ℕ, ◌+◌, ◌-◌, ◌*◌, ◌/◌, ◌<◌, Bool, false, ◌&&◌, List, length, slice_index_or, nat_lt}
+use Rattle.std.specs.Prelude.{◌≡◌, ℕ, ◌+◌, ◌-◌, ◌*◌, ◌/◌, ◌<◌, ◌≤◌, Bool, false, ◌&&◌, List, length, slice_index_or, nat_lt}
 use Rattle.std.specs.Prelude.{nat_le}
 use Rattle.qrmatrix.specs.Symbol.{Symbol, is_dark}
+use Rattle.picture.specs.declared.quiet_zone.QuietZone.{QuietZone}
 
 -- a picture: its width, its height, and whether the pixel at x and y is dark
 pub record Picture : Type 0 where
@@ -10,9 +11,15 @@ pub record Picture : Type 0 where
   pub height : ℕ
   pub dark : ℕ → ℕ → Bool
 
--- so many rows from the row y on have its pixels
-abbrev pub AreEqualRows : Picture → ℕ → ℕ → Type 0
-AreEqualRows p y count = (x k : ℕ) → x < p.width → k < count → p.dark x (y + k) ≡ p.dark x y
+-- the picture has at least one and `count` rows from the row y on, which all have the pixels of y
+pub record AreEqualRows (p : Picture) (y count : ℕ) : Type 0 where
+  pub some : 0 < count
+  pub inside : y + count ≤ p.height
+  pub equal : (x k : ℕ) → x < p.width → k < count → p.dark x (y + k) ≡ p.dark x y
+
+-- at most 65,535 columns and rows
+abbrev pub Fits : Picture → Type 0
+Fits p = (p.width ≤ 65535) × (p.height ≤ 65535)
 
 -- bars of one height, one for each module of the row
 abbrev pub bars : List Bool → ℕ → Picture
@@ -22,16 +29,9 @@ bars row height = record { width = length row; height = height; dark = λ x y. s
 abbrev pub symbol_picture : Symbol → Picture
 symbol_picture s = record { width = s.side; height = s.side; dark = is_dark s }
 
--- widths of a quiet zone
-pub record Zone : Type 0 where
-  pub left : ℕ
-  pub right : ℕ
-  pub top : ℕ
-  pub bottom : ℕ
-
 -- the picture in its quiet zone, which is light
-abbrev pub framed : Picture → Zone → Picture
-framed p zone = record {
+abbrev pub with_quiet_zone : Picture → QuietZone → Picture
+with_quiet_zone p zone = record {
   width = zone.left + p.width + zone.right;
   height = zone.top + p.height + zone.bottom;
   dark = λ x y.
@@ -40,5 +40,5 @@ framed p zone = record {
 }
 
 -- each pixel drawn as a square of so many pixels
-abbrev pub scaled : Picture → ℕ → Picture
-scaled p n = record { width = p.width * n; height = p.height * n; dark = λ x y. p.dark (x / n) (y / n) }
+abbrev pub enlargement : Picture → ℕ → Picture
+enlargement p n = record { width = p.width * n; height = p.height * n; dark = λ x y. p.dark (x / n) (y / n) }

@@ -10,7 +10,7 @@ use Rattle.picture.specs.Picture.{Picture}
 abbrev pub below : ℕ → List ℕ
 below n = range_with_len 0 n
 
--- a pixel of a plain PBM file: 1 is dark
+-- pbm(5): a pixel is the digit 1 where dark, and 0 where light
 abbrev pub pbm_digit : Bool → ℕ
 pbm_digit dark = if dark then 49 else 48
 
@@ -18,34 +18,30 @@ pbm_digit dark = if dark then 49 else 48
 abbrev pub pixel_row : Picture → ℕ → List Bool
 pixel_row p y = map (λ x. p.dark x y) (below p.width)
 
--- a row's pieces of 70 pixels, counted from 0; the last one may be shorter
-abbrev pub piece : List Bool → ℕ → List Bool
-piece row k = take 70 (drop (70 * k) row)
+-- a piece of a row: its digits, and a line feed
+abbrev pub pbm_piece : List Bool → List ℕ
+pbm_piece pixels = map pbm_digit pixels ++ LF ∷ []
 
--- a piece, with its line end
-abbrev pub pbm_line : List Bool → List ℕ
-pbm_line pixels = map pbm_digit pixels ++ LF ∷ []
-
--- the row y: its pieces, as many as it takes, each with its line end
+-- the row y in pieces of 70 pixels, of which the last may be shorter
 abbrev pub pbm_row : Picture → ℕ → List ℕ
-pbm_row p y = flat_map (λ k. pbm_line (piece (pixel_row p y) k)) (below (div_ceil p.width 70))
+pbm_row p y = flat_map (λ k. pbm_piece (take 70 (drop (70 * k) (pixel_row p y)))) (below (div_ceil p.width 70))
 
 -- the two lines before the rows
 abbrev pub pbm_header : ℕ → ℕ → List ℕ
 pbm_header width height = codes "P1\n" ++ decimal width ++ codes " " ++ decimal height ++ codes "\n"
 
--- a plain PBM file
+-- a plain PBM file, pbm(5)
 abbrev pub pbm_text : Picture → List ℕ
 pbm_text p = pbm_header p.width p.height ++ flat_map (pbm_row p) (below p.height)
 
--- a pixel in letters, twice as wide as high
+-- two letters for a pixel, so that it is about as wide as high on a screen
 abbrev pub ascii_pixel : Bool → List ℕ
 ascii_pixel dark = if dark then codes "##" else codes "  "
 
--- the row y: its letters, and the line's end
+-- the row y: the letters of its pixels, and a line feed
 abbrev pub ascii_row : Picture → ℕ → List ℕ
 ascii_row p y = flat_map (λ x. ascii_pixel (p.dark x y)) (below p.width) ++ LF ∷ []
 
--- rows of letters, and an empty line
+-- a text picture: its rows, and an empty line
 abbrev pub ascii_text : Picture → List ℕ
 ascii_text p = flat_map (ascii_row p) (below p.height) ++ LF ∷ []

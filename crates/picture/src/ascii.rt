@@ -1,15 +1,19 @@
 //! Text pictures.
 ghost use Rattle.std.specs.Prelude.{◌≡◌, ◌*◌, ◌<◌, ◌≤◌, Some, [], ◌∷◌, flat_map, length, take};
 ghost use Rattle.device.specs.Writing.{WritesText};
-ghost use Rattle.picture.specs.Read.{ascii_pixels, raster};
+ghost use Rattle.picture.specs.Reading.{ascii_pixels, raster};
 ghost use Rattle.picture.specs.Text.{ascii_pixel, ascii_text};
 
 use crate::grid::Grid;
 use crate::rows::{PixelText, write_rows};
 use device::{IoFault, Sink, write_whole};
 
-/// Writes the grid as text, a line for each row: `##` where dark and two spaces where light, and an empty line after
-/// them. An error is the sink's, and leaves a beginning of the text written.
+/// Writes the grid as text: a line for each row, with `##` for a dark pixel and two spaces for a light one, and then an
+/// empty line.
+///
+/// # Errors
+///
+/// The sink's error. A beginning of the text is written then.
 pub fn write_ascii<G: Grid, S: Sink>(grid: &G, sink: &mut S) -> Result<(), IoFault>
     ensures writes { WritesText S.Sink sink.old sink.new (ascii_text (G.picture grid.now)) result }
     // The text, read back, has the grid's pixels.
@@ -20,19 +24,19 @@ pub fn write_ascii<G: Grid, S: Sink>(grid: &G, sink: &mut S) -> Result<(), IoFau
     write_whole(b"\n", sink)
 }
 
-/// Two letters for each pixel, and a line end after each row.
+/// Writes two letters for each pixel, and a line feed after each row.
 struct AsciiPixels;
 
 impl PixelText for AsciiPixels {
     ghost use Rattle.std.specs.Prelude.{flat_map};
     ghost use Rattle.device.specs.Lines.{LF};
 
-    ghost line = { λ pixels. flat_map ascii_pixel pixels };
+    ghost text = { λ pixels. flat_map ascii_pixel pixels };
 
     ghost row_end = { LF ∷ [] };
 
-    // In two halves, so that no text is longer than 70 bytes.
-    fn write_line<S: Sink>(pixels: &[bool], len: usize, sink: &mut S) -> Result<(), IoFault> {
+    // It writes two halves, so that no text is longer than 70 bytes.
+    fn write_piece<S: Sink>(pixels: &[bool], len: usize, sink: &mut S) -> Result<(), IoFault> {
         let half = len / 2;
         write_letters(&pixels[..half], sink)?;
         write_letters(&pixels[half..len], sink)
@@ -43,7 +47,7 @@ impl PixelText for AsciiPixels {
     }
 }
 
-/// Writes the letters of a few pixels.
+/// Writes the letters of at most 35 pixels.
 fn write_letters<S: Sink>(pixels: &[bool], sink: &mut S) -> Result<(), IoFault>
     requires { length pixels.now ≤ 35 }
     ensures { WritesText S.Sink sink.old sink.new (flat_map ascii_pixel pixels.now) result }
@@ -52,7 +56,7 @@ fn write_letters<S: Sink>(pixels: &[bool], sink: &mut S) -> Result<(), IoFault>
     write_whole(&text[..2 * pixels.len()], sink)
 }
 
-/// The letters of a few pixels, and then spaces.
+/// Returns the letters of at most 35 pixels, and then spaces.
 fn letters(pixels: &[bool]) -> [u8; 70]
     requires { length pixels.now ≤ 35 }
     ensures { take (2 * length pixels.now) result ≡ flat_map ascii_pixel pixels.now }
@@ -66,7 +70,7 @@ fn letters(pixels: &[bool]) -> [u8; 70]
     text
 }
 
-/// The letter of a pixel.
+/// Returns the letter of a pixel.
 fn letter(dark: bool) -> u8
     ensures { ascii_pixel dark ≡ result ∷ result ∷ [] }
 {

@@ -1,10 +1,10 @@
-//! Linear symbols as pictures.
-ghost use Rattle.std.specs.Prelude.{◌≡◌, ◌≤◌, length};
-ghost use Rattle.picture.specs.Picture.{bars};
+//! A row of modules as bars.
+ghost use Rattle.std.specs.Prelude.{◌≡◌};
+ghost use Rattle.picture.specs.Picture.{Fits, bars};
 
 use crate::grid::Grid;
 
-/// The modules of a row, true where dark, as bars of one height.
+/// A row of modules, true where dark, as bars of one height.
 #[derive(Drop)]
 pub struct Bars<'a> {
     row: &'a [bool],
@@ -12,10 +12,9 @@ pub struct Bars<'a> {
 }
 
 impl<'a> Bars<'a> {
-    /// The row, this many modules high: at most 65,535 columns and rows.
+    /// Returns bars as high as `height` modules: at most 65,535 columns and rows.
     pub fn new(row: &'a [bool], height: usize) -> Self
-        requires width { length row.now ≤ 65535 }
-        requires height { height ≤ 65535 }
+        requires { Fits (bars row.now height) }
         ensures { ⟦<Bars<'a> as Grid>⟧.picture result ≡ bars row.now height }
     {
         Bars { row, height }

@@ -1,65 +1,53 @@
 //! Pictures in their quiet zones.
 ghost use Rattle.std.specs.Prelude.{◌≡◌, ◌+◌, ◌≤◌};
-ghost use Rattle.picture.specs.Picture.{framed};
+ghost use Rattle.picture.specs.Picture.{Fits, with_quiet_zone};
 
 use crate::grid::Grid;
+use crate::quiet_zone::QuietZone;
 
 /// A grid in its quiet zone, which is light.
 #[derive(Drop)]
 pub struct Framed<G: Grid> {
     grid: G,
-    left: usize,
-    right: usize,
-    top: usize,
-    bottom: usize,
-    ghost fits_width: { left + (G.picture grid).width + right ≤ 65535 },
-    ghost fits_height: { top + (G.picture grid).height + bottom ≤ 65535 },
+    zone: QuietZone,
+    ghost fits_width: { zone.left + (G.picture grid).width + zone.right ≤ 65535 },
+    ghost fits_height: { zone.top + (G.picture grid).height + zone.bottom ≤ 65535 },
 }
 
 impl<G: Grid> Framed<G> {
-    /// The grid with so many light pixels on each side, at most 65,535 columns and rows in all.
-    pub fn new(grid: G, left: usize, right: usize, top: usize, bottom: usize) -> Self
-        requires width { left + (G.picture grid).width + right ≤ 65535 }
-        requires height { top + (G.picture grid).height + bottom ≤ 65535 }
-        ensures { ⟦<Framed<G> as Grid>⟧.picture result
-            ≡ framed (G.picture grid)
-            (record { left = left; right = right; top = top; bottom = bottom }) }
+    /// Returns the grid in this quiet zone: at most 65,535 columns and rows in all.
+    pub fn new(grid: G, zone: QuietZone) -> Self
+        requires { Fits (with_quiet_zone (G.picture grid) zone) }
+        ensures { ⟦<Framed<G> as Grid>⟧.picture result ≡ with_quiet_zone (G.picture grid) zone }
     {
-        Framed {
-            grid,
-            left,
-            right,
-            top,
-            bottom,
-        }
+        Framed { grid, zone }
     }
 }
 
 impl<G: Grid> Grid for Framed<G> {
-    ghost picture = { λ s. framed (G.picture s.grid)
-        (record { left = s.left; right = s.right; top = s.top; bottom = s.bottom }) };
+    ghost picture = { λ s. with_quiet_zone (G.picture s.grid) s.zone };
 
     fn width(&self) -> usize {
-        self.left + self.grid.width() + self.right
+        self.zone.left + self.grid.width() + self.zone.right
     }
 
     fn height(&self) -> usize {
-        self.top + self.grid.height() + self.bottom
+        self.zone.top + self.grid.height() + self.zone.bottom
     }
 
     fn dark(&self, x: usize, y: usize) -> bool {
-        self.left <= x
-            && x < self.left + self.grid.width()
-            && self.top <= y
-            && y < self.top + self.grid.height()
-            && self.grid.dark(x - self.left, y - self.top)
+        self.zone.left <= x
+            && x < self.zone.left + self.grid.width()
+            && self.zone.top <= y
+            && y < self.zone.top + self.grid.height()
+            && self.grid.dark(x - self.zone.left, y - self.zone.top)
     }
 
     fn equal_rows(&self, y: usize) -> usize {
-        if y < self.top {
-            self.top - y
-        } else if y < self.top + self.grid.height() {
-            self.grid.equal_rows(y - self.top)
+        if y < self.zone.top {
+            self.zone.top - y
+        } else if y < self.zone.top + self.grid.height() {
+            self.grid.equal_rows(y - self.zone.top)
         } else {
             self.height() - y
         }
@@ -67,10 +55,10 @@ impl<G: Grid> Grid for Framed<G> {
 
     fn read_row(&self, y: usize, pixels: &mut [bool]) {
         pixels.fill(false);
-        if self.top <= y && y < self.top + self.grid.height() {
-            let end = self.left + self.grid.width();
+        if self.zone.top <= y && y < self.zone.top + self.grid.height() {
+            let end = self.zone.left + self.grid.width();
             self.grid
-                .read_row(y - self.top, &mut pixels[self.left..end]);
+                .read_row(y - self.zone.top, &mut pixels[self.zone.left..end]);
         }
     }
 }

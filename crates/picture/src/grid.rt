@@ -1,18 +1,18 @@
 //! Pictures by coordinates.
-ghost use Rattle.std.specs.Prelude.{◌≡◌, ◌+◌, ◌<◌, ◌≤◌, length};
+ghost use Rattle.std.specs.Prelude.{◌≡◌, ◌<◌, length};
 ghost use Rattle.picture.specs.Picture.{AreEqualRows, Picture};
 ghost use Rattle.picture.specs.Text.{pixel_row};
 
-/// A picture, asked pixel by pixel: x counts columns from the left and y rows from the top, both from 0.
+/// A picture that can be asked for each pixel: `x` counts columns from the left and `y` rows from the top, both from 0.
 pub trait Grid {
     /// The picture.
     ghost picture: { Self → Picture };
 
-    /// Its columns.
+    /// The number of its columns.
     fn width(&self) -> usize
         ensures { result ≡ (picture self.now).width };
 
-    /// Its rows.
+    /// The number of its rows.
     fn height(&self) -> usize
         ensures { result ≡ (picture self.now).height };
 
@@ -22,17 +22,16 @@ pub trait Grid {
         requires in_height { y < (picture self.now).height }
         ensures { result ≡ (picture self.now).dark x y };
 
-    /// How many rows from this one on are known to have its pixels: itself at least.
+    /// Returns how many rows from row `y` on are known to have its pixels: at least 1, the row itself. A writer asks for
+    /// the pixels of these rows once.
     fn equal_rows(&self, y: usize) -> usize
         requires { y < (picture self.now).height }
-        ensures some { 0 < result }
-        ensures in_height { y + result ≤ (picture self.now).height }
-        ensures equal { AreEqualRows (picture self.now) y result }
+        ensures { AreEqualRows (picture self.now) y result }
     {
         1
     }
 
-    /// Puts the pixels of a row into `pixels`.
+    /// Fills `pixels`, which is as long as a row, with those of row `y`.
     fn read_row(&self, y: usize, pixels: &mut [bool])
         requires in_height { y < (picture self.now).height }
         requires whole { length pixels.old ≡ (picture self.now).width }

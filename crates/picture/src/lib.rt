@@ -1,4 +1,4 @@
-//! Pictures of symbols, and their texts.
+//! Pictures by coordinates, their quiet zones and enlargements, and their texts: plain PBM, or letters.
 #![tactic(auto)]
 
 mod ascii;
@@ -8,6 +8,7 @@ mod grid;
 mod laws;
 mod matrix;
 mod pbm;
+mod quiet_zone;
 mod rows;
 mod scaled;
 
@@ -15,6 +16,7 @@ pub use ascii::write_ascii;
 pub use bars::Bars;
 pub use framed::Framed;
 pub use grid::Grid;
-pub use laws::{files_of_texts, modules_of_pixels, pixels_of_texts};
+pub use laws::reading_laws;
 pub use pbm::write_pbm;
+pub use quiet_zone::QuietZone;
 pub use scaled::Scaled;

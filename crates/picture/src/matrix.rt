@@ -1,4 +1,4 @@
-//! QR symbols as pictures.
+//! A square of modules as a picture.
 ghost use Rattle.std.specs.Prelude.{◌≡◌, ◌+◌, ◌<◌, ℕ, false, slice_index_or};
 ghost use Rattle.qrmatrix.specs.Bits.{bit};
 ghost use Rattle.picture.specs.Picture.{symbol_picture};
@@ -6,7 +6,7 @@ ghost use Rattle.picture.specs.Picture.{symbol_picture};
 use crate::grid::Grid;
 use qrmatrix::Matrix;
 
-/// The four lowest bits of each number below 16, the lowest first. A reference, so that no call builds the table anew.
+/// The four bits of each number below 16, the lowest first. It is a reference, so that no call builds the table anew.
 const FOUR: &[[bool; 4]; 16] = &[
     [false, false, false, false],
     [true, false, false, false],
@@ -26,7 +26,7 @@ const FOUR: &[[bool; 4]; 16] = &[
     [true, true, true, true],
 ];
 
-/// The bits `x` to `x + 3` of a row.
+/// Returns the bits `x` to `x + 3` of a row.
 fn four_bits(row: u64, x: usize) -> [bool; 4]
     requires { x < 64 }
     ensures { (j : ℕ) → j < 4 → slice_index_or result j false ≡ bit row (x + j) }

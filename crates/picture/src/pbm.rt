@@ -1,7 +1,7 @@
 //! Plain PBM files, pbm(5).
 ghost use Rattle.std.specs.Prelude.{◌≡◌, ◌+◌, ◌<◌, ◌≤◌, Some, ◌++◌, ◌∷◌, [], length, map};
 ghost use Rattle.device.specs.Writing.{WritesText};
-ghost use Rattle.picture.specs.Read.{pbm_pixels, raster};
+ghost use Rattle.picture.specs.Reading.{pbm_pixels, raster};
 ghost use Rattle.device.specs.Lines.{LF};
 ghost use Rattle.picture.specs.Text.{pbm_digit, pbm_header, pbm_text};
 
@@ -11,8 +11,12 @@ use arrayvec::ArrayVec;
 use device::{IoFault, Sink, write_whole};
 use itoa::Buffer;
 
-/// Writes the grid as a plain PBM file, pbm(5): two lines of header, and each row in lines of at most 70 pixels. An
-/// error is the sink's, and leaves a beginning of the file written.
+/// Writes the grid as a plain PBM file, pbm(5): two lines of header, then each row in pieces of 70 pixels, a piece a
+/// line, of which the last may be shorter.
+///
+/// # Errors
+///
+/// The sink's error. A beginning of the file is written then.
 pub fn write_pbm<G: Grid, S: Sink>(grid: &G, sink: &mut S) -> Result<(), IoFault>
     ensures writes { WritesText S.Sink sink.old sink.new (pbm_text (G.picture grid.now)) result }
     // The text, read back, has the grid's pixels.
@@ -24,7 +28,7 @@ pub fn write_pbm<G: Grid, S: Sink>(grid: &G, sink: &mut S) -> Result<(), IoFault
     write_rows::<PbmPixels, G, S>(grid, sink)
 }
 
-/// The two lines before the pixels.
+/// Returns the two lines before the pixels.
 fn header(width: usize, height: usize) -> ArrayVec<u8, 128>
     ensures { result.items ≡ pbm_header width height }
 {
@@ -38,7 +42,7 @@ fn header(width: usize, height: usize) -> ArrayVec<u8, 128>
     text
 }
 
-/// Adds bytes for which there is room.
+/// Appends bytes, for which there is space.
 fn append(bytes: &[u8], text: &mut ArrayVec<u8, 128>)
     requires { length text.old.items + length bytes.now ≤ 128 }
     ensures { text.new.items ≡ text.old.items ++ bytes.now }
@@ -46,18 +50,18 @@ fn append(bytes: &[u8], text: &mut ArrayVec<u8, 128>)
     let _ = text.try_extend_from_slice(bytes);
 }
 
-/// A digit for each pixel, and a line feed.
+/// Writes a digit for each pixel, and a line feed after each piece.
 struct PbmPixels;
 
 impl PixelText for PbmPixels {
     ghost use Rattle.std.specs.Prelude.{[]};
-    ghost use Rattle.picture.specs.Text.{pbm_line};
+    ghost use Rattle.picture.specs.Text.{pbm_piece};
 
-    ghost line = { pbm_line };
+    ghost text = { pbm_piece };
 
     ghost row_end = { [] };
 
-    fn write_line<S: Sink>(pixels: &[bool], len: usize, sink: &mut S) -> Result<(), IoFault> {
+    fn write_piece<S: Sink>(pixels: &[bool], len: usize, sink: &mut S) -> Result<(), IoFault> {
         let mut text = digits(pixels);
         text[len] = b'\n';
         write_whole(&text[..len + 1], sink)
@@ -68,7 +72,7 @@ impl PixelText for PbmPixels {
     }
 }
 
-/// A digit for each of 70 pixels, and a line feed.
+/// Returns the digits of 70 pixels, and a line feed.
 fn digits(pixels: &[bool]) -> [u8; 71]
     requires { length pixels.now ≡ 70 }
     ensures { result ≡ map pbm_digit pixels.now ++ LF ∷ [] }
@@ -80,7 +84,7 @@ fn digits(pixels: &[bool]) -> [u8; 71]
     text
 }
 
-/// The digit of a pixel.
+/// Returns the digit of a pixel.
 fn digit(dark: bool) -> u8
     ensures { result ≡ pbm_digit dark }
 {

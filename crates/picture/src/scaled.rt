@@ -1,11 +1,11 @@
-//! Pictures enlarged.
+//! Enlarged pictures.
 ghost use Rattle.std.specs.Prelude.{◌≡◌, ℕ, ◌+◌, ◌*◌, ◌/◌, ◌<◌, ◌≤◌, false, length, map, slice_index_or};
-ghost use Rattle.picture.specs.Picture.{scaled};
+ghost use Rattle.picture.specs.Picture.{Fits, enlargement};
 ghost use Rattle.picture.specs.Text.{below};
 
 use crate::grid::Grid;
 
-/// A grid with each pixel drawn as a square of `scale` by `scale`.
+/// A grid with each pixel drawn as a square of `scale` by `scale` pixels.
 #[derive(Drop)]
 pub struct Scaled<G: Grid> {
     grid: G,
@@ -16,19 +16,18 @@ pub struct Scaled<G: Grid> {
 }
 
 impl<G: Grid> Scaled<G> {
-    /// The grid, this many times as wide and as high, at most 65,535 columns and rows.
+    /// Returns the grid, `scale` times as wide and as high: at most 65,535 columns and rows.
     pub fn new(grid: G, scale: usize) -> Self
         requires some { 1 ≤ scale }
-        requires width { (G.picture grid).width * scale ≤ 65535 }
-        requires height { (G.picture grid).height * scale ≤ 65535 }
-        ensures { ⟦<Scaled<G> as Grid>⟧.picture result ≡ scaled (G.picture grid) scale }
+        requires fits { Fits (enlargement (G.picture grid) scale) }
+        ensures { ⟦<Scaled<G> as Grid>⟧.picture result ≡ enlargement (G.picture grid) scale }
     {
         Scaled { grid, scale }
     }
 }
 
 impl<G: Grid> Grid for Scaled<G> {
-    ghost picture = { λ s. scaled (G.picture s.grid) s.scale };
+    ghost picture = { λ s. enlargement (G.picture s.grid) s.scale };
 
     fn width(&self) -> usize {
         self.grid.width() * self.scale
@@ -53,7 +52,8 @@ impl<G: Grid> Grid for Scaled<G> {
     }
 }
 
-/// Puts each of the first pixels so many times, from the last one on, so that none is lost before it is read.
+/// Repeats each of the first `width` pixels `scale` times. It begins with the last, so that none is lost before it is
+/// read.
 fn spread(pixels: &mut [bool], width: usize, scale: usize)
     requires some { 1 ≤ scale }
     requires whole { length pixels.old ≡ width * scale }
@@ -68,7 +68,7 @@ fn spread(pixels: &mut [bool], width: usize, scale: usize)
     }
 }
 
-/// Puts the pixel in column x where its square stands.
+/// Fills the columns of the square of column `x` with the pixel in that column.
 fn widen(pixels: &mut [bool], x: usize, scale: usize)
     requires some { 1 ≤ scale }
     requires inside { (x + 1) * scale ≤ length pixels.old }

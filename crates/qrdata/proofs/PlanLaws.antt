@@ -3,13 +3,13 @@ use Rattle.std.proofs.Common.{◌≡◌, ◌≤◌, ◌<◌, ℕ, List, length}
 use Rattle.qrdata.specs.declared.level.Level.{Level}
 use Rattle.qrdata.specs.Fewest.{chosen_segments}
 use Rattle.qrdata.specs.PlanView.{FitsNowhere, IsBestPlan, PlanView}
-use Rattle.qrdata.specs.Private.LeastPlan.{IsLeastPlan, NoPlan}
-use Rattle.qrdata.proofs.FewestBits.{chosen_segments-is, chosen_segments-least}
-use Rattle.qrdata.proofs.Lengths.{length-segments_bits}
-use Rattle.qrdata.proofs.VersionSearch.{NoneFits-from_chosen, chosen_version-is, chosen_version-none}
+use Rattle.qrdata.specs.Private.SmallestPlan.{IsSmallestPlan, NoPlan}
+use Rattle.qrdata.proofs.FewestBitsLaws.{chosen_segments-is, chosen_segments-least}
+use Rattle.qrdata.proofs.LengthLaws.{length-segments_bits}
+use Rattle.qrdata.proofs.VersionSearchLaws.{NoneFits-from_chosen, chosen_version-is, chosen_version-none}
 
 pub IsBestPlan-of : (lowest : ℕ) (level : Level) (bytes : List ℕ) (plan : PlanView)
-    → IsLeastPlan lowest 10 level bytes plan → IsBestPlan lowest level bytes plan
+    → IsSmallestPlan lowest 10 level bytes plan → IsBestPlan lowest level bytes plan
 IsBestPlan-of lowest level bytes plan h = record {
   version = chosen_version-is lowest level bytes plan.version h.from h.to h.fits h.least;
   same_level = h.same_level;

@@ -10,12 +10,12 @@ use Rattle.qrdata.specs.Segments.{segments_bits}
 use Rattle.qrdata.specs.Versions.{data_codewords, block_lengths, ec_codewords_per_block}
 
 -- the bits followed by the terminator, four zeros or as many as are left
-unfoldable pub terminated : ℕ → List Bool → List Bool
-terminated capacity bits = bits ++ replicate (min 4 (capacity - length bits)) false
+unfoldable pub with_terminator : ℕ → List Bool → List Bool
+with_terminator capacity bits = bits ++ replicate (min 4 (capacity - length bits)) false
 
 -- zeros to the end of a codeword
-unfoldable pub aligned : List Bool → List Bool
-aligned bits = bits ++ replicate ((8 - length bits % 8) % 8) false
+unfoldable pub with_zeros : List Bool → List Bool
+with_zeros bits = bits ++ replicate ((8 - length bits % 8) % 8) false
 
 -- so many pad codewords: 11101100 and 00010001 in turn
 abbrev pub pad_codewords : ℕ → List ℕ
@@ -24,16 +24,16 @@ pad_codewords (suc zero) = 0xEC ∷ []
 pad_codewords (suc (suc n)) = 0xEC ∷ 0x11 ∷ pad_codewords n
 
 -- so many codewords: those of the bits, and the padding
-unfoldable pub filled : ℕ → List Bool → List ℕ
-filled size bits = codewords_of (length bits / 8) bits ++ pad_codewords (size - length bits / 8)
+unfoldable pub with_pad_codewords : ℕ → List Bool → List ℕ
+with_pad_codewords size bits = codewords_of (length bits / 8) bits ++ pad_codewords (size - length bits / 8)
 
 -- so many data codewords: the bits, the terminator, zeros to the end of a codeword, and the padding
-unfoldable pub padded : ℕ → List Bool → List ℕ
-padded size bits = filled size (aligned (terminated (8 * size) bits))
+unfoldable pub data_codewords_of : ℕ → List Bool → List ℕ
+data_codewords_of size bits = with_pad_codewords size (with_zeros (with_terminator (8 * size) bits))
 
 -- the data codewords of the segments
 unfoldable pub data_of : ℕ → Level → List Segment → List ℕ → List ℕ
-data_of version level segments bytes = padded (data_codewords version level) (segments_bits version segments bytes)
+data_of version level segments bytes = data_codewords_of (data_codewords version level) (segments_bits version segments bytes)
 
 -- codewords cut into blocks of these lengths
 unfoldable pub split_by : List ℕ → List ℕ → List (List ℕ)
@@ -50,14 +50,14 @@ largest [] = 0
 largest (n ∷ ns) = max n (largest ns)
 
 -- the codewords of the blocks in the order of their places, and at one place in the order of the blocks
-unfoldable pub interleaved : List (List ℕ) → List ℕ
-interleaved blocks = flat_map (codewords_at blocks) (range_with_len 0 (largest (map length blocks)))
+unfoldable pub interleaving : List (List ℕ) → List ℕ
+interleaving blocks = flat_map (codewords_at blocks) (range_with_len 0 (largest (map length blocks)))
 
 -- the codewords of a symbol: the blocks of its data codewords interleaved, then their error correction codewords interleaved
 unfoldable pub final_message : ℕ → Level → List ℕ → List ℕ
 final_message version level codewords =
     let blocks = split_by (block_lengths version level) codewords in
-    interleaved blocks ++ interleaved (map (ec_codewords_of (ec_codewords_per_block version level)) blocks)
+    interleaving blocks ++ interleaving (map (ec_codewords_of (ec_codewords_per_block version level)) blocks)
 
 -- the codewords of the symbol of segments of the data
 unfoldable pub symbol_codewords : ℕ → Level → List Segment → List ℕ → List ℕ

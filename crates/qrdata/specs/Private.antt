@@ -1,5 +1,5 @@
 -- Words that only the contracts of private functions cite: nothing here has to be believed.
 pub mod BitsInCodewords
 pub mod ChoiceView
-pub mod LeastPlan
+pub mod SmallestPlan
 pub mod Table

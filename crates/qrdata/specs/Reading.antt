@@ -72,13 +72,13 @@ segments_at version (suc n) bits = if is_end bits then Some [] else do
 
 -- Where codeword i of block b stands among codewords that are dealt in turn to blocks of these lengths: after the codewords of the
 -- rounds before it, and in its own round after those of the blocks before it. A full block is passed over.
-abbrev pub dealt_place : List ℕ → ℕ → ℕ → ℕ
-dealt_place lengths b i = sum_by (min i) lengths + count_by (nat_lt i) (take b lengths)
+abbrev pub interleaving_place : List ℕ → ℕ → ℕ → ℕ
+interleaving_place lengths b i = sum_by (min i) lengths + count_by (nat_lt i) (take b lengths)
 
 -- the codewords dealt in turn to blocks of these lengths
-unfoldable pub dealt : List ℕ → List ℕ → List (List ℕ)
-dealt lengths codewords =
-    map (λ b. map (λ i. slice_index codewords (dealt_place lengths b i)) (range_with_len 0 (slice_index lengths b)))
+unfoldable pub deinterleaving : List ℕ → List ℕ → List (List ℕ)
+deinterleaving lengths codewords =
+    map (λ b. map (λ i. slice_index codewords (interleaving_place lengths b i)) (range_with_len 0 (slice_index lengths b)))
     (range_with_len 0 (length lengths))
 
 -- whether the polynomial of a block and its error correction codewords is 0 at alpha^0 to alpha^(k-1)
@@ -91,7 +91,7 @@ unfoldable pub data_in : ℕ → Level → List ℕ → Option (List ℕ)
 data_in version level codewords =
     let size = data_codewords version level in
     let ec_codewords = ec_codewords_per_block version level in
-    let blocks = dealt (block_lengths version level) (take size codewords) in
-    let ec_blocks = dealt (replicate (block_count version level) ec_codewords) (drop size codewords) in
+    let blocks = deinterleaving (block_lengths version level) (take size codewords) in
+    let ec_blocks = deinterleaving (replicate (block_count version level) ec_codewords) (drop size codewords) in
     if length codewords == total_codewords version && list_all (has_roots ec_codewords) (zip blocks ec_blocks)
     then segments_at version (8 * size) (byte_bits (concat blocks)) else None

@@ -1,7 +1,7 @@
 //! The bits of segments, and the data codewords that they fill (ISO/IEC 18004, 7.4).
 ghost use Rattle.arrayvec.specs.ArrayVec.{array_vec_len};
 ghost use Rattle.qrdata.specs.Bits.{bits_of, codewords_of};
-ghost use Rattle.qrdata.specs.Codewords.{aligned, pad_codewords, terminated};
+ghost use Rattle.qrdata.specs.Codewords.{with_zeros, pad_codewords, with_terminator};
 ghost use Rattle.qrdata.specs.Segments.{IsSegmentation, alphanumeric_bits, byte_bits, cost, count_width, has_character};
 ghost use Rattle.qrdata.specs.Segments.{numeric_bits, payload_bits, payload_length, segment_bits, segments_bits};
 ghost use Rattle.qrdata.specs.declared.mode.Mode.TheVariants.{Alphanumeric, Numeric};
@@ -193,7 +193,7 @@ impl Bits {
     pub(crate) fn end(&mut self, size: usize)
         requires fits { length (bits_in self.old) ≤ 8 * size }
         requires size { size ≤ MAX_BITS / 8 }
-        ensures bits { bits_in self.new ≡ aligned (terminated (8 * size) (bits_in self.old)) }
+        ensures bits { bits_in self.new ≡ with_zeros (with_terminator (8 * size) (bits_in self.old)) }
         ensures codewords { self.new.codewords.items
             ≡ codewords_of (length (bits_in self.new) / 8) (bits_in self.new) }
         ensures count { array_vec_len self.new.codewords ≤ size }

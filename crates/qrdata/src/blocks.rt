@@ -1,7 +1,7 @@
 //! Blocks, their error correction codewords and interleaving (ISO/IEC 18004, 7.5 and 7.6).
 ghost use Rattle.arrayvec.specs.ArrayVec.{array_vec_len};
 ghost use Rattle.gf256.specs.ErrorCorrection.{ec_codewords_of};
-ghost use Rattle.qrdata.specs.Codewords.{interleaved, largest, split_by, codewords_at};
+ghost use Rattle.qrdata.specs.Codewords.{interleaving, largest, split_by, codewords_at};
 ghost use Rattle.std.specs.List.{flat_map};
 ghost use Rattle.std.specs.Prelude.{length, ◌≡◌, ◌+◌, ◌≤◌, ◌<◌, ◌++◌, sum, ◌*◌, ◌/◌, replicate};
 
@@ -47,7 +47,7 @@ fn greatest(lengths: &[usize]) -> usize
 pub(crate) fn interleave(lengths: &[usize], codewords: &[u8], out: &mut Codewords)
     requires whole { sum lengths.now ≡ length codewords.now }
     requires room { array_vec_len out.old + length codewords.now ≤ MAX_CODEWORDS }
-    ensures { out.new.items ≡ out.old.items ++ interleaved (split_by lengths.now codewords.now) }
+    ensures { out.new.items ≡ out.old.items ++ interleaving (split_by lengths.now codewords.now) }
 {
     let rounds = greatest(lengths);
     for place in 0..rounds {

@@ -1,7 +1,7 @@
 //! The choice of a version and of segments.
 ghost use Rattle.qrdata.specs.Fewest.{chosen_segments};
 ghost use Rattle.qrdata.specs.PlanView.{FitsNowhere, HasFittingSegments, IsBestPlan};
-ghost use Rattle.qrdata.specs.Private.LeastPlan.{IsLeastPlan, NamesBest, NoPlan, SameWidths};
+ghost use Rattle.qrdata.specs.Private.SmallestPlan.{IsSmallestPlan, NamesBest, NoPlan, SameWidths};
 ghost use Rattle.qrdata.specs.Segments.{cost};
 ghost use Rattle.qrdata.specs.Versions.{IsVersion, capacity};
 ghost use Rattle.std.specs.Prelude.{length, ◌≡◌, ◌≤◌, IfErr, IfNone, IfOk, IfSome, ℕ};
@@ -127,7 +127,7 @@ pub fn choose<'a>(
 fn plan_from<'a>(lowest: u8, level: Level, bytes: &'a [u8]) -> Option<Plan<'a>>
     requires low { 1 ≤ lowest }
     requires high { lowest ≤ 10 }
-    ensures some { IfSome result (IsLeastPlan lowest 10 level bytes.now) }
+    ensures some { IfSome result (IsSmallestPlan lowest 10 level bytes.now) }
     ensures none { IfNone result (NoPlan lowest 10 level bytes.now) }
 {
     if bytes.len() > MAX_BYTES {
@@ -149,7 +149,7 @@ fn plan_between<'a>(lowest: u8, highest: u8, level: Level, bytes: &'a [u8]) -> O
     requires some { lowest ≤ highest }
     requires high { highest ≤ 10 }
     requires same { (v : ℕ) → lowest ≤ v → v ≤ highest → SameWidths v highest }
-    ensures some { IfSome result (IsLeastPlan lowest highest level bytes.now) }
+    ensures some { IfSome result (IsSmallestPlan lowest highest level bytes.now) }
     ensures none { IfNone result (NoPlan lowest highest level bytes.now) }
 {
     let widest = Version::of(highest);

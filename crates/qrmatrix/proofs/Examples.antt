@@ -16,17 +16,17 @@ use Rattle.qrdata.specs.Bits.{codewords_of, number_of}
 use Rattle.qrdata.specs.Versions.{total_codewords}
 use Rattle.qrmatrix.specs.Bits.{bit}
 use Rattle.qrmatrix.specs.Counting.{all_below}
-use Rattle.qrmatrix.specs.Functions.{fixed, is_free, role}
-use Rattle.qrmatrix.specs.Information.{format_word, version_word}
+use Rattle.qrmatrix.specs.Functions.{fixed_module, is_free, role}
+use Rattle.qrmatrix.specs.Information.{format_information, version_information}
 use Rattle.qrmatrix.specs.Masks.{is_flipped}
 use Rattle.qrmatrix.specs.MaskChoice.{penalties}
 use Rattle.qrmatrix.specs.Modules.{module_at}
 use Rattle.qrmatrix.specs.Penalty.{balance_penalty, dark_count, finder_penalty, penalty, run_penalty, square_penalty}
 use Rattle.qrmatrix.specs.Placement.{free_below, key, rank}
 use Rattle.qrmatrix.specs.Reading.{Reading, read_bits, read_format, read_matrix, shows_functions, shows_version, walk}
-use Rattle.qrmatrix.proofs.ReadBack.{module_outside}
-use Rattle.qrmatrix.proofs.RowBits.{above_bit, same_beq}
-use Rattle.qrmatrix.proofs.Sums.{all_below_at}
+use Rattle.qrmatrix.proofs.ReadingLaws.{module_outside}
+use Rattle.qrmatrix.proofs.RowBitsLaws.{above_bit, same_beq}
+use Rattle.qrmatrix.proofs.SumLaws.{all_below_at}
 
 codewords : List ℕ
 codewords =
@@ -42,7 +42,7 @@ rows =
     ∷ 0x078210 ∷ 0x0129F8 ∷ 0x067D00 ∷ 0x00D67F ∷ 0x147D41 ∷ 0x06915D ∷ 0x00935D ∷ 0x052D5D ∷ 0x0D8041 ∷ 0x052F7F ∷ []
 
 row : ℕ → ℕ → ℕ
-unfolding codewords number_of module_at fixed role rank free_below is_free key is_flipped format_word version_word
+unfolding codewords number_of module_at fixed_module role rank free_below is_free key is_flipped format_information version_information
     binary_remainder
 row mask y = number_of (reverse (map (λ x. module_at 1 M mask codewords x y) (range_with_len 0 21)))
 
@@ -126,10 +126,10 @@ penalties_under_all_masks =
 
 read_rows : ℕ → List ℕ → Option Reading
 unfolding read_matrix total_codewords read_format shows_version shows_functions read_bits walk codewords_of number_of
-    fixed role is_free is_flipped format_word version_word binary_remainder
+    fixed_module role is_free is_flipped format_information version_information binary_remainder
 read_rows n rows = read_matrix n (λ x y. bit (slice_index rows y) x)
 
-reading : read_rows 21 rows ≡ Some (record { version = 1; level = M; words = codewords })
+reading : read_rows 21 rows ≡ Some (record { version = 1; level = M; codewords = codewords })
 unfolding read_rows rows codewords
 reading = refl
 

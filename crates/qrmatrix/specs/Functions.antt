@@ -8,7 +8,7 @@ use Rattle.std.specs.Option.{option_or, option_map_or}
 use Rattle.qrdata.specs.declared.level.Level.{Level}
 use Rattle.qrdata.specs.Versions.{side_of}
 use Rattle.qrmatrix.specs.Bits.{bit}
-use Rattle.qrmatrix.specs.Information.{format_word, version_word}
+use Rattle.qrmatrix.specs.Information.{format_information, version_information}
 
 -- what a module is there for: a function pattern, dark where true; a bit of the format word; a bit of the version
 -- word; or the codewords
@@ -88,15 +88,15 @@ role v x y =
     else if nat_le 7 v then option_map_or Version (version_bit (side_of v) x y) Free else Free))))
 
 -- the module that a role fixes for a version, a level and a mask
-abbrev pub fixed_by : ℕ → Level → ℕ → Role → Option Bool
-fixed_by v level mask (Function b) = Some b
-fixed_by v level mask (Format i) = Some (bit (format_word level mask) i)
-fixed_by v level mask (Version i) = Some (bit (version_word v) i)
-fixed_by v level mask Free = None
+abbrev pub module_of_role : ℕ → Level → ℕ → Role → Option Bool
+module_of_role v level mask (Function b) = Some b
+module_of_role v level mask (Format i) = Some (bit (format_information level mask) i)
+module_of_role v level mask (Version i) = Some (bit (version_information v) i)
+module_of_role v level mask Free = None
 
 -- the module at column x and row y, where the codewords do not choose it
-unfoldable pub fixed : ℕ → Level → ℕ → ℕ → ℕ → Option Bool
-fixed v level mask x y = fixed_by v level mask (role v x y)
+unfoldable pub fixed_module : ℕ → Level → ℕ → ℕ → ℕ → Option Bool
+fixed_module v level mask x y = module_of_role v level mask (role v x y)
 
 -- whether the codewords choose the module
 abbrev pub is_free_role : Role → Bool

@@ -8,7 +8,7 @@ use Rattle.qrmatrix.specs.Penalty.{penalty}
 
 -- the penalties of the symbol under the masks 0 to 7
 unfoldable pub penalties : ℕ → Level → List ℕ → List ℕ
-penalties v level words = map (λ mask. penalty (side_of v) (module_at v level mask words)) (range_with_len 0 8)
+penalties v level codewords = map (λ mask. penalty (side_of v) (module_at v level mask codewords)) (range_with_len 0 8)
 
 -- the lowest place of a least number
 abbrev pub least_place : List ℕ → ℕ
@@ -16,5 +16,5 @@ least_place ps = position_or_len (λ p. list_all (nat_le p) ps) ps
 
 -- the mask that is asked for, else the first of the least penalty
 unfoldable pub chosen_mask : ℕ → Level → Option ℕ → List ℕ → ℕ
-chosen_mask v level None words = least_place (penalties v level words)
-chosen_mask v level (Some mask) words = mask
+chosen_mask v level None codewords = least_place (penalties v level codewords)
+chosen_mask v level (Some mask) codewords = mask

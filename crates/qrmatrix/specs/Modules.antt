@@ -2,7 +2,7 @@
 use Rattle.std.specs.Prelude.{ℕ, Bool, ◌&&◌, nat_lt, List, unwrap_or}
 use Rattle.qrdata.specs.declared.level.Level.{Level}
 use Rattle.qrdata.specs.Versions.{side_of}
-use Rattle.qrmatrix.specs.Functions.{fixed}
+use Rattle.qrmatrix.specs.Functions.{fixed_module}
 use Rattle.qrmatrix.specs.Masks.{is_flipped, flip_if}
 use Rattle.qrmatrix.specs.Placement.{codeword_bit, rank}
 
@@ -13,6 +13,6 @@ is_inside n x y = nat_lt x n && nat_lt y n
 -- whether the module at column x and row y of the symbol is dark: a fixed module, else a bit of the codewords under the
 -- mask; light outside of the symbol
 unfoldable pub module_at : ℕ → Level → ℕ → List ℕ → ℕ → ℕ → Bool
-module_at v level mask words x y =
-    let chosen = flip_if (is_flipped mask x y) (codeword_bit words (rank v x y)) in
-    is_inside (side_of v) x y && unwrap_or (fixed v level mask x y) chosen
+module_at v level mask codewords x y =
+    let chosen = flip_if (is_flipped mask x y) (codeword_bit codewords (rank v x y)) in
+    is_inside (side_of v) x y && unwrap_or (fixed_module v level mask x y) chosen

@@ -30,7 +30,7 @@ rank v x y = free_below v (key (side_of v) x y)
 
 -- bit i of the codewords, the high bit of each codeword first, and 0 past their end
 abbrev pub codeword_bit : List ℕ → ℕ → Bool
-codeword_bit words i = bit (slice_index words (i / 8)) (7 - i % 8)
+codeword_bit codewords i = bit (slice_index codewords (i / 8)) (7 - i % 8)
 
 -- how many modules of a version are free
 unfoldable pub free_count : ℕ → ℕ

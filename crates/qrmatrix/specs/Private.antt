@@ -1,7 +1,7 @@
 -- Words of private contracts alone: how a symbol is kept and drawn (ISO/IEC 18004, 7.7 to 7.10). No public contract
 -- rests on them.
-pub mod Words
-pub mod WordPairs
+pub mod RowBits
+pub mod CodewordPairs
 pub mod FunctionRows
 pub mod Squares
 pub mod Drawing

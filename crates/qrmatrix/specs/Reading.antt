@@ -10,7 +10,7 @@ use Rattle.qrdata.specs.Steps.{◌>>=◌}
 use Rattle.qrdata.specs.Bits.{number_of, codewords_of}
 use Rattle.qrdata.specs.Versions.{total_codewords, side_of}
 use Rattle.qrmatrix.specs.Counting.{all_below}
-use Rattle.qrmatrix.specs.Functions.{fixed, is_free}
+use Rattle.qrmatrix.specs.Functions.{fixed_module, is_free}
 use Rattle.qrmatrix.specs.Masks.{is_flipped, flip_if}
 
 -- the places of the bits of the format word, bit 0 first, in each of its two copies
@@ -31,30 +31,30 @@ abbrev pub version_copy_2 : ℕ → List (ℕ × ℕ)
 version_copy_2 n = map (λ i. (i / 3, n - 11 + i % 3)) (range_with_len 0 18)
 
 -- the word that stands at a list of places, its bit 0 at the first
-abbrev pub word_at : (ℕ → ℕ → Bool) → List (ℕ × ℕ) → ℕ
-word_at m places = number_of (reverse (map (λ (p : ℕ × ℕ). m p.0 p.1) places))
+abbrev pub information_at : (ℕ → ℕ → Bool) → List (ℕ × ℕ) → ℕ
+information_at m places = number_of (reverse (map (λ (p : ℕ × ℕ). m p.0 p.1) places))
 
 -- the level that an error correction level indicator stands for
 abbrev pub level_of : ℕ → Level
 level_of indicator = if indicator == 0 then M else if indicator == 1 then L else if indicator == 2 then H else Q
 
 -- the level and the mask of a word that is a codeword of the format information
-abbrev pub read_format_word : ℕ → Option (Level × ℕ)
-read_format_word word =
-    let codeword = bit_xor word 0x5412 in
+abbrev pub read_format_information : ℕ → Option (Level × ℕ)
+read_format_information information =
+    let codeword = bit_xor information 0x5412 in
     if binary_remainder 10 0x537 5 codeword == 0
     then Some (level_of (codeword / 2 ^ 13), codeword / 2 ^ 10 % 8) else None
 
 -- the level and the mask, where both copies of the format information agree
 unfoldable pub read_format : ℕ → (ℕ → ℕ → Bool) → Option (Level × ℕ)
 read_format n m =
-    if word_at m format_copy_1 == word_at m (format_copy_2 n) then read_format_word (word_at m format_copy_1) else None
+    if information_at m format_copy_1 == information_at m (format_copy_2 n) then read_format_information (information_at m format_copy_1) else None
 
 -- whether both copies of the version information, where the version has it, are its codeword
 unfoldable pub shows_version : ℕ → ℕ → (ℕ → ℕ → Bool) → Bool
 shows_version v n m =
-    let first = word_at m (version_copy_1 n) in
-    let second = word_at m (version_copy_2 n) in
+    let first = information_at m (version_copy_1 n) in
+    let second = information_at m (version_copy_2 n) in
     not (nat_le 7 v) || ((first == second) && ((binary_remainder 12 0x1F25 6 first == 0) && (first / 2 ^ 12 == v)))
 
 -- whether a module is the one that is fixed there, if any
@@ -65,7 +65,7 @@ agrees (Some a) b = beq a b
 -- whether every module that the codewords do not choose is right
 unfoldable pub shows_functions : ℕ → Level → ℕ → (ℕ → ℕ → Bool) → Bool
 shows_functions v level mask m =
-    all_below (side_of v) (λ y. all_below (side_of v) (λ x. agrees (fixed v level mask x y) (m x y)))
+    all_below (side_of v) (λ y. all_below (side_of v) (λ x. agrees (fixed_module v level mask x y) (m x y)))
 
 -- a strip of two columns: in each of its rows the right module, then the left one
 abbrev pub strip : ℕ → List ℕ → List (ℕ × ℕ)
@@ -94,14 +94,14 @@ read_bits v mask m = map (λ (p : ℕ × ℕ). flip_if (is_flipped mask p.0 p.1)
 pub record Reading : Type 0 where
   pub version : ℕ
   pub level : Level
-  pub words : List ℕ
+  pub codewords : List ℕ
 
 -- the reading by the level and the mask that were read
 abbrev pub read_with : ℕ → (ℕ → ℕ → Bool) → Level × ℕ → Option Reading
 read_with v m format =
-    let words = codewords_of (total_codewords v) (read_bits v format.1 m) in
+    let codewords = codewords_of (total_codewords v) (read_bits v format.1 m) in
     if shows_version v (side_of v) m && shows_functions v format.0 format.1 m
-    then Some (record { version = v; level = format.0; words = words }) else None
+    then Some (record { version = v; level = format.0; codewords = codewords }) else None
 
 -- the version, the level and the words of a symbol; there is no reading where any check fails
 unfoldable pub read_matrix : ℕ → (ℕ → ℕ → Bool) → Option Reading

@@ -4,7 +4,7 @@ ghost use Rattle.qrdata.specs.Versions.{side_of};
 ghost use Rattle.qrmatrix.specs.Private.Drawing.{HasFunctions};
 ghost use Rattle.qrmatrix.specs.Private.FunctionRows;
 
-use crate::information::version_word;
+use crate::information::version_information;
 use crate::row::low_ones;
 use crate::square::SIDE;
 use qrdata::Version;
@@ -194,15 +194,15 @@ fn formats(n: usize, y: usize) -> PatternRow
 
 /// The bits 0, 3, 6, .. of a word of 18 bits side by side.
 #[tactic(auto, unfolding(crate::specs::Private::FunctionRows::every_third))]
-fn every_third(word: u64) -> u64
-    ensures { result ≡ FunctionRows.every_third word }
+fn every_third(information: u64) -> u64
+    ensures { result ≡ FunctionRows.every_third information }
 {
-    (word & 1)
-        | ((word >> 2) & 2)
-        | ((word >> 4) & 4)
-        | ((word >> 6) & 8)
-        | ((word >> 8) & 16)
-        | ((word >> 10) & 32)
+    (information & 1)
+        | ((information >> 2) & 2)
+        | ((information >> 4) & 4)
+        | ((information >> 6) & 8)
+        | ((information >> 8) & 16)
+        | ((information >> 10) & 32)
 }
 
 /// The version information, in the versions that have one.
@@ -214,7 +214,7 @@ fn versions(version: Version, y: usize) -> PatternRow
     if version.number() < 7 {
         NONE
     } else if y < 6 {
-        let three = (u64::from(version_word(version)) >> (3 * y)) & 7;
+        let three = (u64::from(version_information(version)) >> (3 * y)) & 7;
         PatternRow {
             taken: 7 << (n - 11),
             dark: three << (n - 11),
@@ -222,7 +222,7 @@ fn versions(version: Version, y: usize) -> PatternRow
     } else if n - 11 <= y && y < n - 8 {
         PatternRow {
             taken: 0b111111,
-            dark: every_third(u64::from(version_word(version)) >> (y - (n - 11))),
+            dark: every_third(u64::from(version_information(version)) >> (y - (n - 11))),
         }
     } else {
         NONE

@@ -2,8 +2,8 @@
 ghost use Rattle.std.specs.Prelude.{◌≡◌, ◌+◌, ◌*◌, ◌^◌, ◌<◌, ◌≤◌};
 ghost use Rattle.gf256.specs.BinaryPolynomial.{binary_remainder};
 ghost use Rattle.qrmatrix.specs.Information;
-ghost use Rattle.qrmatrix.specs.Information.{FormatWordsAreListed, FormatWordsAreCodewords, VersionWordsAreListed};
-ghost use Rattle.qrmatrix.specs.Information.{VersionWordsAreCodewords};
+ghost use Rattle.qrmatrix.specs.Information.{FormatInformationIsListed, FormatInformationIsMultiple, VersionInformationIsListed};
+ghost use Rattle.qrmatrix.specs.Information.{VersionInformationIsMultiple};
 
 use qrdata::{Level, Version};
 
@@ -42,19 +42,19 @@ fn level_indicator(level: Level) -> u32
 
 /// The format information of 15 bits: level and mask with their check bits, under the mask of the format information
 /// (ISO/IEC 18004, 7.9).
-#[tactic(auto, unfolding(crate::specs::Information::format_word))]
-pub fn format_word(level: Level, mask: u8) -> u32
+#[tactic(auto, unfolding(crate::specs::Information::format_information))]
+pub fn format_information(level: Level, mask: u8) -> u32
     requires { mask < 8 }
-    ensures { result ≡ Information.format_word level mask }
+    ensures { result ≡ Information.format_information level mask }
 {
     let message = (level_indicator(level) * 8 + u32::from(mask)) << 10;
     0x5412 ^ (message + remainder(10, 0x537, 5, message))
 }
 
 /// The version information of 18 bits: the version with its check bits (ISO/IEC 18004, 7.10).
-#[tactic(auto, unfolding(crate::specs::Information::version_word))]
-pub fn version_word(version: Version) -> u32
-    ensures { result ≡ Information.version_word version }
+#[tactic(auto, unfolding(crate::specs::Information::version_information))]
+pub fn version_information(version: Version) -> u32
+    ensures { result ≡ Information.version_information version }
 {
     let message = u32::from(version.number()) << 12;
     message + remainder(12, 0x1F25, 6, message)
@@ -63,8 +63,8 @@ pub fn version_word(version: Version) -> u32
 /// The words that the standard lists are those that are computed: all 32 format words (ISO/IEC 18004, Annex C) and the
 /// version words of the versions 7 to 10 (Annex D). Each is a multiple of its code's generator.
 pub fn information_laws()
-    ensures format { FormatWordsAreListed }
-    ensures format_code { FormatWordsAreCodewords }
-    ensures version { VersionWordsAreListed }
-    ensures version_code { VersionWordsAreCodewords }
+    ensures format { FormatInformationIsListed }
+    ensures format_code { FormatInformationIsMultiple }
+    ensures version { VersionInformationIsListed }
+    ensures version_code { VersionInformationIsMultiple }
 {}

@@ -1,7 +1,7 @@
 //! The eight masks, one word a row.
 ghost use Rattle.std.specs.Prelude.{◌≡◌, ℕ, ◌*◌, ◌%◌, ◌<◌, ◌≤◌};
 ghost use Rattle.qrmatrix.specs.Bits.{bit};
-ghost use Rattle.qrmatrix.specs.Private.Drawing.{masked};
+ghost use Rattle.qrmatrix.specs.Private.Drawing.{module_under_mask};
 ghost use Rattle.qrmatrix.specs.Masks;
 ghost use Rattle.qrmatrix.specs.Square.{value_at};
 ghost use Rattle.qrmatrix.specs.Private.Squares.{SameOutside};
@@ -50,7 +50,7 @@ const PATTERNS: [[u64; 12]; 8] = [
 const EVERY_SIXTH: u64 = 0x0041041041041041;
 
 /// The modules of the rows `place`, `place` + 12, .. that a mask flips.
-fn mask_word(mask: u8, place: usize) -> u64
+fn mask_row_bits(mask: u8, place: usize) -> u64
     requires mask { mask < 8 }
     requires place { place < 12 }
     ensures { (x y : ℕ) → x < SIDE → y < SIDE → y % 12 ≡ place
@@ -63,14 +63,14 @@ fn mask_word(mask: u8, place: usize) -> u64
 pub fn apply_mask(n: usize, mask: u8, function: &Square, modules: &mut Square)
     requires side { n ≤ SIDE }
     requires mask { mask < 8 }
-    ensures masked { (x y : ℕ) → x < n → y < n → value_at modules.new x y
-        ≡ masked mask function.now modules.old x y }
+    ensures inside { (x y : ℕ) → x < n → y < n → value_at modules.new x y
+        ≡ module_under_mask mask function.now modules.old x y }
     ensures outside { SameOutside n modules.old modules.new }
 {
     let mut place = 0;
     for y in 0..n {
         let free = low_ones(n) & !function.row(y);
-        modules.flip(y, mask_word(mask, place) & free);
+        modules.flip(y, mask_row_bits(mask, place) & free);
         place = if place == 11 { 0 } else { place + 1 };
     }
 }

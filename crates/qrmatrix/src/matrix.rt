@@ -48,24 +48,24 @@ impl Matrix {
     /// Draws the codewords of a symbol under the given mask, 0 to 7, or else under the mask of the least penalty, the
     /// first of several (ISO/IEC 18004, 7.7 to 7.10). The modules read back as the version, the level and the
     /// codewords.
-    pub fn draw(version: Version, level: Level, mask: Option<u8>, words: &Codewords) -> Matrix
-        requires count { length words.now.items ≡ total_codewords version }
+    pub fn draw(version: Version, level: Level, mask: Option<u8>, codewords: &Codewords) -> Matrix
+        requires count { length codewords.now.items ≡ total_codewords version }
         requires mask { IfSome mask (λ k. k < 8) }
         ensures side { result.side ≡ side_of version }
-        ensures mask { result.mask ≡ chosen_mask version level mask words.now.items }
+        ensures mask { result.mask ≡ chosen_mask version level mask codewords.now.items }
         ensures modules { (x y : ℕ) → is_dark result x y
-            ≡ module_at version level result.mask words.now.items x y }
+            ≡ module_at version level result.mask codewords.now.items x y }
         ensures outside { (x y : ℕ) → is_inside result.side x y ≡ false
             → is_dark result x y ≡ false }
         ensures reads { read_matrix result.side (is_dark result)
-            ≡ Some (record { version = version; level = level; words = words.now.items }) }
+            ≡ Some (record { version = version; level = level; codewords = codewords.now.items }) }
 
         // No codeword is left out, and only the remainder bits hold none.
         ensures room { free_count version
-            ≡ 8 * length words.now.items + remainder_bits version }
+            ≡ 8 * length codewords.now.items + remainder_bits version }
     {
-        are_bytes(words);
-        let unmasked = Unmasked::draw(version, level, words);
+        are_bytes(codewords);
+        let unmasked = Unmasked::draw(version, level, codewords);
         let mask = match mask {
             Some(mask) => mask,
             None => unmasked.least_mask(),

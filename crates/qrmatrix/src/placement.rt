@@ -9,7 +9,7 @@ ghost use Rattle.qrmatrix.specs.Placement.{rank};
 ghost use Rattle.qrmatrix.specs.Bits.{bit};
 ghost use Rattle.qrmatrix.specs.Square.{value_at};
 ghost use Rattle.qrmatrix.specs.Private.Squares.{WritesAt, WritesTwo, SameOutside};
-ghost use Rattle.qrmatrix.specs.Private.WordPairs.{ArePairs, ShowsTwo};
+ghost use Rattle.qrmatrix.specs.Private.CodewordPairs.{ArePairs, ShowsTwo};
 ghost use Rattle.qrmatrix.specs.Private.Drawing.{MarksFunctions};
 
 use crate::square::{SIDE, Square};
@@ -19,18 +19,18 @@ use qrdata::{Codewords, Version};
 const PAIRS: usize = 400;
 
 /// Bit `i` of the codewords, the high bit of each first, and light past their end.
-fn codeword_bit(words: &Codewords, i: usize) -> bool
-    ensures { result ≡ Placement.codeword_bit words.now.items i }
+fn codeword_bit(codewords: &Codewords, i: usize) -> bool
+    ensures { result ≡ Placement.codeword_bit codewords.now.items i }
 {
-    match words.get(i / 8) {
-        Some(word) => (*word >> (7 - i % 8)) & 1 == 1,
+    match codewords.get(i / 8) {
+        Some(codeword) => (*codeword >> (7 - i % 8)) & 1 == 1,
         None => false,
     }
 }
 
 /// Places bit `i` on the module, if it is free, and says how many bits are placed then.
 fn place_module(
-    words: &Codewords,
+    codewords: &Codewords,
     function: &Square,
     modules: &mut Square,
     x: usize,
@@ -41,29 +41,29 @@ fn place_module(
     requires row { y < SIDE }
     requires count { i < 2 ^ 32 }
     ensures free { IsFalse (value_at function.now x y) → (result ≡ i + 1)
-        × WritesAt modules.old modules.new x y (Placement.codeword_bit words.now.items i) }
+        × WritesAt modules.old modules.new x y (Placement.codeword_bit codewords.now.items i) }
     ensures kept { IsTrue (value_at function.now x y) → (result ≡ i) × (modules.new ≡ modules.old) }
 {
     if function.get(x, y) {
         i
     } else {
-        modules.set(x, y, codeword_bit(words, i));
+        modules.set(x, y, codeword_bit(codewords, i));
         i + 1
     }
 }
 
 /// The numbers of 16 bits that each codeword makes with the next one; zeros follow the last.
-fn word_pairs(words: &[u8]) -> [u16; PAIRS]
-    requires { length words.now < PAIRS }
-    ensures { ArePairs words.now result }
+fn codeword_pairs(codewords: &[u8]) -> [u16; PAIRS]
+    requires { length codewords.now < PAIRS }
+    ensures { ArePairs codewords.now result }
 {
     let mut pairs = [0; PAIRS];
-    let count = words.len();
+    let count = codewords.len();
     for i in 1..count {
-        pairs[i - 1] = u16::from(words[i - 1]) * 256 + u16::from(words[i]);
+        pairs[i - 1] = u16::from(codewords[i - 1]) * 256 + u16::from(codewords[i]);
     }
     if 0 < count {
-        pairs[count - 1] = u16::from(words[count - 1]) * 256;
+        pairs[count - 1] = u16::from(codewords[count - 1]) * 256;
     }
     pairs
 }
@@ -71,8 +71,8 @@ fn word_pairs(words: &[u8]) -> [u16; PAIRS]
 /// The bits `i` and `i + 1` of the codewords, the first one higher.
 fn two_bits(pairs: &[u16; PAIRS], i: usize) -> u64
     requires { i < 8 * PAIRS }
-    ensures bits { (words : List ℕ) → ArePairs words pairs.now
-        → ShowsTwo result (Placement.codeword_bit words i) (Placement.codeword_bit words (i + 1)) }
+    ensures bits { (codewords : List ℕ) → ArePairs codewords pairs.now
+        → ShowsTwo result (Placement.codeword_bit codewords i) (Placement.codeword_bit codewords (i + 1)) }
     ensures bound { result < 4 }
 {
     u64::from((pairs[i / 8] >> (14 - i % 8)) & 3)
@@ -102,19 +102,19 @@ fn place_two(two: u64, modules: &mut Square, x: usize, y: usize)
 
 /// Places the codewords on the free modules, strip after strip from the right, upwards and downwards in turn (ISO/IEC
 /// 18004, 7.7.3).
-pub fn place(version: Version, words: &Codewords, function: &Square, modules: &mut Square)
+pub fn place(version: Version, codewords: &Codewords, function: &Square, modules: &mut Square)
     requires marked { MarksFunctions version function.now }
     requires light { (x y : ℕ) → x < side_of version → y < side_of version
         → is_free version x y ≡ true → value_at modules.old x y ≡ false }
     ensures placed { (x y : ℕ) → x < side_of version → y < side_of version
         → is_free version x y ≡ true → value_at modules.new x y
-        ≡ Placement.codeword_bit words.now.items (rank version x y) }
+        ≡ Placement.codeword_bit codewords.now.items (rank version x y) }
     ensures others { (x y : ℕ) → x < side_of version → y < side_of version
         → is_free version x y ≡ false → value_at modules.new x y ≡ value_at modules.old x y }
     ensures outside { SameOutside (side_of version) modules.old modules.new }
 {
     let n = version.side();
-    let pairs = word_pairs(words);
+    let pairs = codeword_pairs(codewords);
     let mut i = 0;
     for strip in 0..(n - 1) / 2 {
         let right = if strip < (n - 7) / 2 {
@@ -128,8 +128,8 @@ pub fn place(version: Version, words: &Codewords, function: &Square, modules: &m
                 place_two(two_bits(&pairs, i), modules, right - 1, y);
                 i += 2;
             } else {
-                i = place_module(words, function, modules, right, y, i);
-                i = place_module(words, function, modules, right - 1, y, i);
+                i = place_module(codewords, function, modules, right, y, i);
+                i = place_module(codewords, function, modules, right - 1, y, i);
             }
         }
     }

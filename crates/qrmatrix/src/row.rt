@@ -18,12 +18,12 @@ pub fn low_ones(n: usize) -> u64
 }
 
 /// How many of the lowest `n` places have a one.
-pub fn ones_below(word: u64, n: usize) -> u32
+pub fn ones_below(row_bits: u64, n: usize) -> u32
     requires { n ≤ SIDE }
-    ensures value { result ≡ count_below n (bit word) }
+    ensures value { result ≡ count_below n (bit row_bits) }
     ensures bound { result ≤ n }
 {
-    (word & low_ones(n)).count_ones()
+    (row_bits & low_ones(n)).count_ones()
 }
 
 /// The places at which two rows have one colour.
@@ -43,17 +43,17 @@ pub fn agreeing_five(a: u64, b: u64, c: u64, d: u64, e: u64) -> u64
 }
 
 /// The places that are found already and at which the row is dark, or else light.
-pub fn found_with(found: u64, word: u64, dark: bool) -> u64
-    ensures { (i : ℕ) → i < 64 → bit result i ≡ (bit found i && beq (bit word i) dark) }
+pub fn found_with(found: u64, row_bits: u64, dark: bool) -> u64
+    ensures { (i : ℕ) → i < 64 → bit result i ≡ (bit found i && beq (bit row_bits i) dark) }
 {
-    found & if dark { word } else { !word }
+    found & if dark { row_bits } else { !row_bits }
 }
 
 /// The places of a row at which a run begins.
-pub fn run_starts(word: u64) -> u64
-    ensures { (i : ℕ) → i < 64 → bit result i ≡ begins_run (bit word) i }
+pub fn run_starts(row_bits: u64) -> u64
+    ensures { (i : ℕ) → i < 64 → bit result i ≡ begins_run (bit row_bits) i }
 {
-    ((word ^ (word >> 1)) << 1) | 1
+    ((row_bits ^ (row_bits >> 1)) << 1) | 1
 }
 
 /// The penalty of runs, where `uniform` has the places of windows of one colour and `begins` those at which a run

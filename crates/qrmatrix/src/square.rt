@@ -3,7 +3,7 @@ ghost use Rattle.std.specs.Prelude.{◌≡◌, ℕ, ◌^◌, ◌<◌, Bool, ◌&
 ghost use Rattle.std.specs.Prelude.{slice_index, All};
 ghost use Rattle.qrmatrix.specs.Bits.{bit};
 ghost use Rattle.qrmatrix.specs.Masks.{flip_if};
-ghost use Rattle.qrmatrix.specs.Private.Words.{low_bits, AreRows};
+ghost use Rattle.qrmatrix.specs.Private.RowBits.{low_bits, AreRows};
 ghost use Rattle.qrmatrix.specs.Square.{value_at};
 ghost use Rattle.qrmatrix.specs.Private.Squares.{WritesAt};
 
@@ -27,16 +27,16 @@ impl Model for Square {
 }
 
 /// The word with one bit written.
-fn with_bit(word: u64, x: usize, value: bool) -> u64
-    requires word { word < 2 ^ SIDE }
+fn with_bit(row_bits: u64, x: usize, value: bool) -> u64
+    requires row_bits { row_bits < 2 ^ SIDE }
     requires place { x < SIDE }
-    ensures bits { (a : ℕ) → bit result a ≡ (if a == x then value else bit word a) }
+    ensures bits { (a : ℕ) → bit result a ≡ (if a == x then value else bit row_bits a) }
     ensures bound { result < 2 ^ SIDE }
 {
     if value {
-        word | (1 << x)
+        row_bits | (1 << x)
     } else {
-        word & !(1 << x)
+        row_bits & !(1 << x)
     }
 }
 
@@ -83,13 +83,13 @@ impl Square {
     }
 
     /// Turns the modules of row `y` over that have a bit in the word.
-    pub fn flip(&mut self, y: usize, word: u64)
+    pub fn flip(&mut self, y: usize, row_bits: u64)
         requires row { y < SIDE }
-        requires word { word < 2 ^ SIDE }
+        requires row_bits { row_bits < 2 ^ SIDE }
         ensures { (a b : ℕ) → value_at self.new a b
-            ≡ flip_if (b == y && bit word a) (value_at self.old a b) }
+            ≡ flip_if (b == y && bit row_bits a) (value_at self.old a b) }
     {
-        self.rows[y] ^= word;
+        self.rows[y] ^= row_bits;
     }
 
     /// The words, one a row.

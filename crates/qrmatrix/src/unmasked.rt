@@ -1,7 +1,7 @@
 //! A symbol before its mask: what stays under all eight masks is drawn once.
 ghost use Rattle.std.specs.Prelude.{◌≡◌, ℕ, ◌<◌, false, List};
 ghost use Rattle.qrdata.specs.Versions.{side_of};
-ghost use Rattle.qrmatrix.specs.Private.Drawing.{drawn_by, MarksFunctions, Places};
+ghost use Rattle.qrmatrix.specs.Private.Drawing.{unmasked_module, MarksFunctions, Places};
 ghost use Rattle.qrmatrix.specs.Functions.{role};
 ghost use Rattle.qrmatrix.specs.MaskChoice.{least_place, penalties};
 ghost use Rattle.qrmatrix.specs.Modules.{module_at};
@@ -23,7 +23,7 @@ fn draw_functions(version: Version, function: &mut Square, modules: &mut Square)
     requires blank_modules { (x y : ℕ) → value_at modules.old x y ≡ false }
     ensures marked { MarksFunctions version function.new }
     ensures drawn { (x y : ℕ) → x < side_of version → y < side_of version
-        → value_at modules.new x y ≡ drawn_by version (role version x y) }
+        → value_at modules.new x y ≡ unmasked_module version (role version x y) }
     ensures outside { SameOutside (side_of version) modules.old modules.new }
 {
     let n = version.side();
@@ -47,15 +47,15 @@ pub struct Unmasked {
 
 impl Unmasked {
     /// Draws the codewords without a mask.
-    pub fn draw(version: Version, level: Level, words: &Codewords) -> Unmasked
+    pub fn draw(version: Version, level: Level, codewords: &Codewords) -> Unmasked
         ensures version { result.version ≡ version }
         ensures level { result.level ≡ level }
-        ensures placed { Places result words.now.items }
+        ensures placed { Places result codewords.now.items }
     {
         let mut modules = Square::new();
         let mut function = Square::new();
         draw_functions(version, &mut function, &mut modules);
-        place(version, words, &function, &mut modules);
+        place(version, codewords, &function, &mut modules);
         Unmasked {
             version,
             level,
@@ -67,8 +67,8 @@ impl Unmasked {
     /// The symbol under a mask.
     pub fn under(&self, mask: u8) -> Square
         requires { mask < 8 }
-        ensures { (words : List ℕ) → Places self.now words → (x y : ℕ) → value_at result x y
-            ≡ module_at self.now.version self.now.level mask words x y }
+        ensures { (codewords : List ℕ) → Places self.now codewords → (x y : ℕ) → value_at result x y
+            ≡ module_at self.now.version self.now.level mask codewords x y }
     {
         let mut modules = self.modules.copied();
         draw_format(self.version, self.level, mask, &mut modules);
@@ -79,17 +79,17 @@ impl Unmasked {
     /// The penalty of the symbol under a mask.
     fn penalty_under(&self, mask: u8) -> u32
         requires { mask < 8 }
-        ensures { (words : List ℕ) → Places self.now words → result
+        ensures { (codewords : List ℕ) → Places self.now codewords → result
             ≡ Penalty.penalty (side_of self.now.version)
-            (module_at self.now.version self.now.level mask words) }
+            (module_at self.now.version self.now.level mask codewords) }
     {
         penalty(&self.under(mask), self.version.side())
     }
 
     /// The first mask of the least penalty (ISO/IEC 18004, 7.8.1).
     pub fn least_mask(&self) -> u8
-        ensures value { (words : List ℕ) → Places self.now words → result
-            ≡ least_place (penalties self.now.version self.now.level words) }
+        ensures value { (codewords : List ℕ) → Places self.now codewords → result
+            ≡ least_place (penalties self.now.version self.now.level codewords) }
         ensures bound { result < 8 }
     {
         let mut best = 0;

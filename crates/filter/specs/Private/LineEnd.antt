@@ -1,22 +1,32 @@
 -- What the private contracts of a line's end say.
-use Rattle.std.specs.Prelude.{◌≡◌, ℕ, Bool, List, [], Option, Some, None}
+use Rattle.std.specs.Prelude.{◌≡◌, ℕ, Bool, List, [], Option, None}
 use Rattle.device.specs.Device.{Begins}
+use Rattle.labelcore.specs.declared.symbology.Symbology.{Symbology}
+use Rattle.labelcore.specs.LineItem.{Outcome}
 use Rattle.labelcore.specs.OptionValues.{OptionValues}
-use Rattle.labelcore.specs.declared.fault.Fault.{Fault}
-use Rattle.filter.specs.Output.{Outcome, refused, image_of, message_of, is_refusal}
-use Rattle.filter.specs.Readback.{ReadsBack}
+use Rattle.filter.specs.Output.{image_of, message_of, is_refusal, status_if}
+use Rattle.filter.specs.Readback.{ReadsBack, read_linear, read_modules}
+use Rattle.filter.specs.Symbol.{Symbol, quiet_zone}
 use Rattle.filter.specs.declared.status.RunFault.{RunFault}
 use Rattle.filter.specs.declared.status.RunFault.TheVariants.{WriteOut, WriteMessages}
+use Rattle.filter.specs.declared.status.Status.{Status}
+use Rattle.filter.specs.declared.status.Status.TheVariants.{Clean, Refused}
 
--- why the line is refused, if it is
-abbrev pub refusal_of : Outcome → Option Fault
-refusal_of (refused fault) = Some fault
-refusal_of other = None
+-- the status of some lines and of others
+abbrev pub worst : Status → Status → Status
+worst Clean other = other
+worst Refused other = Refused
 
--- the sinks took the image and the message of a line that comes to this, and its symbol reads back
-pub record EndsLine (options : OptionValues) (took_out took_err : List ℕ → Type 0) (number : ℕ) (outcome : Outcome)
-    (is_refused : Bool) : Type 0 where
-  pub refused : is_refused ≡ is_refusal outcome
+-- a symbology of one row, with these quiet zones before and after it, read by this rule
+pub record IsLinear (symbology : Symbology) (left right : ℕ) (reading : List Bool → Option (List ℕ)) : Type 0 where
+  pub zone : quiet_zone symbology ≡ record { left = left; right = right; top = 0; bottom = 0 }
+  pub rule : (rows : List (List Bool)) → read_modules symbology rows ≡ read_linear reading rows
+  pub none : reading [] ≡ None
+
+-- the sinks took the image and the message of a line, and its symbol reads back
+pub record EndsLine (options : OptionValues) (took_out took_err : List ℕ → Type 0) (number : ℕ)
+    (outcome : Outcome Symbol) (status : Status) : Type 0 where
+  pub status_is : status ≡ status_if (is_refusal outcome)
   pub image : took_out (image_of options outcome)
   pub message : took_err (message_of number outcome)
   pub read : ReadsBack outcome

@@ -3,15 +3,15 @@ use Rattle.std.specs.Prelude.{ℕ, ◌+◌, ◌<◌, ◌≤◌, ◌≡◌, List,
 use Rattle.labelcore.specs.declared.fault.Fault.TheVariants.{LineTooLong}
 use Rattle.labelcore.specs.OptionValues.{OptionValues}
 use Rattle.labelcore.specs.HeldLine.{HeldLine}
-use Rattle.labelcore.specs.LineItem.{LineItem, skip, refuse, is_skipped, item_of_request, request}
+use Rattle.labelcore.specs.LineItem.{Outcome, Request, skipped, refused, is_skipped, outcome_of, request}
 use Rattle.labelcore.specs.Escapes.{naming, unescaped_from}
 
 -- what a line asks for, by what is held of it
-abbrev pub item_of_held : OptionValues → HeldLine → LineItem
+abbrev pub item_of_held : OptionValues → HeldLine → Outcome Request
 item_of_held options line =
-    if is_skipped line.bytes then skip
-    else if line.is_too_long then refuse LineTooLong
-    else item_of_request (request options line.bytes)
+    if is_skipped line.bytes then skipped
+    else if line.is_too_long then refused LineTooLong
+    else outcome_of (request options line.bytes)
 
 -- a unit of this size, which names the byte, stands at the front
 pub record IsFirstUnit (text : List ℕ) (byte size : ℕ) : Type 0 where

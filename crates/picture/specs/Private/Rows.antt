@@ -1,13 +1,22 @@
--- What the private contracts of the writers say of a row, for both kinds of text.
-use Rattle.std.specs.Prelude.{ℕ, Bool, List, ◌++◌, length, flat_map}
+-- What the private contracts of the writers say of rows, for both kinds of text.
+use Rattle.std.specs.Prelude.{◌≡◌, ◌≤◌, ◌<◌, ℕ, ◌*◌, Bool, List, ◌++◌, length, flat_map, take, drop}
 use Rattle.std.specs.Int.{div_ceil}
 use Rattle.picture.specs.Picture.{Picture}
-use Rattle.picture.specs.Text.{below, piece, pixel_row}
+use Rattle.picture.specs.Text.{below, pixel_row}
 
--- the pieces of a row, each written as a line, and the row's end
+-- the pixels of a row's piece, counted from 0: 70, or fewer in the last piece
+abbrev pub piece : List Bool → ℕ → List Bool
+piece row k = take 70 (drop (70 * k) row)
+
+-- the pieces of a row, each with its text, and the row's end
 abbrev pub row_text : (List Bool → List ℕ) → List ℕ → List Bool → List ℕ
-row_text line row_end row = flat_map (λ k. line (piece row k)) (below (div_ceil (length row) 70)) ++ row_end
+row_text piece_text row_end row = flat_map (λ k. piece_text (piece row k)) (below (div_ceil (length row) 70)) ++ row_end
+
+-- the rows from y up to the next have the pixels at the front of a list, which holds a row
+pub record KeepsRows (p : Picture) (y next : ℕ) (kept : List Bool) : Type 0 where
+  pub fits : p.width ≤ length kept
+  pub rows : (k : ℕ) → y ≤ k → k < next → take p.width kept ≡ pixel_row p k
 
 -- the rows of a picture
 abbrev pub rows_text : (List Bool → List ℕ) → List ℕ → Picture → List ℕ
-rows_text line row_end p = flat_map (λ y. row_text line row_end (pixel_row p y)) (below p.height)
+rows_text piece_text row_end p = flat_map (λ y. row_text piece_text row_end (pixel_row p y)) (below p.height)

@@ -4,7 +4,7 @@ use Rattle.qrdata.specs.declared.level.Level.{Level}
 use Rattle.qrdata.specs.Versions.{side_of}
 use Rattle.qrmatrix.specs.Bits.{bit}
 use Rattle.qrmatrix.specs.Functions.{Role, Function, Format, Version, Free, role, is_free}
-use Rattle.qrmatrix.specs.Information.{format_word, version_word}
+use Rattle.qrmatrix.specs.Information.{format_information, version_information}
 use Rattle.qrmatrix.specs.Masks.{is_flipped, flip_if}
 use Rattle.qrmatrix.specs.Placement.{codeword_bit, rank}
 use Rattle.qrmatrix.specs.Square.{value_at}
@@ -18,47 +18,47 @@ MarksFunctions v function =
     (x y : ℕ) → x < side_of v → y < side_of v → value_at function x y ≡ not (is_free v x y)
 
 -- a marked module as it is, another with the mask laid over
-abbrev pub masked : ℕ → List (List Bool) → List (List Bool) → ℕ → ℕ → Bool
-masked mask function modules x y =
+abbrev pub module_under_mask : ℕ → List (List Bool) → List (List Bool) → ℕ → ℕ → Bool
+module_under_mask mask function modules x y =
     if value_at function x y then value_at modules x y else flip_if (is_flipped mask x y) (value_at modules x y)
 
 -- the module that a role fixes for every level and mask; the format information is light
-abbrev pub drawn_by : ℕ → Role → Bool
-drawn_by v (Function b) = b
-drawn_by v (Format i) = false
-drawn_by v (Version i) = bit (version_word v) i
-drawn_by v Free = false
+abbrev pub unmasked_module : ℕ → Role → Bool
+unmasked_module v (Function b) = b
+unmasked_module v (Format i) = false
+unmasked_module v (Version i) = bit (version_information v) i
+unmasked_module v Free = false
 
 -- the words of a row have the modules that the codewords do not choose, and those of them that are dark
 pub record HasFunctions (v y : ℕ) (row : PatternRow) : Type 0 where
   pub taken : (x : ℕ) → x < side_of v → bit row.taken x ≡ not (is_free v x y)
-  pub dark : (x : ℕ) → x < side_of v → bit row.dark x ≡ drawn_by v (role v x y)
+  pub dark : (x : ℕ) → x < side_of v → bit row.dark x ≡ unmasked_module v (role v x y)
   pub narrow_taken : row.taken < 2 ^ side_of v
   pub narrow_dark : row.dark < 2 ^ side_of v
 
 -- the module that the format word makes dark
-abbrev pub format_by : ℕ → Role → Bool
-format_by word (Function b) = false
-format_by word (Format i) = bit word i
-format_by word (Version i) = false
-format_by word Free = false
+abbrev pub format_module : ℕ → Role → Bool
+format_module information (Function b) = false
+format_module information (Format i) = bit information i
+format_module information (Version i) = false
+format_module information Free = false
 
 -- a symbol that has no format information and no mask laid over
-pub record IsUnmasked (v : ℕ) (words : List ℕ) (function modules : List (List Bool)) : Type 0 where
+pub record IsUnmasked (v : ℕ) (codewords : List ℕ) (function modules : List (List Bool)) : Type 0 where
   pub marked : MarksFunctions v function
   pub free : (x y : ℕ) → x < side_of v → y < side_of v → is_free v x y ≡ true
-      → value_at modules x y ≡ codeword_bit words (rank v x y)
+      → value_at modules x y ≡ codeword_bit codewords (rank v x y)
   pub taken : (x y : ℕ) → x < side_of v → y < side_of v → is_free v x y ≡ false
-      → value_at modules x y ≡ drawn_by v (role v x y)
+      → value_at modules x y ≡ unmasked_module v (role v x y)
   pub columns : (x y : ℕ) → side_of v ≤ x → value_at modules x y ≡ false
   pub rows : (x y : ℕ) → side_of v ≤ y → value_at modules x y ≡ false
 
 -- the codewords are placed in a drawing
 abbrev pub Places : Unmasked → List ℕ → Type 0
-Places unmasked words = IsUnmasked unmasked.version words unmasked.function unmasked.modules
+Places unmasked codewords = IsUnmasked unmasked.version codewords unmasked.function unmasked.modules
 
 -- the modules of the format information are drawn for a mask, where they were light
 pub record ShowsFormat (v : ℕ) (level : Level) (mask : ℕ) (old new : List (List Bool)) : Type 0 where
   pub inside : (x y : ℕ) → x < side_of v → y < side_of v
-      → value_at new x y ≡ flip_if (format_by (format_word level mask) (role v x y)) (value_at old x y)
+      → value_at new x y ≡ flip_if (format_module (format_information level mask) (role v x y)) (value_at old x y)
   pub outside : SameOutside (side_of v) old new

@@ -4,7 +4,7 @@ use Rattle.std.specs.Prelude.{ℕ, ◌+◌, ◌-◌, ◌*◌, ◌/◌, ◌%◌, 
 use Rattle.std.specs.Prelude.{bit_and, bit_or, slice_index}
 use Rattle.std.specs.Int.{bit_not, reverse_bits, w32, w64}
 use Rattle.qrdata.specs.Versions.{side_of}
-use Rattle.qrmatrix.specs.Information.{version_word}
+use Rattle.qrmatrix.specs.Information.{version_information}
 use Rattle.qrmatrix.specs.declared.function.PatternRow.{PatternRow}
 use Rattle.qrmatrix.specs.declared.function.TheConstants.{CENTRES, EVERY_OTHER, FINDER}
 
@@ -79,13 +79,13 @@ every_third w =
 
 -- the version information
 unfoldable pub versions : ℕ → ℕ → PatternRow
-unfolding version_word every_third
+unfolding version_information every_third
 versions v y =
     let n = side_of v in
     if nat_lt v 7 then pattern_row 0 0
-    else (if nat_lt y 6 then pattern_row (up 7 (n - 11)) (up (bit_and (version_word v / 2 ^ (3 * y)) 7) (n - 11))
+    else (if nat_lt y 6 then pattern_row (up 7 (n - 11)) (up (bit_and (version_information v / 2 ^ (3 * y)) 7) (n - 11))
     else (if nat_le (n - 11) y && nat_lt y (n - 8)
-    then pattern_row 63 (every_third (version_word v / 2 ^ (y - (n - 11))))
+    then pattern_row 63 (every_third (version_information v / 2 ^ (y - (n - 11))))
     else pattern_row 0 0))
 
 -- the modules that the codewords do not choose, those of the format information light
@@ -97,11 +97,11 @@ function_row v y =
 
 -- the modules that show a one of the format word
 unfoldable pub format_row : ℕ → ℕ → ℕ → ℕ
-format_row n word y =
+format_row n information y =
     if y == 8
-    then (let across = reverse_bits w32 word / 2 ^ 17 in
+    then (let across = reverse_bits w32 information / 2 ^ 17 in
     bit_or (bit_or (bit_and across 0x3F) (up (bit_and across 0xC0) 1)) (up (across / 2 ^ 7) (n - 8)))
-    else (if nat_lt y 6 then up (bit_and (word / 2 ^ y) 1) 8
-    else (if y == 7 then up (bit_and (word / 2 ^ 6) 1) 8
-    else (if nat_le (n - 7) y then up (bit_and (word / 2 ^ (y + 15 - n)) 1) 8
+    else (if nat_lt y 6 then up (bit_and (information / 2 ^ y) 1) 8
+    else (if y == 7 then up (bit_and (information / 2 ^ 6) 1) 8
+    else (if nat_le (n - 7) y then up (bit_and (information / 2 ^ (y + 15 - n)) 1) 8
     else 0)))

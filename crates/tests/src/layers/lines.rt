@@ -35,7 +35,7 @@ fn long_line(first: u8, letters: usize) -> LineBuf {
 fn assert_refused(rt: &impl Abort, options: &Options, line: &[u8], want: Fault) {
     let mut scratch = Scratch::new();
     let line = held(line);
-    assert!(rt; parse(options, &line, &mut scratch) == Item::Refuse(want));
+    assert!(rt; parse(options, &line, &mut scratch) == Item::Refused(want));
 }
 
 #[test]
@@ -94,10 +94,10 @@ fn lines_are_held(rt: HostRuntime) {
 fn lines_are_skipped_or_too_long(rt: HostRuntime) {
     let options = row_options(&rt, Level::M, false);
     for (line, want) in [
-        (LineBuf::new(), Item::Skip),
-        (long_line(b'#', 2000), Item::Skip),
-        (long_line(b'a', 1100), Item::Refuse(Fault::LineTooLong)),
-        (long_line(b'a', 1099), Item::Refuse(Fault::UnknownSymbology)),
+        (LineBuf::new(), Item::Skipped),
+        (long_line(b'#', 2000), Item::Skipped),
+        (long_line(b'a', 1100), Item::Refused(Fault::LineTooLong)),
+        (long_line(b'a', 1099), Item::Refused(Fault::UnknownSymbology)),
     ] {
         let mut scratch = Scratch::new();
         assert!(rt; parse(&options, &line, &mut scratch) == want);
@@ -141,14 +141,14 @@ fn lines_are_drawn(rt: HostRuntime) {
         let mut scratch = Scratch::new();
         let line = held(line);
         let item = parse(&options, &line, &mut scratch);
-        assert!(rt; item == Item::Draw(Symbology::Ean8, two_high, b"7351353"));
+        assert!(rt; item == Item::Drawn(Symbology::Ean8, two_high, b"7351353"));
     }
     let masked = Options::new(Format::Pbm, 1, 1, Level::M, 1, Some(2), false);
     let masked = masked.expect(&rt, "in range");
     let mut scratch = Scratch::new();
     let line = held(b"qr,level=M,mask=2 01234567");
     let item = parse(&row_options(&rt, Level::H, false), &line, &mut scratch);
-    assert!(rt; item == Item::Draw(Symbology::Qr, masked, b"01234567"));
+    assert!(rt; item == Item::Drawn(Symbology::Qr, masked, b"01234567"));
 }
 
 #[test]
@@ -158,16 +158,16 @@ fn escapes_are_read(rt: HostRuntime) {
     let mut scratch = Scratch::new();
     let line = held(b"code128 a\\x01b");
     let item = parse(&escaped, &line, &mut scratch);
-    assert!(rt; item == Item::Draw(Symbology::Code128, escaped, b"a\x01b"));
+    assert!(rt; item == Item::Drawn(Symbology::Code128, escaped, b"a\x01b"));
     let mut scratch = Scratch::new();
     let line = held(b"ean8 73\\x35\\x31353");
     let item = parse(&escaped, &line, &mut scratch);
-    assert!(rt; item == Item::Draw(Symbology::Ean8, escaped, b"7351353"));
+    assert!(rt; item == Item::Drawn(Symbology::Ean8, escaped, b"7351353"));
     let plain = row_options(&rt, Level::M, false);
     let mut scratch = Scratch::new();
     let line = held(b"code128 a\\x01b");
     let item = parse(&plain, &line, &mut scratch);
-    assert!(rt; item == Item::Draw(Symbology::Code128, plain, b"a\\x01b"));
+    assert!(rt; item == Item::Drawn(Symbology::Code128, plain, b"a\\x01b"));
 }
 
 /// The message of a refusal is this text.

@@ -1,4 +1,4 @@
-use Rattle.gf256.proofs.LogarithmTables.{exp, field_power-table}
+use Rattle.gf256.proofs.LogarithmLaws.{exp, field_power-table}
 use Rattle.gf256.proofs.field.pow_alpha.Goals as goal
 
 pub returns : goal.returns

@@ -2,7 +2,7 @@ use Rattle.std.proofs.Common.{◌≡◌, ◌+◌, ◌-◌, ◌*◌, ◌/◌, ◌
 use Rattle.gf256.specs.Field.{field_power}
 use Rattle.gf256.specs.ErrorCorrection.{generator}
 use Rattle.gf256.specs.declared.tables.TheConstants.{GENERATORS}
-use Rattle.gf256.proofs.GeneratorTable.{generator-logarithms, logarithms_at}
+use Rattle.gf256.proofs.GeneratorTableLaws.{generator-logarithms, logarithms_at}
 use Rattle.gf256.proofs.generator.logarithms_of.Goals as goal
 
 pub returns-clause-coefficients : goal.returns-clause-coefficients

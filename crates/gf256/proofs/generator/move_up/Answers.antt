@@ -1,6 +1,6 @@
 use Rattle.std.proofs.Common.{◌+◌, ◌-◌, length, get_or, refl, length-set, sym, ◌∙◌, arith}
 use Rattle.std.specs.Int.Bits.{xor_zero_r}
-use Rattle.gf256.proofs.Places.{moved_last}
+use Rattle.gf256.proofs.RegisterLaws.{moved_last}
 use Rattle.gf256.proofs.generator.move_up.Goals as goal
 
 pub returns : goal.returns

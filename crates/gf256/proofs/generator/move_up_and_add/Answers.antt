@@ -1,6 +1,6 @@
 use Rattle.std.proofs.Common.{◌-◌, get_or, length, length-set, arith}
 use Rattle.gf256.specs.Field.{alpha, field_power, field_product}
-use Rattle.gf256.proofs.Places.{moved_last}
+use Rattle.gf256.proofs.RegisterLaws.{moved_last}
 use Rattle.gf256.proofs.generator.move_up_and_add.Goals as goal
 
 pub returns : goal.returns

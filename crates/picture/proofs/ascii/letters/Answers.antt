@@ -1,5 +1,5 @@
 use Rattle.std.proofs.Common.{arith}
-use Rattle.picture.proofs.LetterLemmas.{letters_step, letters_all}
+use Rattle.picture.proofs.LetterLaws.{letters_step, letters_all}
 use Rattle.picture.proofs.ascii.letters.Goals as goal
 
 pub loop-i-preserved : goal.loop-i-preserved

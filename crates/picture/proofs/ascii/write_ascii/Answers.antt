@@ -2,8 +2,8 @@ use Rattle.std.proofs.Common.{◌∷◌, ◌++◌, [], ap, sym, List, ℕ, flat_
 use Rattle.device.proofs.WritingLemmas.{HasWritten-call, WritesText-begun, WritesText-last}
 use Rattle.picture.specs.Private.Rows.{rows_text}
 use Rattle.picture.specs.Text.{ascii_pixel, below}
-use Rattle.picture.proofs.AsciiLemmas.{ascii_pixels-ascii_text}
-use Rattle.picture.proofs.WritingLemmas.{ascii_rows}
+use Rattle.picture.proofs.AsciiLaws.{ascii_pixels-ascii_text}
+use Rattle.picture.proofs.WritingLaws.{ascii_rows}
 use Rattle.picture.proofs.ascii.write_ascii.Goals as goal
 
 pub returns-in_err-write_rows-clause-writes : goal.returns-in_err-write_rows-clause-writes

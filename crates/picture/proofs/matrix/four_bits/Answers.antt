@@ -4,8 +4,8 @@ use Rattle.std.specs.Bool.{beq}
 use Rattle.std.proofs.lemmas.Nat.{and_le_r}
 use Rattle.qrmatrix.specs.Bits.{bit}
 use Rattle.qrmatrix.specs.Counting.{all_below}
-use Rattle.qrmatrix.proofs.Sums.{all_below_at}
-use Rattle.qrmatrix.proofs.RowBits.{and_bit, shr_bit, same_beq}
+use Rattle.qrmatrix.proofs.SumLaws.{all_below_at}
+use Rattle.qrmatrix.proofs.RowBitsLaws.{and_bit, shr_bit, same_beq}
 use Rattle.picture.specs.declared.matrix.TheConstants.{FOUR}
 use Rattle.picture.proofs.matrix.four_bits.Goals as goal
 

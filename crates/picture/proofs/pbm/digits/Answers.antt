@@ -1,5 +1,5 @@
 use Rattle.std.proofs.Common.{arith}
-use Rattle.picture.proofs.LetterLemmas.{digits_step, digits_all}
+use Rattle.picture.proofs.LetterLaws.{digits_step, digits_all}
 use Rattle.picture.proofs.pbm.digits.Goals as goal
 
 pub loop-i-preserved : goal.loop-i-preserved

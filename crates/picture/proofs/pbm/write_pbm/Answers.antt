@@ -1,9 +1,9 @@
 use Rattle.std.proofs.Common.{◌≡◌, ◌++◌, [], ℕ, List, ap, sym, refl, ◌∙◌, arith, flat_map}
 use Rattle.device.proofs.WritingLemmas.{HasWritten-call, WritesText-begun, WritesText-last}
 use Rattle.picture.specs.Private.Rows.{rows_text}
-use Rattle.picture.specs.Text.{pbm_header, pbm_line, pbm_row, below}
-use Rattle.picture.proofs.PbmLemmas.{pbm_pixels-pbm_text}
-use Rattle.picture.proofs.WritingLemmas.{pbm_rows}
+use Rattle.picture.specs.Text.{pbm_header, pbm_piece, pbm_row, below}
+use Rattle.picture.proofs.PbmLaws.{pbm_pixels-pbm_text}
+use Rattle.picture.proofs.WritingLaws.{pbm_rows}
 use Rattle.picture.proofs.pbm.write_pbm.Goals as goal
 
 pub returns-in_err-write_whole-clause-writes : goal.returns-in_err-write_whole-clause-writes
@@ -26,7 +26,7 @@ returns-in_err-write_whole-clause-read g c some =
 pub returns-clause-writes : goal.returns-clause-writes
 returns-clause-writes g c =
     let p = g.G.Grid.picture c.args.grid.now in
-    let rows = rows_text pbm_line [] p in
+    let rows = rows_text pbm_piece [] p in
     let first : c.as_slice.result.now ≡ pbm_header p.width p.height =
     rw (c.as_slice.ensures.value, c.header-first.ensures, c.width.ensures, c.height.ensures) refl in
     WritesText-last g.S.Sink g.met.S.Sink.took_joined _ _ _ c.as_slice.result.now rows _ c.write_rows.result

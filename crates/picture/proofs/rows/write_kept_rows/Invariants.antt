@@ -1,6 +1,6 @@
 use Rattle.std.proofs.Common.{◌≡◌, ◌<◌, ◌≤◌, ℕ, flat_map, take, length}
 use Rattle.device.proofs.WritingLemmas.{HasWritten}
-use Rattle.picture.specs.Private.Rows.{row_text}
+use Rattle.picture.specs.Private.Rows.{KeepsRows, row_text}
 use Rattle.picture.specs.Text.{below, pixel_row}
 use Rattle.picture.proofs.rows.write_kept_rows.Given as goal
 
@@ -8,9 +8,9 @@ use Rattle.picture.proofs.rows.write_kept_rows.Given as goal
 abbrev pub invariant-loop-y : goal.invariant-loop-y
 invariant-loop-y g l =
     let p = g.G.Grid.picture l.grid in
-    let row = λ (y : ℕ). row_text g.T.PixelText.line g.T.PixelText.row_end (pixel_row p y) in
+    let row = λ (y : ℕ). row_text g.T.PixelText.text g.T.PixelText.row_end (pixel_row p y) in
     record {
-      kept : (k : ℕ) → l.y ≤ k → k < l.next → take p.width l.room ≡ pixel_row p k;
-      size : length l.room ≡ length l.initial.room;
+      keeps : KeepsRows p l.y l.next l.kept;
+      size : length l.kept ≡ length l.initial.kept;
       written : HasWritten g.S.Sink l.initial.sink l.sink (flat_map row (below l.y));
     }

@@ -2,50 +2,51 @@ use Rattle.std.proofs.Common.{◌≡◌, ◌++◌, ◌<◌, ℕ, List, flat_map,
 use Rattle.std.specs.Int.{div_ceil}
 use Rattle.std.proofs.lemmas.List.FromFn.{length-map-range_with_len}
 use Rattle.device.proofs.WritingLemmas.{HasWritten-none, HasWritten-more, WritesText-fails, WritesText-last}
-use Rattle.picture.specs.Text.{below, piece, pixel_row}
-use Rattle.picture.proofs.WritingLemmas.{flat_map-below_front, flat_map-below_more}
+use Rattle.picture.specs.Private.Rows.{piece}
+use Rattle.picture.specs.Text.{below, pixel_row}
+use Rattle.picture.proofs.WritingLaws.{flat_map-below_front, flat_map-below_more}
 use Rattle.picture.proofs.rows.write_wide_row.Goals as goal
 
 pub loop-k-init : goal.loop-k-init
 loop-k-init g c = record { written = HasWritten-none g.S.Sink c.args.sink.now (g.met.S.Sink.took_none _) }
 
-pub returns-in_err-write_wide_line : goal.returns-in_err-write_wide_line
-returns-in_err-write_wide_line g c =
+pub returns-in_err-write_wide_piece : goal.returns-in_err-write_wide_piece
+returns-in_err-write_wide_piece g c =
     let k = c.loop-k.k in
     let p = g.G.Grid.picture c.args.grid.now in
     let row = pixel_row p c.args.y in
-    let line : ℕ → List ℕ = λ k. g.T.PixelText.line (piece row k) in
+    let piece_text : ℕ → List ℕ = λ k. g.T.PixelText.text (piece row k) in
     let end = g.T.PixelText.row_end in
     let size : length row ≡ p.width = length-map-range_with_len (λ x. p.dark x c.args.y) 0 p.width in
     let inside : k < div_ceil (length row) 70 = omega (arith, c.width.ensures) in
-    let front = flat_map-below_front line k (div_ceil (length row) 70) inside in
-    let text : flat_map line (below (div_ceil (length row) 70)) ++ end
-    ≡ (flat_map line (below k) ++ line k) ++ (front.0 ++ end) =
-    ap (λ (t : List ℕ). t ++ end) front.1 ∙ append_assoc (flat_map line (below k) ++ line k) front.0 end in
-    WritesText-fails g.S.Sink g.met.S.Sink.took_joined _ _ _ (flat_map line (below k)) (line k) (front.0 ++ end) _
-    c.from_residual.result c.from_residual.ensures.0 text c.loop-k.invariant.written c.in_err-write_wide_line.ensures
+    let front = flat_map-below_front piece_text k (div_ceil (length row) 70) inside in
+    let text : flat_map piece_text (below (div_ceil (length row) 70)) ++ end
+    ≡ (flat_map piece_text (below k) ++ piece_text k) ++ (front.0 ++ end) =
+    ap (λ (t : List ℕ). t ++ end) front.1 ∙ append_assoc (flat_map piece_text (below k) ++ piece_text k) front.0 end in
+    WritesText-fails g.S.Sink g.met.S.Sink.took_joined _ _ _ (flat_map piece_text (below k)) (piece_text k) (front.0 ++ end) _
+    c.from_residual.result c.from_residual.ensures.0 text c.loop-k.invariant.written c.in_err-write_wide_piece.ensures
 
 pub loop-k-preserved : goal.loop-k-preserved
 loop-k-preserved g c =
     let k = c.loop-k.k in
     let p = g.G.Grid.picture c.args.grid.now in
-    let line : ℕ → List ℕ = λ k. g.T.PixelText.line (piece (pixel_row p c.args.y) k) in
+    let piece_text : ℕ → List ℕ = λ k. g.T.PixelText.text (piece (pixel_row p c.args.y) k) in
     record {
-      written = HasWritten-more g.S.Sink g.met.S.Sink.took_joined _ _ _ (flat_map line (below k)) (line k) _
-          (sym (flat_map-below_more line k)) c.loop-k.invariant.written c.in_ok-write_wide_line.ensures;
+      written = HasWritten-more g.S.Sink g.met.S.Sink.took_joined _ _ _ (flat_map piece_text (below k)) (piece_text k) _
+          (sym (flat_map-below_more piece_text k)) c.loop-k.invariant.written c.in_ok-write_wide_piece.ensures;
     }
 
 pub returns : goal.returns
 returns g c =
     let p = g.G.Grid.picture c.args.grid.now in
     let row = pixel_row p c.args.y in
-    let line : ℕ → List ℕ = λ k. g.T.PixelText.line (piece row k) in
-    let lines : ℕ → List ℕ = λ n. flat_map line (below n) in
+    let piece_text : ℕ → List ℕ = λ k. g.T.PixelText.text (piece row k) in
+    let pieces : ℕ → List ℕ = λ n. flat_map piece_text (below n) in
     let size : length row ≡ p.width = length-map-range_with_len (λ x. p.dark x c.args.y) 0 p.width in
     let last : c.loop-k.k ≡ div_ceil (length row) 70 = omega (arith, c.width.ensures) in
-    let text : lines c.loop-k.k ++ c.row_end.result.now ≡ lines (div_ceil (length row) 70) ++ g.T.PixelText.row_end =
-    ap (λ (n : ℕ). lines n ++ c.row_end.result.now) last
-    ∙ ap (λ (t : List ℕ). lines (div_ceil (length row) 70) ++ t) c.row_end.ensures in
-    WritesText-last g.S.Sink g.met.S.Sink.took_joined _ _ _ (lines c.loop-k.k)
+    let text : pieces c.loop-k.k ++ c.row_end.result.now ≡ pieces (div_ceil (length row) 70) ++ g.T.PixelText.row_end =
+    ap (λ (n : ℕ). pieces n ++ c.row_end.result.now) last
+    ∙ ap (λ (t : List ℕ). pieces (div_ceil (length row) 70) ++ t) c.row_end.ensures in
+    WritesText-last g.S.Sink g.met.S.Sink.took_joined _ _ _ (pieces c.loop-k.k)
     c.row_end.result.now _ c.write_whole.result text
     c.loop-k.invariant.written c.write_whole.ensures

@@ -7,5 +7,5 @@ use Rattle.picture.proofs.rows.write_wide_rows.Given as goal
 -- the rows so far were written
 abbrev pub invariant-loop-y : goal.invariant-loop-y
 invariant-loop-y g l =
-    let row = λ (y : ℕ). row_text g.T.PixelText.line g.T.PixelText.row_end (pixel_row (g.G.Grid.picture l.grid) y) in
+    let row = λ (y : ℕ). row_text g.T.PixelText.text g.T.PixelText.row_end (pixel_row (g.G.Grid.picture l.grid) y) in
     record { written : HasWritten g.S.Sink l.initial.sink l.sink (flat_map row (below l.y)) }

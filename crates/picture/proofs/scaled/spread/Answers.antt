@@ -2,7 +2,7 @@ use Rattle.std.proofs.Common.{◌≡◌, ◌+◌, ◌-◌, ◌/◌, ◌∙◌, �
 use Rattle.std.proofs.Math.ListN.{get_or}
 use Rattle.std.proofs.Math.Nat.{div-one}
 use Rattle.std.proofs.lemmas.List.FromFn.{fill_by_all}
-use Rattle.picture.proofs.GridLemmas.{spread_more}
+use Rattle.picture.proofs.GridLaws.{spread_more}
 use Rattle.picture.proofs.scaled.spread.Goals as goal
 
 pub returns-then-scale-eq1 : goal.returns-then-scale-eq1

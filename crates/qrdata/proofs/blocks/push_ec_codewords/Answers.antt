@@ -1,6 +1,6 @@
 use Rattle.std.proofs.Common.{◌≡◌, ◌+◌, ◌-◌, get_or, append_assoc, append-nil, arith}
 use Rattle.std.proofs.lemmas.List.Sums.{sum_by-drop_more}
-use Rattle.qrdata.proofs.Writing.{split_by-next, split_by-none_left}
+use Rattle.qrdata.proofs.WriterLaws.{split_by-next, split_by-none_left}
 use Rattle.qrdata.proofs.blocks.push_ec_codewords.Goals as goal
 
 pub loop-size-preserved : goal.loop-size-preserved

@@ -1,12 +1,12 @@
 use Rattle.std.proofs.Common.{◌≡◌, ◌*◌, ◌/◌, length, arith, ap, refl, ◌∙◌}
 use Rattle.qrdata.specs.Bits.{codewords_of}
 use Rattle.qrdata.specs.Private.BitsInCodewords.{bits_in}
-use Rattle.qrdata.specs.Codewords.{aligned, terminated, filled, padded, data_of}
+use Rattle.qrdata.specs.Codewords.{with_zeros, with_terminator, with_pad_codewords, data_codewords_of, data_of}
 use Rattle.qrdata.specs.Segments.{segments_bits}
 use Rattle.qrdata.specs.Versions.{data_codewords}
-use Rattle.qrdata.proofs.VersionTable.{capacity-le}
-use Rattle.qrdata.proofs.Lengths.{length-segments_bits}
-use Rattle.qrdata.proofs.Padding.{length-codewords_of}
+use Rattle.qrdata.proofs.VersionLaws.{capacity-le}
+use Rattle.qrdata.proofs.LengthLaws.{length-segments_bits}
+use Rattle.qrdata.proofs.PaddingLaws.{length-codewords_of}
 use Rattle.qrdata.proofs.final_message.push_data.Goals as goal
 
 pub push_segments-requires-clause-room : goal.push_segments-requires-clause-room
@@ -38,19 +38,19 @@ end-requires c =
     }
 
 pub returns : goal.returns
-unfolding data_of padded filled
+unfolding data_of data_codewords_of with_pad_codewords
 returns c =
     let bits = segments_bits c.args.version c.args.segments.now c.args.bytes.now in
     let size = data_codewords c.args.version c.args.level in
     let whole : bits_in c.push_segments.new.self ≡ bits = rw (c.push_segments.ensures, c.requires.empty) refl in
-    let ended : bits_in c.end.new.self ≡ aligned (terminated (8 * size) bits) =
+    let ended : bits_in c.end.new.self ≡ with_zeros (with_terminator (8 * size) bits) =
     rw (c.end.ensures.bits, whole, c.data_codewords-size.ensures) refl in
     let codewords : c.end.new.self.codewords.items
-    ≡ codewords_of (length (aligned (terminated (8 * size) bits)) / 8) (aligned (terminated (8 * size) bits)) =
+    ≡ codewords_of (length (with_zeros (with_terminator (8 * size) bits)) / 8) (with_zeros (with_terminator (8 * size) bits)) =
     c.end.ensures.codewords ∙ ap (λ l. codewords_of (length l / 8) l) ended in
-    let count : c.len.result ≡ length (aligned (terminated (8 * size) bits)) / 8 =
+    let count : c.len.result ≡ length (with_zeros (with_terminator (8 * size) bits)) / 8 =
     c.len.ensures.value ∙ (ap length codewords
-    ∙ length-codewords_of (length (aligned (terminated (8 * size) bits)) / 8) (aligned (terminated (8 * size) bits))) in
+    ∙ length-codewords_of (length (with_zeros (with_terminator (8 * size) bits)) / 8) (with_zeros (with_terminator (8 * size) bits))) in
     rw (c.push_padding.ensures, count, codewords, c.data_codewords-size.ensures) refl
 
 pub push_padding-requires : goal.push_padding-requires

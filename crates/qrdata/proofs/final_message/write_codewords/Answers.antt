@@ -1,7 +1,7 @@
 use Rattle.std.proofs.Common.{◌≤◌, arith, refl}
 use Rattle.qrdata.specs.Codewords.{symbol_codewords}
-use Rattle.qrdata.proofs.RoundTrip.{data_in-symbol_codewords, length-read}
-use Rattle.qrdata.proofs.Writing.{AreBytes-slice, length-data_of}
+use Rattle.qrdata.proofs.DataReadingLaws.{data_in-symbol_codewords, length-read}
+use Rattle.qrdata.proofs.WriterLaws.{AreBytes-slice, length-data_of}
 use Rattle.qrdata.proofs.final_message.write_codewords.Goals as goal
 
 pub write_symbol-requires : goal.write_symbol-requires

@@ -4,8 +4,8 @@ use Rattle.qrdata.specs.Versions.{block_lengths, ec_codewords_per_block}
 use Rattle.std.specs.List.{flat_map}
 use Rattle.gf256.specs.ErrorCorrection.{ec_codewords_of}
 use Rattle.std.proofs.lemmas.List.Folds.{sum_by-replicate}
-use Rattle.qrdata.proofs.BlockSteps.{length-interleaved_split}
-use Rattle.qrdata.proofs.Writing.{AreBytes-slice, HasBlocks-message}
+use Rattle.qrdata.proofs.BlockStepLaws.{length-interleaving-split_by}
+use Rattle.qrdata.proofs.WriterLaws.{AreBytes-slice, HasBlocks-message}
 use Rattle.qrdata.proofs.final_message.write_symbol.Goals as goal
 
 pub push_ec_codewords-requires-clause-low : goal.push_ec_codewords-requires-clause-low
@@ -100,7 +100,7 @@ interleave-requires-2-clause-room c =
     ) refl in
     let first : length c.interleave.new.out.items ≡ length c.args.message.now =
     ap length c.interleave.ensures ∙ (rw (c.clear.ensures, c.as_slice-2.ensures.value, c.lengths-lengths.ensures)
-    (length-interleaved_split lengths c.args.message.now blocks.whole)) in
+    (length-interleaving-split_by lengths c.args.message.now blocks.whole)) in
     omega (arith, first, ap length codewords, blocks.ec_blocks, blocks.total)
 
 pub returns : goal.returns

@@ -3,13 +3,13 @@ use Rattle.qrdata.specs.declared.level.Level.{Level}
 use Rattle.std.proofs.lemmas.Bool.{cases_lt}
 use Rattle.qrdata.specs.Fewest.{chosen_segments}
 use Rattle.qrdata.specs.Segments.{cost}
-use Rattle.qrdata.specs.Private.LeastPlan.{DoNotFit, SameWidths}
+use Rattle.qrdata.specs.Private.SmallestPlan.{DoNotFit, SameWidths}
 use Rattle.qrdata.specs.Private.Table.{fewest_bits}
 use Rattle.qrdata.specs.Versions.{capacity}
-use Rattle.qrdata.proofs.Bounds.{few_segments, third}
-use Rattle.qrdata.proofs.FewestBits.{chosen_segments-is}
-use Rattle.qrdata.proofs.Tables.{NamesBest-of, capacity_as_wide, fewest_bits-below, fewest_bits-is}
-use Rattle.qrdata.proofs.VersionTable.{capacity-le, capacity-rising}
+use Rattle.qrdata.proofs.BoundLaws.{few_segments, third}
+use Rattle.qrdata.proofs.FewestBitsLaws.{chosen_segments-is}
+use Rattle.qrdata.proofs.FirstsTableLaws.{NamesBest-of, capacity_as_wide, fewest_bits-below, fewest_bits-is}
+use Rattle.qrdata.proofs.VersionLaws.{capacity-le, capacity-rising}
 use Rattle.qrdata.proofs.plan.plan_between.Goals as goal
 
 pub overflow_mul-data_codewords : goal.overflow_mul-data_codewords

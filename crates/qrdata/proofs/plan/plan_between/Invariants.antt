@@ -1,5 +1,5 @@
 use Rattle.std.proofs.Common.{◌≤◌, ◌<◌, ℕ}
-use Rattle.qrdata.specs.Private.LeastPlan.{DoNotFit}
+use Rattle.qrdata.specs.Private.SmallestPlan.{DoNotFit}
 use Rattle.qrdata.proofs.plan.plan_between.Given as goal
 
 -- in no version before do the best segments fit

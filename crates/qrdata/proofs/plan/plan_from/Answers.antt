@@ -1,7 +1,7 @@
 use Rattle.std.proofs.Common.{arith}
 use Rattle.qrdata.specs.Fewest.{chosen_segments}
-use Rattle.qrdata.proofs.Bounds.{long_fit_nowhere}
-use Rattle.qrdata.proofs.FewestBits.{chosen_segments-is}
+use Rattle.qrdata.proofs.BoundLaws.{long_fit_nowhere}
+use Rattle.qrdata.proofs.FewestBitsLaws.{chosen_segments-is}
 use Rattle.qrdata.proofs.plan.plan_from.Goals as goal
 
 pub returns-then-bytes-gt-MAX_BYTES-clause-none : goal.returns-then-bytes-gt-MAX_BYTES-clause-none

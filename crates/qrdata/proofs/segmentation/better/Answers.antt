@@ -1,6 +1,6 @@
 use Rattle.std.proofs.Common.{◌≡◌, ◌∙◌}
 use Rattle.qrdata.specs.Private.Table.{better_choice}
-use Rattle.qrdata.proofs.ChoiceOrder.{better_choice-lighter, better_choice-no_lighter, choice_seen}
+use Rattle.qrdata.proofs.ChoiceOrderLaws.{better_choice-lighter, better_choice-no_lighter, choice_seen}
 use Rattle.qrdata.proofs.segmentation.better.Goals as goal
 
 pub returns-then-second-first : goal.returns-then-second-first

@@ -2,8 +2,8 @@ use Rattle.std.proofs.Common.{◌-◌, ◌≤◌, ◌≡◌, drop, length, get_o
 use Rattle.std.proofs.lemmas.List.{length-drop}
 use Rattle.qrdata.specs.declared.segmentation.Choices.{Choices}
 use Rattle.qrdata.specs.Private.Table.{choices_of, next_choices}
-use Rattle.qrdata.proofs.SmallChoices.{AreSmall-of}
-use Rattle.qrdata.proofs.Tables.{HasFirsts-end, HasFirsts-set, choices_of-next, choices_of-none}
+use Rattle.qrdata.proofs.SmallChoiceLaws.{AreSmall-of}
+use Rattle.qrdata.proofs.FirstsTableLaws.{HasFirsts-end, HasFirsts-set, choices_of-next, choices_of-none}
 use Rattle.qrdata.proofs.segmentation.fill.Goals as goal
 
 pub loop-place-init : goal.loop-place-init

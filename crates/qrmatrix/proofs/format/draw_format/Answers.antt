@@ -1,33 +1,33 @@
 use Rattle.std.proofs.Common.{◌≡◌, ◌-◌, ℕ, Bool, ap, arith, subst}
 use Rattle.qrdata.specs.Versions.{side_of}
-use Rattle.qrmatrix.specs.Private.Drawing.{format_by}
+use Rattle.qrmatrix.specs.Private.Drawing.{format_module}
 use Rattle.qrmatrix.specs.Functions.{role}
-use Rattle.qrmatrix.specs.Information.{format_word}
+use Rattle.qrmatrix.specs.Information.{format_information}
 use Rattle.qrmatrix.specs.Masks.{flip_if}
 use Rattle.qrmatrix.specs.Square.{value_at}
-use Rattle.qrmatrix.proofs.FunctionWords.{fits, format_between, row_shows}
-use Rattle.qrmatrix.proofs.Passes.{Mapped, mapped_outside, row_turned, rows_kept}
-use Rattle.qrmatrix.proofs.RowBits.{above_bit}
+use Rattle.qrmatrix.proofs.FunctionRowLaws.{fits, format_between, row_shows}
+use Rattle.qrmatrix.proofs.PassLaws.{Mapped, mapped_outside, row_turned, rows_kept}
+use Rattle.qrmatrix.proofs.RowBitsLaws.{above_bit}
 use Rattle.qrmatrix.proofs.format.draw_format.Goals as goal
 
-pub flip-requires-clause-word : goal.flip-requires-clause-word
-flip-requires-clause-word c =
+pub flip-requires-clause-row_bits : goal.flip-requires-clause-row_bits
+flip-requires-clause-row_bits c =
     let v = c.args.version in
-    let shows = row_shows v c.side-n.result c.format_word-word.result c.format_row.result c.args.level c.args.mask
+    let shows = row_shows v c.side-n.result c.format_information-information.result c.format_row.result c.args.level c.args.mask
     c.loop-y.y c.side-n.ensures.known.0 c.side-n.ensures.known.1 c.requires (omega arith) c.side-n.ensures.value
-    c.format_word-word.ensures c.format_row.ensures in
+    c.format_information-information.ensures c.format_row.ensures in
     fits v c.format_row.result c.side-n.ensures.known.1 shows.narrow
 
 pub loop-y-preserved : goal.loop-y-preserved
 loop-y-preserved c =
     let v = c.args.version in
     let y = c.loop-y.y in
-    let shows = row_shows v c.side-n.result c.format_word-word.result c.format_row.result c.args.level c.args.mask y
+    let shows = row_shows v c.side-n.result c.format_information-information.result c.format_row.result c.args.level c.args.mask y
     c.side-n.ensures.known.0 c.side-n.ensures.known.1 c.requires (omega arith) c.side-n.ensures.value
-    c.format_word-word.ensures c.format_row.ensures in
+    c.format_information-information.ensures c.format_row.ensures in
     record {
       modules = row_turned (side_of v) y c.format_row.result c.args.modules.now c.loop-y.modules c.flip.new.self
-          (λ x y. flip_if (format_by (format_word c.args.level c.args.mask) (role v x y))
+          (λ x y. flip_if (format_module (format_information c.args.level c.args.mask) (role v x y))
           (value_at c.args.modules.now x y)) c.loop-y.invariant.modules c.flip.ensures
           (λ x l. ap (λ z. flip_if z (value_at c.args.modules.now x y)) (shows.shown x l))
           (λ x g. above_bit c.format_row.result (side_of v) x shows.narrow g);
@@ -37,9 +37,9 @@ loop-y-preserved c =
 pub loop-y-2-init : goal.loop-y-2-init
 loop-y-2-init c =
     let v = c.args.version in
-    let word = format_word c.args.level c.args.mask in
+    let information = format_information c.args.level c.args.mask in
     let old = c.args.modules.now in
-    let target : ℕ → ℕ → Bool = λ x y. flip_if (format_by word (role v x y)) (value_at old x y) in
+    let target : ℕ → ℕ → Bool = λ x y. flip_if (format_module information (role v x y)) (value_at old x y) in
     let ended : c.loop-y.y ≡ 9 = omega arith in
     let first : Mapped (side_of v) old c.loop-y.modules target 9 0 =
     subst (λ k. Mapped (side_of v) old c.loop-y.modules target k 0) ended c.loop-y.invariant.modules in
@@ -51,25 +51,25 @@ loop-y-2-init c =
       width = c.side-n.ensures.value;
     }
 
-pub flip-requires-in-loop-y-2-clause-word : goal.flip-requires-in-loop-y-2-clause-word
-flip-requires-in-loop-y-2-clause-word c =
+pub flip-requires-in-loop-y-2-clause-row_bits : goal.flip-requires-in-loop-y-2-clause-row_bits
+flip-requires-in-loop-y-2-clause-row_bits c =
     let v = c.args.version in
-    let shows = row_shows v c.side-n.result c.format_word-word.result c.format_row-in-loop-y-2.result c.args.level
+    let shows = row_shows v c.side-n.result c.format_information-information.result c.format_row-in-loop-y-2.result c.args.level
     c.args.mask c.loop-y-2.y c.side-n.ensures.known.0 c.side-n.ensures.known.1 c.requires (omega arith)
-    c.side-n.ensures.value c.format_word-word.ensures c.format_row-in-loop-y-2.ensures in
+    c.side-n.ensures.value c.format_information-information.ensures c.format_row-in-loop-y-2.ensures in
     fits v c.format_row-in-loop-y-2.result c.side-n.ensures.known.1 shows.narrow
 
 pub loop-y-2-preserved : goal.loop-y-2-preserved
 loop-y-2-preserved c =
     let v = c.args.version in
     let y = c.loop-y-2.y in
-    let shows = row_shows v c.side-n.result c.format_word-word.result c.format_row-in-loop-y-2.result c.args.level
+    let shows = row_shows v c.side-n.result c.format_information-information.result c.format_row-in-loop-y-2.result c.args.level
     c.args.mask y c.side-n.ensures.known.0 c.side-n.ensures.known.1 c.requires (omega arith) c.side-n.ensures.value
-    c.format_word-word.ensures c.format_row-in-loop-y-2.ensures in
+    c.format_information-information.ensures c.format_row-in-loop-y-2.ensures in
     record {
       modules = row_turned (side_of v) y c.format_row-in-loop-y-2.result c.args.modules.now c.loop-y-2.modules
           c.flip-in-loop-y-2.new.self
-          (λ x y. flip_if (format_by (format_word c.args.level c.args.mask) (role v x y))
+          (λ x y. flip_if (format_module (format_information c.args.level c.args.mask) (role v x y))
           (value_at c.args.modules.now x y)) c.loop-y-2.invariant.modules c.flip-in-loop-y-2.ensures
           (λ x l. ap (λ z. flip_if z (value_at c.args.modules.now x y)) (shows.shown x l))
           (λ x g. above_bit c.format_row-in-loop-y-2.result (side_of v) x shows.narrow g);

@@ -1,7 +1,7 @@
 use Rattle.std.proofs.Common.{◌≡◌, sym, subst}
 use Rattle.qrmatrix.specs.Private.Drawing.{HasFunctions}
 use Rattle.qrmatrix.specs.Private.FunctionRows.{function_row}
-use Rattle.qrmatrix.proofs.FunctionWords.{all_patterns, function_row_is}
+use Rattle.qrmatrix.proofs.FunctionRowLaws.{all_patterns, function_row_is}
 use Rattle.qrmatrix.proofs.function.function_row.Goals as goal
 
 pub returns : goal.returns

@@ -1,14 +1,14 @@
-use Rattle.qrmatrix.proofs.ListedWords.{listed_format_words, listed_version_words, format_codewords, version_codewords}
+use Rattle.qrmatrix.proofs.InformationLaws.{format_information-listed, version_information-listed, format_information-multiple, version_information-multiple}
 use Rattle.qrmatrix.proofs.information.information_laws.Goals as goal
 
 pub returns-clause-format : goal.returns-clause-format
-returns-clause-format c = listed_format_words
+returns-clause-format c = format_information-listed
 
 pub returns-clause-format_code : goal.returns-clause-format_code
-returns-clause-format_code c = format_codewords
+returns-clause-format_code c = format_information-multiple
 
 pub returns-clause-version : goal.returns-clause-version
-returns-clause-version c = listed_version_words
+returns-clause-version c = version_information-listed
 
 pub returns-clause-version_code : goal.returns-clause-version_code
-returns-clause-version_code c = version_codewords
+returns-clause-version_code c = version_information-multiple

@@ -1,6 +1,6 @@
 use Rattle.std.proofs.Common.{◌∙◌, sym, ◌+◌}
 use Rattle.std.proofs.lemmas.Bool.{eqb-true}
-use Rattle.qrmatrix.proofs.WordPairs.{two_clear}
+use Rattle.qrmatrix.proofs.CodewordPairLaws.{two_clear}
 use Rattle.qrmatrix.proofs.placement.are_free.Goals as goal
 
 pub returns : goal.returns

@@ -1,11 +1,11 @@
 use Rattle.std.proofs.Common.{◌≡◌, ◌+◌, ◌-◌, ◌*◌, ◌/◌, ◌<◌, arith, subst, sym}
 use Rattle.qrdata.specs.Versions.{side_of}
 use Rattle.qrmatrix.specs.Square.{value_at}
-use Rattle.qrmatrix.specs.Private.WordPairs.{ArePairs}
-use Rattle.qrmatrix.proofs.CursorSteps.{AtRow, Placed, row_of, row_up, row_down, placed_none, placed_pair, placed_two}
-use Rattle.qrmatrix.proofs.CursorSteps.{light_ahead}
-use Rattle.qrmatrix.proofs.EachVersion.{computed}
-use Rattle.qrmatrix.proofs.Ranks.{outside_at, below_at}
+use Rattle.qrmatrix.specs.Private.CodewordPairs.{ArePairs}
+use Rattle.qrmatrix.proofs.CursorLaws.{AtRow, Placed, row_of, row_up, row_down, placed_none, placed_pair, placed_two}
+use Rattle.qrmatrix.proofs.CursorLaws.{light_ahead}
+use Rattle.qrmatrix.proofs.VersionLaws.{computed}
+use Rattle.qrmatrix.proofs.RankLaws.{outside_at, below_at}
 use Rattle.qrmatrix.proofs.placement.place.Goals as goal
 use Rattle.qrmatrix.proofs.placement.place.Goals.{then-strip-eq0, else-strip-eq0, then-are_free, else-are_free}
 
@@ -13,9 +13,9 @@ pub loop-strip-init : goal.loop-strip-init
 loop-strip-init c =
     let v = c.args.version in
     record {
-      placed = placed_none v (computed v c.side-n.ensures.known.0 c.side-n.ensures.known.1) c.args.words.now.items _
+      placed = placed_none v (computed v c.side-n.ensures.known.0 c.side-n.ensures.known.1) c.args.codewords.now.items _
           (2 * side_of v * 0) (omega arith) c.requires.light;
-      pairs = subst (λ words. ArePairs words c.word_pairs-pairs.result) c.deref.ensures.0 c.word_pairs-pairs.ensures;
+      pairs = subst (λ codewords. ArePairs codewords c.codeword_pairs-pairs.result) c.deref.ensures.0 c.codeword_pairs-pairs.ensures;
       width = c.side-n.ensures.value;
     }
 
@@ -32,14 +32,14 @@ place_two-requires-clause-light c =
     ] in
     let at : AtRow v c.loop-strip.strip c.loop-t.t c.if-strip-n.right c.if-strip-eq0.y =
     record { strip = i.inside; step = inside; column = i.right; row = y } in
-    light_ahead v c.args.words.now.items _ c.loop-t.modules c.args.function.now c.loop-t.i c.loop-strip.strip c.loop-t.t
+    light_ahead v c.args.codewords.now.items _ c.loop-t.modules c.args.function.now c.loop-t.i c.loop-strip.strip c.loop-t.t
     c.if-strip-n.right c.if-strip-eq0.y c.requires.marked i.placed at (c.are_free.ensures c.if-are_free.true)
 
 pub loop-t-preserved : goal.loop-t-preserved
 loop-t-preserved c =
     let v = c.args.version in
     let known = computed v c.side-n.ensures.known.0 c.side-n.ensures.known.1 in
-    let words = c.args.words.now.items in
+    let codewords = c.args.codewords.now.items in
     let i = c.loop-t.invariant in
     let inside : c.loop-t.t < side_of v = omega arith in
     let y : c.if-strip-eq0.y ≡ row_of (side_of v) c.loop-strip.strip c.loop-t.t = elim c.if-strip-eq0.branch [
@@ -53,21 +53,21 @@ loop-t-preserved c =
     record {
       placed = elim c.if-are_free.branch [
         | then-are_free w ↦
-            subst (λ z. Placed v words (value_at c.args.modules.now) (value_at c.if-are_free.modules) z
+            subst (λ z. Placed v codewords (value_at c.args.modules.now) (value_at c.if-are_free.modules) z
             (2 * side_of v * c.loop-strip.strip + 2 * (c.loop-t.t + 1))) (sym w.i-is)
-            (subst (λ z. Placed v words (value_at c.args.modules.now) (value_at z) (c.loop-t.i + 2)
+            (subst (λ z. Placed v codewords (value_at c.args.modules.now) (value_at z) (c.loop-t.i + 2)
             (2 * side_of v * c.loop-strip.strip + 2 * (c.loop-t.t + 1))) (sym w.modules-is)
-            (placed_two v known words (value_at c.args.modules.now) c.loop-t.modules w.place_two.new.modules
+            (placed_two v known codewords (value_at c.args.modules.now) c.loop-t.modules w.place_two.new.modules
             c.args.function.now c.loop-t.i c.loop-strip.strip c.loop-t.t c.if-strip-n.right c.if-strip-eq0.y
             w.two_bits.result
             c.requires.marked i.placed at (c.are_free.ensures w.if-are_free.true)
-            (w.two_bits.ensures.bits words i.pairs) w.place_two.ensures))
+            (w.two_bits.ensures.bits codewords i.pairs) w.place_two.ensures))
         | else-are_free w ↦
-            subst (λ z. Placed v words (value_at c.args.modules.now) (value_at c.if-are_free.modules) z
+            subst (λ z. Placed v codewords (value_at c.args.modules.now) (value_at c.if-are_free.modules) z
             (2 * side_of v * c.loop-strip.strip + 2 * (c.loop-t.t + 1))) (sym w.i-is)
-            (subst (λ z. Placed v words (value_at c.args.modules.now) (value_at z) w.place_module-i-else-are_free.result
+            (subst (λ z. Placed v codewords (value_at c.args.modules.now) (value_at z) w.place_module-i-else-are_free.result
             (2 * side_of v * c.loop-strip.strip + 2 * (c.loop-t.t + 1))) (sym w.modules-is)
-            (placed_pair v known words (value_at c.args.modules.now) c.loop-t.modules w.place_module-i.new.modules
+            (placed_pair v known codewords (value_at c.args.modules.now) c.loop-t.modules w.place_module-i.new.modules
             w.place_module-i-else-are_free.new.modules c.loop-t.i w.place_module-i.result
             w.place_module-i-else-are_free.result
             c.loop-strip.strip c.loop-t.t c.if-strip-n.right c.if-strip-eq0.y c.args.function.now c.requires.marked

@@ -1,8 +1,8 @@
-use Rattle.qrmatrix.proofs.WordPairs.{up_narrow, two_written}
+use Rattle.qrmatrix.proofs.CodewordPairLaws.{up_narrow, two_written}
 use Rattle.qrmatrix.proofs.placement.place_two.Goals as goal
 
-pub flip-requires-clause-word : goal.flip-requires-clause-word
-flip-requires-clause-word c = up_narrow c.args.two c.args.x c.requires.bits c.requires.column
+pub flip-requires-clause-row_bits : goal.flip-requires-clause-row_bits
+flip-requires-clause-row_bits c = up_narrow c.args.two c.args.x c.requires.bits c.requires.column
 
 pub returns : goal.returns
 returns c = two_written c.args.modules.now c.flip.new.self c.args.two c.args.x c.args.y c.requires.bits

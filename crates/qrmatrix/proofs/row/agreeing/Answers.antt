@@ -1,5 +1,5 @@
 use Rattle.std.proofs.Common.{arith}
-use Rattle.qrmatrix.proofs.RowBits.{same_bit}
+use Rattle.qrmatrix.proofs.RowBitsLaws.{same_bit}
 use Rattle.qrmatrix.proofs.row.agreeing.Goals as goal
 
 pub returns : goal.returns

@@ -1,5 +1,5 @@
 use Rattle.std.proofs.Common.{refl}
-use Rattle.qrmatrix.proofs.RowBits.{and_bit}
+use Rattle.qrmatrix.proofs.RowBitsLaws.{and_bit}
 use Rattle.qrmatrix.proofs.row.agreeing_five.Goals as goal
 
 pub returns : goal.returns

@@ -2,7 +2,7 @@ use Rattle.std.proofs.Common.{◌∙◌, ap, arith, ◌-◌, ◌^◌, ◌≤◌}
 use Rattle.std.proofs.lemmas.Nat.{one_shl}
 use Rattle.std.proofs.Math.Pow.{pow_mono}
 use Rattle.qrmatrix.specs.Bits.{bit}
-use Rattle.qrmatrix.proofs.RowBits.{low_bit}
+use Rattle.qrmatrix.proofs.RowBitsLaws.{low_bit}
 use Rattle.qrmatrix.proofs.row.low_ones.Goals as goal
 
 pub returns-clause-value : goal.returns-clause-value

@@ -2,9 +2,9 @@ use Rattle.std.proofs.Common.{◌≡◌, arith, ap, ◌&&◌}
 use Rattle.std.specs.Prelude.{bit_and}
 use Rattle.qrmatrix.specs.Bits.{bit}
 use Rattle.qrmatrix.specs.Counting.{count_below, one_if}
-use Rattle.qrmatrix.proofs.Sums.{sum_below_same}
-use Rattle.qrmatrix.proofs.RowBits.{and_bit}
-use Rattle.qrmatrix.proofs.RowSums.{weighed}
+use Rattle.qrmatrix.proofs.SumLaws.{sum_below_same}
+use Rattle.qrmatrix.proofs.RowBitsLaws.{and_bit}
+use Rattle.qrmatrix.proofs.RowSumLaws.{weighed}
 use Rattle.qrmatrix.proofs.row.run_points.Goals as goal
 
 pub returns-clause-value : goal.returns-clause-value

@@ -1,19 +1,19 @@
 use Rattle.std.proofs.Common.{◌∙◌, not}
 use Rattle.qrdata.specs.Versions.{side_of}
-use Rattle.qrmatrix.specs.Private.Drawing.{drawn_by}
+use Rattle.qrmatrix.specs.Private.Drawing.{unmasked_module}
 use Rattle.qrmatrix.specs.Functions.{is_free, role}
-use Rattle.qrmatrix.proofs.FunctionWords.{fits}
-use Rattle.qrmatrix.proofs.Passes.{row_turned}
-use Rattle.qrmatrix.proofs.RowBits.{above_bit}
-use Rattle.qrmatrix.proofs.UnderMask.{flip_light}
+use Rattle.qrmatrix.proofs.FunctionRowLaws.{fits}
+use Rattle.qrmatrix.proofs.PassLaws.{row_turned}
+use Rattle.qrmatrix.proofs.RowBitsLaws.{above_bit}
+use Rattle.qrmatrix.proofs.UnderMaskLaws.{flip_light}
 use Rattle.qrmatrix.proofs.unmasked.draw_functions.Goals as goal
 
-pub flip-requires-clause-word : goal.flip-requires-clause-word
-flip-requires-clause-word c = fits c.args.version c.function_row-row.result.taken c.side-n.ensures.known.1
+pub flip-requires-clause-row_bits : goal.flip-requires-clause-row_bits
+flip-requires-clause-row_bits c = fits c.args.version c.function_row-row.result.taken c.side-n.ensures.known.1
     c.function_row-row.ensures.narrow_taken
 
-pub flip-requires-in-loop-y-clause-word : goal.flip-requires-in-loop-y-clause-word
-flip-requires-in-loop-y-clause-word c = fits c.args.version c.function_row-row.result.dark c.side-n.ensures.known.1
+pub flip-requires-in-loop-y-clause-row_bits : goal.flip-requires-in-loop-y-clause-row_bits
+flip-requires-in-loop-y-clause-row_bits c = fits c.args.version c.function_row-row.result.dark c.side-n.ensures.known.1
     c.function_row-row.ensures.narrow_dark
 
 pub loop-y-preserved : goal.loop-y-preserved
@@ -29,7 +29,7 @@ loop-y-preserved c =
           (λ x l. rw (c.requires.blank_function x y) (flip_light _ ∙ has.taken x l))
           (λ x g. above_bit row.taken n x has.narrow_taken g);
       modules = row_turned n y row.dark c.args.modules.now c.loop-y.modules c.flip-in-loop-y.new.self
-          (λ x y. drawn_by v (role v x y)) c.loop-y.invariant.modules c.flip-in-loop-y.ensures
+          (λ x y. unmasked_module v (role v x y)) c.loop-y.invariant.modules c.flip-in-loop-y.ensures
           (λ x l. rw (c.requires.blank_modules x y) (flip_light _ ∙ has.dark x l))
           (λ x g. above_bit row.dark n x has.narrow_dark g);
       width = c.loop-y.invariant.width;

@@ -1,11 +1,11 @@
-use Rattle.std.proofs.Common.{◌≡◌, ◌||◌, refl, sym, subst, length}
+use Rattle.std.proofs.Common.{◌≡◌, ◌∙◌, ap, refl, sym, subst, length}
 use Rattle.device.specs.Lines.{open_line, ended_lines}
 use Rattle.filter.specs.Filter.{FilterState, StandsAt}
-use Rattle.filter.specs.Output.{outcome, is_refusal, line_number}
+use Rattle.filter.specs.Output.{outcome, is_refusal, line_number, status_if}
+use Rattle.filter.specs.Private.LineEnd.{worst}
 use Rattle.filter.proofs.FilterLemmas.{StandsAt-other, StandsAt-lf, line_number-counts, TookPiece-other, TookPiece-lf}
 use Rattle.filter.proofs.FilterLemmas.{StopsInPiece-lf}
 use Rattle.filter.proofs.filter.Filter.feed_byte.Goals as goal
-use Rattle.filter.proofs.filter.Filter.feed_byte.Goals.{then-self, else-self}
 
 pub returns-then-byte-ne10-clause-feeds : goal.returns-then-byte-ne10-clause-feeds
 returns-then-byte-ne10-clause-feeds g c options text at =
@@ -16,21 +16,17 @@ returns-then-byte-ne10-clause-feeds g c options text at =
           (g.met.E.Sink.took_none _),
     )
 
-pub returns-after-self-clause-feeds : goal.returns-after-self-clause-feeds
-returns-after-self-clause-feeds g c options text at =
+pub returns-in-Ok-clause-feeds : goal.returns-in-Ok-clause-feeds
+returns-in-Ok-clause-feeds g c options text at =
     let at' = subst (λ (s : FilterState). StandsAt options s text) (sym c.self.view_is) at in
     let o : c.self.inside.options ≡ options = at'.options_are in
     let n : c.saturating_add-self-inside.result ≡ line_number (length (ended_lines text)) =
     line_number-counts options _ text at' c.saturating_add-self-inside.result
     c.saturating_add-self-inside.ensures in
     let ends = rw (o, n) at (c.in-Ok.ensures.ends (open_line text) at'.line) in
-    let refused : c.if-self.self ≡ (c.self.inside.is_refused || is_refusal (outcome options (open_line text))) =
-    elim c.if-self.branch [
-      | then-self w ↦ rw (w.self-is, w.if-self.true)
-      | else-self w ↦
-          rw (w.self-is, w.if-self.false) ends.refused
-    ] in (
-      StandsAt-lf options _ _ text c.args.byte at' c.if-byte-ne10.false refl c.clear.ensures n refused refl,
+    let status : c.worst-self-inside.result ≡ worst c.self.inside.status (status_if (is_refusal (outcome options (open_line text)))) =
+    c.worst-self-inside.ensures ∙ ap (worst c.self.inside.status) ends.status_is in (
+      StandsAt-lf options _ _ text c.args.byte at' c.if-byte-ne10.false refl c.clear.ensures n status refl,
       TookPiece-lf options _ _ text c.args.byte c.if-byte-ne10.false ends.image ends.message ends.read,
     )
 

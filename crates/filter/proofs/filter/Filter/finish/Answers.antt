@@ -10,23 +10,14 @@ returns-in_err-flush_both-clause-ends g c options text at =
     rw (p.1, p.2) (inr (TookLines-flushed options g.O.Sink.took g.E.Sink.took g.met.O.Sink.took_joined
     g.met.E.Sink.took_joined c.args.out.now c.finish_open_line.new.out c.flush_both.new.out c.args.err.now
     c.finish_open_line.new.err c.flush_both.new.err
-    (length (ended_lines text)) (unless_empty (open_line text)) (c.in_ok-refused.ensures.took options text at)
+    (length (ended_lines text)) (unless_empty (open_line text)) (c.in_ok-status.ensures.took options text at)
     c.in_err-flush_both.ensures.out_takes_none c.in_err-flush_both.ensures.err_takes_none))
 
-pub returns-then-refused-clause-ends : goal.returns-then-refused-clause-ends
-returns-then-refused-clause-ends g c options text at = (
-  rw (← c.in_ok-refused.ensures.refused options text at, c.if-refused.true) refl,
+pub returns-clause-ends : goal.returns-clause-ends
+returns-clause-ends g c options text at = (
+  c.in_ok-status.ensures.status options text at,
   TookLines-flushed options g.O.Sink.took g.E.Sink.took g.met.O.Sink.took_joined g.met.E.Sink.took_joined c.args.out.now
       c.finish_open_line.new.out c.flush_both.new.out c.args.err.now c.finish_open_line.new.err c.flush_both.new.err
-      (length (ended_lines text)) (unless_empty (open_line text)) (c.in_ok-refused.ensures.took options text at)
-      c.in_ok-flush_both.ensures.out_takes_none c.in_ok-flush_both.ensures.err_takes_none,
-)
-
-pub returns-else-refused-clause-ends : goal.returns-else-refused-clause-ends
-returns-else-refused-clause-ends g c options text at = (
-  rw (← c.in_ok-refused.ensures.refused options text at, c.if-refused.false) refl,
-  TookLines-flushed options g.O.Sink.took g.E.Sink.took g.met.O.Sink.took_joined g.met.E.Sink.took_joined c.args.out.now
-      c.finish_open_line.new.out c.flush_both.new.out c.args.err.now c.finish_open_line.new.err c.flush_both.new.err
-      (length (ended_lines text)) (unless_empty (open_line text)) (c.in_ok-refused.ensures.took options text at)
+      (length (ended_lines text)) (unless_empty (open_line text)) (c.in_ok-status.ensures.took options text at)
       c.in_ok-flush_both.ensures.out_takes_none c.in_ok-flush_both.ensures.err_takes_none,
 )

@@ -1,4 +1,5 @@
 use Rattle.std.proofs.Common.{refl, false}
+use Rattle.filter.specs.declared.status.Status.TheVariants.{Clean}
 use Rattle.filter.proofs.FilterLemmas.{StandsAt-new}
 use Rattle.filter.proofs.filter.Filter.new.Goals as goal
 
@@ -7,6 +8,6 @@ returns c = StandsAt-new c.args.options (record {
   options = c.args.options;
   line = c.new.result;
   line_count = 0;
-  is_refused = false;
+  status = Clean;
   is_spent = false;
 }) refl c.new.ensures refl refl refl

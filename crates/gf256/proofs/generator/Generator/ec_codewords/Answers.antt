@@ -5,10 +5,10 @@ use Rattle.std.proofs.lemmas.List.Elements.{All-from_get_or}
 use Rattle.gf256.specs.Field.{alpha, field_power, field_product, IsElement}
 use Rattle.gf256.specs.Polynomial.{zeros}
 use Rattle.gf256.specs.ErrorCorrection.{IsRemainder}
-use Rattle.gf256.proofs.Division.{shifted, register_after}
+use Rattle.gf256.proofs.DivisionLaws.{next_register, register_after}
 use Rattle.gf256.proofs.GeneratorLaws.{low_of, length-low_of, IsRemainder-register, ec_codewords_of-register}
 use Rattle.gf256.proofs.GeneratorLaws.{IsRemainder-unique, HasRoots-remainder}
-use Rattle.gf256.proofs.Places.{power_at, shifted-places}
+use Rattle.gf256.proofs.RegisterLaws.{power_at, next_register-places}
 use Rattle.gf256.proofs.generator.Generator.ec_codewords.Goals as goal
 
 pub loop-codeword-preserved : goal.loop-codeword-preserved
@@ -28,8 +28,8 @@ loop-codeword-preserved c =
     λ j h. c.shift.ensures j h ∙ ap (λ x. bit_xor (get_or old (j + 1) 0)
     (field_product (bit_xor (get_or old 0 0) codeword) x))
     (power_at logarithms j (omega arith) ∙ ap (λ l. get_or l j 0) low) in
-    let same : new ≡ shifted (low_of k) old codeword =
-    shifted-places (low_of k) old new codeword
+    let same : new ≡ next_register (low_of k) old codeword =
+    next_register-places (low_of k) old new codeword
     (omega (arith, length-low_of k, c.self.view_is, c.self.invariant.0))
     (omega (arith, length-low_of k, c.loop-codeword.auto.out, c.clear.auto.register, c.requires))
     c.shift.auto.register

@@ -1,5 +1,5 @@
 use Rattle.std.proofs.Common.{◌∙◌, sym}
-use Rattle.picture.proofs.SampleLemmas.{pixel_row-bars}
+use Rattle.picture.proofs.SampleLaws.{pixel_row-bars}
 use Rattle.picture.proofs.bars.BarsGrid.read_row.Goals as goal
 
 pub returns : goal.returns

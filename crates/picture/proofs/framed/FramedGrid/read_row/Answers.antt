@@ -1,7 +1,6 @@
 use Rattle.std.proofs.Common.{◌≡◌, ◌∙◌, ℕ, false, length, ap, arith}
 use Rattle.std.proofs.Math.ListN.{replicate}
-use Rattle.picture.specs.Picture.{Zone}
-use Rattle.picture.proofs.GridLemmas.{framed_row_above, framed_row_below, framed_put}
+use Rattle.picture.proofs.GridLaws.{pixel_row-above, pixel_row-below, put_mid-pixel_row}
 use Rattle.picture.proofs.framed.FramedGrid.read_row.Goals as goal
 use Rattle.picture.proofs.framed.FramedGrid.read_row.Goals.{else-self-y-via-then-self-y+else-y-self}
 use Rattle.picture.proofs.framed.FramedGrid.read_row.Goals.{else-self-y-via-else-self-y}
@@ -9,20 +8,18 @@ use Rattle.picture.proofs.framed.FramedGrid.read_row.Goals.{else-self-y-via-else
 pub returns-then-y-self : goal.returns-then-y-self
 returns-then-y-self g c =
     let p = g.G.Grid.picture c.args.self.now.grid in
-    let s = c.args.self.now in
-    let zone : Zone = record { left = s.left; right = s.right; top = s.top; bottom = s.bottom } in
+    let zone = c.args.self.now.zone in
     let light : c.fill.new.self ≡ replicate (length c.args.pixels.now) false = c.fill.ensures.after (λ y e. e) in
-    framed_put p zone c.args.y c.fill.new.self c.read_row.new.pixels c.width.result
+    put_mid-pixel_row p zone c.args.y c.fill.new.self c.read_row.new.pixels c.width.result
     (light ∙ ap (λ (n : ℕ). replicate n false) c.requires.whole) c.width.ensures (omega arith)
     (omega (arith, c.height.ensures)) c.read_row.ensures
 
 pub returns-else-self-y : goal.returns-else-self-y
 returns-else-self-y g c =
     let p = g.G.Grid.picture c.args.self.now.grid in
-    let s = c.args.self.now in
-    let zone : Zone = record { left = s.left; right = s.right; top = s.top; bottom = s.bottom } in
+    let zone = c.args.self.now.zone in
     let light : c.fill.new.self ≡ replicate (length c.args.pixels.now) false = c.fill.ensures.after (λ y e. e) in
     light ∙ (ap (λ (n : ℕ). replicate n false) c.requires.whole ∙ elim c.else-self-y.branch [
-      | else-self-y-via-then-self-y+else-y-self w ↦ framed_row_below p zone c.args.y (omega (arith, w.height.ensures))
-      | else-self-y-via-else-self-y w ↦ framed_row_above p zone c.args.y (omega arith)
+      | else-self-y-via-then-self-y+else-y-self w ↦ pixel_row-below p zone c.args.y (omega (arith, w.height.ensures))
+      | else-self-y-via-else-self-y w ↦ pixel_row-above p zone c.args.y (omega arith)
     ])

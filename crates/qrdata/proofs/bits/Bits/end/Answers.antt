@@ -3,10 +3,10 @@ use Rattle.std.proofs.Common.{false, min, Bool}
 use Rattle.std.proofs.lemmas.List.Elements.{recursion_from_All}
 use Rattle.qrdata.specs.Bits.{bits_of}
 use Rattle.qrdata.specs.Private.BitsInCodewords.{bits_in}
-use Rattle.qrdata.specs.Codewords.{aligned, terminated}
-use Rattle.qrdata.proofs.BitStrings.{length-bits_of}
-use Rattle.qrdata.proofs.Padding.{aligned_is}
-use Rattle.qrdata.proofs.Writing.{aligned-fits, bits_of-zero, length-bits_in, whole_codewords}
+use Rattle.qrdata.specs.Codewords.{with_zeros, with_terminator}
+use Rattle.qrdata.proofs.BitStringLaws.{length-bits_of}
+use Rattle.qrdata.proofs.PaddingLaws.{with_zeros-whole}
+use Rattle.qrdata.proofs.WriterLaws.{with_zeros-fits, bits_of-zero, length-bits_in, whole_codewords}
 use Rattle.qrdata.proofs.bits.Bits.end.Goals as goal
 
 pub push_number-requires-2-clause-room : goal.push_number-requires-2-clause-room
@@ -26,7 +26,7 @@ push_number-requires-2-clause-room c =
     )
 
 pub returns-clause-bits : goal.returns-clause-bits
-unfolding aligned terminated
+unfolding with_zeros with_terminator
 returns-clause-bits c =
     let bits = bits_in c.args.self.now in
     let rest = c.push_number.new.self.rest in
@@ -42,7 +42,7 @@ returns-clause-bits c =
 
 pub returns-clause-codewords : goal.returns-clause-codewords
 returns-clause-codewords c =
-    let size = aligned_is c.args.size (bits_in c.args.self.now) c.requires.fits in
+    let size = with_zeros-whole c.args.size (bits_in c.args.self.now) c.requires.fits in
     let codewords = c.push_number-2.new.self.codewords.items in
     let rest = c.push_number-2.new.self.rest in
     whole_codewords codewords rest.count rest.number size.0
@@ -51,5 +51,5 @@ returns-clause-codewords c =
 
 pub returns-clause-count : goal.returns-clause-count
 returns-clause-count c =
-    let fits = aligned-fits c.args.size (bits_in c.args.self.now) c.requires.fits in
+    let fits = with_zeros-fits c.args.size (bits_in c.args.self.now) c.requires.fits in
     omega (arith, ap length (returns-clause-bits c), fits, length-bits_in c.push_number-2.new.self)

@@ -4,9 +4,9 @@ use Rattle.std.proofs.Math.Nat.{mod-lt}
 use Rattle.std.proofs.lemmas.Nat.{pow_pos}
 use Rattle.qrdata.specs.Bits.{bits_of}
 use Rattle.qrdata.specs.Segments.{byte_bits}
-use Rattle.qrdata.proofs.BitStrings.{bits_of-joined, bits_of-low, bits_of-parts, high_byte-lt, joined-lt}
-use Rattle.qrdata.proofs.BitStrings.{length-bits_of}
-use Rattle.qrdata.proofs.Padding.{byte_bits-append, byte_bits-single, length-byte_bits}
+use Rattle.qrdata.proofs.BitStringLaws.{bits_of-joined, bits_of-low, bits_of-parts, high_byte-lt, joined-lt}
+use Rattle.qrdata.proofs.BitStringLaws.{length-bits_of}
+use Rattle.qrdata.proofs.PaddingLaws.{byte_bits-append, byte_bits-single, length-byte_bits}
 use Rattle.qrdata.proofs.bits.Bits.push_number.Goals as goal
 
 pub loop-count-init : goal.loop-count-init

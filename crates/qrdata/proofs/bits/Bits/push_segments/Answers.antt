@@ -3,8 +3,8 @@ use Rattle.std.proofs.Common.{length-append}
 use Rattle.qrdata.specs.Private.BitsInCodewords.{bits_in}
 use Rattle.qrdata.specs.Segments.{segment_bits}
 use Rattle.std.proofs.lemmas.List.{drop-drop, length-drop}
-use Rattle.qrdata.proofs.Writing.{default_segment, IsSegmentation-next, length-segment_bits_front, cost-next}
-use Rattle.qrdata.proofs.Writing.{segments_bits-next, segments_bits-none_left}
+use Rattle.qrdata.proofs.WriterLaws.{default_segment, IsSegmentation-next, length-segment_bits_front, cost-next}
+use Rattle.qrdata.proofs.WriterLaws.{segments_bits-next, segments_bits-none_left}
 use Rattle.qrdata.proofs.bits.Bits.push_segments.Goals as goal
 
 pub loop-segment-preserved : goal.loop-segment-preserved

@@ -1,5 +1,5 @@
 use Rattle.qrdata.specs.declared.level.Level.TheVariants.{L, M, Q, H}
-use Rattle.qrdata.proofs.VersionTable.{coded_is}
+use Rattle.qrdata.proofs.VersionLaws.{coded_is}
 use Rattle.qrdata.proofs.version.Version.block_count.Goals as goal
 
 pub returns-in-L : goal.returns-in-L

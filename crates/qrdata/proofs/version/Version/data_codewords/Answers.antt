@@ -1,5 +1,5 @@
 use Rattle.std.proofs.Common.{◌≤◌, ◌*◌, arith, sym}
-use Rattle.qrdata.proofs.VersionTable.{HasSoundBlocks-of, data_codewords-is}
+use Rattle.qrdata.proofs.VersionLaws.{HasSoundBlocks-of, data_codewords-is}
 use Rattle.qrdata.proofs.version.Version.data_codewords.Goals as goal
 
 pub overflow_sub-result : goal.overflow_sub-result

@@ -1,7 +1,7 @@
 use Rattle.std.proofs.Common.{◌-◌, ◌/◌, ◌%◌, ◌<◌, length, replicate, arith, ap, length-append}
 use Rattle.std.proofs.Math.Nat.{mod-lt, div-le_self}
 use Rattle.std.proofs.lemmas.List.{length-replicate}
-use Rattle.qrdata.proofs.VersionTable.{block_lengths-even, capacity-le, HasSoundBlocks-of}
+use Rattle.qrdata.proofs.VersionLaws.{block_lengths-even, capacity-le, HasSoundBlocks-of}
 use Rattle.qrdata.proofs.version.Version.lengths.Goals as goal
 
 pub nonzero_rem-codewords : goal.nonzero_rem-codewords

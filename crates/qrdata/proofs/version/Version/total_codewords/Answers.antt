@@ -1,4 +1,4 @@
-use Rattle.qrdata.proofs.VersionTable.{coded_total_is}
+use Rattle.qrdata.proofs.VersionLaws.{coded_total_is}
 use Rattle.qrdata.proofs.version.Version.total_codewords.Goals as goal
 
 pub returns : goal.returns

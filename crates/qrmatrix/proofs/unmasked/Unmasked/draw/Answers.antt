@@ -1,6 +1,6 @@
 use Rattle.std.proofs.Common.{◌∙◌}
 use Rattle.qrmatrix.specs.Functions.{is_free, role}
-use Rattle.qrmatrix.proofs.UnderMask.{free_is_light}
+use Rattle.qrmatrix.proofs.UnderMaskLaws.{free_is_light}
 use Rattle.qrmatrix.proofs.unmasked.Unmasked.draw.Goals as goal
 
 pub place-requires-clause-light : goal.place-requires-clause-light

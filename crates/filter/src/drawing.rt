@@ -1,0 +1,146 @@
+//! Drawing the symbol of a line.
+ghost use Rattle.std.specs.Prelude.{◌≡◌, ◌≢◌, ◌+◌, ◌≤◌, []};
+ghost use Rattle.device.specs.Writing.{WritesText};
+ghost use Rattle.labelcore.specs.LineItem.{outcome_of};
+ghost use Rattle.labelcore.specs.declared.symbology.Symbology.TheVariants.{Qr};
+ghost use Rattle.picture.specs.Picture.{enlargement, symbol_picture};
+ghost use Rattle.qrdata.specs.Fewest.{chosen_segments};
+ghost use Rattle.filter.specs.Drawing.{DrawsOutcome};
+ghost use Rattle.filter.specs.Output.{outcome_of_data, text_of};
+ghost use Rattle.filter.specs.Private.LineEnd.{IsLinear};
+ghost use Rattle.filter.specs.Readback.{IsReadable};
+ghost use Rattle.filter.specs.Symbol.{linear_symbol, qr_codewords, qr_modules};
+
+use device::{IoFault, Sink};
+use labelcore::{Fault, Format, Options, Symbology};
+use linear::{Code128, Ean8, Ean13, Linear, Row, UpcA};
+use picture::{Bars, Framed, Grid, QuietZone, Scaled, reading_laws, write_ascii, write_pbm};
+use qrdata::{Codewords, Plan, Version, choose, codewords};
+use qrmatrix::Matrix;
+
+/// Draws one symbol: writes the image of data in a symbology, under these options, and flushes nothing. No line of text
+/// is needed. The inner result says whether the data is refused; nothing is written then.
+///
+/// The image reads back as the full data of the symbol: the data, for EAN and UPC with the check digit.
+///
+/// # Errors
+///
+/// `IoFault` where a write fails: the sink took a beginning of the image.
+#[tactic(auto, unfolding(crate::specs::Symbol::symbol_of))]
+pub fn draw<O: Sink>(
+    options: &Options,
+    symbology: Symbology,
+    bytes: &[u8],
+    out: &mut O,
+) -> Result<Result<(), Fault>, IoFault>
+    requires { bytes.now ≢ [] }
+    ensures { DrawsOutcome O.Sink out.old out.new options.now
+        (outcome_of_data options.now symbology bytes.now) result }
+{
+    match symbology {
+        Symbology::Ean13 => draw_linear::<Ean13, O>(options, bytes, out),
+        Symbology::Ean8 => draw_linear::<Ean8, O>(options, bytes, out),
+        Symbology::UpcA => draw_linear::<UpcA, O>(options, bytes, out),
+        Symbology::Code128 => draw_linear::<Code128, O>(options, bytes, out),
+        Symbology::Qr => draw_qr(options, bytes, out),
+    }
+}
+
+/// Draws a linear symbol.
+fn draw_linear<L: Linear, O: Sink>(
+    options: &Options,
+    bytes: &[u8],
+    out: &mut O,
+) -> Result<Result<(), Fault>, IoFault>
+    requires some { bytes.now ≢ [] }
+    requires narrow { L.QUIET_LEFT + L.QUIET_RIGHT ≤ 20 }
+    ensures { (symbology : Symbology) → IsLinear symbology L.QUIET_LEFT L.QUIET_RIGHT L.reading
+        → DrawsOutcome O.Sink out.old out.new options.now
+        (outcome_of (linear_symbol symbology L.row_of options.now (L.full_data bytes.now))) result }
+{
+    reading_laws();
+    let mut row = Row::new();
+    if let Err(refusal) = L::encode(bytes, &mut row) {
+        return Ok(Err(Fault::from(refusal)));
+    }
+    let bars = Bars::new(row.as_slice(), usize::from(options.height()));
+    let zone = QuietZone {
+        left: L::QUIET_LEFT,
+        right: L::QUIET_RIGHT,
+        top: 0,
+        bottom: 0,
+    };
+    write_picture(options, Framed::new(bars, zone), out)?;
+    Ok(Ok(()))
+}
+
+/// Draws a QR symbol.
+#[tactic(auto, unfolding(crate::specs::Symbol::symbol_of))]
+fn draw_qr<O: Sink>(
+    options: &Options,
+    bytes: &[u8],
+    out: &mut O,
+) -> Result<Result<(), Fault>, IoFault>
+    ensures { DrawsOutcome O.Sink out.old out.new options.now
+        (outcome_of_data options.now Qr bytes.now) result }
+{
+    let min_version = Version::of(options.min_version());
+    match choose(min_version, options.level(), bytes) {
+        Ok(plan) => {
+            let zone = QuietZone {
+                left: 4,
+                right: 4,
+                top: 4,
+                bottom: 4,
+            };
+            write_picture(options, Framed::new(matrix_of(options, &plan), zone), out)?;
+            Ok(Ok(()))
+        }
+        Err(refusal) => Ok(Err(Fault::from(refusal))),
+    }
+}
+
+/// The symbol of a plan.
+#[tactic(auto, unfolding(crate::specs::Symbol::qr_modules, crate::specs::Symbol::qr_codewords))]
+fn matrix_of(options: &Options, plan: &Plan) -> Matrix
+    requires chosen { plan.now.segments ≡ chosen_segments plan.now.version plan.now.bytes }
+    requires level { plan.now.level ≡ options.now.level }
+    ensures modules { symbol_picture result ≡ qr_modules options.now plan.now.version
+        (qr_codewords options.now plan.now.bytes plan.now.version) }
+    ensures side { result.side ≤ 57 }
+    ensures read { IsReadable (record {
+      symbology = Qr;
+      full = plan.now.bytes;
+      modules = symbol_picture result;
+    }) }
+{
+    reading_laws();
+    let mut all = Codewords::new();
+    codewords(plan, &mut all);
+    Matrix::draw(plan.version(), plan.level(), options.mask(), &all)
+}
+
+/// Writes the text of a picture, each of its modules a square of pixels.
+fn write_picture<G: Grid + Drop, O: Sink>(
+    options: &Options,
+    grid: G,
+    out: &mut O,
+) -> Result<(), IoFault>
+    requires width { (G.picture grid).width ≤ 1815 }
+    requires height { (G.picture grid).height ≤ 500 }
+    ensures { WritesText O.Sink out.old out.new
+        (text_of options.now.format (enlargement (G.picture grid) options.now.scale)) result }
+{
+    let picture = Scaled::new(grid, usize::from(options.scale()));
+    write_text(options.format(), &picture, out)
+}
+
+/// Writes the text of a picture.
+fn write_text<G: Grid, O: Sink>(format: Format, picture: &G, out: &mut O) -> Result<(), IoFault>
+    ensures { WritesText O.Sink out.old out.new (text_of format (G.picture picture.now)) result }
+{
+    match format {
+        Format::Pbm => write_pbm(picture, out),
+        Format::Ascii => write_ascii(picture, out),
+    }
+}

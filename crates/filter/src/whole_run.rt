@@ -1,0 +1,60 @@
+//! A run over a whole input.
+ghost use Rattle.std.specs.Prelude.{◌≡◌, ℕ, true, List, OnOk, IfOk, IfErr};
+ghost use Rattle.filter.specs.Line.{FlushedImagesAtMost};
+ghost use Rattle.filter.specs.Run.{RunsWhole, RunStops, RunRaises, GaveTooMuch};
+
+use crate::filter::Filter;
+use crate::status::{RunFault, Status};
+use device::{Sink, Source};
+use labelcore::Options;
+use picture::reading_laws;
+
+/// Reads the source to its end, at most 4,096 bytes a read, and writes the images of its lines to `out`, their messages
+/// to `err`. Before each read and each message, `out` passes on what it has buffered. The status says whether a line was
+/// refused.
+///
+/// # Errors
+///
+/// `Read`, `WriteOut` and `WriteMessages` say which device failed; `Spent` is never returned. After `Read` every ended
+/// line's text is whole, the open line is not drawn and nothing is flushed. `Read` also comes after 2^64 - 1 reads that
+/// gave bytes.
+pub fn run<S: Source, O: Sink, E: Sink>(
+    options: Options,
+    source: &mut S,
+    out: &mut O,
+    err: &mut E,
+) -> Result<Status, RunFault>
+    ensures whole { IfOk result (RunsWhole options (S.gave source.old source.new)
+        (O.took out.old out.new) (E.took err.old err.new)) }
+    ensures ended { OnOk result (S.at_end source.new ≡ true) }
+    ensures nothing_left { OnOk result (S.ends source.new) }
+    ensures flushed { OnOk result ((O.is_flushed out.new ≡ true) × (E.is_flushed err.new ≡ true)) }
+    ensures no_failure { OnOk result ((S.failures source.new ≡ S.failures source.old)
+        × (O.failures out.new ≡ O.failures out.old) × (E.failures err.new ≡ E.failures err.old)) }
+    ensures stops { IfErr result (λ fault. (text : List ℕ) × S.gave source.old source.new text
+        × RunStops options (O.took out.old out.new) (E.took err.old err.new) text fault) }
+    ensures order { IfErr result (FlushedImagesAtMost (O.is_flushed out.old) (O.is_flushed out.new)
+        (E.is_flushed err.old) (E.is_flushed err.new)) }
+    ensures failure { IfErr result (RunRaises (GaveTooMuch (S.gave source.old source.new))
+        (S.failures source.old) (S.failures source.new) (O.failures out.old) (O.failures out.new)
+        (E.failures err.old) (E.failures err.new)) }
+{
+    options.ranges();
+    reading_laws();
+    let mut filter = Filter::new(options);
+    let mut buffer = [0u8; 4096];
+    for _turn in 0..u64::MAX {
+        // A read may wait: the texts of earlier lines go out before it.
+        if out.pass_on().is_err() {
+            return Err(RunFault::WriteOut);
+        }
+        let Ok(count) = source.read(&mut buffer) else {
+            return Err(RunFault::Read);
+        };
+        if count == 0 {
+            return filter.finish(out, err);
+        }
+        filter.feed(&buffer[..count], out, err)?;
+    }
+    Err(RunFault::Read)
+}

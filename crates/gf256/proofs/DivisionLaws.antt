@@ -1,0 +1,255 @@
+-- The shift register divides by the generator, and the remainder is the only one.
+use Rattle.std.proofs.Common.{◌≡◌, ℕ, suc, ◌+◌, ◌-◌, ◌<◌, List, [], ◌∷◌, ◌++◌, length, drop, get_or, refl, sym, ap, ◌∙◌}
+use Rattle.std.proofs.Common.{arith}
+use Rattle.std.specs.Prelude.{bit_xor, All}
+use Rattle.std.specs.Int.Bits.{xor_zero_r}
+use Rattle.std.proofs.lemmas.List.{length-append, append-nil, append_assoc}
+use Rattle.std.proofs.lemmas.List.Elements.{All-head, All-tail, All-cons, All-nil, All-append}
+use Rattle.std.proofs.lemmas.Nat.{xor_of_8}
+use Rattle.gf256.specs.Field.{field_product, IsElement}
+use Rattle.gf256.specs.ErrorCorrection.{long_division}
+use Rattle.gf256.specs.Polynomial.{zeros, polynomial_sum, scalar_multiple, polynomial_product}
+use Rattle.gf256.proofs.FieldLaws.{field_product-lt, field_product-one_right}
+use Rattle.gf256.proofs.PolynomialSumLaws.{length-zeros, polynomial_sum-assoc, polynomial_sum-comm}
+use Rattle.gf256.proofs.PolynomialSumLaws.{polynomial_sum-zeros_left, polynomial_sum-twice, length-polynomial_sum}
+use Rattle.gf256.proofs.PolynomialSumLaws.{polynomial_sum-append, length-scalar_multiple}
+
+-- the register of a division by x^k + low after one more codeword: the highest codeword and the new codeword
+-- are fed back
+unfoldable pub next_register : (low register : List ℕ) → ℕ → List ℕ
+next_register low register codeword =
+    polynomial_sum (drop 1 register ++ 0 ∷ []) (scalar_multiple (bit_xor (get_or register 0 0) codeword) low)
+
+-- the register after all codewords
+unfoldable pub register_after : (low register codewords : List ℕ) → List ℕ
+register_after low register [] = register
+register_after low register (codeword ∷ codewords) = register_after low (next_register low register codeword) codewords
+
+-- the codewords that were fed back
+unfoldable pub quotient_of : (low register codewords : List ℕ) → List ℕ
+quotient_of low register [] = []
+quotient_of low register (codeword ∷ codewords) =
+    bit_xor (get_or register 0 0) codeword ∷ quotient_of low (next_register low register codeword) codewords
+
+pub length-next_register : (low register : List ℕ) (codeword : ℕ) → 0 < length low → length register ≡ length low
+    → length (next_register low register codeword) ≡ length low
+unfolding next_register
+length-next_register low [] codeword pos h = absurd (omega arith)
+length-next_register low (r ∷ rs) codeword pos h =
+    length-polynomial_sum (rs ++ 0 ∷ []) (scalar_multiple (bit_xor r codeword) low)
+    (omega (arith, length-append rs (0 ∷ []), length-scalar_multiple (bit_xor r codeword) low))
+    ∙ length-scalar_multiple (bit_xor r codeword) low
+
+pub length-quotient_of : (low register codewords : List ℕ) → length (quotient_of low register codewords) ≡ length codewords
+unfolding quotient_of
+length-quotient_of low register [] = refl
+length-quotient_of low register (codeword ∷ codewords) = ap suc (length-quotient_of low (next_register low register codeword) codewords)
+
+pub All-polynomial_sum : (p q : List ℕ) → All IsElement p → All IsElement q → All IsElement (polynomial_sum p q)
+unfolding polynomial_sum
+All-polynomial_sum [] q hp hq = hq
+All-polynomial_sum (a ∷ p) [] hp hq = hp
+All-polynomial_sum (a ∷ p) (b ∷ q) hp hq =
+    All-cons IsElement (bit_xor a b) (polynomial_sum p q)
+    (xor_of_8 a b (All-head IsElement a p hp) (All-head IsElement b q hq))
+    (All-polynomial_sum p q (All-tail IsElement a p hp) (All-tail IsElement b q hq))
+
+pub All-scalar_multiple : (c : ℕ) (p : List ℕ) → c < 256 → All IsElement p → All IsElement (scalar_multiple c p)
+unfolding scalar_multiple
+All-scalar_multiple c [] hc hp = All-nil IsElement
+All-scalar_multiple c (a ∷ p) hc hp =
+    All-cons IsElement (field_product c a) (scalar_multiple c p)
+    (field_product-lt c a hc (All-head IsElement a p hp))
+    (All-scalar_multiple c p hc (All-tail IsElement a p hp))
+
+pub All-next_register : (low register : List ℕ) (codeword : ℕ) → 0 < length register → All IsElement low → All IsElement register
+    → codeword < 256 → All IsElement (next_register low register codeword)
+unfolding next_register
+All-next_register low [] codeword pos hl hr hw = absurd (omega arith)
+All-next_register low (r ∷ rs) codeword pos hl hr hw =
+    All-polynomial_sum (rs ++ 0 ∷ []) (scalar_multiple (bit_xor r codeword) low)
+    (All-append IsElement rs (0 ∷ []) (All-tail IsElement r rs hr)
+    (All-cons IsElement 0 [] (omega arith) (All-nil IsElement)))
+    (All-scalar_multiple (bit_xor r codeword) low (xor_of_8 r codeword (All-head IsElement r rs hr) hw) hl)
+
+pub length-register_after : (low register codewords : List ℕ) → 0 < length low → length register ≡ length low
+    → length (register_after low register codewords) ≡ length low
+unfolding register_after
+length-register_after low register [] pos h = h
+length-register_after low register (codeword ∷ codewords) pos h =
+    length-register_after low (next_register low register codeword) codewords pos (length-next_register low register codeword pos h)
+
+pub All-register_after : (low register codewords : List ℕ) → 0 < length low → length register ≡ length low
+    → All IsElement low → All IsElement register → All IsElement codewords
+    → All IsElement (register_after low register codewords)
+unfolding register_after
+All-register_after low register [] pos h hl hr hw = hr
+All-register_after low register (codeword ∷ codewords) pos h hl hr hw =
+    All-register_after low (next_register low register codeword) codewords pos (length-next_register low register codeword pos h) hl
+    (All-next_register low register codeword (omega arith) hl hr (All-head IsElement codeword codewords hw))
+    (All-tail IsElement codeword codewords hw)
+
+pub All-quotient_of : (low register codewords : List ℕ) → 0 < length low → length register ≡ length low → All IsElement low
+    → All IsElement register → All IsElement codewords → All IsElement (quotient_of low register codewords)
+unfolding quotient_of
+All-quotient_of low register [] pos h hl hr hw = All-nil IsElement
+All-quotient_of low [] (codeword ∷ codewords) pos h hl hr hw = absurd (omega arith)
+All-quotient_of low (r ∷ rs) (codeword ∷ codewords) pos h hl hr hw =
+    All-cons IsElement (bit_xor r codeword) (quotient_of low (next_register low (r ∷ rs) codeword) codewords)
+    (xor_of_8 r codeword (All-head IsElement r rs hr) (All-head IsElement codeword codewords hw))
+    (All-quotient_of low (next_register low (r ∷ rs) codeword) codewords pos (length-next_register low (r ∷ rs) codeword pos h) hl
+    (All-next_register low (r ∷ rs) codeword (omega arith) hl hr (All-head IsElement codeword codewords hw))
+    (All-tail IsElement codeword codewords hw))
+
+-- the register and the codewords still to come, as one polynomial, are the quotient times the divisor
+-- plus the last register
+pub division : (low register codewords : List ℕ) → 0 < length low → length register ≡ length low → All IsElement low
+    → All IsElement register → All IsElement codewords →
+    polynomial_sum (register ++ zeros (length codewords)) (codewords ++ zeros (length low))
+    ≡ polynomial_sum (polynomial_product (quotient_of low register codewords) (1 ∷ low))
+    (zeros (length codewords) ++ register_after low register codewords)
+unfolding next_register quotient_of register_after polynomial_sum polynomial_product scalar_multiple
+division low register [] pos h hl hr hw =
+    ap (λ l. polynomial_sum l (zeros (length low))) (append-nil register)
+    ∙ polynomial_sum-comm register (zeros (length low))
+division low [] (codeword ∷ codewords) pos h hl hr hw = absurd (omega arith)
+division low (r ∷ rs) (codeword ∷ codewords) pos h hl hr hw =
+    let f = bit_xor r codeword in
+    let n = length codewords in
+    let register = next_register low (r ∷ rs) codeword in
+    let rest = quotient_of low register codewords in
+    let R = rs ++ zeros (suc n) in
+    let S = scalar_multiple f low ++ zeros n in
+    let X = codewords ++ zeros (length low) in
+    let P = polynomial_product rest (1 ∷ low) in
+    let Y = zeros n ++ register_after low register codewords in
+    let ih : polynomial_sum (register ++ zeros n) X ≡ polynomial_sum P Y =
+    division low register codewords pos (length-next_register low (r ∷ rs) codeword pos h) hl
+    (All-next_register low (r ∷ rs) codeword (omega arith) hl hr (All-head IsElement codeword codewords hw))
+    (All-tail IsElement codeword codewords hw) in
+    let element : f < 256 = xor_of_8 r codeword (All-head IsElement r rs hr) (All-head IsElement codeword codewords hw) in
+    let head : bit_xor (bit_xor (field_product f 1) 0) 0 ≡ f =
+    xor_zero_r (bit_xor (field_product f 1) 0) ∙ xor_zero_r (field_product f 1) ∙ field_product-one_right f element in
+    let same : zeros (length rest) ≡ zeros n = ap zeros (length-quotient_of low register codewords) in
+    let length_S : length S ≡ length low + n =
+    length-append (scalar_multiple f low) (zeros n) ∙ omega (arith, length-scalar_multiple f low, length-zeros n) in
+    let length_R : length R ≡ length low + n =
+    length-append rs (zeros (suc n)) ∙ omega (arith, length-zeros (suc n)) in
+    let length_X : length X ≡ length low + n =
+    length-append codewords (zeros (length low)) ∙ omega (arith, length-zeros (length low)) in
+    let twice_zeros : polynomial_sum (zeros n) (zeros n) ≡ zeros n =
+    polynomial_sum-zeros_left n (zeros n) (omega (arith, length-zeros n)) in
+    let longer : (rs ++ 0 ∷ []) ++ zeros n ≡ R = append_assoc rs (0 ∷ []) (zeros n) in
+    let parts : polynomial_sum R S ≡ register ++ zeros n =
+    ap (λ l. polynomial_sum l S) (sym longer)
+    ∙ polynomial_sum-append (rs ++ 0 ∷ []) (zeros n) (scalar_multiple f low) (zeros n)
+    (length-append rs (0 ∷ []) ∙ omega (arith, length-scalar_multiple f low))
+    ∙ ap (λ l. register ++ l) twice_zeros in
+    let tail : polynomial_sum R X ≡ polynomial_sum (polynomial_sum S P) Y =
+    sym (polynomial_sum-twice S (polynomial_sum R X)
+    (omega (arith, length-polynomial_sum R X (length_R ∙ sym length_X))))
+    ∙ ap (polynomial_sum S) (sym (polynomial_sum-assoc S R X)
+    ∙ ap (λ l. polynomial_sum l X) (polynomial_sum-comm S R ∙ parts) ∙ ih)
+    ∙ sym (polynomial_sum-assoc S P Y) in
+    ap (λ l. f ∷ l) tail
+    ∙ ap (λ y. y ∷ polynomial_sum (polynomial_sum S P) Y) (sym head)
+    ∙ ap (λ z. bit_xor (bit_xor (field_product f 1) 0) 0 ∷ polynomial_sum (polynomial_sum (scalar_multiple f low ++ z) P) Y)
+    (sym same)
+
+pub length-polynomial_product : (p q : List ℕ) (b : ℕ) → length (polynomial_product p (b ∷ q)) ≡ length p + length q
+unfolding polynomial_product
+length-polynomial_product [] q b = length-zeros (length q) ∙ omega arith
+length-polynomial_product (c ∷ p) q b =
+    let ih = length-polynomial_product p q b in
+    let left : length (scalar_multiple c (b ∷ q) ++ zeros (length p)) ≡ suc (length p + length q) =
+    length-append (scalar_multiple c (b ∷ q)) (zeros (length p))
+    ∙ omega (arith, length-scalar_multiple c (b ∷ q), length-zeros (length p)) in
+    length-polynomial_sum (scalar_multiple c (b ∷ q) ++ zeros (length p)) (0 ∷ polynomial_product p (b ∷ q))
+    (omega (arith, left, ih))
+    ∙ omega (arith, ih)
+
+-- two divisions of one polynomial have the same remainder
+pub same_remainder : (low q q' p p' : List ℕ) → length q ≡ length q' → length p ≡ length low → length p' ≡ length low
+    → All IsElement q → All IsElement q' →
+    polynomial_sum (polynomial_product q (1 ∷ low)) (zeros (length q) ++ p)
+    ≡ polynomial_sum (polynomial_product q' (1 ∷ low)) (zeros (length q') ++ p') →
+    p ≡ p'
+unfolding polynomial_sum polynomial_product scalar_multiple
+same_remainder low [] [] p p' e hp hp' eq eq' same =
+    sym (polynomial_sum-zeros_left (length low) p (omega arith)) ∙ same
+    ∙ polynomial_sum-zeros_left (length low) p' (omega arith)
+same_remainder low [] (f' ∷ q') p p' e hp hp' eq eq' same = absurd (omega arith)
+same_remainder low (f ∷ q) [] p p' e hp hp' eq eq' same = absurd (omega arith)
+same_remainder low (f ∷ q) (f' ∷ q') p p' e hp hp' eq eq' same =
+    let n = length q in
+    let S = scalar_multiple f low ++ zeros n in
+    let P = polynomial_product q (1 ∷ low) in
+    let P' = polynomial_product q' (1 ∷ low) in
+    let Y = zeros n ++ p in
+    let Y' = zeros (length q') ++ p' in
+    let one : (a : ℕ) → a < 256 → bit_xor (bit_xor (field_product a 1) 0) 0 ≡ a =
+    λ a h. xor_zero_r (bit_xor (field_product a 1) 0) ∙ xor_zero_r (field_product a 1) ∙ field_product-one_right a h in
+    let heads : f ≡ f' =
+    sym (one f (All-head IsElement f q eq)) ∙ ap (λ l. get_or l 0 0) same ∙ one f' (All-head IsElement f' q' eq') in
+    let places : n ≡ length q' = omega arith in
+    let tails : polynomial_sum (polynomial_sum S P) Y
+    ≡ polynomial_sum (polynomial_sum (scalar_multiple f' low ++ zeros (length q')) P') Y' =
+    ap (drop 1) same in
+    let tails_at_f : polynomial_sum (polynomial_sum S P) Y ≡ polynomial_sum (polynomial_sum S P') Y' =
+    tails ∙ ap (λ a. polynomial_sum (polynomial_sum (scalar_multiple a low ++ zeros (length q')) P') Y') (sym heads)
+    ∙ ap (λ m. polynomial_sum (polynomial_sum (scalar_multiple f low ++ zeros m) P') Y') (sym places) in
+    let length_S : length S ≡ length low + n = length-append (scalar_multiple f low) (zeros n)
+    ∙ omega (arith, length-scalar_multiple f low, length-zeros n) in
+    let length_Y : length Y ≡ length low + n = length-append (zeros n) p ∙ omega (arith, length-zeros n) in
+    let length_Y' : length Y' ≡ length low + n = length-append (zeros (length q')) p'
+    ∙ omega (arith, length-zeros (length q')) in
+    let length_P : length P ≡ length low + n = length-polynomial_product q low 1 ∙ omega arith in
+    let length_P' : length P' ≡ length low + n = length-polynomial_product q' low 1 ∙ omega arith in
+    let rests : polynomial_sum P Y ≡ polynomial_sum P' Y' =
+    sym (polynomial_sum-twice S (polynomial_sum P Y)
+    (omega (arith, length-polynomial_sum P Y (length_P ∙ sym length_Y))))
+    ∙ ap (polynomial_sum S) (sym (polynomial_sum-assoc S P Y) ∙ tails_at_f ∙ polynomial_sum-assoc S P' Y')
+    ∙ polynomial_sum-twice S (polynomial_sum P' Y')
+    (omega (arith, length-polynomial_sum P' Y' (length_P' ∙ sym length_Y'))) in
+    same_remainder low q q' p p' places hp hp' (All-tail IsElement f q eq) (All-tail IsElement f' q' eq') rests
+
+-- a register with zeros behind it, one step on
+next_register-append_zeros : (low rs : List ℕ) (r codeword n : ℕ) → suc (length rs) ≡ length low →
+    next_register low (r ∷ rs) codeword ++ zeros n ≡ polynomial_sum (scalar_multiple (bit_xor r codeword) low ++ zeros n) (rs ++ zeros (suc n))
+unfolding next_register
+next_register-append_zeros low rs r codeword n h =
+    let f = bit_xor r codeword in
+    let A = rs ++ 0 ∷ [] in
+    let S = scalar_multiple f low in
+    ap (λ z. polynomial_sum A S ++ z) (sym (polynomial_sum-zeros_left n (zeros n) (omega (arith, length-zeros n))))
+    ∙ sym (polynomial_sum-append A (zeros n) S (zeros n)
+    (length-append rs (0 ∷ []) ∙ omega (arith, length-scalar_multiple f low)))
+    ∙ polynomial_sum-comm (A ++ zeros n) (S ++ zeros n)
+    ∙ ap (polynomial_sum (S ++ zeros n)) (append_assoc rs (0 ∷ []) (zeros n))
+
+-- the register holds what a long division has not yet divided
+pub long_division-register : (low register codewords : List ℕ) → length register ≡ length low → 0 < length low →
+    long_division (length codewords) low (polynomial_sum (register ++ zeros (length codewords)) (codewords ++ zeros (length low)))
+    ≡ register_after low register codewords
+unfolding long_division register_after polynomial_sum
+long_division-register low register [] h pos =
+    polynomial_sum-comm (register ++ []) (zeros (length low))
+    ∙ polynomial_sum-zeros_left (length low) (register ++ []) (omega (arith, length-append register []))
+    ∙ append-nil register
+long_division-register low [] (codeword ∷ codewords) h pos = absurd (omega arith)
+long_division-register low (r ∷ rs) (codeword ∷ codewords) h pos =
+    let n = length codewords in
+    let f = bit_xor r codeword in
+    let R = rs ++ zeros (suc n) in
+    let X = codewords ++ zeros (length low) in
+    let S = scalar_multiple f low in
+    let length_R : length R ≡ length low + n = length-append rs (zeros (suc n)) ∙ omega (arith, length-zeros (suc n)) in
+    let length_X : length X ≡ length low + n = length-append codewords (zeros (length low))
+    ∙ omega (arith, length-zeros (length low)) in
+    let places : length (polynomial_sum R X) - length low ≡ n =
+    omega (arith, length-polynomial_sum R X (length_R ∙ sym length_X), length_X) in
+    ap (λ m. long_division n low (polynomial_sum (S ++ zeros m) (polynomial_sum R X))) places
+    ∙ ap (long_division n low)
+    (sym (polynomial_sum-assoc (S ++ zeros n) R X)
+    ∙ ap (λ l. polynomial_sum l X) (sym (next_register-append_zeros low rs r codeword n h)))
+    ∙ long_division-register low (next_register low (r ∷ rs) codeword) codewords (length-next_register low (r ∷ rs) codeword pos h) pos

@@ -1,0 +1,71 @@
+-- Sums of polynomials, as lists of coefficients.
+use Rattle.std.proofs.Common.{◌≡◌, ℕ, zero, suc, ◌≤◌, List, [], ◌∷◌, ◌++◌, length, refl, sym, ap, ◌∙◌, arith}
+use Rattle.std.specs.Prelude.{bit_xor}
+use Rattle.std.specs.Int.Bits.{xor_assoc, xor_comm, xor_self}
+use Rattle.std.proofs.lemmas.List.{length-map, length-replicate}
+use Rattle.gf256.specs.Field.{field_product}
+use Rattle.gf256.specs.Polynomial.{zeros, polynomial_sum, scalar_multiple}
+
+pub length-zeros : (n : ℕ) → length (zeros n) ≡ n
+length-zeros n = length-replicate {A = ℕ} n 0
+
+pub polynomial_sum-nil : (p : List ℕ) → polynomial_sum p [] ≡ p
+unfolding polynomial_sum
+polynomial_sum-nil [] = refl
+polynomial_sum-nil (a ∷ p) = refl
+
+pub polynomial_sum-assoc : (p q r : List ℕ) → polynomial_sum (polynomial_sum p q) r
+    ≡ polynomial_sum p (polynomial_sum q r)
+unfolding polynomial_sum
+polynomial_sum-assoc [] q r = refl
+polynomial_sum-assoc (a ∷ p) [] r = refl
+polynomial_sum-assoc (a ∷ p) (b ∷ q) [] = refl
+polynomial_sum-assoc (a ∷ p) (b ∷ q) (c ∷ r) =
+    ap (λ x. x ∷ polynomial_sum (polynomial_sum p q) r) (xor_assoc a b c)
+    ∙ ap (λ l. bit_xor a (bit_xor b c) ∷ l) (polynomial_sum-assoc p q r)
+
+pub polynomial_sum-comm : (p q : List ℕ) → polynomial_sum p q ≡ polynomial_sum q p
+unfolding polynomial_sum
+polynomial_sum-comm [] q = sym (polynomial_sum-nil q)
+polynomial_sum-comm (a ∷ p) [] = refl
+polynomial_sum-comm (a ∷ p) (b ∷ q) =
+    ap (λ x. x ∷ polynomial_sum p q) (xor_comm a b) ∙ ap (λ l. bit_xor b a ∷ l) (polynomial_sum-comm p q)
+
+pub polynomial_sum-self : (p : List ℕ) → polynomial_sum p p ≡ zeros (length p)
+unfolding polynomial_sum
+polynomial_sum-self [] = refl
+polynomial_sum-self (a ∷ p) = ap (λ x. x ∷ polynomial_sum p p) (xor_self a) ∙ ap (λ l. 0 ∷ l) (polynomial_sum-self p)
+
+pub polynomial_sum-zeros_left : (n : ℕ) (p : List ℕ) → n ≤ length p → polynomial_sum (zeros n) p ≡ p
+unfolding polynomial_sum
+polynomial_sum-zeros_left zero p h = refl
+polynomial_sum-zeros_left (suc n) [] h = absurd (omega arith)
+polynomial_sum-zeros_left (suc n) (a ∷ p) h = ap (λ l. a ∷ l) (polynomial_sum-zeros_left n p (omega arith))
+
+pub polynomial_sum-zeros_right : (n : ℕ) (p : List ℕ) → n ≤ length p → polynomial_sum p (zeros n) ≡ p
+polynomial_sum-zeros_right n p h = polynomial_sum-comm p (zeros n) ∙ polynomial_sum-zeros_left n p h
+
+-- adding p twice changes nothing
+pub polynomial_sum-twice : (p q : List ℕ) → length p ≤ length q → polynomial_sum p (polynomial_sum p q) ≡ q
+polynomial_sum-twice p q h =
+    sym (polynomial_sum-assoc p p q) ∙ ap (λ l. polynomial_sum l q) (polynomial_sum-self p)
+    ∙ polynomial_sum-zeros_left (length p) q h
+
+pub length-polynomial_sum : (p q : List ℕ) → length p ≡ length q → length (polynomial_sum p q) ≡ length q
+unfolding polynomial_sum
+length-polynomial_sum [] q h = refl
+length-polynomial_sum (a ∷ p) [] h = absurd (omega arith)
+length-polynomial_sum (a ∷ p) (b ∷ q) h = ap suc (length-polynomial_sum p q (omega arith))
+
+-- a sum of parts of equal length
+pub polynomial_sum-append : (p q r s : List ℕ) → length p ≡ length r
+    → polynomial_sum (p ++ q) (r ++ s) ≡ polynomial_sum p r ++ polynomial_sum q s
+unfolding polynomial_sum
+polynomial_sum-append [] q [] s h = refl
+polynomial_sum-append [] q (c ∷ r) s h = absurd (omega arith)
+polynomial_sum-append (a ∷ p) q [] s h = absurd (omega arith)
+polynomial_sum-append (a ∷ p) q (c ∷ r) s h = ap (λ l. bit_xor a c ∷ l) (polynomial_sum-append p q r s (omega arith))
+
+pub length-scalar_multiple : (c : ℕ) (p : List ℕ) → length (scalar_multiple c p) ≡ length p
+unfolding scalar_multiple
+length-scalar_multiple c p = length-map p (field_product c)

@@ -1,0 +1,144 @@
+-- The texts of rows, line by line.
+use Rattle.std.proofs.Common.{◌≡◌, ℕ, suc, zero, ◌+◌, ◌-◌, ◌*◌, ◌<◌, ◌≤◌, min, Bool, List, [], ◌∷◌, ◌++◌, refl, ap, sym}
+use Rattle.std.proofs.Common.{◌∙◌, arith, append_assoc, flat_map, map, length, take, drop, zero-add, add-zero, inl, inr}
+use Rattle.std.specs.Int.{div_ceil}
+use Rattle.std.specs.List.{range_with_len}
+use Rattle.std.specs.Prelude.{slice_range}
+use Rattle.std.proofs.lemmas.Bool.{cases_lt}
+use Rattle.std.proofs.lemmas.List.{append-nil, map-append, take_at, drop_at, take_all, take-take, drop-take}
+use Rattle.std.proofs.lemmas.List.{length-take}
+use Rattle.std.proofs.lemmas.Slice.{between_is}
+use Rattle.std.proofs.lemmas.Grind.{flat_map-append}
+use Rattle.std.proofs.lemmas.List.FromFn.{length-map-range_with_len}
+use Rattle.picture.specs.Picture.{Picture}
+use Rattle.picture.specs.Private.Rows.{piece, row_text}
+use Rattle.picture.specs.Text.{below, pixel_row, pbm_piece, pbm_row, ascii_pixel, ascii_row}
+
+pub range_with_len-add : (a n m : ℕ) → range_with_len a (n + m) ≡ range_with_len a n ++ range_with_len (a + n) m
+range_with_len-add a zero m = rw (zero-add m, add-zero a) refl
+range_with_len-add a (suc n) m =
+    let more : suc n + m ≡ suc (n + m) = omega arith in
+    let next : (a + 1) + n ≡ a + suc n = omega arith in
+    rw (more, ← next, range_with_len-add (a + 1) n m) refl
+
+-- what is made of one number more
+pub flat_map-below_more : (f : ℕ → List ℕ) (n : ℕ) → flat_map f (below (n + 1)) ≡ flat_map f (below n) ++ f n
+flat_map-below_more f n =
+    ap (flat_map f) (range_with_len-add 0 n 1)
+    ∙ (flat_map-append f (below n) (range_with_len (0 + n) 1)
+    ∙ (ap (λ (xs : List ℕ). flat_map f (below n) ++ xs) (append-nil (f (0 + n)))
+    ∙ ap (λ (k : ℕ). flat_map f (below n) ++ f k) (zero-add n)))
+
+-- what is made of the numbers up to k is a front of the whole
+pub flat_map-below_front : (f : ℕ → List ℕ) (k n : ℕ) → k < n
+    → (rest : List ℕ) × (flat_map f (below n) ≡ (flat_map f (below k) ++ f k) ++ rest)
+flat_map-below_front f k n h =
+    let r = n - (k + 1) in
+    let size : n ≡ (k + 1) + r = omega arith in (
+      flat_map f (range_with_len (0 + (k + 1)) r),
+      ap (λ (m : ℕ). flat_map f (below m)) size
+          ∙ (ap (flat_map f) (range_with_len-add 0 (k + 1) r)
+          ∙ (flat_map-append f (below (k + 1)) (range_with_len (0 + (k + 1)) r)
+          ∙ ap (λ (xs : List ℕ). xs ++ flat_map f (range_with_len (0 + (k + 1)) r)) (flat_map-below_more f k))),
+    )
+
+-- the pixels below x + n
+pub map-below_add : (dark : ℕ → Bool) (x n : ℕ) → map dark (below (x + n))
+    ≡ map dark (below x) ++ map dark (range_with_len x n)
+map-below_add dark x n =
+    ap (map dark) (range_with_len-add 0 x n)
+    ∙ (map-append dark (below x) (range_with_len (0 + x) n)
+    ∙ ap (λ (k : ℕ). map dark (below x) ++ map dark (range_with_len k n)) (zero-add x))
+
+take_add : {X : Type 0} → (n m : ℕ) (xs : List X) → take (n + m) xs ≡ take n xs ++ take m (drop n xs)
+take_add {X} zero m xs = rw (zero-add m) refl
+take_add {X} (suc n) m [] = rw (take_all {A = X} (suc n + m) [] (omega arith), take_all {A = X} m [] (omega arith)) refl
+take_add {X} (suc n) m (x ∷ xs) = let more : suc n + m ≡ suc (n + m) = omega arith in rw (more, take_add n m xs) refl
+
+-- the pixels before a piece, and the piece
+pub take_piece : (row : List Bool) (k : ℕ) → take (70 * (k + 1)) row ≡ take (70 * k) row ++ piece row k
+take_piece row k = let place : 70 * (k + 1) ≡ 70 * k + 70 = omega arith in ap (λ (n : ℕ). take n row) place
+    ∙ take_add (70 * k) 70 row
+
+-- all pieces of a row are the row
+all_pieces : (row : List Bool) → take (70 * div_ceil (length row) 70) row ≡ row
+all_pieces row = take_all (70 * div_ceil (length row) 70) row (omega arith)
+
+-- a piece of a row at the front of a room
+pub piece_held : (room : List Bool) (width k n : ℕ) → 70 * k < width → width ≤ length room → n ≡ min 70 (width - 70 * k)
+    → take n (slice_range room (70 * k) (70 * k + 70)) ≡ piece (take width room) k
+piece_held room width k n some fits size =
+    let x = 70 * k in
+    let m = width - x in
+    let d = drop x room in
+    let whole : width ≡ x + m = omega arith in
+    let left : take n (slice_range room x (x + 70)) ≡ take n d =
+    ap (take n) (between_is room x (x + 70) ∙ drop-take x 70 room) ∙ take-take n 70 d (omega arith) in
+    let right : piece (take width room) k ≡ take 70 (take m d) = ap (λ (w : ℕ). take 70 (drop x (take w room))) whole
+    ∙ ap (take 70) (drop-take x m room) in
+    left ∙ (elim (cases_lt m 70) [
+      | inl less ↦ (let same : n ≡ m = omega arith in ap (λ (w : ℕ). take w d) same
+          ∙ sym (take_all 70 (take m d) (omega (arith, length-take m d))))
+      | inr more ↦ (let same : n ≡ 70 = omega arith in ap (λ (w : ℕ). take w d) same ∙ sym (take-take 70 m d more))
+    ] ∙ sym right)
+
+-- a piece of a row that is asked
+pub piece_asked : (dark : ℕ → Bool) (width k n : ℕ) → 70 * k < width → n ≡ min 70 (width - 70 * k)
+    → map dark (range_with_len (70 * k) n) ≡ piece (map dark (below width)) k
+piece_asked dark width k n some size =
+    let x = 70 * k in
+    let r = width - (x + n) in
+    let line = map dark (range_with_len x n) in
+    let rest = map dark (range_with_len (x + n) r) in
+    let whole : width ≡ (x + n) + r = omega arith in
+    let cut : map dark (below width) ≡ map dark (below x) ++ (line ++ rest) =
+    ap (λ (w : ℕ). map dark (below w)) whole
+    ∙ (map-below_add dark (x + n) r
+    ∙ (ap (λ (t : List Bool). t ++ rest) (map-below_add dark x n) ∙ append_assoc (map dark (below x)) line rest)) in
+    sym (ap (λ (t : List Bool). take 70 (drop x t)) cut
+    ∙ (ap (take 70) (drop_at (map dark (below x)) (line ++ rest) x (length-map-range_with_len dark 0 x))
+    ∙ elim (cases_lt n 70) [
+      | inl less ↦ (let none : r ≡ 0 = omega arith in
+          ap (λ (w : ℕ). take 70 (line ++ map dark (range_with_len (x + n) w))) none
+          ∙ (ap (take 70) (append-nil line) ∙ take_all 70 line (omega (arith, length-map-range_with_len dark x n))))
+      | inr more ↦ take_at line rest 70 (length-map-range_with_len dark x n ∙ omega arith)
+    ]))
+
+-- the rows of plain PBM files end with nothing
+pub pbm_rows : (p : Picture) (ys : List ℕ) → flat_map (λ y. row_text pbm_piece [] (pixel_row p y)) ys
+    ≡ flat_map (pbm_row p) ys
+pbm_rows p [] = refl
+pbm_rows p (y ∷ ys) =
+    let row = pixel_row p y in
+    let size : length row ≡ p.width = length-map-range_with_len (λ x. p.dark x y) 0 p.width in
+    rw (append-nil (flat_map (λ k. pbm_piece (piece row k)) (below (div_ceil (length row) 70))), pbm_rows p ys)
+    (ap (λ (w : ℕ). flat_map (λ k. pbm_piece (piece row k)) (below (div_ceil w 70)) ++ flat_map (pbm_row p) ys) size)
+
+letters_of_pieces : (row : List Bool) (k : ℕ) → flat_map (λ k. flat_map ascii_pixel (piece row k)) (below k)
+    ≡ flat_map ascii_pixel (take (70 * k) row)
+letters_of_pieces row zero = refl
+letters_of_pieces row (suc k) =
+    let next : suc k ≡ k + 1 = omega arith in
+    ap (λ (n : ℕ). flat_map (λ k. flat_map ascii_pixel (piece row k)) (below n)) next
+    ∙ (flat_map-below_more (λ k. flat_map ascii_pixel (piece row k)) k
+    ∙ (ap (λ (t : List ℕ). t ++ flat_map ascii_pixel (piece row k)) (letters_of_pieces row k)
+    ∙ (sym (flat_map-append ascii_pixel (take (70 * k) row) (piece row k))
+    ∙ (ap (flat_map ascii_pixel) (sym (take_piece row k))
+    ∙ ap (λ (n : ℕ). flat_map ascii_pixel (take (70 * n) row)) (sym next)))))
+
+letters_of_row : (dark : ℕ → Bool) (xs : List ℕ) → flat_map ascii_pixel (map dark xs)
+    ≡ flat_map (λ x. ascii_pixel (dark x)) xs
+letters_of_row dark [] = refl
+letters_of_row dark (x ∷ xs) = rw (letters_of_row dark xs) refl
+
+-- the letters of a row are those of its pieces
+pub ascii_rows : (p : Picture) (ys : List ℕ) → flat_map
+    (λ y. row_text (λ pixels. flat_map ascii_pixel pixels) (10 ∷ []) (pixel_row p y)) ys ≡ flat_map (ascii_row p) ys
+ascii_rows p [] = refl
+ascii_rows p (y ∷ ys) =
+    let row = pixel_row p y in
+    let letters : flat_map (λ k. flat_map ascii_pixel (piece row k)) (below (div_ceil (length row) 70))
+    ≡ flat_map (λ x. ascii_pixel (p.dark x y)) (below p.width) =
+    letters_of_pieces row (div_ceil (length row) 70)
+    ∙ (ap (flat_map ascii_pixel) (all_pieces row) ∙ letters_of_row (λ x. p.dark x y) (below p.width)) in
+    rw (letters, ascii_rows p ys) refl

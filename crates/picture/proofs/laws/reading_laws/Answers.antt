@@ -1,0 +1,16 @@
+use Rattle.picture.proofs.AsciiLaws.{ascii_files-flat_map, ascii_pixels-ascii_text}
+use Rattle.picture.proofs.CutLaws.{pbm_files-flat_map}
+use Rattle.picture.proofs.PbmLaws.{pbm_pixels-pbm_text}
+use Rattle.picture.proofs.SampleLaws.{value_at-raster, sample-raster, common_row-bars}
+use Rattle.picture.proofs.laws.reading_laws.Goals as goal
+
+pub returns : goal.returns
+returns c = record {
+  pbm_files = pbm_files-flat_map;
+  ascii_files = ascii_files-flat_map;
+  pbm_texts = pbm_pixels-pbm_text;
+  ascii_texts = ascii_pixels-ascii_text;
+  sampled = sample-raster;
+  pixels = value_at-raster;
+  one_row = common_row-bars;
+}

@@ -1,0 +1,144 @@
+-- Pictures read back from text: plain PBM files (pbm(5), the plain format), and text pictures.
+use Rattle.std.specs.Prelude.{ℕ, ◌+◌, ◌-◌, ◌*◌, ◌/◌, ◌%◌, Bool, true, false, not, ◌&&◌, ◌||◌, List, [], ◌∷◌, map, filter}
+use Rattle.std.specs.Prelude.{take, drop, length, codes, Option, Some, None, option_map, nat_le, nat_lt, ◌==◌}
+use Rattle.std.specs.Prelude.{if◌then◌else◌, slice_index_or}
+use Rattle.std.specs.List.{list_all, prefix_len, onto_first, concat}
+use Rattle.std.specs.Bool.{beq, then_some}
+use Rattle.std.specs.Cmp.Lexicographic.{pointwise}
+use Rattle.std.specs.Str.{bytes_eq}
+use Rattle.std.specs.Str.Parse.{digits_value}
+use Rattle.std.specs.Char.{is_digit}
+use Rattle.device.specs.Lines.{LF, lines}
+use Rattle.qrdata.specs.Steps.{◌>>=◌}
+use Rattle.qrmatrix.specs.Square.{value_at}
+use Rattle.picture.specs.declared.quiet_zone.QuietZone.{QuietZone}
+use Rattle.picture.specs.Picture.{Picture}
+use Rattle.picture.specs.Text.{below, pixel_row}
+
+-- the size of a picture, and its pixels row by row
+pub record Raster : Type 0 where
+  pub width : ℕ
+  pub height : ℕ
+  pub rows : List (List Bool)
+
+-- the pixels of a picture
+abbrev pub raster : Picture → Raster
+raster p = record { width = p.width; height = p.height; rows = map (pixel_row p) (below p.height) }
+
+-- pbm(5): white space is a blank, a tab, a carriage return or a line feed
+abbrev pub is_white : ℕ → Bool
+is_white b = b == 32 || b == 9 || b == 13 || b == 10
+
+-- the text after the white space that it begins with; none where it begins otherwise
+abbrev pub after_white : List ℕ → Option (List ℕ)
+after_white text = if prefix_len is_white text == 0 then None else Some (drop (prefix_len is_white text) text)
+
+-- the decimal number that a text begins with, and the text after it
+abbrev pub leading_number : List ℕ → Option (ℕ × List ℕ)
+leading_number text =
+    let size = prefix_len (λ b. is_digit b 10) text in
+    if size == 0 then None else Some (digits_value 10 (take size text), drop size text)
+
+-- the raster of width times height digits 0 and 1, row by row
+abbrev pub raster_of : ℕ → ℕ → List ℕ → Option Raster
+raster_of width height digits =
+    then_some (list_all (λ b. b == 48 || b == 49) digits && length digits == width * height) (record {
+      width = width;
+      height = height;
+      rows = map (λ y. map (λ b. b == 49) (take width (drop (width * y) digits))) (below height);
+    })
+
+-- the pixels of a plain PBM file, pbm(5): its advice that no line has more than 70 characters is a rule here
+unfoldable pub pbm_pixels : List ℕ → Option Raster
+pbm_pixels text = do
+  sizes ← then_some (list_all (λ line. nat_le (length line) 70) (lines text) && bytes_eq (take 2 text) (codes "P1"))
+      (drop 2 text)
+  width ← after_white sizes >>= leading_number
+  height ← after_white width.1 >>= leading_number
+  rest ← after_white height.1
+  raster_of width.0 height.0 (filter (λ b. not (is_white b)) rest)
+
+-- the pixels of a line of pairs: two number signs are dark, two spaces light
+abbrev pub line_pixels : List ℕ → Option (List Bool)
+line_pixels [] = Some []
+line_pixels (b ∷ []) = None
+line_pixels (b ∷ c ∷ rest) =
+    if b == c && (b == 35 || b == 32) then option_map (λ pixels. (b == 35) ∷ pixels) (line_pixels rest) else None
+
+-- the pixels of lines, of which the last is empty and ends the picture
+abbrev pub lines_pixels : List (List ℕ) → Option (List (List Bool))
+lines_pixels [] = None
+lines_pixels (line ∷ []) = then_some (length line == 0) []
+lines_pixels (line ∷ next ∷ more) = do
+  pixels ← line_pixels line
+  option_map (λ rows. pixels ∷ rows) (lines_pixels (next ∷ more))
+
+-- the pixels of a text picture: lines of equal length, and then an empty line
+unfoldable pub ascii_pixels : List ℕ → Option Raster
+ascii_pixels text = do
+  rows ← lines_pixels (lines text)
+  let width = length (slice_index_or rows 0 [])
+  then_some (list_all (λ row. length row == width) rows) (record { width = width; height = length rows; rows = rows })
+
+-- parts with an element before them: it is a part of its own, or the front of the first
+abbrev pub onto_parts : {X : Type 0} → Bool → X → List (List X) → List (List X)
+onto_parts true x parts = (x ∷ []) ∷ parts
+onto_parts false x parts = onto_first x parts
+
+-- the parts of a list, which is cut between two neighbours where they pass the test
+abbrev pub parts : {X : Type 0} → (X → X → Bool) → List X → List (List X)
+parts is_cut [] = []
+parts is_cut (x ∷ []) = (x ∷ []) ∷ []
+parts is_cut (x ∷ y ∷ xs) = onto_parts (is_cut x y) x (parts is_cut (y ∷ xs))
+
+-- the lines of a stream, each with its line feed
+abbrev pub whole_lines : List ℕ → List (List ℕ)
+whole_lines stream = parts (λ b next. b == LF) stream
+
+-- the line `P1`, with its line feed or, at a stream's end, without one
+abbrev pub is_magic : List ℕ → Bool
+is_magic line = bytes_eq line (codes "P1\n") || bytes_eq line (codes "P1")
+
+-- the files of a stream: each begins with a line `P1`
+abbrev pub pbm_files : List ℕ → List (List ℕ)
+pbm_files stream = map concat (parts (λ line next. is_magic next) (whole_lines stream))
+
+-- the text pictures of a stream: each ends with an empty line
+abbrev pub ascii_files : List ℕ → List (List ℕ)
+ascii_files stream = map concat (parts (λ line next. bytes_eq line (codes "\n")) (whole_lines stream))
+
+-- the colour of the cell in a column and a row, each cell a square of pixels, by its first pixel
+abbrev pub cell : Raster → ℕ → ℕ → ℕ → Bool
+cell r scale column row = value_at r.rows (column * scale) (row * scale)
+
+-- whether all pixels of a cell have its colour
+abbrev pub is_plain : Raster → ℕ → ℕ → ℕ → Bool
+is_plain r scale column row =
+    list_all (λ y. list_all (λ x. beq (value_at r.rows (column * scale + x) (row * scale + y)) (cell r scale column row))
+    (below scale)) (below scale)
+
+-- whether the cell in a column and a row is a module, and not of the quiet zone
+abbrev pub is_module : QuietZone → ℕ → ℕ → ℕ → ℕ → Bool
+is_module zone columns rows column row =
+    nat_le zone.left column && nat_lt (column + zone.right) columns
+    && nat_le zone.top row && nat_lt (row + zone.bottom) rows
+
+-- whether each cell is of one colour, which is light in the quiet zone
+abbrev pub are_cells : Raster → ℕ → QuietZone → ℕ → ℕ → Bool
+are_cells r scale zone columns rows =
+    list_all (λ row. list_all (λ column. is_plain r scale column row
+    && (is_module zone columns rows column row || not (cell r scale column row))) (below columns)) (below rows)
+
+-- the modules inside the quiet zone, row by row, where all cells are of one colour and the zone is light
+unfoldable pub sample : Raster → ℕ → QuietZone → Option (List (List Bool))
+sample r scale zone =
+    let columns = r.width / scale in let rows = r.height / scale in
+    then_some (r.width % scale == 0 && r.height % scale == 0 && nat_le (zone.left + zone.right) columns
+    && nat_le (zone.top + zone.bottom) rows && are_cells r scale zone columns rows)
+    (map (λ row. map (λ column. cell r scale (zone.left + column) (zone.top + row))
+    (below (columns - zone.left - zone.right))) (below (rows - zone.top - zone.bottom)))
+
+-- the row that all rows are equal to
+abbrev pub common_row : List (List Bool) → Option (List Bool)
+common_row [] = None
+common_row (row ∷ rows) = then_some (list_all (pointwise beq row) rows) row

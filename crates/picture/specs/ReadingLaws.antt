@@ -1,0 +1,46 @@
+-- What reading finds in the texts and the pixels of pictures (pbm(5), the plain format).
+use Rattle.std.specs.Prelude.{◌≡◌, ℕ, ◌^◌, ◌<◌, All, Option, Some, List, Bool, map, flat_map}
+use Rattle.qrmatrix.specs.Square.{value_at}
+use Rattle.picture.specs.declared.quiet_zone.QuietZone.{QuietZone}
+use Rattle.picture.specs.Picture.{Picture, bars, with_quiet_zone, enlargement}
+use Rattle.picture.specs.Reading.{Raster, raster, pbm_files, pbm_pixels, ascii_files, ascii_pixels, sample, common_row}
+use Rattle.picture.specs.Text.{pbm_text, ascii_text}
+
+-- a picture with a column, whose sizes are numbers of 64 bits
+pub record IsDrawable (p : Picture) : Type 0 where
+  pub some : 0 < p.width
+  pub wide : p.width < 2 ^ 64
+  pub high : p.height < 2 ^ 64
+
+-- each text of such a picture is read as the picture's pixels
+abbrev pub TextsAreRead : (Picture → List ℕ) → (List ℕ → Option Raster) → (Picture → Type 0) → Type 0
+TextsAreRead text pixels IsSuch = (p : Picture) → IsSuch p → pixels (text p) ≡ Some (raster p)
+
+-- a stream of texts of such pictures is cut into these texts
+abbrev pub FilesAreTexts : (Picture → List ℕ) → (List ℕ → List (List ℕ)) → (Picture → Type 0) → Type 0
+FilesAreTexts text files IsSuch = (ps : List Picture) → All IsSuch ps → files (flat_map text ps) ≡ map text ps
+
+-- the pixels of modules in their quiet zone, each a square, are sampled as these modules
+abbrev pub ModulesAreSampled : Type 0
+ModulesAreSampled =
+    (p : Picture) (zone : QuietZone) (scale : ℕ) → 0 < scale
+    → sample (raster (enlargement (with_quiet_zone p zone) scale)) scale zone ≡ Some (raster p).rows
+
+-- the pixels of a picture are dark where it is
+abbrev pub PixelsAreThePicture : Type 0
+PixelsAreThePicture =
+    (p : Picture) (x y : ℕ) → x < p.width → y < p.height → value_at (raster p).rows x y ≡ p.dark x y
+
+-- the rows of bars are all one row
+abbrev pub BarsAreOneRow : Type 0
+BarsAreOneRow = (row : List Bool) (height : ℕ) → 0 < height → common_row (raster (bars row height)).rows ≡ Some row
+
+-- all of these, for both kinds of text
+pub record ReadingLaws : Type 0 where
+  pub pbm_files : FilesAreTexts pbm_text pbm_files IsDrawable
+  pub ascii_files : FilesAreTexts ascii_text ascii_files (λ p. 0 < p.width)
+  pub pbm_texts : TextsAreRead pbm_text pbm_pixels IsDrawable
+  pub ascii_texts : TextsAreRead ascii_text ascii_pixels (λ p. 0 < p.height)
+  pub sampled : ModulesAreSampled
+  pub pixels : PixelsAreThePicture
+  pub one_row : BarsAreOneRow

@@ -1,0 +1,157 @@
+-- What is read of the codewords of a symbol is its data.
+use Rattle.std.proofs.Common.{◌≡◌, ℕ, zero, suc, ◌+◌, ◌-◌, ◌*◌, ◌/◌, ◌<◌, ◌≤◌, List, [], ◌∷◌, ◌++◌, map, take, drop}
+use Rattle.std.proofs.Common.{length, replicate, refl, sym, ap, ◌∙◌, length-append, arith, Bool, true, false, sum}
+use Rattle.std.specs.Prelude.{if◌then◌else◌, None, Some, Option, ◌&&◌, ◌==◌}
+use Rattle.std.specs.List.{AllByRecursion, concat, list_all, range_with_len, zip}
+use Rattle.std.proofs.lemmas.Bool.{eq-eqb, eqb-true}
+use Rattle.std.proofs.lemmas.List.{length-take}
+use Rattle.std.proofs.Math.Nat.{pow-le-pow_right}
+use Rattle.std.proofs.lemmas.List.Folds.{sum_by-replicate}
+use Rattle.std.proofs.lemmas.List.Elements.{All-from_recursion}
+use Rattle.gf256.specs.Field.{alpha, field_power, IsElement}
+use Rattle.gf256.specs.Polynomial.{evaluate}
+use Rattle.gf256.specs.ErrorCorrection.{ec_codewords_of, HasRoots, IsRemainder, EcCodewordsAreRemainder, RemaindersHaveRoots}
+use Rattle.qrdata.specs.declared.level.Level.{Level}
+use Rattle.qrdata.specs.declared.mode.Segment.{Segment}
+use Rattle.qrdata.specs.Bits.{number_of, codewords_of}
+use Rattle.qrdata.specs.Codewords.{with_zeros, data_of, with_pad_codewords, final_message, interleaving, pad_codewords, data_codewords_of}
+use Rattle.qrdata.specs.Codewords.{split_by, symbol_codewords, with_terminator}
+use Rattle.qrdata.specs.Reading.{data_in, deinterleaving, has_roots, segments_at}
+use Rattle.qrdata.specs.Segments.{IsSegmentation, cost, segments_bits}
+use Rattle.qrdata.specs.Versions.{block_count, block_lengths, data_codewords, ec_codewords_per_block, total_codewords}
+use Rattle.qrdata.proofs.BitStringLaws.{drop_front, number_of-lt, take_front}
+use Rattle.qrdata.proofs.BlockLaws.{length-interleaving, length-split_by, ec_lengths, split_joined, split_lengths}
+use Rattle.qrdata.proofs.InterleavingLaws.{Blocks, deinterleaving-interleaving}
+use Rattle.qrdata.proofs.LengthLaws.{count_below_cost, length-segments_bits}
+use Rattle.qrdata.proofs.PaddingLaws.{length-data_codewords_of, data_codewords_of-ends}
+use Rattle.qrdata.proofs.PayloadLaws.{AreBytes}
+use Rattle.qrdata.proofs.VersionLaws.{HasSoundBlocks-of, total_is}
+use Rattle.qrdata.proofs.SegmentReadingLaws.{AreBytes-take, AreBytes-drop, segments_at-segments_bits}
+
+-- the error correction codewords of a block: as many as they should be, and with them the block is a codeword
+pub record HasEcCodewords (k : ℕ) : Type 0 where
+  pub count : (block : List ℕ) → AreBytes block → length (ec_codewords_of k block) ≡ k
+  pub roots : (block : List ℕ) → AreBytes block → has_roots k (block, ec_codewords_of k block) ≡ true
+
+roots_pass : (p : List ℕ) (n low : ℕ) → ((i : ℕ) → i < low + n → evaluate p (field_power alpha i) ≡ 0)
+    → list_all (λ i. evaluate p (field_power alpha i) == 0) (range_with_len low n) ≡ true
+roots_pass p zero low h = refl
+roots_pass p (suc n) low h =
+    let here = eq-eqb (evaluate p (field_power alpha low)) 0 (h low (omega arith)) in
+    rw (here, roots_pass p n (low + 1) (λ i less. h i (omega arith))) refl
+
+pub HasEcCodewords-from_law : EcCodewordsAreRemainder → RemaindersHaveRoots → (k : ℕ) → 0 < k → HasEcCodewords k
+HasEcCodewords-from_law remainder codeword k some = record {
+  count = λ block w. let here : IsRemainder k block (ec_codewords_of k block) =
+      remainder k block some (All-from_recursion IsElement block w) in here.ec_codewords_per_block;
+  roots = λ block w.
+      let here : IsRemainder k block (ec_codewords_of k block) =
+      remainder k block some (All-from_recursion IsElement block w) in
+      let roots : HasRoots k (block ++ ec_codewords_of k block) = codeword k block (ec_codewords_of k block) here in
+      roots_pass (block ++ ec_codewords_of k block) k 0 (λ i h. roots i (omega arith));
+}
+
+AreBytes-append : (xs ys : List ℕ) → AreBytes xs → AreBytes ys → AreBytes (xs ++ ys)
+AreBytes-append [] ys v w = w
+AreBytes-append (x ∷ xs) ys v w = (v.0, AreBytes-append xs ys v.1 w)
+
+eight_below : (bits : List Bool) → number_of (take 8 bits) < 256
+eight_below bits =
+    let short : length (take 8 bits) ≤ 8 = omega (arith, length-take 8 bits) in
+    omega (arith, number_of-lt (take 8 bits), pow-le-pow_right {n = 2} (omega arith) short)
+
+AreBytes-codewords_of : (n : ℕ) (bits : List Bool) → AreBytes (codewords_of n bits)
+unfolding codewords_of
+AreBytes-codewords_of zero bits = tt
+AreBytes-codewords_of (suc n) bits = (eight_below bits, AreBytes-codewords_of n (drop 8 bits))
+
+AreBytes-pad : (n : ℕ) → AreBytes (pad_codewords n)
+AreBytes-pad zero = tt
+AreBytes-pad (suc zero) = (omega arith, tt)
+AreBytes-pad (suc (suc n)) = (omega arith, (omega arith, AreBytes-pad n))
+
+pub AreBytes-data_codewords_of : (size : ℕ) (bits : List Bool) → AreBytes (data_codewords_of size bits)
+unfolding data_codewords_of with_pad_codewords
+AreBytes-data_codewords_of size bits =
+    let whole = with_zeros (with_terminator (8 * size) bits) in
+    AreBytes-append (codewords_of (length whole / 8) whole) (pad_codewords (size - length whole / 8))
+    (AreBytes-codewords_of (length whole / 8) whole) (AreBytes-pad (size - length whole / 8))
+
+pub AreBytes-split : (lengths codewords : List ℕ) → AreBytes codewords → AllByRecursion AreBytes (split_by lengths codewords)
+unfolding split_by
+AreBytes-split [] codewords w = tt
+AreBytes-split (n ∷ lengths) codewords w = (
+  AreBytes-take n codewords w,
+  AreBytes-split lengths (drop n codewords) (AreBytes-drop n codewords w),
+)
+
+all_have_roots : (k : ℕ) (blocks : Blocks) → HasEcCodewords k → AllByRecursion AreBytes blocks
+    → list_all (has_roots k) (zip blocks (map (ec_codewords_of k) blocks)) ≡ true
+all_have_roots k [] law w = refl
+all_have_roots k (block ∷ blocks) law w = rw (law.roots block w.0, all_have_roots k blocks law w.1) refl
+
+-- the sum of the lengths of the blocks, and how many they are
+pub lengths_hold : (version : ℕ) (level : Level) → (sum (block_lengths version level) ≡ data_codewords version level)
+    × (length (block_lengths version level) ≡ block_count version level)
+unfolding data_codewords block_count
+lengths_hold version level = (refl, refl)
+
+-- what is read of the codewords of a symbol
+pub data_in-symbol_codewords : (version : ℕ) (level : Level) (segments : List Segment) (bytes : List ℕ)
+    → 1 ≤ version → version ≤ 10 → AreBytes bytes → IsSegmentation version segments bytes
+    → cost version segments ≤ 8 * data_codewords version level
+    → EcCodewordsAreRemainder → RemaindersHaveRoots
+    → data_in version level (symbol_codewords version level segments bytes) ≡ Some bytes
+unfolding data_in symbol_codewords final_message data_of
+data_in-symbol_codewords version level segments bytes low high w cut fits remainder codeword =
+    let size = data_codewords version level in
+    let k = ec_codewords_per_block version level in
+    let count = block_count version level in
+    let lengths = block_lengths version level in
+    let bits = segments_bits version segments bytes in
+    let codewords = data_codewords_of size bits in
+    let blocks = split_by lengths codewords in
+    let ec_blocks = map (ec_codewords_of k) blocks in
+    let sound_here = HasSoundBlocks-of version level low high in
+    let law = HasEcCodewords-from_law remainder codeword k sound_here.some_ec_codewords in
+    let shapes = lengths_hold version level in
+    let bits_fit : length bits ≤ 8 * size = omega (arith, length-segments_bits version segments bytes cut, fits) in
+    let codewords_length : length codewords ≡ size = length-data_codewords_of size bits bits_fit in
+    let all_codewords : sum lengths ≡ length codewords = shapes.0 ∙ sym codewords_length in
+    let block_shapes : map length blocks ≡ lengths = split_lengths lengths codewords (omega arith) in
+    let blocks_count : length blocks ≡ count = length-split_by lengths codewords ∙ shapes.1 in
+    let data_length : length (interleaving blocks) ≡ size =
+    length-interleaving blocks ∙ (ap sum block_shapes ∙ shapes.0) in
+    let split_bytes = AreBytes-split lengths codewords (AreBytes-data_codewords_of size bits) in
+    let ec_codewords_shapes : map length ec_blocks ≡ replicate count k =
+    ec_lengths (ec_codewords_of k) k blocks AreBytes law.count split_bytes ∙ ap (λ n. replicate n k) blocks_count in
+    let ec_codewords_codewords : length (interleaving ec_blocks) ≡ count * k =
+    length-interleaving ec_blocks ∙ (ap sum ec_codewords_shapes ∙ sum_by-replicate (λ x. x) count k) in
+    let read_blocks : deinterleaving lengths (interleaving blocks) ≡ blocks = rw block_shapes at (deinterleaving-interleaving blocks) in
+    let read_ec_blocks : deinterleaving (replicate count k) (interleaving ec_blocks) ≡ ec_blocks =
+    rw ec_codewords_shapes at (deinterleaving-interleaving ec_blocks) in
+    let front : take size (interleaving blocks ++ interleaving ec_blocks) ≡ interleaving blocks =
+    take_front size (interleaving blocks) (interleaving ec_blocks) data_length in
+    let back : drop size (interleaving blocks ++ interleaving ec_blocks) ≡ interleaving ec_blocks =
+    drop_front size (interleaving blocks) (interleaving ec_blocks) data_length in
+    let total : length (interleaving blocks ++ interleaving ec_blocks) ≡ total_codewords version =
+    omega (arith, length-append (interleaving blocks) (interleaving ec_blocks), total_is version level low high) in
+    let valid = all_have_roots k blocks law split_bytes in
+    let joined : concat blocks ≡ codewords = split_joined lengths codewords all_codewords in
+    let ends = data_codewords_of-ends size bits bits_fit in
+    let read : segments_at version (8 * size) (bits ++ ends.0) ≡ Some bytes =
+    segments_at-segments_bits version segments bytes (8 * size) ends.0 w cut
+    (omega (arith, count_below_cost version segments, fits)) ends.2 in
+    let same : (total_codewords version == total_codewords version) ≡ true =
+    eq-eqb (total_codewords version) (total_codewords version) refl in
+    rw (front, back, total, read_blocks, read_ec_blocks, valid, same, joined, ends.1) read
+
+both_pass : {A : Type 0} (a b : Bool) (x : Option A) (y : A) → (if a && b then x else None) ≡ Some y → a ≡ true
+both_pass true b x y h = refl
+both_pass false b x y h = cc
+
+-- codewords that are read are as many as the symbol has
+pub length-read : (version : ℕ) (level : Level) (codewords bytes : List ℕ) → data_in version level codewords ≡ Some bytes
+    → length codewords ≡ total_codewords version
+unfolding data_in
+length-read version level codewords bytes h = eqb-true (length codewords) (total_codewords version) (both_pass _ _ _ bytes h)

@@ -1,0 +1,137 @@
+-- What a table of best first segments says, filled from its end, in the versions whose character counts are as wide.
+use Rattle.std.proofs.Common.{◌≡◌, ◌≢◌, ℕ, ◌+◌, ◌-◌, ◌<◌, ◌≤◌, List, ◌∷◌, drop, length, get_or, refl, sym, subst, ap}
+use Rattle.std.proofs.Common.{◌∙◌, arith, inl, inr, cond}
+use Rattle.std.specs.Prelude.{slice_get, Some, nat_lt}
+use Rattle.std.proofs.Math.ListN.{set}
+use Rattle.std.proofs.lemmas.Bool.{cases_lt, lt-ltb}
+use Rattle.std.proofs.lemmas.Grind.{get_or-set_at}
+use Rattle.std.proofs.lemmas.List.{drop-drop, drop_all, drop_more, get_or-set_other, length-drop, length-set}
+use Rattle.std.proofs.lemmas.List.Sums.{sum_by-cons}
+use Rattle.std.proofs.lemmas.Option.{slice_get-get_or}
+use Rattle.qrdata.specs.declared.level.Level.{Level}
+use Rattle.qrdata.specs.declared.mode.Mode.TheVariants.{Byte}
+use Rattle.qrdata.specs.declared.mode.Segment.{Segment}
+use Rattle.qrdata.specs.Fewest.{chosen_segments}
+use Rattle.qrdata.specs.Private.SmallestPlan.{NamesBest, SameWidths}
+use Rattle.qrdata.specs.Segments.{IsSegmentation, cost, segment_length}
+use Rattle.qrdata.specs.Private.Table.{HasFirsts, choices_of, fewest_bits, next_choices, no_choices}
+use Rattle.qrdata.specs.Versions.{capacity}
+use Rattle.qrdata.proofs.BestChoiceLaws.{fewest_bits-least}
+use Rattle.qrdata.proofs.ChoiceLimitLaws.{Agrees-if_fits, widest}
+use Rattle.qrdata.proofs.FewestBitsLaws.{chosen_segments-is}
+use Rattle.qrdata.proofs.SameWidthLaws.{chosen_segments-same, cost-chosen_same}
+use Rattle.qrdata.proofs.VersionLaws.{capacity-le, capacity-le_nine}
+use Rattle.qrdata.proofs.WriterLaws.{default_segment}
+
+-- the choices of one byte more
+pub choices_of-next : (version : ℕ) (bytes : List ℕ) (place : ℕ) → 0 < place → place ≤ length bytes
+    → next_choices version (get_or bytes (place - 1) 0) (choices_of version (drop place bytes))
+    ≡ choices_of version (drop (place - 1) bytes)
+unfolding choices_of
+choices_of-next version bytes place some inside =
+    let next : place - 1 + 1 ≡ place = omega arith in
+    sym (rw (drop_more bytes (place - 1) 0 (omega arith), next) refl)
+
+pub choices_of-none : (version : ℕ) (bytes : List ℕ) → choices_of version (drop (length bytes) bytes) ≡ no_choices
+unfolding choices_of
+choices_of-none version bytes = rw (drop_all (length bytes) bytes (omega arith)) refl
+
+pub HasFirsts-end : (version : ℕ) (bytes : List ℕ) (firsts : List Segment)
+    → HasFirsts version bytes (length bytes) firsts
+HasFirsts-end version bytes firsts = λ k from to. absurd (omega arith)
+
+found_is : (firsts : List Segment) (k : ℕ) (first : Segment) → k < length firsts → slice_get firsts k ≡ Some first
+    → first ≡ get_or firsts k default_segment
+found_is firsts k first h found = let at_k = slice_get-get_or firsts k default_segment h in cc
+
+pub HasFirsts-set : (version : ℕ) (bytes : List ℕ) (firsts : List Segment) (place : ℕ) (s : Segment) → 0 < place
+    → place ≤ length bytes → length bytes ≤ length firsts
+    → s ≡ (choices_of version (drop (place - 1) bytes)).best.segment → HasFirsts version bytes place firsts
+    → HasFirsts version bytes (place - 1) (set firsts (place - 1) s)
+HasFirsts-set version bytes firsts place s some inside room e old = λ k from to first found.
+    let long : length (set firsts (place - 1) s) ≡ length firsts = length-set firsts (place - 1) s in
+    let is = found_is (set firsts (place - 1) s) k first (omega arith) found in
+    elim (cases_lt (place - 1) k) [
+      | inl more ↦
+          let other : k ≢ place - 1 = omega arith in
+          let before : first ≡ get_or firsts k default_segment =
+          is ∙ get_or-set_other firsts (place - 1) k s default_segment other in
+          old k (omega arith) to first (slice_get-get_or firsts k default_segment (omega arith)
+          ∙ ap (λ x. Some x) (sym before))
+      | inr here ↦
+          let same : k ≡ place - 1 = omega arith in
+          let now : first ≡ s = is ∙ get_or-set_at firsts (place - 1) k s default_segment same (omega arith) in
+          rw same (now ∙ e)
+    ]
+
+-- the capacities of the versions whose character counts are as wide
+capacity_widest : (version : ℕ) (level : Level) → 1 ≤ version → version ≤ 10 → capacity version level ≤ widest version
+capacity_widest version level low high = elim (cases_lt version 10) [
+  | inl small ↦ rw (lt-ltb version 10 small) (omega (arith, capacity-le_nine level version low (omega arith)))
+  | inr large ↦ let ten : version ≡ 10 = omega arith in
+      let all : capacity version level ≤ 2192 = capacity-le level version low high in
+      rw ten (rw ten at all)
+]
+
+pub capacity_as_wide : (v w : ℕ) (level : Level) → SameWidths v w → 1 ≤ v → v ≤ 10 → capacity v level ≤ widest w
+capacity_as_wide v w level same low high =
+    let as_wide : widest v ≡ widest w = ap (λ n. cond {A = ℕ} (nat_lt n 16) 1856 2192) (same Byte) in
+    omega (arith, as_wide, capacity_widest v level low high)
+
+-- the fewest bits are no more than those of the best list
+pub fewest_bits-below : (v w : ℕ) → SameWidths v w → (bytes : List ℕ)
+    → fewest_bits w bytes ≤ cost v (chosen_segments v bytes)
+fewest_bits-below v w same bytes =
+    omega (
+      arith,
+      cost-chosen_same v w same bytes,
+      fewest_bits-least w (chosen_segments w bytes) bytes (chosen_segments-is w bytes),
+    )
+
+-- and as many where they fit
+pub fewest_bits-is : (v w : ℕ) → SameWidths v w → (bytes : List ℕ) → length bytes ≤ 652 → fewest_bits w bytes ≤ widest w
+    → fewest_bits w bytes ≡ cost v (chosen_segments v bytes)
+fewest_bits-is v w same bytes few fits = (Agrees-if_fits w bytes few fits).bits ∙ sym (cost-chosen_same v w same bytes)
+
+pub NamesBest-of : (v w : ℕ) → SameWidths v w → (bytes : List ℕ) (limit : ℕ) (firsts : List Segment)
+    → length bytes ≤ 652 → limit ≤ widest w → HasFirsts w bytes 0 firsts → NamesBest v bytes limit firsts
+NamesBest-of v w same bytes limit firsts few fits known = λ k inside small first found.
+    let rest = drop k bytes in
+    let agrees = Agrees-if_fits w rest (omega (arith, length-drop k bytes))
+    (omega (arith, fewest_bits-below v w same rest)) in
+    let whole = agrees.first (omega (arith, length-drop k bytes)) in
+    let is : first ≡ (choices_of w rest).best.segment = known k (omega arith) inside first found in
+    rw (chosen_segments-same v w same (drop first.len rest), chosen_segments-same v w same rest, is) whole
+
+-- what a first segment is
+pub record IsNamed (version : ℕ) (bytes : List ℕ) (place limit : ℕ) (s : Segment) : Type 0 where
+  pub some : 0 < s.len
+  pub inside : place + s.len ≤ length bytes
+  pub next : chosen_segments version (drop place bytes) ≡ s ∷ chosen_segments version (drop (place + s.len) bytes)
+  pub small : cost version (chosen_segments version (drop (place + s.len) bytes)) ≤ limit
+
+pub IsNamed-first : (version : ℕ) (bytes : List ℕ) (limit : ℕ) (firsts : List Segment) (place : ℕ)
+    → place < length bytes → length bytes ≤ length firsts → NamesBest version bytes limit firsts
+    → cost version (chosen_segments version (drop place bytes)) ≤ limit
+    → IsNamed version bytes place limit (get_or firsts place default_segment)
+IsNamed-first version bytes limit firsts place h room known fits =
+    let s = get_or firsts place default_segment in
+    let first : s ∷ chosen_segments version (drop s.len (drop place bytes))
+    ≡ chosen_segments version (drop place bytes) =
+    known place h fits s (slice_get-get_or firsts place default_segment (omega arith)) in
+    let cut : IsSegmentation version (s ∷ chosen_segments version (drop s.len (drop place bytes))) (drop place bytes) =
+    subst (λ (l : List Segment). IsSegmentation version l (drop place bytes)) (sym first)
+    (chosen_segments-is version (drop place bytes)) in
+    let next : chosen_segments version (drop place bytes) ≡ s ∷ chosen_segments version (drop (place + s.len) bytes) =
+    rw (drop-drop s.len place bytes) at (sym first) in
+    record {
+      some = cut.0.some;
+      inside = omega (arith, cut.0.inside, length-drop place bytes);
+      next = next;
+      small = omega (
+        arith,
+        fits,
+        ap (cost version) next,
+        sum_by-cons (segment_length version) s (chosen_segments version (drop (place + s.len) bytes)),
+      );
+    }

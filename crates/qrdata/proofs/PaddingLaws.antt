@@ -1,0 +1,143 @@
+-- The data codewords hold the bits of the segments, and after them what a reader takes as their end.
+use Rattle.std.proofs.Common.{◌≡◌, ℕ, zero, suc, ◌+◌, ◌-◌, ◌*◌, ◌/◌, ◌%◌, ◌<◌, ◌≤◌, List, [], ◌∷◌, ◌++◌, take, drop}
+use Rattle.std.proofs.Common.{length, replicate, refl, ap, append_assoc, append-nil, length-append, arith, Bool, true}
+use Rattle.std.proofs.Common.{false, min}
+use Rattle.std.specs.Prelude.{◌⊎◌}
+use Rattle.std.proofs.lemmas.List.{length-replicate, length-take-le, length-drop, take-append-drop}
+use Rattle.std.proofs.Common.{inl, inr}
+use Rattle.std.proofs.lemmas.Bool.{cases_lt}
+use Rattle.std.proofs.lemmas.Bool.Decides.{nat_tests}
+use Rattle.qrdata.specs.Bits.{bits_of, number_of, codewords_of}
+use Rattle.qrdata.specs.Codewords.{with_zeros, with_pad_codewords, pad_codewords, data_codewords_of, with_terminator}
+use Rattle.qrdata.specs.Segments.{byte_bits}
+use Rattle.qrdata.specs.Reading.{is_end}
+use Rattle.qrdata.proofs.BitStringLaws.{bits_of-number_of, length-bits_of}
+
+byte_bits-one : (a : ℕ) (bytes : List ℕ) → byte_bits (a ∷ bytes) ≡ bits_of 8 a ++ byte_bits bytes
+unfolding byte_bits
+byte_bits-one a bytes = refl
+
+byte_bits-nil : byte_bits [] ≡ []
+unfolding byte_bits
+byte_bits-nil = refl
+
+pub byte_bits-append : (xs ys : List ℕ) → byte_bits (xs ++ ys) ≡ byte_bits xs ++ byte_bits ys
+byte_bits-append [] ys = rw byte_bits-nil refl
+byte_bits-append (x ∷ xs) ys = rw (byte_bits-one x (xs ++ ys), byte_bits-one x xs, byte_bits-append xs ys, append_assoc)
+    refl
+
+pub byte_bits-single : (a : ℕ) → byte_bits (a ∷ []) ≡ bits_of 8 a
+byte_bits-single a = rw (byte_bits-one a [], byte_bits-nil) (append-nil (bits_of 8 a))
+
+eight_bits : (bits : List Bool) → length bits ≡ 8 → bits_of 8 (number_of bits) ≡ bits
+eight_bits bits e = rw (← e) (bits_of-number_of bits)
+
+pub byte_bits-codewords_of : (n : ℕ) (bits : List Bool) → length bits ≡ 8 * n → byte_bits (codewords_of n bits) ≡ bits
+unfolding codewords_of
+byte_bits-codewords_of zero [] e = byte_bits-nil
+byte_bits-codewords_of zero (b ∷ bits) e = absurd (omega arith)
+byte_bits-codewords_of (suc n) bits e =
+    let first : length (take 8 bits) ≡ 8 = length-take-le 8 bits (omega arith) in
+    let later : length (drop 8 bits) ≡ 8 * n = omega (arith, length-drop 8 bits) in
+    rw (byte_bits-one, eight_bits (take 8 bits) first, byte_bits-codewords_of n (drop 8 bits) later)
+    (take-append-drop 8 bits)
+
+pub length-codewords_of : (n : ℕ) (bits : List Bool) → length (codewords_of n bits) ≡ n
+unfolding codewords_of
+length-codewords_of zero bits = refl
+length-codewords_of (suc n) bits = ap suc (length-codewords_of n (drop 8 bits))
+
+pub length-pad_codewords : (n : ℕ) → length (pad_codewords n) ≡ n
+length-pad_codewords zero = refl
+length-pad_codewords (suc zero) = refl
+length-pad_codewords (suc (suc n)) = ap (λ k. suc (suc k)) (length-pad_codewords n)
+
+-- four zeros, or fewer than four bits, end the segments
+pub is_end-zeros : (rest : List Bool) → is_end (replicate 4 false ++ rest) ≡ true
+unfolding number_of
+is_end-zeros rest = refl
+
+is_end-short : (bits : List Bool) → length bits < 4 → is_end bits ≡ true
+is_end-short bits h = grind (arith, nat_tests)
+
+pub length-byte_bits : (bytes : List ℕ) → length (byte_bits bytes) ≡ 8 * length bytes
+length-byte_bits [] = rw byte_bits-nil refl
+length-byte_bits (b ∷ bytes) = rw byte_bits-one
+    (omega (arith, length-append (bits_of 8 b) (byte_bits bytes), length-bits_of 8 b, length-byte_bits bytes))
+
+-- The terminator and the zeros after it are bits of their own, in whole codewords and no more than there are: four
+-- zeros come first, or all is full.
+pub with_zeros-whole : (size : ℕ) (bits : List Bool) → length bits ≤ 8 * size
+    → (n : ℕ) × (zeros : List Bool) × (with_zeros (with_terminator (8 * size) bits) ≡ bits ++ zeros)
+    × (length bits + length zeros ≡ 8 * n) × (n ≤ size)
+    × (((later : List Bool) × (zeros ≡ replicate 4 false ++ later)) ⊎ ((n ≡ size) × (length zeros < 4)))
+unfolding with_terminator with_zeros
+with_zeros-whole size bits h =
+    let t = min 4 (8 * size - length bits) in
+    let ended = bits ++ replicate t false in
+    let z = (8 - length ended % 8) % 8 in
+    let e : length ended ≡ length bits + t =
+    omega (arith, length-append bits (replicate t false), length-replicate t false) in
+    let w : length (replicate t false ++ replicate z false) ≡ t + z =
+    omega (
+      arith,
+      length-append (replicate t false) (replicate z false),
+      length-replicate t false,
+      length-replicate z false,
+    ) in (
+      (length bits + t + z) / 8,
+      replicate t false ++ replicate z false,
+      append_assoc bits (replicate t false) (replicate z false),
+      omega arith,
+      omega arith,
+      elim (cases_lt (8 * size - length bits) 4) [
+        | inl few ↦ inr (omega arith, omega arith)
+        | inr many ↦ let four : t ≡ 4 = omega arith in
+            inl (replicate z false, ap (λ k. replicate k false ++ replicate z false) four)
+      ],
+    )
+
+with_pad_codewords-whole : (size n : ℕ) (whole : List Bool) → length whole ≡ 8 * n
+    → byte_bits (with_pad_codewords size whole) ≡ whole ++ byte_bits (pad_codewords (size - n))
+unfolding with_pad_codewords
+with_pad_codewords-whole size n whole e =
+    let count : length whole / 8 ≡ n = omega arith in
+    rw (count, byte_bits-append, byte_bits-codewords_of n whole e) refl
+
+-- The data codewords hold the bits, and then what ends them.
+pub data_codewords_of-ends : (size : ℕ) (bits : List Bool) → length bits ≤ 8 * size → (rest : List Bool)
+    × (byte_bits (data_codewords_of size bits) ≡ bits ++ rest) × (is_end rest ≡ true)
+unfolding data_codewords_of
+data_codewords_of-ends size bits h =
+    let a = with_zeros-whole size bits h in
+    let n = a.0 in
+    let zeros = a.1 in
+    let pad = byte_bits (pad_codewords (size - n)) in
+    let whole : length (bits ++ zeros) ≡ 8 * n = omega (arith, length-append bits zeros, a.3) in (
+      zeros ++ pad,
+      rw (a.2, with_pad_codewords-whole size n (bits ++ zeros) whole) (append_assoc bits zeros pad),
+      elim a.5 [
+        | inl four ↦ rw four.1 (is_end-zeros (four.0 ++ pad))
+        | inr full ↦ is_end-short (zeros ++ pad)
+            (omega (
+              arith,
+              length-append zeros pad,
+              length-byte_bits (pad_codewords (size - n)),
+              length-pad_codewords (size - n),
+            ))
+      ],
+    )
+
+pub length-data_codewords_of : (size : ℕ) (bits : List Bool) → length bits ≤ 8 * size → length (data_codewords_of size bits) ≡ size
+unfolding data_codewords_of with_pad_codewords
+length-data_codewords_of size bits h =
+    let a = with_zeros-whole size bits h in
+    let whole : length (with_zeros (with_terminator (8 * size) bits)) ≡ 8 * a.0 =
+    omega (arith, ap length a.2, length-append bits a.1, a.3) in
+    let count = length (with_zeros (with_terminator (8 * size) bits)) / 8 in
+    omega (
+      arith,
+      length-append (codewords_of count (with_zeros (with_terminator (8 * size) bits))) (pad_codewords (size - count)),
+      length-codewords_of count (with_zeros (with_terminator (8 * size) bits)),
+      length-pad_codewords (size - count),
+    )

@@ -1,0 +1,48 @@
+-- A search in rising order finds the least version in which the best segments fit.
+use Rattle.std.proofs.Common.{◌≡◌, ℕ, zero, suc, ◌+◌, ◌-◌, ◌<◌, ◌≤◌, List, arith, Bool, true, false, inl, inr, refl}
+use Rattle.std.specs.Prelude.{nat_le, Some, None}
+use Rattle.std.specs.List.{find, range_with_len}
+use Rattle.std.proofs.lemmas.Bool.{cases_lt, le-leb, lt-leb}
+use Rattle.qrdata.specs.declared.level.Level.{Level}
+use Rattle.qrdata.specs.Segments.{cost}
+use Rattle.qrdata.specs.Versions.{capacity}
+use Rattle.qrdata.specs.Fewest.{NoneFits, chosen_segments, chosen_version}
+use Rattle.qrdata.specs.Private.SmallestPlan.{DoNotFit}
+use Rattle.qrdata.proofs.FewestBitsLaws.{chosen_segments-least}
+
+find_is : (p : ℕ → Bool) (n low v : ℕ) → low ≤ v → v < low + n → p v ≡ true → ((u : ℕ) → low ≤ u → u < v → p u ≡ false)
+    → find p (range_with_len low n) ≡ Some v
+find_is p zero low v from below t others = absurd (omega arith)
+find_is p (suc n) low v from below t others = elim (cases_lt low v) [
+  | inl more ↦ let no : p low ≡ false = others low (omega arith) more in
+      rw no (find_is p n (low + 1) v (omega arith) (omega arith) t (λ u h k. others u (omega arith) k))
+  | inr here ↦ let same : v ≡ low = omega arith in let yes : p low ≡ true = rw same at t in rw (yes, same) refl
+]
+
+find_none : (p : ℕ → Bool) (n low : ℕ) → ((u : ℕ) → low ≤ u → u < low + n → p u ≡ false)
+    → find p (range_with_len low n) ≡ None
+find_none p zero low others = refl
+find_none p (suc n) low others =
+    let no : p low ≡ false = others low (omega arith) (omega arith) in
+    rw no (find_none p n (low + 1) (λ u h k. others u (omega arith) (omega arith)))
+
+pub chosen_version-is : (lowest : ℕ) (level : Level) (bytes : List ℕ) (v : ℕ) → lowest ≤ v → v ≤ 10
+    → cost v (chosen_segments v bytes) ≤ capacity v level
+    → ((u : ℕ) → lowest ≤ u → u < v → DoNotFit u level bytes) → chosen_version lowest level bytes ≡ Some v
+unfolding chosen_version
+chosen_version-is lowest level bytes v from to fits others =
+    find_is (λ version. nat_le (cost version (chosen_segments version bytes)) (capacity version level)) (11 - lowest)
+    lowest v from (omega arith) (le-leb _ _ fits) (λ u h k. lt-leb _ _ (others u h k))
+
+pub chosen_version-none : (lowest : ℕ) (level : Level) (bytes : List ℕ)
+    → ((u : ℕ) → lowest ≤ u → u ≤ 10 → DoNotFit u level bytes) → chosen_version lowest level bytes ≡ None
+unfolding chosen_version
+chosen_version-none lowest level bytes others =
+    find_none (λ version. nat_le (cost version (chosen_segments version bytes)) (capacity version level)) (11 - lowest)
+    lowest (λ u h k. lt-leb _ _ (others u h (omega arith)))
+
+-- where the best segments do not fit, none do
+pub NoneFits-from_chosen : (version : ℕ) (level : Level) (bytes : List ℕ) → DoNotFit version level bytes
+    → NoneFits version level bytes
+NoneFits-from_chosen version level bytes long segments cut =
+    omega (arith, long, chosen_segments-least version bytes segments cut)

@@ -1,0 +1,244 @@
+-- What the writers have written, step by step.
+use Rattle.std.proofs.Common.{◌≡◌, ℕ, zero, suc, ◌+◌, ◌-◌, ◌*◌, ◌/◌, ◌%◌, ◌^◌, ◌<◌, ◌≤◌, List, [], ◌∷◌, ◌++◌, map, take}
+use Rattle.std.proofs.Common.{drop, length, replicate, get_or, refl, sym, ap, ◌∙◌, append-nil, length-append, arith}
+use Rattle.std.proofs.Common.{Bool, false, sum}
+use Rattle.std.specs.Prelude.{◌==◌}
+use Rattle.std.specs.List.{AllByRecursion, flat_map}
+use Rattle.std.proofs.lemmas.List.{drop_more, drop_all, drop-drop, length-take-le}
+use Rattle.std.proofs.lemmas.List.Elements.{All-from_get_or, recursion_from_All}
+use Rattle.std.proofs.lemmas.List.Sums.{sum_by-cons}
+use Rattle.std.proofs.Math.Nat.{div-eq_of_lt, mod-eq_of_lt}
+use Rattle.std.proofs.lemmas.Nat.{pow_pos}
+use Rattle.qrdata.specs.declared.level.Level.{Level}
+use Rattle.qrdata.specs.declared.mode.Mode.{Mode}
+use Rattle.qrdata.specs.declared.mode.Mode.TheVariants.{Numeric}
+use Rattle.qrdata.specs.declared.mode.Segment.{Segment}
+use Rattle.qrdata.specs.declared.bits.Bits.{Bits}
+use Rattle.qrdata.specs.Private.BitsInCodewords.{bits_in}
+use Rattle.qrdata.specs.Bits.{bits_of, codewords_of, number_of}
+use Rattle.qrdata.specs.Codewords.{largest, split_by}
+use Rattle.qrdata.specs.Segments.{IsSegmentation, alphanumeric_bits, alphanumeric_value, byte_bits, cost, count_width}
+use Rattle.qrdata.specs.Segments.{segment_bits, segment_length, segment_of, segments_bits}
+use Rattle.qrdata.specs.Versions.{block_count, block_lengths, data_codewords, ec_codewords_per_block}
+use Rattle.qrdata.proofs.BlockLaws.{split_lengths}
+use Rattle.qrdata.proofs.BitStringLaws.{bits_of-nil, drop_front, length-bits_of, number_of-bits_of, take_front}
+use Rattle.qrdata.proofs.InterleavingLaws.{Blocks, longest}
+use Rattle.qrdata.proofs.PayloadStepLaws.{drop_next, drop_none}
+use Rattle.qrdata.proofs.PayloadLaws.{AreBytes}
+use Rattle.gf256.specs.ErrorCorrection.{ec_codewords_of, EcCodewordsAreRemainder, RemaindersHaveRoots}
+use Rattle.qrdata.specs.Codewords.{with_zeros, data_of, with_terminator}
+use Rattle.qrdata.specs.Versions.{capacity}
+use Rattle.qrdata.specs.Segments.{payload_length}
+use Rattle.qrdata.proofs.LengthLaws.{length-segment_bits, length-segments_bits}
+use Rattle.qrdata.proofs.PaddingLaws.{with_zeros-whole, length-byte_bits, length-data_codewords_of}
+use Rattle.qrdata.proofs.BlockLaws.{length-split_by}
+use Rattle.qrdata.proofs.DataReadingLaws.{AreBytes-split, HasEcCodewords-from_law, lengths_hold}
+use Rattle.qrdata.proofs.VersionLaws.{HasSoundBlocks-of, total_is}
+
+-- characters
+pub alphanumeric_bits-two_left : (xs : List ℕ) (i : ℕ) → 2 ≤ length xs - i → alphanumeric_bits (drop i xs)
+    ≡ bits_of 11 (45 * alphanumeric_value (get_or xs i 0) + alphanumeric_value (get_or xs (i + 1) 0))
+    ++ alphanumeric_bits (drop (i + 2) xs)
+unfolding alphanumeric_bits
+alphanumeric_bits-two_left xs i h =
+    let first = drop_next xs i (i + 1) (omega arith) (omega arith) in
+    let second = drop_next xs (i + 1) (i + 2) (omega arith) (omega arith) in
+    rw (first, second) refl
+
+pub alphanumeric_bits-one_left : (xs : List ℕ) (i : ℕ) → length xs - i ≡ 1
+    → alphanumeric_bits (drop i xs) ≡ bits_of 6 (alphanumeric_value (get_or xs i 0))
+unfolding alphanumeric_bits
+alphanumeric_bits-one_left xs i h = rw (
+  drop_next xs i (i + 1) (omega arith) (omega arith),
+  drop_none xs (i + 1) (omega arith),
+) refl
+
+pub alphanumeric_bits-none_left : (xs : List ℕ) (i : ℕ) → length xs ≤ i → alphanumeric_bits (drop i xs) ≡ []
+unfolding alphanumeric_bits
+alphanumeric_bits-none_left xs i h = rw (drop_none xs i h) refl
+
+-- bytes
+pub byte_bits-next : (xs : List ℕ) (i : ℕ) → i < length xs
+    → byte_bits (drop i xs) ≡ bits_of 8 (get_or xs i 0) ++ byte_bits (drop (i + 1) xs)
+unfolding byte_bits
+byte_bits-next xs i h = rw (drop_more xs i 0 h) refl
+
+pub byte_bits-none_left : (xs : List ℕ) (i : ℕ) → length xs ≤ i → byte_bits (drop i xs) ≡ []
+unfolding byte_bits
+byte_bits-none_left xs i h = rw (drop_none xs i h) refl
+
+-- what a list of segments is read as past its end
+abbrev pub default_segment : Segment
+default_segment = segment_of Numeric 0
+
+-- segments: the next one, and those after it
+pub segments_bits-next : (version : ℕ) (segments : List Segment) (d : Segment) (bytes : List ℕ) (i place : ℕ)
+    → i < length segments
+    → segments_bits version (drop i segments) (drop place bytes)
+    ≡ segment_bits version (get_or segments i d).mode (take (get_or segments i d).len (drop place bytes))
+    ++ segments_bits version (drop (i + 1) segments) (drop (place + (get_or segments i d).len) bytes)
+unfolding segments_bits
+segments_bits-next version segments d bytes i place h =
+    rw (drop_more segments i d h, ← drop-drop (get_or segments i d).len place bytes) refl
+
+pub segments_bits-none_left : (version : ℕ) (segments : List Segment) (bytes : List ℕ) (i : ℕ) → length segments ≤ i
+    → segments_bits version (drop i segments) bytes ≡ []
+unfolding segments_bits
+segments_bits-none_left version segments bytes i h = rw (drop_all i segments h) refl
+
+pub IsSegmentation-next : (version : ℕ) (segments : List Segment) (d : Segment) (bytes : List ℕ) (i place : ℕ)
+    → i < length segments → IsSegmentation version (drop i segments) (drop place bytes)
+    → IsSegmentation version (get_or segments i d ∷ drop (i + 1) segments) (drop place bytes)
+IsSegmentation-next version segments d bytes i place h held = rw (drop_more segments i d h) at held
+
+pub cost-next : (version : ℕ) (segments : List Segment) (d : Segment) (i : ℕ) → i < length segments
+    → cost version (drop i segments) ≡ segment_length version (get_or segments i d)
+    + cost version (drop (i + 1) segments)
+cost-next version segments d i h = rw (drop_more segments i d h)
+    (sum_by-cons (segment_length version) (get_or segments i d) (drop (i + 1) segments))
+
+-- zeros
+bit_zero : (width : ℕ) → (0 / 2 ^ width % 2 == 1) ≡ false
+bit_zero width = let none : 0 / 2 ^ width ≡ 0 = div-eq_of_lt (pow_pos width) in rw none refl
+
+pub bits_of-zero : (width : ℕ) → bits_of width 0 ≡ replicate width false
+unfolding bits_of
+bits_of-zero zero = refl
+bits_of-zero (suc width) = rw (bit_zero width, bits_of-zero width) refl
+
+-- the longest of the blocks that the codewords are cut into has the greatest of the lengths
+pub longest-split_by : (lengths codewords : List ℕ) → sum lengths ≡ length codewords
+    → longest (split_by lengths codewords) ≡ largest lengths
+longest-split_by lengths codewords whole = ap largest (split_lengths lengths codewords (omega arith))
+
+-- the blocks that are left are the next one and the others
+pub split_by-next : (lengths codewords : List ℕ) (i start : ℕ) → i < length lengths
+    → split_by (drop i lengths) (drop start codewords) ≡ take (get_or lengths i 0) (drop start codewords)
+    ∷ split_by (drop (i + 1) lengths) (drop (start + get_or lengths i 0) codewords)
+unfolding split_by
+split_by-next lengths codewords i start h = rw (drop_more lengths i 0 h, ← drop-drop (get_or lengths i 0) start codewords) refl
+
+pub split_by-none_left : (lengths codewords : List ℕ) (i : ℕ) → length lengths ≤ i → split_by (drop i lengths) codewords ≡ []
+unfolding split_by
+split_by-none_left lengths codewords i h = rw (drop_all i lengths h) refl
+
+-- what is made of each block in the same length is cut apart again
+pub split_by-flat_map : (f : List ℕ → List ℕ) (k : ℕ) (P : List ℕ → Type 0) (blocks : Blocks)
+    → ((block : List ℕ) → P block → length (f block) ≡ k) → AllByRecursion P blocks
+    → split_by (replicate (length blocks) k) (flat_map f blocks) ≡ map f blocks
+unfolding split_by
+split_by-flat_map f k P [] each w = refl
+split_by-flat_map f k P (block ∷ blocks) each w =
+    let first : take k (f block ++ flat_map f blocks) ≡ f block =
+    take_front k (f block) (flat_map f blocks) (each block w.0) in
+    let rest : drop k (f block ++ flat_map f blocks) ≡ flat_map f blocks =
+    drop_front k (f block) (flat_map f blocks) (each block w.0) in
+    rw (first, rest, split_by-flat_map f k P blocks each w.1) refl
+
+pub length-flat_map : (f : List ℕ → List ℕ) (k : ℕ) (P : List ℕ → Type 0) (blocks : Blocks)
+    → ((block : List ℕ) → P block → length (f block) ≡ k) → AllByRecursion P blocks
+    → length (flat_map f blocks) ≡ length blocks * k
+length-flat_map f k P [] each w = omega arith
+length-flat_map f k P (block ∷ blocks) each w =
+    omega (arith, length-append (f block) (flat_map f blocks), each block w.0, length-flat_map f k P blocks each w.1)
+
+-- a slice of bytes
+pub AreBytes-slice : (bytes : List ℕ) → ((i : ℕ) → get_or bytes i 0 < 256) → AreBytes bytes
+AreBytes-slice bytes each = recursion_from_All (λ b. b < 256) bytes
+    (All-from_get_or (λ b. b < 256) bytes 0 (λ i h. each i))
+
+-- the error correction codewords of the blocks of a symbol
+pub record HasBlocks (version : ℕ) (level : Level) (message : List ℕ) : Type 0 where
+  pub count : length (block_lengths version level) ≡ block_count version level
+  pub whole : sum (block_lengths version level) ≡ length message
+  pub ec_blocks : length (flat_map (ec_codewords_of (ec_codewords_per_block version level))
+      (split_by (block_lengths version level) message)) ≡ block_count version level * ec_codewords_per_block version level
+  pub cut : split_by (replicate (length (block_lengths version level)) (ec_codewords_per_block version level))
+      (flat_map (ec_codewords_of (ec_codewords_per_block version level)) (split_by (block_lengths version level) message))
+      ≡ map (ec_codewords_of (ec_codewords_per_block version level)) (split_by (block_lengths version level) message)
+  pub few : block_count version level ≤ 8
+  pub some_ec_codewords : 1 ≤ ec_codewords_per_block version level
+  pub few_ec_codewords : ec_codewords_per_block version level ≤ 30
+  pub total : length message + block_count version level * ec_codewords_per_block version level ≤ 346
+
+pub HasBlocks-message : (version : ℕ) (level : Level) (message : List ℕ) → 1 ≤ version → version ≤ 10
+    → EcCodewordsAreRemainder → RemaindersHaveRoots → AreBytes message
+    → length message ≡ data_codewords version level → HasBlocks version level message
+HasBlocks-message version level message low high remainder codeword w whole =
+    let k = ec_codewords_per_block version level in
+    let lengths = block_lengths version level in
+    let blocks = split_by (block_lengths version level) message in
+    let sound = HasSoundBlocks-of version level low high in
+    let shapes = lengths_hold version level in
+    let law = HasEcCodewords-from_law remainder codeword k sound.some_ec_codewords in
+    let bytes : AllByRecursion AreBytes blocks = AreBytes-split lengths message w in
+    let same : length blocks ≡ length lengths = length-split_by lengths message in
+    record {
+      count = shapes.1;
+      whole = shapes.0 ∙ sym whole;
+      ec_blocks = length-flat_map (ec_codewords_of k) k AreBytes blocks law.count bytes ∙ ap (λ n. n * k) (same ∙ shapes.1);
+      cut = rw (← same) (split_by-flat_map (ec_codewords_of k) k AreBytes blocks law.count bytes);
+      few = sound.few_blocks;
+      some_ec_codewords = sound.some_ec_codewords;
+      few_ec_codewords = sound.few_ec_codewords;
+      total = omega (arith, total_is version level low high, sound.few_codewords);
+    }
+
+-- the bits of a segment of the first bytes
+pub length-segment_bits_front : (version : ℕ) (mode : Mode) (n : ℕ) (bytes : List ℕ) → n ≤ length bytes
+    → length (segment_bits version mode (take n bytes)) ≡ 4 + count_width version mode + payload_length mode n
+length-segment_bits_front version mode n bytes h =
+    length-segment_bits version mode (take n bytes)
+    ∙ ap (λ k. 4 + count_width version mode + payload_length mode k) (length-take-le n bytes h)
+
+pub with_zeros-fits : (size : ℕ) (bits : List Bool) → length bits ≤ 8 * size
+    → length (with_zeros (with_terminator (8 * size) bits)) ≤ 8 * size
+with_zeros-fits size bits h =
+    let a = with_zeros-whole size bits h in
+    omega (arith, ap length a.2, length-append bits a.1, a.3, a.4)
+
+pub length-data_of : (version : ℕ) (level : Level) (segments : List Segment) (bytes : List ℕ)
+    → IsSegmentation version segments bytes → cost version segments ≤ capacity version level
+    → length (data_of version level segments bytes) ≡ data_codewords version level
+unfolding data_of
+length-data_of version level segments bytes held fits =
+    length-data_codewords_of (data_codewords version level) (segments_bits version segments bytes)
+    (omega (arith, length-segments_bits version segments bytes held))
+
+-- the codewords of the bits of bytes are the bytes
+pub codewords_of-byte_bits : (codewords : List ℕ) → AreBytes codewords → codewords_of (length codewords) (byte_bits codewords) ≡ codewords
+unfolding codewords_of byte_bits
+codewords_of-byte_bits [] w = refl
+codewords_of-byte_bits (codeword ∷ codewords) w =
+    let front : take 8 (bits_of 8 codeword ++ byte_bits codewords) ≡ bits_of 8 codeword =
+    take_front 8 (bits_of 8 codeword) (byte_bits codewords) (length-bits_of 8 codeword) in
+    let rest : drop 8 (bits_of 8 codeword ++ byte_bits codewords) ≡ byte_bits codewords =
+    drop_front 8 (bits_of 8 codeword) (byte_bits codewords) (length-bits_of 8 codeword) in
+    let value : number_of (bits_of 8 codeword) ≡ codeword = number_of-bits_of 8 codeword ∙ mod-eq_of_lt w.0 in
+    rw (front, rest, value, codewords_of-byte_bits codewords w.1) refl
+
+-- bits that end with a codeword are those of their codewords
+pub whole_codewords : (codewords : List ℕ) (count number n : ℕ) → AreBytes codewords → count < 8
+    → length (byte_bits codewords ++ bits_of count number) ≡ 8 * n
+    → codewords ≡ codewords_of (length (byte_bits codewords ++ bits_of count number) / 8)
+    (byte_bits codewords ++ bits_of count number)
+whole_codewords codewords count number n w few whole =
+    let long : length (byte_bits codewords ++ bits_of count number) ≡ 8 * length codewords + count =
+    omega (
+      arith,
+      length-append (byte_bits codewords) (bits_of count number),
+      length-byte_bits codewords,
+      length-bits_of count number,
+    ) in
+    let none : count ≡ 0 = omega (arith, long, whole) in
+    let size : length (byte_bits codewords ++ bits_of count number) / 8 ≡ length codewords = omega (arith, long, none) in
+    rw (size, none, bits_of-nil, append-nil) (sym (codewords_of-byte_bits codewords w))
+
+pub length-bits_in : (bits : Bits) → length (bits_in bits) ≡ 8 * length bits.codewords.items + bits.rest.count
+length-bits_in bits =
+    omega (
+      arith,
+      length-append (byte_bits bits.codewords.items) (bits_of bits.rest.count bits.rest.number),
+      length-byte_bits bits.codewords.items,
+      length-bits_of bits.rest.count bits.rest.number,
+    )

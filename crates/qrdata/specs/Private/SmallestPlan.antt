@@ -1,0 +1,38 @@
+-- The plan of the least version in a range (ISO/IEC 18004, 7.4.1).
+use Rattle.std.specs.Prelude.{◌≡◌, ℕ, ◌<◌, ◌≤◌, List, ◌∷◌, length, drop, slice_get, Some}
+use Rattle.qrdata.specs.declared.level.Level.{Level}
+use Rattle.qrdata.specs.declared.mode.Mode.{Mode}
+use Rattle.qrdata.specs.declared.mode.Segment.{Segment}
+use Rattle.qrdata.specs.Fewest.{chosen_segments}
+use Rattle.qrdata.specs.PlanView.{PlanView}
+use Rattle.qrdata.specs.Segments.{cost, count_width}
+use Rattle.qrdata.specs.Versions.{capacity}
+
+-- a character count has the same bits in two versions, whatever the mode
+abbrev pub SameWidths : ℕ → ℕ → Type 0
+SameWidths v w = (mode : Mode) → count_width v mode ≡ count_width w mode
+
+-- the best segments of the bytes do not fit in a version
+abbrev pub DoNotFit : ℕ → Level → List ℕ → Type 0
+DoNotFit version level bytes = capacity version level < cost version (chosen_segments version bytes)
+
+-- the plan has the least version in a range in which the best segments of the bytes fit, and it has these segments
+pub record IsSmallestPlan (lowest highest : ℕ) (level : Level) (bytes : List ℕ) (plan : PlanView) : Type 0 where
+  pub from : lowest ≤ plan.version
+  pub to : plan.version ≤ highest
+  pub same_level : plan.level ≡ level
+  pub same_bytes : plan.bytes ≡ bytes
+  pub same_segments : plan.segments ≡ chosen_segments plan.version bytes
+  pub fits : cost plan.version (chosen_segments plan.version bytes) ≤ capacity plan.version level
+  pub least : (v : ℕ) → lowest ≤ v → v < plan.version → DoNotFit v level bytes
+
+-- in no version of a range do the best segments of the bytes fit
+abbrev pub NoPlan : (lowest highest : ℕ) → Level → List ℕ → Type 0
+NoPlan lowest highest level bytes = (v : ℕ) → lowest ≤ v → v ≤ highest → DoNotFit v level bytes
+
+-- where the best segments of a rest have at most so many bits, the table names the first of them
+abbrev pub NamesBest : (version : ℕ) (bytes : List ℕ) (limit : ℕ) → List Segment → Type 0
+NamesBest version bytes limit firsts =
+    (k : ℕ) → k < length bytes → cost version (chosen_segments version (drop k bytes)) ≤ limit
+    → (first : Segment) → slice_get firsts k ≡ Some first
+    → first ∷ chosen_segments version (drop first.len (drop k bytes)) ≡ chosen_segments version (drop k bytes)

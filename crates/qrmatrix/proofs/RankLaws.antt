@@ -1,0 +1,94 @@
+-- How many free modules have a key below k, as k grows along the walk.
+use Rattle.std.proofs.Common.{◌≡◌, ◌≢◌, ℕ, suc, ◌+◌, ◌-◌, ◌*◌, ◌/◌, ◌<◌, refl, sym, ap, subst, ◌∙◌, arith, Bool, true}
+use Rattle.std.proofs.Common.{false, ◌&&◌, inl, inr}
+use Rattle.std.specs.Prelude.{nat_lt, ◌==◌}
+use Rattle.std.proofs.lemmas.Bool.{and_parts, or_cases, eqb-true, ltb-true, both_ways, not-true}
+use Rattle.std.proofs.lemmas.Bool.Decides.{nat_tests}
+use Rattle.qrmatrix.specs.Counting.{sum_below, count_below, all_below, one_if}
+use Rattle.qrdata.specs.Versions.{side_of}
+use Rattle.qrmatrix.specs.Functions.{is_free}
+use Rattle.qrmatrix.specs.Placement.{key, free_below}
+use Rattle.qrmatrix.proofs.SumLaws.{all_below_at, sum_below_same, sum_below_one, sum_below_zero}
+use Rattle.qrmatrix.proofs.VersionLaws.{Computed, is_found, is_below, is_outside, place_column, place_row}
+
+cell_same : (b : Bool) (j k : ℕ) → (b ≡ true → j ≢ k) → one_if (b && nat_lt j (suc k)) ≡ one_if (b && nat_lt j k)
+cell_same false j k h = refl
+cell_same true j k h = let ne = h refl in grind (arith, nat_tests)
+
+cell_here : (b : Bool) (j k : ℕ) → j ≡ k → one_if (b && nat_lt j (suc k)) ≡ one_if (b && nat_lt j k) + one_if b
+cell_here false j k h = refl
+cell_here true j k h = grind (arith, nat_tests)
+
+cell_none : (b : Bool) (j : ℕ) → one_if (b && nat_lt j 0) ≡ 0
+cell_none false j = refl
+cell_none true j = grind (arith, nat_tests)
+
+module _ (v : ℕ) (c : Computed v) where
+  -- the place of the key of a module outside column 6 is that of the module
+  found_at : (x y : ℕ) → x < side_of v → y < side_of v → x ≢ 6 → (place_column (side_of v) (key (side_of v) x y) ≡ x)
+      × (place_row (side_of v) (key (side_of v) x y) ≡ y)
+  unfolding is_found
+  found_at x y lx ly ne =
+      let t = all_below_at (side_of v) (λ x. is_found (side_of v) x y)
+      (all_below_at (side_of v) (λ y. all_below (side_of v) (λ x. is_found (side_of v) x y)) c.found y ly) x lx in
+      elim (or_cases (x == 6) ((place_column (side_of v) (key (side_of v) x y) == x)
+      && (place_row (side_of v) (key (side_of v) x y) == y)) t) [
+        | inl e ↦ absurd (ne (eqb-true x 6 e))
+        | inr e ↦
+            let parts = and_parts (place_column (side_of v) (key (side_of v) x y) == x)
+            (place_row (side_of v) (key (side_of v) x y) == y) e in
+            (eqb-true _ _ parts.0, eqb-true _ _ parts.1)
+      ]
+
+  -- every key outside column 6 is below that of the strips' end
+  pub below_at : (x y : ℕ) → x < side_of v → y < side_of v → x ≢ 6
+      → key (side_of v) x y < 2 * side_of v * ((side_of v - 1) / 2)
+  unfolding is_below
+  below_at x y lx ly ne =
+      let t = all_below_at (side_of v) (λ x. is_below (side_of v) x y)
+      (all_below_at (side_of v) (λ y. all_below (side_of v) (λ x. is_below (side_of v) x y)) c.below y ly) x lx in
+      elim (or_cases (x == 6) (nat_lt (key (side_of v) x y) (2 * side_of v * ((side_of v - 1) / 2))) t) [
+        | inl e ↦ absurd (ne (eqb-true x 6 e))
+        | inr e ↦ ltb-true (key (side_of v) x y) (2 * side_of v * ((side_of v - 1) / 2)) e
+      ]
+
+  -- a free module is not in column 6
+  pub outside_at : (x y : ℕ) → y < side_of v → is_free v x y ≡ true → x ≢ 6
+  unfolding is_outside
+  outside_at x y ly free e =
+      both_ways (is_free v 6 y) (not-true (is_free v 6 y)
+      (all_below_at (side_of v) (λ y. is_outside v y) c.outside y ly)) (subst (λ z. is_free v z y ≡ true) e free)
+
+  -- no other free module has the key of a module
+  pub unique : (x y a b : ℕ) → x < side_of v → y < side_of v → is_free v x y ≡ true → a < side_of v → b < side_of v
+      → a ≢ 6
+      → key (side_of v) x y ≡ key (side_of v) a b → (x ≡ a) × (y ≡ b)
+  unique x y a b lx ly free la lb ne e =
+      let p = found_at x y lx ly (outside_at x y ly free) in
+      let q = found_at a b la lb ne in
+      let r = ap (place_column (side_of v)) e in
+      let s = ap (place_row (side_of v)) e in
+      (cc, cc)
+
+  -- the module of key k is counted from k + 1 on
+  pub free_below_more : (a b k : ℕ) → a < side_of v → b < side_of v → a ≢ 6 → key (side_of v) a b ≡ k
+      → free_below v (suc k) ≡ free_below v k + one_if (is_free v a b)
+  unfolding free_below
+  free_below_more a b k la lb ne e =
+      let cell : ℕ → ℕ → ℕ → ℕ = λ j y x. one_if (is_free v x y && nat_lt (key (side_of v) x y) j) in
+      sum_below_one (side_of v) (λ y. sum_below (side_of v) (cell (suc k) y)) (λ y. sum_below (side_of v) (cell k y)) b
+      (one_if (is_free v a b)) lb
+      (sum_below_one (side_of v) (cell (suc k) b) (cell k b) a (one_if (is_free v a b)) la
+      (cell_here (is_free v a b) (key (side_of v) a b) k e)
+      (λ x lx other. cell_same (is_free v x b) (key (side_of v) x b) k
+      (λ free same. other (unique x b a b lx lb free la lb ne (same ∙ sym e)).0)))
+      (λ y ly other. sum_below_same (side_of v) (cell (suc k) y) (cell k y)
+      (λ x lx. cell_same (is_free v x y) (key (side_of v) x y) k
+      (λ free same. other (unique x y a b lx ly free la lb ne (same ∙ sym e)).1)))
+
+  pub free_below_none : free_below v 0 ≡ 0
+  unfolding free_below
+  free_below_none =
+      sum_below_zero (side_of v) (λ y. count_below (side_of v) (λ x. is_free v x y && nat_lt (key (side_of v) x y) 0))
+      (λ y ly. sum_below_zero (side_of v) (λ x. one_if (is_free v x y && nat_lt (key (side_of v) x y) 0))
+      (λ x lx. cell_none (is_free v x y) (key (side_of v) x y)))

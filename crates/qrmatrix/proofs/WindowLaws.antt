@@ -1,0 +1,85 @@
+-- Windows of lines by bits of words.
+use Rattle.std.proofs.Common.{◌≡◌, ℕ, suc, ◌+◌, ◌-◌, ◌*◌, ◌/◌, ◌^◌, ◌<◌, ◌≤◌, refl, sym, ap, ◌∙◌, arith, Bool, true}
+use Rattle.std.proofs.Common.{false, cond, ◌&&◌, add-zero, add-one, List, ◌∷◌, drop, drop-cons, length, get_or}
+use Rattle.std.specs.Bool.{beq}
+use Rattle.qrmatrix.specs.Counting.{sum_below, count_below, one_if}
+use Rattle.qrmatrix.specs.Bits.{bit}
+use Rattle.qrmatrix.specs.Penalty.{run_penalty, finder_penalty, line_penalty, is_uniform, begins_run, shows}
+use Rattle.qrmatrix.specs.Penalty.{window_points, shows_finder}
+use Rattle.qrmatrix.proofs.SumLaws.{sum_below_same}
+use Rattle.qrmatrix.proofs.RowBitsLaws.{shr_bit}
+use Rattle.qrmatrix.proofs.RowSumLaws.{sum_added, sum_scaled, sum_exchanged}
+
+beq_self : (b : Bool) → beq b b ≡ true
+beq_self true = refl
+beq_self false = refl
+
+-- the test of five modules without its first part
+uniform_five : (line : ℕ → Bool) (i : ℕ)
+    → is_uniform line i 5 ≡ (((beq (line (i + 1)) (line i) && beq (line (i + 2)) (line i))
+    && beq (line (i + 3)) (line i)) && beq (line (i + 4)) (line i))
+uniform_five line i = rw (add-zero i, beq_self (line i)) refl
+
+window_same : (u v b c : Bool) → u ≡ v → b ≡ c → cond u (1 + cond b 2 0) 0 ≡ cond v (1 + cond c 2 0) 0
+window_same u v b c p q = rw (p, q) refl
+
+pub count_same : (n : ℕ) (p q : ℕ → Bool) → ((i : ℕ) → i < n → p i ≡ q i) → count_below n p ≡ count_below n q
+count_same n p q h = sum_below_same n (λ i. one_if (p i)) (λ i. one_if (q i)) (λ i l. ap one_if (h i l))
+
+pub row_windows : (w u b n : ℕ) → n ≤ 57
+    → ((i : ℕ) → i < 64 → bit u i ≡ (((beq (bit (w / 2 ^ 1) i) (bit w i) && beq (bit (w / 2 ^ 2) i) (bit w i))
+    && beq (bit (w / 2 ^ 3) i) (bit w i)) && beq (bit (w / 2 ^ 4) i) (bit w i)))
+    → ((i : ℕ) → i < 64 → bit b i ≡ begins_run (bit w) i)
+    → sum_below (n - 4) (λ i. cond (bit u i) (1 + cond (bit b i) 2 0) 0) ≡ run_penalty n (bit w)
+unfolding run_penalty
+row_windows w u b n l uniform begins =
+    sum_below_same (n - 4) (λ i. cond (bit u i) (1 + cond (bit b i) 2 0) 0) (window_points (bit w)) (λ i h.
+    let s : i < 64 = omega arith in
+    window_same (bit u i) (is_uniform (bit w) i 5) (bit b i) (begins_run (bit w) i)
+    (uniform i s ∙ rw (shr_bit w 1 i, shr_bit w 2 i, shr_bit w 3 i, shr_bit w 4 i) (sym (uniform_five (bit w) i)))
+    (begins i s))
+
+pub column_windows : (m : ℕ → ℕ → Bool) (u b r r1 r2 r3 r4 y n : ℕ) → n ≤ 57 → ((x : ℕ) → bit r x ≡ m x y)
+    → ((x : ℕ) → bit r1 x ≡ m x (y + 1))
+    → ((x : ℕ) → bit r2 x ≡ m x (y + 2)) → ((x : ℕ) → bit r3 x ≡ m x (y + 3)) → ((x : ℕ) → bit r4 x ≡ m x (y + 4))
+    → ((x : ℕ) → x < 64 → bit u x ≡ (((beq (bit r1 x) (bit r x) && beq (bit r2 x) (bit r x))
+    && beq (bit r3 x) (bit r x)) && beq (bit r4 x) (bit r x)))
+    → ((x : ℕ) → x < 64 → bit b x ≡ begins_run (m x) y)
+    → sum_below n (λ x. cond (bit u x) (1 + cond (bit b x) 2 0) 0) ≡ sum_below n (λ x. window_points (m x) y)
+column_windows m u b r r1 r2 r3 r4 y n l h h1 h2 h3 h4 uniform begins =
+    sum_below_same n (λ x. cond (bit u x) (1 + cond (bit b x) 2 0) 0) (λ x. window_points (m x) y) (λ x k.
+    let s : x < 64 = omega arith in
+    window_same (bit u x) (is_uniform (m x) y 5) (bit b x) (begins_run (m x) y)
+    (uniform x s ∙ rw (h x, h1 x, h2 x, h3 x, h4 x) (sym (uniform_five (m x) y)))
+    (begins x s))
+
+-- the penalty of columns, window by window
+pub columns_summed : (n : ℕ) (m : ℕ → ℕ → Bool)
+    → sum_below n (λ x. line_penalty n (m x)) ≡ sum_below (n - 4) (λ y. sum_below n (λ x. window_points (m x) y))
+    + 40 * sum_below (n - 10) (λ y. count_below n (λ x. shows_finder (m x) y))
+unfolding run_penalty finder_penalty
+columns_summed n m =
+    let both = sum_added n (λ x. run_penalty n (m x)) (λ x. finder_penalty n (m x)) in
+    let runs = sum_exchanged n (n - 4) (λ x y. window_points (m x) y) in
+    let scaled = sum_scaled n 40 (λ x. count_below (n - 10) (shows_finder (m x))) in
+    let finders = sum_exchanged n (n - 10) (λ x y. one_if (shows_finder (m x) y)) in
+    both ∙ ap (λ z. z + sum_below n (λ x. finder_penalty n (m x))) runs
+    ∙ ap (λ z. sum_below (n - 4) (λ y. sum_below n (λ x. window_points (m x) y)) + z)
+    (scaled ∙ ap (λ z. 40 * z) finders)
+
+pub sum_next : (n : ℕ) (f : ℕ → ℕ) → sum_below (n + 1) f ≡ sum_below n f + f n
+sum_next n f = rw (add-one n) refl
+
+and_grouped : (f b s : Bool) → ((f && b) && s) ≡ (f && (b && s))
+and_grouped true b s = refl
+and_grouped false b s = refl
+
+-- one more module of a pattern is compared
+pub shown_more : (line : ℕ → Bool) (at next j : ℕ) (pattern : List Bool) (f r s : Bool) → j < length pattern
+    → next ≡ at + 1
+    → r ≡ (f && beq (line at) (get_or pattern j false)) → (f && shows line at (drop j pattern)) ≡ s
+    → (r && shows line next (drop (j + 1) pattern)) ≡ s
+shown_more line at next j pattern f r s h n e g =
+    let d : drop j pattern ≡ get_or pattern j false ∷ drop (suc j) pattern = drop-cons pattern j false h in
+    rw (e, n, add-one j) (and_grouped f (beq (line at) (get_or pattern j false))
+    (shows line (at + 1) (drop (suc j) pattern)) ∙ ap (λ z. f && shows line at z) (sym d) ∙ g)
