@@ -4,6 +4,7 @@ ghost use Rattle.gf256.specs.BinaryPolynomial.{binary_remainder};
 ghost use Rattle.qrmatrix.specs.Information;
 ghost use Rattle.qrmatrix.specs.Information.{FormatInformationIsListed, FormatInformationIsMultiple, VersionInformationIsListed};
 ghost use Rattle.qrmatrix.specs.Information.{VersionInformationIsMultiple};
+ghost use Rattle.qrmatrix.specs.Placement.{CodewordsFillFreeModules};
 
 use qrdata::{Level, Version};
 
@@ -27,7 +28,7 @@ fn remainder(degree: u32, modulus: u32, count: u32, message: u32) -> u32
     rest
 }
 
-/// The two bits that stand for an error correction level (Table 12).
+/// The two bits of an error correction level (ISO/IEC 18004, Table 12).
 fn level_indicator(level: Level) -> u32
     ensures value { result ≡ Information.level_indicator level }
     ensures bound { result ≤ 3 }
@@ -60,11 +61,15 @@ pub fn version_information(version: Version) -> u32
     message + remainder(12, 0x1F25, 6, message)
 }
 
-/// The words that the standard lists are those that are computed: all 32 format words (ISO/IEC 18004, Annex C) and the
-/// version words of the versions 7 to 10 (Annex D). Each is a multiple of its code's generator.
-pub fn information_laws()
+/// What the standard lists is what the definitions compute: the format information of all levels and masks (ISO/IEC
+/// 18004, Annex C), the version information of versions 7 to 10 (Annex D), and the remainder bits (Table 1). It does
+/// nothing when it runs.
+pub fn symbol_laws()
     ensures format { FormatInformationIsListed }
     ensures format_code { FormatInformationIsMultiple }
     ensures version { VersionInformationIsListed }
     ensures version_code { VersionInformationIsMultiple }
+
+    // No codeword is left out, and only the remainder bits have none.
+    ensures room { CodewordsFillFreeModules }
 {}

@@ -1,12 +1,11 @@
 //! A drawn symbol.
-ghost use Rattle.std.specs.Prelude.{◌≡◌, ℕ, ◌+◌, ◌*◌, ◌<◌, ◌≤◌, ◌&&◌, All, Bool, false, IfSome, length, List, Some};
+ghost use Rattle.std.specs.Prelude.{◌≡◌, ℕ, ◌<◌, ◌≤◌, ◌&&◌, All, Bool, IfSome, length, List, Some};
 ghost use Rattle.std.specs.Prelude.{slice_index};
 ghost use Rattle.qrdata.specs.Versions.{side_of, total_codewords};
 ghost use Rattle.qrmatrix.specs.Bits.{bit};
 ghost use Rattle.qrmatrix.specs.MaskChoice.{chosen_mask};
 ghost use Rattle.qrmatrix.specs.Modules.{is_inside, module_at};
 ghost use Rattle.qrmatrix.specs.Penalty;
-ghost use Rattle.qrmatrix.specs.Placement.{free_count, remainder_bits};
 ghost use Rattle.qrmatrix.specs.Reading.{read_matrix};
 ghost use Rattle.qrmatrix.specs.Symbol.{Symbol, is_dark};
 ghost use Rattle.qrmatrix.specs.Private.Squares.{IsWithin};
@@ -16,6 +15,9 @@ use crate::square::{SIDE, Square};
 use crate::unmasked::Unmasked;
 use qrdata::{Codewords, Level, Version};
 use std::marker::Model;
+
+/// The width of the quiet zone on each side of a symbol, in modules (ISO/IEC 18004, 9.1).
+pub const QUIET_ZONE: usize = 4;
 
 /// The modules of a QR Code symbol.
 #[derive(Drop)]
@@ -45,8 +47,8 @@ fn are_bytes(bytes: &[u8])
 {}
 
 impl Matrix {
-    /// Draws the codewords of a symbol under the given mask, 0 to 7, or else under the mask of the least penalty, the
-    /// first of several (ISO/IEC 18004, 7.7 to 7.10). The modules read back as the version, the level and the
+    /// Draws the codewords of a symbol under the given mask, 0 to 7, or else under the mask of the lowest penalty,
+    /// the first of several (ISO/IEC 18004, 7.7 to 7.10). The modules read back as the version, the level and the
     /// codewords.
     pub fn draw(version: Version, level: Level, mask: Option<u8>, codewords: &Codewords) -> Matrix
         requires count { length codewords.now.items ≡ total_codewords version }
@@ -55,25 +57,19 @@ impl Matrix {
         ensures mask { result.mask ≡ chosen_mask version level mask codewords.now.items }
         ensures modules { (x y : ℕ) → is_dark result x y
             ≡ module_at version level result.mask codewords.now.items x y }
-        ensures outside { (x y : ℕ) → is_inside result.side x y ≡ false
-            → is_dark result x y ≡ false }
         ensures reads { read_matrix result.side (is_dark result)
             ≡ Some (record { version = version; level = level; codewords = codewords.now.items }) }
-
-        // No codeword is left out, and only the remainder bits hold none.
-        ensures room { free_count version
-            ≡ 8 * length codewords.now.items + remainder_bits version }
     {
         are_bytes(codewords);
         let unmasked = Unmasked::draw(version, level, codewords);
-        let mask = match mask {
-            Some(mask) => mask,
-            None => unmasked.least_mask(),
+        let masked = match mask {
+            Some(mask) => unmasked.under(mask),
+            None => unmasked.under_best_mask(),
         };
         Matrix {
             side: version.side(),
-            mask,
-            modules: unmasked.under(mask),
+            mask: masked.mask,
+            modules: masked.modules,
         }
     }
 

@@ -6,11 +6,13 @@ use Rattle.qrmatrix.specs.Bits.{bit}
 use Rattle.qrmatrix.specs.Functions.{Role, Function, Format, Version, Free, role, is_free}
 use Rattle.qrmatrix.specs.Information.{format_information, version_information}
 use Rattle.qrmatrix.specs.Masks.{is_flipped, flip_if}
+use Rattle.qrmatrix.specs.Modules.{module_at}
 use Rattle.qrmatrix.specs.Placement.{codeword_bit, rank}
 use Rattle.qrmatrix.specs.Square.{value_at}
 use Rattle.qrmatrix.specs.Private.Squares.{SameOutside}
 use Rattle.qrmatrix.specs.declared.function.PatternRow.{PatternRow}
 use Rattle.qrmatrix.specs.declared.unmasked.Unmasked.{Unmasked}
+use Rattle.qrmatrix.specs.declared.unmasked.Masked.{Masked}
 
 -- the square marks the modules that the codewords do not choose
 abbrev pub MarksFunctions : ℕ → List (List Bool) → Type 0
@@ -56,6 +58,17 @@ pub record IsUnmasked (v : ℕ) (codewords : List ℕ) (function modules : List 
 -- the codewords are placed in a drawing
 abbrev pub Places : Unmasked → List ℕ → Type 0
 Places unmasked codewords = IsUnmasked unmasked.version codewords unmasked.function unmasked.modules
+
+-- a drawing of the codewords of a symbol, without a mask
+pub record Draws (v : ℕ) (level : Level) (codewords : List ℕ) (unmasked : Unmasked) : Type 0 where
+  pub same_version : unmasked.version ≡ v
+  pub same_level : unmasked.level ≡ level
+  pub placed : Places unmasked codewords
+
+-- the modules under a mask are those of the symbol
+abbrev pub ShowsSymbol : Unmasked → List ℕ → Masked → Type 0
+ShowsSymbol unmasked codewords masked =
+    (x y : ℕ) → value_at masked.modules x y ≡ module_at unmasked.version unmasked.level masked.mask codewords x y
 
 -- the modules of the format information are drawn for a mask, where they were light
 pub record ShowsFormat (v : ℕ) (level : Level) (mask : ℕ) (old new : List (List Bool)) : Type 0 where

@@ -1,5 +1,7 @@
-use Rattle.qrmatrix.proofs.InformationLaws.{format_information-listed, version_information-listed, format_information-multiple, version_information-multiple}
-use Rattle.qrmatrix.proofs.information.information_laws.Goals as goal
+use Rattle.qrmatrix.proofs.InformationLaws.{format_information-listed, format_information-multiple}
+use Rattle.qrmatrix.proofs.InformationLaws.{version_information-listed, version_information-multiple}
+use Rattle.qrmatrix.proofs.VersionLaws.{computed}
+use Rattle.qrmatrix.proofs.information.symbol_laws.Goals as goal
 
 pub returns-clause-format : goal.returns-clause-format
 returns-clause-format c = format_information-listed
@@ -12,3 +14,6 @@ returns-clause-version c = version_information-listed
 
 pub returns-clause-version_code : goal.returns-clause-version_code
 returns-clause-version_code c = version_information-multiple
+
+pub returns-clause-room : goal.returns-clause-room
+returns-clause-room c = λ v l h. (computed v l h).count
