@@ -76,13 +76,6 @@ evaluate-zeros (suc n) x =
     ap (λ y. bit_xor y (evaluate (zeros n) x)) (field_product-zero_left (field_power x (length (zeros n))))
     ∙ evaluate-zeros n x
 
-pub evaluate-zeros_append : (n : ℕ) (p : List ℕ) (x : ℕ) → evaluate (zeros n ++ p) x ≡ evaluate p x
-unfolding evaluate
-evaluate-zeros_append zero p x = refl
-evaluate-zeros_append (suc n) p x =
-    ap (λ y. bit_xor y (evaluate (zeros n ++ p) x)) (field_product-zero_left (field_power x (length (zeros n ++ p))))
-    ∙ evaluate-zeros_append n p x
-
 -- p times x^n
 pub evaluate-append_zeros : (p : List ℕ) (n x : ℕ) → All IsElement p → x < 256
     → evaluate (p ++ zeros n) x ≡ field_product (evaluate p x) (field_power x n)

@@ -25,7 +25,7 @@ use Rattle.qrdata.proofs.InterleavingLaws.{Blocks, deinterleaving-interleaving}
 use Rattle.qrdata.proofs.LengthLaws.{count_below_cost, length-segments_bits}
 use Rattle.qrdata.proofs.PaddingLaws.{length-data_codewords_of, data_codewords_of-ends}
 use Rattle.qrdata.proofs.PayloadLaws.{AreBytes}
-use Rattle.qrdata.proofs.VersionLaws.{HasSoundBlocks-of, total_is}
+use Rattle.qrdata.proofs.VersionLaws.{HasSoundBlocks-of, data_codewords-add_ec_codewords}
 use Rattle.qrdata.proofs.SegmentReadingLaws.{AreBytes-take, AreBytes-drop, segments_at-segments_bits}
 
 -- the error correction codewords of a block: as many as they should be, and with them the block is a codeword
@@ -135,7 +135,7 @@ data_in-symbol_codewords version level segments bytes low high w cut fits remain
     let back : drop size (interleaving blocks ++ interleaving ec_blocks) ≡ interleaving ec_blocks =
     drop_front size (interleaving blocks) (interleaving ec_blocks) data_length in
     let total : length (interleaving blocks ++ interleaving ec_blocks) ≡ total_codewords version =
-    omega (arith, length-append (interleaving blocks) (interleaving ec_blocks), total_is version level low high) in
+    omega (arith, length-append (interleaving blocks) (interleaving ec_blocks), data_codewords-add_ec_codewords version level low high) in
     let valid = all_have_roots k blocks law split_bytes in
     let joined : concat blocks ≡ codewords = split_joined lengths codewords all_codewords in
     let ends = data_codewords_of-ends size bits bits_fit in

@@ -33,7 +33,7 @@ use Rattle.qrdata.proofs.LengthLaws.{length-segment_bits, length-segments_bits}
 use Rattle.qrdata.proofs.PaddingLaws.{with_zeros-whole, length-byte_bits, length-data_codewords_of}
 use Rattle.qrdata.proofs.BlockLaws.{length-split_by}
 use Rattle.qrdata.proofs.DataReadingLaws.{AreBytes-split, HasEcCodewords-from_law, lengths_hold}
-use Rattle.qrdata.proofs.VersionLaws.{HasSoundBlocks-of, total_is}
+use Rattle.qrdata.proofs.VersionLaws.{HasSoundBlocks-of, data_codewords-add_ec_codewords}
 
 -- characters
 pub alphanumeric_bits-two_left : (xs : List ℕ) (i : ℕ) → 2 ≤ length xs - i → alphanumeric_bits (drop i xs)
@@ -181,7 +181,7 @@ HasBlocks-message version level message low high remainder codeword w whole =
       few = sound.few_blocks;
       some_ec_codewords = sound.some_ec_codewords;
       few_ec_codewords = sound.few_ec_codewords;
-      total = omega (arith, total_is version level low high, sound.few_codewords);
+      total = omega (arith, data_codewords-add_ec_codewords version level low high, sound.few_codewords);
     }
 
 -- the bits of a segment of the first bytes

@@ -208,13 +208,3 @@ pairs_last codewords pairs i value p size whole some few e bytes =
   where
     get_or_at : (xs : List ℕ) (k j value : ℕ) → k < length xs → j ≡ k → get_or (set xs k value) j 0 ≡ value
     get_or_at xs k j value l same = ap (λ z. get_or (set xs k value) z 0) same ∙ get_or-set_same xs k value 0 l
-
--- no codewords
-pub pairs_of_none : (codewords pairs : List ℕ) (i : ℕ) → PairsBelow codewords pairs i → i ≤ 1 → length codewords ≤ 0
-    → ((j : ℕ) → slice_index codewords j < 256) → ArePairs codewords pairs
-pairs_of_none codewords pairs i p first none bytes =
-    record {
-      each = λ j l. p.none j (omega arith)
-          ∙ sym (rw (slice_past codewords j (omega arith), slice_past codewords (j + 1) (omega arith)) refl);
-      narrow = bytes;
-    }

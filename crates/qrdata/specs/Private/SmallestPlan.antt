@@ -1,4 +1,4 @@
--- The plan of the least version in a range (ISO/IEC 18004, 7.4.1).
+-- The plan of the smallest version in a range (ISO/IEC 18004, 7.4.1).
 use Rattle.std.specs.Prelude.{◌≡◌, ℕ, ◌<◌, ◌≤◌, List, ◌∷◌, length, drop, slice_get, Some}
 use Rattle.qrdata.specs.declared.level.Level.{Level}
 use Rattle.qrdata.specs.declared.mode.Mode.{Mode}
@@ -16,7 +16,7 @@ SameWidths v w = (mode : Mode) → count_width v mode ≡ count_width w mode
 abbrev pub DoNotFit : ℕ → Level → List ℕ → Type 0
 DoNotFit version level bytes = capacity version level < cost version (chosen_segments version bytes)
 
--- the plan has the least version in a range in which the best segments of the bytes fit, and it has these segments
+-- the plan has the smallest version in a range in which the best segments of the bytes fit, and it has these segments
 pub record IsSmallestPlan (lowest highest : ℕ) (level : Level) (bytes : List ℕ) (plan : PlanView) : Type 0 where
   pub from : lowest ≤ plan.version
   pub to : plan.version ≤ highest
@@ -24,7 +24,7 @@ pub record IsSmallestPlan (lowest highest : ℕ) (level : Level) (bytes : List �
   pub same_bytes : plan.bytes ≡ bytes
   pub same_segments : plan.segments ≡ chosen_segments plan.version bytes
   pub fits : cost plan.version (chosen_segments plan.version bytes) ≤ capacity plan.version level
-  pub least : (v : ℕ) → lowest ≤ v → v < plan.version → DoNotFit v level bytes
+  pub smallest : (v : ℕ) → lowest ≤ v → v < plan.version → DoNotFit v level bytes
 
 -- in no version of a range do the best segments of the bytes fit
 abbrev pub NoPlan : (lowest highest : ℕ) → Level → List ℕ → Type 0

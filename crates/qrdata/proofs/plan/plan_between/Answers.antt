@@ -110,7 +110,7 @@ returns-then-bits-data_codewords-clause-some c =
       same_bytes = refl;
       same_segments = refl;
       fits = omega (arith, bits, fits);
-      least = c.loop-number.invariant;
+      smallest = c.loop-number.invariant;
     })
 
 pub loop-number-preserved : goal.loop-number-preserved
