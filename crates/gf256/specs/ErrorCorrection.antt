@@ -20,13 +20,13 @@ long_division (suc n) low (c ∷ p) =
 unfoldable pub ec_codewords_of : ℕ → List ℕ → List ℕ
 ec_codewords_of k message = long_division (length message) (drop 1 (generator k)) (message ++ zeros k)
 
--- there are k error correction codewords, and for some quotient the message times x^k is the quotient times the generator
--- plus the error correction codewords
+-- there are k error correction codewords, and for some quotient the message times x^k is the quotient times the
+-- generator plus the error correction codewords
 pub record IsRemainder (k : ℕ) (message ec_codewords : List ℕ) : Type 0 where
   pub quotient : List ℕ
   pub quotient_elements : All IsElement quotient
   pub quotient_length : length quotient ≡ length message
-  pub ec_codewords_per_block : length ec_codewords ≡ k
+  pub ec_codewords_length : length ec_codewords ≡ k
   pub ec_codewords_elements : All IsElement ec_codewords
   pub division :
       message ++ zeros k
@@ -50,7 +50,8 @@ RemaindersHaveRoots =
 abbrev pub IsEcCodewordCount : ℕ → Type 0
 IsEcCodewordCount k = (1 ≤ k) × (k ≤ 30)
 
--- the error correction codewords of a block: the only remainder by the generator, which makes the block a multiple of it
+-- the error correction codewords of a block: the only remainder by the generator, which makes the block a multiple of
+-- it
 pub record AreEcCodewords (k : ℕ) (block ec_codewords : List ℕ) : Type 0 where
   pub value : ec_codewords ≡ ec_codewords_of k block
   pub remainder : IsRemainder k block ec_codewords

@@ -6,8 +6,8 @@ use Rattle.gf256.specs.Field.{alpha, field_power, field_product}
 abbrev pub HasPlaces : List ℕ → List ℕ → Type 0
 HasPlaces coefficients register = (0 < length coefficients) × (length register ≡ length coefficients)
 
--- each codeword of the register is moved up by one place, and the product of an element and the coefficient of the place is
--- added
+-- each codeword of the register is moved up by one place, and the product of an element and the coefficient of the
+-- place is added
 abbrev pub MovesUp : (element : ℕ) (logarithms old new : List ℕ) → Type 0
 MovesUp element logarithms old new = EachIndex new (λ j.
     slice_index new j

@@ -25,8 +25,8 @@ impl Model for Generator {
 }
 
 impl Generator {
-    /// Makes the generator polynomial of blocks with `k` error correction codewords, 1 to 30: the product of x + alpha^i over
-    /// the i below `k`.
+    /// Makes the generator polynomial of blocks with `k` error correction codewords, 1 to 30: the product of x +
+    /// alpha^i over the i below `k`.
     pub fn new(k: usize) -> Generator
         requires { IsEcCodewordCount k }
         ensures { result ≡ k }
@@ -34,9 +34,9 @@ impl Generator {
         Generator { count: k }
     }
 
-    /// Writes the error correction codewords of a block into `out`, which has room for exactly these. They are the remainder
-    /// of the block times x^k by the generator polynomial, the highest coefficient first. What `out` held before plays no
-    /// part.
+    /// Writes the error correction codewords of a block into `out`, which has room for exactly these. They are the
+    /// remainder of the block times x^k by the generator polynomial, the highest coefficient first. What `out` held
+    /// before plays no part.
     pub fn ec_codewords(&self, block: &[u8], out: &mut [u8])
         requires { length out.old ≡ self.now }
         ensures { AreEcCodewords self.now block.now out.new }
@@ -49,7 +49,8 @@ impl Generator {
     }
 }
 
-/// Returns the logarithms of the coefficients of a generator polynomial, from high to low, but for the highest, which is 1.
+/// Returns the logarithms of the coefficients of a generator polynomial, from high to low, but for the highest, which
+/// is 1.
 fn logarithms_of(k: usize) -> &'static [u8]
     requires { IsEcCodewordCount k }
     ensures coefficients { generator k ≡ 1 ∷ map (field_power alpha) result.now }
@@ -67,8 +68,9 @@ fn clear(register: &mut [u8])
     register.fill(0);
 }
 
-/// Moves each codeword of the register up by one place. Adds the multiple of the divisor that cancels the sum of the codeword
-/// that leaves the register and the new codeword. The divisor is given by the logarithms of its coefficients but the highest.
+/// Moves each codeword of the register up by one place. Adds the multiple of the divisor that cancels the sum of the
+/// codeword that leaves the register and the new codeword. The divisor is given by the logarithms of its coefficients
+/// but the highest.
 fn shift(logarithms: &[u8], register: &mut [u8], codeword: u8)
     requires { HasPlaces logarithms.now register.old }
     ensures { MovesUp (bit_xor (slice_index register.old 0) codeword)
@@ -95,8 +97,8 @@ fn move_up(register: &mut [u8])
     register[last] = 0;
 }
 
-/// Moves each codeword of the register up by one place, and adds to each the product of alpha^logarithm and the coefficient of
-/// its place.
+/// Moves each codeword of the register up by one place, and adds to each the product of alpha^logarithm and the
+/// coefficient of its place.
 fn move_up_and_add(logarithm: u8, logarithms: &[u8], register: &mut [u8])
     requires { HasPlaces logarithms.now register.old }
     ensures { MovesUp (field_power alpha logarithm) logarithms.now register.old register.new }
@@ -108,8 +110,8 @@ fn move_up_and_add(logarithm: u8, logarithms: &[u8], register: &mut [u8])
     register[last] = product_of_powers(logarithm, logarithms[last]);
 }
 
-/// For crates above: whatever the block, the error correction codewords of the definition are a remainder by the generator
-/// polynomial, and a block followed by a remainder is a multiple of it. It does nothing when it runs.
+/// For crates above: whatever the block, the error correction codewords of the definition are a remainder by the
+/// generator polynomial, and a block followed by a remainder is a multiple of it. It does nothing when it runs.
 pub fn ec_codewords_are_sound()
     ensures remainder { EcCodewordsAreRemainder }
     ensures roots { RemaindersHaveRoots }

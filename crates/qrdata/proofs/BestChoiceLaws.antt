@@ -135,7 +135,8 @@ best-front version b bytes few =
     ]
 
 -- no list of segments costs less
-pub fewest_bits-le_cost : (version : ℕ) (segments : List Segment) (bytes : List ℕ) → IsSegmentation version segments bytes
+pub fewest_bits-le_cost : (version : ℕ) (segments : List Segment) (bytes : List ℕ)
+    → IsSegmentation version segments bytes
     → fewest_bits version bytes ≤ cost version segments
 fewest_bits-le_cost version [] bytes cut = rw cut (omega (arith, fewest_nil version))
 fewest_bits-le_cost version (s ∷ segments) bytes cut =

@@ -69,7 +69,8 @@ capacity-all M = refl
 capacity-all Q = refl
 capacity-all H = refl
 
-capacity-all_nine : (level : Level) → list_all (λ version. nat_le (capacity version level) 1856) (range_with_len 1 9) ≡ true
+capacity-all_nine : (level : Level) → list_all (λ version. nat_le (capacity version level) 1856) (range_with_len 1 9)
+    ≡ true
 unfolding data_codewords block_lengths groups_of block_table
 capacity-all_nine L = refl
 capacity-all_nine M = refl
@@ -95,14 +96,17 @@ data_codewords-all Q = refl
 data_codewords-all H = refl
 
 pub data_codewords-is : (version : ℕ) (level : Level) → 1 ≤ version → version ≤ 10
-    → data_codewords version level ≡ total_codewords version - block_count version level * ec_codewords_per_block version level
+    → data_codewords version level
+    ≡ total_codewords version - block_count version level * ec_codewords_per_block version level
 data_codewords-is version level low high =
-    eqb-true _ _ (at_version (λ v. data_codewords v level == total_codewords v - block_count v level * ec_codewords_per_block v
+    eqb-true _ _ (at_version
+    (λ v. data_codewords v level == total_codewords v - block_count v level * ec_codewords_per_block v
     level) 10 version (data_codewords-all level) low high)
 
 -- the data codewords and the error correction codewords of all blocks are all codewords
 pub data_codewords-add_ec_codewords : (version : ℕ) (level : Level) → 1 ≤ version → version ≤ 10
-    → data_codewords version level + block_count version level * ec_codewords_per_block version level ≡ total_codewords version
+    → data_codewords version level + block_count version level * ec_codewords_per_block version level
+    ≡ total_codewords version
 data_codewords-add_ec_codewords version level low high = omega (
   arith,
   data_codewords-is version level low high,
@@ -146,7 +150,8 @@ coded_ec_codewords H = EC_CODEWORDS_H
 
 coded_blocks-all : (level : Level) → list_all (λ version.
     slice_index (coded_blocks level) (version - 1) == block_count version level
-    && slice_index (coded_ec_codewords level) (version - 1) == ec_codewords_per_block version level) (range_with_len 1 10) ≡ true
+    && slice_index (coded_ec_codewords level) (version - 1) == ec_codewords_per_block version level)
+    (range_with_len 1 10) ≡ true
 unfolding block_count ec_codewords_per_block block_lengths groups_of block_table
 coded_blocks-all L = refl
 coded_blocks-all M = refl
@@ -159,7 +164,8 @@ pub coded_blocks-is : (version : ℕ) (level : Level) → 1 ≤ version → vers
 coded_blocks-is version level low high =
     let parts = and_parts _ _ (at_version
     (λ v. slice_index (coded_blocks level) (v - 1) == block_count v level
-    && slice_index (coded_ec_codewords level) (v - 1) == ec_codewords_per_block v level) 10 version (coded_blocks-all level) low high) in
+    && slice_index (coded_ec_codewords level) (v - 1) == ec_codewords_per_block v level) 10 version
+    (coded_blocks-all level) low high) in
     (eqb-true _ _ parts.0, eqb-true _ _ parts.1)
 
 TOTAL-all : list_all (λ version. slice_index TOTAL (version - 1) == total_codewords version) (range_with_len 1 10)

@@ -116,9 +116,11 @@ pub split_by-next : (lengths codewords : List ℕ) (i start : ℕ) → i < lengt
     → split_by (drop i lengths) (drop start codewords) ≡ take (get_or lengths i 0) (drop start codewords)
     ∷ split_by (drop (i + 1) lengths) (drop (start + get_or lengths i 0) codewords)
 unfolding split_by
-split_by-next lengths codewords i start h = rw (drop_more lengths i 0 h, ← drop-drop (get_or lengths i 0) start codewords) refl
+split_by-next lengths codewords i start h = rw (drop_more lengths i 0 h, ← drop-drop
+    (get_or lengths i 0) start codewords) refl
 
-pub split_by-none_left : (lengths codewords : List ℕ) (i : ℕ) → length lengths ≤ i → split_by (drop i lengths) codewords ≡ []
+pub split_by-none_left : (lengths codewords : List ℕ) (i : ℕ) → length lengths ≤ i
+    → split_by (drop i lengths) codewords ≡ []
 unfolding split_by
 split_by-none_left lengths codewords i h = rw (drop_all i lengths h) refl
 
@@ -152,9 +154,11 @@ pub record HasBlocks (version : ℕ) (level : Level) (message : List ℕ) : Type
   pub count : length (block_lengths version level) ≡ block_count version level
   pub whole : sum (block_lengths version level) ≡ length message
   pub ec_blocks : length (flat_map (ec_codewords_of (ec_codewords_per_block version level))
-      (split_by (block_lengths version level) message)) ≡ block_count version level * ec_codewords_per_block version level
+      (split_by (block_lengths version level) message))
+      ≡ block_count version level * ec_codewords_per_block version level
   pub cut : split_by (replicate (length (block_lengths version level)) (ec_codewords_per_block version level))
-      (flat_map (ec_codewords_of (ec_codewords_per_block version level)) (split_by (block_lengths version level) message))
+      (flat_map (ec_codewords_of (ec_codewords_per_block version level)) (split_by
+      (block_lengths version level) message))
       ≡ map (ec_codewords_of (ec_codewords_per_block version level)) (split_by (block_lengths version level) message)
   pub few : block_count version level ≤ 8
   pub some_ec_codewords : 1 ≤ ec_codewords_per_block version level
@@ -176,7 +180,8 @@ HasBlocks-message version level message low high remainder codeword w whole =
     record {
       count = shapes.1;
       whole = shapes.0 ∙ sym whole;
-      ec_blocks = length-flat_map (ec_codewords_of k) k AreBytes blocks law.count bytes ∙ ap (λ n. n * k) (same ∙ shapes.1);
+      ec_blocks = length-flat_map (ec_codewords_of k) k AreBytes blocks law.count bytes
+      ∙ ap (λ n. n * k) (same ∙ shapes.1);
       cut = rw (← same) (split_by-flat_map (ec_codewords_of k) k AreBytes blocks law.count bytes);
       few = sound.few_blocks;
       some_ec_codewords = sound.some_ec_codewords;
@@ -206,7 +211,8 @@ length-data_of version level segments bytes held fits =
     (omega (arith, length-segments_bits version segments bytes held))
 
 -- the codewords of the bits of bytes are the bytes
-pub codewords_of-byte_bits : (codewords : List ℕ) → AreBytes codewords → codewords_of (length codewords) (byte_bits codewords) ≡ codewords
+pub codewords_of-byte_bits : (codewords : List ℕ) → AreBytes codewords
+    → codewords_of (length codewords) (byte_bits codewords) ≡ codewords
 unfolding codewords_of byte_bits
 codewords_of-byte_bits [] w = refl
 codewords_of-byte_bits (codeword ∷ codewords) w =
@@ -231,7 +237,8 @@ whole_codewords codewords count number n w few whole =
       length-bits_of count number,
     ) in
     let none : count ≡ 0 = omega (arith, long, whole) in
-    let size : length (byte_bits codewords ++ bits_of count number) / 8 ≡ length codewords = omega (arith, long, none) in
+    let size : length (byte_bits codewords ++ bits_of count number) / 8
+    ≡ length codewords = omega (arith, long, none) in
     rw (size, none, bits_of-nil, append-nil) (sym (codewords_of-byte_bits codewords w))
 
 pub length-bits_in : (bits : Bits) → length (bits_in bits) ≡ 8 * length bits.codewords.items + bits.rest.count

@@ -100,8 +100,8 @@ pub struct DoesNotFit {
 
 /// Chooses the smallest version, from `min_version` to 10, in which some segments of the data fit the data codewords of
 /// the level, and in it the segments of the fewest bits (ISO/IEC 18004, 7.4.1). Of lists of equally few bits it is that
-/// of the longest first segment, then of the mode numeric before alphanumeric before byte, and likewise for the segments
-/// after it. Empty data has no segments.
+/// of the longest first segment, then of the mode numeric before alphanumeric before byte, and likewise for the
+/// segments after it. Empty data has no segments.
 ///
 /// # Errors
 ///
@@ -122,8 +122,8 @@ pub fn choose<'a>(
     }
 }
 
-/// The plan of the smallest version from the lowest one to 10. One table of best segments serves all versions up to 9, and
-/// a second one version 10.
+/// The plan of the smallest version from the lowest one to 10. One table of best segments serves all versions up to 9,
+/// and a second one version 10.
 fn plan_from<'a>(lowest: u8, level: Level, bytes: &'a [u8]) -> Option<Plan<'a>>
     requires low { 1 ≤ lowest }
     requires high { lowest ≤ 10 }
@@ -141,8 +141,8 @@ fn plan_from<'a>(lowest: u8, level: Level, bytes: &'a [u8]) -> Option<Plan<'a>>
     plan_between(10, 10, level, bytes)
 }
 
-/// The plan of the smallest version from the lowest one to the highest one. In all of these a character count has the same
-/// bits, so that the best segments are the same.
+/// The plan of the smallest version from the lowest one to the highest one. In all of these a character count has the
+/// same bits, so that the best segments are the same.
 fn plan_between<'a>(lowest: u8, highest: u8, level: Level, bytes: &'a [u8]) -> Option<Plan<'a>>
     requires few { length bytes.now ≤ MAX_BYTES }
     requires low { 1 ≤ lowest }

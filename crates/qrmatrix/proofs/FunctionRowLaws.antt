@@ -170,7 +170,8 @@ column_bit : (information i x : ℕ) → bit (up (bit_and (information / 2 ^ i) 
 column_bit information i x = rw (shr_and_one information i) (moved (bit_at information i) x (bit_at-lt information i))
 
 column_narrow : (information i : ℕ) → up (bit_and (information / 2 ^ i) 1) 8 < 2 ^ 9
-column_narrow information i = rw (shr_and_one information i) (moved_narrow (bit_at information i) (bit_at-lt information i))
+column_narrow information i = rw (shr_and_one information i) (moved_narrow (bit_at information i)
+    (bit_at-lt information i))
 
 -- the word of a row above, between or below, as the tests say
 by_tests : (a b c e : Bool) (information x p q r : ℕ) → (x == 8) ≡ e
@@ -189,7 +190,8 @@ by_tests false false false false information x p q r h = above_bit 0 0 x (omega 
 
 narrow_by : (a b c : Bool) (information p q r : ℕ)
     → (if a then up (bit_and (information / 2 ^ p) 1) 8 else
-    (if b then up (bit_and (information / 2 ^ q) 1) 8 else (if c then up (bit_and (information / 2 ^ r) 1) 8 else 0))) < 2 ^ 9
+    (if b then up (bit_and (information / 2 ^ q) 1) 8 else (if c then up (bit_and
+    (information / 2 ^ r) 1) 8 else 0))) < 2 ^ 9
 narrow_by true b c information p q r = column_narrow information p
 narrow_by false true c information p q r = column_narrow information q
 narrow_by false false true information p q r = column_narrow information r
@@ -209,7 +211,8 @@ other_narrow n information y ne =
 -- row 8 of a word
 right_eight : ℕ → ℕ → ℕ → Bool
 unfolding bit_if format_bit
-right_eight n information row = nat_lt row (2 ^ n) && all_below n (λ x. beq (bit row x) (bit_if information (format_bit n x 8)))
+right_eight n information row = nat_lt row (2 ^ n) && all_below n (λ x. beq (bit row x) (bit_if information
+    (format_bit n x 8)))
 
 eight : ℕ → ℕ → Bool
 unfolding right_eight format_row
@@ -221,8 +224,10 @@ format_informations level = map (format_information level) (range_with_len 0 8)
 -- computed for each format word and column
 abbrev EightRight : ℕ → Type 0
 EightRight v =
-    (list_all (eight (side_of v)) (format_informations L) ≡ true) × (list_all (eight (side_of v)) (format_informations M) ≡ true)
-    × (list_all (eight (side_of v)) (format_informations Q) ≡ true) × (list_all (eight (side_of v)) (format_informations H) ≡ true)
+    (list_all (eight (side_of v)) (format_informations L) ≡ true) × (list_all (eight (side_of v))
+    (format_informations M) ≡ true)
+    × (list_all (eight (side_of v)) (format_informations Q) ≡ true) × (list_all (eight (side_of v))
+    (format_informations H) ≡ true)
 
 eight_right : (v : ℕ) → 1 ≤ v → v ≤ 10 → EightRight v
 unfolding eight format_information binary_remainder reverse_bits_onto
@@ -259,7 +264,8 @@ eight_shows v l h level mask lm =
     let right : eight n information ≡ true =
     mapped_all (format_information level) (eight n) 0 8 (at_level v (eight_right v l h) level) mask (omega arith)
     (omega arith) in
-    let parts = and_parts (nat_lt row (2 ^ n)) (all_below n (λ x. beq (bit row x) (bit_if information (format_bit n x 8))))
+    let parts = and_parts (nat_lt row (2 ^ n)) (all_below n (λ x. beq (bit row x) (bit_if information
+    (format_bit n x 8))))
     right in
     record {
       bits = λ x lx. same_beq _ _
@@ -316,7 +322,8 @@ format_between v l h level mask x y lm lx low high =
     ∙ above_bit 0 0 x (omega arith) (omega arith)
 
 -- the same at the values of a drawing
-pub row_shows : (v n information row : ℕ) (level : Level) (mask y : ℕ) → 1 ≤ v → v ≤ 10 → mask < 8 → y < n → n ≡ side_of v
+pub row_shows : (v n information row : ℕ) (level : Level) (mask y : ℕ) → 1 ≤ v → v ≤ 10 → mask < 8 → y < n → n
+    ≡ side_of v
     → information ≡ format_information level mask
     → row ≡ format_row n information y → ShowsInformation v (format_information level mask) y row
 row_shows v n information row level mask y l h lm ly en ew er =

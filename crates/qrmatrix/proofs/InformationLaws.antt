@@ -5,8 +5,10 @@ use Rattle.gf256.specs.BinaryPolynomial.{binary_product, binary_remainder}
 use Rattle.gf256.proofs.ProductRemainderLaws.{binary_quotient, binary_quotient-lt}
 use Rattle.qrdata.specs.declared.level.Level.{Level}
 use Rattle.qrdata.specs.declared.level.Level.TheVariants.{L, M, Q, H}
-use Rattle.qrmatrix.specs.Information.{level_indicator, format_information, version_information, IsMultipleOf, FormatInformationIsListed}
-use Rattle.qrmatrix.specs.Information.{FormatInformationIsMultiple, VersionInformationIsListed, VersionInformationIsMultiple}
+use Rattle.qrmatrix.specs.Information.{level_indicator, format_information, version_information, IsMultipleOf}
+use Rattle.qrmatrix.specs.Information.{FormatInformationIsListed}
+use Rattle.qrmatrix.specs.Information.{FormatInformationIsMultiple, VersionInformationIsListed}
+use Rattle.qrmatrix.specs.Information.{VersionInformationIsMultiple}
 use Rattle.qrmatrix.proofs.ByVersionLaws.{by_version}
 use Rattle.qrmatrix.proofs.InformationReadingLaws.{by_mask}
 
@@ -35,7 +37,8 @@ format_code : (level : Level) (mask : ℕ)
     → bit_xor 0x5412 (format_information level mask)
     ≡ binary_product 5 0x537 (binary_quotient 10 0x537 5 (bit_xor 0x5412 (format_information level mask)))
     → IsMultipleOf 10 0x537 5 (level_indicator level * 8 + mask) (bit_xor 0x5412 (format_information level mask))
-format_code level mask = IsMultipleOf-quotient 10 0x537 5 (level_indicator level * 8 + mask) (bit_xor 0x5412 (format_information level mask))
+format_code level mask = IsMultipleOf-quotient 10 0x537 5 (level_indicator level * 8 + mask) (bit_xor 0x5412
+    (format_information level mask))
 
 abbrev FormatCode : Level → ℕ → Type 0
 FormatCode level mask = IsMultipleOf 10 0x537 5 (level_indicator level * 8 + mask)

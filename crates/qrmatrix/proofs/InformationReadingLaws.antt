@@ -30,7 +30,8 @@ by_mask P p0 p1 p2 p3 p4 p5 p6 p7 (suc (suc (suc (suc (suc (suc (suc (suc n)))))
 -- the format word of a level and a mask is the number of its bits, and is read as that level and mask
 abbrev pub FormatRead : Level → ℕ → Type 0
 FormatRead level mask =
-    (number_of (reverse (map (bit (format_information level mask)) (range_with_len 0 15))) ≡ format_information level mask)
+    (number_of (reverse (map (bit (format_information level mask)) (range_with_len 0 15)))
+    ≡ format_information level mask)
     × (read_format_information (format_information level mask) ≡ Some (level, mask))
 
 pub format_read : (level : Level) (mask : ℕ) → mask < 8 → FormatRead level mask
@@ -78,7 +79,8 @@ version_copies =
 
 -- a symbol whose copies of the version information hold the bits of its version word shows its version
 abbrev pub HoldsVersion : ℕ → (ℕ → ℕ → Bool) → List (ℕ × ℕ) → Type 0
-HoldsVersion v m places = information_at m places ≡ number_of (reverse (map (bit (version_information v)) (range_with_len 0 18)))
+HoldsVersion v m places = information_at m places ≡ number_of (reverse (map (bit (version_information v))
+    (range_with_len 0 18)))
 
 abbrev pub VersionShown : ℕ → Type 0
 VersionShown v =

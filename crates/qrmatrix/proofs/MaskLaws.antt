@@ -26,12 +26,14 @@ are_masks_right : all_below 8 (λ mask. all_below 57 (λ y. all_below 57 (is_mas
 unfolding is_flipped is_mask_right
 are_masks_right = refl
 
-pub bit-mask_row_bits : (mask y x : ℕ) → mask < 8 → y < 57 → x < 57 → bit (mask_row_bits mask (y % 12)) x ≡ is_flipped mask x y
+pub bit-mask_row_bits : (mask y x : ℕ) → mask < 8 → y < 57 → x < 57 → bit (mask_row_bits mask (y % 12)) x
+    ≡ is_flipped mask x y
 unfolding is_mask_right
 bit-mask_row_bits mask y x lm ly lx =
     same_beq _ _ (all_below_at 57 (is_mask_right mask y)
     (all_below_at 57 (λ y. all_below 57 (is_mask_right mask y))
-    (all_below_at 8 (λ mask. all_below 57 (λ y. all_below 57 (is_mask_right mask y))) are_masks_right mask lm) y ly) x lx)
+    (all_below_at 8 (λ mask. all_below 57 (λ y. all_below 57
+    (is_mask_right mask y))) are_masks_right mask lm) y ly) x lx)
 
 free_flip : (f t b : Bool) → flip_if (not f && t) b ≡ cond f b (flip_if t b)
 free_flip true true b = refl

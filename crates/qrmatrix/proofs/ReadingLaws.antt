@@ -72,7 +72,8 @@ module _ (v : ℕ) (level : Level) (mask : ℕ) (codewords : List ℕ) where
   module_outside x y h = rw h
 
   unmasked : (p : ℕ × ℕ) → is_inside (side_of v) p.0 p.1 ≡ true → is_free v p.0 p.1 ≡ true
-      → flip_if (is_flipped mask p.0 p.1) (module_at v level mask codewords p.0 p.1) ≡ codeword_bit codewords (rank v p.0 p.1)
+      → flip_if (is_flipped mask p.0 p.1) (module_at v level mask codewords p.0 p.1)
+      ≡ codeword_bit codewords (rank v p.0 p.1)
   unfolding is_free fixed_module
   unmasked p i h =
       rw (
@@ -110,9 +111,11 @@ module _ (v : ℕ) (level : Level) (mask : ℕ) (codewords : List ℕ) where
   functions_shown =
       all_below_from (side_of v) (λ y. all_below (side_of v)
       (λ x. agrees (fixed_module v level mask x y) (module_at v level mask codewords x y)))
-      (λ y ly. all_below_from (side_of v) (λ x. agrees (fixed_module v level mask x y) (module_at v level mask codewords x y))
+      (λ y ly. all_below_from (side_of v) (λ x. agrees (fixed_module v level mask x y)
+      (module_at v level mask codewords x y))
       (λ x lx. rw (module_inside x y (inside_from (side_of v) x y lx ly))
-      (agrees_itself (fixed_module v level mask x y) (flip_if (is_flipped mask x y) (codeword_bit codewords (rank v x y))))))
+      (agrees_itself (fixed_module v level mask x y) (flip_if (is_flipped mask x y) (codeword_bit codewords
+      (rank v x y))))))
 
   -- the modules at the places of a word's bits
   modules_at_role : (places : List (ℕ × ℕ)) (kind : ℕ → Role) (information : ℕ) (is_ : List ℕ)
@@ -150,15 +153,18 @@ module _ (v : ℕ) (level : Level) (mask : ℕ) (codewords : List ℕ) where
     format_shown =
         let copies = format_copies v at_least at_most in
         let f = format_read level mask mask_below in
-        let by = λ (i : ℕ). let e : module_of_role v level mask (Format i) ≡ Some (bit (format_information level mask) i) = refl in
+        let by = λ (i : ℕ). let e : module_of_role v level mask (Format i)
+        ≡ Some (bit (format_information level mask) i) = refl in
         e in
         let one = information_at-shown format_copy_1 Format (format_information level mask) 15 by copies.0 ∙ f.0 in
-        let two = information_at-shown (format_copy_2 (side_of v)) Format (format_information level mask) 15 by copies.1 ∙ f.0 in
+        let two = information_at-shown (format_copy_2 (side_of v)) Format
+        (format_information level mask) 15 by copies.1 ∙ f.0 in
         rw (one, two, eq-eqb (format_information level mask) (format_information level mask) refl) f.1
 
     pub version_is_shown : shows_version v (side_of v) (module_at v level mask codewords) ≡ true
     version_is_shown =
-        let by = λ (i : ℕ). let e : module_of_role v level mask (Version i) ≡ Some (bit (version_information v) i) = refl in e in
+        let by = λ (i : ℕ). let e : module_of_role v level mask (Version i)
+        ≡ Some (bit (version_information v) i) = refl in e in
         version_shown v at_least at_most (module_at v level mask codewords) (λ h.
         let copies = version_copies v at_least at_most h in (
           information_at-shown (version_copy_1 (side_of v)) Version (version_information v) 18 by copies.0,

@@ -20,7 +20,8 @@ format_information level mask =
 
 -- the 32 format words that the standard lists (Annex C), those of a level with the masks 0 to 7 on a line
 abbrev pub FormatInformationIsListed : Type 0
-FormatInformationIsListed = flat_map (λ level. map (format_information level) (range_with_len 0 8)) (L ∷ M ∷ Q ∷ H ∷ []) ≡
+FormatInformationIsListed = flat_map (λ level. map (format_information level) (range_with_len 0 8))
+    (L ∷ M ∷ Q ∷ H ∷ []) ≡
     0x77C4 ∷ 0x72F3 ∷ 0x7DAA ∷ 0x789D ∷ 0x662F ∷ 0x6318 ∷ 0x6C41 ∷ 0x6976 ∷
     0x5412 ∷ 0x5125 ∷ 0x5E7C ∷ 0x5B4B ∷ 0x45F9 ∷ 0x40CE ∷ 0x4F97 ∷ 0x4AA0 ∷
     0x355F ∷ 0x3068 ∷ 0x3F31 ∷ 0x3A06 ∷ 0x24B4 ∷ 0x2183 ∷ 0x2EDA ∷ 0x2BED ∷

@@ -48,7 +48,8 @@ read_format_information information =
 -- the level and the mask, where both copies of the format information agree
 unfoldable pub read_format : ℕ → (ℕ → ℕ → Bool) → Option (Level × ℕ)
 read_format n m =
-    if information_at m format_copy_1 == information_at m (format_copy_2 n) then read_format_information (information_at m format_copy_1) else None
+    if information_at m format_copy_1 == information_at m (format_copy_2 n) then read_format_information
+    (information_at m format_copy_1) else None
 
 -- whether both copies of the version information, where the version has it, are its codeword
 unfoldable pub shows_version : ℕ → ℕ → (ℕ → ℕ → Bool) → Bool

@@ -2,7 +2,8 @@
 ghost use Rattle.std.specs.Prelude.{◌≡◌, ◌+◌, ◌*◌, ◌^◌, ◌<◌, ◌≤◌};
 ghost use Rattle.gf256.specs.BinaryPolynomial.{binary_remainder};
 ghost use Rattle.qrmatrix.specs.Information;
-ghost use Rattle.qrmatrix.specs.Information.{FormatInformationIsListed, FormatInformationIsMultiple, VersionInformationIsListed};
+ghost use Rattle.qrmatrix.specs.Information.{FormatInformationIsListed, FormatInformationIsMultiple};
+ghost use Rattle.qrmatrix.specs.Information.{VersionInformationIsListed};
 ghost use Rattle.qrmatrix.specs.Information.{VersionInformationIsMultiple};
 ghost use Rattle.qrmatrix.specs.Placement.{CodewordsFillFreeModules};
 

@@ -78,7 +78,8 @@ plan_of-requires-clause-bits c =
     rw c.of-version.ensures (fitting number c.args.highest c.args.level c.args.bytes.now c.fill-bits.result same
     (omega (arith, c.loop-number.auto.number)) (omega (arith, c.loop-number-test.true)) c.requires.few
     (rw c.of-widest.ensures at c.fill-bits.ensures.bits)
-    (omega (arith, (rw c.of-version.ensures at c.data_codewords-in-loop-number.ensures), c.if-bits-data_codewords.true)))
+    (omega (arith,
+    (rw c.of-version.ensures at c.data_codewords-in-loop-number.ensures), c.if-bits-data_codewords.true)))
 
 pub plan_of-requires-clause-short : goal.plan_of-requires-clause-short
 plan_of-requires-clause-short c =
@@ -86,7 +87,8 @@ plan_of-requires-clause-short c =
     let bytes = c.args.bytes.now in
     let same = c.requires.same number c.loop-number.auto.number (omega (arith, c.loop-number-test.true)) in
     let fits : c.fill-bits.result ≤ capacity number c.args.level =
-    omega (arith, (rw c.of-version.ensures at c.data_codewords-in-loop-number.ensures), c.if-bits-data_codewords.true) in
+    omega (arith,
+    (rw c.of-version.ensures at c.data_codewords-in-loop-number.ensures), c.if-bits-data_codewords.true) in
     let bits = fitting number c.args.highest c.args.level bytes c.fill-bits.result same
     (omega (arith, c.loop-number.auto.number)) (omega (arith, c.loop-number-test.true)) c.requires.few
     (rw c.of-widest.ensures at c.fill-bits.ensures.bits) fits in
@@ -99,7 +101,8 @@ returns-then-bits-data_codewords-clause-some c =
     let number = c.loop-number.number in
     let same = c.requires.same number c.loop-number.auto.number (omega (arith, c.loop-number-test.true)) in
     let fits : c.fill-bits.result ≤ capacity number c.args.level =
-    omega (arith, (rw c.of-version.ensures at c.data_codewords-in-loop-number.ensures), c.if-bits-data_codewords.true) in
+    omega (arith,
+    (rw c.of-version.ensures at c.data_codewords-in-loop-number.ensures), c.if-bits-data_codewords.true) in
     let bits = fitting number c.args.highest c.args.level c.args.bytes.now c.fill-bits.result same
     (omega (arith, c.loop-number.auto.number)) (omega (arith, c.loop-number-test.true)) c.requires.few
     (rw c.of-widest.ensures at c.fill-bits.ensures.bits) fits in

@@ -44,7 +44,8 @@ returns-clause-reads c =
     let bytes : All (λ w. w < 256) codewords = rw c.deref.ensures.0 at c.are_bytes.ensures in
     let same : value_at c.match-mask.masked.modules ≡ module_at v c.args.level mask codewords =
     fun_ext (λ x. fun_ext (λ y. shown c x y)) in
-    rw (same, c.side.ensures.value) (reads_back v c.args.level mask codewords c.side.ensures.known.0 c.side.ensures.known.1
+    rw (same, c.side.ensures.value)
+    (reads_back v c.args.level mask codewords c.side.ensures.known.0 c.side.ensures.known.1
     (below c) c.requires.count bytes)
 
 pub invariant_of-result : goal.invariant_of-result

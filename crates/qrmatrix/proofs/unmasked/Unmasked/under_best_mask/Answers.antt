@@ -13,4 +13,5 @@ returns-clause-mask c = λ codewords u.
     let f : ℕ → ℕ = λ k. penalty (side_of v) (module_at v c.args.self.now.level k codewords) in
     let e : c.loop-mask.mask ≡ 8 = omega arith in
     sym (lowest_of_eight f c.loop-mask.best.mask
-    (subst (λ n. Found f n c.loop-mask.best.mask c.loop-mask.lowest) e (c.loop-mask.invariant.found codewords u)).lowest)
+    (subst (λ n. Found f n c.loop-mask.best.mask c.loop-mask.lowest) e
+    (c.loop-mask.invariant.found codewords u)).lowest)
