@@ -45,7 +45,7 @@ roots_pass p (suc n) low h =
 pub HasEcCodewords-from_law : EcCodewordsAreRemainder → RemaindersHaveRoots → (k : ℕ) → 0 < k → HasEcCodewords k
 HasEcCodewords-from_law remainder codeword k some = record {
   count = λ block w. let here : IsRemainder k block (ec_codewords_of k block) =
-      remainder k block some (All-from_recursion IsElement block w) in here.ec_codewords_per_block;
+      remainder k block some (All-from_recursion IsElement block w) in here.ec_codewords_length;
   roots = λ block w.
       let here : IsRemainder k block (ec_codewords_of k block) =
       remainder k block some (All-from_recursion IsElement block w) in

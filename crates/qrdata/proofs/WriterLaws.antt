@@ -19,6 +19,7 @@ use Rattle.qrdata.specs.Bits.{bits_of, codewords_of, number_of}
 use Rattle.qrdata.specs.Codewords.{largest, split_by}
 use Rattle.qrdata.specs.Segments.{IsSegmentation, alphanumeric_bits, alphanumeric_value, byte_bits, cost, count_width}
 use Rattle.qrdata.specs.Segments.{segment_bits, segment_length, segment_of, segments_bits}
+use Rattle.qrdata.specs.Private.Blocks.{HasBlocks}
 use Rattle.qrdata.specs.Versions.{block_count, block_lengths, data_codewords, ec_codewords_per_block}
 use Rattle.qrdata.proofs.BlockLaws.{split_lengths}
 use Rattle.qrdata.proofs.BitStringLaws.{bits_of-nil, drop_front, length-bits_of, number_of-bits_of, take_front}
@@ -148,22 +149,6 @@ length-flat_map f k P (block ∷ blocks) each w =
 pub AreBytes-slice : (bytes : List ℕ) → ((i : ℕ) → get_or bytes i 0 < 256) → AreBytes bytes
 AreBytes-slice bytes each = recursion_from_All (λ b. b < 256) bytes
     (All-from_get_or (λ b. b < 256) bytes 0 (λ i h. each i))
-
--- the error correction codewords of the blocks of a symbol
-pub record HasBlocks (version : ℕ) (level : Level) (message : List ℕ) : Type 0 where
-  pub count : length (block_lengths version level) ≡ block_count version level
-  pub whole : sum (block_lengths version level) ≡ length message
-  pub ec_blocks : length (flat_map (ec_codewords_of (ec_codewords_per_block version level))
-      (split_by (block_lengths version level) message))
-      ≡ block_count version level * ec_codewords_per_block version level
-  pub cut : split_by (replicate (length (block_lengths version level)) (ec_codewords_per_block version level))
-      (flat_map (ec_codewords_of (ec_codewords_per_block version level)) (split_by
-      (block_lengths version level) message))
-      ≡ map (ec_codewords_of (ec_codewords_per_block version level)) (split_by (block_lengths version level) message)
-  pub few : block_count version level ≤ 8
-  pub some_ec_codewords : 1 ≤ ec_codewords_per_block version level
-  pub few_ec_codewords : ec_codewords_per_block version level ≤ 30
-  pub total : length message + block_count version level * ec_codewords_per_block version level ≤ 346
 
 pub HasBlocks-message : (version : ℕ) (level : Level) (message : List ℕ) → 1 ≤ version → version ≤ 10
     → EcCodewordsAreRemainder → RemaindersHaveRoots → AreBytes message

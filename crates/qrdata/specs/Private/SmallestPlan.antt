@@ -3,6 +3,8 @@ use Rattle.std.specs.Prelude.{◌≡◌, ℕ, ◌<◌, ◌≤◌, List, ◌∷�
 use Rattle.qrdata.specs.declared.level.Level.{Level}
 use Rattle.qrdata.specs.declared.mode.Mode.{Mode}
 use Rattle.qrdata.specs.declared.mode.Segment.{Segment}
+use Rattle.qrdata.specs.declared.plan.TheConstants.{MAX_SEGMENTS}
+use Rattle.qrdata.specs.declared.segmentation.TheConstants.{MAX_BYTES}
 use Rattle.qrdata.specs.Fewest.{chosen_segments}
 use Rattle.qrdata.specs.PlanView.{PlanView}
 use Rattle.qrdata.specs.Segments.{cost, count_width}
@@ -36,3 +38,15 @@ NamesBest version bytes limit firsts =
     (k : ℕ) → k < length bytes → cost version (chosen_segments version (drop k bytes)) ≤ limit
     → (first : Segment) → slice_get firsts k ≡ Some first
     → first ∷ chosen_segments version (drop first.len (drop k bytes)) ≡ chosen_segments version (drop k bytes)
+
+-- a table with a place for each byte, which names the best first segments of the bytes and of their rests
+pub record IsTable (version : ℕ) (bytes : List ℕ) (limit : ℕ) (firsts : List Segment) : Type 0 where
+  pub few : length bytes ≤ MAX_BYTES
+  pub size : length firsts ≡ MAX_BYTES
+  pub named : NamesBest version bytes limit firsts
+
+-- the segments have so many bits, these fit the version, and there is room for the segments in a plan
+pub record FitsBits (version : ℕ) (level : Level) (bits : ℕ) (segments : List Segment) : Type 0 where
+  pub value : bits ≡ cost version segments
+  pub fits : bits ≤ capacity version level
+  pub short : length segments ≤ MAX_SEGMENTS

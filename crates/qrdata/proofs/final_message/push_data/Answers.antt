@@ -14,7 +14,7 @@ push_segments-requires-clause-room c =
     omega (
       arith,
       ap length c.requires.empty,
-      c.requires.fits,
+      c.requires.plan.fits,
       capacity-le c.args.level c.args.version c.known.ensures.0 c.known.ensures.1,
     )
 
@@ -26,9 +26,9 @@ end-requires c =
       fits = omega (
         arith,
         ap length whole,
-        c.requires.fits,
+        c.requires.plan.fits,
         c.data_codewords-size.ensures,
-        length-segments_bits c.args.version c.args.segments.now c.args.bytes.now c.requires.cut,
+        length-segments_bits c.args.version c.args.segments.now c.args.bytes.now c.requires.plan.cut,
       );
       size = omega (
         arith,
