@@ -1,13 +1,11 @@
 //! A drawn symbol.
-ghost use Rattle.std.specs.Prelude.{◌≡◌, ℕ, ◌<◌, ◌≤◌, ◌&&◌, All, Bool, IfSome, length, List, Some};
+ghost use Rattle.std.specs.Prelude.{◌≡◌, ℕ, ◌<◌, ◌≤◌, ◌&&◌, All, Bool, IfSome, length, List};
 ghost use Rattle.std.specs.Prelude.{slice_index};
 ghost use Rattle.qrdata.specs.Versions.{side_of, total_codewords};
 ghost use Rattle.qrmatrix.specs.Bits.{bit};
-ghost use Rattle.qrmatrix.specs.MaskChoice.{chosen_mask};
-ghost use Rattle.qrmatrix.specs.Modules.{is_inside, module_at};
+ghost use Rattle.qrmatrix.specs.Modules.{is_inside};
 ghost use Rattle.qrmatrix.specs.Penalty;
-ghost use Rattle.qrmatrix.specs.Reading.{read_matrix};
-ghost use Rattle.qrmatrix.specs.Symbol.{Symbol, is_dark};
+ghost use Rattle.qrmatrix.specs.Symbol.{IsSymbolOf, Symbol, is_dark};
 ghost use Rattle.qrmatrix.specs.Private.Squares.{IsWithin};
 
 use crate::penalty::penalty;
@@ -40,8 +38,8 @@ impl Model for Matrix {
     } };
 }
 
-/// A slice of bytes has numbers below 256, which the type of an `ArrayVec` does not tell a proof. It does nothing when
-/// it runs.
+/// The numbers of a slice of bytes are below 256, which the type of an `ArrayVec` does not say to a proof. It does nothing
+/// when it runs.
 fn are_bytes(bytes: &[u8])
     ensures { All (λ b. b < 256) bytes.now }
 {}
@@ -53,12 +51,7 @@ impl Matrix {
     pub fn draw(version: Version, level: Level, mask: Option<u8>, codewords: &Codewords) -> Matrix
         requires count { length codewords.now.items ≡ total_codewords version }
         requires mask { IfSome mask (λ k. k < 8) }
-        ensures side { result.side ≡ side_of version }
-        ensures mask { result.mask ≡ chosen_mask version level mask codewords.now.items }
-        ensures modules { (x y : ℕ) → is_dark result x y
-            ≡ module_at version level result.mask codewords.now.items x y }
-        ensures reads { read_matrix result.side (is_dark result)
-            ≡ Some (record { version = version; level = level; codewords = codewords.now.items }) }
+        ensures { IsSymbolOf version level mask codewords.now.items result }
     {
         are_bytes(codewords);
         let unmasked = Unmasked::draw(version, level, codewords);
@@ -73,7 +66,7 @@ impl Matrix {
         }
     }
 
-    /// Whether the module at column `x` and row `y` is dark.
+    /// Returns whether the module at column `x` and row `y` is dark.
     pub fn dark(&self, x: usize, y: usize) -> bool
         requires column { x < self.now.side }
         requires row { y < self.now.side }
@@ -82,7 +75,7 @@ impl Matrix {
         self.modules.get(x, y)
     }
 
-    /// The rows as words: bit x of word y is the module at column x and row y, and the bits from the side on are 0.
+    /// Returns the rows: bit x of number y is the module at column x and row y, and the bits from the side on are 0.
     pub fn rows(&self) -> &[u64; SIDE]
         ensures bits { (x y : ℕ) → bit (slice_index result.now y) x
             ≡ (is_inside self.now.side x y && is_dark self.now x y) }
@@ -91,7 +84,7 @@ impl Matrix {
         self.modules.rows()
     }
 
-    /// The number of modules on a side.
+    /// Returns the number of modules on a side, 21 to 57.
     pub fn side(&self) -> usize
         ensures value { result ≡ self.now.side }
         ensures bound { result ≤ side_of 10 }
@@ -99,7 +92,7 @@ impl Matrix {
         self.side
     }
 
-    /// The mask, 0 to 7.
+    /// Returns the number of the mask, 0 to 7.
     pub fn mask(&self) -> u8
         ensures value { result ≡ self.now.mask }
         ensures bound { result < 8 }
@@ -107,7 +100,7 @@ impl Matrix {
         self.mask
     }
 
-    /// The penalty of the modules (in the manner of ISO/IEC 18004, 7.8.3).
+    /// Returns the penalty of the modules (in the manner of ISO/IEC 18004, 7.8.3).
     pub fn penalty(&self) -> u32
         ensures { result ≡ Penalty.penalty self.now.side (is_dark self.now) }
     {

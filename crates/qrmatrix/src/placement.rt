@@ -5,12 +5,11 @@ ghost use Rattle.std.specs.Prelude.{if◌then◌else◌, IsTrue, IsFalse, nat_lt
 ghost use Rattle.qrdata.specs.Versions.{side_of};
 ghost use Rattle.qrmatrix.specs.Functions.{is_free};
 ghost use Rattle.qrmatrix.specs.Placement;
-ghost use Rattle.qrmatrix.specs.Placement.{rank};
 ghost use Rattle.qrmatrix.specs.Bits.{bit};
 ghost use Rattle.qrmatrix.specs.Square.{value_at};
-ghost use Rattle.qrmatrix.specs.Private.Squares.{WritesAt, WritesTwo, SameOutside};
+ghost use Rattle.qrmatrix.specs.Private.Squares.{WritesAt, WritesTwo};
 ghost use Rattle.qrmatrix.specs.Private.CodewordPairs.{ArePairs, ShowsTwo};
-ghost use Rattle.qrmatrix.specs.Private.Drawing.{MarksFunctions};
+ghost use Rattle.qrmatrix.specs.Private.Drawing.{MarksFunctions, PlacesCodewords};
 
 use crate::square::{SIDE, Square};
 use qrdata::{Codewords, Version};
@@ -37,8 +36,7 @@ fn place_module(
     y: usize,
     i: usize,
 ) -> usize
-    requires column { x < SIDE }
-    requires row { y < SIDE }
+    requires place { (x < SIDE) × (y < SIDE) }
     requires count { i < 2 ^ 32 }
     ensures free { IsFalse (value_at function.now x y) → (result ≡ i + 1)
         × WritesAt modules.old modules.new x y (Placement.codeword_bit codewords.now.items i) }
@@ -80,8 +78,7 @@ fn two_bits(pairs: &[u16; PAIRS], i: usize) -> u64
 
 /// Whether no function module is at column `x` and at the next one.
 fn are_free(function: &Square, x: usize, y: usize) -> bool
-    requires column { x + 1 < SIDE }
-    requires row { y < SIDE }
+    requires { (x + 1 < SIDE) × (y < SIDE) }
     ensures { IsTrue result → (value_at function.now x y ≡ false)
         × (value_at function.now (x + 1) y ≡ false) }
 {
@@ -91,8 +88,7 @@ fn are_free(function: &Square, x: usize, y: usize) -> bool
 /// Writes two bits on light modules, the lower one at column `x` and the other one at the next.
 fn place_two(two: u64, modules: &mut Square, x: usize, y: usize)
     requires bits { two < 4 }
-    requires column { x + 1 < SIDE }
-    requires row { y < SIDE }
+    requires place { (x + 1 < SIDE) × (y < SIDE) }
     requires light { (value_at modules.old x y ≡ false)
         × (value_at modules.old (x + 1) y ≡ false) }
     ensures { WritesTwo modules.old modules.new x y (bit two 0) (bit two 1) }
@@ -106,12 +102,7 @@ pub fn place(version: Version, codewords: &Codewords, function: &Square, modules
     requires marked { MarksFunctions version function.now }
     requires light { (x y : ℕ) → x < side_of version → y < side_of version
         → is_free version x y ≡ true → value_at modules.old x y ≡ false }
-    ensures placed { (x y : ℕ) → x < side_of version → y < side_of version
-        → is_free version x y ≡ true → value_at modules.new x y
-        ≡ Placement.codeword_bit codewords.now.items (rank version x y) }
-    ensures others { (x y : ℕ) → x < side_of version → y < side_of version
-        → is_free version x y ≡ false → value_at modules.new x y ≡ value_at modules.old x y }
-    ensures outside { SameOutside (side_of version) modules.old modules.new }
+    ensures { PlacesCodewords version codewords.now.items modules.old modules.new }
 {
     let n = version.side();
     let pairs = codeword_pairs(codewords);

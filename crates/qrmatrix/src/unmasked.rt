@@ -1,13 +1,11 @@
-//! A symbol before its mask: what stays under all eight masks is drawn once.
-ghost use Rattle.std.specs.Prelude.{◌≡◌, ℕ, ◌<◌, false, List, None};
+//! A symbol before its mask: what all eight masks share is drawn once.
+ghost use Rattle.std.specs.Prelude.{◌≡◌, ℕ, ◌<◌, List, None};
 ghost use Rattle.qrdata.specs.Versions.{side_of};
-ghost use Rattle.qrmatrix.specs.Private.Drawing.{unmasked_module, Draws, MarksFunctions, Places, ShowsSymbol};
-ghost use Rattle.qrmatrix.specs.Functions.{role};
+ghost use Rattle.qrmatrix.specs.Private.Drawing.{Draws, DrawsFunctions, Places, ShowsSymbol};
 ghost use Rattle.qrmatrix.specs.MaskChoice.{chosen_mask};
 ghost use Rattle.qrmatrix.specs.Modules.{module_at};
 ghost use Rattle.qrmatrix.specs.Penalty;
-ghost use Rattle.qrmatrix.specs.Square.{value_at};
-ghost use Rattle.qrmatrix.specs.Private.Squares.{SameOutside};
+ghost use Rattle.qrmatrix.specs.Private.Squares.{IsBlank};
 
 use crate::format::draw_format;
 use crate::function::function_row;
@@ -19,12 +17,8 @@ use qrdata::{Codewords, Level, Version};
 
 /// Draws the function patterns on two blank squares: their modules, and those that are dark.
 fn draw_functions(version: Version, function: &mut Square, modules: &mut Square)
-    requires blank_function { (x y : ℕ) → value_at function.old x y ≡ false }
-    requires blank_modules { (x y : ℕ) → value_at modules.old x y ≡ false }
-    ensures marked { MarksFunctions version function.new }
-    ensures drawn { (x y : ℕ) → x < side_of version → y < side_of version
-        → value_at modules.new x y ≡ unmasked_module version (role version x y) }
-    ensures outside { SameOutside (side_of version) modules.old modules.new }
+    requires { IsBlank function.old × IsBlank modules.old }
+    ensures { DrawsFunctions version function.new modules.old modules.new }
 {
     let n = version.side();
     for y in 0..n {

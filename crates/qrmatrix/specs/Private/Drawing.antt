@@ -75,3 +75,17 @@ pub record ShowsFormat (v : ℕ) (level : Level) (mask : ℕ) (old new : List (L
   pub inside : (x y : ℕ) → x < side_of v → y < side_of v
       → value_at new x y ≡ flip_if (format_module (format_information level mask) (role v x y)) (value_at old x y)
   pub outside : SameOutside (side_of v) old new
+
+-- the codewords are placed on the free modules, and nothing else is written
+pub record PlacesCodewords (v : ℕ) (codewords : List ℕ) (old new : List (List Bool)) : Type 0 where
+  pub placed : (x y : ℕ) → x < side_of v → y < side_of v → is_free v x y ≡ true
+      → value_at new x y ≡ codeword_bit codewords (rank v x y)
+  pub others : (x y : ℕ) → x < side_of v → y < side_of v → is_free v x y ≡ false → value_at new x y ≡ value_at old x y
+  pub outside : SameOutside (side_of v) old new
+
+-- the function patterns are drawn: the modules that the codewords do not choose are marked, and those of them that are dark
+-- are drawn
+pub record DrawsFunctions (v : ℕ) (function old new : List (List Bool)) : Type 0 where
+  pub marked : MarksFunctions v function
+  pub drawn : (x y : ℕ) → x < side_of v → y < side_of v → value_at new x y ≡ unmasked_module v (role v x y)
+  pub outside : SameOutside (side_of v) old new

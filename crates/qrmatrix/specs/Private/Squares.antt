@@ -22,3 +22,7 @@ IsWithin n rows = (x y : ℕ) → is_inside n x y ≡ false → value_at rows x 
 pub record SameOutside (n : ℕ) (old new : List (List Bool)) : Type 0 where
   pub columns : (x y : ℕ) → n ≤ x → value_at new x y ≡ value_at old x y
   pub rows : (x y : ℕ) → n ≤ y → value_at new x y ≡ value_at old x y
+
+-- no value is true
+abbrev pub IsBlank : List (List Bool) → Type 0
+IsBlank rows = (x y : ℕ) → value_at rows x y ≡ false

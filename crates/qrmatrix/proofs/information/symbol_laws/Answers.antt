@@ -3,17 +3,12 @@ use Rattle.qrmatrix.proofs.InformationLaws.{version_information-listed, version_
 use Rattle.qrmatrix.proofs.VersionLaws.{computed}
 use Rattle.qrmatrix.proofs.information.symbol_laws.Goals as goal
 
-pub returns-clause-format : goal.returns-clause-format
-returns-clause-format c = format_information-listed
-
-pub returns-clause-format_code : goal.returns-clause-format_code
-returns-clause-format_code c = format_information-multiple
-
-pub returns-clause-version : goal.returns-clause-version
-returns-clause-version c = version_information-listed
-
-pub returns-clause-version_code : goal.returns-clause-version_code
-returns-clause-version_code c = version_information-multiple
-
-pub returns-clause-room : goal.returns-clause-room
-returns-clause-room c = λ v l h. (computed v l h).count
+pub returns : goal.returns
+returns c =
+    record {
+      format = format_information-listed;
+      format_code = format_information-multiple;
+      version = version_information-listed;
+      version_code = version_information-multiple;
+      room = λ v l h. (computed v l h).count;
+    }

@@ -83,11 +83,14 @@ loop-t-preserved c =
       inside = i.inside;
     }
 
-pub returns-clause-placed : goal.returns-clause-placed
-returns-clause-placed c =
-    λ x y lx ly free.
+pub returns : goal.returns
+returns c =
     let v = c.args.version in
     let k = computed v c.side-n.ensures.known.0 c.side-n.ensures.known.1 in
     let n : c.loop-strip.strip ≡ (side_of v - 1) / 2 = omega arith in
-    let b = below_at v k x y lx ly (outside_at v k x y ly free) in
-    c.loop-strip.invariant.placed.placed x y lx ly free (rw n b)
+    let placed = c.loop-strip.invariant.placed in
+    record {
+      placed = λ x y lx ly free. placed.placed x y lx ly free (rw n (below_at v k x y lx ly (outside_at v k x y ly free)));
+      others = placed.others;
+      outside = record { columns = placed.columns; rows = placed.rows };
+    }

@@ -25,9 +25,10 @@ shown c =
 below : (c : goal.After-side) → c.match-mask.masked.mask < 8
 below c = elim c.match-mask.branch [ in-Some w ↦ search rules | in-None w ↦ search rules ]
 
-pub returns-clause-mask : goal.returns-clause-mask
+mask_is : (c : goal.After-side) → c.match-mask.masked.mask
+    ≡ chosen_mask c.args.version c.args.level c.args.mask c.args.codewords.now.items
 unfolding chosen_mask
-returns-clause-mask c =
+mask_is c =
     let drawn = c.draw-unmasked.ensures in
     elim c.match-mask.branch [
       | in-Some w ↦ rw (w.masked-is, w.under-masked.ensures.mask, w.in-Some.is) refl
@@ -36,17 +37,21 @@ returns-clause-mask c =
           (w.under_best_mask-masked.ensures.mask c.args.codewords.now.items drawn.placed)
     ]
 
-pub returns-clause-reads : goal.returns-clause-reads
-returns-clause-reads c =
+pub returns : goal.returns
+returns c =
     let v = c.args.version in
     let codewords = c.args.codewords.now.items in
     let mask = c.match-mask.masked.mask in
     let bytes : All (λ w. w < 256) codewords = rw c.deref.ensures.0 at c.are_bytes.ensures in
     let same : value_at c.match-mask.masked.modules ≡ module_at v c.args.level mask codewords =
     fun_ext (λ x. fun_ext (λ y. shown c x y)) in
-    rw (same, c.side.ensures.value)
-    (reads_back v c.args.level mask codewords c.side.ensures.known.0 c.side.ensures.known.1
-    (below c) c.requires.count bytes)
+    record {
+      side = c.side.ensures.value;
+      mask = mask_is c;
+      modules = shown c;
+      reads = rw (same, c.side.ensures.value) (reads_back v c.args.level mask codewords c.side.ensures.known.0
+          c.side.ensures.known.1 (below c) c.requires.count bytes);
+    }
 
 pub invariant_of-result : goal.invariant_of-result
 invariant_of-result c =
