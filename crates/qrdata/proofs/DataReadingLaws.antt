@@ -139,8 +139,12 @@ data_in-symbol_codewords version level segments bytes low high w cut fits remain
     let back : drop size (interleaving blocks ++ interleaving ec_blocks) ≡ interleaving ec_blocks =
     drop_front size (interleaving blocks) (interleaving ec_blocks) data_length in
     let total : length (interleaving blocks ++ interleaving ec_blocks) ≡ total_codewords version =
-    omega (arith, length-append (interleaving blocks)
-    (interleaving ec_blocks), data_codewords-add_ec_codewords version level low high) in
+    omega (
+      arith,
+      length-append (interleaving blocks)
+          (interleaving ec_blocks),
+      data_codewords-add_ec_codewords version level low high,
+    ) in
     let valid = all_have_roots k blocks law split_bytes in
     let joined : concat blocks ≡ codewords = split_joined lengths codewords all_codewords in
     let ends = data_codewords_of-ends size bits bits_fit in

@@ -117,8 +117,11 @@ pub split_by-next : (lengths codewords : List ℕ) (i start : ℕ) → i < lengt
     → split_by (drop i lengths) (drop start codewords) ≡ take (get_or lengths i 0) (drop start codewords)
     ∷ split_by (drop (i + 1) lengths) (drop (start + get_or lengths i 0) codewords)
 unfolding split_by
-split_by-next lengths codewords i start h = rw (drop_more lengths i 0 h, ← drop-drop
-    (get_or lengths i 0) start codewords) refl
+split_by-next lengths codewords i start h = rw (
+  drop_more lengths i 0 h,
+  ← drop-drop
+      (get_or lengths i 0) start codewords,
+) refl
 
 pub split_by-none_left : (lengths codewords : List ℕ) (i : ℕ) → length lengths ≤ i
     → split_by (drop i lengths) codewords ≡ []
@@ -166,7 +169,7 @@ HasBlocks-message version level message low high remainder codeword w whole =
       count = shapes.1;
       whole = shapes.0 ∙ sym whole;
       ec_blocks = length-flat_map (ec_codewords_of k) k AreBytes blocks law.count bytes
-      ∙ ap (λ n. n * k) (same ∙ shapes.1);
+          ∙ ap (λ n. n * k) (same ∙ shapes.1);
       cut = rw (← same) (split_by-flat_map (ec_codewords_of k) k AreBytes blocks law.count bytes);
       few = sound.few_blocks;
       some_ec_codewords = sound.some_ec_codewords;

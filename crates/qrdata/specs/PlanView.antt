@@ -44,8 +44,8 @@ pub record FitsNowhere (lowest : ℕ) (level : Level) (bytes : List ℕ) : Type 
   pub version : chosen_version lowest level bytes ≡ None
   pub nowhere : (v : ℕ) → lowest ≤ v → v ≤ 10 → NoneFits v level bytes
 
--- The codewords of the symbol of a plan: they are those of the standard, as many as the version has, and they read back as
--- the data.
+-- The codewords of the symbol of a plan: they are those of the standard, as many as the version has, and they read back
+-- as the data.
 pub record AreSymbolCodewords (plan : PlanView) (codewords : List ℕ) : Type 0 where
   pub value : codewords ≡ symbol_codewords plan.version plan.level plan.segments plan.bytes
   pub count : length codewords ≡ total_codewords plan.version

@@ -14,7 +14,8 @@ pub(crate) const MAX_CODEWORDS: usize = 346;
 /// The codewords of a symbol.
 pub type Codewords = ArrayVec<u8, MAX_CODEWORDS>;
 
-/// Writes the codewords at one place of the blocks, block by block. `lengths` are those of the blocks, one after another.
+/// Writes the codewords at one place of the blocks, block by block. `lengths` are those of the blocks, one after
+/// another.
 fn push_place(lengths: &[usize], codewords: &[u8], place: usize, out: &mut Codewords)
     requires whole { sum lengths.now ≡ length codewords.now }
     requires room { array_vec_len out.old

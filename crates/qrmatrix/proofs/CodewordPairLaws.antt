@@ -83,7 +83,7 @@ two_shown codewords pairs i h p =
 
 -- ---- two modules of a row
 
--- two bits of a word are zeros
+-- two bits of a row are zeros
 pub two_clear : (w x : ℕ) → bit_and (w / 2 ^ x) 3 ≡ 0 → (bit w x ≡ false) × (bit w (x + 1) ≡ false)
 two_clear w x e =
     let none : 0 + x ≡ x = omega arith in
@@ -204,8 +204,11 @@ pairs_last codewords pairs i value p size whole some few e bytes =
             ∙ sym (rw none (add-zero (slice_index codewords j * 256)))
         | inr ne ↦ get_or-set_other pairs (i - 1) j value 0 ne ∙ elim (cases_lt (j + 1) i) [
           | inl l ↦ p.made j l
-          | inr g ↦ p.none j g ∙ sym (rw (slice_past codewords j (omega arith), slice_past codewords (j + 1)
-          (omega arith))
+          | inr g ↦ p.none j g ∙ sym (rw (
+            slice_past codewords j (omega arith),
+            slice_past codewords (j + 1)
+                (omega arith),
+          )
               refl)
         ]
       ];

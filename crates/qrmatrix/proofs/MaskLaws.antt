@@ -1,4 +1,4 @@
--- The rows of the masks as words.
+-- The rows of the masks, 64 bits each.
 use Rattle.std.proofs.Common.{◌≡◌, ℕ, ◌+◌, ◌*◌, ◌%◌, ◌<◌, ◌≤◌, ◌^◌, refl, ap, ◌∙◌, arith, Bool, true, false, not, cond}
 use Rattle.std.proofs.Common.{◌&&◌, List, []}
 use Rattle.std.specs.Prelude.{slice_index_or, ◌==◌, bit_and}
@@ -14,7 +14,7 @@ use Rattle.qrmatrix.proofs.PassLaws.{Mapped, row_turned}
 use Rattle.qrmatrix.proofs.SumLaws.{all_below_at}
 use Rattle.qrmatrix.proofs.RowBitsLaws.{and_bit, not_bit, same_beq}
 
--- the word that the table of patterns gives
+-- the row that the table of patterns gives
 abbrev pub mask_row_bits : ℕ → ℕ → ℕ
 mask_row_bits mask place = slice_index_or (slice_index_or {A = List ℕ} PATTERNS mask []) place 0 * EVERY_SIXTH
 

@@ -1,6 +1,7 @@
 -- Reading inverts drawing.
 use Rattle.std.proofs.Common.{◌≡◌, ℕ, ◌+◌, ◌-◌, ◌*◌, ◌/◌, ◌<◌, ◌≤◌, refl, ap, ◌∙◌, arith, Bool, true, false, cond, List}
 use Rattle.std.proofs.Common.{[], ◌∷◌, length, Option, Some, None, eq-eqb}
+use Rattle.std.specs.Bool.{beq}
 use Rattle.std.specs.Prelude.{unwrap_or, map, nat_lt, reverse, All}
 use Rattle.std.specs.List.{range_with_len, filter, list_all}
 use Rattle.std.proofs.lemmas.Bool.{and_from, and_parts, lt-ltb, le-leb}
@@ -16,7 +17,7 @@ use Rattle.qrmatrix.specs.Modules.{module_at, is_inside}
 use Rattle.qrmatrix.specs.Masks.{flip_if, is_flipped}
 use Rattle.qrmatrix.specs.Placement.{codeword_bit, rank, remainder_bits}
 use Rattle.qrmatrix.specs.Reading.{walk, read_bits, read_matrix, format_copy_1, format_copy_2, version_copy_1}
-use Rattle.qrmatrix.specs.Reading.{version_copy_2, information_at, read_format, shows_version, shows_functions, agrees}
+use Rattle.qrmatrix.specs.Reading.{version_copy_2, information_at, read_format, shows_version, shows_functions}
 use Rattle.qrmatrix.proofs.SumLaws.{all_below_from}
 use Rattle.qrmatrix.proofs.VersionLaws.{Computed, computed}
 use Rattle.qrmatrix.proofs.WalkLaws.{walk_ranks}
@@ -101,8 +102,9 @@ module _ (v : ℕ) (level : Level) (mask : ℕ) (codewords : List ℕ) where
 
   -- ---- the function patterns
 
-  agrees_itself : (o : Option Bool) (d : Bool) → agrees o (unwrap_or o d) ≡ true
-  agrees_itself None d = refl
+  agrees_itself : (o : Option Bool) (d : Bool) → beq (unwrap_or o (unwrap_or o d)) (unwrap_or o d) ≡ true
+  agrees_itself None true = refl
+  agrees_itself None false = refl
   agrees_itself (Some true) d = refl
   agrees_itself (Some false) d = refl
 
@@ -110,14 +112,15 @@ module _ (v : ℕ) (level : Level) (mask : ℕ) (codewords : List ℕ) where
   unfolding shows_functions
   functions_shown =
       all_below_from (side_of v) (λ y. all_below (side_of v)
-      (λ x. agrees (fixed_module v level mask x y) (module_at v level mask codewords x y)))
-      (λ y ly. all_below_from (side_of v) (λ x. agrees (fixed_module v level mask x y)
-      (module_at v level mask codewords x y))
+      (λ x. beq (unwrap_or (fixed_module v level mask x y)
+      (module_at v level mask codewords x y)) (module_at v level mask codewords x y)))
+      (λ y ly. all_below_from (side_of v) (λ x. beq (unwrap_or (fixed_module v level mask x y)
+      (module_at v level mask codewords x y)) (module_at v level mask codewords x y))
       (λ x lx. rw (module_inside x y (inside_from (side_of v) x y lx ly))
       (agrees_itself (fixed_module v level mask x y) (flip_if (is_flipped mask x y) (codeword_bit codewords
       (rank v x y))))))
 
-  -- the modules at the places of a word's bits
+  -- the modules at the places of the bits of a number
   modules_at_role : (places : List (ℕ × ℕ)) (kind : ℕ → Role) (information : ℕ) (is_ : List ℕ)
       → ((i : ℕ) → module_of_role v level mask (kind i) ≡ Some (bit information i))
       → list_all (λ (p : ℕ × ℕ). is_inside (side_of v) p.0 p.1) places ≡ true
@@ -139,7 +142,7 @@ module _ (v : ℕ) (level : Level) (mask : ℕ) (codewords : List ℕ) where
       cc
 
   module _ (at_least : 1 ≤ v) (at_most : v ≤ 10) (mask_below : mask < 8) where
-    -- the word that stands at places where its bits have their roles
+    -- the number at places where its bits have their roles
     information_at-shown : (places : List (ℕ × ℕ)) (kind : ℕ → Role) (information count : ℕ)
         → ((i : ℕ) → module_of_role v level mask (kind i) ≡ Some (bit information i))
         → StandsAt v kind count places → information_at (module_at v level mask codewords) places

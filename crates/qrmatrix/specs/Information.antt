@@ -12,8 +12,8 @@ level_indicator M = 0
 level_indicator Q = 3
 level_indicator H = 2
 
--- the format information: level indicator, mask reference and ten check bits by the generator 0x537, with the mask 0x5412
--- laid over
+-- the format information: level indicator, mask reference and ten check bits by the generator 0x537, with the mask
+-- 0x5412 laid over
 unfoldable pub format_information : Level → ℕ → ℕ
 format_information level mask =
     let message = (level_indicator level * 8 + mask) * 2 ^ 10 in
@@ -36,8 +36,8 @@ version_information v = let message = v * 2 ^ 12 in message + binary_remainder 1
 abbrev pub VersionInformationIsListed : Type 0
 VersionInformationIsListed = map version_information (7 ∷ 8 ∷ 9 ∷ 10 ∷ []) ≡ 0x07C94 ∷ 0x085BC ∷ 0x09A99 ∷ 0x0A4D3 ∷ []
 
--- n is a multiple of the generator: as a polynomial over two elements it is the product of the generator and a quotient of
--- degree below `terms`. The bits of n above the degree of the generator are the message.
+-- n is a multiple of the generator: as a polynomial over two elements it is the product of the generator and a quotient
+-- of degree below `terms`. The bits of n above the degree of the generator are the message.
 pub record IsMultipleOf (degree generator terms message n : ℕ) : Type 0 where
   pub message_bits : n / 2 ^ degree ≡ message
   pub quotient : ℕ

@@ -6,8 +6,8 @@ ghost use Rattle.qrmatrix.specs.StandardLists.{AgreesWithLists};
 
 use qrdata::{Level, Version};
 
-/// Returns the remainder of `message`, of degree below `degree + count`, by `modulus`, of that degree, as polynomials over two
-/// elements: bit i of a number is the coefficient of x^i.
+/// Returns the remainder of `message`, of degree below `degree + count`, by `modulus`, of that degree, as polynomials
+/// over two elements: bit i of a number is the coefficient of x^i.
 fn remainder(degree: u32, modulus: u32, count: u32, message: u32) -> u32
     requires modulus { modulus < 2 ^ 13 }
     requires message { (message < 2 ^ 18) × (degree + count ≤ 18) × (count ≤ 6) }
@@ -37,8 +37,8 @@ fn level_indicator(level: Level) -> u32
     }
 }
 
-/// Returns the format information of 15 bits: level and mask with their check bits, under the mask of the format information
-/// (ISO/IEC 18004, 7.9).
+/// Returns the format information of 15 bits: level and mask with their check bits, under the mask of the format
+/// information (ISO/IEC 18004, 7.9).
 #[tactic(auto, unfolding(crate::specs::Information::format_information))]
 pub fn format_information(level: Level, mask: u8) -> u32
     requires { mask < 8 }

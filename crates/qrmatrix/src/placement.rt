@@ -14,10 +14,10 @@ ghost use Rattle.qrmatrix.specs.Private.Drawing.{MarksFunctions, PlacesCodewords
 use crate::square::{SIDE, Square};
 use qrdata::{Codewords, Version};
 
-/// How many numbers of two codewords there are: enough that each module of the largest symbol has a bit.
+/// The number of pairs of codewords: enough that each module of the largest symbol has a bit.
 const PAIRS: usize = 400;
 
-/// Bit `i` of the codewords, the high bit of each first, and light past their end.
+/// Returns bit `i` of the codewords, the high bit of each first, and false past their end.
 fn codeword_bit(codewords: &Codewords, i: usize) -> bool
     ensures { result ≡ Placement.codeword_bit codewords.now.items i }
 {
@@ -27,7 +27,7 @@ fn codeword_bit(codewords: &Codewords, i: usize) -> bool
     }
 }
 
-/// Places bit `i` on the module, if it is free, and says how many bits are placed then.
+/// Places bit `i` on a module, if the module is free, and returns how many bits are placed after that.
 fn place_module(
     codewords: &Codewords,
     function: &Square,
@@ -50,7 +50,7 @@ fn place_module(
     }
 }
 
-/// The numbers of 16 bits that each codeword makes with the next one; zeros follow the last.
+/// Returns for each codeword the 16 bits of it and the next one. Zeros follow the last.
 fn codeword_pairs(codewords: &[u8]) -> [u16; PAIRS]
     requires { length codewords.now < PAIRS }
     ensures { ArePairs codewords.now result }
@@ -66,7 +66,7 @@ fn codeword_pairs(codewords: &[u8]) -> [u16; PAIRS]
     pairs
 }
 
-/// The bits `i` and `i + 1` of the codewords, the first one higher.
+/// Returns the bits `i` and `i + 1` of the codewords, the first one higher.
 fn two_bits(pairs: &[u16; PAIRS], i: usize) -> u64
     requires { i < 8 * PAIRS }
     ensures bits { (codewords : List ℕ) → ArePairs codewords pairs.now
@@ -76,7 +76,7 @@ fn two_bits(pairs: &[u16; PAIRS], i: usize) -> u64
     u64::from((pairs[i / 8] >> (14 - i % 8)) & 3)
 }
 
-/// Whether no function module is at column `x` and at the next one.
+/// Returns whether the modules at column `x` and at the next one are both free.
 fn are_free(function: &Square, x: usize, y: usize) -> bool
     requires { (x + 1 < SIDE) × (y < SIDE) }
     ensures { IsTrue result → (value_at function.now x y ≡ false)

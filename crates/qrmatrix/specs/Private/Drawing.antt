@@ -31,14 +31,14 @@ unmasked_module v (Format i) = false
 unmasked_module v (Version i) = bit (version_information v) i
 unmasked_module v Free = false
 
--- the words of a row have the modules that the codewords do not choose, and those of them that are dark
+-- the bits of a row have the modules that the codewords do not choose, and those of them that are dark
 pub record HasFunctions (v y : ℕ) (row : PatternRow) : Type 0 where
   pub taken : (x : ℕ) → x < side_of v → bit row.taken x ≡ not (is_free v x y)
   pub dark : (x : ℕ) → x < side_of v → bit row.dark x ≡ unmasked_module v (role v x y)
   pub narrow_taken : row.taken < 2 ^ side_of v
   pub narrow_dark : row.dark < 2 ^ side_of v
 
--- the module that the format word makes dark
+-- the module that the format information makes dark
 abbrev pub format_module : ℕ → Role → Bool
 format_module information (Function b) = false
 format_module information (Format i) = bit information i
@@ -83,8 +83,8 @@ pub record PlacesCodewords (v : ℕ) (codewords : List ℕ) (old new : List (Lis
   pub others : (x y : ℕ) → x < side_of v → y < side_of v → is_free v x y ≡ false → value_at new x y ≡ value_at old x y
   pub outside : SameOutside (side_of v) old new
 
--- the function patterns are drawn: the modules that the codewords do not choose are marked, and those of them that are dark
--- are drawn
+-- the function patterns are drawn: the modules that the codewords do not choose are marked, and those of them that are
+-- dark are drawn
 pub record DrawsFunctions (v : ℕ) (function old new : List (List Bool)) : Type 0 where
   pub marked : MarksFunctions v function
   pub drawn : (x y : ℕ) → x < side_of v → y < side_of v → value_at new x y ≡ unmasked_module v (role v x y)

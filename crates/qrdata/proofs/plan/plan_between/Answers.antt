@@ -87,16 +87,22 @@ plan_of-requires-clause-bits c =
     rw c.of-version.ensures (FitsBits-of c.loop-number.number c.args.highest c.args.level c.args.bytes.now c.fill-bits.result
     (c.requires.same c.loop-number.number c.loop-number.auto.number (omega (arith, c.loop-number-test.true)))
     (omega (arith, c.loop-number.auto.number)) (omega (arith, c.loop-number-test.true)) c.requires.few
-    (rw c.of-widest.ensures at c.fill-bits.ensures.bits) (omega (arith,
-    (rw c.of-version.ensures at c.data_codewords-in-loop-number.ensures), c.if-bits-data_codewords.true)))
+    (rw c.of-widest.ensures at c.fill-bits.ensures.bits) (omega (
+      arith,
+      (rw c.of-version.ensures at c.data_codewords-in-loop-number.ensures),
+      c.if-bits-data_codewords.true,
+    )))
 
 pub returns-then-bits-data_codewords-clause-some : goal.returns-then-bits-data_codewords-clause-some
 returns-then-bits-data_codewords-clause-some c =
     let bits = FitsBits-of c.loop-number.number c.args.highest c.args.level c.args.bytes.now c.fill-bits.result
     (c.requires.same c.loop-number.number c.loop-number.auto.number (omega (arith, c.loop-number-test.true)))
     (omega (arith, c.loop-number.auto.number)) (omega (arith, c.loop-number-test.true)) c.requires.few
-    (rw c.of-widest.ensures at c.fill-bits.ensures.bits) (omega (arith,
-    (rw c.of-version.ensures at c.data_codewords-in-loop-number.ensures), c.if-bits-data_codewords.true)) in
+    (rw c.of-widest.ensures at c.fill-bits.ensures.bits) (omega (
+      arith,
+      (rw c.of-version.ensures at c.data_codewords-in-loop-number.ensures),
+      c.if-bits-data_codewords.true,
+    )) in
     rw (c.plan_of.ensures, c.of-version.ensures) (record {
       from = c.loop-number.auto.number;
       to = omega (arith, c.loop-number-test.true);

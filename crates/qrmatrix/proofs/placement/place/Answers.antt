@@ -16,7 +16,7 @@ loop-strip-init c =
       placed = placed_none v (computed v c.side-n.ensures.known.0 c.side-n.ensures.known.1) c.args.codewords.now.items _
           (2 * side_of v * 0) (omega arith) c.requires.light;
       pairs = subst
-      (λ codewords. ArePairs codewords c.codeword_pairs-pairs.result) c.deref.ensures.0 c.codeword_pairs-pairs.ensures;
+          (λ codewords. ArePairs codewords c.codeword_pairs-pairs.result) c.deref.ensures.0 c.codeword_pairs-pairs.ensures;
       width = c.side-n.ensures.value;
     }
 
