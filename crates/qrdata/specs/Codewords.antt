@@ -33,7 +33,8 @@ data_codewords_of size bits = with_pad_codewords size (with_zeros (with_terminat
 
 -- the data codewords of the segments
 unfoldable pub data_of : ℕ → Level → List Segment → List ℕ → List ℕ
-data_of version level segments bytes = data_codewords_of (data_codewords version level) (segments_bits version segments bytes)
+data_of version level segments bytes = data_codewords_of (data_codewords version level)
+    (segments_bits version segments bytes)
 
 -- codewords cut into blocks of these lengths
 unfoldable pub split_by : List ℕ → List ℕ → List (List ℕ)
@@ -53,7 +54,8 @@ largest (n ∷ ns) = max n (largest ns)
 unfoldable pub interleaving : List (List ℕ) → List ℕ
 interleaving blocks = flat_map (codewords_at blocks) (range_with_len 0 (largest (map length blocks)))
 
--- the codewords of a symbol: the blocks of its data codewords interleaved, then their error correction codewords interleaved
+-- the codewords of a symbol: the blocks of its data codewords interleaved, then their error correction codewords
+-- interleaved
 unfoldable pub final_message : ℕ → Level → List ℕ → List ℕ
 final_message version level codewords =
     let blocks = split_by (block_lengths version level) codewords in

@@ -1,9 +1,9 @@
 //! The choice of a version and of segments.
 ghost use Rattle.qrdata.specs.Fewest.{chosen_segments};
-ghost use Rattle.qrdata.specs.PlanView.{FitsNowhere, HasFittingSegments, IsBestPlan};
-ghost use Rattle.qrdata.specs.Private.SmallestPlan.{IsSmallestPlan, NamesBest, NoPlan, SameWidths};
+ghost use Rattle.qrdata.specs.PlanView.{FitsNowhere, HasFittingSegments, IsBestPlan, plan_view};
+ghost use Rattle.qrdata.specs.Private.SmallestPlan.{FitsBits, IsSmallestPlan, IsTable, NoPlan, SameWidths};
 ghost use Rattle.qrdata.specs.Segments.{cost};
-ghost use Rattle.qrdata.specs.Versions.{IsVersion, capacity};
+ghost use Rattle.qrdata.specs.Versions.{IsVersion};
 ghost use Rattle.std.specs.Prelude.{length, ◌≡◌, ◌≤◌, IfErr, IfNone, IfOk, IfSome, ℕ};
 
 use crate::level::Level;
@@ -100,8 +100,8 @@ pub struct DoesNotFit {
 
 /// Chooses the smallest version, from `min_version` to 10, in which some segments of the data fit the data codewords of
 /// the level, and in it the segments of the fewest bits (ISO/IEC 18004, 7.4.1). Of lists of equally few bits it is that
-/// of the longest first segment, then of the mode numeric before alphanumeric before byte, and likewise for the segments
-/// after it. Empty data has no segments.
+/// of the longest first segment, then of the mode numeric before alphanumeric before byte, and likewise for the
+/// segments after it. Empty data has no segments.
 ///
 /// # Errors
 ///
@@ -122,11 +122,10 @@ pub fn choose<'a>(
     }
 }
 
-/// The plan of the smallest version from the lowest one to 10. One table of best segments serves all versions up to 9, and
-/// a second one version 10.
+/// The plan of the smallest version from the lowest one to 10. One table of best segments serves all versions up to 9,
+/// and a second one version 10.
 fn plan_from<'a>(lowest: u8, level: Level, bytes: &'a [u8]) -> Option<Plan<'a>>
-    requires low { 1 ≤ lowest }
-    requires high { lowest ≤ 10 }
+    requires { IsVersion lowest }
     ensures some { IfSome result (IsSmallestPlan lowest 10 level bytes.now) }
     ensures none { IfNone result (NoPlan lowest 10 level bytes.now) }
 {
@@ -141,13 +140,11 @@ fn plan_from<'a>(lowest: u8, level: Level, bytes: &'a [u8]) -> Option<Plan<'a>>
     plan_between(10, 10, level, bytes)
 }
 
-/// The plan of the smallest version from the lowest one to the highest one. In all of these a character count has the same
-/// bits, so that the best segments are the same.
+/// The plan of the smallest version from the lowest one to the highest one. In all of these a character count has the
+/// same bits, so that the best segments are the same.
 fn plan_between<'a>(lowest: u8, highest: u8, level: Level, bytes: &'a [u8]) -> Option<Plan<'a>>
     requires few { length bytes.now ≤ MAX_BYTES }
-    requires low { 1 ≤ lowest }
-    requires some { lowest ≤ highest }
-    requires high { highest ≤ 10 }
+    requires range { (1 ≤ lowest) × (lowest ≤ highest) × (highest ≤ 10) }
     requires same { (v : ℕ) → lowest ≤ v → v ≤ highest → SameWidths v highest }
     ensures some { IfSome result (IsSmallestPlan lowest highest level bytes.now) }
     ensures none { IfNone result (NoPlan lowest highest level bytes.now) }
@@ -179,18 +176,9 @@ fn plan_of<'a>(
     firsts: &[Segment],
     bits: u32,
 ) -> Plan<'a>
-    requires few { length bytes.now ≤ MAX_BYTES }
-    requires size { length firsts.now ≡ MAX_BYTES }
-    requires firsts { NamesBest version bytes.now bits firsts.now }
-    requires short { length (chosen_segments version bytes.now) ≤ MAX_SEGMENTS }
-    requires bits { bits ≡ cost version (chosen_segments version bytes.now) }
-    requires fits { bits ≤ capacity version level }
-    ensures { result ≡ record {
-      version = version;
-      level = level;
-      segments = chosen_segments version bytes.now;
-      bytes = bytes.now;
-    } }
+    requires table { IsTable version bytes.now bits firsts.now }
+    requires bits { FitsBits version level bits (chosen_segments version bytes.now) }
+    ensures { result ≡ plan_view version level (chosen_segments version bytes.now) bytes.now }
 {
     let mut segments = ArrayVec::new();
     let mut place = 0;

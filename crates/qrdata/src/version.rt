@@ -1,5 +1,6 @@
 //! The sizes of versions 1 to 10 (ISO/IEC 18004, tables 1, 7 and 9).
-ghost use Rattle.qrdata.specs.Versions.{IsVersion, block_count, block_lengths, data_codewords, ec_codewords_per_block, side_of};
+ghost use Rattle.qrdata.specs.Versions.{IsVersion, block_count, block_lengths, data_codewords, ec_codewords_per_block};
+ghost use Rattle.qrdata.specs.Versions.{side_of};
 ghost use Rattle.qrdata.specs.Versions.{total_codewords};
 ghost use Rattle.std.specs.Prelude.{None, Some, ◌≡◌, ◌+◌, ◌*◌, ◌/◌, ◌<◌, ◌≤◌, ◌↔◌, ◌⊎◌, IfSome, IsNone, ℕ};
 
@@ -8,8 +9,8 @@ use crate::level::Level;
 use arrayvec::ArrayVec;
 use std::marker::Model;
 
-/// The codewords of a symbol, data and error correction codewords. In each of these tables place 0 is version 1. They are proved to hold
-/// what `specs/Versions.antt` lists in the standard's notation.
+/// The codewords of a symbol, data and error correction codewords. In each of these tables place 0 is version 1. They
+/// are proved to hold what `specs/Versions.antt` lists in the standard's notation.
 const TOTAL: [usize; 10] = [26, 44, 70, 100, 134, 172, 196, 242, 292, 346];
 
 /// The blocks of a symbol at level L.
