@@ -5,7 +5,7 @@ pub mod EanLaws
 pub mod Examples
 pub mod GroupLaws
 pub mod PatternLaws
-pub mod SwitchingLemmas
-pub mod TableForms
-pub mod TableLemmas
-pub mod WrittenLemmas
+pub mod SwitchingLaws
+pub mod TableLaws
+pub mod PatternTableLaws
+pub mod DataValueLaws
