@@ -144,7 +144,7 @@ module _ (p : Picture) (zone : QuietZone) where
       (ap (λ (t : List Bool). t ++ map f (range_with_len end zone.right)) inner
       ∙ ap (λ (t : List Bool). pixel_row p (y - zone.top) ++ t) right))))
 
--- each of the first pixels so many times
+-- each of the first pixels, repeated
 pixel_row-enlargement : (p : Picture) (s y : ℕ) (bs : List Bool) → 0 < s → length bs ≡ p.width * s
     → ((x : ℕ) → x < p.width → get_or bs x false ≡ p.dark x (y / s)) →
     map (λ x. get_or bs (x / s) false) (below (length bs)) ≡ pixel_row (enlargement p s) y
