@@ -9,7 +9,7 @@ use Rattle.std.proofs.lemmas.List.{length-drop, get_or-drop, drop-drop}
 use Rattle.linear.specs.declared.switching.CodeSet.{CodeSet}
 use Rattle.linear.specs.declared.switching.CodeSet.TheVariants.{A, B, C}
 use Rattle.linear.specs.CodeSets.{is_pair_next, pair_values, byte_values, data_values}
-use Rattle.linear.proofs.Code128Laws.{pair_digits}
+use Rattle.linear.proofs.CodeSetLaws.{pair_digits}
 
 -- a pair needs two bytes
 no_pair : (set : CodeSet) → is_pair_next set [] ≡ true → ⊥

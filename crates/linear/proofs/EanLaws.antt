@@ -2,7 +2,7 @@
 use Rattle.std.proofs.Common.{◌≡◌, ℕ, ◌+◌, ◌-◌, ◌*◌, ◌<◌, Bool, true, false, cond, Ok, Err, Result, Some, None, Option}
 use Rattle.std.proofs.Common.{List, [], ◌∷◌, ◌++◌, length, take, drop, refl, sym, ap, subst, ◌∙◌, arith, length-append}
 use Rattle.std.proofs.Common.{append_assoc, eqb, eq-eqb, inl, inr, map, ◌%◌, ◌≤◌, lit≤}
-use Rattle.std.specs.Prelude.{option_map, option_and_then, flat_map, replicate, slice_index, position, All, IfOk, IsOk, codes}
+use Rattle.std.specs.Prelude.{option_map, option_and_then, flat_map, replicate, slice_index, position, All, IfOk, codes}
 use Rattle.std.specs.Bool.{then_some}
 use Rattle.std.specs.Option.{option_zip}
 use Rattle.std.specs.Result.{result_ok}

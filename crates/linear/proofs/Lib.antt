@@ -1,11 +1,15 @@
 pub mod CharacterLaws
+pub mod CharacterRowLaws
 pub mod Code128Laws
+pub mod CodeSetLaws
+pub mod DataValueLaws
 pub mod DigitLaws
 pub mod EanLaws
 pub mod Examples
 pub mod GroupLaws
 pub mod PatternLaws
+pub mod PatternTableLaws
 pub mod SwitchingLaws
 pub mod TableLaws
-pub mod PatternTableLaws
-pub mod DataValueLaws
+pub mod ValueRangeLaws
+pub mod ValueReadingLaws

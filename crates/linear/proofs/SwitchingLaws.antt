@@ -11,7 +11,7 @@ use Rattle.linear.specs.declared.switching.CodeSet.TheVariants.{A, B, C}
 use Rattle.linear.specs.CodeSets.{set_has, character_value, pair_value, shift_value, leading_digits, is_next}
 use Rattle.linear.specs.CodeSets.{picked_set, is_even_run, is_pair_next, pair_values, byte_values, data_values}
 use Rattle.linear.specs.Switching.{Step, to_set, character_step, step, Writes, done, stepped, ValuesAreWrittenBySteps}
-use Rattle.linear.proofs.Code128Laws.{even_run, picked_set-has, PickedHas, byte_values_by}
+use Rattle.linear.proofs.CodeSetLaws.{even_run, picked_set-has, PickedHas, byte_values_by}
 
 by_step : (set : CodeSet) (byte : ℕ) (rest values all : List ℕ) (s : Step) → step set byte rest ≡ s
     → Writes s.set s.rest values → s.values ++ values ≡ all → Writes set (byte ∷ rest) all

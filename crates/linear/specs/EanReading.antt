@@ -1,5 +1,5 @@
 -- Reading of EAN and UPC symbols (ISO/IEC 15420, symbol characters, guard patterns and symbol formats).
-use Rattle.std.specs.Prelude.{ℕ, ◌+◌, ◌*◌, ◌==◌, if◌then◌else◌, Bool, ◌&&◌, Option, Some, None, List, [], ◌∷◌, ◌++◌}
+use Rattle.std.specs.Prelude.{ℕ, ◌+◌, ◌*◌, if◌then◌else◌, Bool, ◌&&◌, Option, None, List, ◌∷◌, ◌++◌}
 use Rattle.std.specs.Prelude.{map, take, drop, find, position, option_map, option_and_then, codes}
 use Rattle.std.specs.Bool.{then_some}
 use Rattle.std.specs.Option.{option_zip, option_or}

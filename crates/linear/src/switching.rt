@@ -28,8 +28,7 @@ const SHIFT: u8 = 98;
 
 /// Returns the number of digits that the bytes begin with.
 fn leading_digits(bytes: &[u8]) -> usize
-    ensures value { result ≡ leading_digits bytes.now }
-    ensures within { result ≤ length bytes.now }
+    ensures { result ≡ leading_digits bytes.now }
 {
     bytes
         .iter()

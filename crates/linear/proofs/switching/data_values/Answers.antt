@@ -2,7 +2,7 @@ use Rattle.std.proofs.Common.{◌≡◌, ◌+◌, ◌-◌, ◌++◌, ℕ, List, 
 use Rattle.std.proofs.Common.{append-nil, [], subst, ◌<◌, ◌≤◌, All, arith, Bool, true}
 use Rattle.std.proofs.lemmas.List.{take_all, drop_all, length-drop}
 use Rattle.std.proofs.lemmas.List.Elements.{All-from_recursion, recursion_from_All}
-use Rattle.linear.proofs.Code128Laws.{AreCharacters-data_values}
+use Rattle.linear.proofs.ValueRangeLaws.{AreCharacters-data_values}
 use Rattle.linear.specs.declared.switching.CodeSet.{CodeSet}
 use Rattle.linear.specs.declared.switching.CodeSet.TheVariants.{C}
 use Rattle.linear.specs.CodeSets.{is_pair_next, pair_values, byte_values, data_values}

@@ -1,4 +1,4 @@
-use Rattle.std.proofs.Common.{◌++◌, [], ap, ◌∙◌, refl, arith}
+use Rattle.std.proofs.Common.{◌++◌, ap, ◌∙◌, refl, arith}
 use Rattle.linear.specs.Code128.{code128_row}
 use Rattle.linear.specs.Code128Reading.{read_code128}
 use Rattle.linear.proofs.EanLaws.{IsDrawn-from_Ok}

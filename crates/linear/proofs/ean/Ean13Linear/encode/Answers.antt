@@ -1,4 +1,4 @@
-use Rattle.std.proofs.Common.{◌++◌, [], ap, ◌∙◌, refl, arith}
+use Rattle.std.proofs.Common.{◌++◌, ap, ◌∙◌, refl, arith}
 use Rattle.linear.specs.Ean.{ean13_row}
 use Rattle.linear.specs.EanReading.{read_ean13}
 use Rattle.linear.proofs.EanLaws.{IsDrawn-from_Ok, ean13_read_back}
