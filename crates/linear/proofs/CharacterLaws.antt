@@ -1,5 +1,6 @@
 -- Laws of the characters (ISO/IEC 15417, symbol characters): each is a test that is computed over the whole table.
-use Rattle.std.proofs.Common.{◌≡◌, ℕ, ◌≤◌, ◌%◌, Bool, true, Option, Some, List, [], length, get_or, eqb, refl, sym, ap, ◌∙◌, arith}
+use Rattle.std.proofs.Common.{◌≡◌, ℕ, ◌≤◌, ◌%◌, Bool, true, Option, Some, List, [], length, get_or, eqb, refl, sym}
+use Rattle.std.proofs.Common.{ap, ◌∙◌, arith}
 use Rattle.std.specs.Prelude.{position, count_by}
 use Rattle.std.proofs.lemmas.Bool.Decides.{Decides-eqb}
 use Rattle.linear.specs.Modules.{same_modules}
@@ -41,6 +42,7 @@ character_modules-differs value other h k e =
 
 pub count_by-character_modules : WidthsAreEven
 unfolding all_characters
-count_by-character_modules value h = ap (λ table. count_by (λ dark. dark) (get_or table value []) % 2) characters-all_characters
+count_by-character_modules value h = ap (λ table. count_by (λ dark. dark)
+    (get_or table value []) % 2) characters-all_characters
     ∙ (Decides-eqb _ 0).0 (passes_at (λ v. eqb (count_by (λ dark. dark) (get_or all_characters v []) % 2) 0) 106 value
     refl h)

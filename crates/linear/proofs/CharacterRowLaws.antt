@@ -55,5 +55,6 @@ read_code128-characters values a =
     ∙ ap (λ b. found b (drop (11 * length values) row))
     (eq-eqb (length row) (11 * length values + 13) (omega arith))
     ∙ ap (found true) at_end
-    ∙ ap (λ b. cond b (option_and_then symbol_data (each_group group_value 11 (length values) row)) None) same_modules-stop
+    ∙ ap (λ b. cond b (option_and_then symbol_data (each_group group_value 11
+    (length values) row)) None) same_modules-stop
     ∙ ap (option_and_then symbol_data) (each_group-characters values (character_modules 106) a)

@@ -1,5 +1,6 @@
 -- What is drawn as Code 128 is read back (ISO/IEC 15417, symbol structure).
-use Rattle.std.proofs.Common.{ℕ, ◌≡◌, ◌+◌, ◌-◌, ◌<◌, true, false, Ok, Some, None, List, [], ◌∷◌, ◌++◌, length, take, ltb}
+use Rattle.std.proofs.Common.{ℕ, ◌≡◌, ◌+◌, ◌-◌, ◌<◌, true, false, Ok, Some, None, List, [], ◌∷◌, ◌++◌, length, take}
+use Rattle.std.proofs.Common.{ltb}
 use Rattle.std.proofs.Common.{leb, refl, ap, subst, ◌∙◌, arith, length-append, inl, inr, lit<}
 use Rattle.std.specs.Prelude.{option_and_then, get_or, position, find, All, IfOk}
 use Rattle.std.specs.Str.{bytes_eq}
@@ -37,7 +38,8 @@ find-with_check B values = rw (same_values (with_check B values)) refl
 find-with_check C values = rw (same_values (with_check C values)) refl
 
 -- the values of a symbol are read in the set that it starts in
-symbol_data-with_check : (set : CodeSet) (values : List ℕ) → symbol_data (with_check set values) ≡ read_values set false values
+symbol_data-with_check : (set : CodeSet) (values : List ℕ)
+    → symbol_data (with_check set values) ≡ read_values set false values
 symbol_data-with_check set values =
     ap (λ xs. option_and_then (λ one. read_values one false xs)
     (find (λ one. bytes_eq (with_check one xs) (with_check set values)) (A ∷ B ∷ C ∷ [])))
@@ -58,7 +60,8 @@ read_code128-code128_row bytes d =
     let below : check < 106 = omega arith in
     let characters : AreCharacters (with_check set values) =
     (start_below set, AreCharacters-append values (check ∷ []) (AreCharacters-data_values set bytes d) (below, tt)) in
-    read_code128-characters (with_check set values) characters ∙ symbol_data-with_check set values ∙ read_values-data_values set bytes d
+    read_code128-characters (with_check set values) characters ∙ symbol_data-with_check set values
+    ∙ read_values-data_values set bytes d
 
 pub all_ascii_from_None : (bytes : List ℕ) → position (λ byte. leb 128 byte) bytes ≡ None
     → All (λ byte. byte < 128) bytes

@@ -27,7 +27,8 @@ pub record PairFirst (set : CodeSet) (bytes : List ℕ) : Type 0 where
   pub within : 2 ≤ length bytes
   pub first : IsAsciiDigit (get_or bytes 0 0)
   pub second : IsAsciiDigit (get_or bytes 1 0)
-  pub values : data_values set bytes ≡ pair_values set (get_or bytes 0 0) (get_or bytes 1 0) ++ data_values C (drop 2 bytes)
+  pub values : data_values set bytes ≡ pair_values set (get_or bytes 0 0) (get_or bytes 1 0) ++ data_values C
+      (drop 2 bytes)
 
 -- what is written of two bytes or more, by whether a pair is next
 by_case : CodeSet → ℕ → ℕ → List ℕ → Bool → List ℕ

@@ -41,7 +41,8 @@ digit_below byte h = omega arith
 digit_again : (byte : ℕ) → IsAsciiDigit byte → 48 + digit_value byte ≡ byte
 digit_again byte h = omega arith
 
-pub length-pattern_digit : (set : NumberSet) (byte : ℕ) → IsAsciiDigit byte → length (pattern set (digit_value byte)) ≡ 7
+pub length-pattern_digit : (set : NumberSet) (byte : ℕ) → IsAsciiDigit byte
+    → length (pattern set (digit_value byte)) ≡ 7
 length-pattern_digit set byte h = length-pattern set (digit_value byte) (digit_below byte h)
 
 pub digit_in-digit : (set : NumberSet) (byte : ℕ) → IsAsciiDigit byte
@@ -156,14 +157,16 @@ module _ (n : ℕ) (sets : List NumberSet) (left right : List ℕ) (as_many : le
       let on_left : each_group found 7 n (drop 3 (symbol sets left right)) ≡ Some (zipped g sets left) =
       let Q : ℕ → Type 0 = λ k. each_group found 7 k (patterns sets left ++ after)
       ≡ Some (zipped g sets left) in
-      subst Q long_left (each_group-patterns found g P one sets left after in_sets (as_many ∙ sym long_left) digits_left) in
+      subst Q long_left (each_group-patterns found g P one sets left after in_sets (as_many
+      ∙ sym long_left) digits_left) in
       ap (λ b. cond b (option_zip (each_group found 7 n (drop 3 (symbol sets left right)))
       (each_group (digit_in C) 7 n (drop (8 + 7 * n) (symbol sets left right)))) None) has_guards-symbol
       ∙ ap (λ o. option_zip o (each_group (digit_in C) 7 n (drop (8 + 7 * n) (symbol sets left right)))) on_left
       ∙ ap (λ o. option_zip (Some (zipped g sets left)) o) symbol_right_read
 
 -- full data has the right check digit
-pub with_check_digit-full : (count : ℕ) (full : List ℕ) → IsFull count full → result_ok (with_check_digit count full) ≡ Some full
+pub with_check_digit-full : (count : ℕ) (full : List ℕ) → IsFull count full
+    → result_ok (with_check_digit count full) ≡ Some full
 with_check_digit-full count full f =
     let long : length full ≡ count + 1 = ap length f.whole ∙ length-append f.digits (f.last ∷ [])
     ∙ ap (λ k. k + 1) f.long in
@@ -219,11 +222,13 @@ read_ean8-ean8_row full f =
     all_in (take 4 full) (All-take IsAsciiDigit 4 full (all_full 7 full f)) in
     let d_right : AllByRecursion IsAsciiDigit (drop 4 full) =
     all_in (drop 4 full) (All-drop IsAsciiDigit 4 full (all_full 7 full f)) in
-    let halves = read_halves-symbol 4 sets (take 4 full) (drop 4 full) refl long_left long_right d_left d_right (digit_in A)
+    let halves = read_halves-symbol 4 sets (take 4 full) (drop 4 full) refl long_left long_right d_left d_right
+    (digit_in A)
     (λ set byte. byte) (λ set. set ≡ A) in_a (refl, (refl, (refl, (refl, tt)))) in
     let whole : zipped (λ set byte. byte) sets (take 4 full) ++ drop 4 full ≡ full =
     ap (λ xs. xs ++ drop 4 full) (zipped_bytes sets (take 4 full) (sym long_left)) ∙ take-append-drop 4 full in
-    ap (λ o. option_and_then (λ (halves : List ℕ × List ℕ). result_ok (with_check_digit 7 (halves.0 ++ halves.1))) o) halves
+    ap (λ o. option_and_then (λ (halves : List ℕ × List ℕ). result_ok (with_check_digit 7
+    (halves.0 ++ halves.1))) o) halves
     ∙ ap (λ xs. result_ok (with_check_digit 7 xs)) whole ∙ with_check_digit-full 7 full f
 
 -- a row that was empty, and then is that of the full data
@@ -244,7 +249,8 @@ IsDrawn-from_Ok (Err refusal) row_of reading full old row e empty drawn short re
 
 -- what is drawn of data that is full is read back
 pub ean8_read_back : (bytes : List ℕ) → IfOk (full_digits 7 bytes) (λ full. read_ean8 (ean8_row full) ≡ Some full)
-ean8_read_back bytes = IfOk-from_each (full_digits 7 bytes) _ (λ full h. read_ean8-ean8_row full (full_from_Ok 7 bytes full h))
+ean8_read_back bytes = IfOk-from_each (full_digits 7 bytes) _ (λ full h. read_ean8-ean8_row full
+    (full_from_Ok 7 bytes full h))
 
 -- EAN-13
 in_a_or_b : (set : NumberSet) (byte : ℕ) → IsAOrB set → IsAsciiDigit byte
@@ -302,7 +308,8 @@ read_ean13-ean13_row (first ∷ rest) f =
     ∙ ap (λ o. checked_read
     (option_map (λ digit. (48 + digit) ∷ (map (λ (found : ℕ × ℕ). found.1) pairs ++ drop 6 rest)) o)) found
     ∙ ap (λ xs. result_ok (with_check_digit 12 ((48 + digit_value first) ∷ xs))) digits
-    ∙ ap (λ b. result_ok (with_check_digit 12 (b ∷ rest))) (digit_again first d.0) ∙ with_check_digit-full 12 (first ∷ rest) f
+    ∙ ap (λ b. result_ok (with_check_digit 12 (b ∷ rest))) (digit_again first d.0)
+    ∙ with_check_digit-full 12 (first ∷ rest) f
 
 pub ean13_read_back : (bytes : List ℕ) → IfOk (full_digits 12 bytes) (λ full. read_ean13 (ean13_row full) ≡ Some full)
 ean13_read_back bytes =

@@ -25,7 +25,8 @@ stop_character = sym (ap (λ table. get_or table 106 []) characters-all_characte
 pub CHARACTERS-character_modules : (i value : ℕ) (d : List Bool) → i ≡ value → value < 106
     → get_or CHARACTERS i d ≡ character_modules value
 unfolding all_characters
-CHARACTERS-character_modules i value d same h = ap (λ k. get_or CHARACTERS k d) same ∙ get_or_default CHARACTERS value d [] h
+CHARACTERS-character_modules i value d same h = ap (λ k. get_or CHARACTERS k d) same
+    ∙ get_or_default CHARACTERS value d [] h
     ∙ sym (get_or_append_left CHARACTERS (STOP ∷ []) [] value h)
     ∙ sym (ap (λ table. get_or table value []) characters-all_characters)
 
@@ -49,7 +50,8 @@ digits_of-pattern set i digit d same h = ap (λ table. get_or table i d) (digits
 -- in the set of a match
 pub digits_of-pattern_of : (set one : NumberSet) (i digit : ℕ) (d : List Bool) → set ≡ one → i ≡ digit → digit < 10
     → get_or (digits_of one) i d ≡ pattern set digit
-digits_of-pattern_of set one i digit d e same h = digits_of-pattern one i digit d same h ∙ ap (λ s. pattern s digit) (sym e)
+digits_of-pattern_of set one i digit d e same h = digits_of-pattern one i digit d same h
+    ∙ ap (λ s. pattern s digit) (sym e)
 
 -- the number sets of left halves
 unfoldable pub sets_of_left : List (List NumberSet)

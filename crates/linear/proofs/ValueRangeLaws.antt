@@ -44,8 +44,14 @@ AreCharacters-byte_values set byte rest h =
 
 AreCharacters-pair_values : (set : CodeSet) (first second : ℕ) → IsAsciiDigit first → IsAsciiDigit second
     → AreCharacters (pair_values set first second)
-AreCharacters-pair_values A first second d e = (lit< tt, ((let k : pair_value first second < 106 = omega arith in k), tt))
-AreCharacters-pair_values B first second d e = (lit< tt, ((let k : pair_value first second < 106 = omega arith in k), tt))
+AreCharacters-pair_values A first second d e = (
+  lit< tt,
+  ((let k : pair_value first second < 106 = omega arith in k), tt),
+)
+AreCharacters-pair_values B first second d e = (
+  lit< tt,
+  ((let k : pair_value first second < 106 = omega arith in k), tt),
+)
 AreCharacters-pair_values C first second d e = ((let k : pair_value first second < 106 = omega arith in k), tt)
 
 pub AreCharacters-data_values : (set : CodeSet) (bytes : List ℕ) → AllByRecursion (λ byte. byte < 128) bytes
@@ -67,6 +73,7 @@ AreCharacters-data_values set (first ∷ second ∷ rest) d =
           AreCharacters-append (pair_values set first second) (data_values C rest)
           (AreCharacters-pair_values set first second digits.0 digits.1) (AreCharacters-data_values C rest d.1.1)
       | false ↦ λ e. AreCharacters-append step.0 (data_values step.1 (second ∷ rest))
-          (AreCharacters-byte_values set first (second ∷ rest) d.0) (AreCharacters-data_values step.1 (second ∷ rest) d.1)
+          (AreCharacters-byte_values set first (second ∷ rest) d.0) (AreCharacters-data_values step.1
+          (second ∷ rest) d.1)
     ] in
     by_case (is_pair_next set (first ∷ second ∷ rest)) refl

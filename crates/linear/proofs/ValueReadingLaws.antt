@@ -69,7 +69,8 @@ read_in_b byte values low h = read_values-text B (character_value byte) (byte �
 
 change_to_a : (byte : ℕ) (values : List ℕ) (set : CodeSet) → meaning set 101 ≡ Meaning.change A → byte < 96
     → ReadsByte set byte values (change_value A ∷ character_value byte ∷ [], A)
-change_to_a byte values set e h = read_values-change set A 101 (character_value byte ∷ values) e ∙ read_in_a byte values h
+change_to_a byte values set e h = read_values-change set A 101 (character_value byte ∷ values) e
+    ∙ read_in_a byte values h
 
 change_to_b : (byte : ℕ) (values : List ℕ) (set : CodeSet) → meaning set 100 ≡ Meaning.change B → 32 ≤ byte
     → byte < 128 → ReadsByte set byte values (change_value B ∷ character_value byte ∷ [], B)
@@ -111,13 +112,16 @@ read_from_c byte values false picked e (inr q) h = rw (q.0) (change_to_b byte va
 read_values-byte_values : (set : CodeSet) (byte : ℕ) (rest values : List ℕ) → byte < 128
     → ReadsByte set byte values (byte_values set byte rest)
 read_values-byte_values A byte rest values h =
-    read_from_a byte values (ltb byte 96) (is_next A rest) (picked_set (byte ∷ rest)) refl (picked_set-has byte rest h) h
+    read_from_a byte values (ltb byte 96) (is_next A rest) (picked_set (byte ∷ rest)) refl
+    (picked_set-has byte rest h) h
 read_values-byte_values B byte rest values h =
-    read_from_b byte values (leb 32 byte) (is_next B rest) (picked_set (byte ∷ rest)) refl (picked_set-has byte rest h) h
+    read_from_b byte values (leb 32 byte) (is_next B rest) (picked_set (byte ∷ rest)) refl
+    (picked_set-has byte rest h) h
 read_values-byte_values C byte rest values h =
     read_from_c byte values (is_next C rest) (picked_set (byte ∷ rest)) (is_next-C rest) (picked_set-has byte rest h) h
 
-read_values-pair_values : (set : CodeSet) (first second : ℕ) (values : List ℕ) → IsAsciiDigit first → IsAsciiDigit second
+read_values-pair_values : (set : CodeSet) (first second : ℕ) (values : List ℕ) → IsAsciiDigit first
+    → IsAsciiDigit second
     → read_values set false (pair_values set first second ++ values)
     ≡ option_map (λ rest. first ∷ second ∷ rest) (read_values C false values)
 read_values-pair_values A first second values d e = read_values-change A C 99 (pair_value first second ∷ values) refl
@@ -132,7 +136,8 @@ pub read_values-data_values : (set : CodeSet) (bytes : List ℕ) → AllByRecurs
     → read_values set false (data_values set bytes) ≡ Some bytes
 read_values-data_values set [] d = refl
 read_values-data_values set (byte ∷ []) d =
-    ap (read_values set false) (sym (append-nil (byte_values set byte []).0)) ∙ read_values-byte_values set byte [] [] d.0
+    ap (read_values set false) (sym (append-nil (byte_values set byte []).0))
+    ∙ read_values-byte_values set byte [] [] d.0
 read_values-data_values set (first ∷ second ∷ rest) d =
     let step = byte_values set first (second ∷ rest) in
     let values : Bool → List ℕ =

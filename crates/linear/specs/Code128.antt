@@ -44,4 +44,5 @@ with_check set values = start_value set ∷ (values ++ check_value (start_value 
 -- the row of data: its values, the check value and the stop character
 abbrev pub code128_row : List ℕ → List Bool
 code128_row bytes =
-    flat_map character_modules (with_check (start_set bytes) (data_values (start_set bytes) bytes)) ++ character_modules 106
+    flat_map character_modules (with_check (start_set bytes) (data_values
+    (start_set bytes) bytes)) ++ character_modules 106

@@ -23,7 +23,8 @@ returns-in_err-write_wide_piece g c =
     let text : flat_map piece_text (below (div_ceil (length row) 70)) ++ end
     ≡ (flat_map piece_text (below k) ++ piece_text k) ++ (front.0 ++ end) =
     ap (λ (t : List ℕ). t ++ end) front.1 ∙ append_assoc (flat_map piece_text (below k) ++ piece_text k) front.0 end in
-    WritesText-fails g.S.Sink g.met.S.Sink.took_joined _ _ _ (flat_map piece_text (below k)) (piece_text k) (front.0 ++ end) _
+    WritesText-fails g.S.Sink g.met.S.Sink.took_joined _ _ _ (flat_map piece_text (below k)) (piece_text k)
+    (front.0 ++ end) _
     c.from_residual.result c.from_residual.ensures.0 text c.loop-k.invariant.written c.in_err-write_wide_piece.ensures
 
 pub loop-k-preserved : goal.loop-k-preserved
