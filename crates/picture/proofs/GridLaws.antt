@@ -114,13 +114,13 @@ module _ (p : Picture) (zone : QuietZone) where
   pub pixel_row-above : (y : ℕ) → y < zone.top → replicate (zone.left + p.width + zone.right) false
       ≡ pixel_row (with_quiet_zone p zone) y
   pixel_row-above y h = sym (map-range_false (λ x. (with_quiet_zone p zone).dark x y) 0
-    (zone.left + p.width + zone.right)
+      (zone.left + p.width + zone.right)
       (λ x low high. dark-above x y h))
 
   pub pixel_row-below : (y : ℕ) → zone.top + p.height ≤ y
       → replicate (zone.left + p.width + zone.right) false ≡ pixel_row (with_quiet_zone p zone) y
   pixel_row-below y h = sym (map-range_false (λ x. (with_quiet_zone p zone).dark x y) 0
-    (zone.left + p.width + zone.right)
+      (zone.left + p.width + zone.right)
       (λ x low high. dark-below x y h))
 
   pub pixel_row-with_quiet_zone : (y : ℕ) → zone.top ≤ y → y < zone.top + p.height
