@@ -277,6 +277,22 @@ zipped_seconds [] (byte ∷ bytes) e = absurd (omega arith)
 zipped_seconds (set ∷ sets) [] e = absurd (omega arith)
 zipped_seconds (set ∷ sets) (byte ∷ bytes) e = ap (λ xs. byte ∷ xs) (zipped_seconds sets bytes (omega arith))
 
+-- the first digit and those of the halves
+with_first_digit-zipped : (digit : ℕ) (rest : List ℕ) → digit < 10 → length (take 6 rest) ≡ 6
+    → with_first_digit (zipped (λ set byte. (letter_of set, byte)) (left_sets digit) (take 6 rest), drop 6 rest)
+    ≡ Some ((48 + digit) ∷ rest)
+with_first_digit-zipped digit rest below long =
+    let sets = left_sets digit in
+    let same : length sets ≡ length (take 6 rest) = length-left_sets digit below ∙ sym long in
+    let pairs : List (ℕ × ℕ) = zipped (λ set byte. (letter_of set, byte)) sets (take 6 rest) in
+    let digits : map (λ (found : ℕ × ℕ). found.1) pairs ++ drop 6 rest ≡ rest =
+    ap (λ xs. xs ++ drop 6 rest) (zipped_seconds sets (take 6 rest) same) ∙ take-append-drop 6 rest in
+    let place : position (bytes_eq (map (λ (found : ℕ × ℕ). found.0) pairs)) left_half_sets ≡ Some digit =
+    ap (λ letters. position (bytes_eq letters) left_half_sets) (zipped_letters sets (take 6 rest) same)
+    ∙ position-left_sets digit below in
+    ap (option_map (λ n. (48 + n) ∷ (map (λ (found : ℕ × ℕ). found.1) pairs ++ drop 6 rest))) place
+    ∙ ap (λ xs. Some ((48 + digit) ∷ xs)) digits
+
 -- thirteen digits with their check digit
 pub read_ean13-ean13_row : (full : List ℕ) → IsFull 12 full → read_ean13 (ean13_row full) ≡ Some full
 read_ean13-ean13_row [] f = absurd (let e = length-full 12 [] f in omega arith)
@@ -293,21 +309,12 @@ read_ean13-ean13_row (first ∷ rest) f =
     all_in (take 6 rest) (All-take IsAsciiDigit 6 rest d_rest) in
     let d_right : AllByRecursion IsAsciiDigit (drop 6 rest) =
     all_in (drop 6 rest) (All-drop IsAsciiDigit 6 rest d_rest) in
-    let same : length sets ≡ length (take 6 rest) = six ∙ sym long_left in
     let halves = read_halves-symbol 6 sets (take 6 rest)
     (drop 6 rest) six long_left long_right d_left d_right digit_in_a_or_b
     (λ set byte. (letter_of set, byte)) IsAOrB in_a_or_b (left_sets_a_or_b (digit_value first) below) in
-    let pairs : List (ℕ × ℕ) = zipped (λ set byte. (letter_of set, byte)) sets (take 6 rest) in
-    let found : position (bytes_eq (map (λ (found : ℕ × ℕ). found.0) pairs)) left_half_sets ≡ Some (digit_value first) =
-    ap (λ letters. position (bytes_eq letters) left_half_sets) (zipped_letters sets (take 6 rest) same)
-    ∙ position-left_sets (digit_value first) below in
-    let digits : map (λ (found : ℕ × ℕ). found.1) pairs ++ drop 6 rest ≡ rest =
-    ap (λ xs. xs ++ drop 6 rest) (zipped_seconds sets (take 6 rest) same) ∙ take-append-drop 6 rest in
     let checked_read : Option (List ℕ) → Option (List ℕ) = option_and_then (λ xs. result_ok (with_check_digit 12 xs)) in
     ap (λ o. checked_read (option_and_then with_first_digit o)) halves
-    ∙ ap (λ o. checked_read
-    (option_map (λ digit. (48 + digit) ∷ (map (λ (found : ℕ × ℕ). found.1) pairs ++ drop 6 rest)) o)) found
-    ∙ ap (λ xs. result_ok (with_check_digit 12 ((48 + digit_value first) ∷ xs))) digits
+    ∙ ap checked_read (with_first_digit-zipped (digit_value first) rest below long_left)
     ∙ ap (λ b. result_ok (with_check_digit 12 (b ∷ rest))) (digit_again first d.0)
     ∙ with_check_digit-full 12 (first ∷ rest) f
 
