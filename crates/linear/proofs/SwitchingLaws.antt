@@ -8,10 +8,10 @@ use Rattle.std.proofs.lemmas.Bool.Decides.{nat_tests}
 use Rattle.std.proofs.lemmas.List.Elements.{recursion_from_All}
 use Rattle.linear.specs.declared.switching.CodeSet.{CodeSet}
 use Rattle.linear.specs.declared.switching.CodeSet.TheVariants.{A, B, C}
-use Rattle.linear.specs.CodeSets.{has_character, character_value, pair_value, shift_value, leading_digits, is_next}
-use Rattle.linear.specs.CodeSets.{picked_set, is_even_run, is_pair_next, pair_values, byte_written, written}
+use Rattle.linear.specs.CodeSets.{set_has, character_value, pair_value, shift_value, leading_digits, is_next}
+use Rattle.linear.specs.CodeSets.{picked_set, is_even_run, is_pair_next, pair_values, byte_values, data_values}
 use Rattle.linear.specs.Switching.{Step, to_set, character_step, step, Writes, done, stepped, ValuesAreWrittenBySteps}
-use Rattle.linear.proofs.Code128Laws.{even_run, picked_has, PickedHas, written_by}
+use Rattle.linear.proofs.CodeSetLaws.{even_run, picked_set-has, PickedHas, byte_values_by}
 
 by_step : (set : CodeSet) (byte : ℕ) (rest values all : List ℕ) (s : Step) → step set byte rest ≡ s
     → Writes s.set s.rest values → s.values ++ values ≡ all → Writes set (byte ∷ rest) all
@@ -46,13 +46,13 @@ step_by set byte rest has next =
     (to_set (picked_set (byte ∷ rest)) (byte ∷ rest)))
 
 step_is : (set : CodeSet) (byte : ℕ) (rest : List ℕ) (has next : Bool) → is_pair_next set (byte ∷ rest) ≡ false
-    → has_character set byte ≡ has → is_next set rest ≡ next → step set byte rest ≡ step_by set byte rest has next
+    → set_has set byte ≡ has → is_next set rest ≡ next → step set byte rest ≡ step_by set byte rest has next
 step_is set byte rest has next odd e f = one_character set byte rest odd
     ∙ ap (λ b. step_by set byte rest b (is_next set rest)) e ∙ ap (λ b. step_by set byte rest has b) f
 
 -- a byte that the set has
 plain : (set : CodeSet) (byte : ℕ) (rest values : List ℕ) → is_pair_next set (byte ∷ rest) ≡ false
-    → has_character set byte ≡ true → Writes set rest values → Writes set (byte ∷ rest) (character_value byte ∷ values)
+    → set_has set byte ≡ true → Writes set rest values → Writes set (byte ∷ rest) (character_value byte ∷ values)
 plain set byte rest values odd has w =
     by_step set byte rest values _ (record { values = character_value byte ∷ []; set = set; rest = rest })
     (step_is set byte rest true (is_next set rest) odd has refl) w refl
@@ -76,13 +76,13 @@ plain_picked picked byte rest values (inr p) odd =
 
 -- one byte where no pair is next
 single : (set : CodeSet) (byte : ℕ) (rest values : List ℕ) → byte < 128 → is_pair_next set (byte ∷ rest) ≡ false
-    → Writes (byte_written set byte rest).set rest values
-    → Writes set (byte ∷ rest) ((byte_written set byte rest).values ++ values)
+    → Writes (byte_values set byte rest).1 rest values
+    → Writes set (byte ∷ rest) ((byte_values set byte rest).0 ++ values)
 single set byte rest values h odd =
     let picked : CodeSet = picked_set (byte ∷ rest) in
-    let each : (has next : Bool) → has_character set byte ≡ has → is_next set rest ≡ next
-    → Writes (written_by set byte has next picked).set rest values
-    → Writes set (byte ∷ rest) ((written_by set byte has next picked).values ++ values) =
+    let each : (has next : Bool) → set_has set byte ≡ has → is_next set rest ≡ next
+    → Writes (byte_values_by set byte has next picked).1 rest values
+    → Writes set (byte ∷ rest) ((byte_values_by set byte has next picked).0 ++ values) =
     elim [
       | true ↦ λ next e f w. plain set byte rest values odd e w
       | false ↦ elim [
@@ -91,10 +91,10 @@ single set byte rest values h odd =
         | false ↦ λ e f w.
             by_step set byte rest (character_value byte ∷ values) _ (to_set picked (byte ∷ rest))
             (step_is set byte rest false false odd e f)
-            (plain_picked picked byte rest values (picked_has byte rest h) (not_even set (byte ∷ rest) odd) w) refl
+            (plain_picked picked byte rest values (picked_set-has byte rest h) (not_even set (byte ∷ rest) odd) w) refl
       ]
     ] in
-    each (has_character set byte) (is_next set rest) refl refl
+    each (set_has set byte) (is_next set rest) refl refl
 
 -- a pair, in each set
 pair : (set : CodeSet) (first second : ℕ) (rest values : List ℕ) → is_pair_next set (first ∷ second ∷ rest) ≡ true
@@ -121,36 +121,36 @@ never_two : (b : Bool) → leb 2 (cond b 1 0) ≡ false
 never_two true = refl
 never_two false = refl
 
-never_alone : (set : CodeSet) (byte : ℕ) → is_pair_next set (byte ∷ []) ≡ false
-never_alone A byte = one_at_most (is_ascii_digit byte)
-never_alone B byte = one_at_most (is_ascii_digit byte)
-never_alone C byte = never_two (is_ascii_digit byte)
+is_pair_next-single : (set : CodeSet) (byte : ℕ) → is_pair_next set (byte ∷ []) ≡ false
+is_pair_next-single A byte = one_at_most (is_ascii_digit byte)
+is_pair_next-single B byte = one_at_most (is_ascii_digit byte)
+is_pair_next-single C byte = never_two (is_ascii_digit byte)
 
 -- the steps of the switching rule write what `written` says
-written_by_steps : (set : CodeSet) (bytes : List ℕ) → AllByRecursion (λ byte. byte < 128) bytes
-    → Writes set bytes (written set bytes)
-written_by_steps set [] d = done
-written_by_steps set (byte ∷ []) d =
-    let lone : is_pair_next set (byte ∷ []) ≡ false = never_alone set byte in
+Writes-data_values : (set : CodeSet) (bytes : List ℕ) → AllByRecursion (λ byte. byte < 128) bytes
+    → Writes set bytes (data_values set bytes)
+Writes-data_values set [] d = done
+Writes-data_values set (byte ∷ []) d =
+    let lone : is_pair_next set (byte ∷ []) ≡ false = is_pair_next-single set byte in
     let P : List ℕ → Type 0 = λ xs. Writes set (byte ∷ []) xs in
-    subst P (append-nil (byte_written set byte []).values) (single set byte [] [] d.0 lone done)
-written_by_steps set (first ∷ second ∷ rest) d =
-    let after = byte_written set first (second ∷ rest) in
+    subst P (append-nil (byte_values set byte []).0) (single set byte [] [] d.0 lone done)
+Writes-data_values set (first ∷ second ∷ rest) d =
+    let after = byte_values set first (second ∷ rest) in
     let values : Bool → List ℕ =
     λ b. elim b [
-      | true ↦ pair_values set first second ++ written C rest
-      | false ↦ after.values
-          ++ written after.set (second ∷ rest)
+      | true ↦ pair_values set first second ++ data_values C rest
+      | false ↦ after.0
+          ++ data_values after.1 (second ∷ rest)
     ] in
     let by_case : (b : Bool) → is_pair_next set (first ∷ second ∷ rest) ≡ b
     → Writes set (first ∷ second ∷ rest) (values b) =
     elim [
-      | true ↦ λ e. pair set first second rest (written C rest) e (written_by_steps C rest d.1.1)
-      | false ↦ λ e. single set first (second ∷ rest) (written after.set (second ∷ rest)) d.0 e
-          (written_by_steps after.set (second ∷ rest) d.1)
+      | true ↦ λ e. pair set first second rest (data_values C rest) e (Writes-data_values C rest d.1.1)
+      | false ↦ λ e. single set first (second ∷ rest) (data_values after.1 (second ∷ rest)) d.0 e
+          (Writes-data_values after.1 (second ∷ rest) d.1)
     ] in
     by_case (is_pair_next set (first ∷ second ∷ rest)) refl
 
 pub values_are_written_by_steps : ValuesAreWrittenBySteps
 values_are_written_by_steps set bytes all =
-    written_by_steps set bytes (recursion_from_All (λ byte. byte < 128) bytes all)
+    Writes-data_values set bytes (recursion_from_All (λ byte. byte < 128) bytes all)

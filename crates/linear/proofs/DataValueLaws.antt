@@ -8,8 +8,8 @@ use Rattle.std.proofs.Math.Seq.{drop-cons}
 use Rattle.std.proofs.lemmas.List.{length-drop, get_or-drop, drop-drop}
 use Rattle.linear.specs.declared.switching.CodeSet.{CodeSet}
 use Rattle.linear.specs.declared.switching.CodeSet.TheVariants.{A, B, C}
-use Rattle.linear.specs.CodeSets.{is_pair_next, pair_values, byte_written, written}
-use Rattle.linear.proofs.Code128Laws.{pair_digits}
+use Rattle.linear.specs.CodeSets.{is_pair_next, pair_values, byte_values, data_values}
+use Rattle.linear.proofs.CodeSetLaws.{pair_digits}
 
 -- a pair needs two bytes
 no_pair : (set : CodeSet) → is_pair_next set [] ≡ true → ⊥
@@ -27,16 +27,17 @@ pub record PairFirst (set : CodeSet) (bytes : List ℕ) : Type 0 where
   pub within : 2 ≤ length bytes
   pub first : IsAsciiDigit (get_or bytes 0 0)
   pub second : IsAsciiDigit (get_or bytes 1 0)
-  pub values : written set bytes ≡ pair_values set (get_or bytes 0 0) (get_or bytes 1 0) ++ written C (drop 2 bytes)
+  pub values : data_values set bytes ≡ pair_values set (get_or bytes 0 0) (get_or bytes 1 0) ++ data_values C
+      (drop 2 bytes)
 
 -- what is written of two bytes or more, by whether a pair is next
 by_case : CodeSet → ℕ → ℕ → List ℕ → Bool → List ℕ
 by_case set first second rest b =
-    let step = byte_written set first (second ∷ rest) in
+    let step = byte_values set first (second ∷ rest) in
     elim b [
-      | true ↦ pair_values set first second ++ written C rest
-      | false ↦ step.values
-          ++ written step.set (second ∷ rest)
+      | true ↦ pair_values set first second ++ data_values C rest
+      | false ↦ step.0
+          ++ data_values step.1 (second ∷ rest)
     ]
 
 pair_first : (set : CodeSet) (bytes : List ℕ) → is_pair_next set bytes ≡ true → PairFirst set bytes
@@ -48,9 +49,9 @@ pair_first set (first ∷ second ∷ rest) h =
     record { within = omega arith; first = digits.0; second = digits.1; values = ap (by_case set first second rest) h }
 
 byte_first : (set : CodeSet) (byte : ℕ) (rest : List ℕ) → is_pair_next set (byte ∷ rest) ≡ false
-    → written set (byte ∷ rest) ≡ (byte_written set byte rest).values ++ written (byte_written set byte rest).set rest
+    → data_values set (byte ∷ rest) ≡ (byte_values set byte rest).0 ++ data_values (byte_values set byte rest).1 rest
 unfolding by_case
-byte_first set byte [] h = sym (append-nil (byte_written set byte []).values)
+byte_first set byte [] h = sym (append-nil (byte_values set byte []).0)
 byte_first set first (second ∷ rest) h = ap (by_case set first second rest) h
 
 -- the same at an index
@@ -58,8 +59,8 @@ pub record PairAt (set : CodeSet) (bytes : List ℕ) (i : ℕ) : Type 0 where
   pub within : i + 2 ≤ length bytes
   pub first : IsAsciiDigit (get_or bytes i 0)
   pub second : IsAsciiDigit (get_or bytes (i + 1) 0)
-  pub values : written set (drop i bytes) ≡ pair_values set (get_or bytes i 0) (get_or bytes (i + 1) 0)
-      ++ written C (drop (i + 2) bytes)
+  pub values : data_values set (drop i bytes) ≡ pair_values set (get_or bytes i 0) (get_or bytes (i + 1) 0)
+      ++ data_values C (drop (i + 2) bytes)
 
 pub pair_at : (set : CodeSet) (bytes : List ℕ) (i : ℕ) → i ≤ length bytes → is_pair_next set (drop i bytes) ≡ true
     → PairAt set bytes i
@@ -74,15 +75,15 @@ pair_at set bytes i le h =
       first = subst IsAsciiDigit at_first p.first;
       second = subst IsAsciiDigit at_second p.second;
       values = p.values ∙ ap
-          (λ x. pair_values set x (get_or (drop i bytes) 1 0) ++ written C (drop 2 (drop i bytes))) at_first
-          ∙ ap (λ x. pair_values set (get_or bytes i 0) x ++ written C (drop 2 (drop i bytes))) at_second
-          ∙ ap (λ xs. pair_values set (get_or bytes i 0) (get_or bytes (i + 1) 0) ++ written C xs)
+          (λ x. pair_values set x (get_or (drop i bytes) 1 0) ++ data_values C (drop 2 (drop i bytes))) at_first
+          ∙ ap (λ x. pair_values set (get_or bytes i 0) x ++ data_values C (drop 2 (drop i bytes))) at_second
+          ∙ ap (λ xs. pair_values set (get_or bytes i 0) (get_or bytes (i + 1) 0) ++ data_values C xs)
           (drop-drop 2 i bytes);
     }
 
 pub byte_at : (set : CodeSet) (bytes : List ℕ) (i : ℕ) → i < length bytes → is_pair_next set (drop i bytes) ≡ false
-    → written set (drop i bytes) ≡ (byte_written set (get_or bytes i 0) (drop (i + 1) bytes)).values
-    ++ written (byte_written set (get_or bytes i 0) (drop (i + 1) bytes)).set (drop (i + 1) bytes)
+    → data_values set (drop i bytes) ≡ (byte_values set (get_or bytes i 0) (drop (i + 1) bytes)).0
+    ++ data_values (byte_values set (get_or bytes i 0) (drop (i + 1) bytes)).1 (drop (i + 1) bytes)
 byte_at set bytes i lt h =
     let e : drop i bytes ≡ get_or bytes i 0 ∷ drop (i + 1) bytes = rw (add-one) (drop-cons bytes i 0 lt) in
-    ap (written set) e ∙ byte_first set (get_or bytes i 0) (drop (i + 1) bytes) (ap (is_pair_next set) (sym e) ∙ h)
+    ap (data_values set) e ∙ byte_first set (get_or bytes i 0) (drop (i + 1) bytes) (ap (is_pair_next set) (sym e) ∙ h)

@@ -2,12 +2,12 @@ use Rattle.std.proofs.Common.{◌≡◌, ◌+◌, ◌-◌, ◌++◌, ℕ, List, 
 use Rattle.std.proofs.Common.{append-nil, [], subst, ◌<◌, ◌≤◌, All, arith, Bool, true}
 use Rattle.std.proofs.lemmas.List.{take_all, drop_all, length-drop}
 use Rattle.std.proofs.lemmas.List.Elements.{All-from_recursion, recursion_from_All}
-use Rattle.linear.proofs.Code128Laws.{written_characters}
+use Rattle.linear.proofs.ValueRangeLaws.{AreCharacters-data_values}
 use Rattle.linear.specs.declared.switching.CodeSet.{CodeSet}
 use Rattle.linear.specs.declared.switching.CodeSet.TheVariants.{C}
-use Rattle.linear.specs.CodeSets.{is_pair_next, pair_values, byte_written, written}
-use Rattle.linear.proofs.WrittenLemmas.{PairAt, pair_at, byte_at}
-use Rattle.linear.proofs.switching.written.Goals as goal
+use Rattle.linear.specs.CodeSets.{is_pair_next, pair_values, byte_values, data_values}
+use Rattle.linear.proofs.DataValueLaws.{PairAt, pair_at, byte_at}
+use Rattle.linear.proofs.switching.data_values.Goals as goal
 
 -- what stands behind `&xs[i..]`
 rest_is : (xs : List ℕ) (i : ℕ) → take (length xs - i) (drop i xs) ≡ drop i xs
@@ -39,7 +39,7 @@ loop-i-preserved-then-is_pair_next c =
     let set = c.loop-i.set in
     let before = c.loop-i.values.items in
     let p = pair_in set xs i _ c.loop-i.invariant.within c.is_pair_next.ensures c.if-is_pair_next.true in
-    let after = written C (drop (i + 2) xs) in
+    let after = data_values C (drop (i + 2) xs) in
     record {
       within = p.within;
       room = omega arith;
@@ -57,17 +57,17 @@ loop-i-preserved c =
     let single = ap (is_pair_next set) (sym (rest_is xs i)) ∙ sym c.is_pair_next.ensures ∙ c.if-is_pair_next.false in
     let e = byte_at set xs i c.loop-i-test.true single in
     let rest = rest_is xs (i + 1) in
-    let step = byte_written set (get_or xs i 0) (drop (i + 1) xs) in
-    let items : c.push_byte-set.new.values.items ≡ before ++ step.values = c.push_byte-set.ensures.items
-    ∙ ap (λ ys. before ++ (byte_written set (get_or xs i 0) ys).values) rest in
-    let after : c.push_byte-set.result ≡ step.set = c.push_byte-set.ensures.set
-    ∙ ap (λ ys. (byte_written set (get_or xs i 0) ys).set) rest in
+    let step = byte_values set (get_or xs i 0) (drop (i + 1) xs) in
+    let items : c.push_byte-set.new.values.items ≡ before ++ step.0 = c.push_byte-set.ensures.values.items
+    ∙ ap (λ ys. before ++ (byte_values set (get_or xs i 0) ys).0) rest in
+    let after : c.push_byte-set.result ≡ step.1 = c.push_byte-set.ensures.set
+    ∙ ap (λ ys. (byte_values set (get_or xs i 0) ys).1) rest in
     record {
       within = omega arith;
       room = omega arith;
-      whole = ap (λ ys. ys ++ written c.push_byte-set.result (drop (i + 1) xs)) items
-          ∙ ap (λ s. (before ++ step.values) ++ written s (drop (i + 1) xs)) after
-          ∙ append_assoc before step.values (written step.set (drop (i + 1) xs)) ∙ ap (λ ys. before ++ ys) (sym e)
+      whole = ap (λ ys. ys ++ data_values c.push_byte-set.result (drop (i + 1) xs)) items
+          ∙ ap (λ s. (before ++ step.0) ++ data_values s (drop (i + 1) xs)) after
+          ∙ append_assoc before step.0 (data_values step.1 (drop (i + 1) xs)) ∙ ap (λ ys. before ++ ys) (sym e)
           ∙ c.loop-i.invariant.whole;
     }
 
@@ -75,9 +75,9 @@ pub returns-clause-characters : goal.returns-clause-characters
 returns-clause-characters c =
     let xs = c.args.data.now in
     let done : drop c.loop-i.i xs ≡ [] = drop_all c.loop-i.i xs c.loop-i-test.false in
-    let e : c.loop-i.values.items ≡ written c.args.start xs =
-    sym (append-nil c.loop-i.values.items) ∙ ap (λ ys. c.loop-i.values.items ++ written c.loop-i.set ys) (sym done)
+    let e : c.loop-i.values.items ≡ data_values c.args.start xs =
+    sym (append-nil c.loop-i.values.items) ∙ ap (λ ys. c.loop-i.values.items ++ data_values c.loop-i.set ys) (sym done)
     ∙ c.loop-i.invariant.whole in
     let P : List ℕ → Type 0 = λ ys. All (λ value. value < 106) ys in
-    subst P (sym e) (All-from_recursion (λ value. value < 106) (written c.args.start xs)
-    (written_characters c.args.start xs (recursion_from_All (λ byte. byte < 128) xs c.requires.ascii)))
+    subst P (sym e) (All-from_recursion (λ value. value < 106) (data_values c.args.start xs)
+    (AreCharacters-data_values c.args.start xs (recursion_from_All (λ byte. byte < 128) xs c.requires.ascii)))

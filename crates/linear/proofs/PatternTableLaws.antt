@@ -7,7 +7,7 @@ use Rattle.linear.specs.declared.ean.NumberSet.TheVariants.{A, B, C}
 use Rattle.linear.specs.Tables.{number_set_a}
 use Rattle.linear.specs.Ean.{pattern}
 use Rattle.linear.specs.EanReading.{digit_in}
-use Rattle.linear.specs.TableFacts.{PatternsDiffer}
+use Rattle.linear.specs.CodingLaws.{PatternsDiffer}
 use Rattle.linear.proofs.PatternLaws.{passes_at, none_from_test, digit_in-pattern, digit_in_a-pattern_b}
 
 -- the number set and the digit of a pattern
@@ -40,8 +40,8 @@ identified-pattern C digit h =
     ∙ ap (λ o. of_three None o (digit_in C (pattern C digit))) (in_b-pattern_c digit h)
     ∙ ap (λ o. of_three None None o) (digit_in-pattern C digit h)
 
-pub patterns_differ : PatternsDiffer
-patterns_differ set other digit second h k e =
+pub pattern-differs : PatternsDiffer
+pattern-differs set other digit second h k e =
     let same = sym (identified-pattern set digit h) ∙ ap identified e ∙ identified-pattern other second k in
     let pair = ap (λ (o : Option (NumberSet × ℕ)). unwrap_or o (A, 0)) same in (
       ap (λ (p : NumberSet × ℕ). p.0) pair,
