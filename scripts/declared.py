@@ -123,7 +123,7 @@ def code_items(top, crates, named):
 
 
 def words_of_head(top, crate, file, function):
-    """The words in the head of a function: its bounds and the types of what it takes and returns. None if it is gone."""
+    """The words in the head of a function: its bounds, what it takes and returns. None where it is gone."""
     path = os.path.join(top, "crates", crate, "src", f"{file}.rt")
     for item in sources.items_of(sources.read(path)) if os.path.exists(path) else []:
         if item.kind == "fn" and item.name == function:

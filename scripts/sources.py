@@ -3,6 +3,7 @@
 Offsets into a text and into its `blanked` form are the same, so what is found in one is cut out of the other.
 """
 
+import argparse
 import os
 import re
 from dataclasses import dataclass, field
@@ -16,6 +17,18 @@ ITEM = re.compile(
     r"(?P<kind>fn|struct|enum|trait|impl|mod|const|ghost|use|type|static)\b"
 )
 FUNCTION_WORD = re.compile(r"\b(requires|ensures)\b(?:\s+(\w+))?\s*(?=\{)|[\[({;]")
+
+
+def program_given(description):
+    """The program `labels` that the words name, the proved one where they name none. Stops where it is not there."""
+    parser = argparse.ArgumentParser(description=description, formatter_class=argparse.RawDescriptionHelpFormatter)
+    default = os.path.join(TOP, "crates", "labels", "out", "labels")
+    parser.add_argument("program", nargs="?", default=default, metavar="PROGRAM",
+                        help="the program (crates/labels/out/labels, which `rt run` in crates/labels makes)")
+    program = os.path.abspath(parser.parse_args().program)
+    if not os.path.isfile(program) or not os.access(program, os.X_OK):
+        parser.error(f"{program} is no program: run `rt run < /dev/null` in crates/labels, or name another one")
+    return program
 
 
 def crates_of(top):
