@@ -127,12 +127,13 @@ def items_of(text):
     """The items that stand in a text side by side: those of a file, or of the body of a trait or an `impl`."""
     blank, items, place = blanked(text), [], 0
     while match := ITEM.search(blank, place):
-        start = match.start()
-        body, end, clauses = end_of_item(blank, start)
-        head_end = min([body, *(begin for _, begin, _ in clauses)])
-        kind, head = match.group("kind"), text[start:head_end]
-        if kind == "ghost" and re.match(r"(?:pub\s+)?ghost\s+use\b", head):
-            kind = "use"
+        start, kind = match.start(), match.group("kind")
+        if kind == "use" or re.match(r"ghost\s+use\b", blank[match.start("kind"):]):
+            kind, body, clauses = "use", blank.index(";", start), []
+            end = body + 1
+        else:
+            body, end, clauses = end_of_item(blank, start)
+        head = text[start:min([body, *(begin for _, begin, _ in clauses)])]
         items.append(Item(
             kind=kind,
             name=name_of(kind, head),
