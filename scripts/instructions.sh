@@ -4,15 +4,16 @@
 # usage: scripts/instructions.sh [PROGRAM] > table.md
 #        scripts/instructions.sh --check [--table FILE] [PROGRAM]
 #
-# PROGRAM is crates/labels/out/labels where none is given. Without --check it prints the first table of
+# PROGRAM is crates/labels/out/labels where none is given. Without --check it prints the first two tables of
 # docs/BENCHMARKS.md. The count is valgrind's (callgrind), the same on a busy machine as on an idle one. Of each
 # tool the start of the process is taken off: COUNT (20) equal labels are drawn in one run, and a run over none is
 # subtracted, for zint and GNU barcode one over a single label, for qrencode, which draws one label a run, one
-# that prints its version. So a row says what one label more costs. Every tool writes to /dev/null.
+# that prints its version. So a row says what one label more costs. The second table counts the system calls of
+# one run, without those of a run over no line. Every tool writes to /dev/null.
 #
-# With --check it counts for `labels` alone, and compares each row with that table (or the one in FILE): it prints
+# With --check it counts for `labels` alone, and compares each row with these tables (or those in FILE): it prints
 # the count of the table, the one measured and the difference. Status 1 where a row takes more than 5 % more than
-# the table says, or where the table lacks a row, has one that is no number, or one that is not measured here. A
+# the table says, or where a table lacks a row, has one that is no number, or one that is not measured here. A
 # row that takes more than 5 % less is no failure: a note says that the table is out of date.
 #
 # Status 2: bad words, no such program, or a count that failed. Status 77: valgrind is not installed, nothing was
@@ -71,6 +72,15 @@ cd "$scratch"
 instructions_of() {
     valgrind --tool=callgrind --callgrind-out-file=/dev/null "$@" 2>&1 > /dev/null |
         awk '/ Collected : / { print $4; found = 1 } END { exit !found }' || stop "no count of: $*"
+}
+
+# How often a command makes the system call $1.
+calls_of() {
+    local call=$1
+    shift
+    valgrind --tool=none --trace-syscalls=yes "$@" 2> calls > /dev/null || stop "no count of: $*"
+    grep -q ' sys_read ' calls || stop "valgrind names no system call of: $*"
+    grep -c " $call " calls || true
 }
 
 # The text $1, $2 times, each on a line.
@@ -141,10 +151,10 @@ print_row() {
     printf '| %s | %s | %s | %s | %s |\n' "$name" "$ours" "$zint" "$barcode" "$qrencode"
 }
 
-# The table's rows below its head, as far as they go: a name, a tab, what stands in the column of `labels`.
+# The rows below the heads of both tables, as far as they go: a name, a tab, what stands in the column of `labels`.
 rows_of_table() {
-    awk -F ' *[|] *' -v OFS='\t' '$2 == "Label" && $3 == "labels" { inside = 1; next }
-        inside && !/^[|]/ { exit }
+    awk -F ' *[|] *' -v OFS='\t' '($2 == "Label" || $2 == "Calls") && $3 == "labels" { inside = 1; next }
+        !/^[|]/ { inside = 0 }
         inside && $2 !~ /^-+$/ { print $2, $3 }' "$table"
 }
 
@@ -156,18 +166,16 @@ fail() {
     failures=$((failures + 1))
 }
 
-# Compares the row of name $1, for the line $2 and the words $3, with the table.
-check_row() {
-    local name=$1 line=$2 words=$3
-    local wanted found percent
+# Compares the count $2 of the row of name $1 with the table.
+compare() {
+    local name=$1 found=$2
+    local wanted percent line
     names+=("$name")
     wanted=$(rows_of_table | awk -F '\t' -v name="$name" '$1 == name { print $2 }')
     if ! [[ ${wanted//,/} =~ ^[1-9][0-9]*$ ]]; then
         fail "FAILS $name: the table has ${wanted:-no such row}${wanted:+, which is no one count}"
         return
     fi
-    # shellcheck disable=SC2086  # words are several words
-    found=$(by_labels "$line" $words)
     percent=$(awk -v a="$found" -v b="${wanted//,/}" 'BEGIN { printf "%+.1f", 100 * (a - b) / b }')
     line="$name: $wanted in the table, $(shown <<< "$found") measured, $percent %"
     if awk -v p="$percent" -v room="$room" 'BEGIN { exit !(p > room) }'; then
@@ -177,6 +185,26 @@ check_row() {
     else
         echo "$line"
     fi
+}
+
+# A row of name $1 for the line $2 of `labels` and the words $3; for the table also the data and each tool's words.
+row() {
+    local found
+    if [ "$mode" = table ]; then
+        print_row "$@"
+    else
+        # shellcheck disable=SC2086  # words are several words
+        found=$(by_labels "$2" $3)
+        compare "$1" "$found"
+    fi
+}
+
+# A row of name $1 for the calls $2 of a run over 1,000 EAN-13 labels.
+calls_row() {
+    local found
+    times 'ean13 400638133393' 1000 > lines
+    found=$(($(calls_of "$2" "$labels" lines) - $(calls_of "$2" "$labels" /dev/null)))
+    if [ "$mode" = table ]; then printf '| %s | %s |\n' "$1" "$found"; else compare "$1" "$found"; fi
 }
 
 # Sees that the table has no row but those of `names`, and says how the check ended.
@@ -195,10 +223,6 @@ name_missing() {
     local tool missing=()
     for tool in zint barcode qrencode; do has "$tool" || missing+=("$tool"); done
     [ ${#missing[@]} -eq 0 ] || echo "$0: not installed, so not counted: ${missing[*]}" >&2
-}
-
-row() {
-    if [ "$mode" = check ]; then check_row "${@:1:3}"; else print_row "$@"; fi
 }
 
 # The first $1 characters of the text $2 over and over.
@@ -225,4 +249,7 @@ row 'QR, 300 digits, level L' "qr $digits" '--level L' "$digits" '-b QRCODE --se
 row 'EAN-13, `--scale 8`' 'ean13 400638133393' '--scale 8' '' '' '' ''
 row "QR, \`$url\`, \`--scale 8\`" "qr $url" '--scale 8' '' '' '' ''
 row 'EAN-13, `--format ascii --height 5`' 'ean13 400638133393' '--format ascii --height 5' '' '' '' ''
+if [ "$mode" = table ]; then printf '\n| Calls | labels |\n|---|---|\n'; fi
+calls_row 'reads of 1,000 EAN-13 lines' sys_read
+calls_row 'writes of 1,000 EAN-13 labels' sys_write
 if [ "$mode" = check ]; then end_check; fi
