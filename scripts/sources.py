@@ -75,6 +75,7 @@ class Item:
 
     kind: str
     name: str
+    start: int  # the offset at which it begins
     docs: str
     text: str
     is_public: bool
@@ -137,6 +138,7 @@ def items_of(text):
         items.append(Item(
             kind=kind,
             name=name_of(kind, head),
+            start=start,
             docs=docs_before([line.strip() for line in text[:start].rstrip().split("\n")]),
             text=text[start:end],
             is_public=bool(match.group("public")) and "(" not in match.group("public"),

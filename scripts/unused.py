@@ -1,19 +1,20 @@
 #!/usr/bin/env python3
 """Finds what nothing uses in the crates: lemmas, definitions, imported names and functions.
 
-- A definition of specs/ is used where a contract, an attribute of the code, a lemma in use or another definition in use
-  cites it.
+- A definition of specs/ is used where a contract, an attribute of the code, a lemma in use or another definition in
+  use cites it.
 - A lemma of proofs/ is used where an answer, an attribute of the code or a lemma in use cites it. Files that the check
   itself reads (Answers, Invariants and Proof below the folder of a function) use what they cite; of what they define,
-  what is not `pub` has to be cited too. So do files whose name has Examples in it: their lemmas are there to be checked.
-- An imported name is used where it stands in its file, or in the `impl` that imports it, outside of comments and other
-  imports; a name of `ghost use` where it stands in a contract, a ghost item or an attribute; a trait of ours also where
-  one of its functions is called.
+  what is not `pub` has to be cited too. So do files whose name has Examples in it: their lemmas are there to be
+  checked.
+- An imported name is used where it stands in its file, or in the `impl` that imports it, outside of comments and
+  other imports; a name of `ghost use` where it stands in a contract, a ghost item or an attribute; a trait of ours
+  also where one of its functions is called.
 - A function is used where its name stands in code outside of its own body, in its crate or, if it is `pub`, in any.
   Tests, `main` and the functions of an `impl` of a trait are called by others.
 
-It reads text, and needs no tool of the kit. Where two things have one name it may miss one that is unused. The status is
-1 where something is found, a line for each; else 0, and the last line says how much it looked at.
+It reads text, and needs no tool of the kit. Where two things have one name it may miss one that is unused. The status
+is 1 where something is found, a line for each; else 0, and the last line says how much it looked at.
 """
 
 import argparse
@@ -28,7 +29,8 @@ import sources
 NAME = r"[^\W\d][\w'⁻¹]*(?:-[\w'⁻¹]+)*"
 WORD = re.compile(rf"{NAME}(?:\.(?:{NAME}|\d+))*")
 OPAQUE = re.compile(r'--[^\n]*|"(?:\\.|[^"\\])*"')
-HEAD = re.compile(rf"^((?:(?:abbrev|unfoldable|pub|record|data)\s+)*)([^\s:(){{}}]*◌[^\s:(){{}}]*|{NAME})(?=[\s:({{]|$)")
+OPERATOR = r"[^\s:(){}]*◌[^\s:(){}]*"
+HEAD = re.compile(rf"^((?:(?:abbrev|unfoldable|pub|record|data)\s+)*)({OPERATOR}|{NAME})(?=[\s:({{]|$)")
 CONSTRUCTOR = re.compile(rf"^\s+({NAME})\s*:")
 USE = re.compile(r"^\s*use\s+(.*?)\s*$")
 READ_BY_CHECK = ("Answers", "Invariants", "Proof")
@@ -153,7 +155,7 @@ def stands_in(name, words, text):
     """Whether a name stands in a text, whose words are known: of an operator each of its parts has to."""
     if "◌" not in name:
         return name in words if re.fullmatch(NAME, name) else name in text
-    if name == "◌>>=◌" and (re.search(r"\bdo\b", text) or "←" in text):
+    if name in text or name == "◌>>=◌" and (re.search(r"\bdo\b", text) or "←" in text):
         return True
     return all(f" {part}" in text or f"{part} " in text or part in words for part in name.split("◌") if part)
 
@@ -182,7 +184,7 @@ def cited(text, imports, of_name):
 
 
 class RustFile:
-    """A file of code: its imports with the text in which each has to stand, the text of its contracts, its functions."""
+    """A file of code: its text, and its imports, each with the text in which it has to stand."""
 
     def __init__(self, top, crate, path):
         self.crate, self.path = crate, os.path.relpath(path, top)
@@ -191,18 +193,17 @@ class RustFile:
         self.imports = []  # (Import, whether it is ghost, its scope)
         for item in sources.items_of(self.text):
             if item.kind == "use":
-                self.bring_in(item.text, self.text)
+                self.bring_in(RUST_USE.match(item.text), item.start, self.text)
             elif item.kind in ("impl", "trait", "fn", "mod"):
                 for match in RUST_USE.finditer(sources.blanked(item.text)):
-                    self.bring_in(match.group(), item.text)
+                    self.bring_in(match, item.start + match.start(), item.text)
 
-    def bring_in(self, text, scope):
-        match = RUST_USE.search(text)
-        if not match or match.group("head").startswith("pub"):
+    def bring_in(self, match, start, scope):
+        if match.group("head").startswith("pub"):
             return
         is_ghost = "ghost" in match.group("head")
         path = " ".join(match.group("path").split())
-        number = self.text[:self.text.index(text)].count("\n") + 1
+        number = self.text[:start].count("\n") + 1
         for name, target in imported(path) if is_ghost else ((name, ()) for name in rust_names(path)):
             self.imports.append((Import(name, f"{self.path}:{number}", target), is_ghost, scope))
 
