@@ -41,7 +41,7 @@ README_NUMBER = re.compile(r"([\d,]+)\s+lines\s+of\s+\[definitions\]")
 SHOWN = 60
 
 NAME = r"[^\W\d][\w']*(?:-[\w']+)*"
-NO_WORDS = {"infixl", "infixr", "unfolding", "module"}
+NO_WORDS = {"infixl", "infixr", "unfolding", "module", "mod"}
 HEAD = re.compile(rf"^(?:(?:abbrev|unfoldable)\s+)?(?:pub\s+)?(?:record\s+|data\s+)?(◌\S+◌|{NAME})(?=[\s:(])")
 WORD = re.compile(rf"{NAME}(?:\.{NAME})*")
 

@@ -23,8 +23,8 @@ def run(script, *words, **environment):
     """A script's status and all that it prints."""
     path = os.path.join(SCRIPTS, script)
     command = [sys.executable, path] if script.endswith(".py") else [shutil.which("bash"), path]
-    ran = subprocess.run([*command, *words], stdin=subprocess.DEVNULL, stdout=subprocess.PIPE, stderr=subprocess.STDOUT,
-                         text=True, env={**os.environ, **environment})
+    how = {"stdin": subprocess.DEVNULL, "stdout": subprocess.PIPE, "stderr": subprocess.STDOUT, "text": True}
+    ran = subprocess.run([*command, *words], env={**os.environ, **environment}, **how)
     return ran.returncode, ran.stdout
 
 
@@ -50,11 +50,6 @@ class InFolder(unittest.TestCase):
 
     def path(self, *names):
         return os.path.join(self.folder, *names)
-
-    def change(self, path, old, new):
-        text = read(self.path(path))
-        self.assertEqual(text.count(old), 1, f"{old!r} stands once in {path}")
-        write(self.path(path), text.replace(old, new))
 
     def bare_path(self):
         """A folder for PATH with what every system has, and no third-party tool."""
@@ -86,19 +81,32 @@ class Words(unittest.TestCase):
             self.assertEqual(run(name, "/no/such/program")[0], 2, name)
 
 
-class Believed(InFolder):
+class Believed(unittest.TestCase):
     """The page and README's number are compared with the files, word for word."""
 
-    def setUp(self):
-        super().setUp()
+    @classmethod
+    def setUpClass(cls):
+        """A copy of the repository whose page and README are right."""
+        cls.folder = tempfile.mkdtemp(prefix="test-scripts-")
+        cls.addClassCleanup(shutil.rmtree, cls.folder)
+        left_out = shutil.ignore_patterns("out", "proofs", "wrong-bodies", "must-fail", "pictures")
         for name in ("crates", "docs"):
-            shutil.copytree(os.path.join(TOP, name), self.path(name), ignore=shutil.ignore_patterns("out", "proofs"))
-        shutil.copy(os.path.join(TOP, "README.md"), self.folder)
-        self.assertEqual(run("believed.py", "--write", "--top", self.folder)[0], 0)
-        said = run("believed.py", "--top", self.folder)[1]
-        self.lines = int(re.search(r"in all: \d+ definitions, (\d+) lines", said).group(1))
-        readme = re.sub(r"[\d,]+(\s+lines\s+of\s+\[definitions\])", rf"{self.lines:,}\1", read(self.path("README.md")))
-        write(self.path("README.md"), readme)
+            shutil.copytree(os.path.join(TOP, name), os.path.join(cls.folder, name), ignore=left_out)
+        if run("believed.py", "--write", "--top", cls.folder)[0] != 0:
+            raise AssertionError("believed.py --write failed")
+        said = run("believed.py", "--top", cls.folder)[1]
+        cls.lines = int(re.search(r"in all: \d+ definitions, (\d+) lines", said).group(1))
+        readme = read(os.path.join(TOP, "README.md"))
+        readme = re.sub(r"[\d,]+(\s+lines\s+of\s+\[definitions\])", rf"{cls.lines:,}\1", readme)
+        write(os.path.join(cls.folder, "README.md"), readme)
+
+    def change(self, file, old, new):
+        """Changes a file until the end of this test."""
+        path = os.path.join(self.folder, file)
+        text = read(path)
+        self.assertEqual(text.count(old), 1, f"{old!r} stands once in {file}")
+        self.addCleanup(write, path, text)
+        write(path, text.replace(old, new))
 
     def check(self):
         return run("believed.py", "--check", "--top", self.folder)
@@ -129,8 +137,8 @@ class Believed(InFolder):
         self.assertIn("trait `Sink`", said)
 
     def test_a_type_that_is_not_listed(self):
-        page = read(self.path("docs/DEFINITIONS.md"))
-        write(self.path("docs/DEFINITIONS.md"), re.sub(r"\| type `Fault` .*\n", "", page))
+        page = read(os.path.join(self.folder, "docs", "DEFINITIONS.md"))
+        self.change("docs/DEFINITIONS.md", re.search(r"\| type `Fault` .*\n", page).group(), "")
         self.assertEqual(self.check()[0], 1)
 
     def test_a_list_without_its_marks(self):
@@ -229,15 +237,22 @@ fi
 class Instructions(InFolder):
     """--check compares each row of the tables; valgrind and the program are stand-ins."""
 
+    table = ""
+
     def setUp(self):
         super().setUp()
         self.program = self.path("labels")
         write(self.program, "#!/bin/sh\necho drawn\n", is_program=True)
         self.environment = {"PATH": self.bare_path()}
         write(self.path("bin", "valgrind"), VALGRIND, is_program=True)
+        write(self.path("table.md"), self.table or self.make_table())
+
+    def make_table(self):
+        """The table that the script prints of the stand-ins, made once for all tests."""
         status, table = run("instructions.sh", self.program, **self.environment)
         self.assertEqual(status, 0, table)
-        write(self.path("table.md"), table)
+        type(self).table = table[table.index("| Label |"):]
+        return self.table
 
     def check(self, **more):
         words = ("--check", "--table", self.path("table.md"), self.program)
@@ -268,21 +283,19 @@ class Instructions(InFolder):
         self.assertIn("FAILS writes of 1,000 EAN-13 labels", said)
 
     def test_row_missing(self):
-        table = read(self.path("table.md"))
-        write(self.path("table.md"), re.sub(r"\| QR, 600 digits.*\n", "", table))
+        write(self.path("table.md"), re.sub(r"\| QR, 600 digits.*\n", "", self.table))
         status, said = self.check()
         self.assertEqual(status, 1)
         self.assertIn("FAILS QR, 600 digits, level L: the table has no such row", said)
 
     def test_row_that_is_no_number(self):
-        table = read(self.path("table.md"))
-        write(self.path("table.md"), re.sub(r"(\| QR, 600 digits, level L \|) [\d,]+", r"\1 many", table))
+        write(self.path("table.md"), re.sub(r"(\| QR, 600 digits, level L \|) [\d,]+", r"\1 many", self.table))
         status, said = self.check()
         self.assertEqual(status, 1)
         self.assertIn("FAILS QR, 600 digits, level L: the table has many", said)
 
     def test_row_that_is_not_measured(self):
-        self.change("table.md", "| EAN-13 |", "| EAN-99 | 1 | - | - | - |\n| EAN-13 |")
+        write(self.path("table.md"), self.table.replace("| EAN-13 |", "| EAN-99 | 1 | - | - | - |\n| EAN-13 |"))
         status, said = self.check()
         self.assertEqual(status, 1)
         self.assertIn("FAILS EAN-99", said)
