@@ -35,6 +35,8 @@ ROOT = ("filter", "Run", "RunsWhole")
 HEADLINE = ("filter", "engine", "run")
 # The crates in the order in which a reader meets them, from the headline down.
 CRATES = ["filter", "labelcore", "picture", "linear", "qrmatrix", "qrdata", "gf256", "command"]
+# The crates on whose contracts no other crate rests.
+AT_THE_TOP = {"labels", "examples", "tests"}
 PAGE = os.path.join("docs", "DEFINITIONS.md")
 README_NUMBER = re.compile(r"([\d,]+)\s+lines\s+of\s+\[definitions\]")
 # The most lines of differences that --check prints.
@@ -112,7 +114,10 @@ class File:
 
 
 def read_files(top):
-    files = {}
+    files, unknown = {}, set(sources.crates_of(top)) - {*CRATES} - AT_THE_TOP
+    if unknown:
+        names = ", ".join(sorted(unknown))
+        sys.exit(f"crates.txt has {names}: scripts/believed.py has to name it in CRATES or AT_THE_TOP")
     for crate in CRATES:
         folder = os.path.join(top, "crates", crate, "specs")
         for path in sources.files_below(folder, ".antt"):
@@ -127,7 +132,10 @@ def find(files, crate, module, name):
     if module.startswith("declared"):
         return (crate, module, name)
     file = files.get((crate, module))
-    return file.of_name.get(name) if file else None
+    found = file.of_name.get(name) if file else None
+    if crate in CRATES and found is None:
+        sys.exit(f"crates/{crate}/specs/{module.replace('.', '/')}.antt has no {name}, which another file names")
+    return found
 
 
 def rests_on(files, file, definition):

@@ -92,6 +92,7 @@ class Believed(unittest.TestCase):
         left_out = shutil.ignore_patterns("out", "proofs", "wrong-bodies", "must-fail", "pictures")
         for name in ("crates", "docs"):
             shutil.copytree(os.path.join(TOP, name), os.path.join(cls.folder, name), ignore=left_out)
+        shutil.copy(os.path.join(TOP, "crates.txt"), cls.folder)
         if run("believed.py", "--write", "--top", cls.folder)[0] != 0:
             raise AssertionError("believed.py --write failed")
         said = run("believed.py", "--top", cls.folder)[1]
@@ -140,6 +141,17 @@ class Believed(unittest.TestCase):
         page = read(os.path.join(self.folder, "docs", "DEFINITIONS.md"))
         self.change("docs/DEFINITIONS.md", re.search(r"\| type `Fault` .*\n", page).group(), "")
         self.assertEqual(self.check()[0], 1)
+
+    def test_a_crate_that_no_list_has(self):
+        self.change("crates.txt", "gf256:", "gf65536:\ngf256:")
+        status, said = self.check()
+        self.assertEqual(status, 1)
+        self.assertIn("gf65536", said)
+
+    def test_a_definition_that_is_gone(self):
+        self.change("crates/labelcore/specs/Lines.antt", "pub line_limit :", "pub line_bound :")
+        status, said = self.check()
+        self.assertEqual(status, 1)
 
     def test_a_list_without_its_marks(self):
         self.change("docs/DEFINITIONS.md", "<!-- code: end -->", "")
