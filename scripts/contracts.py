@@ -63,6 +63,7 @@ def contract_of(item, outer, of_traits):
 
 
 def functions_in(crate, file, text, public, of_traits, outer=None):
+    """The functions of a text; `public` has the names for callers, those of types of other crates among them."""
     for item in sources.items_of(text):
         if item.kind == "fn":
             names = [file, *([type_of_impl(outer.name)] if outer else []), item.name]
@@ -75,15 +76,23 @@ def functions_in(crate, file, text, public, of_traits, outer=None):
             yield from functions_in(crate, f"{file}::{item.name}", item.body, public, of_traits)
 
 
-def functions_of(top, crate, of_traits):
-    """All functions of a crate. A program or a crate of tests exports none."""
-    folder = os.path.join(top, "crates", crate, "src")
-    is_library = os.path.exists(os.path.join(folder, "lib.rt"))
-    public, found = declared.exported(top, crate) if is_library else set(), []
+def functions_of(top, crate, of_traits, public):
+    """All functions of a crate; `public` has the names for callers of each crate."""
+    folder, all_public, found = os.path.join(top, "crates", crate, "src"), set().union(*public.values()), []
     for path in sources.files_below(folder, ".rt"):
         file = os.path.relpath(path, folder)[:-3].replace(os.sep, "::")
-        found += functions_in(crate, file, sources.read(path), public, of_traits)
+        text = sources.read(path)
+        names = public[crate]
+        if names:
+            names = names | declared.from_other_crates(sources.items_of(text), all_public)
+        found += functions_in(crate, file, text, names, of_traits)
     return found
+
+
+def names_for_callers(top, crates):
+    """The names that lib.rt of each crate gives to callers. A program has none."""
+    paths = {crate: os.path.join(top, "crates", crate, "src", "lib.rt") for crate in crates}
+    return {crate: declared.exported(top, crate) if os.path.exists(path) else set() for crate, path in paths.items()}
 
 
 def cells_of(functions):
@@ -125,8 +134,8 @@ def main():
     for crate in given.crates:
         if crate not in known:
             parser.error(f"no crate {crate} in crates.txt, which has: {' '.join(known)}")
-    of_traits = contracts_of_traits(given.top)
-    functions = [one for crate in given.crates or known for one in functions_of(given.top, crate, of_traits)]
+    of_traits, public = contracts_of_traits(given.top), names_for_callers(given.top, known)
+    functions = [one for crate in given.crates or known for one in functions_of(given.top, crate, of_traits, public)]
     if not functions:
         sys.exit("no function was found")
     print_tables(functions, given.most)

@@ -7,10 +7,10 @@
   itself reads (Answers, Invariants and Proof below the folder of a function) use what they cite; of what they define,
   what is not `pub` has to be cited too. So do files whose name has Examples in it: their lemmas are there to be
   checked.
-- An imported name is used where it stands in its file, or in the `impl` that imports it, outside of comments and
-  other imports; a name of `ghost use` where it stands in a contract, a ghost item or an attribute; a trait of ours
-  also where one of its functions is called.
-- A function is used where its name stands in code outside of its own body, in its crate or, if it is `pub`, in any.
+- An imported name is used where its file, or the `impl` that imports it, has it outside of comments and other
+  imports; a name of `ghost use` where a contract, a ghost item or an attribute has it; a trait of ours also where one
+  of its functions is called.
+- A function is used where its name is found in code outside of its own body, in its crate or, if it is `pub`, in any.
   Tests, `main` and the functions of an `impl` of a trait are called by others.
 
 It reads text, and needs no tool of the kit. Where two things have one name it may miss one that is unused. The status
