@@ -4,6 +4,7 @@ Run by `python3 -m unittest discover -s scripts/tests`. No kit, no third-party t
 where a script calls one, a stand-in of a few lines is put on the path.
 """
 
+import importlib
 import os
 import re
 import shutil
@@ -15,6 +16,8 @@ import unittest
 
 TOP = os.path.dirname(os.path.dirname(os.path.dirname(os.path.abspath(__file__))))
 SCRIPTS = os.path.join(TOP, "scripts")
+sys.path.insert(0, SCRIPTS)
+sources = importlib.import_module("sources")
 # What the shell scripts call of every system.
 OF_THE_SYSTEM = "bash env dirname realpath mktemp rm sed awk cat grep head cut true".split()
 
@@ -79,6 +82,44 @@ class Words(unittest.TestCase):
     def test_no_such_program(self):
         for name in ("read_back.py", "same_modules.py"):
             self.assertEqual(run(name, "/no/such/program")[0], 2, name)
+
+
+CODE = """/// A brace.
+#[derive(Debug)]
+pub fn brace<'a>(text: &'a [u8], _other: &'a str) -> bool
+    requires some { 0 < length text.now }
+    ensures { result ≡ (x == 1) }
+{
+    // } { no brace
+    text[0] == b'{' || _other == "}" || text[0] == b'\\''
+}
+
+ghost use Rattle.std.specs.Prelude.{◌≡◌};
+
+pub(crate) trait Named {
+    ghost name: { Self → List ℕ };
+
+    fn name(&self) -> usize
+        ensures { result ≡ length (name self.now) };
+}
+"""
+
+
+class Sources(unittest.TestCase):
+    """Items are found by their brackets, whatever stands in comments, texts and characters."""
+
+    def test_items(self):
+        found = [(item.kind, item.name, item.is_public) for item in sources.items_of(CODE)]
+        self.assertEqual(found, [("fn", "brace", True), ("use", "Rattle", False), ("trait", "Named", False)])
+
+    def test_clauses_and_docs(self):
+        brace, _, named = sources.items_of(CODE)
+        self.assertEqual(brace.docs, "A brace.")
+        self.assertEqual([brace.clause_count(kind) for kind in ("requires", "ensures")], [1, 1])
+        self.assertEqual([item.kind for item in sources.items_of(named.body)], ["ghost", "fn"])
+
+    def test_lines(self):
+        self.assertEqual(len(sources.code_lines(CODE)), 12)
 
 
 class Believed(unittest.TestCase):
