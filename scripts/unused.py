@@ -5,8 +5,8 @@
   use cites it.
 - A lemma of proofs/ is used where an answer, an attribute of the code or a lemma in use cites it. Files that the check
   itself reads (Answers, Invariants and Proof below the folder of a function) use what they cite; of what they define,
-  what is not `pub` has to be cited too. So do files whose name has Examples in it: their lemmas are there to be
-  checked.
+  what is not `pub` has to be cited too. The lemmas of a file whose name has Examples in it are there to be checked,
+  and so are the statements without variables of a file that no other cites: worked values, as those of a standard.
 - An imported name is used where its file, or the `impl` that imports it, has it outside of comments and other
   imports; a name of `ghost use` where a contract, a ghost item or an attribute has it; a trait of ours also where one
   of its functions is called.
@@ -18,6 +18,7 @@ is 1 where something is found, a line for each; else 0, and the last line says h
 """
 
 import argparse
+import itertools
 import os
 import re
 import sys
@@ -34,6 +35,8 @@ HEAD = re.compile(rf"^((?:(?:abbrev|unfoldable|pub|record|data)\s+)*)({OPERATOR}
 CONSTRUCTOR = re.compile(rf"^\s+({NAME})\s*:")
 USE = re.compile(r"^\s*use\s+(.*?)\s*$")
 READ_BY_CHECK = ("Answers", "Invariants", "Proof")
+# What makes the type of a lemma a statement.
+RELATION = re.compile(r"[≡≢≤<↔]")
 NO_HEADS = {"use", "module", "mutual", "infixl", "infixr", "infix", "unfolding", "mod", "pub", "abbrev", "let", "in"}
 # Traits of std that code imports for their methods: whether these are called is not looked at.
 TRAITS_OF_STD = {"Read", "Write", "BufRead", "Model", "Error"}
@@ -52,6 +55,13 @@ class Definition:
 
     def text(self):
         return "\n".join(self.lines)
+
+    def is_worked(self):
+        """Whether it states something without variables: what it says of written values is computed."""
+        own = re.compile(rf"\s*(unfolding\b|{re.escape(self.key[3])}\b[^:]*=)")
+        stated = list(itertools.takewhile(lambda line: not own.match(line), self.lines))
+        text = "\n".join(stated).partition(":")[2]
+        return "→" not in text and bool(RELATION.search(text))
 
 
 @dataclass
@@ -76,10 +86,17 @@ class AnttFile:
         self.rest = []
         self.take(text.split("\n"))
 
-    def is_read_by_check(self):
-        return self.part == "proofs" and (
-            self.module.split(".")[-1] in READ_BY_CHECK and "." in self.module or "Examples" in self.module
-        )
+    def checked_for_itself(self, cited_files):
+        """The definitions that the check wants or that are there to be checked; `cited_files` are cited by others."""
+        if self.part == "specs":
+            return []
+        if "." in self.module and self.module.split(".")[-1] in READ_BY_CHECK:
+            return [one for one in self.definitions if one.is_public]
+        if "Examples" in self.module:
+            return self.definitions
+        if (self.crate, self.part, self.module) in cited_files:
+            return []
+        return [one for one in self.definitions if one.is_worked()]
 
     def take(self, lines):
         """Cuts the lines into imports and definitions. `levels` are the columns at which definitions may begin."""
@@ -271,10 +288,11 @@ def unused_definitions(tree):
     """The definitions and lemmas that nothing in use cites, each with its file."""
     files = {(file.crate, file.part, file.module): file for file in tree.antt}
     waiting = [key for file in tree.rust for key in cited_by_code(file)]
+    cited_files = {key[:3] for key in waiting}
+    cited_files |= {one.target[:3] for file in tree.antt for one in file.imports if one.target}
     for file in tree.antt:
         waiting += cited("\n".join(file.rest), file.imports, file.of_name)
-        if file.is_read_by_check():
-            waiting += [one.key for one in file.definitions if one.is_public or "Examples" in file.module]
+        waiting += [one.key for one in file.checked_for_itself(cited_files)]
     reached = set()
     while waiting:
         *place, name = waiting.pop()

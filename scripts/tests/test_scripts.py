@@ -419,6 +419,17 @@ use Rattle.small.proofs.double.Goals as goal
 pub returns : goal.returns
 returns g c = twice-sum c.args.number
 """
+WORKED = """-- Worked values.
+use Rattle.std.proofs.Common.{◌≡◌, ℕ, refl}
+use Rattle.small.specs.Words.{twice}
+
+three : ℕ
+three = 3
+
+six : twice three ≡ 6
+unfolding twice
+six = refl
+"""
 NEVER_USED = "\n-- never used\npub never : ℕ → ℕ\nnever n = n\n"
 
 
@@ -472,6 +483,18 @@ class Unused(SmallTree):
         self.plant("proofs/Lemmas.antt", LEMMAS + NEVER_USED)
         self.plant("proofs/double/Answers.antt", ANSWERS.replace("{twice-sum}", "{twice-sum, never}"))
         self.assertEqual(len(self.found()), 2)
+
+    def test_worked_values(self):
+        self.plant("proofs/Tables.antt", WORKED)
+        self.assertEqual(self.found(), [])
+
+    def test_lemma_of_a_file_that_nothing_cites(self):
+        self.plant("proofs/Tables.antt", WORKED + NEVER_USED)
+        self.assert_found("nothing uses the lemma never")
+
+    def test_worked_value_of_a_file_that_is_cited(self):
+        self.plant("proofs/Lemmas.antt", LEMMAS + "\npub twice-nil : twice 0 ≡ 0\ntwice-nil = refl\n")
+        self.assert_found("nothing uses the lemma twice-nil")
 
     def test_definition(self):
         self.plant("specs/Words.antt", SPEC + NEVER_USED)
