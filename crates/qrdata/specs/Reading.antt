@@ -70,25 +70,23 @@ segments_at version (suc n) bits = if is_end bits then Some [] else do
   others ← segments_at version n first.1
   Some (first.0 ++ others)
 
--- Where codeword i of block b stands among codewords that are dealt in turn to blocks of these lengths: after the
--- codewords of the rounds before it, and in its own round after those of the blocks before it. A full block is passed
--- over.
+-- Where codeword i of block b is among the interleaved codewords of blocks of these lengths: after the codewords of the
+-- rounds before it, and in its own round after those of the blocks before it. A block that is at its end has none.
 abbrev pub interleaving_place : List ℕ → ℕ → ℕ → ℕ
 interleaving_place lengths b i = sum_by (min i) lengths + count_by (nat_lt i) (take b lengths)
 
 -- the blocks of these lengths whose codewords are interleaved
 unfoldable pub deinterleaving : List ℕ → List ℕ → List (List ℕ)
 deinterleaving lengths codewords =
-    map (λ b. map (λ i. slice_index codewords (interleaving_place lengths b i)) (range_with_len 0
-    (slice_index lengths b)))
-    (range_with_len 0 (length lengths))
+    map (λ b. map (λ i. slice_index codewords (interleaving_place lengths b i))
+    (range_with_len 0 (slice_index lengths b))) (range_with_len 0 (length lengths))
 
 -- whether the polynomial of a block and its error correction codewords is 0 at alpha^0 to alpha^(k-1)
 abbrev pub has_roots : ℕ → List ℕ × List ℕ → Bool
 has_roots k block = list_all (λ i. evaluate (block.0 ++ block.1) (field_power alpha i) == 0) (range_with_len 0 k)
 
--- The data that the codewords of a symbol hold: dealt to blocks, each block a codeword of its error correction
--- codewords, and the data codewords joined and read as segments.
+-- The data that the codewords of a symbol hold. They are taken back to their blocks, each block has to be a multiple of
+-- its generator, and the data codewords are joined and read as segments.
 unfoldable pub data_in : ℕ → Level → List ℕ → Option (List ℕ)
 data_in version level codewords =
     let size = data_codewords version level in
