@@ -86,7 +86,7 @@ def in_whole_bytes(picture: Picture) -> Picture:
 
 
 def try_cut_streams(test: TestCase, tool: str, pictures_of_job: Callable[[bytes], list[Picture]]) -> None:
-    """Cuts a stream at each of 200 places: the job holds the whole pictures, and a message names the one that is cut."""
+    """Cuts a stream at each of 200 places: the job holds the whole pictures; a message names the one that is cut."""
     pictures = [Picture(21, 7, [bytes((number, 0x55, 0xA8))] * 7) for number in range(5)]
     for write in (plain, raw):
         ends = [0]
