@@ -9,8 +9,8 @@
 #   PREFIX/bin/labels                      the program
 #   PREFIX/bin/label-*                     links to the tools
 #   PREFIX/lib/labels/                     the tools and the Python modules that they share
-#   PREFIX/share/man/man1/label*.1         the man pages
-#   PREFIX/share/bash-completion/completions/label*   the completions
+#   PREFIX/share/man/man1/label*.1         the man pages, one for each tool
+#   PREFIX/share/bash-completion/completions/labels   the completion
 #
 # A file of an earlier version is replaced. Where something is missing, a message says what to do, nothing is installed
 # and the status is 1.
@@ -59,6 +59,10 @@ for tool in "$top"/tools/label-*; do
     ln -s "../lib/labels/$name" "$prefix/bin/$name"
 done
 install -m 644 "$top"/man/*.1 "$prefix/share/man/man1"
+for tool in "$top"/tools/label-*; do
+    name=${tool##*/}
+    [ -e "$top/man/$name.1" ] || ln -sf label-tools.1 "$prefix/share/man/man1/$name.1"
+done
 for completion in "$top"/completions/*.bash; do
     name=${completion##*/}
     install -m 644 "$completion" "$prefix/share/bash-completion/completions/${name%.bash}"

@@ -329,29 +329,52 @@ def enlarge(picture: Picture, times: int) -> Picture:
 
 # Text
 
+EURO_SIGN = "\u20ac"
+EURO = Picture(8, 15, [bytes((row,)) for row in bytes.fromhex("000000 1e3360fc60f860331e 000000")])
+
 
 def text_picture(text: str, times: int = 1) -> Picture:
     """A text, of one line or more, in the letters of pbmtext (Netpbm), `times` their size.
 
+    The environment's variable LABEL_FONT may name a BDF font. Without one there are Latin-1 and the euro sign.
     Raises PictureError where pbmtext is not installed, or has no letter for a character.
     """
     if not text.strip():
         raise PictureError("the text is empty")
+    font = os.environ.get("LABEL_FONT")
+    if font:
+        drawn = _by_pbmtext(text, f"-font={font}")
+    elif EURO_SIGN in text:
+        drawn = stack([_line_with_euros(line) for line in text.split("\n")], centred=False)
+    else:
+        drawn = _by_pbmtext(text)
+    return enlarge(drawn, times)
+
+
+def _line_with_euros(line: str) -> Picture:
+    """A line whose euro signs are ours: the letters of pbmtext have none."""
+    parts = [blank(1, EURO.height)]
+    for number, part in enumerate(line.split(EURO_SIGN)):
+        if number:
+            parts.append(pad(EURO, left=1, right=1))
+        if part:
+            parts.append(_by_pbmtext(part))
+    return beside(parts, centred=False)
+
+
+def _by_pbmtext(text: str, *words: str) -> Picture:
+    """A text as pbmtext draws it."""
     try:
         data = text.encode("utf-8")
     except UnicodeEncodeError as error:
         raise PictureError(f"the text is not UTF-8: byte 0x{ord(text[error.start]) & 0xFF:02x}") from error
+    command = ["pbmtext", "-nomargins", "-wchar", *words]
     try:
-        ran = subprocess.run(
-            ["pbmtext", "-nomargins", "-wchar"],
-            input=data,
-            capture_output=True,
-            env={**os.environ, "LC_ALL": "C.UTF-8"},
-        )
+        ran = subprocess.run(command, input=data, capture_output=True, env={**os.environ, "LC_ALL": "C.UTF-8"})
     except FileNotFoundError as error:
         raise PictureError("pbmtext, which draws text, is not installed: apt-get install netpbm") from error
     _refuse_missing_letters(ran)
-    return enlarge(next(read_pictures(BytesIO(ran.stdout), "pbmtext")), times)
+    return next(read_pictures(BytesIO(ran.stdout), "pbmtext"))
 
 
 def _refuse_missing_letters(ran: "subprocess.CompletedProcess[bytes]") -> None:
@@ -359,8 +382,8 @@ def _refuse_missing_letters(ran: "subprocess.CompletedProcess[bytes]") -> None:
     said = ran.stderr.decode("utf-8", "replace").strip()
     missing = [chr(int(code, 16)) for code in re.findall(r"\+([0-9A-Fa-f]{4,6})\b", said)]
     if missing:
-        listed = ", ".join(f"{ascii(letter)[1:-1]} (U+{ord(letter):04X})" for letter in missing)
-        raise PictureError(f"pbmtext has no letter for {listed}: use letters of Latin-1")
+        listed = ", ".join(f"{letter!r} (U+{ord(letter):04X})" for letter in missing)
+        raise PictureError(f"pbmtext has no letter for {listed}: use others, or name a BDF font in LABEL_FONT")
     if ran.returncode != 0 or said:
         raise PictureError(f"pbmtext cannot draw the text: {said or ran.returncode}")
 

@@ -48,7 +48,7 @@ class Captions(unittest.TestCase):
     def test_texts_that_cannot_be_drawn(self) -> None:
         for text, said in (
             ("", "the text is empty"),
-            ("Łódź", "pbmtext has no letter for \\u0141 (U+0141), \\u017a (U+017A): use letters of Latin-1"),
+            ("Łód", "pbmtext has no letter for 'Ł' (U+0141): use others, or name a BDF font in LABEL_FONT"),
             (b"K\xe4se", "the text is not UTF-8: byte 0xe4"),
         ):
             for locale in support.LOCALES:

@@ -50,6 +50,10 @@ class Installing(unittest.TestCase):
                 copied = self.folder / pattern.format(path.name.removesuffix(".bash"))
                 self.assertEqual(copied.read_bytes(), path.read_bytes())
 
+        for tool in support.TOOLS.glob("label-*"):
+            page = self.folder / f"share/man/man1/{tool.name}.1"
+            self.assertIn(tool.name, page.read_text(encoding="utf-8").replace("\\-", "-"))
+
     def test_the_prefix_where_none_is_named(self) -> None:
         done = self.install(program=support.labels_program())
         self.assertEqual((done.returncode, done.stderr), (0, ""))

@@ -225,14 +225,37 @@ class Text(unittest.TestCase):
         return read(drawn.stdout)[0]
 
     def test_a_character_without_a_letter_is_refused(self) -> None:
-        for text, message in (
-            ("3,10 ł", r"pbmtext has no letter for \u0142 (U+0142): use letters of Latin-1"),
-            ("a\x01b", r"pbmtext has no letter for \x01 (U+0001): use letters of Latin-1"),
-            ("日本", r"pbmtext has no letter for \u65e5 (U+65E5), \u672c (U+672C): use letters of Latin-1"),
+        for text, listed in (
+            ("3,10 zł", "'ł' (U+0142)"),
+            ("a\x01b", r"'\x01' (U+0001)"),
+            ("日本", "'日' (U+65E5), '本' (U+672C)"),
+            ("ł 3 €", "'ł' (U+0142)"),
         ):
             with self.assertRaises(PictureError) as caught:
                 label_pictures.text_picture(text)
-            self.assertEqual(str(caught.exception), message)
+            said = f"pbmtext has no letter for {listed}: use others, or name a BDF font in LABEL_FONT"
+            self.assertEqual(str(caught.exception), said)
+
+    def test_the_euro(self) -> None:
+        sign = ["   ####  ", "  ##  ## ", " ##      ", "######   ", " ##      ", "#####    ", " ##      "]
+        sign = ["         "] * 3 + [*sign, *reversed(sign[:2])] + ["         "] * 3
+        euro = label_pictures.text_picture("€")
+        rows = [format(row[0] << 8 | row[1], "016b")[2:11].translate({48: " ", 49: "#"}) for row in euro.rows]
+        self.assertEqual((euro.width, rows), (11, sign))
+        price, twice = label_pictures.text_picture("3,10 €"), label_pictures.text_picture("3,10 €\n\nx", 2)
+        amount = label_pictures.text_picture("3,10 ")
+        self.assertEqual((price.width, price.height), (1 + amount.width + 10, amount.height))
+        self.assertEqual((twice.width, twice.height), (2 * price.width, 3 * 2 * price.height))
+
+    def test_another_font(self) -> None:
+        font = support.TESTS / "one-letter.bdf"
+        with mock.patch.dict("os.environ", {"LABEL_FONT": str(font)}):
+            self.assertEqual(label_pictures.text_picture("ł").rows, [b"\x80", b"\xc0", b"\x80", b"\xe0"])
+            with self.assertRaisesRegex(PictureError, "^pbmtext has no letter for 'a' "):
+                label_pictures.text_picture("a")
+        with mock.patch.dict("os.environ", {"LABEL_FONT": "nothing.bdf"}):
+            with self.assertRaisesRegex(PictureError, "^pbmtext cannot draw the text: .*nothing.bdf"):
+                label_pictures.text_picture("a")
 
     def test_no_text(self) -> None:
         for text in ("", " ", "\n"):
