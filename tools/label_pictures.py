@@ -14,6 +14,7 @@ from io import BytesIO
 from typing import BinaryIO, Callable, Iterable, Iterator, NoReturn, Optional, Sequence
 
 STANDARD_INPUT = "standard input"
+FILE_HELP = "PBM pictures, plain or raw, any number; standard input where it is missing or -"
 CHUNK = 1 << 18
 LONGEST_SIDE = 1 << 20
 MOST_PIXELS = 1 << 30
@@ -382,6 +383,13 @@ def pictures_of(path: Optional[str]) -> Iterator[Picture]:
         return
     with open(path, "rb") as stream:
         yield from read_pictures(stream, path)
+
+
+def numbered_pictures_of(path: Optional[str]) -> Iterator[tuple[str, Picture]]:
+    """The same, each picture with the words that name it in a message: "FILE: label 3"."""
+    name = STANDARD_INPUT if path is None or path == "-" else path
+    for number, picture in enumerate(pictures_of(path), 1):
+        yield f"{name}: label {number}", picture
 
 
 def standard_output() -> BinaryIO:
