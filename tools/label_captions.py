@@ -11,7 +11,7 @@ from label_pictures import Picture, PictureError, bytes_a_row, text_picture
 
 Caption = Tuple[str, ...]
 
-MOST_LINES = 2
+MOST_LINES = 4
 DIGITS_WITHOUT_CHECK = {b"ean13": 12, b"ean8": 7, b"upca": 11}
 ESCAPE = re.compile(rb"\\(?:x([0-9A-Fa-f]{2})|([\\n]))")
 CONTROLS = ("Cc", "Zl", "Zp")
@@ -38,14 +38,14 @@ class Held:
 
 
 def parse_caption(line: bytes, where: str) -> Caption:
-    """The one or two lines of a caption of UTF-8, cut by a tab; none where it is empty."""
+    """The lines of a caption of UTF-8, which tabs cut; none where it is empty."""
     try:
         text = line.rstrip(b"\r").decode("utf-8-sig")
     except UnicodeDecodeError as error:
         raise PictureError(f"{where}: byte {error.start + 1} is not UTF-8") from error
     texts = [unicodedata.normalize("NFC", part).strip() for part in text.split("\t")]
     if len(texts) > MOST_LINES:
-        raise PictureError(f"{where}: a caption has at most one tab, before its second line")
+        raise PictureError(f"{where}: {len(texts)} lines, cut by tabs, and a caption has at most {MOST_LINES}")
     if any(unicodedata.category(letter) in CONTROLS for part in texts for letter in part):
         raise PictureError(f"{where}: there is a control character in the caption")
     while texts and not texts[-1]:

@@ -17,7 +17,7 @@ LEAST_FREE_PIXELS = 8
 
 # In points. A picture in a PDF is this much smaller on each side than its pixels: some programs paint every dot that a
 # picture touches, and stretch it where a rounded corner touches one dot more.
-INSET = Fraction(1, 200)
+INSET = Fraction(1, 1000)
 
 
 @dataclass(frozen=True)
