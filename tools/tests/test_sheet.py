@@ -3,13 +3,19 @@
 The codes are those that zbarimg reads, the captions those that Netpbm draws, and the places follow from millimetres.
 """
 
+import contextlib
 import functools
+import io
 import os
 import subprocess
+import sys
 import tempfile
+import types
 import unittest
+from importlib.machinery import SourceFileLoader
 from pathlib import Path
 from typing import List, Sequence
+from unittest import mock
 
 import support
 from label_pictures import Picture, read_pictures, write_raw
@@ -50,7 +56,7 @@ def pixel(millimetres: float, dpi: int = DPI) -> float:
 
 def bits(picture: Picture) -> List[str]:
     """The rows as digits, 1 for dark."""
-    return ["".join(f"{byte:08b}" for byte in row)[: picture.width] for row in picture.rows]
+    return [format(int.from_bytes(row, "big"), f"0{8 * len(row)}b")[: picture.width] for row in picture.rows]
 
 
 def cut(rows: Sequence[str], left: float, top: float, width: float, height: float) -> List[str]:
@@ -67,6 +73,15 @@ def cropped(rows: Sequence[str]) -> List[str]:
     left = min(row.index("1") for row in rows if "1" in row)
     right = max(row.rfind("1") for row in rows)
     return [row[left : right + 1] for row in rows]
+
+
+def program() -> int:
+    """Runs label-sheet in this process, with the words of sys.argv."""
+    loader = SourceFileLoader("label_sheet", str(support.TOOLS / "label-sheet"))
+    module = types.ModuleType(loader.name)
+    sys.modules[loader.name] = module
+    loader.exec_module(module)
+    return module.main()
 
 
 @functools.lru_cache(maxsize=None)
@@ -497,10 +512,20 @@ class Words(SheetTest):
         self.assert_usage(*SMALL, "--", "-height", "20")
 
     def assert_usage(self, *words: str) -> None:
-        with self.subTest(words=words):
-            first, *_, last = self.refused(*words, lines="qr A\n", status=2)
+        """These words are refused with the usage and status 2; runs the program here, since there are many."""
+        said, written = io.StringIO(), io.StringIO()
+        with self.subTest(words=words), mock.patch.object(sys, "argv", ["label-sheet", *words]):
+            with contextlib.redirect_stderr(said), contextlib.redirect_stdout(written):
+                with self.assertRaises(SystemExit) as ended:
+                    program()
+            first, *_, last = said.getvalue().splitlines()
+            self.assertEqual((ended.exception.code, written.getvalue()), (2, ""))
             self.assertTrue(first.startswith("usage: label-sheet --dpi N"), first)
             self.assertTrue(last.startswith("label-sheet: error: "), last)
+
+    def test_bad_words_end_with_status_2(self) -> None:
+        for words in (("x",), (*SMALL[:-1], "0x5"), (*SMALL, "--columns", "0")):
+            self.assertEqual(self.refused(*words, lines="qr A\n", status=2)[0][:26], "usage: label-sheet --dpi N")
 
     def test_the_grid_is_larger_than_the_page(self) -> None:
         *_, last = self.refused(*SMALL, "--margin", "0.1x0", lines="qr A\n", status=2)
