@@ -7,6 +7,7 @@
 # count is valgrind's (callgrind), the same on a busy machine as on an idle one. Of each tool the start of the process is taken off:
 # COUNT (20) equal labels are drawn in one run, and a run over none is subtracted, for zint and GNU barcode one over a single label, for
 # qrencode, which draws one label a run, one that prints its version. So a row says what one label more costs. Every tool writes to /dev/null.
+# shellcheck disable=SC2016  # a backquote in single quotes is Markdown's
 set -euo pipefail
 shopt -s inherit_errexit
 
