@@ -25,7 +25,7 @@ class Pages(unittest.TestCase):
     def test_mandoc_and_groff_find_nothing(self) -> None:
         support.needs("mandoc", "groff")
         for page in PAGES:
-            for words in (["mandoc", "-Tlint", "-W", "warning"], ["groff", "-ww", "-man", "-Tascii", "-z"]):
+            for words in (["mandoc", "-Tlint", "-W", "warning"], ["groff", "-ww", "-man", "-z"]):
                 done = subprocess.run([*words, str(page)], capture_output=True, text=True)
                 self.assertEqual(done.stdout + done.stderr, "", page)
 
