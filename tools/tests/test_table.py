@@ -312,7 +312,7 @@ class Captions(TableTest):
 
 class Numbers(TableTest):
     LENGTHS = "EAN-8 has 8, UPC-A has 12, EAN-13 has 13"
-    LOST = "for zeros that the spreadsheet has dropped give --fill-zeros"
+    LOST = "if the spreadsheet has dropped zeros, give --fill-zeros"
     NONE = "if the column has no check digits, give --without-check-digit"
 
     def test_auto_goes_by_length(self) -> None:
@@ -335,13 +335,13 @@ class Numbers(TableTest):
         self.check_cells([], wanted)
 
     def test_numbers_of_another_symbology(self) -> None:
-        ean8 = "for a right EAN-8 give --symbology auto"
+        ean8 = "if it is EAN-8, give --symbology auto"
         wanted = {
-            SOAP: f"refused: {SOAP} has 12 digits, EAN-13 has 13; for a right UPC-A give --symbology auto; {self.LOST}",
+            SOAP: f"refused: {SOAP} has 12 digits, EAN-13 has 13; if it is UPC-A, give --symbology auto; {self.LOST}",
             SMALL: f"refused: {SMALL} has 8 digits, EAN-13 has 13; {ean8}",
         }
         self.check_cells(["--symbology", "ean13"], wanted)
-        ean13 = f"refused: {PENCIL} has 13 digits, UPC-A has 12; for a right EAN-13 give --symbology auto"
+        ean13 = f"refused: {PENCIL} has 13 digits, UPC-A has 12; if it is EAN-13, give --symbology auto"
         self.check_cells(["--symbology", "upca"], {PENCIL: ean13})
 
     def test_other_lengths(self) -> None:
@@ -377,7 +377,7 @@ class Numbers(TableTest):
         }
         self.check_cells(["--fill-zeros"], wanted)
         for symbology, lengths in (("ean13", "EAN-13 has 13"), ("upca", "UPC-A has 12")):
-            problem = f"{SMALL} has 8 digits, {lengths}; for a right EAN-8 give --symbology auto"
+            problem = f"{SMALL} has 8 digits, {lengths}; if it is EAN-8, give --symbology auto"
             self.check_cells(["--fill-zeros", "--symbology", symbology], {SMALL: f"refused: {problem}"})
 
     def test_without_check_digit(self) -> None:
