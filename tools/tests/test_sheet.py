@@ -273,12 +273,12 @@ class Refusals(SheetTest):
         self.assertEqual(last, "label-sheet: no page is written")
 
     def test_a_caption_that_cannot_be_drawn(self) -> None:
-        captions = self.file("captions.txt", "3,10 EUR\n3,10 €\n")
+        captions = self.file("captions.txt", "3,10 €\n3,10 元\n")
         lines = "".join(f"ean13 {digits}\n" for digits in NUMBERS[:2])
         for locale in LOCALES:
             done = self.sheet(*SMALL, "--captions", captions, *DRAW, lines=lines, status=1, locale=locale)
             self.assertEqual(done.stdout, b"")
-            self.assertRegex(messages(done)[0], r"^label-sheet: line 2: the caption: .*U\+20AC")
+            self.assertRegex(messages(done)[0], r"^label-sheet: line 2: the caption: .*U\+5143")
 
     def test_captions_that_are_no_text(self) -> None:
         for text, fault in (
@@ -327,7 +327,7 @@ class Refusals(SheetTest):
 
 class Captions(SheetTest):
     def test_two_lines_and_umlauts_in_each_locale(self) -> None:
-        texts = (("Käse, jung", "3,10 EUR"), ("Größe Ü", "ñ ½ ×"), ("-n einzeilig",), ())
+        texts = (("Käse, jung", "3,10 EUR"), ("Größe Ü", "ñ ½ ×"), ("-n one line",), ())
         captions = self.file("captions.txt", "\ufeff" + "\r\n".join("\t".join(text) for text in texts) + "\r\n")
         lines = "".join(f"ean13 {digits}\n" for digits in NUMBERS[:4])
         for locale in LOCALES:
@@ -338,6 +338,17 @@ class Captions(SheetTest):
                 for line in range(2):
                     wanted = letters(text[line]) if line < len(text) else []
                     self.assertEqual(self.caption(cell, line), wanted)
+
+    def test_the_euro_sign(self) -> None:
+        captions = self.file("captions.txt", "3,10 €\n3,10\n€ 3,10\n")
+        lines = "".join(f"ean13 {digits}\n" for digits in NUMBERS[:3])
+        [page] = self.pages(*A4, "--captions", captions, *DRAW, lines=lines)
+        behind, without, before = (self.caption(self.cell(page, place)) for place in range(3))
+        digits = letters("3,10")
+        width = len(digits[0])
+        self.assertEqual(without, digits)
+        self.assertEqual([row[:width] for row in behind if "1" in row[:width]], digits)
+        self.assertEqual([row[-width:] for row in before if "1" in row[-width:]], digits)
 
     def test_a_letter_and_its_accent_in_two_characters(self) -> None:
         captions = self.file("captions.txt", "Ka\u0308se\n")
