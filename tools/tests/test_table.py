@@ -6,6 +6,7 @@ The check digits are those of numbers in print: 4006381333931 (a pencil), 978030
 
 import contextlib
 import io
+import re
 import runpy
 import subprocess
 import tempfile
@@ -406,7 +407,7 @@ class Numbers(TableTest):
         self.check_cells(["--without-check-digit", "--symbology", "ean13"], {SOAP: f"ean13 {SOAP}"})
 
     def test_rounded_by_the_spreadsheet(self) -> None:
-        rest = "the spreadsheet has rounded the number: format the column as text and enter the number again"
+        rest = "the spreadsheet has rounded the number; format the column as text, enter it again"
         cells = ("4,00638E+12", "4.00638E+12", "4E+12", "4,006381333931e12")
         self.check_cells([], {cell: f"refused: {cell}: {rest}" for cell in cells})
         for symbology in ("code128", "qr"):
@@ -609,6 +610,22 @@ class WithLabels(TableTest):
             path.write_bytes(b"P1\n" + picture)
             codes.append(support.read_codes(path))
         self.assertEqual(codes, [[f"EAN-13:{PENCIL}"], [f"EAN-8:{SMALL}"], ["EAN-13:0036000291452"]])
+
+
+class Manual(unittest.TestCase):
+    PAGE = support.TOP / "man/label-table.1"
+
+    def test_each_option_is_in_the_manual(self) -> None:
+        text = support.run("label-table", "--help").stdout.decode()
+        options = set(re.findall("--[a-z-]+", text))
+        self.assertGreater(len(options), 10)
+        page = self.PAGE.read_text("utf-8").replace("\\-", "-")
+        self.assertEqual([option for option in sorted(options) if option not in page], [])
+
+    def test_mandoc_finds_nothing(self) -> None:
+        support.needs("mandoc")
+        done = subprocess.run(["mandoc", "-Tlint", "-W", "warning", str(self.PAGE)], capture_output=True)
+        self.assertEqual((done.returncode, done.stdout + done.stderr), (0, b""))
 
 
 class LongTables(TableTest):
