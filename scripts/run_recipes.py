@@ -8,7 +8,8 @@ In a page a block ```sh holds commands, and the block ```text right after it, if
 standard output and standard error together; where there is none, they print nothing. A block has to end with status 0.
 The blocks of a page run in their order, each by its own `sh`, at the top of a new copy of the repository's files, with
 the program, as `labels`, and the programs of tools on the path, and with a home of their own. In a man page an example
-with a prompt `$ ` may end with any status. One without a prompt has to end with status 0 and may print anything; it
+with prompts `$ ` is a session: each command may end with any status, and what it prints is below it; `$ cat FILE` of a
+file that is not there makes the file. An example without a prompt has to end with status 0 and may print anything; it
 runs in labels.1 alone, since those of the other man pages name files and printers of the reader.
 
 A block ```sh kit calls the kit, which proves for minutes, and may print anything. It runs with --kit alone, in a fresh
@@ -37,12 +38,13 @@ PROGRAM = "crates/labels/out/labels"
 PAGES = ("README.md", "docs/INPUT.md", "docs/PRINTING.md", "docs/RECIPES.md")
 FOLDERS = ("man", "completions", "tools", "docs", "scripts")
 THIRD_PARTY = (
-    *("man", "mandoc", "groff", "bash", "awk", "basenc", "csplit", "iconv", "pv", "parallel"),
-    *("pamenlarge", "pamfile", "pbmtext", "pngtopnm", "pnmpad", "pnmtopng"),
-    *("zbarimg", "convert", "gs", "pdfinfo", "pdftoppm"),
+    *("man", "mandoc", "groff", "bash", "awk", "csplit", "pv", "parallel"),
+    *("pamfile", "pbmtext", "pngtopnm", "pnmpad", "pnmtopng", "pnmtops"),
+    *("zbarimg", "pdfinfo", "pdftoppm"),
 )
 SECONDS = 3600
 SKIPPED = 77
+PROMPT, CONTINUED = "$ ", "> "
 
 # the man page of each tool; the tools that have none of their own share one
 MAN_PAGES = {"labels": "labels.1", "label-sheet": "label-sheet.1", "label-table": "label-table.1"}
@@ -52,6 +54,7 @@ BLOCK = re.compile(r"^```(sh|sh kit)\n(.*?)^```\n(?:\n*^```text\n(.*?)^```$)?", 
 ANY_BLOCK = re.compile(r"^```.*?^```$", re.MULTILINE | re.DOTALL)
 EXAMPLE = re.compile(r"(?:^ {14}.*\n)+", re.MULTILINE)
 LINK = re.compile(r"\]\(([^()\s#]*)(?:#([^()\s]*))?\)")
+SHOWN_FILE = re.compile(r"cat ([\w.]+)\n")
 HEADING = re.compile(r"^#+ (.*)$", re.MULTILINE)
 
 # zbar's warnings of its reader of another symbology, which are printed in some runs and not in others
@@ -84,12 +87,15 @@ def examples_of(page: Path) -> List[Block]:
     blocks = []
     for example in EXAMPLE.findall(section.group(1) if section else ""):
         lines = [line[14:] for line in example.splitlines()]
-        commands = [line[2:] for line in lines if line[:2] in ("$ ", "> ")]
-        printed = [line for line in lines if line[:2] not in ("$ ", "> ")]
-        if commands:
-            blocks.append(Block("\n".join(commands) + "\n", "".join(f"{line}\n" for line in printed), True))
-        else:
+        if not lines[0].startswith(PROMPT):
             blocks.append(Block("\n".join(lines) + "\n", None, False))
+        for line in lines if lines[0].startswith(PROMPT) else []:
+            if line.startswith(PROMPT):
+                blocks.append(Block(line.removeprefix(PROMPT) + "\n", "", True))
+            elif line.startswith(CONTINUED):
+                blocks[-1] = blocks[-1]._replace(commands=f"{blocks[-1].commands}{line.removeprefix(CONTINUED)}\n")
+            else:
+                blocks[-1] = blocks[-1]._replace(printed=f"{blocks[-1].printed}{line}\n")
     return blocks
 
 
@@ -155,6 +161,9 @@ class Run:
 
     def try_block(self, name: str, block: Block, work: Path, environment: Dict[str, str]) -> None:
         """Runs one block, and compares what it prints."""
+        shown = SHOWN_FILE.fullmatch(block.commands) if block.may_fail else None
+        if shown and not (work / shown[1]).exists():
+            (work / shown[1]).write_text(block.printed or "", encoding="utf-8")
         before = time.monotonic()
         ran = subprocess.run(
             ["sh", "-c", block.commands],

@@ -5,7 +5,8 @@ import shutil
 import unicodedata
 import zlib
 from dataclasses import dataclass
-from typing import Dict, List, Sequence, Tuple
+from itertools import islice
+from typing import Dict, Sequence, Tuple
 
 from label_pictures import EURO_SIGN, Picture, PictureError, bytes_a_row, text_picture
 
@@ -34,7 +35,8 @@ class Held:
     def picture(self) -> Picture:
         """The picture again."""
         pixels, size = zlib.decompress(self.packed), bytes_a_row(self.width)
-        return Picture(self.width, self.height, [pixels[at : at + size] for at in range(0, len(pixels), size)])
+        bounds = ((row * size, row * size + size) for row in range(self.height))
+        return Picture(self.width, self.height, [pixels[start:end] for start, end in bounds])
 
 
 def parse_caption(line: bytes, where: str) -> Caption:
@@ -110,8 +112,9 @@ class Letters:
             [text for text in wanted if EURO_SIGN not in text],
             [text for text in wanted if EURO_SIGN in text],
         ):
-            for at in range(0, len(some), TEXTS_AT_ONCE):
-                self.draw_together(some[at : at + TEXTS_AT_ONCE])
+            for first in range(0, len(some), TEXTS_AT_ONCE):
+                last = first + TEXTS_AT_ONCE
+                self.draw_together(some[first:last])
 
     def draw_together(self, texts: Sequence[str]) -> None:
         """Draws texts below one another; where that fails draws them one by one, and keeps why one cannot be drawn."""
@@ -129,6 +132,7 @@ class Letters:
         self.height, rest = divmod(picture.height, len(texts))
         if rest:
             raise PictureError("pbmtext drew lines that have no common height")
-        for number, text in enumerate(texts):
-            rows: List[bytes] = picture.rows[number * self.height : (number + 1) * self.height]
-            self.drawn[text] = Held.of(trim(Picture(picture.width, self.height, rows)))
+        rows = iter(picture.rows)
+        for text in texts:
+            own = list(islice(rows, self.height))
+            self.drawn[text] = Held.of(trim(Picture(picture.width, self.height, own)))

@@ -23,6 +23,7 @@ from support import LOCALES, labels_program, messages, needs, read_codes, run
 
 DPI = 300
 BAR_ROWS = 280
+SYMBOL_ROWS = 21 * 4
 FREE = 12
 LETTER_TIMES = 2
 LETTER_ROWS = 30
@@ -61,7 +62,8 @@ def bits(picture: Picture) -> List[str]:
 
 def cut(rows: Sequence[str], left: float, top: float, width: float, height: float) -> List[str]:
     """A rectangle of rows of digits."""
-    return [row[round(left) : round(left + width)] for row in rows[round(top) : round(top + height)]]
+    first, last, above, below = round(left), round(left + width), round(top), round(top + height)
+    return [row[first:last] for row in rows[above:below]]
 
 
 def cropped(rows: Sequence[str]) -> List[str]:
@@ -69,10 +71,10 @@ def cropped(rows: Sequence[str]) -> List[str]:
     dark = [place for place, row in enumerate(rows) if "1" in row]
     if not dark:
         return []
-    rows = rows[dark[0] : dark[-1] + 1]
+    first, last = dark[0], dark[-1] + 1
     left = min(row.index("1") for row in rows if "1" in row)
-    right = max(row.rfind("1") for row in rows)
-    return [row[left : right + 1] for row in rows]
+    right = max(row.rfind("1") for row in rows) + 1
+    return [row[left:right] for row in rows[first:last]]
 
 
 def program() -> int:
@@ -151,7 +153,7 @@ class SheetTest(unittest.TestCase):
         """The ink of a line of the caption in a cell, whose first dark row is the first of the bars."""
         first = next(place for place, row in enumerate(rows) if "1" in row)
         top = first + BAR_ROWS + FREE + line * LETTER_ROWS
-        return cropped(rows[top : top + LETTER_ROWS])
+        return cropped(cut(rows, 0, top, len(rows[0]), LETTER_ROWS))
 
 
 class Pages(SheetTest):
@@ -211,8 +213,8 @@ class Pages(SheetTest):
         finder = ("1111111", "1000001", "1011101", "1011101", "1011101", "1000001", "1111111")
         wanted = ["".join(bit * 2 for bit in row) for row in finder for _ in range(2)]
         left, top = int(left + 0.5), int(top + 0.5)
-        around = page[top - 1][left : left + 14] + "".join(row[left - 1] for row in page[top : top + 14])
-        return cut(page, left, top, 14, 14) == wanted and "1" not in around
+        around = cut(page, left, top - 1, 14, 1) + cut(page, left - 1, top, 1, 14)
+        return cut(page, left, top, 14, 14) == wanted and not any("1" in row for row in around)
 
 
 class Refusals(SheetTest):
@@ -383,12 +385,12 @@ class Captions(SheetTest):
             )
             self.assertEqual(self.caption(cell, len(texts)), [])
         self.assertFalse(any("1" in row for row in self.cell(page, 2)))
-        self.assertEqual(cropped(cropped(self.cell(page, 3))[21 * 4 :]), letters("shelf"))
+        self.assertEqual(cropped(cropped(self.cell(page, 3))[SYMBOL_ROWS:]), letters("shelf"))
 
     def test_other_labels_have_no_caption(self) -> None:
         [page] = self.pages(*A4, *DRAW, lines="code128 4006381333931\nqr 4006381333931\n")
         self.assertEqual(len(cropped(self.cell(page, 0))), BAR_ROWS)
-        self.assertEqual(len(cropped(self.cell(page, 1))), 21 * 4)
+        self.assertEqual(len(cropped(self.cell(page, 1))), SYMBOL_ROWS)
 
 
 class Pdf(SheetTest):
