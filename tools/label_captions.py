@@ -5,9 +5,10 @@ import shutil
 import unicodedata
 import zlib
 from dataclasses import dataclass
-from typing import Dict, List, Sequence, Tuple
+from itertools import islice
+from typing import Dict, Sequence, Tuple
 
-from label_pictures import Picture, PictureError, bytes_a_row, text_picture
+from label_pictures import EURO_SIGN, Picture, PictureError, bytes_a_row, text_picture
 
 Caption = Tuple[str, ...]
 
@@ -34,7 +35,8 @@ class Held:
     def picture(self) -> Picture:
         """The picture again."""
         pixels, size = zlib.decompress(self.packed), bytes_a_row(self.width)
-        return Picture(self.width, self.height, [pixels[at : at + size] for at in range(0, len(pixels), size)])
+        bounds = ((row * size, row * size + size) for row in range(self.height))
+        return Picture(self.width, self.height, [pixels[start:end] for start, end in bounds])
 
 
 def parse_caption(line: bytes, where: str) -> Caption:
@@ -99,30 +101,38 @@ class Letters:
         self.faults: Dict[str, str] = {}
 
     def draw(self, texts: Sequence[str]) -> None:
-        """Draws texts, many at once, since each start of pbmtext takes time."""
-        wanted = [text for text in dict.fromkeys(texts) if text and len(text) <= self.most_letters]
-        for at in range(0, len(wanted), TEXTS_AT_ONCE):
-            some = wanted[at : at + TEXTS_AT_ONCE]
-            try:
-                self.keep(some, text_picture("\n".join(some), self.times))
-            except PictureError:
-                if shutil.which("pbmtext") is None:
-                    raise
-                self.draw_each(some)
+        """Draws texts, many at once, since each start of pbmtext takes time.
 
-    def draw_each(self, texts: Sequence[str]) -> None:
-        """Draws texts one by one, and keeps why one cannot be drawn."""
-        for text in texts:
-            try:
-                self.keep([text], text_picture(text, self.times))
-            except PictureError as error:
-                self.faults[text] = str(error)
+        The euro sign makes text_picture start it for each line: texts with it are drawn apart from the others.
+        """
+        wanted = [text for text in dict.fromkeys(texts) if text and len(text) <= self.most_letters]
+        if wanted and shutil.which("pbmtext") is None:
+            raise PictureError("pbmtext, which draws the captions, is not installed: apt-get install netpbm")
+        for some in (
+            [text for text in wanted if EURO_SIGN not in text],
+            [text for text in wanted if EURO_SIGN in text],
+        ):
+            for first in range(0, len(some), TEXTS_AT_ONCE):
+                last = first + TEXTS_AT_ONCE
+                self.draw_together(some[first:last])
+
+    def draw_together(self, texts: Sequence[str]) -> None:
+        """Draws texts below one another; where that fails draws them one by one, and keeps why one cannot be drawn."""
+        try:
+            self.keep(texts, text_picture("\n".join(texts), self.times))
+        except PictureError as error:
+            if len(texts) == 1:
+                self.faults[texts[0]] = str(error)
+            else:
+                for text in texts:
+                    self.draw_together([text])
 
     def keep(self, texts: Sequence[str], picture: Picture) -> None:
         """Cuts a picture of texts below one another into those of each."""
         self.height, rest = divmod(picture.height, len(texts))
         if rest:
             raise PictureError("pbmtext drew lines that have no common height")
-        for number, text in enumerate(texts):
-            rows: List[bytes] = picture.rows[number * self.height : (number + 1) * self.height]
-            self.drawn[text] = Held.of(trim(Picture(picture.width, self.height, rows)))
+        rows = iter(picture.rows)
+        for text in texts:
+            own = list(islice(rows, self.height))
+            self.drawn[text] = Held.of(trim(Picture(picture.width, self.height, own)))

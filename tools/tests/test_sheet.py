@@ -23,6 +23,7 @@ from support import LOCALES, labels_program, messages, needs, read_codes, run
 
 DPI = 300
 BAR_ROWS = 280
+SYMBOL_ROWS = 21 * 4
 FREE = 12
 LETTER_TIMES = 2
 LETTER_ROWS = 30
@@ -61,7 +62,8 @@ def bits(picture: Picture) -> List[str]:
 
 def cut(rows: Sequence[str], left: float, top: float, width: float, height: float) -> List[str]:
     """A rectangle of rows of digits."""
-    return [row[round(left) : round(left + width)] for row in rows[round(top) : round(top + height)]]
+    first, last, above, below = round(left), round(left + width), round(top), round(top + height)
+    return [row[first:last] for row in rows[above:below]]
 
 
 def cropped(rows: Sequence[str]) -> List[str]:
@@ -69,10 +71,10 @@ def cropped(rows: Sequence[str]) -> List[str]:
     dark = [place for place, row in enumerate(rows) if "1" in row]
     if not dark:
         return []
-    rows = rows[dark[0] : dark[-1] + 1]
+    first, last = dark[0], dark[-1] + 1
     left = min(row.index("1") for row in rows if "1" in row)
-    right = max(row.rfind("1") for row in rows)
-    return [row[left : right + 1] for row in rows]
+    right = max(row.rfind("1") for row in rows) + 1
+    return [row[left:right] for row in rows[first:last]]
 
 
 def program() -> int:
@@ -151,7 +153,7 @@ class SheetTest(unittest.TestCase):
         """The ink of a line of the caption in a cell, whose first dark row is the first of the bars."""
         first = next(place for place, row in enumerate(rows) if "1" in row)
         top = first + BAR_ROWS + FREE + line * LETTER_ROWS
-        return cropped(rows[top : top + LETTER_ROWS])
+        return cropped(cut(rows, 0, top, len(rows[0]), LETTER_ROWS))
 
 
 class Pages(SheetTest):
@@ -211,8 +213,8 @@ class Pages(SheetTest):
         finder = ("1111111", "1000001", "1011101", "1011101", "1011101", "1000001", "1111111")
         wanted = ["".join(bit * 2 for bit in row) for row in finder for _ in range(2)]
         left, top = int(left + 0.5), int(top + 0.5)
-        around = page[top - 1][left : left + 14] + "".join(row[left - 1] for row in page[top : top + 14])
-        return cut(page, left, top, 14, 14) == wanted and "1" not in around
+        around = cut(page, left, top - 1, 14, 1) + cut(page, left - 1, top, 1, 14)
+        return cut(page, left, top, 14, 14) == wanted and not any("1" in row for row in around)
 
 
 class Refusals(SheetTest):
@@ -273,12 +275,12 @@ class Refusals(SheetTest):
         self.assertEqual(last, "label-sheet: no page is written")
 
     def test_a_caption_that_cannot_be_drawn(self) -> None:
-        captions = self.file("captions.txt", "3,10 EUR\n3,10 €\n")
+        captions = self.file("captions.txt", "3,10 €\n3,10 元\n")
         lines = "".join(f"ean13 {digits}\n" for digits in NUMBERS[:2])
         for locale in LOCALES:
             done = self.sheet(*SMALL, "--captions", captions, *DRAW, lines=lines, status=1, locale=locale)
             self.assertEqual(done.stdout, b"")
-            self.assertRegex(messages(done)[0], r"^label-sheet: line 2: the caption: .*U\+20AC")
+            self.assertRegex(messages(done)[0], r"^label-sheet: line 2: the caption: .*U\+5143")
 
     def test_captions_that_are_no_text(self) -> None:
         for text, fault in (
@@ -327,7 +329,7 @@ class Refusals(SheetTest):
 
 class Captions(SheetTest):
     def test_two_lines_and_umlauts_in_each_locale(self) -> None:
-        texts = (("Käse, jung", "3,10 EUR"), ("Größe Ü", "ñ ½ ×"), ("-n einzeilig",), ())
+        texts = (("Käse, jung", "3,10 EUR"), ("Größe Ü", "ñ ½ ×"), ("-n one line",), ())
         captions = self.file("captions.txt", "\ufeff" + "\r\n".join("\t".join(text) for text in texts) + "\r\n")
         lines = "".join(f"ean13 {digits}\n" for digits in NUMBERS[:4])
         for locale in LOCALES:
@@ -338,6 +340,17 @@ class Captions(SheetTest):
                 for line in range(2):
                     wanted = letters(text[line]) if line < len(text) else []
                     self.assertEqual(self.caption(cell, line), wanted)
+
+    def test_the_euro_sign(self) -> None:
+        captions = self.file("captions.txt", "3,10 €\n3,10\n€ 3,10\n")
+        lines = "".join(f"ean13 {digits}\n" for digits in NUMBERS[:3])
+        [page] = self.pages(*A4, "--captions", captions, *DRAW, lines=lines)
+        behind, without, before = (self.caption(self.cell(page, place)) for place in range(3))
+        digits = letters("3,10")
+        width = len(digits[0])
+        self.assertEqual(without, digits)
+        self.assertEqual([row[:width] for row in behind if "1" in row[:width]], digits)
+        self.assertEqual([row[-width:] for row in before if "1" in row[-width:]], digits)
 
     def test_a_letter_and_its_accent_in_two_characters(self) -> None:
         captions = self.file("captions.txt", "Ka\u0308se\n")
@@ -372,12 +385,12 @@ class Captions(SheetTest):
             )
             self.assertEqual(self.caption(cell, len(texts)), [])
         self.assertFalse(any("1" in row for row in self.cell(page, 2)))
-        self.assertEqual(cropped(cropped(self.cell(page, 3))[21 * 4 :]), letters("shelf"))
+        self.assertEqual(cropped(cropped(self.cell(page, 3))[SYMBOL_ROWS:]), letters("shelf"))
 
     def test_other_labels_have_no_caption(self) -> None:
         [page] = self.pages(*A4, *DRAW, lines="code128 4006381333931\nqr 4006381333931\n")
         self.assertEqual(len(cropped(self.cell(page, 0))), BAR_ROWS)
-        self.assertEqual(len(cropped(self.cell(page, 1))), 21 * 4)
+        self.assertEqual(len(cropped(self.cell(page, 1))), SYMBOL_ROWS)
 
 
 class Pdf(SheetTest):
