@@ -10,7 +10,7 @@ import re
 import subprocess
 import sys
 from dataclasses import dataclass
-from io import BytesIO
+from io import BytesIO, RawIOBase
 from typing import BinaryIO, Callable, Iterable, Iterator, NoReturn, Optional, Sequence
 
 STANDARD_INPUT = "standard input"
@@ -416,9 +416,11 @@ def numbered_pictures_of(path: Optional[str]) -> Iterator[tuple[str, Picture]]:
 
 
 def standard_output() -> BinaryIO:
-    """Standard output, for bytes."""
+    """Standard output for bytes, whose `write` takes all of them or fails."""
     if sys.stdout is None:
         raise PictureError("standard output is closed")
+    if isinstance(sys.stdout.buffer, RawIOBase):  # the environment has PYTHONUNBUFFERED: a write may take a part
+        return open(sys.stdout.fileno(), "wb", closefd=False)
     return sys.stdout.buffer
 
 

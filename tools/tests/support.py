@@ -63,7 +63,8 @@ def run_here(tool: str, *words: str, input: bytes = b"") -> "Finished[bytes]":
 
 def environment(locale: str = "C.UTF-8") -> dict:
     """The environment of a tool under test: LC_ALL alone chooses the language, and tools/ is on the path."""
-    kept = {name: value for name, value in os.environ.items() if name != "LANG" and not name.startswith("LC_")}
+    dropped = ("LANG", "LC_", "LABEL_FONT", "PYTHONUNBUFFERED", "PYTHONIOENCODING", "PYTHONUTF8")
+    kept = {name: value for name, value in os.environ.items() if not name.startswith(dropped)}
     return {**kept, "LC_ALL": locale, "PATH": f"{TOOLS}{os.pathsep}{os.environ['PATH']}"}
 
 

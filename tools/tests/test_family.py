@@ -1,5 +1,6 @@
 """What label-zpl, label-escpos, label-fits and label-caption have in common: words, files, whole pictures, endings."""
 
+import select
 import subprocess
 import tempfile
 import unittest
@@ -149,12 +150,13 @@ class OneByOne(unittest.TestCase):
     def test_a_label_is_written_as_soon_as_it_is_whole(self) -> None:
         for tool in ("label-zpl", "label-escpos", "label-caption"):
             command = [str(support.TOOLS / tool), *TOOLS[tool]]
-            with subprocess.Popen(command, stdin=subprocess.PIPE, stdout=subprocess.PIPE) as process:
+            pipes = {"stdin": subprocess.PIPE, "stdout": subprocess.PIPE, "env": support.environment()}
+            with subprocess.Popen(command, **pipes) as process:
                 for data in (plain(BARS).rstrip(), raw(SQUARE)):
                     process.stdin.write(data)
                     process.stdin.flush()
-                    # blocks for ever where the tool waits for the next label
-                    self.assertTrue(process.stdout.read1(1 << 16))
+                    ready, _, _ = select.select([process.stdout], [], [], 10)
+                    self.assertTrue(ready and process.stdout.read1(1 << 16), f"{tool} waits for the next label")
                 process.stdin.close()
                 self.assertEqual((process.stdout.read(), process.wait()), (b"", 0))
 

@@ -10,7 +10,7 @@ from unittest import mock
 
 import support
 import label_pictures
-from label_pictures import NoPicture, Picture, PictureError, read_pictures
+from label_pictures import NoPicture, Picture, PictureError, blank, raw, read_pictures
 
 PLAIN = b"P1\n3 2\n101\n010\n"
 RAW = b"P4\n3 2\n\xa0\x40"
@@ -312,14 +312,24 @@ main_of("small-tool", function)
         status, out, message = self.small_tool("pass", "--help")
         self.assertEqual((status, message), (0, ""))
         self.assertIn(b"A tool for this test.", out)
-        status, out, message = self.small_tool("pass", "--wrong")
-        self.assertEqual((status, out), (2, b""))
-        self.assertIn("usage: small-tool", message)
+        for word in ("--wrong", "--hel"):
+            status, out, message = self.small_tool("pass", word)
+            self.assertEqual((status, out), (2, b""))
+            self.assertIn("usage: small-tool", message)
 
     def test_a_full_disk(self) -> None:
         full = (1, b"", "small-tool: standard output: No space left on device\n")
         for size in (10, 100000):
             self.assertEqual(self.small_tool(f"print('x' * {size})", shell='"$@" > /dev/full'), full)
+
+    def test_a_file_that_takes_a_part(self) -> None:
+        body = "[write_raw(picture, standard_output()) for picture in pictures_of(None)]"
+        data = raw(blank(8, 3000)) * 2
+        for unbuffered in ("", "export PYTHONUNBUFFERED=1; "):
+            with tempfile.TemporaryDirectory() as folder:
+                shell = f'{unbuffered}ulimit -f 4; "$@" > {folder}/out'
+                ended = self.small_tool(body, data=data, shell=shell)
+            self.assertEqual(ended, (1, b"", "small-tool: standard output: File too large\n"))
 
     def test_a_closed_pipe(self) -> None:
         status, _, message = self.small_tool("print('x' * 1000000)", shell='"$@" | true; exit ${PIPESTATUS[0]}')
