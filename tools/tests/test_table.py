@@ -353,6 +353,8 @@ class Numbers(TableTest):
             "7351353": f"refused: 7351353 has 7 digits, {self.LENGTHS}; {self.NONE}",
             "5": f"refused: 5 has 1 digit, {self.LENGTHS}",
             "12345678901234": f"refused: 12345678901234 has 14 digits, {self.LENGTHS}; {case}",
+            "10614141543219": f"refused: 10614141543219 has 14 digits, {self.LENGTHS}; {case}",
+            "7" * 30: f"refused: {'7' * 17}... has 30 digits, {self.LENGTHS}",
         }
         self.check_cells([], wanted)
 
