@@ -4,13 +4,16 @@ The tests run from the top of the repository: python3 -m unittest discover -s to
 The program `labels` that they draw with is $LABELS, or else crates/labels/out/labels.
 """
 
+import io
 import os
+import runpy
 import shutil
 import subprocess
 import sys
 import unittest
 from pathlib import Path
 from typing import List, Sequence, Tuple, Union
+from unittest import mock
 
 TESTS = Path(__file__).resolve().parent
 TOOLS = TESTS.parent
@@ -32,14 +35,30 @@ def run(
     cwd: Union[str, Path, None] = None,
 ) -> "Finished[bytes]":
     """Runs a tool of tools/ (or a program by its whole path) and returns its status, standard output and error."""
+    program = TOOLS / tool
     return subprocess.run(
-        [str(TOOLS / tool), *words],
+        [*([sys.executable] if program.parent == TOOLS else []), str(program), *words],
         input=input,
         capture_output=True,
         cwd=cwd,
         env=environment(locale),
         timeout=SECONDS,
     )
+
+
+def run_here(tool: str, *words: str, input: bytes = b"") -> "Finished[bytes]":
+    """Runs a tool of tools/ in this process: the same result as of `run`, for tests of hundreds of runs."""
+    source = io.TextIOWrapper(io.BytesIO(input))
+    out, err = io.TextIOWrapper(io.BytesIO()), io.TextIOWrapper(io.BytesIO(), "utf-8", "backslashreplace")
+    status = 0
+    with mock.patch.multiple(sys, argv=[tool, *words], stdin=source, stdout=out, stderr=err):
+        try:
+            runpy.run_path(str(TOOLS / tool), run_name="__main__")
+        except SystemExit as end:
+            status = int(end.code or 0)
+        out.flush()
+        err.flush()
+    return Finished([tool, *words], status, out.buffer.getvalue(), err.buffer.getvalue())
 
 
 def environment(locale: str = "C.UTF-8") -> dict:
