@@ -151,6 +151,7 @@ class Cells(TableTest):
     def test_delimiter_among_other_marks(self) -> None:
         self.check(f"code;price, net, EUR\n{PENCIL};1,20\n", ["--code", "code"], [f"ean13 {PENCIL}"])
         self.check(f"name; size,code\na,{PENCIL}\n", ["--code", "2"], [f"ean13 {PENCIL}"])
+        self.check(f"name; size,code\na; b,{PENCIL}\n", ["--code", "code"], [f"ean13 {PENCIL}"])
         self.check(f'"price; net",code\n"1;20",{PENCIL}\n', ["--code", "2"], [f"ean13 {PENCIL}"])
         self.check(
             f"{PENCIL};a;1,20\n{SMALL};b;0,80\n", ["--code", "1", "--no-header"], [f"ean13 {PENCIL}", f"ean8 {SMALL}"]
