@@ -190,6 +190,7 @@ class PdfWriter:
             self.write(b"%010d 00000 n \n" % self.offsets[number])
         trailer = f"trailer\n<< /Size {count} /Root {self.CATALOG} 0 R >>\nstartxref\n{table}\n%%EOF\n"
         self.write(trailer.encode())
+        self.stream.flush()
 
 
 def points(millimetres: Fraction) -> Fraction:

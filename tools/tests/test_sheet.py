@@ -319,10 +319,11 @@ class Refusals(SheetTest):
             self.assertEqual(message, f"label-sheet: {words[-1]}: No such file or directory")
 
     def test_an_output_that_takes_nothing(self) -> None:
-        for words in ((), ("--pdf",)):
+        for words, unbuffered in (((), ""), ((), "1"), (("--pdf",), ""), (("--pdf",), "1")):
+            environment = {**support.environment(), "PYTHONUNBUFFERED": unbuffered}
             with open("/dev/full", "wb") as full:
                 command = [str(support.TOOLS / "label-sheet"), *SMALL, *words]
-                done = subprocess.run(command, input=b"qr A\n", stdout=full, stderr=subprocess.PIPE)
+                done = subprocess.run(command, input=b"qr A\n", stdout=full, stderr=subprocess.PIPE, env=environment)
             self.assertEqual(done.returncode, 1)
             self.assertEqual(messages(done), ["label-sheet: standard output: No space left on device"])
 
