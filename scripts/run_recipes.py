@@ -230,7 +230,8 @@ class Run:
 
     def programs(self) -> Iterator[Tuple[str, Path]]:
         """The program and the tools, each by its name."""
-        yield "labels", self.program
+        if self.program:
+            yield "labels", self.program
         for tool in sorted((TOP / "tools").glob("label-*")):
             yield tool.name, tool
 

@@ -7,7 +7,7 @@ import math
 import zlib
 from dataclasses import dataclass
 from fractions import Fraction
-from typing import BinaryIO, Iterable, List, Tuple
+from typing import BinaryIO, Dict, Iterable, List, Tuple
 
 from label_pictures import Picture
 
@@ -134,7 +134,7 @@ class PdfWriter:
         self.dpi = dpi
         self.width, self.height = points(page.width), points(page.height)
         self.written = 0
-        self.offsets = {}
+        self.offsets: Dict[int, int] = {}
         self.pages: List[int] = []
         self.write(b"%PDF-1.6\n%\xe2\xe3\xcf\xd3\n")
 
