@@ -33,14 +33,14 @@ class Installing(unittest.TestCase):
             self.assertIn(f"note: {prefix}/bin is not on the path\n", done.stdout)
         environment = {**os.environ, "PATH": f"{prefix}/bin:{os.environ['PATH']}"}
         command = "echo 'ean13 400638133393' | labels --scale 3 | label-zpl"
-        done = subprocess.run(["sh", "-c", command], capture_output=True, env=environment, cwd=self.folder)
-        self.assertEqual((done.returncode, done.stderr), (0, b""))
-        self.assertTrue(done.stdout.startswith(b"^XA\n^FO0,0^GFA,"))
+        drawn = subprocess.run(["sh", "-c", command], capture_output=True, env=environment, cwd=self.folder)
+        self.assertEqual((drawn.returncode, drawn.stderr), (0, b""))
+        self.assertTrue(drawn.stdout.startswith(b"^XA\n^FO0,0^GFA,"))
         tools = sorted(path.name for path in support.TOOLS.glob("label-*"))
         self.assertEqual(sorted(os.listdir(prefix / "bin")), [*tools, "labels"])
         for tool in tools:
-            done = subprocess.run([prefix / "bin" / tool, "--help"], capture_output=True, cwd=self.folder)
-            self.assertEqual((done.returncode, done.stderr), (0, b""), tool)
+            helped = subprocess.run([prefix / "bin" / tool, "--help"], capture_output=True, cwd=self.folder)
+            self.assertEqual((helped.returncode, helped.stderr), (0, b""), tool)
 
     def test_pages_and_completions(self) -> None:
         done = self.install(self.folder, program=support.labels_program())
