@@ -68,6 +68,16 @@ class Installing(unittest.TestCase):
         self.assertEqual((done.returncode, done.stdout, done.stderr), (1, "", said))
         self.assertFalse(prefix.exists())
 
+    def test_with_an_old_python(self) -> None:
+        prefix, old = self.folder / "prefix", self.folder / "old/python3"
+        old.parent.mkdir()
+        old.write_text('#!/bin/sh\n[ "$1" = --version ] && echo "Python 3.8.10"\n')
+        old.chmod(0o755)
+        done = self.install(prefix, program=Path("/bin/true"), PATH=f"{old.parent}:{os.environ['PATH']}")
+        said = "install.sh: the tools need Python 3.9 or later; this is Python 3.8.10\n"
+        self.assertEqual((done.returncode, done.stdout, done.stderr), (1, "", said))
+        self.assertFalse(prefix.exists())
+
     def test_a_place_where_nothing_can_be_written(self) -> None:
         place = self.folder / "file"
         place.write_text("")
