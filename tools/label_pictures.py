@@ -1,6 +1,6 @@
 """Pictures of labels: read from a stream one by one, written, put together, and how the tools end.
 
-The tools label-zpl, label-escpos, label-fits, label-caption, label-table and label-sheet share this module. A picture
+The tools label-zpl, label-escpos, label-fits, label-lines, label-caption and label-sheet share this module. A picture
 is what pbm(5) names PBM, plain (P1) or raw (P4). A stream holds any number of them, one after another.
 """
 
