@@ -63,8 +63,8 @@ def digits_of(line: bytes, has_escapes: bool) -> Caption:
         return ()
     if has_escapes:
         data = ESCAPE.sub(lambda match: bytes([int(match[1], 16)]) if match[1] else match[0], data)
-    digits = data.decode("ascii")
-    if len(digits) == length:
+    digits = data.decode("ascii", "backslashreplace")
+    if len(digits) == length and digits.isdecimal():
         digits += check_digit(digits)
     return (digits,)
 

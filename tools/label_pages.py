@@ -121,8 +121,9 @@ def draw_page(grid: Grid, parts: Iterable[Part]) -> Picture:
 
 
 class PdfWriter:
-    """Writes pages as one PDF (1.4), each a picture whose pixels have their size on paper.
+    """Writes pages as one PDF (1.6), each a picture whose pixels have their size on paper.
 
+    It asks programs that print it not to scale it (PrintScaling, ISO 32000-1, 12.2).
     A page goes out as soon as it is added; the same pages give the same bytes.
     """
 
@@ -135,7 +136,7 @@ class PdfWriter:
         self.written = 0
         self.offsets = {}
         self.pages: List[int] = []
-        self.write(b"%PDF-1.4\n%\xe2\xe3\xcf\xd3\n")
+        self.write(b"%PDF-1.6\n%\xe2\xe3\xcf\xd3\n")
 
     def write(self, data: bytes) -> None:
         """Writes bytes and counts them: the table at the end names the place of each object."""
@@ -178,7 +179,10 @@ class PdfWriter:
         """Writes what names the pages and the places of all objects."""
         kids = " ".join(f"{page} 0 R" for page in self.pages)
         self.write_object(self.PAGES, f"<< /Type /Pages /Count {len(self.pages)} /Kids [{kids}] >>".encode())
-        self.write_object(self.CATALOG, f"<< /Type /Catalog /Pages {self.PAGES} 0 R >>".encode())
+        self.write_object(
+            self.CATALOG,
+            f"<< /Type /Catalog /Pages {self.PAGES} 0 R /ViewerPreferences << /PrintScaling /None >> >>".encode(),
+        )
         table = self.written
         count = len(self.offsets) + 1
         self.write(b"xref\n0 %d\n0000000000 65535 f \n" % count)
@@ -186,6 +190,7 @@ class PdfWriter:
             self.write(b"%010d 00000 n \n" % self.offsets[number])
         trailer = f"trailer\n<< /Size {count} /Root {self.CATALOG} 0 R >>\nstartxref\n{table}\n%%EOF\n"
         self.write(trailer.encode())
+        self.stream.flush()
 
 
 def points(millimetres: Fraction) -> Fraction:

@@ -38,6 +38,7 @@ NUMBERS = ("4006381333931", "0036000291452", "5012345678900", "7612345678917", "
 
 def setUpModule() -> None:
     """Lets label-sheet run the program that the tests draw with."""
+    needs("pbmtext", "pamenlarge", "zbarimg")
     os.environ["LABELS"] = str(labels_program())
 
 
@@ -137,7 +138,6 @@ class SheetTest(unittest.TestCase):
 
     def codes(self, cells: Sequence[List[str]]) -> List[str]:
         """What zbarimg reads in cells, a code of each."""
-        needs("zbarimg")
         paths = [self.folder / f"cell-{place}.pbm" for place in range(len(cells))]
         for path, rows in zip(paths, cells):
             width = len(rows[0])
@@ -271,7 +271,7 @@ class Refusals(SheetTest):
         lines = "# goods\n" + "".join(f"ean13 {digits}\n" for digits in NUMBERS[:3])
         first, second, last = self.refused(*SMALL, "--captions", captions, *DRAW, lines=lines)
         self.assertRegex(first, "^label-sheet: line 3: the caption 'W{40}' is wider than 47.92 mm")
-        self.assertRegex(second, "^label-sheet: line 4: the caption 'i+' is wider than 47.92 mm")
+        self.assertRegex(second, "^label-sheet: line 4: the caption 'i{60}..' is wider than 47.92 mm")
         self.assertEqual(last, "label-sheet: no page is written")
 
     def test_a_caption_that_cannot_be_drawn(self) -> None:
@@ -319,10 +319,11 @@ class Refusals(SheetTest):
             self.assertEqual(message, f"label-sheet: {words[-1]}: No such file or directory")
 
     def test_an_output_that_takes_nothing(self) -> None:
-        for words in ((), ("--pdf",)):
+        for words, unbuffered in (((), ""), ((), "1"), (("--pdf",), ""), (("--pdf",), "1")):
+            environment = {**support.environment(), "PYTHONUNBUFFERED": unbuffered}
             with open("/dev/full", "wb") as full:
                 command = [str(support.TOOLS / "label-sheet"), *SMALL, *words]
-                done = subprocess.run(command, input=b"qr A\n", stdout=full, stderr=subprocess.PIPE)
+                done = subprocess.run(command, input=b"qr A\n", stdout=full, stderr=subprocess.PIPE, env=environment)
             self.assertEqual(done.returncode, 1)
             self.assertEqual(messages(done), ["label-sheet: standard output: No space left on device"])
 
@@ -374,16 +375,14 @@ class Captions(SheetTest):
             self.assertEqual(self.caption(self.cell(page, place)), letters(digits))
 
     def test_the_digits_above_the_captions_of_a_file(self) -> None:
-        captions = self.file("captions.txt", "pencil\t0,80 EUR\n\nwrong\nshelf\n")
+        captions = self.file("captions.txt", "pencil\t\t0,80 EUR\n\nwrong\nshelf\n")
         lines = "ean13 400638133393\nean8 7351353\nean8 73513538\nqr shelf\n"
         [page] = self.pages(*A4, "--captions", captions, "--digits", *DRAW, lines=lines, status=1)
-        wanted = (("4006381333931", "pencil", "0,80 EUR"), ("73513537",))
+        wanted = (("4006381333931", "pencil", "", "0,80 EUR"), ("73513537",))
         for place, texts in enumerate(wanted):
             cell = self.cell(page, place)
-            self.assertEqual(
-                [self.caption(cell, line) for line in range(len(texts))], [letters(text) for text in texts]
-            )
-            self.assertEqual(self.caption(cell, len(texts)), [])
+            drawn = [self.caption(cell, line) for line in range(len(texts))]
+            self.assertEqual(drawn, [letters(text) if text else [] for text in texts])
         self.assertFalse(any("1" in row for row in self.cell(page, 2)))
         self.assertEqual(cropped(cropped(self.cell(page, 3))[SYMBOL_ROWS:]), letters("shelf"))
 
@@ -412,6 +411,18 @@ class Pdf(SheetTest):
         needs("qpdf")
         done = subprocess.run(["qpdf", "--check", self.pdf(27)], capture_output=True, text=True)
         self.assertEqual((done.returncode, done.stderr), (0, ""))
+
+    def test_ghostscript_finds_nothing_wrong(self) -> None:
+        needs("gs")
+        command = ["gs", "-q", "-dNOPAUSE", "-dBATCH", "-dPDFSTOPONERROR", "-sDEVICE=nullpage", self.pdf(27)]
+        done = subprocess.run(command, capture_output=True, text=True)
+        self.assertEqual((done.returncode, done.stdout, done.stderr), (0, "", ""))
+
+    def test_it_asks_not_to_be_scaled(self) -> None:
+        needs("qpdf")
+        command = ["qpdf", "--qdf", self.pdf(1), "-"]
+        done = subprocess.run(command, capture_output=True, check=True)
+        self.assertRegex(done.stdout, rb"/ViewerPreferences <<\s+/PrintScaling /None\s+>>")
 
     def test_the_same_bytes_each_time(self) -> None:
         self.assertEqual(self.pdf(3).read_bytes(), self.pdf(3).read_bytes())

@@ -4,17 +4,14 @@ The check digits are those of numbers in print: 4006381333931 (a pencil), 978030
 036000291452 (UPC-A).
 """
 
-import contextlib
-import io
+import functools
 import re
-import runpy
 import subprocess
 import tempfile
 import time
 import unittest
 from pathlib import Path
 from typing import Dict, List, Sequence, Tuple, Union
-from unittest import mock
 
 import support
 
@@ -24,10 +21,6 @@ PENCIL = "4006381333931"
 BOOK = "9780306406157"
 SMALL = "73513537"
 SOAP = "036000291452"
-
-
-# the tool's own functions, for what needs no run of its own
-LABEL_TABLE = runpy.run_path(str(support.TOOLS / "label-table"), run_name="label_table")
 
 
 class TableTest(unittest.TestCase):
@@ -45,13 +38,14 @@ class TableTest(unittest.TestCase):
         lines: Sequence[str] = (),
         problems: Sequence[str] = (),
         status: int = 0,
-        locales: Sequence[str] = support.LOCALES,
+        locales: Sequence[str] = (),
     ) -> None:
-        """Runs label-table over standard input under each locale; compares lines, messages and status."""
+        """Runs label-table over standard input, in each locale or else here; compares lines, messages and status."""
         data = table.encode() if isinstance(table, str) else table
-        for locale in locales:
-            with self.subTest(locale=locale, table=data[:60], words=words):
-                done = support.run("label-table", *words, input=data, locale=locale)
+        runs = [functools.partial(support.run, locale=locale) for locale in locales] or [support.run_here]
+        for run in runs:
+            with self.subTest(run=run, table=data[:60], words=words):
+                done = run("label-table", *words, input=data)
                 self.assertEqual(support.messages(done), [f"label-table: {problem}" for problem in problems])
                 self.assertEqual(done.stdout.decode().splitlines(), list(lines))
                 self.assertEqual(done.returncode, status)
@@ -63,17 +57,14 @@ class TableTest(unittest.TestCase):
         lines = [result for _, result in results if not result.startswith(REFUSED)]
         problems = [f"row {row}: {result[len(REFUSED):]}" for row, result in results if result.startswith(REFUSED)]
         status = 1 if problems else 0
-        self.check(f"code;name\n{table}", ["--code", "code", *words], lines, problems, status, support.LOCALES[:1])
+        self.check(f"code;name\n{table}", ["--code", "code", *words], lines, problems, status)
 
     def check_usage(self, words: Sequence[str], text: str) -> None:
         """Bad words: usage, the reason, status 2, and nothing is written."""
-        problems = io.StringIO()
-        with mock.patch("sys.argv", ["label-table", *words]), contextlib.redirect_stderr(problems):
-            with self.assertRaises(SystemExit) as end:
-                LABEL_TABLE["main"]()
-        self.assertEqual(end.exception.code, 2, words)
-        self.assertEqual(problems.getvalue().split(" [")[0], "usage: label-table", words)
-        self.assertEqual(problems.getvalue().splitlines()[-1], f"label-table: error: {text}", words)
+        done = support.run_here("label-table", *words, input=b"code\n")
+        self.assertEqual((done.returncode, done.stdout), (2, b""), words)
+        self.assertEqual(support.messages(done)[0].split(" [")[0], "usage: label-table", words)
+        self.assertEqual(support.messages(done)[-1], f"label-table: error: {text}", words)
 
 
 class Encodings(TableTest):
@@ -160,6 +151,7 @@ class Cells(TableTest):
     def test_delimiter_among_other_marks(self) -> None:
         self.check(f"code;price, net, EUR\n{PENCIL};1,20\n", ["--code", "code"], [f"ean13 {PENCIL}"])
         self.check(f"name; size,code\na,{PENCIL}\n", ["--code", "2"], [f"ean13 {PENCIL}"])
+        self.check(f"name; size,code\na; b,{PENCIL}\n", ["--code", "code"], [f"ean13 {PENCIL}"])
         self.check(f'"price; net",code\n"1;20",{PENCIL}\n', ["--code", "2"], [f"ean13 {PENCIL}"])
         self.check(
             f"{PENCIL};a;1,20\n{SMALL};b;0,80\n", ["--code", "1", "--no-header"], [f"ean13 {PENCIL}", f"ean8 {SMALL}"]
@@ -243,7 +235,9 @@ class Columns(TableTest):
         self.check(table, ["--code", "the code"], [f"ean8 {SMALL}"])
         self.check(table, ["--code", "3"], [f"ean13 {PENCIL}"])
         self.check(table, ["--code", "2"], [f"ean13 {PENCIL}"])
-        self.check(f" Größe ;x\n{SMALL};a\n", ["--code", "Größe"], [f"ean8 {SMALL}"])
+        self.check(f" Größe ;x\n{SMALL};a\n", ["--code", "Größe"], [f"ean8 {SMALL}"], locales=support.LOCALES)
+        problem = 'no column "Länge"; row 1 has 1 column: 1 "Größe"'
+        self.check(f"Größe\n{SMALL}\n", ["--code", "Länge"], [], [problem], 2, support.LOCALES)
 
     def test_column_that_is_not_there(self) -> None:
         table = f"code;name\n{SMALL};a\n"
@@ -353,6 +347,8 @@ class Numbers(TableTest):
             "7351353": f"refused: 7351353 has 7 digits, {self.LENGTHS}; {self.NONE}",
             "5": f"refused: 5 has 1 digit, {self.LENGTHS}",
             "12345678901234": f"refused: 12345678901234 has 14 digits, {self.LENGTHS}; {case}",
+            "10614141543219": f"refused: 10614141543219 has 14 digits, {self.LENGTHS}; {case}",
+            "7" * 30: f"refused: {'7' * 17}... has 30 digits, {self.LENGTHS}",
         }
         self.check_cells([], wanted)
 
