@@ -1,6 +1,6 @@
 """Pictures of labels: read from a stream one by one, written, put together, and how the tools end.
 
-The tools label-zpl, label-escpos, label-fits, label-caption, label-table and label-sheet share this module. A picture
+The tools label-zpl, label-escpos, label-fits, label-lines, label-caption and label-sheet share this module. A picture
 is what pbm(5) names PBM, plain (P1) or raw (P4). A stream holds any number of them, one after another.
 """
 
@@ -10,8 +10,8 @@ import re
 import subprocess
 import sys
 from dataclasses import dataclass
-from io import BytesIO, RawIOBase
-from typing import BinaryIO, Callable, Iterable, Iterator, NoReturn, Optional, Sequence
+from io import BytesIO, RawIOBase, TextIOWrapper
+from typing import BinaryIO, Callable, Iterable, Iterator, NoReturn, Optional, Sequence, TextIO
 
 STANDARD_INPUT = "standard input"
 FILE_HELP = "PBM pictures, plain or raw, any number; standard input where it is missing or -"
@@ -416,16 +416,16 @@ def numbered_pictures_of(path: Optional[str]) -> Iterator[tuple[str, Picture]]:
 
 
 def standard_output() -> BinaryIO:
-    """Standard output for bytes, whose `write` takes all of them or fails."""
+    """Standard output for bytes; inside main_of its `write` takes all of them or fails."""
     if sys.stdout is None:
         raise PictureError("standard output is closed")
-    if isinstance(sys.stdout.buffer, RawIOBase):  # the environment has PYTHONUNBUFFERED: a write may take a part
-        return open(sys.stdout.fileno(), "wb", closefd=False)
     return sys.stdout.buffer
 
 
 def complain(tool: str, message: str) -> None:
     """Writes a message on standard error, if that is open."""
+    if sys.stderr is None:  # print would take standard output, which may be a printer
+        return
     try:
         print(f"{tool}: {message}", file=sys.stderr, flush=True)
     except OSError:
@@ -435,6 +435,7 @@ def complain(tool: str, message: str) -> None:
 def main_of(tool: str, function: Callable[[], Optional[int]]) -> NoReturn:
     """Runs a tool, and ends with its status (None is 0), or with 1 and a message for PictureError and OSError."""
     try:
+        _buffer_standard_output()
         status = function() or 0
         if sys.stdout is not None:
             sys.stdout.flush()
@@ -446,14 +447,22 @@ def main_of(tool: str, function: Callable[[], Optional[int]]) -> NoReturn:
         status = 1
     except KeyboardInterrupt:
         status = 130
-    _drop_unwritten()
+    _drop_unwritten(sys.stdout)
+    _drop_unwritten(sys.stderr)
     sys.exit(status)
 
 
-def _drop_unwritten() -> None:
-    """Lets Python's last flush of a broken standard output pass without a second message."""
+def _buffer_standard_output() -> None:
+    """Puts a buffer before standard output where PYTHONUNBUFFERED left it without: its writes may take a part only."""
+    if sys.stdout is not None and isinstance(sys.stdout.buffer, RawIOBase):
+        sys.stdout = TextIOWrapper(open(sys.stdout.fileno(), "wb", closefd=False), sys.stdout.encoding)
+
+
+def _drop_unwritten(stream: Optional[TextIO]) -> None:
+    """Lets Python's last flush of a broken stream pass, which would change the status."""
+    if stream is None:
+        return
     try:
-        if sys.stdout is not None:
-            sys.stdout.flush()
+        stream.flush()
     except OSError:
-        os.dup2(os.open(os.devnull, os.O_WRONLY), sys.stdout.fileno())
+        os.dup2(os.open(os.devnull, os.O_WRONLY), stream.fileno())

@@ -28,7 +28,7 @@ def pictures_of_zpl(job: bytes) -> list[Picture]:
     return [stack([field_of(field) for field in fields_of(label)]) for label in labels]
 
 
-def fields_of(label: re.Match) -> list[re.Match]:
+def fields_of(label: re.Match[bytes]) -> list[re.Match[bytes]]:
     """The graphic fields of a label, each directly below the one before."""
     fields = pieces_of(ZPL_FIELD, label.group(1))
     top = 0
@@ -39,7 +39,7 @@ def fields_of(label: re.Match) -> list[re.Match]:
     return fields
 
 
-def field_of(field: re.Match) -> Picture:
+def field_of(field: re.Match[bytes]) -> Picture:
     """The pixels of a graphic field (^GFA): two counts of its bytes, its bytes a row, and its bytes in hexadecimal."""
     sent, total, size = (int(field.group(group)) for group in (2, 3, 4))
     data = bytes.fromhex(field.group(5).decode())
@@ -67,7 +67,7 @@ def pictures_of_escpos(job: bytes) -> list[Picture]:
     return pictures
 
 
-def pieces_of(pattern: re.Pattern, data: bytes) -> list[re.Match]:
+def pieces_of(pattern: re.Pattern[bytes], data: bytes) -> list[re.Match[bytes]]:
     """The pieces of a pattern that make up the data, and nothing between them."""
     pieces = []
     at = 0

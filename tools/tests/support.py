@@ -1,7 +1,8 @@
 """What the tests of the tools share: paths, how a tool is run, and what a test needs from elsewhere.
 
 The tests run from the top of the repository: python3 -m unittest discover -s tools/tests
-The program `labels` that they draw with is $LABELS, or else crates/labels/out/labels.
+The program `labels` that they draw with is $LABELS, or else crates/labels/out/labels. A test that needs what is not
+there is skipped, with a message; NO_SKIP=1 makes it fail.
 """
 
 import io
@@ -12,7 +13,7 @@ import subprocess
 import sys
 import unittest
 from pathlib import Path
-from typing import List, Sequence, Tuple, Union
+from typing import List, NoReturn, Sequence, Tuple, Union
 from unittest import mock
 
 TESTS = Path(__file__).resolve().parent
@@ -77,9 +78,7 @@ def labels_program() -> Path:
     """The program `labels`: $LABELS, else crates/labels/out/labels; skips the test where there is none."""
     program = Path(os.environ.get("LABELS") or TOP / "crates/labels/out/labels").resolve()
     if not os.access(program, os.X_OK):
-        raise unittest.SkipTest(
-            f"{program} is not built: run (cd crates/labels && rt run < /dev/null), or set $LABELS"
-        )
+        skip(f"{program} is not built: run (cd crates/labels && rt run < /dev/null), or set $LABELS")
     return program
 
 
@@ -94,7 +93,12 @@ def needs(*programs: str) -> None:
     """Skips the test where one of these third-party programs is missing."""
     missing = [program for program in programs if shutil.which(program) is None]
     if missing:
-        raise unittest.SkipTest(f"not installed: {', '.join(missing)}")
+        skip(f"not installed: {', '.join(missing)}")
+
+
+def skip(message: str) -> NoReturn:
+    """Skips the test; with $NO_SKIP set, as in the merge gate, the test fails."""
+    raise AssertionError(message) if os.environ.get("NO_SKIP") else unittest.SkipTest(message)
 
 
 def read_codes(picture: Union[str, Path]) -> List[str]:

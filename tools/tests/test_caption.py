@@ -1,6 +1,7 @@
 """label-caption: a text below each label."""
 
 import subprocess
+import sys
 import tempfile
 import unittest
 from io import BytesIO
@@ -75,7 +76,7 @@ class WithoutNetpbm(unittest.TestCase):
     def test_the_message_says_what_to_install(self) -> None:
         with tempfile.TemporaryDirectory() as empty:
             environment = {**support.environment(), "PATH": empty}
-            command = [support.sys.executable, str(support.TOOLS / "label-caption"), "text"]
+            command = [sys.executable, str(support.TOOLS / "label-caption"), "text"]
             done = subprocess.run(command, input=plain(blank(9, 9)), capture_output=True, env=environment)
         said = b"label-caption: pbmtext, which draws text, is not installed: apt-get install netpbm\n"
         self.assertEqual((done.returncode, done.stdout, done.stderr), (1, b"", said))

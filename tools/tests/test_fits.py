@@ -11,7 +11,7 @@ def said(number: int, size: str, paper: str) -> str:
 
 
 class Sizes(unittest.TestCase):
-    def fits(self, words: tuple, *pictures: Picture) -> tuple[int, list[str]]:
+    def fits(self, words: tuple[str, str, str], *pictures: Picture) -> tuple[int, list[str]]:
         """The status and the messages, the same for plain and raw pictures."""
         ends = []
         for write in (plain, raw):

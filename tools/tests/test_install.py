@@ -33,14 +33,14 @@ class Installing(unittest.TestCase):
             self.assertIn(f"note: {prefix}/bin is not on the path\n", done.stdout)
         environment = {**os.environ, "PATH": f"{prefix}/bin:{os.environ['PATH']}"}
         command = "echo 'ean13 400638133393' | labels --scale 3 | label-zpl"
-        done = subprocess.run(["sh", "-c", command], capture_output=True, env=environment, cwd=self.folder)
-        self.assertEqual((done.returncode, done.stderr), (0, b""))
-        self.assertTrue(done.stdout.startswith(b"^XA\n^FO0,0^GFA,"))
+        drawn = subprocess.run(["sh", "-c", command], capture_output=True, env=environment, cwd=self.folder)
+        self.assertEqual((drawn.returncode, drawn.stderr), (0, b""))
+        self.assertTrue(drawn.stdout.startswith(b"^XA\n^FO0,0^GFA,"))
         tools = sorted(path.name for path in support.TOOLS.glob("label-*"))
         self.assertEqual(sorted(os.listdir(prefix / "bin")), [*tools, "labels"])
         for tool in tools:
-            done = subprocess.run([prefix / "bin" / tool, "--help"], capture_output=True, cwd=self.folder)
-            self.assertEqual((done.returncode, done.stderr), (0, b""), tool)
+            helped = subprocess.run([prefix / "bin" / tool, "--help"], capture_output=True, cwd=self.folder)
+            self.assertEqual((helped.returncode, helped.stderr), (0, b""), tool)
 
     def test_pages_and_completions(self) -> None:
         done = self.install(self.folder, program=support.labels_program())
@@ -65,6 +65,16 @@ class Installing(unittest.TestCase):
         prefix = self.folder / "prefix"
         done = self.install(prefix, program=self.folder / "nothing")
         said = f"install.sh: {self.folder}/nothing is not built: run (cd crates/labels && rt run < /dev/null)\n"
+        self.assertEqual((done.returncode, done.stdout, done.stderr), (1, "", said))
+        self.assertFalse(prefix.exists())
+
+    def test_with_an_old_python(self) -> None:
+        prefix, old = self.folder / "prefix", self.folder / "old/python3"
+        old.parent.mkdir()
+        old.write_text('#!/bin/sh\n[ "$1" = --version ] && echo "Python 3.8.10"\n')
+        old.chmod(0o755)
+        done = self.install(prefix, program=Path("/bin/true"), PATH=f"{old.parent}:{os.environ['PATH']}")
+        said = "install.sh: the tools need Python 3.9 or later; this is Python 3.8.10\n"
         self.assertEqual((done.returncode, done.stdout, done.stderr), (1, "", said))
         self.assertFalse(prefix.exists())
 

@@ -319,8 +319,25 @@ main_of("small-tool", function)
 
     def test_a_full_disk(self) -> None:
         full = (1, b"", "small-tool: standard output: No space left on device\n")
-        for size in (10, 100000):
-            self.assertEqual(self.small_tool(f"print('x' * {size})", shell='"$@" > /dev/full'), full)
+        for unbuffered in ("", "export PYTHONUNBUFFERED=1; "):
+            for body in ("print('x')", "print('x' * 100000)", "standard_output().write(b'x')"):
+                ended = self.small_tool(body, shell=unbuffered + '"$@" > /dev/full')
+                self.assertEqual(ended, full, (unbuffered, body))
+
+    def test_messages_that_nobody_takes(self) -> None:
+        for shell, out in (
+            ('"$@" 2>&-', b"fine\n"),
+            ('"$@" 2> /dev/full', b"fine\n"),
+            ('"$@" > /dev/full 2>&1', b""),
+            ('"$@" 2>&- >&-', b""),
+        ):
+            ended = self.small_tool("print('fine', flush=True); raise PictureError('wrong')", shell=shell)
+            self.assertEqual(ended, (1, out, ""), shell)
+
+    def test_an_output_without_a_buffer(self) -> None:
+        shell = 'export PYTHONUNBUFFERED=1; "$@"'
+        ended = self.small_tool("print('ä'); standard_output().write(b'x')", shell=shell)
+        self.assertEqual(ended, (0, "xä\n".encode(), ""))
 
     def test_a_file_that_takes_a_part(self) -> None:
         body = "[write_raw(picture, standard_output()) for picture in pictures_of(None)]"
