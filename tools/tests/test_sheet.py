@@ -7,6 +7,7 @@ import contextlib
 import functools
 import io
 import os
+import re
 import subprocess
 import sys
 import tempfile
@@ -495,6 +496,28 @@ class LabelsFails(SheetTest):
         (self.folder / "fake-labels").unlink()
         [message] = self.refused(*SMALL, lines="qr A\n")
         self.assertRegex(message, "^label-sheet: cannot run .*fake-labels: No such file or directory. Install labels")
+
+
+class Recipes(SheetTest):
+    """The table of label stock in docs/RECIPES.md."""
+
+    ROW = re.compile(r"\| (\d+) of ([\d.]+) by ([\d.]+) mm \| `(.*)` \| ([\d.]+), ([\d.]+) \| (EAN-8: )?(\d+) \|")
+
+    def test_each_kind_of_stock(self) -> None:
+        rows = self.ROW.findall((support.TOP / "docs/RECIPES.md").read_text(encoding="utf-8"))
+        self.assertGreater(len(rows), 4)
+        for count, width, height, options, left, top, is_ean8, bars in rows:
+            words = dict(zip(options.split()[::2], options.split()[1::2]))
+            columns, lines = int(words["--columns"]), int(words["--rows"])
+            page = [float(side) for side in words.get("--page", "210x297").split("x")]
+            gap = float(words.get("--gap", "0x0").split("x")[0])
+            self.assertEqual((columns * lines, words["--cell"]), (int(count), f"{width}x{height}"))
+            self.assertAlmostEqual((page[0] - columns * float(width) - (columns - 1) * gap) / 2, float(left), 3)
+            self.assertAlmostEqual((page[1] - lines * float(height)) / 2, float(top), 3)
+            line = "ean8 73513537" if is_ean8 else "ean13 4006381333931"
+            for more, status in ((0, 0), (1, 1)):
+                draw = ("--", "--scale", "4", "--height", str(int(bars) + more))
+                self.sheet("--dpi", "300", *options.split(), *draw, lines=line, status=status)
 
 
 class Words(SheetTest):
