@@ -1,17 +1,18 @@
-"""Pictures of labels: read from a stream one by one, written, put together, and how the tools end.
+"""Pictures of labels: read from a stream one by one, written, put together, and a text as a picture.
 
 The tools label-zpl, label-escpos, label-fits, label-lines, label-caption and label-sheet share this module. A picture
 is what pbm(5) names PBM, plain (P1) or raw (P4). A stream holds any number of them, one after another.
 """
 
-import argparse
 import os
 import re
 import subprocess
 import sys
 from dataclasses import dataclass
-from io import BytesIO, RawIOBase, TextIOWrapper
-from typing import BinaryIO, Callable, Iterable, Iterator, NoReturn, Optional, Sequence, TextIO
+from io import BytesIO
+from typing import BinaryIO, Callable, Iterable, Iterator, Optional, Sequence
+
+from label_command import ToolError
 
 STANDARD_INPUT = "standard input"
 FILE_HELP = "PBM pictures, plain or raw, any number; standard input where it is missing or -"
@@ -28,7 +29,7 @@ RASTER = re.compile(rb"[01 \t\n\v\f\r]*")
 END = -1
 
 
-class PictureError(Exception):
+class PictureError(ToolError):
     """What is wrong with a picture, a text or a file: a message without the tool's name."""
 
 
@@ -388,13 +389,7 @@ def _refuse_missing_letters(ran: "subprocess.CompletedProcess[bytes]") -> None:
         raise PictureError(f"pbmtext cannot draw the text: {said or ran.returncode}")
 
 
-# How a tool starts and ends
-
-
-def argument_parser(tool: str, description: str) -> argparse.ArgumentParser:
-    """A parser of a tool's words, without abbreviations; it ends with status 2 and the usage for bad words."""
-    layout = argparse.RawDescriptionHelpFormatter
-    return argparse.ArgumentParser(prog=tool, description=description, formatter_class=layout, allow_abbrev=False)
+# Files
 
 
 def pictures_of(path: Optional[str]) -> Iterator[Picture]:
@@ -413,56 +408,3 @@ def numbered_pictures_of(path: Optional[str]) -> Iterator[tuple[str, Picture]]:
     name = STANDARD_INPUT if path is None or path == "-" else path
     for number, picture in enumerate(pictures_of(path), 1):
         yield f"{name}: label {number}", picture
-
-
-def standard_output() -> BinaryIO:
-    """Standard output for bytes; inside main_of its `write` takes all of them or fails."""
-    if sys.stdout is None:
-        raise PictureError("standard output is closed")
-    return sys.stdout.buffer
-
-
-def complain(tool: str, message: str) -> None:
-    """Writes a message on standard error, if that is open."""
-    if sys.stderr is None:  # print would take standard output, which may be a printer
-        return
-    try:
-        print(f"{tool}: {message}", file=sys.stderr, flush=True)
-    except OSError:
-        pass
-
-
-def main_of(tool: str, function: Callable[[], Optional[int]]) -> NoReturn:
-    """Runs a tool, and ends with its status (None is 0), or with 1 and a message for PictureError and OSError."""
-    try:
-        _buffer_standard_output()
-        status = function() or 0
-        if sys.stdout is not None:
-            sys.stdout.flush()
-    except PictureError as error:
-        complain(tool, str(error))
-        status = 1
-    except OSError as error:
-        complain(tool, f"{error.filename or 'standard output'}: {error.strerror or error}")
-        status = 1
-    except KeyboardInterrupt:
-        status = 130
-    _drop_unwritten(sys.stdout)
-    _drop_unwritten(sys.stderr)
-    sys.exit(status)
-
-
-def _buffer_standard_output() -> None:
-    """Puts a buffer before standard output where PYTHONUNBUFFERED left it without: its writes may take a part only."""
-    if sys.stdout is not None and isinstance(sys.stdout.buffer, RawIOBase):
-        sys.stdout = TextIOWrapper(open(sys.stdout.fileno(), "wb", closefd=False), sys.stdout.encoding)
-
-
-def _drop_unwritten(stream: Optional[TextIO]) -> None:
-    """Lets Python's last flush of a broken stream pass, which would change the status."""
-    if stream is None:
-        return
-    try:
-        stream.flush()
-    except OSError:
-        os.dup2(os.open(os.devnull, os.O_WRONLY), stream.fileno())

@@ -290,6 +290,18 @@ class Captions(TableTest):
         self.check(table, words, [f"ean13 {PENCIL}", f"ean8 {SMALL}", f"ean8 {SMALL}"], problems, 1)
         self.assertEqual(captions.read_text("utf-8"), "Käse\t1,20\n\t\nz\t5\n")
 
+    def test_the_column_of_the_codes_as_caption(self) -> None:
+        captions = self.folder / "captions.txt"
+        words = ["--code", "code", "--caption", "name", "--caption", "1", "--captions", str(captions)]
+        self.check(
+            f"code;name\n {SOAP[1:]} ;a\n{SMALL};b\n", [*words, "--fill-zeros"], [f"ean13 0{SOAP}", f"ean8 {SMALL}"]
+        )
+        self.assertEqual(captions.read_text("utf-8"), f"a\t0{SOAP}\nb\t{SMALL}\n")
+        self.check(f"code;name\n{BOOK[:-1]};a\n", [*words, "--without-check-digit"], [f"ean13 {BOOK[:-1]}"])
+        self.assertEqual(captions.read_text("utf-8"), f"a\t{BOOK}\n")
+        self.check("code;name\nLOT 7;a\n", [*words, "--symbology", "code128"], ["code128 LOT 7"])
+        self.assertEqual(captions.read_text("utf-8"), "a\tLOT 7\n")
+
     def test_file_that_is_in_use(self) -> None:
         table = self.folder / "table.csv"
         table.write_text(f"code;name\n{SMALL};a\n")
