@@ -10,7 +10,7 @@
 #   PREFIX/bin/label-*                     links to the tools
 #   PREFIX/lib/labels/                     the tools and the Python modules that they share
 #   PREFIX/share/man/man1/label*.1         the man pages, one for each tool
-#   PREFIX/share/bash-completion/completions/labels   the completion
+#   PREFIX/share/bash-completion/completions/label*   the completion, and links to it for the tools
 #
 # A file of an earlier version is replaced. Where something is missing, a message says what to do, nothing is installed
 # and the status is 1.
@@ -63,9 +63,9 @@ for tool in "$top"/tools/label-*; do
     name=${tool##*/}
     [ -e "$top/man/$name.1" ] || ln -sf label-tools.1 "$prefix/share/man/man1/$name.1"
 done
-for completion in "$top"/completions/*.bash; do
-    name=${completion##*/}
-    install -m 644 "$completion" "$prefix/share/bash-completion/completions/${name%.bash}"
+install -m 644 "$top/completions/labels.bash" "$prefix/share/bash-completion/completions/labels"
+for tool in "$top"/tools/label-*; do
+    ln -sf labels "$prefix/share/bash-completion/completions/${tool##*/}"
 done
 echo "installed in $prefix: labels, $(cd "$top/tools" && echo label-*)"
 

@@ -53,6 +53,8 @@ class Installing(unittest.TestCase):
         for tool in support.TOOLS.glob("label-*"):
             page = self.folder / f"share/man/man1/{tool.name}.1"
             self.assertIn(tool.name, page.read_text(encoding="utf-8").replace("\\-", "-"))
+            completion = self.folder / f"share/bash-completion/completions/{tool.name}"
+            self.assertIn(tool.name, completion.read_text(encoding="utf-8"))
 
     def test_the_prefix_where_none_is_named(self) -> None:
         done = self.install(program=support.labels_program())
