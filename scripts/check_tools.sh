@@ -29,7 +29,7 @@ number() {
 
 run_tests() {
     status=0
-    python3 -m unittest discover -v -s "$1" > "$said" 2>&1 || status=$?
+    python3 -m unittest discover -v -b -s "$1" > "$said" 2>&1 || status=$?
     good=$(grep -c ' \.\.\. ok$' "$said") || true
     faults=$(($(number failures) + $(number errors)))
     if [ "$faults" -eq 0 ] && { [ "$status" -ne 0 ] || ! grep -q '^Ran [1-9]' "$said"; }; then
