@@ -1,6 +1,6 @@
 use Rattle.std.proofs.Common.{◌≡◌, ◌<◌, ◌++◌, ◌∙◌, ℕ, List, ap, sym, refl, subst, arith, flat_map, take}
-use Rattle.device.proofs.WritingLemmas.{HasWritten, HasWritten-none, HasWritten-more, WritesText-fails}
-use Rattle.device.proofs.WritingLemmas.{WritesText-whole}
+use Rattle.device.proofs.WritingLaws.{HasWritten, HasWritten-none, HasWritten-more, WritesText-fails}
+use Rattle.device.proofs.WritingLaws.{WritesText-whole}
 use Rattle.picture.specs.Private.Rows.{row_text}
 use Rattle.picture.specs.Text.{below, pixel_row}
 use Rattle.picture.proofs.WritingLaws.{flat_map-below_front, flat_map-below_more}
