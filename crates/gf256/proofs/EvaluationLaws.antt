@@ -5,7 +5,8 @@ use Rattle.std.proofs.lemmas.List.{length-append}
 use Rattle.std.proofs.lemmas.List.Elements.{All-head, All-tail}
 use Rattle.std.proofs.lemmas.Nat.{xor_of_8}
 use Rattle.gf256.specs.Field.{field_product, field_power, IsElement}
-use Rattle.gf256.specs.Polynomial.{zeros, evaluate, polynomial_sum, scalar_multiple, polynomial_product}
+use Rattle.gf256.specs.Private.{zeros}
+use Rattle.gf256.specs.Polynomial.{evaluate, polynomial_sum, scalar_multiple, polynomial_product}
 use Rattle.gf256.proofs.DistributivityLaws.{field_product-xor_left, field_product-xor_right, field_product-zero_left}
 use Rattle.gf256.proofs.DistributivityLaws.{field_product-zero_right, xor_medial}
 use Rattle.gf256.proofs.FieldLaws.{field_product-lt, field_product-comm, field_product-assoc, field_product-one_right}
@@ -66,7 +67,8 @@ evaluate-scalar_multiple c (a ∷ p) x hc hp hx =
     (length-scalar_multiple c p)
     ∙ ap (λ y. bit_xor y (evaluate (scalar_multiple c p) x))
     (field_product-assoc c a power hc (All-head IsElement a p hp) (field_power-lt x (length p) hx))
-    ∙ ap (bit_xor (field_product c (field_product a power))) (evaluate-scalar_multiple c p x hc (All-tail IsElement a p hp) hx)
+    ∙ ap (bit_xor (field_product c (field_product a power))) (evaluate-scalar_multiple c p x hc
+    (All-tail IsElement a p hp) hx)
     ∙ sym (field_product-xor_right c (field_product a power) (evaluate p x))
 
 pub evaluate-zeros : (n x : ℕ) → evaluate (zeros n) x ≡ 0
@@ -75,13 +77,6 @@ evaluate-zeros zero x = refl
 evaluate-zeros (suc n) x =
     ap (λ y. bit_xor y (evaluate (zeros n) x)) (field_product-zero_left (field_power x (length (zeros n))))
     ∙ evaluate-zeros n x
-
-pub evaluate-zeros_append : (n : ℕ) (p : List ℕ) (x : ℕ) → evaluate (zeros n ++ p) x ≡ evaluate p x
-unfolding evaluate
-evaluate-zeros_append zero p x = refl
-evaluate-zeros_append (suc n) p x =
-    ap (λ y. bit_xor y (evaluate (zeros n ++ p) x)) (field_product-zero_left (field_power x (length (zeros n ++ p))))
-    ∙ evaluate-zeros_append n p x
 
 -- p times x^n
 pub evaluate-append_zeros : (p : List ℕ) (n x : ℕ) → All IsElement p → x < 256
@@ -116,7 +111,8 @@ evaluate-polynomial_product (c ∷ p) q b x hp hq hx =
     let hE = evaluate-lt g x hq hx in
     let hpow = field_power-lt x n hx in
     let lengths : length (S ++ zeros n) ≡ length (0 ∷ P) =
-    length-append S (zeros n) ∙ omega (arith, length-scalar_multiple c g, length-zeros n, length-polynomial_product p q b) in
+    length-append S (zeros n) ∙ omega
+    (arith, length-scalar_multiple c g, length-zeros n, length-polynomial_product p q b) in
     let left : evaluate (S ++ zeros n) x ≡ field_product (field_product c power) E =
     evaluate-append_zeros S n x (All-scalar_multiple c g hc hq) hx
     ∙ ap (λ y. field_product y power) (evaluate-scalar_multiple c g x hc hq hx)

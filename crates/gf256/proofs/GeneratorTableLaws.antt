@@ -40,7 +40,8 @@ powers-small (e ∷ es) h =
 
 generators : all_below (λ i. same_numbers (generator (i + 1)) (1 ∷ map exp (logarithms_at (i + 1))) && list_all
     (λ e. nat_lt e 255) (logarithms_at (i + 1))) 30 ≡ true
-unfolding all_below exp logarithms_at generator polynomial_product polynomial_sum scalar_multiple field_power field_product
+unfolding all_below exp logarithms_at generator polynomial_product polynomial_sum scalar_multiple field_power
+    field_product
     binary_product binary_remainder
 generators = refl
 

@@ -7,7 +7,8 @@ use Rattle.std.proofs.lemmas.List.{get_or_past}
 use Rattle.std.proofs.lemmas.Bool.{cases_lt}
 use Rattle.std.proofs.lemmas.Grind.{same_number_lists}
 use Rattle.gf256.specs.Field.{field_product, field_power}
-use Rattle.gf256.specs.Polynomial.{zeros, polynomial_sum, scalar_multiple}
+use Rattle.gf256.specs.Private.{zeros}
+use Rattle.gf256.specs.Polynomial.{polynomial_sum, scalar_multiple}
 use Rattle.gf256.proofs.DistributivityLaws.{field_product-zero_right}
 use Rattle.gf256.proofs.DivisionLaws.{next_register, length-next_register}
 
@@ -29,7 +30,8 @@ get_or-polynomial_sum (a ∷ p) [] k = sym (xor_zero_r (get_or (a ∷ p) k 0))
 get_or-polynomial_sum (a ∷ p) (b ∷ q) zero = refl
 get_or-polynomial_sum (a ∷ p) (b ∷ q) (suc k) = get_or-polynomial_sum p q k
 
-pub get_or-scalar_multiple : (c : ℕ) (p : List ℕ) (k : ℕ) → get_or (scalar_multiple c p) k 0 ≡ field_product c (get_or p k 0)
+pub get_or-scalar_multiple : (c : ℕ) (p : List ℕ) (k : ℕ) → get_or (scalar_multiple c p) k 0
+    ≡ field_product c (get_or p k 0)
 unfolding scalar_multiple
 get_or-scalar_multiple c [] k = sym (field_product-zero_right c)
 get_or-scalar_multiple c (a ∷ p) zero = refl
@@ -57,7 +59,8 @@ pub next_register-places : (low old new : List ℕ) (codeword : ℕ) → 0 < len
     (field_product (bit_xor (get_or old 0 0) codeword) (get_or low k 0))) →
     new ≡ next_register low old codeword
 next_register-places low old new codeword pos same long each =
-    same_number_lists new (next_register low old codeword) (long ∙ same ∙ sym (length-next_register low old codeword pos same)) (λ k h.
+    same_number_lists new (next_register low old codeword) (long ∙ same ∙ sym
+    (length-next_register low old codeword pos same)) (λ k h.
     let next : k + 1 ≡ suc k = omega arith in
     each k h
     ∙ ap (λ j. bit_xor (get_or old j 0) (field_product (bit_xor (get_or old 0 0) codeword) (get_or low k 0))) next

@@ -1,14 +1,12 @@
 //! Products and powers in the field of 256 elements (ISO/IEC 18004, 7.5.2).
-ghost use Rattle.gf256.specs.Field.{IsFieldProduct, alpha, field_power, field_product};
-ghost use Rattle.std.specs.Prelude.{◌≡◌, ◌<◌, ℕ};
+ghost use Rattle.gf256.specs.Field.{IsTheFieldProduct, alpha, field_power, field_product};
+ghost use Rattle.std.specs.Prelude.{◌≡◌, ◌<◌};
 
 use crate::tables::{LOGARITHMS, POWERS};
 
-/// The product of two elements. A byte is an element: its bit i is the coefficient of x^i.
+/// Returns the product of two elements. A byte is an element: its bit i is the coefficient of x^i.
 pub fn mul(a: u8, b: u8) -> u8
-    ensures product { result ≡ field_product a b }
-    ensures remainder { IsFieldProduct a b result }
-    ensures only { (r : ℕ) → IsFieldProduct a b r → r ≡ result }
+    ensures { IsTheFieldProduct a b result }
 {
     if a == 0 || b == 0 {
         return 0;
@@ -16,21 +14,21 @@ pub fn mul(a: u8, b: u8) -> u8
     product_of_powers(logarithm_of(a), logarithm_of(b))
 }
 
-/// The power alpha^i. The element alpha is 2, the polynomial x.
+/// Returns the power alpha^i, for any `i`. The element alpha is 2, the polynomial x.
 pub fn pow_alpha(i: usize) -> u8
     ensures { result ≡ field_power alpha i }
 {
     POWERS[i % 255]
 }
 
-/// The product of alpha^i and alpha^j.
+/// Returns the product of alpha^i and alpha^j.
 pub(crate) fn product_of_powers(i: u8, j: u8) -> u8
     ensures { result ≡ field_product (field_power alpha i) (field_power alpha j) }
 {
     POWERS[usize::from(i) + usize::from(j)]
 }
 
-/// The logarithm of an element, an i with alpha^i the element. The element 0 has none.
+/// Returns the logarithm of an element: an i from 0 to 254 such that alpha^i is the element. The element 0 has none.
 pub(crate) fn logarithm_of(element: u8) -> u8
     requires { 0 < element }
     ensures { field_power alpha result ≡ element }

@@ -1,10 +1,10 @@
 //! Generator polynomials and the error correction codewords of a block (ISO/IEC 18004, 7.5.2 and annex A).
-ghost use Rattle.gf256.specs.Field.{alpha, field_power, field_product};
-ghost use Rattle.gf256.specs.ErrorCorrection.{HasRoots, IsRemainder, EcCodewordsAreRemainder, RemaindersHaveRoots, generator};
-ghost use Rattle.gf256.specs.ErrorCorrection.{ec_codewords_of};
-ghost use Rattle.gf256.specs.Polynomial.{zeros};
-ghost use Rattle.std.specs.Prelude.{◌≡◌, ◌+◌, ◌<◌, ◌≤◌, ℕ, List, ◌∷◌, ◌++◌, length, map, slice_index, EachIndex};
-ghost use Rattle.std.specs.Prelude.{bit_xor};
+ghost use Rattle.gf256.specs.Field.{alpha, field_power};
+ghost use Rattle.gf256.specs.ErrorCorrection.{AreEcCodewords, IsEcCodewordCount, EcCodewordsAreRemainder};
+ghost use Rattle.gf256.specs.ErrorCorrection.{RemaindersHaveRoots, generator};
+ghost use Rattle.gf256.specs.Private.{HasPlaces, MovesUp};
+ghost use Rattle.gf256.specs.Private.{zeros};
+ghost use Rattle.std.specs.Prelude.{◌≡◌, ◌+◌, ◌<◌, ℕ, ◌∷◌, length, map, slice_index, EachIndex, bit_xor};
 
 use crate::field::{logarithm_of, product_of_powers};
 use crate::tables::GENERATORS;
@@ -21,30 +21,25 @@ impl Model for Generator {
 
     ghost view = { λ g. g.count };
 
-    ghost invariant = { λ g. (1 ≤ g.count) × (g.count ≤ 30) };
+    ghost invariant = { λ g. IsEcCodewordCount g.count };
 }
 
 impl Generator {
-    /// The generator polynomial of blocks with `k` error correction codewords, the product of x + alpha^i over the i below `k`.
+    /// Makes the generator polynomial of blocks with `k` error correction codewords, 1 to 30: the product of x +
+    /// alpha^i over the i below `k`.
     pub fn new(k: usize) -> Generator
-        requires at_least_one { 1 ≤ k }
-        requires at_most_thirty { k ≤ 30 }
+        requires { IsEcCodewordCount k }
         ensures { result ≡ k }
     {
         Generator { count: k }
     }
 
-    /// Writes the error correction codewords of a block into `out`, which has room for exactly these: the remainder of the block
-    /// times x^k by the generator polynomial, the highest coefficient first. What `out` held does not count.
+    /// Writes the error correction codewords of a block into `out`, which has room for exactly these. They are the
+    /// remainder of the block times x^k by the generator polynomial, the highest coefficient first. What `out` held
+    /// before plays no part.
     pub fn ec_codewords(&self, block: &[u8], out: &mut [u8])
         requires { length out.old ≡ self.now }
-        ensures value { out.new ≡ ec_codewords_of self.now block.now }
-
-        // There is one remainder, and it makes a codeword.
-        ensures remainder { IsRemainder self.now block.now out.new }
-        ensures only { (ec_codewords : List ℕ) → IsRemainder self.now block.now ec_codewords
-            → ec_codewords ≡ out.new }
-        ensures roots { HasRoots self.now (block.now ++ out.new) }
+        ensures { AreEcCodewords self.now block.now out.new }
     {
         let logarithms = logarithms_of(self.count);
         clear(out);
@@ -54,10 +49,10 @@ impl Generator {
     }
 }
 
-/// The logarithms of the coefficients of a generator polynomial, from high to low, but for the highest, which is 1.
+/// Returns the logarithms of the coefficients of a generator polynomial, from high to low, but for the highest, which
+/// is 1.
 fn logarithms_of(k: usize) -> &'static [u8]
-    requires at_least_one { 1 ≤ k }
-    requires at_most_thirty { k ≤ 30 }
+    requires { IsEcCodewordCount k }
     ensures coefficients { generator k ≡ 1 ∷ map (field_power alpha) result.now }
     ensures count { length result.now ≡ k }
 {
@@ -73,16 +68,13 @@ fn clear(register: &mut [u8])
     register.fill(0);
 }
 
-/// Moves each codeword of the register up by one place, and adds the multiple of the divisor that cancels the codeword that
-/// leaves the register and the new codeword. The divisor is given by the logarithms of its coefficients but the highest.
+/// Moves each codeword of the register up by one place. Adds the multiple of the divisor that cancels the sum of the
+/// codeword that leaves the register and the new codeword. The divisor is given by the logarithms of its coefficients
+/// but the highest.
 fn shift(logarithms: &[u8], register: &mut [u8], codeword: u8)
-    requires some { 0 < length logarithms.now }
-    requires same { length register.old ≡ length logarithms.now }
-    ensures { EachIndex register.new (λ j.
-        slice_index register.new j
-        ≡ bit_xor (slice_index register.old (j + 1))
-        (field_product (bit_xor (slice_index register.old 0) codeword)
-        (field_power alpha (slice_index logarithms.now j)))) }
+    requires { HasPlaces logarithms.now register.old }
+    ensures { MovesUp (bit_xor (slice_index register.old 0) codeword)
+        logarithms.now register.old register.new }
 {
     let feedback = register[0] ^ codeword;
     if feedback == 0 {
@@ -92,7 +84,7 @@ fn shift(logarithms: &[u8], register: &mut [u8], codeword: u8)
     }
 }
 
-/// Moves each codeword of the register up by one place, and a 0 into the last.
+/// Moves each codeword of the register up by one place, and writes a 0 into the last.
 fn move_up(register: &mut [u8])
     requires { 0 < length register.old }
     ensures { EachIndex register.new (λ j.
@@ -105,15 +97,11 @@ fn move_up(register: &mut [u8])
     register[last] = 0;
 }
 
-/// Moves each codeword of the register up by one place, and adds to each the product of alpha^logarithm and a coefficient.
+/// Moves each codeword of the register up by one place, and adds to each the product of alpha^logarithm and the
+/// coefficient of its place.
 fn move_up_and_add(logarithm: u8, logarithms: &[u8], register: &mut [u8])
-    requires some { 0 < length logarithms.now }
-    requires same { length register.old ≡ length logarithms.now }
-    ensures { EachIndex register.new (λ j.
-        slice_index register.new j
-        ≡ bit_xor (slice_index register.old (j + 1))
-        (field_product (field_power alpha logarithm)
-        (field_power alpha (slice_index logarithms.now j)))) }
+    requires { HasPlaces logarithms.now register.old }
+    ensures { MovesUp (field_power alpha logarithm) logarithms.now register.old register.new }
 {
     let last = logarithms.len() - 1;
     for j in 0..last {
@@ -122,8 +110,8 @@ fn move_up_and_add(logarithm: u8, logarithms: &[u8], register: &mut [u8])
     register[last] = product_of_powers(logarithm, logarithms[last]);
 }
 
-/// For crates above: whatever the block, the error correction codewords of the definition are a remainder by the generator
-/// polynomial, and a block followed by a remainder is a codeword. It does nothing when it runs.
+/// For crates above: whatever the block, the error correction codewords of the definition are a remainder by the
+/// generator polynomial, and a block followed by a remainder is a multiple of it. It does nothing when it runs.
 pub fn ec_codewords_are_sound()
     ensures remainder { EcCodewordsAreRemainder }
     ensures roots { RemaindersHaveRoots }

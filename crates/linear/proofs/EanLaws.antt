@@ -2,7 +2,8 @@
 use Rattle.std.proofs.Common.{◌≡◌, ℕ, ◌+◌, ◌-◌, ◌*◌, ◌<◌, Bool, true, false, cond, Ok, Err, Result, Some, None, Option}
 use Rattle.std.proofs.Common.{List, [], ◌∷◌, ◌++◌, length, take, drop, refl, sym, ap, subst, ◌∙◌, arith, length-append}
 use Rattle.std.proofs.Common.{append_assoc, eqb, eq-eqb, inl, inr, map, ◌%◌, ◌≤◌, lit≤}
-use Rattle.std.specs.Prelude.{option_map, option_and_then, flat_map, replicate, slice_index, position, All, IfOk}
+use Rattle.std.specs.Prelude.{option_map, option_and_then, flat_map, replicate, slice_index, position, All, IfOk, codes}
+use Rattle.std.specs.Bool.{then_some}
 use Rattle.std.specs.Option.{option_zip}
 use Rattle.std.specs.Result.{result_ok}
 use Rattle.std.specs.Str.{bytes_eq}
@@ -16,12 +17,13 @@ use Rattle.linear.specs.declared.refusal.Refusal.TheVariants.{WrongNumberOfDigit
 use Rattle.linear.specs.declared.ean.NumberSet.{NumberSet}
 use Rattle.linear.specs.declared.ean.NumberSet.TheVariants.{A, C}
 use Rattle.linear.specs.declared.limits.TheConstants.{MAX_MODULES}
-use Rattle.linear.specs.Digits.{digit_value, weighted_sum, checked, completed, full_digits, check_digit}
+use Rattle.linear.specs.Drawing.{IsDrawn}
+use Rattle.linear.specs.Digits.{digit_value, weighted_sum, checked_digits, with_check_digit, full_digits, check_digit}
 use Rattle.linear.specs.Modules.{each_group}
 use Rattle.linear.specs.Tables.{left_half_sets}
 use Rattle.linear.specs.Ean.{pattern, patterns, normal_guard, centre_guard, symbol, left_sets, ean8_row, ean13_row}
 use Rattle.linear.specs.Ean.{upca_row}
-use Rattle.linear.specs.EanReading.{digit_in, is_framed, read_halves, digit_in_a_or_b, with_first_digit, without_zero}
+use Rattle.linear.specs.EanReading.{digit_in, has_guards, read_halves, digit_in_a_or_b, with_first_digit}
 use Rattle.linear.specs.EanReading.{read_ean8, read_ean13, read_upca}
 use Rattle.linear.proofs.PatternLaws.{length-pattern, digit_in-pattern, digit_in_a_or_b-pattern_a}
 use Rattle.linear.proofs.PatternLaws.{digit_in_a_or_b-pattern_b, length-left_sets, letter_of, position-left_sets}
@@ -39,18 +41,19 @@ digit_below byte h = omega arith
 digit_again : (byte : ℕ) → IsAsciiDigit byte → 48 + digit_value byte ≡ byte
 digit_again byte h = omega arith
 
-pub length-digit : (set : NumberSet) (byte : ℕ) → IsAsciiDigit byte → length (pattern set (digit_value byte)) ≡ 7
-length-digit set byte h = length-pattern set (digit_value byte) (digit_below byte h)
+pub length-pattern_digit : (set : NumberSet) (byte : ℕ) → IsAsciiDigit byte
+    → length (pattern set (digit_value byte)) ≡ 7
+length-pattern_digit set byte h = length-pattern set (digit_value byte) (digit_below byte h)
 
-pub digit_found : (set : NumberSet) (byte : ℕ) → IsAsciiDigit byte
+pub digit_in-digit : (set : NumberSet) (byte : ℕ) → IsAsciiDigit byte
     → digit_in set (pattern set (digit_value byte)) ≡ Some byte
-digit_found set byte h = digit_in-pattern set (digit_value byte) (digit_below byte h) ∙ ap Some (digit_again byte h)
+digit_in-digit set byte h = digit_in-pattern set (digit_value byte) (digit_below byte h) ∙ ap Some (digit_again byte h)
 
 pub length-right_half : (bytes : List ℕ) → AllByRecursion IsAsciiDigit bytes
     → length (right_half bytes) ≡ 7 * length bytes
 length-right_half [] d = refl
 length-right_half (byte ∷ bytes) d =
-    let first = length-digit C byte d.0 in
+    let first = length-pattern_digit C byte d.0 in
     let rest = length-right_half bytes d.1 in
     length-append (pattern C (digit_value byte)) (right_half bytes) ∙ omega arith
 
@@ -60,23 +63,23 @@ length-patterns [] [] e d = refl
 length-patterns [] (byte ∷ bytes) e d = absurd (omega arith)
 length-patterns (set ∷ sets) [] e d = absurd (omega arith)
 length-patterns (set ∷ sets) (byte ∷ bytes) e d =
-    let first = length-digit set byte d.0 in
+    let first = length-pattern_digit set byte d.0 in
     let rest = length-patterns sets bytes (omega arith) d.1 in
     length-append (pattern set (digit_value byte)) (patterns sets bytes) ∙ omega arith
 
 -- each group of the right half is found in set C
-pub right_found : (bytes : List ℕ) (after : List Bool) → AllByRecursion IsAsciiDigit bytes
+pub each_group-right_half : (bytes : List ℕ) (after : List Bool) → AllByRecursion IsAsciiDigit bytes
     → each_group (digit_in C) 7 (length bytes) (right_half bytes ++ after) ≡ Some bytes
-right_found [] after d = refl
-right_found (byte ∷ bytes) after d =
+each_group-right_half [] after d = refl
+each_group-right_half (byte ∷ bytes) after d =
     let first = pattern C (digit_value byte) in
-    let seven : length first ≡ 7 = length-digit C byte d.0 in
+    let seven : length first ≡ 7 = length-pattern_digit C byte d.0 in
     rw (
       append_assoc first (right_half bytes) after,
       take-append 7 first (right_half bytes ++ after) seven,
       drop-append 7 first (right_half bytes ++ after) seven,
-      digit_found C byte d.0,
-      right_found bytes after d.1,
+      digit_in-digit C byte d.0,
+      each_group-right_half bytes after d.1,
     ) refl
 
 -- two lists, element by element
@@ -86,24 +89,24 @@ zipped g (set ∷ sets) [] = []
 zipped g (set ∷ sets) (byte ∷ bytes) = g set byte ∷ zipped g sets bytes
 
 -- what a reader finds for each group of a left half, from what it finds for one digit in one of its sets
-pub left_found : {Y : Type 0} (found : List Bool → Option Y) (g : NumberSet → ℕ → Y) (P : NumberSet → Type 0)
+pub each_group-patterns : {Y : Type 0} (found : List Bool → Option Y) (g : NumberSet → ℕ → Y) (P : NumberSet → Type 0)
     → ((set : NumberSet) (byte : ℕ) → P set → IsAsciiDigit byte
     → found (pattern set (digit_value byte)) ≡ Some (g set byte))
     → (sets : List NumberSet) (bytes : List ℕ) (after : List Bool) → AllByRecursion P sets
     → length sets ≡ length bytes → AllByRecursion IsAsciiDigit bytes
     → each_group found 7 (length bytes) (patterns sets bytes ++ after) ≡ Some (zipped g sets bytes)
-left_found found g P one [] [] after s e d = refl
-left_found found g P one [] (byte ∷ bytes) after s e d = absurd (omega arith)
-left_found found g P one (set ∷ sets) [] after s e d = absurd (omega arith)
-left_found found g P one (set ∷ sets) (byte ∷ bytes) after s e d =
+each_group-patterns found g P one [] [] after s e d = refl
+each_group-patterns found g P one [] (byte ∷ bytes) after s e d = absurd (omega arith)
+each_group-patterns found g P one (set ∷ sets) [] after s e d = absurd (omega arith)
+each_group-patterns found g P one (set ∷ sets) (byte ∷ bytes) after s e d =
     let first = pattern set (digit_value byte) in
-    let seven : length first ≡ 7 = length-digit set byte d.0 in
+    let seven : length first ≡ 7 = length-pattern_digit set byte d.0 in
     rw (
       append_assoc first (patterns sets bytes) after,
       take-append 7 first (patterns sets bytes ++ after) seven,
       drop-append 7 first (patterns sets bytes ++ after) seven,
       one set byte s.0 d.0,
-      left_found found g P one sets bytes after s.1 (omega arith) d.1,
+      each_group-patterns found g P one sets bytes after s.1 (omega arith) d.1,
     ) refl
 
 -- a symbol with halves of n digits
@@ -135,34 +138,36 @@ module _ (n : ℕ) (sets : List NumberSet) (left right : List ℕ) (as_many : le
       ∙ drop-append_more 5 (7 * n) centre_guard _ refl
       ∙ drop-append (7 * n) (right_half right) normal_guard long_right_half
 
-  pub symbol_framed : is_framed n (symbol sets left right) ≡ true
-  symbol_framed = rw (from_centre, from_end) refl
+  pub has_guards-symbol : has_guards n (symbol sets left right) ≡ true
+  has_guards-symbol = rw (from_centre, from_end) refl
 
   pub symbol_right_read : each_group (digit_in C) 7 n (drop (8 + 7 * n) (symbol sets left right)) ≡ Some right
   symbol_right_read =
       rw (from_right) (let P : ℕ → Type 0 =
       λ k. each_group (digit_in C) 7 k (right_half right ++ normal_guard) ≡ Some right in
-      subst P long_right (right_found right normal_guard digits_right))
+      subst P long_right (each_group-right_half right normal_guard digits_right))
 
   -- the two halves are read
-  pub halves_read : {Y : Type 0} (found : List Bool → Option Y) (g : NumberSet → ℕ → Y) (P : NumberSet → Type 0)
+  pub read_halves-symbol : {Y : Type 0} (found : List Bool → Option Y) (g : NumberSet → ℕ → Y) (P : NumberSet → Type 0)
       → ((set : NumberSet) (byte : ℕ) → P set → IsAsciiDigit byte
       → found (pattern set (digit_value byte)) ≡ Some (g set byte)) → AllByRecursion P sets
       → read_halves n found (symbol sets left right) ≡ Some (zipped g sets left, right)
-  halves_read {Y} found g P one in_sets =
+  read_halves-symbol {Y} found g P one in_sets =
       let after = centre_guard ++ (right_half right ++ normal_guard) in
       let on_left : each_group found 7 n (drop 3 (symbol sets left right)) ≡ Some (zipped g sets left) =
       let Q : ℕ → Type 0 = λ k. each_group found 7 k (patterns sets left ++ after)
       ≡ Some (zipped g sets left) in
-      subst Q long_left (left_found found g P one sets left after in_sets (as_many ∙ sym long_left) digits_left) in
+      subst Q long_left (each_group-patterns found g P one sets left after in_sets (as_many
+      ∙ sym long_left) digits_left) in
       ap (λ b. cond b (option_zip (each_group found 7 n (drop 3 (symbol sets left right)))
-      (each_group (digit_in C) 7 n (drop (8 + 7 * n) (symbol sets left right)))) None) symbol_framed
+      (each_group (digit_in C) 7 n (drop (8 + 7 * n) (symbol sets left right)))) None) has_guards-symbol
       ∙ ap (λ o. option_zip o (each_group (digit_in C) 7 n (drop (8 + 7 * n) (symbol sets left right)))) on_left
       ∙ ap (λ o. option_zip (Some (zipped g sets left)) o) symbol_right_read
 
 -- full data has the right check digit
-pub full_checked : (count : ℕ) (full : List ℕ) → IsFull count full → result_ok (completed count full) ≡ Some full
-full_checked count full f =
+pub with_check_digit-full : (count : ℕ) (full : List ℕ) → IsFull count full
+    → result_ok (with_check_digit count full) ≡ Some full
+with_check_digit-full count full f =
     let long : length full ≡ count + 1 = ap length f.whole ∙ length-append f.digits (f.last ∷ [])
     ∙ ap (λ k. k + 1) f.long in
     let more : eqb (length full) count ≡ false = grind (arith, nat_tests) in
@@ -171,15 +176,15 @@ full_checked count full f =
     ∙ (let z : count - count ≡ 0 = omega arith in ap (λ k. slice_index (f.last ∷ []) k) z) in
     let front : take count full ≡ f.digits = ap (λ xs. take count xs) f.whole
     ∙ take-append count f.digits (f.last ∷ []) f.long in
-    let right : checked (take count full) (slice_index full count) ≡ Ok full =
-    ap (λ xs. checked xs (slice_index full count)) front ∙ ap (checked f.digits) at_last
+    let right : checked_digits (take count full) (slice_index full count) ≡ Ok full =
+    ap (λ xs. checked_digits xs (slice_index full count)) front ∙ ap (checked_digits f.digits) at_last
     ∙ ap (λ b. cond b (Ok (f.digits ++ f.last ∷ []))
     (Err (WrongCheckDigit (digit_value f.last) (check_digit f.digits))))
     (eq-eqb (digit_value f.last) (check_digit f.digits) f.right)
     ∙ ap Ok (sym f.whole) in
     let by_length : Bool → Bool → Result (List ℕ) Refusal =
     λ b d. cond b (Ok (full ++ (48 + check_digit full) ∷ []))
-    (cond d (checked (take count full) (slice_index full count)) (Err (WrongNumberOfDigits (length full)))) in
+    (cond d (checked_digits (take count full) (slice_index full count)) (Err (WrongNumberOfDigits (length full)))) in
     ap (λ b. result_ok (by_length b (eqb (length full) (count + 1)))) more
     ∙ ap (λ d. result_ok (by_length false d)) (eq-eqb (length full) (count + 1) long) ∙ ap result_ok right
 
@@ -198,7 +203,7 @@ all_in full d = recursion_from_All IsAsciiDigit full d
 -- EAN-8
 in_a : (set : NumberSet) (byte : ℕ) → set ≡ A → IsAsciiDigit byte
     → digit_in A (pattern set (digit_value byte)) ≡ Some byte
-in_a set byte e d = rw (e) (digit_found A byte d)
+in_a set byte e d = rw (e) (digit_in-digit A byte d)
 
 zipped_bytes : (sets : List NumberSet) (bytes : List ℕ) → length sets ≡ length bytes
     → zipped (λ set byte. byte) sets bytes ≡ bytes
@@ -207,8 +212,8 @@ zipped_bytes [] (byte ∷ bytes) e = absurd (omega arith)
 zipped_bytes (set ∷ sets) [] e = absurd (omega arith)
 zipped_bytes (set ∷ sets) (byte ∷ bytes) e = ap (λ xs. byte ∷ xs) (zipped_bytes sets bytes (omega arith))
 
-ean8_full : (full : List ℕ) → IsFull 7 full → read_ean8 (ean8_row full) ≡ Some full
-ean8_full full f =
+read_ean8-ean8_row : (full : List ℕ) → IsFull 7 full → read_ean8 (ean8_row full) ≡ Some full
+read_ean8-ean8_row full f =
     let sets : List NumberSet = replicate 4 A in
     let long : length full ≡ 8 = length-full 7 full f in
     let long_left : length (take 4 full) ≡ 4 = length-take-le 4 full (omega arith) in
@@ -217,22 +222,35 @@ ean8_full full f =
     all_in (take 4 full) (All-take IsAsciiDigit 4 full (all_full 7 full f)) in
     let d_right : AllByRecursion IsAsciiDigit (drop 4 full) =
     all_in (drop 4 full) (All-drop IsAsciiDigit 4 full (all_full 7 full f)) in
-    let halves = halves_read 4 sets (take 4 full) (drop 4 full) refl long_left long_right d_left d_right (digit_in A)
+    let halves = read_halves-symbol 4 sets (take 4 full) (drop 4 full) refl long_left long_right d_left d_right
+    (digit_in A)
     (λ set byte. byte) (λ set. set ≡ A) in_a (refl, (refl, (refl, (refl, tt)))) in
     let whole : zipped (λ set byte. byte) sets (take 4 full) ++ drop 4 full ≡ full =
     ap (λ xs. xs ++ drop 4 full) (zipped_bytes sets (take 4 full) (sym long_left)) ∙ take-append-drop 4 full in
-    ap (λ o. option_and_then (λ (halves : List ℕ × List ℕ). result_ok (completed 7 (halves.0 ++ halves.1))) o) halves
-    ∙ ap (λ xs. result_ok (completed 7 xs)) whole ∙ full_checked 7 full f
+    ap (λ o. option_and_then (λ (halves : List ℕ × List ℕ). result_ok (with_check_digit 7
+    (halves.0 ++ halves.1))) o) halves
+    ∙ ap (λ xs. result_ok (with_check_digit 7 xs)) whole ∙ with_check_digit-full 7 full f
 
--- bars that stand in a row that was empty fit in it
-pub does_fit : (old row bars : List Bool) → old ≡ [] → row ≡ bars → length row ≤ length old + 95
-    → length bars ≤ MAX_MODULES
-does_fit old row bars empty e h =
-    subst (λ xs. length xs ≤ MAX_MODULES) e (let none = ap length empty in omega arith)
+-- a row that was empty, and then is that of the full data
+pub IsDrawn-from_Ok : {R : Type 0} (answer : Result (List ℕ) Refusal) (row_of : List ℕ → List Bool)
+    (reading : List Bool → Option (List ℕ)) (full : List ℕ) (old row : List Bool) → answer ≡ Ok full → old ≡ []
+    → row ≡ row_of full → length row ≤ length old + MAX_MODULES → IfOk answer (λ xs. reading (row_of xs) ≡ Some xs) → R
+    → IfOk answer (λ xs. R × IsDrawn row_of reading xs row)
+IsDrawn-from_Ok (Ok other) row_of reading full old row e empty drawn short read done =
+    let same : full ≡ other = cc in (
+      done,
+      record {
+        drawn = drawn ∙ ap row_of same;
+        fits = (let none = ap length empty in omega (arith, ap length (drawn ∙ ap row_of same)));
+        read = read;
+      },
+    )
+IsDrawn-from_Ok (Err refusal) row_of reading full old row e empty drawn short read done = tt
 
 -- what is drawn of data that is full is read back
 pub ean8_read_back : (bytes : List ℕ) → IfOk (full_digits 7 bytes) (λ full. read_ean8 (ean8_row full) ≡ Some full)
-ean8_read_back bytes = IfOk-from_each (full_digits 7 bytes) _ (λ full h. ean8_full full (full_from_Ok 7 bytes full h))
+ean8_read_back bytes = IfOk-from_each (full_digits 7 bytes) _ (λ full h. read_ean8-ean8_row full
+    (full_from_Ok 7 bytes full h))
 
 -- EAN-13
 in_a_or_b : (set : NumberSet) (byte : ℕ) → IsAOrB set → IsAsciiDigit byte
@@ -259,10 +277,26 @@ zipped_seconds [] (byte ∷ bytes) e = absurd (omega arith)
 zipped_seconds (set ∷ sets) [] e = absurd (omega arith)
 zipped_seconds (set ∷ sets) (byte ∷ bytes) e = ap (λ xs. byte ∷ xs) (zipped_seconds sets bytes (omega arith))
 
+-- the first digit and those of the halves
+with_first_digit-zipped : (digit : ℕ) (rest : List ℕ) → digit < 10 → length (take 6 rest) ≡ 6
+    → with_first_digit (zipped (λ set byte. (letter_of set, byte)) (left_sets digit) (take 6 rest), drop 6 rest)
+    ≡ Some ((48 + digit) ∷ rest)
+with_first_digit-zipped digit rest below long =
+    let sets = left_sets digit in
+    let same : length sets ≡ length (take 6 rest) = length-left_sets digit below ∙ sym long in
+    let pairs : List (ℕ × ℕ) = zipped (λ set byte. (letter_of set, byte)) sets (take 6 rest) in
+    let digits : map (λ (found : ℕ × ℕ). found.1) pairs ++ drop 6 rest ≡ rest =
+    ap (λ xs. xs ++ drop 6 rest) (zipped_seconds sets (take 6 rest) same) ∙ take-append-drop 6 rest in
+    let place : position (bytes_eq (map (λ (found : ℕ × ℕ). found.0) pairs)) left_half_sets ≡ Some digit =
+    ap (λ letters. position (bytes_eq letters) left_half_sets) (zipped_letters sets (take 6 rest) same)
+    ∙ position-left_sets digit below in
+    ap (option_map (λ n. (48 + n) ∷ (map (λ (found : ℕ × ℕ). found.1) pairs ++ drop 6 rest))) place
+    ∙ ap (λ xs. Some ((48 + digit) ∷ xs)) digits
+
 -- thirteen digits with their check digit
-pub ean13_full : (full : List ℕ) → IsFull 12 full → read_ean13 (ean13_row full) ≡ Some full
-ean13_full [] f = absurd (let e = length-full 12 [] f in omega arith)
-ean13_full (first ∷ rest) f =
+pub read_ean13-ean13_row : (full : List ℕ) → IsFull 12 full → read_ean13 (ean13_row full) ≡ Some full
+read_ean13-ean13_row [] f = absurd (let e = length-full 12 [] f in omega arith)
+read_ean13-ean13_row (first ∷ rest) f =
     let sets : List NumberSet = left_sets (digit_value first) in
     let long : length (first ∷ rest) ≡ 13 = length-full 12 (first ∷ rest) f in
     let d : AllByRecursion IsAsciiDigit (first ∷ rest) = all_in (first ∷ rest) (all_full 12 (first ∷ rest) f) in
@@ -275,26 +309,18 @@ ean13_full (first ∷ rest) f =
     all_in (take 6 rest) (All-take IsAsciiDigit 6 rest d_rest) in
     let d_right : AllByRecursion IsAsciiDigit (drop 6 rest) =
     all_in (drop 6 rest) (All-drop IsAsciiDigit 6 rest d_rest) in
-    let same : length sets ≡ length (take 6 rest) = six ∙ sym long_left in
-    let halves = halves_read 6 sets (take 6 rest)
+    let halves = read_halves-symbol 6 sets (take 6 rest)
     (drop 6 rest) six long_left long_right d_left d_right digit_in_a_or_b
     (λ set byte. (letter_of set, byte)) IsAOrB in_a_or_b (left_sets_a_or_b (digit_value first) below) in
-    let pairs : List (ℕ × ℕ) = zipped (λ set byte. (letter_of set, byte)) sets (take 6 rest) in
-    let found : position (bytes_eq (map (λ (found : ℕ × ℕ). found.0) pairs)) left_half_sets ≡ Some (digit_value first) =
-    ap (λ letters. position (bytes_eq letters) left_half_sets) (zipped_letters sets (take 6 rest) same)
-    ∙ position-left_sets (digit_value first) below in
-    let digits : map (λ (found : ℕ × ℕ). found.1) pairs ++ drop 6 rest ≡ rest =
-    ap (λ xs. xs ++ drop 6 rest) (zipped_seconds sets (take 6 rest) same) ∙ take-append-drop 6 rest in
-    let checked_read : Option (List ℕ) → Option (List ℕ) = option_and_then (λ xs. result_ok (completed 12 xs)) in
+    let checked_read : Option (List ℕ) → Option (List ℕ) = option_and_then (λ xs. result_ok (with_check_digit 12 xs)) in
     ap (λ o. checked_read (option_and_then with_first_digit o)) halves
-    ∙ ap (λ o. checked_read
-    (option_map (λ digit. (48 + digit) ∷ (map (λ (found : ℕ × ℕ). found.1) pairs ++ drop 6 rest)) o)) found
-    ∙ ap (λ xs. result_ok (completed 12 ((48 + digit_value first) ∷ xs))) digits
-    ∙ ap (λ b. result_ok (completed 12 (b ∷ rest))) (digit_again first d.0) ∙ full_checked 12 (first ∷ rest) f
+    ∙ ap checked_read (with_first_digit-zipped (digit_value first) rest below long_left)
+    ∙ ap (λ b. result_ok (with_check_digit 12 (b ∷ rest))) (digit_again first d.0)
+    ∙ with_check_digit-full 12 (first ∷ rest) f
 
 pub ean13_read_back : (bytes : List ℕ) → IfOk (full_digits 12 bytes) (λ full. read_ean13 (ean13_row full) ≡ Some full)
 ean13_read_back bytes =
-    IfOk-from_each (full_digits 12 bytes) _ (λ full h. ean13_full full (full_from_Ok 12 bytes full h))
+    IfOk-from_each (full_digits 12 bytes) _ (λ full h. read_ean13-ean13_row full (full_from_Ok 12 bytes full h))
 
 -- UPC-A: a 0 before the digits leaves their check digit
 with_zero : (full : List ℕ) → IsFull 11 full → IsFull 12 (48 ∷ full)
@@ -312,5 +338,5 @@ with_zero full f = record {
 pub upca_read_back : (bytes : List ℕ) → IfOk (full_digits 11 bytes) (λ full. read_upca (upca_row full) ≡ Some full)
 upca_read_back bytes =
     IfOk-from_each (full_digits 11 bytes) _
-    (λ full h. ap (λ o. option_and_then without_zero o)
-    (ean13_full (48 ∷ full) (with_zero full (full_from_Ok 11 bytes full h))))
+    (λ full h. ap (option_and_then (λ xs. then_some (bytes_eq (take 1 xs) (codes "0")) (drop 1 xs)))
+    (read_ean13-ean13_row (48 ∷ full) (with_zero full (full_from_Ok 11 bytes full h))))

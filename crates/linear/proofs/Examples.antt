@@ -6,7 +6,7 @@ use Rattle.linear.specs.Digits.{weighted_sum, full_digits}
 use Rattle.linear.specs.Tables.{number_set_a, left_half_sets, character_widths}
 use Rattle.linear.specs.Ean.{ean8_row, ean13_row, upca_row}
 use Rattle.linear.specs.EanReading.{read_ean8, read_ean13, read_upca}
-use Rattle.linear.specs.CodeSets.{start_value, start_set, written}
+use Rattle.linear.specs.CodeSets.{start_value, start_set, data_values}
 use Rattle.linear.specs.Code128.{check_value, code128_row, weighted_from}
 use Rattle.linear.specs.Code128Reading.{read_code128}
 
@@ -82,7 +82,7 @@ length_zero_ean13 = refl
 
 -- the start value and the values of the data
 values_of : List ℕ → List ℕ
-values_of bytes = start_value (start_set bytes) ∷ written (start_set bytes) bytes
+values_of bytes = start_value (start_set bytes) ∷ data_values (start_set bytes) bytes
 
 -- `code128 PJJ123C`: three digits stay in set B
 values_letters : values_of (codes "PJJ123C") ≡ 104 ∷ 48 ∷ 42 ∷ 42 ∷ 17 ∷ 18 ∷ 19 ∷ 35 ∷ []

@@ -6,15 +6,15 @@ use Rattle.linear.specs.declared.refusal.Refusal.TheVariants.{DataTooLong, NotAs
 use Rattle.linear.specs.declared.switching.CodeSet.{CodeSet}
 use Rattle.linear.specs.Digits.{digit_value, unless_found}
 use Rattle.linear.specs.Tables.{character_widths}
-use Rattle.linear.specs.CodeSets.{start_value, start_set, written}
+use Rattle.linear.specs.CodeSets.{start_value, start_set, data_values}
 
--- the full data of a symbol: at most 80 bytes, each of them ASCII
+-- the full data of a symbol: the data itself, at most 80 bytes, each of them ASCII
 abbrev pub full_code128 : List ℕ → Result (List ℕ) Refusal
 full_code128 bytes =
     if nat_lt 80 (length bytes) then Err DataTooLong
     else unless_found NotAscii (position (λ byte. nat_le 128 byte) bytes) (Ok bytes)
 
--- the values, each times its place, counted from this one on
+-- the sum of the values, each times its place, of which the first is given
 abbrev pub weighted_from : ℕ → List ℕ → ℕ
 weighted_from place [] = 0
 weighted_from place (value ∷ values) = place * value + weighted_from (place + 1) values
@@ -44,4 +44,5 @@ with_check set values = start_value set ∷ (values ++ check_value (start_value 
 -- the row of data: its values, the check value and the stop character
 abbrev pub code128_row : List ℕ → List Bool
 code128_row bytes =
-    flat_map character_modules (with_check (start_set bytes) (written (start_set bytes) bytes)) ++ character_modules 106
+    flat_map character_modules (with_check (start_set bytes) (data_values
+    (start_set bytes) bytes)) ++ character_modules 106

@@ -10,19 +10,15 @@ use Rattle.linear.specs.Modules.{same_modules, each_group}
 use Rattle.linear.specs.CodeSets.{change_value, shift_value}
 use Rattle.linear.specs.Code128.{characters, character_modules, with_check}
 
--- the value whose character is the group
-abbrev pub group_value : List Bool → Option ℕ
-group_value group = position (same_modules group) characters
-
--- what a value stands for: text, a change of set that lasts, a shift of the next character alone to the other of A
--- and B, or nothing that may stand between the start and the check value
+-- the meaning of a value: text, a change of set that lasts, a shift of the next character alone to the other of A and
+-- B, or none between the start and the check value
 pub data Meaning : Type 0 where
   text : List ℕ → Meaning
   change : CodeSet → Meaning
   shift : Meaning
   none : Meaning
 
--- what a value stands for that is no character: a shift, or a change to one of these sets
+-- the meaning of a value that is no character: a shift, or a change to one of these sets
 abbrev pub switch_meaning : List CodeSet → ℕ → Meaning
 switch_meaning sets value =
     if value == shift_value then shift
@@ -38,7 +34,7 @@ meaning C value =
     if nat_lt value 100 then text ((48 + value / 10) ∷ (48 + value % 10) ∷ [])
     else switch_meaning (A ∷ B ∷ []) value
 
--- the set to which Shift goes for one character
+-- the set of the one character after a shift
 abbrev pub other_set : CodeSet → CodeSet
 other_set A = B
 other_set B = A
@@ -59,20 +55,18 @@ read_values set is_shifted (value ∷ values) =
 abbrev pub inner : List ℕ → List ℕ
 inner values = take (length values - 2) (drop 1 values)
 
--- the data of the values before the stop character, in the set whose start value and check value stand around the
--- others
+-- the data of the values before the stop character, in the set whose start value and check value are the first and
+-- the last of them
 abbrev pub symbol_data : List ℕ → Option (List ℕ)
 symbol_data values =
     option_and_then (λ set. read_values set false (inner values))
     (find (λ set. bytes_eq (with_check set (inner values)) values) (A ∷ B ∷ C ∷ []))
 
--- how many groups of eleven modules stand before the stop character's thirteen
-abbrev pub group_count : List Bool → ℕ
-group_count row = (length row - 13) / 11
-
--- the data of a row of modules that ends in the stop character
+-- the data of a row of modules: groups of eleven, each the character of a value, before the thirteen of the stop
+-- character
 abbrev pub read_code128 : List Bool → Option (List ℕ)
 read_code128 row =
-    if length row == 11 * group_count row + 13 && same_modules (drop (11 * group_count row) row) (character_modules 106)
-    then option_and_then symbol_data (each_group group_value 11 (group_count row) row)
+    let count = (length row - 13) / 11 in
+    if length row == 11 * count + 13 && same_modules (drop (11 * count) row) (character_modules 106)
+    then option_and_then symbol_data (each_group (λ group. position (same_modules group) characters) 11 count row)
     else None

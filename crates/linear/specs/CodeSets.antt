@@ -10,10 +10,10 @@ use Rattle.linear.specs.declared.switching.CodeSet.TheVariants.{A, B, C}
 use Rattle.linear.specs.Digits.{digit_value}
 
 -- whether a code set has a byte as a character of its own: A has the bytes below 96, and B those from 32 on
-abbrev pub has_character : CodeSet → ℕ → Bool
-has_character A byte = nat_lt byte 96
-has_character B byte = nat_le 32 byte
-has_character C byte = false
+abbrev pub set_has : CodeSet → ℕ → Bool
+set_has A byte = nat_lt byte 96
+set_has B byte = nat_le 32 byte
+set_has C byte = false
 
 -- the value of a byte's character, the same in each of sets A and B that has it
 abbrev pub character_value : ℕ → ℕ
@@ -39,17 +39,17 @@ change_value C = 99
 abbrev pub shift_value : ℕ
 shift_value = 98
 
--- how many digits the bytes begin with
+-- the number of digits that the bytes begin with
 abbrev pub leading_digits : List ℕ → ℕ
 leading_digits bytes = prefix_len is_ascii_digit bytes
 
 -- the first byte that only one of sets A and B has
-abbrev pub next_special : List ℕ → Option ℕ
-next_special bytes = find (λ byte. nat_lt byte 32 || nat_le 96 byte) bytes
+abbrev pub next_special_byte : List ℕ → Option ℕ
+next_special_byte bytes = find (λ byte. nat_lt byte 32 || nat_le 96 byte) bytes
 
 -- whether that byte is of a set
 abbrev pub is_next : CodeSet → List ℕ → Bool
-is_next set bytes = option_map_or (has_character set) (next_special bytes) false
+is_next set bytes = option_map_or (set_has set) (next_special_byte bytes) false
 
 -- the one of A and B to go to: the one that has the first special byte, and B where there is none
 abbrev pub picked_set : List ℕ → CodeSet
@@ -66,36 +66,27 @@ abbrev pub is_pair_next : CodeSet → List ℕ → Bool
 is_pair_next C bytes = nat_le 2 (leading_digits bytes)
 is_pair_next _ bytes = is_even_run bytes
 
--- values, and the set that holds after them
-pub record Written : Type 0 where
-  pub values : List ℕ
-  pub set : CodeSet
-
 -- two digits, after a change to set C where another one holds
 abbrev pub pair_values : CodeSet → ℕ → ℕ → List ℕ
 pair_values C first second = pair_value first second ∷ []
 pair_values _ first second = change_value C ∷ pair_value first second ∷ []
 
--- one byte after a change to a set
-abbrev pub changed_to : CodeSet → ℕ → Written
-changed_to set byte = record { values = change_value set ∷ character_value byte ∷ []; set = set }
-
--- one byte before others: in the set itself where it has the byte, else by a shift where the next special byte is of
--- this set, and else after a change to the picked set
-abbrev pub byte_written : CodeSet → ℕ → List ℕ → Written
-byte_written set byte rest =
-    if has_character set byte then record { values = character_value byte ∷ []; set = set }
-    else if is_next set rest then record { values = shift_value ∷ character_value byte ∷ []; set = set }
-    else changed_to (picked_set (byte ∷ rest)) byte
+-- the values of one byte before others, and the set that holds after them: in the set itself where it has the byte,
+-- else by a shift where the next special byte is of this set, and else after a change to the picked set
+abbrev pub byte_values : CodeSet → ℕ → List ℕ → List ℕ × CodeSet
+byte_values set byte rest =
+    if set_has set byte then (character_value byte ∷ [], set)
+    else if is_next set rest then (shift_value ∷ character_value byte ∷ [], set)
+    else let picked = picked_set (byte ∷ rest) in (change_value picked ∷ character_value byte ∷ [], picked)
 
 -- the values that the bytes are written in, from a set on
-abbrev pub written : CodeSet → List ℕ → List ℕ
-written set [] = []
-written set (byte ∷ []) = (byte_written set byte []).values
-written set (first ∷ second ∷ rest) =
+abbrev pub data_values : CodeSet → List ℕ → List ℕ
+data_values set [] = []
+data_values set (byte ∷ []) = (byte_values set byte []).0
+data_values set (first ∷ second ∷ rest) =
     elim (is_pair_next set (first ∷ second ∷ rest)) [
-      | true ↦ pair_values set first second ++ written C rest
-      | false ↦ let step = byte_written set first (second ∷ rest) in step.values ++ written step.set (second ∷ rest)
+      | true ↦ pair_values set first second ++ data_values C rest
+      | false ↦ let step = byte_values set first (second ∷ rest) in step.0 ++ data_values step.1 (second ∷ rest)
     ]
 
 -- the set to start in: C for four digits or more, and for two digits alone

@@ -1,6 +1,6 @@
 -- The digits of EAN and UPC as bytes, and their check digit (ISO/IEC 15420, check digit).
-use Rattle.std.specs.Prelude.{ℕ, ◌+◌, ◌-◌, ◌*◌, ◌%◌, ◌==◌, if◌then◌else◌, not, Option, Result, Ok, Err, List, [], ◌∷◌}
-use Rattle.std.specs.Prelude.{◌++◌, length, take, position, slice_index}
+use Rattle.std.specs.Prelude.{ℕ, ◌+◌, ◌-◌, ◌*◌, ◌%◌, ◌==◌, if◌then◌else◌, not, Option, Result, Ok, Err, List, []}
+use Rattle.std.specs.Prelude.{◌∷◌, ◌++◌, length, take, position, slice_index}
 use Rattle.std.specs.Char.{is_ascii_digit}
 use Rattle.std.specs.Option.{option_map_or}
 use Rattle.linear.specs.declared.refusal.Refusal.{Refusal}
@@ -10,7 +10,7 @@ use Rattle.linear.specs.declared.refusal.Refusal.TheVariants.{NotADigit, WrongNu
 abbrev pub digit_value : ℕ → ℕ
 digit_value byte = byte - 48
 
--- what a digit weighs that has this many digits to its right: from the right the weights are 3, 1, 3, 1 and so on
+-- the weight of a digit that has this many digits to its right: from the right the weights are 3, 1, 3, 1 and so on
 abbrev pub weight : ℕ → ℕ
 weight following = if following % 2 == 0 then 3 else 1
 
@@ -23,25 +23,25 @@ weighted_sum (byte ∷ rest) = weight (length rest) * digit_value byte + weighte
 abbrev pub check_digit : List ℕ → ℕ
 check_digit digits = (10 - weighted_sum digits % 10) % 10
 
--- digits and a last one that is to be their check digit
-abbrev pub checked : List ℕ → ℕ → Result (List ℕ) Refusal
-checked digits last =
+-- digits and a last one, which has to be their check digit
+abbrev pub checked_digits : List ℕ → ℕ → Result (List ℕ) Refusal
+checked_digits digits last =
     if digit_value last == check_digit digits then Ok (digits ++ last ∷ [])
     else Err (WrongCheckDigit (digit_value last) (check_digit digits))
 
--- digits, this many or with their check digit one more, with their check digit
-abbrev pub completed : ℕ → List ℕ → Result (List ℕ) Refusal
-completed count digits =
+-- `count` digits with their check digit, which is appended or already there
+abbrev pub with_check_digit : ℕ → List ℕ → Result (List ℕ) Refusal
+with_check_digit count digits =
     if length digits == count then Ok (digits ++ (48 + check_digit digits) ∷ [])
-    else if length digits == count + 1 then checked (take count digits) (slice_index digits count)
+    else if length digits == count + 1 then checked_digits (take count digits) (slice_index digits count)
     else Err (WrongNumberOfDigits (length digits))
 
--- the result, or the refusal of a byte that was found at an index, with its place from 1 on
+-- the refusal of a byte that was found at an index, with its place counted from 1; else the result
 abbrev pub unless_found : (ℕ → Refusal) → Option ℕ → Result (List ℕ) Refusal → Result (List ℕ) Refusal
 unless_found refusal found result = option_map_or (λ index. Err (refusal (index + 1))) found result
 
--- the full data of a symbol that has this many digits and a check digit: bytes that are no digits are refused first,
--- then a wrong number of digits, then a wrong check digit
+-- the full data of a symbol that has `count` digits and a check digit: a byte that is no digit is refused first, then
+-- a wrong number of digits, then a wrong check digit
 abbrev pub full_digits : ℕ → List ℕ → Result (List ℕ) Refusal
 full_digits count bytes =
-    unless_found NotADigit (position (λ byte. not (is_ascii_digit byte)) bytes) (completed count bytes)
+    unless_found NotADigit (position (λ byte. not (is_ascii_digit byte)) bytes) (with_check_digit count bytes)

@@ -7,21 +7,21 @@ use Rattle.linear.specs.Digits.{digit_value}
 use Rattle.linear.specs.Modules.{modules}
 use Rattle.linear.specs.Tables.{number_set_a, left_half_sets}
 
--- a digit's modules in number set A
+-- the modules of a digit in number set A
 abbrev pub pattern_a : ℕ → List Bool
 pattern_a digit = modules (slice_index_or number_set_a digit [])
 
--- a digit's modules in a number set: set C is the complement of A, and set B is C read backwards
+-- the modules of a digit in a number set: set C is the complement of A, and set B is C read backwards
 abbrev pub pattern : NumberSet → ℕ → List Bool
 pattern A digit = pattern_a digit
 pattern B digit = reverse (map not (pattern_a digit))
 pattern C digit = map not (pattern_a digit)
 
--- digits, each in its number set
+-- the modules of digits, each in its number set
 abbrev pub patterns : List NumberSet → List ℕ → List Bool
 patterns sets bytes = flat_map (λ pair. pattern pair.0 (digit_value pair.1)) (zip sets bytes)
 
--- the guard patterns
+-- the guard at each end
 abbrev pub normal_guard : List Bool
 normal_guard = modules (codes "101")
 
@@ -29,7 +29,7 @@ normal_guard = modules (codes "101")
 abbrev pub centre_guard : List Bool
 centre_guard = modules (codes "01010")
 
--- a symbol: a left half in these sets, and a right half in set C, between guards
+-- the row of a symbol: a left half in these sets and a right half in set C, between guards
 abbrev pub symbol : List NumberSet → List ℕ → List ℕ → List Bool
 symbol sets left right =
     normal_guard ++ (patterns sets left
@@ -48,6 +48,6 @@ abbrev pub ean13_row : List ℕ → List Bool
 ean13_row [] = []
 ean13_row (first ∷ rest) = symbol (left_sets (digit_value first)) (take 6 rest) (drop 6 rest)
 
--- UPC-A: the bars of EAN-13 for the same digits after a 0
+-- UPC-A: the row of EAN-13 for the same digits after a 0
 abbrev pub upca_row : List ℕ → List Bool
 upca_row full = ean13_row (48 ∷ full)

@@ -1,10 +1,12 @@
 pub mod Code128
 pub mod Code128Reading
 pub mod CodeSets
+pub mod CodingLaws
 pub mod Digits
+pub mod Drawing
 pub mod Ean
 pub mod EanReading
 pub mod Modules
+pub mod Private
 pub mod Switching
-pub mod TableFacts
 pub mod Tables

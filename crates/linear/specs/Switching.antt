@@ -3,8 +3,8 @@
 use Rattle.std.specs.Prelude.{ℕ, ◌<◌, if◌then◌else◌, List, [], ◌∷◌, ◌++◌, drop, slice_index, All}
 use Rattle.linear.specs.declared.switching.CodeSet.{CodeSet}
 use Rattle.linear.specs.declared.switching.CodeSet.TheVariants.{C}
-use Rattle.linear.specs.CodeSets.{has_character, character_value, pair_value, change_value, shift_value, is_next}
-use Rattle.linear.specs.CodeSets.{picked_set, is_pair_next, written}
+use Rattle.linear.specs.CodeSets.{set_has, character_value, pair_value, change_value, shift_value, is_next}
+use Rattle.linear.specs.CodeSets.{picked_set, is_pair_next, data_values}
 
 -- what one step writes, the set after it, and what is still to be written
 pub record Step : Type 0 where
@@ -20,7 +20,7 @@ to_set set bytes = record { values = change_value set ∷ []; set = set; rest = 
 -- and else after a change to the picked set
 abbrev pub character_step : CodeSet → ℕ → List ℕ → Step
 character_step set byte rest =
-    if has_character set byte then record { values = character_value byte ∷ []; set = set; rest = rest }
+    if set_has set byte then record { values = character_value byte ∷ []; set = set; rest = rest }
     else if is_next set rest then record { values = shift_value ∷ character_value byte ∷ []; set = set; rest = rest }
     else to_set (picked_set (byte ∷ rest)) (byte ∷ rest)
 
@@ -43,4 +43,4 @@ pub data Writes : CodeSet → List ℕ → List ℕ → Type 0 where
 -- the switching rule's steps write the values of each list of ASCII bytes
 abbrev pub ValuesAreWrittenBySteps : Type 0
 ValuesAreWrittenBySteps =
-    (set : CodeSet) (bytes : List ℕ) → All (λ byte. byte < 128) bytes → Writes set bytes (written set bytes)
+    (set : CodeSet) (bytes : List ℕ) → All (λ byte. byte < 128) bytes → Writes set bytes (data_values set bytes)

@@ -1,18 +1,20 @@
 //! Code 128 symbols (ISO/IEC 15417).
-ghost use Rattle.std.specs.Prelude.{◌≡◌, [], ◌+◌, ◌*◌, ◌≤◌, ◌<◌, ◌++◌, All, Ok, Err, OnOk, MatchResult, length};
+ghost use Rattle.std.specs.Prelude.{◌≡◌, [], ◌+◌, ◌*◌, ◌≤◌, ◌<◌, All, Ok, Err, OnOk, MatchResult, length};
 ghost use Rattle.std.specs.Prelude.{flat_map, position, nat_le};
 ghost use Rattle.arrayvec.specs.ArrayVec.{array_vec_len};
-ghost use Rattle.linear.specs.declared.limits.TheConstants.{MAX_BYTES, MAX_VALUES, MAX_MODULES};
+ghost use Rattle.linear.specs.declared.limits.TheConstants.{MAX_VALUES, MAX_MODULES};
 ghost use Rattle.linear.specs.Code128.{check_value, character_modules, full_code128, code128_row};
+ghost use Rattle.linear.specs.Private.Data.{IsCode128Data};
+ghost use Rattle.linear.specs.Private.Lists.{Appends};
 
 use crate::limits::MAX_BYTES;
-use crate::linear::Linear;
+use crate::linear::{Linear, QuietZones};
 use crate::refusal::Refusal;
 use crate::row::{Row, push_modules};
-use crate::switching::{start_set, start_value, written};
+use crate::switching::{data_values, start_set, start_value};
 use crate::tables::{CHARACTERS, STOP};
 
-/// The check value of a start value and the values after it.
+/// Returns the check value of a start value and the values after it, from 0 to 102.
 fn check_value(start: u8, values: &[u8]) -> u8
     requires { length values.now ≤ MAX_VALUES }
     ensures { result ≡ check_value start values.now }
@@ -26,7 +28,7 @@ fn check_value(start: u8, values: &[u8]) -> u8
     (sum % 103) as u8
 }
 
-/// The modules of a value before the stop character.
+/// Returns the modules of a value, from 0 to 105.
 fn modules_of(value: u8) -> [bool; 11]
     requires { value < 106 }
     ensures { result ≡ character_modules value }
@@ -38,18 +40,17 @@ fn modules_of(value: u8) -> [bool; 11]
 fn push_character(row: &mut Row, value: u8)
     requires value { value < 106 }
     requires room { array_vec_len row.old + 11 ≤ MAX_MODULES }
-    ensures drawn { row.new.items ≡ row.old.items ++ character_modules value }
-    ensures len { array_vec_len row.new ≡ array_vec_len row.old + 11 }
+    ensures { Appends row.old.items row.new.items (character_modules value) 11 }
 {
     push_modules(row, &modules_of(value));
 }
 
-/// Appends the characters of values.
+/// Appends the characters of values, from left to right.
 fn push_characters(row: &mut Row, values: &[u8])
     requires values { All (λ value. value < 106) values.now }
     requires room { array_vec_len row.old + 11 * length values.now ≤ MAX_MODULES }
-    ensures drawn { row.new.items ≡ row.old.items ++ flat_map character_modules values.now }
-    ensures len { array_vec_len row.new ≡ array_vec_len row.old + 11 * length values.now }
+    ensures { Appends row.old.items row.new.items (flat_map character_modules values.now)
+        (11 * length values.now) }
 {
     for value in values {
         push_character(row, *value);
@@ -57,39 +58,39 @@ fn push_characters(row: &mut Row, values: &[u8])
 }
 
 /// Appends the stop character.
-#[tactic(auto, using(crate::proofs::TableForms::stop))]
+#[tactic(auto, using(crate::proofs::TableLaws::stop_character))]
 fn push_stop(row: &mut Row)
     requires { array_vec_len row.old + 13 ≤ MAX_MODULES }
-    ensures drawn { row.new.items ≡ row.old.items ++ character_modules 106 }
-    ensures len { array_vec_len row.new ≡ array_vec_len row.old + 13 }
+    ensures { Appends row.old.items row.new.items (character_modules 106) 13 }
 {
     push_modules(row, &STOP);
 }
 
-/// Appends the symbol of data: start, values, check value and stop.
+/// Appends the symbol of data: its start value, the values of the data, the check value and the stop character.
 fn push_code128(row: &mut Row, data: &[u8])
-    requires ascii { All (λ byte. byte < 128) «data».now }
-    requires few { length «data».now ≤ MAX_BYTES }
+    requires valid { IsCode128Data «data».now }
     requires blank { row.old.items ≡ [] }
-    ensures drawn { row.new.items ≡ code128_row «data».now }
-    ensures len { array_vec_len row.new ≤ MAX_MODULES }
+    ensures { Appends row.old.items row.new.items (code128_row «data».now) MAX_MODULES }
 {
     let set = start_set(data);
     let start = start_value(set);
-    let values = written(data, set);
+    let values = data_values(data, set);
     push_character(row, start);
     push_characters(row, &values);
     push_character(row, check_value(start, &values));
     push_stop(row);
 }
 
-/// Whether data can be a symbol: at most 80 bytes, all of them ASCII.
+/// Checks that data can be a symbol: at most 80 bytes, all of them ASCII.
+///
+/// # Errors
+///
+/// `DataTooLong`, or else `NotAscii` with the place of the first byte from 128 on.
 #[tactic(auto, using(crate::proofs::Code128Laws::all_ascii_from_None))]
 fn check_data(data: &[u8]) -> Result<(), Refusal>
     ensures answer { MatchResult result (λ _. full_code128 «data».now ≡ Ok «data».now)
         (λ refusal. full_code128 «data».now ≡ Err refusal) }
-    ensures ascii { OnOk result (All (λ byte. byte < 128) «data».now) }
-    ensures few { OnOk result (length «data».now ≤ MAX_BYTES) }
+    ensures valid { OnOk result (IsCode128Data «data».now) }
 {
     if data.len() > MAX_BYTES {
         return Err(Refusal::DataTooLong);
@@ -100,16 +101,16 @@ fn check_data(data: &[u8]) -> Result<(), Refusal>
     Ok(())
 }
 
-/// The index of the first byte that is not ASCII.
+/// Returns the index of the first byte that is not ASCII.
 fn first_not_ascii(bytes: &[u8]) -> Option<usize>
     ensures { result ≡ position (λ byte. nat_le 128 byte) bytes.now }
 {
     bytes.iter().position(|byte| *byte >= 128)
 }
 
-/// Code 128 (ISO/IEC 15417): 1 to 80 ASCII bytes, as a row of at most 1,795 modules.
+/// Code 128 (ISO/IEC 15417): 1 to 80 ASCII bytes, drawn as at most 1,795 modules.
 ///
-/// More than 80 bytes are refused as `DataTooLong`, then a byte from 128 on as `NotAscii`.
+/// It refuses more than 80 bytes as `DataTooLong`, and else a byte from 128 on as `NotAscii`.
 pub struct Code128;
 
 impl Linear for Code128 {
@@ -122,13 +123,12 @@ impl Linear for Code128 {
 
     ghost reading = { read_code128 };
 
-    ghost QUIET_LEFT = { 10 };
+    ghost QUIET_ZONES = { record { left = 10; right = 10 } };
 
-    ghost QUIET_RIGHT = { 10 };
-
-    const QUIET_LEFT: usize = 10;
-
-    const QUIET_RIGHT: usize = 10;
+    const QUIET_ZONES: QuietZones = QuietZones {
+        left: 10,
+        right: 10,
+    };
 
     fn encode(data: &[u8], row: &mut Row) -> Result<(), Refusal> {
         row.clear();

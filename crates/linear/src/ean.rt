@@ -1,13 +1,14 @@
 //! EAN and UPC symbols (ISO/IEC 15420).
-ghost use Rattle.std.specs.Prelude.{◌≡◌, ◌+◌, ◌*◌, ◌≤◌, ◌<◌, ◌++◌, All, length, flat_map};
-ghost use Rattle.std.specs.Char.{IsAsciiDigit};
+ghost use Rattle.std.specs.Prelude.{◌≡◌, ◌+◌, ◌*◌, ◌≤◌, ◌<◌, length, flat_map};
 ghost use Rattle.arrayvec.specs.ArrayVec.{array_vec_len};
 ghost use Rattle.linear.specs.declared.limits.TheConstants.{MAX_MODULES};
 ghost use Rattle.linear.specs.Digits.{digit_value};
 ghost use Rattle.linear.specs.Ean.{pattern, patterns, symbol, ean13_row};
+ghost use Rattle.linear.specs.Private.Data.{AreDigits, IsHalf};
+ghost use Rattle.linear.specs.Private.Lists.{Appends};
 
 use crate::digits::full_digits;
-use crate::linear::Linear;
+use crate::linear::{Linear, QuietZones};
 use crate::refusal::Refusal;
 use crate::row::{Row, push_modules};
 use crate::tables::{CENTRE_GUARD, LEFT_SETS, NORMAL_GUARD, SET_A, SET_B, SET_C};
@@ -20,7 +21,7 @@ pub enum NumberSet {
     C,
 }
 
-/// The modules of a digit in a number set.
+/// Returns the modules of a digit in a number set.
 fn modules_of(set: NumberSet, digit: u8) -> [bool; 7]
     requires digit { digit < 10 }
     ensures { result ≡ pattern set digit }
@@ -37,8 +38,7 @@ fn modules_of(set: NumberSet, digit: u8) -> [bool; 7]
 fn push_digit(row: &mut Row, set: NumberSet, digit: u8)
     requires digit { digit < 10 }
     requires room { array_vec_len row.old + 7 ≤ MAX_MODULES }
-    ensures drawn { row.new.items ≡ row.old.items ++ pattern set digit }
-    ensures len { array_vec_len row.new ≡ array_vec_len row.old + 7 }
+    ensures { Appends row.old.items row.new.items (pattern set digit) 7 }
 {
     push_modules(row, &modules_of(set, digit));
 }
@@ -46,11 +46,10 @@ fn push_digit(row: &mut Row, set: NumberSet, digit: u8)
 /// Appends digits, each in its number set.
 fn push_left(row: &mut Row, sets: &[NumberSet], digits: &[u8])
     requires same { length sets.now ≡ length digits.now }
-    requires digits { All IsAsciiDigit digits.now }
-    requires few { length digits.now ≤ 6 }
+    requires half { IsHalf digits.now }
     requires room { array_vec_len row.old + 42 ≤ MAX_MODULES }
-    ensures drawn { row.new.items ≡ row.old.items ++ patterns sets.now digits.now }
-    ensures len { array_vec_len row.new ≡ array_vec_len row.old + 7 * length digits.now }
+    ensures { Appends row.old.items row.new.items (patterns sets.now digits.now)
+        (7 * length digits.now) }
 {
     for (i, digit) in digits.iter().enumerate() {
         push_digit(row, sets[i], *digit - b'0');
@@ -59,12 +58,11 @@ fn push_left(row: &mut Row, sets: &[NumberSet], digits: &[u8])
 
 /// Appends digits in number set C.
 fn push_right(row: &mut Row, digits: &[u8])
-    requires digits { All IsAsciiDigit digits.now }
-    requires few { length digits.now ≤ 6 }
+    requires half { IsHalf digits.now }
     requires room { array_vec_len row.old + 42 ≤ MAX_MODULES }
-    ensures drawn { row.new.items
-        ≡ row.old.items ++ flat_map (λ byte. pattern NumberSet.C (digit_value byte)) digits.now }
-    ensures len { array_vec_len row.new ≡ array_vec_len row.old + 7 * length digits.now }
+    ensures { Appends row.old.items row.new.items
+        (flat_map (λ byte. pattern NumberSet.C (digit_value byte)) digits.now)
+        (7 * length digits.now) }
 {
     for digit in digits {
         push_digit(row, NumberSet::C, *digit - b'0');
@@ -74,13 +72,10 @@ fn push_right(row: &mut Row, digits: &[u8])
 /// Appends a symbol: a left half in these sets, and a right half in set C, between guards.
 fn push_symbol(row: &mut Row, sets: &[NumberSet], left: &[u8], right: &[u8])
     requires same { length sets.now ≡ length left.now }
-    requires left { All IsAsciiDigit left.now }
-    requires right { All IsAsciiDigit right.now }
-    requires few_left { length left.now ≤ 6 }
-    requires few_right { length right.now ≤ 6 }
+    requires left { IsHalf left.now }
+    requires right { IsHalf right.now }
     requires room { array_vec_len row.old + 95 ≤ MAX_MODULES }
-    ensures drawn { row.new.items ≡ row.old.items ++ symbol sets.now left.now right.now }
-    ensures len { array_vec_len row.new ≤ array_vec_len row.old + 95 }
+    ensures { Appends row.old.items row.new.items (symbol sets.now left.now right.now) 95 }
 {
     push_modules(row, &NORMAL_GUARD);
     push_left(row, sets, left);
@@ -89,9 +84,9 @@ fn push_symbol(row: &mut Row, sets: &[NumberSet], left: &[u8], right: &[u8])
     push_modules(row, &NORMAL_GUARD);
 }
 
-/// EAN-8 (ISO/IEC 15420): seven digits, or eight that end in the right check digit, as a row of 67 modules.
+/// EAN-8 (ISO/IEC 15420): seven digits, or eight that end in their check digit, drawn as 67 modules.
 ///
-/// A byte that is no digit is refused as `NotADigit`, then another number of digits as `WrongNumberOfDigits`, then
+/// It refuses a byte that is no digit as `NotADigit`, else another number of digits as `WrongNumberOfDigits`, and else
 /// a wrong last digit as `WrongCheckDigit`.
 pub struct Ean8;
 
@@ -106,13 +101,9 @@ impl Linear for Ean8 {
 
     ghost reading = { read_ean8 };
 
-    ghost QUIET_LEFT = { 7 };
+    ghost QUIET_ZONES = { record { left = 7; right = 7 } };
 
-    ghost QUIET_RIGHT = { 7 };
-
-    const QUIET_LEFT: usize = 7;
-
-    const QUIET_RIGHT: usize = 7;
+    const QUIET_ZONES: QuietZones = QuietZones { left: 7, right: 7 };
 
     fn encode(data: &[u8], row: &mut Row) -> Result<(), Refusal> {
         row.clear();
@@ -126,20 +117,18 @@ impl Linear for Ean8 {
 /// Appends the symbol of thirteen digits.
 #[tactic(auto, unfolding(crate::specs::Tables::left_half_sets))]
 fn push_ean13(row: &mut Row, full: &[u8])
-    requires digits { All IsAsciiDigit full.now }
-    requires len { length full.now ≡ 13 }
+    requires digits { AreDigits 13 full.now }
     requires room { array_vec_len row.old + 95 ≤ MAX_MODULES }
-    ensures drawn { row.new.items ≡ row.old.items ++ ean13_row full.now }
-    ensures len { array_vec_len row.new ≤ array_vec_len row.old + 95 }
+    ensures { Appends row.old.items row.new.items (ean13_row full.now) 95 }
 {
     let sets = &LEFT_SETS[usize::from(full[0] - b'0')];
     let (left, right) = full[1..].split_at(6);
     push_symbol(row, sets, left, right);
 }
 
-/// EAN-13 (ISO/IEC 15420): twelve digits, or thirteen that end in the right check digit, as a row of 95 modules.
+/// EAN-13 (ISO/IEC 15420): twelve digits, or thirteen that end in their check digit, drawn as 95 modules.
 ///
-/// The refusals are those of [`Ean8`].
+/// It refuses data as [`Ean8`] does.
 pub struct Ean13;
 
 impl Linear for Ean13 {
@@ -153,13 +142,9 @@ impl Linear for Ean13 {
 
     ghost reading = { read_ean13 };
 
-    ghost QUIET_LEFT = { 11 };
+    ghost QUIET_ZONES = { record { left = 11; right = 7 } };
 
-    ghost QUIET_RIGHT = { 7 };
-
-    const QUIET_LEFT: usize = 11;
-
-    const QUIET_RIGHT: usize = 7;
+    const QUIET_ZONES: QuietZones = QuietZones { left: 11, right: 7 };
 
     fn encode(data: &[u8], row: &mut Row) -> Result<(), Refusal> {
         row.clear();
@@ -169,10 +154,10 @@ impl Linear for Ean13 {
     }
 }
 
-/// UPC-A (ISO/IEC 15420): eleven digits, or twelve that end in the right check digit, as a row of 95 modules. The
-/// row is that of EAN-13 for the same digits after a 0.
+/// UPC-A (ISO/IEC 15420): eleven digits, or twelve that end in their check digit, drawn as 95 modules: those of EAN-13
+/// for the same digits after a 0.
 ///
-/// The refusals are those of [`Ean8`].
+/// It refuses data as [`Ean8`] does.
 pub struct UpcA;
 
 impl Linear for UpcA {
@@ -186,13 +171,9 @@ impl Linear for UpcA {
 
     ghost reading = { read_upca };
 
-    ghost QUIET_LEFT = { 9 };
+    ghost QUIET_ZONES = { record { left = 9; right = 9 } };
 
-    ghost QUIET_RIGHT = { 9 };
-
-    const QUIET_LEFT: usize = 9;
-
-    const QUIET_RIGHT: usize = 9;
+    const QUIET_ZONES: QuietZones = QuietZones { left: 9, right: 9 };
 
     fn encode(data: &[u8], row: &mut Row) -> Result<(), Refusal> {
         row.clear();

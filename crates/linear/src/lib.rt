@@ -1,9 +1,10 @@
-//! The rows of EAN, UPC and Code 128 symbols, and their reading.
+//! Linear symbols: the rows of EAN-13, EAN-8, UPC-A and Code 128, drawn and read.
 #![tactic(auto)]
 
 mod code128;
 mod digits;
 mod ean;
+mod laws;
 mod limits;
 mod linear;
 mod refusal;
@@ -13,9 +14,8 @@ mod tables;
 
 pub use code128::Code128;
 pub use ean::{Ean8, Ean13, UpcA};
+pub use laws::coding_laws;
 pub use limits::MAX_MODULES;
-pub use linear::Linear;
+pub use linear::{Linear, QuietZones};
 pub use refusal::Refusal;
 pub use row::Row;
-pub use switching::switching_law;
-pub use tables::table_laws;

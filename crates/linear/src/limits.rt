@@ -1,9 +1,9 @@
-//! The limits of what is drawn, each from the one before it.
+//! The limits of a row, each of which follows from the one before it.
 
 /// The most bytes in a Code 128 symbol.
 pub const MAX_BYTES: usize = 80;
 
-/// The most values between the start value and the check value of a Code 128 symbol: two a byte.
+/// The most values between the start value and the check value of a Code 128 symbol: two for each byte.
 pub const MAX_VALUES: usize = 2 * MAX_BYTES;
 
 /// The most modules in a row: eleven for each value of a Code 128 symbol, its start value and its check value, and

@@ -1,15 +1,23 @@
 //! What every linear symbology does.
-ghost use Rattle.std.specs.Prelude.{◌≡◌, ◌≢◌, ◌≤◌, ◌↔◌, ℕ, Bool, Option, Result, Ok, Err, Some, List, [], IsOk, IfOk};
-ghost use Rattle.std.specs.Prelude.{IfErr, OnErr, length};
-ghost use Rattle.linear.specs.declared.limits.TheConstants.{MAX_MODULES};
+ghost use Rattle.std.specs.Prelude.{◌≡◌, ◌≢◌, ℕ, Bool, Option, Result, Err, List, [], IsOk, IfOk, IfErr};
 ghost use Rattle.linear.specs.declared.refusal.Refusal.{Refusal as Refused};
+ghost use Rattle.linear.specs.Drawing.{IsDrawn};
 
 use crate::refusal::Refusal;
 use crate::row::Row;
 
-/// A linear symbology.
+/// The widths of the quiet zones before and after a row, in modules.
+#[derive(Clone, Copy, Debug, PartialEq, Eq)]
+pub struct QuietZones {
+    pub left: usize,
+    pub right: usize,
+}
+
+/// A linear symbology: which data it takes, and the row of modules of such data.
 pub trait Linear {
-    /// The data of the symbol, as with its check digit, or why there is none.
+    ghost use Rattle.linear.specs.declared.linear.QuietZones.{QuietZones as Zones};
+
+    /// The full data of a symbol, which has its check digit, or why there is no symbol.
     ghost full_data: { List ℕ → Result (List ℕ) Refused };
 
     /// The row of modules of full data.
@@ -18,23 +26,20 @@ pub trait Linear {
     /// The full data that a row is read as, if it is a symbol.
     ghost reading: { List Bool → Option (List ℕ) };
 
-    ghost QUIET_LEFT: { ℕ };
+    ghost QUIET_ZONES: { Zones };
 
-    ghost QUIET_RIGHT: { ℕ };
+    /// The quiet zones that a reader needs before and after the row.
+    const QUIET_ZONES: QuietZones;
 
-    /// The quiet zone before the row, in modules.
-    const QUIET_LEFT: usize;
-
-    /// The quiet zone after the row, in modules.
-    const QUIET_RIGHT: usize;
-
-    /// Draws the symbol of `data`. The row's old content is dropped, and a refusal leaves the row empty.
+    /// Draws the symbol of `data` into `row`, whose old content is dropped.
+    ///
+    /// # Errors
+    ///
+    /// Why the data has no symbol in this symbology. The row is empty then.
     fn encode(data: &[u8], row: &mut Row) -> Result<(), Refusal>
         requires { «data».now ≢ [] }
-        ensures accepted { IsOk result ↔ IsOk (full_data «data».now) }
-        ensures drawn { IfOk (full_data «data».now) (λ full. row.new.items ≡ row_of full) }
-        ensures fits { IfOk (full_data «data».now) (λ full. length (row_of full) ≤ MAX_MODULES) }
-        ensures read { IfOk (full_data «data».now) (λ full. reading (row_of full) ≡ Some full) }
-        ensures refused { IfErr (full_data «data».now) (λ refusal. result ≡ Err refusal) }
-        ensures empty { OnErr result (row.new.items ≡ []) };
+        ensures drawn { IfOk (full_data «data».now)
+            (λ full. IsOk result × IsDrawn row_of reading full row.new.items) }
+        ensures refused { IfErr (full_data «data».now)
+            (λ refusal. (result ≡ Err refusal) × (row.new.items ≡ [])) };
 }

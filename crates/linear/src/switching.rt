@@ -1,12 +1,13 @@
 //! Code sets, and the rule by which data changes between them (ISO/IEC 15417).
-ghost use Rattle.std.specs.Prelude.{◌≡◌, [], ◌∷◌, ◌+◌, ◌≤◌, ◌<◌, ◌++◌, All, length};
+ghost use Rattle.std.specs.Prelude.{◌≡◌, [], ◌∷◌, ◌+◌, ◌≤◌, ◌<◌, All, length};
 ghost use Rattle.std.specs.Char.{IsAsciiDigit};
 ghost use Rattle.arrayvec.specs.ArrayVec.{array_vec_len};
-ghost use Rattle.linear.specs.declared.limits.TheConstants.{MAX_BYTES, MAX_VALUES};
-ghost use Rattle.linear.specs.CodeSets.{has_character, character_value, start_value, change_value, shift_value};
-ghost use Rattle.linear.specs.CodeSets.{leading_digits, is_next, next_special, picked_set, is_pair_next, pair_values};
-ghost use Rattle.linear.specs.CodeSets.{changed_to, byte_written, written, start_set};
-ghost use Rattle.linear.specs.Switching.{ValuesAreWrittenBySteps};
+ghost use Rattle.linear.specs.declared.limits.TheConstants.{MAX_VALUES};
+ghost use Rattle.linear.specs.CodeSets.{set_has, character_value, start_value, change_value, leading_digits};
+ghost use Rattle.linear.specs.CodeSets.{is_next, next_special_byte, picked_set, is_pair_next, pair_values};
+ghost use Rattle.linear.specs.CodeSets.{byte_values, data_values, start_set};
+ghost use Rattle.linear.specs.Private.Data.{IsCode128Data};
+ghost use Rattle.linear.specs.Private.Lists.{Appends};
 
 use crate::limits::MAX_VALUES;
 use arrayvec::ArrayVec;
@@ -25,10 +26,9 @@ pub type Values = ArrayVec<u8, MAX_VALUES>;
 /// The value that shifts the next character alone to the other of sets A and B.
 const SHIFT: u8 = 98;
 
-/// How many digits the bytes begin with.
+/// Returns the number of digits that the bytes begin with.
 fn leading_digits(bytes: &[u8]) -> usize
-    ensures value { result ≡ leading_digits bytes.now }
-    ensures within { result ≤ length bytes.now }
+    ensures { result ≡ leading_digits bytes.now }
 {
     bytes
         .iter()
@@ -36,21 +36,21 @@ fn leading_digits(bytes: &[u8]) -> usize
         .count()
 }
 
-/// The first byte that only one of sets A and B has.
-fn next_special(bytes: &[u8]) -> Option<u8>
-    ensures { result ≡ next_special bytes.now }
+/// Returns the first byte that only one of sets A and B has.
+fn next_special_byte(bytes: &[u8]) -> Option<u8>
+    ensures { result ≡ next_special_byte bytes.now }
 {
     bytes.iter().copied().find(|byte| *byte < 32 || *byte >= 96)
 }
 
-/// Whether the next byte that only one of sets A and B has is of this set.
+/// Returns whether the next byte that only one of sets A and B has is of this set.
 fn is_next(set: CodeSet, bytes: &[u8]) -> bool
     ensures { result ≡ is_next set bytes.now }
 {
-    next_special(bytes).is_some_and(|byte| has_character(set, byte))
+    next_special_byte(bytes).is_some_and(|byte| set_has(set, byte))
 }
 
-/// The one of sets A and B to go to for these bytes.
+/// Returns the one of sets A and B to change to for these bytes.
 fn picked_set(bytes: &[u8]) -> CodeSet
     ensures { result ≡ picked_set bytes.now }
 {
@@ -61,7 +61,7 @@ fn picked_set(bytes: &[u8]) -> CodeSet
     }
 }
 
-/// Whether the next two digits are to be one value of set C.
+/// Returns whether the next two digits are to be one value of set C.
 fn is_pair_next(set: CodeSet, bytes: &[u8]) -> bool
     ensures { result ≡ is_pair_next set bytes.now }
 {
@@ -72,7 +72,7 @@ fn is_pair_next(set: CodeSet, bytes: &[u8]) -> bool
     }
 }
 
-/// The set to start in.
+/// Returns the set to start in.
 pub fn start_set(bytes: &[u8]) -> CodeSet
     ensures { result ≡ start_set bytes.now }
 {
@@ -84,7 +84,7 @@ pub fn start_set(bytes: &[u8]) -> CodeSet
     }
 }
 
-/// The value that starts a symbol in a set.
+/// Returns the value that starts a symbol in a set.
 pub fn start_value(set: CodeSet) -> u8
     ensures { result ≡ start_value set }
 {
@@ -95,7 +95,7 @@ pub fn start_value(set: CodeSet) -> u8
     }
 }
 
-/// The value that changes to a set.
+/// Returns the value that changes to a set.
 fn change_value(set: CodeSet) -> u8
     ensures { result ≡ change_value set }
 {
@@ -106,9 +106,9 @@ fn change_value(set: CodeSet) -> u8
     }
 }
 
-/// Whether a set has a byte as a character of its own.
-fn has_character(set: CodeSet, byte: u8) -> bool
-    ensures { result ≡ has_character set byte }
+/// Returns whether a set has a byte as a character of its own.
+fn set_has(set: CodeSet, byte: u8) -> bool
+    ensures { result ≡ set_has set byte }
 {
     match set {
         CodeSet::A => byte < 96,
@@ -117,7 +117,7 @@ fn has_character(set: CodeSet, byte: u8) -> bool
     }
 }
 
-/// The value of a byte in set A or B.
+/// Returns the value of a byte in set A or B.
 fn character_value(byte: u8) -> u8
     requires { byte < 128 }
     ensures { result ≡ character_value byte }
@@ -125,13 +125,21 @@ fn character_value(byte: u8) -> u8
     if byte < 32 { byte + 64 } else { byte - 32 }
 }
 
+/// Appends two values.
+fn push_two(values: &mut Values, first: u8, second: u8)
+    requires { array_vec_len values.old + 2 ≤ MAX_VALUES }
+    ensures { Appends values.old.items values.new.items (first ∷ second ∷ []) 2 }
+{
+    values.push(first);
+    values.push(second);
+}
+
 /// Appends the value of two digits, after a change to set C where another one holds.
 fn push_pair(values: &mut Values, set: CodeSet, first: u8, second: u8)
     requires first { IsAsciiDigit first }
     requires second { IsAsciiDigit second }
     requires room { array_vec_len values.old + 2 ≤ MAX_VALUES }
-    ensures items { values.new.items ≡ values.old.items ++ pair_values set first second }
-    ensures len { array_vec_len values.new ≤ array_vec_len values.old + 2 }
+    ensures { Appends values.old.items values.new.items (pair_values set first second) 2 }
 {
     if set != CodeSet::C {
         values.push(change_value(CodeSet::C));
@@ -139,50 +147,27 @@ fn push_pair(values: &mut Values, set: CodeSet, first: u8, second: u8)
     values.push((first - b'0') * 10 + (second - b'0'));
 }
 
-/// Appends the values of a byte after a change to a set that has it.
-fn push_changed(values: &mut Values, set: CodeSet, byte: u8)
-    requires ascii { byte < 128 }
-    requires room { array_vec_len values.old + 2 ≤ MAX_VALUES }
-    ensures items { values.new.items ≡ values.old.items ++ (changed_to set byte).values }
-    ensures len { array_vec_len values.new ≤ array_vec_len values.old + 2 }
-{
-    values.push(change_value(set));
-    values.push(character_value(byte));
-}
-
-/// Appends a shift and the value of a byte, which the other of sets A and B has.
-fn push_shifted(values: &mut Values, byte: u8)
-    requires ascii { byte < 128 }
-    requires room { array_vec_len values.old + 2 ≤ MAX_VALUES }
-    ensures items { values.new.items ≡ values.old.items ++ shift_value ∷ character_value byte ∷ [] }
-    ensures len { array_vec_len values.new ≤ array_vec_len values.old + 2 }
-{
-    values.push(SHIFT);
-    values.push(character_value(byte));
-}
-
-/// Appends the values of a byte before `rest`, and gives the set that holds after them.
+/// Appends the values of a byte before `rest`, and returns the set that holds after them.
 fn push_byte(values: &mut Values, set: CodeSet, byte: u8, rest: &[u8]) -> CodeSet
     requires ascii { byte < 128 }
     requires room { array_vec_len values.old + 2 ≤ MAX_VALUES }
-    ensures items { values.new.items ≡ values.old.items ++ (byte_written set byte rest.now).values }
-    ensures set { result ≡ (byte_written set byte rest.now).set }
-    ensures len { array_vec_len values.new ≤ array_vec_len values.old + 2 }
+    ensures values { Appends values.old.items values.new.items (byte_values set byte rest.now).0 2 }
+    ensures set { result ≡ (byte_values set byte rest.now).1 }
 {
-    if has_character(set, byte) {
+    if set_has(set, byte) {
         values.push(character_value(byte));
         return set;
     }
     if is_next(set, rest) {
-        push_shifted(values, byte);
+        push_two(values, SHIFT, character_value(byte));
         return set;
     }
     let next = picked_set_of(byte, rest);
-    push_changed(values, next, byte);
+    push_two(values, change_value(next), character_value(byte));
     next
 }
 
-/// The set to change to for a byte before `rest`.
+/// Returns the set to change to for a byte before `rest`.
 fn picked_set_of(byte: u8, rest: &[u8]) -> CodeSet
     ensures { result ≡ picked_set (byte ∷ rest.now) }
 {
@@ -195,11 +180,10 @@ fn picked_set_of(byte: u8, rest: &[u8]) -> CodeSet
     }
 }
 
-/// The values that the data is written in, from a set on: at most two a byte.
-pub fn written(data: &[u8], start: CodeSet) -> Values
-    requires ascii { All (λ byte. byte < 128) «data».now }
-    requires few { length «data».now ≤ MAX_BYTES }
-    ensures items { result.items ≡ written start «data».now }
+/// Returns the values of data from a set on: at most two for each byte.
+pub fn data_values(data: &[u8], start: CodeSet) -> Values
+    requires { IsCode128Data «data».now }
+    ensures items { result.items ≡ data_values start «data».now }
     ensures characters { All (λ value. value < 106) result.items }
 {
     let mut values = Values::new();
@@ -217,8 +201,3 @@ pub fn written(data: &[u8], start: CodeSet) -> Values
     }
     values
 }
-
-/// The values that a symbol is written in are those of the switching rule, step by step.
-pub fn switching_law()
-    ensures { ValuesAreWrittenBySteps }
-{}

@@ -1,9 +1,5 @@
 //! The tables of the standards in the form that rows are made of: a module is true where dark.
 
-ghost use Rattle.std.specs.Prelude.{◌≡◌, length};
-ghost use Rattle.linear.specs.Code128.{character_modules};
-ghost use Rattle.linear.specs.TableFacts.{PatternsDiffer, CharactersDiffer, CharactersHaveElevenModules, WidthsAreEven};
-
 use crate::ean::NumberSet::{self, A, B};
 
 /// A dark module.
@@ -186,13 +182,3 @@ pub static CHARACTERS: [[bool; 11]; 106] = [
 
 /// The modules of the Code 128 stop character, value 106 (ISO/IEC 15417).
 pub static STOP: [bool; 13] = [D, D, L, L, L, D, D, D, L, D, L, D, D];
-
-/// The patterns of digits differ, and the characters of values: those have eleven modules, an even number of them
-/// dark, and the stop character has thirteen.
-pub fn table_laws()
-    ensures patterns_differ { PatternsDiffer }
-    ensures characters_differ { CharactersDiffer }
-    ensures characters_have_eleven_modules { CharactersHaveElevenModules }
-    ensures bars_are_even { WidthsAreEven }
-    ensures stop { length (character_modules 106) ≡ 13 }
-{}

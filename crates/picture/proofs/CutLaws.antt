@@ -57,13 +57,14 @@ cut_after-some ends [] y ys = subst IsSome (sym (cut_after-cons ends y ys))
 cut_after-some ends (x ∷ xs) y ys = subst IsSome (sym (cut_after-cons ends x (xs ++ y ∷ ys)))
     (onto_parts-some (ends x) x (cut_after ends (xs ++ y ∷ ys)))
 
--- an element that passes parts what stands before it from what follows
+-- an element that passes ends the part before it
 pub cut_after-at : {X : Type 0} (ends : X → Bool) (xs : List X) (y : X) (ys : List X) → ends y ≡ true
     → cut_after ends (xs ++ y ∷ ys) ≡ cut_after ends (xs ++ y ∷ []) ++ cut_after ends ys
 cut_after-at ends [] y ys e = cut_after-cons ends y ys ∙ rw e refl
 cut_after-at ends (x ∷ xs) y ys e =
     cut_after-cons ends x (xs ++ y ∷ ys) ∙ ap (onto_parts (ends x) x) (cut_after-at ends xs y ys e)
-    ∙ rw (cut_after-cons ends x (xs ++ y ∷ [])) (onto_parts-append (ends x) x (cut_after ends (xs ++ y ∷ [])) (cut_after ends ys) (cut_after-some ends xs y []))
+    ∙ rw (cut_after-cons ends x (xs ++ y ∷ [])) (onto_parts-append (ends x) x (cut_after ends (xs ++ y ∷ []))
+    (cut_after ends ys) (cut_after-some ends xs y []))
 
 -- one part, where nothing before its last element passes
 pub cut_after-part : {X : Type 0} (ends : X → Bool) (xs : List X) (y : X) → list_all (λ x. not (ends x)) xs ≡ true

@@ -12,7 +12,8 @@ abbrev ean8_modules : List Bool
 ean8_modules = map (λ b. b == 49) (codes "1010111011011110101100010011001010101000010100111010000101000100101")
 
 abbrev ean8_picture : Picture
-ean8_picture = enlargement (with_quiet_zone (bars ean8_modules 1) (record { left = 7; right = 7; top = 0; bottom = 0 })) 1
+ean8_picture = enlargement (with_quiet_zone (bars ean8_modules 1)
+    (record { left = 7; right = 7; top = 0; bottom = 0 })) 1
 
 pbm_ean8 : pbm_text ean8_picture
     ≡ codes "P1\n81 1\n0000000101011101101111010110001001100101010100001010011101000010100010\n01010000000\n"

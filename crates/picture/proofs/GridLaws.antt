@@ -91,7 +91,8 @@ module _ (p : Picture) (zone : QuietZone) where
       → (with_quiet_zone p zone).dark (zone.left + x) y ≡ p.dark x (y - zone.top)
   dark-inside x y wide low high =
       let row : y ≡ zone.top + (y - zone.top) = omega arith in
-      ap ((with_quiet_zone p zone).dark (zone.left + x)) row ∙ dark-with_quiet_zone p zone x (y - zone.top) wide (omega arith)
+      ap ((with_quiet_zone p zone).dark (zone.left + x)) row
+      ∙ dark-with_quiet_zone p zone x (y - zone.top) wide (omega arith)
 
   dark-lower : (x y k : ℕ) → zone.top ≤ y → (y - zone.top) + k < p.height → ((column : ℕ) → column < p.width
       → p.dark column ((y - zone.top) + k) ≡ p.dark column (y - zone.top))
@@ -112,12 +113,14 @@ module _ (p : Picture) (zone : QuietZone) where
 
   pub pixel_row-above : (y : ℕ) → y < zone.top → replicate (zone.left + p.width + zone.right) false
       ≡ pixel_row (with_quiet_zone p zone) y
-  pixel_row-above y h = sym (map-range_false (λ x. (with_quiet_zone p zone).dark x y) 0 (zone.left + p.width + zone.right)
+  pixel_row-above y h = sym (map-range_false (λ x. (with_quiet_zone p zone).dark x y) 0
+      (zone.left + p.width + zone.right)
       (λ x low high. dark-above x y h))
 
   pub pixel_row-below : (y : ℕ) → zone.top + p.height ≤ y
       → replicate (zone.left + p.width + zone.right) false ≡ pixel_row (with_quiet_zone p zone) y
-  pixel_row-below y h = sym (map-range_false (λ x. (with_quiet_zone p zone).dark x y) 0 (zone.left + p.width + zone.right)
+  pixel_row-below y h = sym (map-range_false (λ x. (with_quiet_zone p zone).dark x y) 0
+      (zone.left + p.width + zone.right)
       (λ x low high. dark-below x y h))
 
   pub pixel_row-with_quiet_zone : (y : ℕ) → zone.top ≤ y → y < zone.top + p.height
@@ -144,7 +147,7 @@ module _ (p : Picture) (zone : QuietZone) where
       (ap (λ (t : List Bool). t ++ map f (range_with_len end zone.right)) inner
       ∙ ap (λ (t : List Bool). pixel_row p (y - zone.top) ++ t) right))))
 
--- each of the first pixels so many times
+-- each of the first pixels, repeated
 pixel_row-enlargement : (p : Picture) (s y : ℕ) (bs : List Bool) → 0 < s → length bs ≡ p.width * s
     → ((x : ℕ) → x < p.width → get_or bs x false ≡ p.dark x (y / s)) →
     map (λ x. get_or bs (x / s) false) (below (length bs)) ≡ pixel_row (enlargement p s) y

@@ -11,3 +11,4 @@ pub mod RasterLaws
 pub mod SampleLaws
 pub mod ShortLineLaws
 pub mod WritingLaws
+pub mod WritingLoopLaws

@@ -1,5 +1,6 @@
 -- A plain PBM file reads back as the picture's pixels.
-use Rattle.std.proofs.Common.{◌≡◌, ◌==◌, ℕ, suc, Bool, false, ◌+◌, ◌-◌, ◌^◌, ◌<◌, true, List, [], ◌∷◌, ◌++◌, length, take}
+use Rattle.std.proofs.Common.{◌≡◌, ◌==◌, ℕ, suc, Bool, false, ◌+◌, ◌-◌, ◌^◌, ◌<◌, true, List, [], ◌∷◌, ◌++◌, length}
+use Rattle.std.proofs.Common.{take}
 use Rattle.std.proofs.Common.{drop, map, flat_map, refl, ap, sym, ◌∙◌, arith, codes, decimal, Some, append_assoc}
 use Rattle.std.specs.List.{prefix_len}
 use Rattle.std.specs.Str.{bytes_eq}
@@ -17,7 +18,8 @@ use Rattle.picture.proofs.ShortLineLaws.{has_short_lines, short_rows, short_head
 
 pbm_pixels-steps : (text first second third fourth rest : List ℕ) (width height : ℕ) →
     has_short_lines text ≡ true → bytes_eq (take 2 text) (codes "P1") ≡ true → after_white (drop 2 text) ≡ Some first →
-    leading_number first ≡ Some (width, second) → after_white second ≡ Some third → leading_number third ≡ Some (height, fourth)
+    leading_number first ≡ Some (width, second) → after_white second ≡ Some third
+    → leading_number third ≡ Some (height, fourth)
     → after_white fourth ≡ Some rest →
     pbm_pixels text ≡ raster_of width height (strip rest)
 unfolding pbm_pixels

@@ -54,7 +54,8 @@ enlarged_place size scale k i inside within = omega (arith, mul-add-lt k scale i
 
 -- a pixel of an enlargement
 value_at-enlargement : (p : Picture) (scale column row x y : ℕ) → column < p.width → row < p.height → x < scale
-    → y < scale → value_at (raster (enlargement p scale)).rows (column * scale + x) (row * scale + y) ≡ p.dark column row
+    → y < scale → value_at (raster (enlargement p scale)).rows (column * scale + x)
+    (row * scale + y) ≡ p.dark column row
 value_at-enlargement p scale column row x y wide high inside within =
     value_at-raster (enlargement p scale) (column * scale + x) (row * scale + y)
     (enlarged_place p.width scale column x wide inside) (enlarged_place p.height scale row y high within)
@@ -119,9 +120,11 @@ dark-with_quiet_zone p zone column row wide high =
     ) refl
 
 are_cells-enlargement : (p : Picture) (zone : QuietZone) (scale : ℕ) → 0 < scale
-    → are_cells (raster (enlargement (with_quiet_zone p zone) scale)) scale zone (with_quiet_zone p zone).width (with_quiet_zone p zone).height ≡ true
+    → are_cells (raster (enlargement (with_quiet_zone p zone) scale)) scale zone (with_quiet_zone p zone).width
+    (with_quiet_zone p zone).height ≡ true
 are_cells-enlargement p zone scale some =
-    list_all-below _ (with_quiet_zone p zone).height (λ row high. list_all-below _ (with_quiet_zone p zone).width (λ column wide.
+    list_all-below _ (with_quiet_zone p zone).height (λ row high. list_all-below _ (with_quiet_zone p zone).width
+    (λ column wide.
     and_from _ _ (is_plain-enlargement (with_quiet_zone p zone) scale column row wide high some)
     (rw (cell-enlargement (with_quiet_zone p zone) scale column row wide high some)
     (inside_or_light (nat_le zone.left column && nat_lt column (zone.left + p.width)
@@ -137,14 +140,18 @@ mod_whole : (size scale : ℕ) → 0 < scale → (size * scale) % scale ≡ 0
 mod_whole size scale some = mul-mod_left size scale
 
 sampled : (p : Picture) (zone : QuietZone) (scale : ℕ) → 0 < scale →
-    map (λ row. map (λ column. cell (raster (enlargement (with_quiet_zone p zone) scale)) scale (zone.left + column) (zone.top + row))
+    map (λ row. map (λ column. cell (raster (enlargement (with_quiet_zone p zone) scale)) scale (zone.left + column)
+    (zone.top + row))
     (below p.width)) (below p.height) ≡ map (pixel_row p) (below p.height)
 sampled p zone scale some =
-    map-range (λ row. map (λ column. cell (raster (enlargement (with_quiet_zone p zone) scale)) scale (zone.left + column)
+    map-range (λ row. map (λ column. cell (raster (enlargement (with_quiet_zone p zone) scale)) scale
+    (zone.left + column)
     (zone.top + row)) (below p.width)) (pixel_row p) 0 p.height (λ row low high.
-    map-range (λ column. cell (raster (enlargement (with_quiet_zone p zone) scale)) scale (zone.left + column) (zone.top + row))
+    map-range (λ column. cell (raster (enlargement (with_quiet_zone p zone) scale)) scale (zone.left + column)
+    (zone.top + row))
     (λ x. p.dark x row) 0 p.width (λ column left wide.
-    cell-enlargement (with_quiet_zone p zone) scale (zone.left + column) (zone.top + row) (omega arith) (omega arith) some
+    cell-enlargement (with_quiet_zone p zone) scale (zone.left + column) (zone.top + row) (omega arith)
+    (omega arith) some
     ∙ dark-with_quiet_zone p zone column row (omega arith) (omega arith)))
 
 -- what was drawn is sampled

@@ -43,7 +43,7 @@ pixel_step dark true line more rest none room whole part =
 pixel_step dark false line more rest none room whole part =
     ap has_short_lines (sym (append_assoc line (pbm_digit dark ∷ []) (more ++ rest))) ∙ part refl
 
--- the pixels of a row from a column on, after what stands on the line before it
+-- the pixels of a row from a column on, after what is on the line before it
 short_from : (p : Picture) (y n a : ℕ) (line rest : List ℕ) → a + suc n ≡ p.width → has_no_line_feed line ≡ true
     → length line ≡ a % 70 → has_short_lines rest ≡ true →
     has_short_lines (line ++ (flat_map (pbm_pixel p y) (range_with_len a (suc n)) ++ rest)) ≡ true

@@ -1,4 +1,4 @@
--- The texts of rows, line by line.
+-- The texts of rows, piece by piece.
 use Rattle.std.proofs.Common.{◌≡◌, ℕ, suc, zero, ◌+◌, ◌-◌, ◌*◌, ◌<◌, ◌≤◌, min, Bool, List, [], ◌∷◌, ◌++◌, refl, ap, sym}
 use Rattle.std.proofs.Common.{◌∙◌, arith, append_assoc, flat_map, map, length, take, drop, zero-add, add-zero, inl, inr}
 use Rattle.std.specs.Int.{div_ceil}

@@ -1,6 +1,7 @@
 -- Pictures, by coordinates: x counts columns from the left and y rows from the top, both from 0 (ISO/IEC 15420, 15417
 -- and 18004, quiet zones).
-use Rattle.std.specs.Prelude.{◌≡◌, ℕ, ◌+◌, ◌-◌, ◌*◌, ◌/◌, ◌<◌, ◌≤◌, Bool, false, ◌&&◌, List, length, slice_index_or, nat_lt}
+use Rattle.std.specs.Prelude.{◌≡◌, ℕ, ◌+◌, ◌-◌, ◌*◌, ◌/◌, ◌<◌, ◌≤◌, Bool, false, ◌&&◌, List, length, slice_index_or}
+use Rattle.std.specs.Prelude.{nat_lt}
 use Rattle.std.specs.Prelude.{nat_le}
 use Rattle.qrmatrix.specs.Symbol.{Symbol, is_dark}
 use Rattle.picture.specs.declared.quiet_zone.QuietZone.{QuietZone}
@@ -11,7 +12,7 @@ pub record Picture : Type 0 where
   pub height : ℕ
   pub dark : ℕ → ℕ → Bool
 
--- the picture has at least one and `count` rows from the row y on, which all have the pixels of y
+-- there are `count` rows from the row y on, at least one, and they all have the pixels of y
 pub record AreEqualRows (p : Picture) (y count : ℕ) : Type 0 where
   pub some : 0 < count
   pub inside : y + count ≤ p.height
@@ -25,11 +26,11 @@ Fits p = (p.width ≤ 65535) × (p.height ≤ 65535)
 abbrev pub bars : List Bool → ℕ → Picture
 bars row height = record { width = length row; height = height; dark = λ x y. slice_index_or row x false }
 
--- the modules of a QR symbol
+-- a square of modules
 abbrev pub symbol_picture : Symbol → Picture
 symbol_picture s = record { width = s.side; height = s.side; dark = is_dark s }
 
--- the picture in its quiet zone, which is light
+-- a picture in a quiet zone, which is light
 abbrev pub with_quiet_zone : Picture → QuietZone → Picture
 with_quiet_zone p zone = record {
   width = zone.left + p.width + zone.right;
@@ -39,6 +40,6 @@ with_quiet_zone p zone = record {
       && p.dark (x - zone.left) (y - zone.top);
 }
 
--- each pixel drawn as a square of so many pixels
+-- each pixel drawn as a square of n by n pixels
 abbrev pub enlargement : Picture → ℕ → Picture
 enlargement p n = record { width = p.width * n; height = p.height * n; dark = λ x y. p.dark (x / n) (y / n) }

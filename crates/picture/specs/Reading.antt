@@ -1,5 +1,6 @@
 -- Pictures read back from text: plain PBM files (pbm(5), the plain format), and text pictures.
-use Rattle.std.specs.Prelude.{ℕ, ◌+◌, ◌-◌, ◌*◌, ◌/◌, ◌%◌, Bool, true, false, not, ◌&&◌, ◌||◌, List, [], ◌∷◌, map, filter}
+use Rattle.std.specs.Prelude.{ℕ, ◌+◌, ◌-◌, ◌*◌, ◌/◌, ◌%◌, Bool, true, false, not, ◌&&◌, ◌||◌, List, [], ◌∷◌, map}
+use Rattle.std.specs.Prelude.{filter}
 use Rattle.std.specs.Prelude.{take, drop, length, codes, Option, Some, None, option_map, nat_le, nat_lt, ◌==◌}
 use Rattle.std.specs.Prelude.{if◌then◌else◌, slice_index_or}
 use Rattle.std.specs.List.{list_all, prefix_len, onto_first, concat}
@@ -114,7 +115,8 @@ cell r scale column row = value_at r.rows (column * scale) (row * scale)
 -- whether all pixels of a cell have its colour
 abbrev pub is_plain : Raster → ℕ → ℕ → ℕ → Bool
 is_plain r scale column row =
-    list_all (λ y. list_all (λ x. beq (value_at r.rows (column * scale + x) (row * scale + y)) (cell r scale column row))
+    list_all (λ y. list_all (λ x. beq (value_at r.rows (column * scale + x) (row * scale + y))
+    (cell r scale column row))
     (below scale)) (below scale)
 
 -- whether the cell in a column and a row is a module, and not of the quiet zone

@@ -22,8 +22,8 @@ pub trait Grid {
         requires in_height { y < (picture self.now).height }
         ensures { result ≡ (picture self.now).dark x y };
 
-    /// Returns how many rows from row `y` on are known to have its pixels: at least 1, the row itself. A writer asks for
-    /// the pixels of these rows once.
+    /// Returns how many rows from row `y` on are known to have its pixels: at least 1, the row itself. A writer asks
+    /// for the pixels of these rows once.
     fn equal_rows(&self, y: usize) -> usize
         requires { y < (picture self.now).height }
         ensures { AreEqualRows (picture self.now) y result }

@@ -46,10 +46,10 @@ best_beats version bytes choices are Numeric n some inside =
     let d = better_choice choices.characters.none_over choices.characters.one_over in
     let numeric : Beats (better_choice (better_choice a b) c) x n = elim (thirds n) [
       | inl (inl e) ↦ better-left (better_choice a b) c x n
-          (better-left a b x n (are.digits.none_over.least n some inside e))
+          (better-left a b x n (are.digits.none_over.lowest n some inside e))
       | inl (inr e) ↦ better-left (better_choice a b) c x n
-          (better-right a b x n (are.digits.one_over.least n some inside e))
-      | inr e ↦ better-right (better_choice a b) c x n (are.digits.two_over.least n some inside e)
+          (better-right a b x n (are.digits.one_over.lowest n some inside e))
+      | inr e ↦ better-right (better_choice a b) c x n (are.digits.two_over.lowest n some inside e)
     ] in
     better-left (better_choice (better_choice (better_choice a b) c) d) choices.bytes x n
     (better-left (better_choice (better_choice a b) c) d x n numeric)
@@ -60,21 +60,21 @@ best_beats version bytes choices are Alphanumeric n some inside =
     let a = choices.characters.none_over in
     let b = choices.characters.one_over in
     let alphanumeric : Beats (better_choice a b) x n = elim (halves n) [
-      | inl e ↦ better-left a b x n (are.characters.none_over.least n some inside e)
-      | inr e ↦ better-right a b x n (are.characters.one_over.least n some inside e)
+      | inl e ↦ better-left a b x n (are.characters.none_over.lowest n some inside e)
+      | inr e ↦ better-right a b x n (are.characters.one_over.lowest n some inside e)
     ] in
     better-left (better_choice numeric (better_choice a b)) choices.bytes x n
     (better-right numeric (better_choice a b) x n alphanumeric)
 best_beats version bytes choices are Byte n some inside =
     let others = better_choice (better_choice (better_choice choices.digits.none_over choices.digits.one_over)
     choices.digits.two_over) (better_choice choices.characters.none_over choices.characters.one_over) in
-    better-right others choices.bytes (total version bytes Byte n) n (are.byte.least n some inside refl)
+    better-right others choices.bytes (total version bytes Byte n) n (are.byte.lowest n some inside refl)
 
 -- no first segment costs less, and none as cheap is longer
-pub best-least : (version : ℕ) (bytes : List ℕ) (mode : Mode) (n : ℕ) → 0 < n
+pub best-le : (version : ℕ) (bytes : List ℕ) (mode : Mode) (n : ℕ) → 0 < n
     → n ≤ run_length (has_character mode) bytes → Beats (choices_of version bytes).best (total version bytes mode n) n
-best-least version [] mode n some inside = absurd (omega (arith, run_nothing (has_character mode)))
-best-least version (b ∷ bytes) mode n some inside =
+best-le version [] mode n some inside = absurd (omega (arith, run_nothing (has_character mode)))
+best-le version (b ∷ bytes) mode n some inside =
     rw (best_is version b bytes) (best_beats version (b ∷ bytes) (choices_of version (b ∷ bytes))
     (AreBest-of version (b ∷ bytes)) mode n some inside)
 
@@ -120,7 +120,7 @@ fewest_nil version = refl
 pub fewest_bits-le : (version : ℕ) (bytes : List ℕ) → fewest_bits version bytes ≤ 28 * length bytes
 fewest_bits-le version [] = omega (arith, fewest_nil version)
 fewest_bits-le version (b ∷ bytes) =
-    let one = best-least version (b ∷ bytes) Byte 1 (omega arith) (run_byte b bytes) in
+    let one = best-le version (b ∷ bytes) Byte 1 (omega arith) (run_byte b bytes) in
     omega (arith, one.0, short_bits version Byte, fewest_bits-le version bytes)
 
 pub best-front : (version b : ℕ) (bytes : List ℕ) → length (b ∷ bytes) ≤ 652
@@ -135,16 +135,17 @@ best-front version b bytes few =
     ]
 
 -- no list of segments costs less
-pub fewest_bits-least : (version : ℕ) (segments : List Segment) (bytes : List ℕ) → IsSegmentation version segments bytes
+pub fewest_bits-le_cost : (version : ℕ) (segments : List Segment) (bytes : List ℕ)
+    → IsSegmentation version segments bytes
     → fewest_bits version bytes ≤ cost version segments
-fewest_bits-least version [] bytes cut = rw cut (omega (arith, fewest_nil version))
-fewest_bits-least version (s ∷ segments) bytes cut =
+fewest_bits-le_cost version [] bytes cut = rw cut (omega (arith, fewest_nil version))
+fewest_bits-le_cost version (s ∷ segments) bytes cut =
     let passes : nat_le s.len (run_length (has_character s.mode) bytes) ≡ true =
     sym (run_tells (has_character s.mode) bytes s.len cut.0.inside) ∙ cut.0.characters in
-    let first = best-least version bytes s.mode s.len cut.0.some (leb-true _ _ passes) in
+    let first = best-le version bytes s.mode s.len cut.0.some (leb-true _ _ passes) in
     omega (
       arith,
       first.0,
       sum_by-cons (segment_length version) s segments,
-      fewest_bits-least version segments (drop s.len bytes) cut.1,
+      fewest_bits-le_cost version segments (drop s.len bytes) cut.1,
     )

@@ -11,10 +11,10 @@ use Rattle.qrdata.specs.Fewest.{candidates, cheapest}
 use Rattle.qrdata.specs.Segments.{cost, segment_of}
 use Rattle.qrdata.proofs.FewestBitsLaws.{All-filter, tried_lengths}
 
--- t is the first of the list whose number is least
-abbrev pub IsFirstLeast : {A : Type 0} → (A → ℕ) → A → List A → Type 0
-IsFirstLeast f t [] = ⊥
-IsFirstLeast f t (x ∷ xs) = ((t ≡ x) × AllByRecursion (λ y. f t ≤ f y) xs) ⊎ ((f t < f x) × IsFirstLeast f t xs)
+-- t is the first of the list whose number is lowest
+abbrev pub IsFirstLowest : {A : Type 0} → (A → ℕ) → A → List A → Type 0
+IsFirstLowest f t [] = ⊥
+IsFirstLowest f t (x ∷ xs) = ((t ≡ x) × AllByRecursion (λ y. f t ≤ f y) xs) ⊎ ((f t < f x) × IsFirstLowest f t xs)
 
 stays : {A B : Type 0} (f : B → ℕ) (g : A → B) (lead : B) (xs : List A) → AllByRecursion (λ y. f lead ≤ f (g y)) xs
     → best_of (λ s t. nat_lt (f s) (f t)) lead (map g xs) ≡ lead
@@ -28,7 +28,7 @@ above_one n f true x y h k = h
 above_one n f false x y h k = k
 
 wins : {A B : Type 0} (f : B → ℕ) (g : A → B) (t : A) (lead : B) (xs : List A) → f (g t) < f lead
-    → IsFirstLeast (λ s. f (g s)) t xs → best_of (λ s t. nat_lt (f s) (f t)) lead (map g xs) ≡ g t
+    → IsFirstLowest (λ s. f (g s)) t xs → best_of (λ s t. nat_lt (f s) (f t)) lead (map g xs) ≡ g t
 wins f g t lead [] less first = absurd first
 wins f g t lead (x ∷ xs) less (inl here) =
     let all : AllByRecursion (λ y. f (g x) ≤ f (g y)) xs = rw here.0 at here.1 in
@@ -40,7 +40,7 @@ wins f g t lead (x ∷ xs) less (inr later) =
     (above_one (f (g t)) f (nat_lt (f (g x)) (f lead)) (g x) lead later.0 less) later.1
 
 pub cheapest-is : (version : ℕ) (g : Segment → List Segment) (t : Segment) (xs : List Segment)
-    → IsFirstLeast (λ s. cost version (g s)) t xs → cheapest version (map g xs) ≡ g t
+    → IsFirstLowest (λ s. cost version (g s)) t xs → cheapest version (map g xs) ≡ g t
 cheapest-is version g t [] first = absurd first
 cheapest-is version g t (x ∷ xs) (inl here) =
     let all : AllByRecursion (λ y. cost version (g x) ≤ cost version (g y)) xs = rw here.0 at here.1 in
@@ -64,10 +64,10 @@ pub record IsLeastOf (p : Segment → Bool) (f : Segment → ℕ) (size : ℕ) (
   pub strict : (s : Segment) → 0 < s.len → s.len ≤ size → p s ≡ true → IsBefore s t → f t < f s
 
 skips : (p : Segment → Bool) (f : Segment → ℕ) (t s : Segment) (xs : List Segment) → (p s ≡ true → f t < f s)
-    → IsFirstLeast f t (filter p xs) → IsFirstLeast f t (filter p (s ∷ xs))
+    → IsFirstLowest f t (filter p xs) → IsFirstLowest f t (filter p (s ∷ xs))
 skips p f t s xs less later =
-    let go : (b : Bool) → p s ≡ b → IsFirstLeast f t (cond {A = List Segment} b (s ∷ filter p xs) (filter p xs)) =
-    λ b. elim b as (λ b. p s ≡ b → IsFirstLeast f t (cond {A = List Segment} b (s ∷ filter p xs) (filter p xs))) [
+    let go : (b : Bool) → p s ≡ b → IsFirstLowest f t (cond {A = List Segment} b (s ∷ filter p xs) (filter p xs)) =
+    λ b. elim b as (λ b. p s ≡ b → IsFirstLowest f t (cond {A = List Segment} b (s ∷ filter p xs) (filter p xs))) [
       | true ↦ λ yes. inr (less yes, later)
       | false ↦ λ no. later
     ] in
@@ -80,60 +80,60 @@ All-each P R each (x ∷ xs) all = (each x all.0, All-each P R each xs all.1)
 
 stands : (p : Segment → Bool) (f : Segment → ℕ) (size : ℕ) (t : Segment) (xs : List Segment) → IsLeastOf p f size t
     → AllByRecursion (λ (s : Segment). (0 < s.len) × (s.len ≤ size)) xs
-    → IsFirstLeast f t (filter p (t ∷ xs))
-stands p f size t xs least sizes =
-    let all = All-each _ (λ s. f t ≤ f s) (λ s fits. least.low s fits.0.0 fits.0.1 fits.1) (filter p xs)
+    → IsFirstLowest f t (filter p (t ∷ xs))
+stands p f size t xs lowest sizes =
+    let all = All-each _ (λ s. f t ≤ f s) (λ s fits. lowest.low s fits.0.0 fits.0.1 fits.1) (filter p xs)
     (All-filter (λ (s : Segment). (0 < s.len) × (s.len ≤ size)) p xs sizes) in
-    let go : (b : Bool) → b ≡ true → IsFirstLeast f t (cond {A = List Segment} b (t ∷ filter p xs) (filter p xs)) =
-    λ b. elim b as (λ b. b ≡ true → IsFirstLeast f t (cond {A = List Segment} b (t ∷ filter p xs) (filter p xs))) [
+    let go : (b : Bool) → b ≡ true → IsFirstLowest f t (cond {A = List Segment} b (t ∷ filter p xs) (filter p xs)) =
+    λ b. elim b as (λ b. b ≡ true → IsFirstLowest f t (cond {A = List Segment} b (t ∷ filter p xs) (filter p xs))) [
       | true ↦ λ e. inl (refl, all)
       | false ↦ λ e. cc
     ] in
-    go (p t) least.passes
+    go (p t) lowest.passes
 
 -- it stands among the segments of the greatest length
 stands_longest : (p : Segment → Bool) (f : Segment → ℕ) (size n : ℕ) (mode : Mode) → suc n ≤ size
     → IsLeastOf p f size (segment_of mode (suc n))
-    → IsFirstLeast f (segment_of mode (suc n)) (filter p (candidates (suc n)))
-stands_longest p f size n Numeric fits least =
+    → IsFirstLowest f (segment_of mode (suc n)) (filter p (candidates (suc n)))
+stands_longest p f size n Numeric fits lowest =
     let sizes = tried_lengths n size (omega arith) in
     stands p f size (segment_of Numeric (suc n))
-    (segment_of Alphanumeric (suc n) ∷ segment_of Byte (suc n) ∷ candidates n) least
+    (segment_of Alphanumeric (suc n) ∷ segment_of Byte (suc n) ∷ candidates n) lowest
     ((omega arith, fits), ((omega arith, fits), sizes))
-stands_longest p f size n Alphanumeric fits least =
+stands_longest p f size n Alphanumeric fits lowest =
     let sizes = tried_lengths n size (omega arith) in
     let t = segment_of Alphanumeric (suc n) in
     skips p f t (segment_of Numeric (suc n)) (t ∷ segment_of Byte (suc n) ∷ candidates n)
-    (λ yes. least.strict (segment_of Numeric (suc n)) (omega arith) fits yes (inr (refl, omega arith)))
-    (stands p f size t (segment_of Byte (suc n) ∷ candidates n) least ((omega arith, fits), sizes))
-stands_longest p f size n Byte fits least =
+    (λ yes. lowest.strict (segment_of Numeric (suc n)) (omega arith) fits yes (inr (refl, omega arith)))
+    (stands p f size t (segment_of Byte (suc n) ∷ candidates n) lowest ((omega arith, fits), sizes))
+stands_longest p f size n Byte fits lowest =
     let sizes = tried_lengths n size (omega arith) in
     let t = segment_of Byte (suc n) in
     skips p f t (segment_of Numeric (suc n)) (segment_of Alphanumeric (suc n) ∷ t ∷ candidates n)
-    (λ yes. least.strict (segment_of Numeric (suc n)) (omega arith) fits yes (inr (refl, omega arith)))
+    (λ yes. lowest.strict (segment_of Numeric (suc n)) (omega arith) fits yes (inr (refl, omega arith)))
     (skips p f t (segment_of Alphanumeric (suc n)) (t ∷ candidates n)
-    (λ yes. least.strict (segment_of Alphanumeric (suc n)) (omega arith) fits yes (inr (refl, omega arith)))
-    (stands p f size t (candidates n) least sizes))
+    (λ yes. lowest.strict (segment_of Alphanumeric (suc n)) (omega arith) fits yes (inr (refl, omega arith)))
+    (stands p f size t (candidates n) lowest sizes))
 
 -- it stands among those of at most so many bytes
-pub IsFirstLeast-candidates : (p : Segment → Bool) (f : Segment → ℕ) (size n : ℕ) (mode : Mode) (len : ℕ) → n ≤ size
+pub IsFirstLowest-candidates : (p : Segment → Bool) (f : Segment → ℕ) (size n : ℕ) (mode : Mode) (len : ℕ) → n ≤ size
     → 0 < len → len ≤ n → IsLeastOf p f size (segment_of mode len)
-    → IsFirstLeast f (segment_of mode len) (filter p (candidates n))
-IsFirstLeast-candidates p f size zero mode len fits some inside least = absurd (omega arith)
-IsFirstLeast-candidates p f size (suc n) mode len fits some inside least = elim (cases_lt len (suc n)) [
+    → IsFirstLowest f (segment_of mode len) (filter p (candidates n))
+IsFirstLowest-candidates p f size zero mode len fits some inside lowest = absurd (omega arith)
+IsFirstLowest-candidates p f size (suc n) mode len fits some inside lowest = elim (cases_lt len (suc n)) [
   | inl less ↦
       let t = segment_of mode len in
       skips p f t (segment_of Numeric (suc n))
       (segment_of Alphanumeric (suc n) ∷ segment_of Byte (suc n) ∷ candidates n)
-      (λ yes. least.strict (segment_of Numeric (suc n)) (omega arith) fits yes (inl less))
+      (λ yes. lowest.strict (segment_of Numeric (suc n)) (omega arith) fits yes (inl less))
       (skips p f t (segment_of Alphanumeric (suc n)) (segment_of Byte (suc n) ∷ candidates n)
-      (λ yes. least.strict (segment_of Alphanumeric (suc n)) (omega arith) fits yes (inl less))
+      (λ yes. lowest.strict (segment_of Alphanumeric (suc n)) (omega arith) fits yes (inl less))
       (skips p f t (segment_of Byte (suc n)) (candidates n)
-      (λ yes. least.strict (segment_of Byte (suc n)) (omega arith) fits yes (inl less))
-      (IsFirstLeast-candidates p f size n mode len (omega arith) some (omega arith) least)))
+      (λ yes. lowest.strict (segment_of Byte (suc n)) (omega arith) fits yes (inl less))
+      (IsFirstLowest-candidates p f size n mode len (omega arith) some (omega arith) lowest)))
   | inr last ↦
       let same : suc n ≡ len = omega arith in
       subst (λ m. IsLeastOf p f size (segment_of mode m)
-      → IsFirstLeast f (segment_of mode m) (filter p (candidates (suc n)))) same (stands_longest p f size n mode fits)
-      least
+      → IsFirstLowest f (segment_of mode m) (filter p (candidates (suc n)))) same (stands_longest p f size n mode fits)
+      lowest
 ]

@@ -41,13 +41,13 @@ IsNoneOrReal version bytes mode class c = (ABSENT ≤ c.bits) ⊎ IsReal version
 -- a best choice of a mode and a class of lengths, if none of at most `from` bytes count
 pub record IsClass (version : ℕ) (bytes : List ℕ) (mode : Mode) (class from : ℕ) (c : ChoiceView) : Type 0 where
   pub real : IsNoneOrReal version bytes mode class c
-  pub least : (n : ℕ) → from < n → n ≤ run_length (has_character mode) bytes → class_of mode n ≡ class
+  pub lowest : (n : ℕ) → from < n → n ≤ run_length (has_character mode) bytes → class_of mode n ≡ class
       → Beats c (total version bytes mode n) n
 
 IsClass-absent : (version : ℕ) (bytes : List ℕ) (mode : Mode) (class : ℕ) → run_length (has_character mode) bytes ≡ 0
     → IsClass version bytes mode class 0 (absent_choice mode)
 IsClass-absent version bytes mode class none =
-    record { real = inl (omega arith); least = λ n some inside same. absurd (omega arith) }
+    record { real = inl (omega arith); lowest = λ n some inside same. absurd (omega arith) }
 
 -- what one byte more does to a class of lengths
 pub record Steps (mode : Mode) (class next added : ℕ) : Type 0 where
@@ -55,15 +55,15 @@ pub record Steps (mode : Mode) (class next added : ℕ) : Type 0 where
   pub back : (n : ℕ) → class_of mode (suc n) ≡ next → class_of mode n ≡ class
   pub adds : (n : ℕ) → 0 < n → class_of mode n ≡ class → payload_length mode (suc n) ≡ payload_length mode n + added
 
-least_longer : (version b : ℕ) (bytes : List ℕ) (mode : Mode) (class next added : ℕ) (c : ChoiceView)
+lowest-longer : (version b : ℕ) (bytes : List ℕ) (mode : Mode) (class next added : ℕ) (c : ChoiceView)
     → has_character mode b ≡ true → Steps mode class next added → IsClass version bytes mode class 0 c
     → (n : ℕ) → 1 < n → n ≤ run_length (has_character mode) (b ∷ bytes) → class_of mode n ≡ next
     → Beats (longer_choice c added) (total version (b ∷ bytes) mode n) n
-least_longer version b bytes mode class next added c t steps old zero more inside same = absurd (omega arith)
-least_longer version b bytes mode class next added c t steps old (suc n) more inside same =
+lowest-longer version b bytes mode class next added c t steps old zero more inside same = absurd (omega arith)
+lowest-longer version b bytes mode class next added c t steps old (suc n) more inside same =
     let here = steps.back n same in
     let before : Beats c (total version bytes mode n) n =
-    old.least n (omega arith) (omega (arith, run_more (has_character mode) b bytes t)) here in
+    old.lowest n (omega arith) (omega (arith, run_more (has_character mode) b bytes t)) here in
     let adds = steps.adds n (omega arith) here in
     (omega arith, λ less. omega (arith, before.1 (omega arith)))
 
@@ -85,7 +85,7 @@ IsClass-longer : (version b : ℕ) (bytes : List ℕ) (mode : Mode) (class next 
     → IsClass version (b ∷ bytes) mode next 1 (longer_choice c added)
 IsClass-longer version b bytes mode class next added c t steps old = record {
   real = real_longer version b bytes mode class next added c t steps old.real;
-  least = least_longer version b bytes mode class next added c t steps old;
+  lowest = lowest-longer version b bytes mode class next added c t steps old;
 }
 
 -- where no segment of one byte is of the class
@@ -93,8 +93,8 @@ IsClass-whole : (version : ℕ) (bytes : List ℕ) (mode : Mode) (class : ℕ) (
     → (class_of mode 1 ≡ class → ⊥) → IsClass version bytes mode class 1 c → IsClass version bytes mode class 0 c
 IsClass-whole version bytes mode class c other old = record {
   real = old.real;
-  least = λ n some inside same. elim (cases_lt 1 n) [
-    | inl more ↦ old.least n more inside same
+  lowest = λ n some inside same. elim (cases_lt 1 n) [
+    | inl more ↦ old.lowest n more inside same
     | inr one ↦ let is : n ≡ 1 = omega arith in absurd (other (rw is at same))
   ];
 }
@@ -114,8 +114,8 @@ IsClass-short version b bytes mode class c t one old =
             same_class = one;
             sum = refl;
           }));
-      least = λ n some inside same. elim (cases_lt 1 n) [
-        | inl more ↦ better-left c s (total version (b ∷ bytes) mode n) n (old.least n more inside same)
+      lowest = λ n some inside same. elim (cases_lt 1 n) [
+        | inl more ↦ better-left c s (total version (b ∷ bytes) mode n) n (old.lowest n more inside same)
         | inr last ↦ let is : n ≡ 1 = omega arith in
             rw is (better-right c s (total version (b ∷ bytes) mode 1) 1 (omega arith, λ less. absurd (omega arith)))
       ];

@@ -12,11 +12,11 @@ use Rattle.qrdata.specs.declared.mode.Segment.{Segment}
 use Rattle.qrdata.specs.Fewest.{chosen_segments, first_segments, is_first}
 use Rattle.qrdata.specs.Segments.{cost, count_width, has_character, segment_length, segment_of}
 use Rattle.qrdata.specs.Private.Table.{choices_of, fewest_bits}
-use Rattle.qrdata.proofs.BestChoiceLaws.{best-front, best-least, fewest_bits-least}
+use Rattle.qrdata.proofs.BestChoiceLaws.{best-front, best-le, fewest_bits-le_cost}
 use Rattle.qrdata.proofs.RunLaws.{run_length, run_length-le, run_tells}
 use Rattle.qrdata.proofs.BestListLaws.{chosen_segments-cons, chosen_segments-nil}
 use Rattle.qrdata.proofs.FewestBitsLaws.{chosen_segments-is}
-use Rattle.qrdata.proofs.CheapestLaws.{IsBefore, IsFirstLeast-candidates, cheapest-is, mode_place}
+use Rattle.qrdata.proofs.CheapestLaws.{IsBefore, IsFirstLowest-candidates, cheapest-is, mode_place}
 
 -- the data bits of the greatest version whose character counts are as wide
 abbrev pub widest : ℕ → ℕ
@@ -71,8 +71,8 @@ tried_low : (version : ℕ) (bytes : List ℕ) (t s : Segment) → (choices_of v
 tried_low version bytes t s is sum some inside passes =
     let run : s.len ≤ run_length (has_character s.mode) bytes =
     leb-true _ _ (sym (run_tells (has_character s.mode) bytes s.len inside) ∙ (and_parts _ _ passes).0) in
-    let first = best-least version bytes s.mode s.len some run in
-    let below = fewest_bits-least version (chosen_segments version (drop s.len bytes)) (drop s.len bytes)
+    let first = best-le version bytes s.mode s.len some run in
+    let below = fewest_bits-le_cost version (chosen_segments version (drop s.len bytes)) (drop s.len bytes)
     (chosen_segments-is version (drop s.len bytes)) in
     let all = cost-continued version bytes s in
     let len : (choices_of version bytes).best.segment.len ≡ t.len = ap (λ (u : Segment). u.len) is in
@@ -102,7 +102,7 @@ begins : (version b : ℕ) (bytes : List ℕ) (t : Segment) → (choices_of vers
 unfolding first_segments
 begins version b bytes t is sum some inside passes =
     let f : Segment → ℕ = λ s. cost version (continued version (b ∷ bytes) s) in
-    let first = IsFirstLeast-candidates (is_first version (b ∷ bytes)) f (length (b ∷ bytes)) (length (b ∷ bytes))
+    let first = IsFirstLowest-candidates (is_first version (b ∷ bytes)) f (length (b ∷ bytes)) (length (b ∷ bytes))
     t.mode t.len (omega arith) some inside (record {
       passes = passes;
       low = λ s h k u. (tried_low version (b ∷ bytes) t s is sum h k u).0;

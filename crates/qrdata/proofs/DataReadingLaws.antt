@@ -10,11 +10,13 @@ use Rattle.std.proofs.lemmas.List.Folds.{sum_by-replicate}
 use Rattle.std.proofs.lemmas.List.Elements.{All-from_recursion}
 use Rattle.gf256.specs.Field.{alpha, field_power, IsElement}
 use Rattle.gf256.specs.Polynomial.{evaluate}
-use Rattle.gf256.specs.ErrorCorrection.{ec_codewords_of, HasRoots, IsRemainder, EcCodewordsAreRemainder, RemaindersHaveRoots}
+use Rattle.gf256.specs.ErrorCorrection.{ec_codewords_of, HasRoots, IsRemainder, EcCodewordsAreRemainder}
+use Rattle.gf256.specs.ErrorCorrection.{RemaindersHaveRoots}
 use Rattle.qrdata.specs.declared.level.Level.{Level}
 use Rattle.qrdata.specs.declared.mode.Segment.{Segment}
 use Rattle.qrdata.specs.Bits.{number_of, codewords_of}
-use Rattle.qrdata.specs.Codewords.{with_zeros, data_of, with_pad_codewords, final_message, interleaving, pad_codewords, data_codewords_of}
+use Rattle.qrdata.specs.Codewords.{with_zeros, data_of, with_pad_codewords, final_message, interleaving}
+use Rattle.qrdata.specs.Codewords.{pad_codewords, data_codewords_of}
 use Rattle.qrdata.specs.Codewords.{split_by, symbol_codewords, with_terminator}
 use Rattle.qrdata.specs.Reading.{data_in, deinterleaving, has_roots, segments_at}
 use Rattle.qrdata.specs.Segments.{IsSegmentation, cost, segments_bits}
@@ -25,7 +27,7 @@ use Rattle.qrdata.proofs.InterleavingLaws.{Blocks, deinterleaving-interleaving}
 use Rattle.qrdata.proofs.LengthLaws.{count_below_cost, length-segments_bits}
 use Rattle.qrdata.proofs.PaddingLaws.{length-data_codewords_of, data_codewords_of-ends}
 use Rattle.qrdata.proofs.PayloadLaws.{AreBytes}
-use Rattle.qrdata.proofs.VersionLaws.{HasSoundBlocks-of, total_is}
+use Rattle.qrdata.proofs.VersionLaws.{HasSoundBlocks-of, data_codewords-add_ec_codewords}
 use Rattle.qrdata.proofs.SegmentReadingLaws.{AreBytes-take, AreBytes-drop, segments_at-segments_bits}
 
 -- the error correction codewords of a block: as many as they should be, and with them the block is a codeword
@@ -43,7 +45,7 @@ roots_pass p (suc n) low h =
 pub HasEcCodewords-from_law : EcCodewordsAreRemainder → RemaindersHaveRoots → (k : ℕ) → 0 < k → HasEcCodewords k
 HasEcCodewords-from_law remainder codeword k some = record {
   count = λ block w. let here : IsRemainder k block (ec_codewords_of k block) =
-      remainder k block some (All-from_recursion IsElement block w) in here.ec_codewords_per_block;
+      remainder k block some (All-from_recursion IsElement block w) in here.ec_codewords_length;
   roots = λ block w.
       let here : IsRemainder k block (ec_codewords_of k block) =
       remainder k block some (All-from_recursion IsElement block w) in
@@ -77,7 +79,8 @@ AreBytes-data_codewords_of size bits =
     AreBytes-append (codewords_of (length whole / 8) whole) (pad_codewords (size - length whole / 8))
     (AreBytes-codewords_of (length whole / 8) whole) (AreBytes-pad (size - length whole / 8))
 
-pub AreBytes-split : (lengths codewords : List ℕ) → AreBytes codewords → AllByRecursion AreBytes (split_by lengths codewords)
+pub AreBytes-split : (lengths codewords : List ℕ) → AreBytes codewords
+    → AllByRecursion AreBytes (split_by lengths codewords)
 unfolding split_by
 AreBytes-split [] codewords w = tt
 AreBytes-split (n ∷ lengths) codewords w = (
@@ -127,7 +130,8 @@ data_in-symbol_codewords version level segments bytes low high w cut fits remain
     ec_lengths (ec_codewords_of k) k blocks AreBytes law.count split_bytes ∙ ap (λ n. replicate n k) blocks_count in
     let ec_codewords_codewords : length (interleaving ec_blocks) ≡ count * k =
     length-interleaving ec_blocks ∙ (ap sum ec_codewords_shapes ∙ sum_by-replicate (λ x. x) count k) in
-    let read_blocks : deinterleaving lengths (interleaving blocks) ≡ blocks = rw block_shapes at (deinterleaving-interleaving blocks) in
+    let read_blocks : deinterleaving lengths (interleaving blocks)
+    ≡ blocks = rw block_shapes at (deinterleaving-interleaving blocks) in
     let read_ec_blocks : deinterleaving (replicate count k) (interleaving ec_blocks) ≡ ec_blocks =
     rw ec_codewords_shapes at (deinterleaving-interleaving ec_blocks) in
     let front : take size (interleaving blocks ++ interleaving ec_blocks) ≡ interleaving blocks =
@@ -135,7 +139,12 @@ data_in-symbol_codewords version level segments bytes low high w cut fits remain
     let back : drop size (interleaving blocks ++ interleaving ec_blocks) ≡ interleaving ec_blocks =
     drop_front size (interleaving blocks) (interleaving ec_blocks) data_length in
     let total : length (interleaving blocks ++ interleaving ec_blocks) ≡ total_codewords version =
-    omega (arith, length-append (interleaving blocks) (interleaving ec_blocks), total_is version level low high) in
+    omega (
+      arith,
+      length-append (interleaving blocks)
+          (interleaving ec_blocks),
+      data_codewords-add_ec_codewords version level low high,
+    ) in
     let valid = all_have_roots k blocks law split_bytes in
     let joined : concat blocks ≡ codewords = split_joined lengths codewords all_codewords in
     let ends = data_codewords_of-ends size bits bits_fit in
@@ -151,7 +160,9 @@ both_pass true b x y h = refl
 both_pass false b x y h = cc
 
 -- codewords that are read are as many as the symbol has
-pub length-read : (version : ℕ) (level : Level) (codewords bytes : List ℕ) → data_in version level codewords ≡ Some bytes
+pub length-read : (version : ℕ) (level : Level) (codewords bytes : List ℕ) → data_in version level codewords
+    ≡ Some bytes
     → length codewords ≡ total_codewords version
 unfolding data_in
-length-read version level codewords bytes h = eqb-true (length codewords) (total_codewords version) (both_pass _ _ _ bytes h)
+length-read version level codewords bytes h = eqb-true (length codewords) (total_codewords version)
+    (both_pass _ _ _ bytes h)

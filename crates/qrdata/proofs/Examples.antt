@@ -11,7 +11,8 @@ use Rattle.qrdata.specs.declared.mode.Mode.TheVariants.{Numeric, Byte}
 use Rattle.qrdata.specs.Bits.{bits_of, number_of}
 use Rattle.qrdata.specs.Codewords.{split_by, interleaving}
 use Rattle.qrdata.specs.Fewest.{first_segments, best_within, chosen_segments}
-use Rattle.qrdata.specs.Reading.{number_at, digits_at, characters_at, bytes_at, segment_at, segments_at, deinterleaving, data_in}
+use Rattle.qrdata.specs.Reading.{number_at, digits_at, characters_at, bytes_at, segment_at, segments_at}
+use Rattle.qrdata.specs.Reading.{deinterleaving, data_in}
 use Rattle.qrdata.specs.Segments.{alphanumeric_characters, alphanumeric_value, byte_bits, cost, segment_of}
 use Rattle.qrdata.specs.Versions.{total_codewords, block_count, ec_codewords_per_block, data_codewords, block_lengths}
 use Rattle.qrdata.specs.Versions.{block_table, groups_of}
@@ -19,7 +20,8 @@ use Rattle.qrdata.specs.Versions.{block_table, groups_of}
 -- a symbol of version 1-Q that is known from outside is read
 hello_world_reads : data_in 1 Q (32 ∷ 91 ∷ 11 ∷ 120 ∷ 209 ∷ 114 ∷ 220 ∷ 77 ∷ 67 ∷ 64 ∷ 236 ∷ 17 ∷ 236 ∷ 168 ∷ 72 ∷ 22
     ∷ 82 ∷ 217 ∷ 54 ∷ 156 ∷ 0 ∷ 46 ∷ 15 ∷ 180 ∷ 122 ∷ 16 ∷ []) ≡ Some (codes "HELLO WORLD")
-unfolding alphanumeric_characters bits_of number_of byte_bits total_codewords block_count ec_codewords_per_block data_codewords
+unfolding alphanumeric_characters bits_of number_of byte_bits total_codewords block_count ec_codewords_per_block
+    data_codewords
     block_lengths groups_of block_table evaluate field_power field_product binary_product binary_remainder number_at
     digits_at characters_at bytes_at segment_at segments_at deinterleaving data_in
 hello_world_reads = refl
@@ -49,8 +51,8 @@ short_digits = refl
 three_segments_cost : cost 1 (segment_of Byte 1 ∷ segment_of Numeric 2 ∷ segment_of Byte 1 ∷ []) ≡ 61
 three_segments_cost = refl
 
--- beside the listing of the standard (ISO/IEC 18004, table 9): of each version the error correction codewords of a block, and the
--- data codewords of each block
+-- beside the listing of the standard (ISO/IEC 18004, table 9): of each version the error correction codewords of a
+-- block, and the data codewords of each block
 abbrev blocks_of_versions : Level → List (ℕ × List ℕ)
 blocks_of_versions level =
     map (λ version. (ec_codewords_per_block version level, block_lengths version level)) (range_with_len 1 10)

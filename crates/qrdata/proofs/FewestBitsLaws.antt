@@ -26,36 +26,36 @@ lower_of-both f b a = elim (cases_lt (f b) (f a)) [
   | inr more ↦ rw (le-ltb (f b) (f a) more) (omega arith, omega arith)
 ]
 
-abbrev least_of : {A : Type 0} → (A → ℕ) → A → List A → A
-least_of f a xs = best_of (λ s t. nat_lt (f s) (f t)) a xs
+abbrev lowest_of : {A : Type 0} → (A → ℕ) → A → List A → A
+lowest_of f a xs = best_of (λ s t. nat_lt (f s) (f t)) a xs
 
--- the least is no more than the first, nor than any of the others
-least_of-first : {A : Type 0} (f : A → ℕ) (a : A) (xs : List A) → f (least_of f a xs) ≤ f a
-least_of-first f a [] = omega arith
-least_of-first f a (b ∷ xs) = omega (arith, least_of-first f (cond (nat_lt (f b) (f a)) b a) xs, lower_of-both f b a)
+-- the cheapest costs no more than the first, nor than any of the others
+lowest_of-first : {A : Type 0} (f : A → ℕ) (a : A) (xs : List A) → f (lowest_of f a xs) ≤ f a
+lowest_of-first f a [] = omega arith
+lowest_of-first f a (b ∷ xs) = omega (arith, lowest_of-first f (cond (nat_lt (f b) (f a)) b a) xs, lower_of-both f b a)
 
-least_of-each : {A : Type 0} (f : A → ℕ) (a x : A) (xs : List A) → IsIn x xs → f (least_of f a xs) ≤ f x
-least_of-each f a x [] h = absurd h
-least_of-each f a x (b ∷ xs) (inl e) = rw e
-    (omega (arith, least_of-first f (cond (nat_lt (f b) (f a)) b a) xs, lower_of-both f b a))
-least_of-each f a x (b ∷ xs) (inr h) = least_of-each f (cond (nat_lt (f b) (f a)) b a) x xs h
+lowest_of-each : {A : Type 0} (f : A → ℕ) (a x : A) (xs : List A) → IsIn x xs → f (lowest_of f a xs) ≤ f x
+lowest_of-each f a x [] h = absurd h
+lowest_of-each f a x (b ∷ xs) (inl e) = rw e
+    (omega (arith, lowest_of-first f (cond (nat_lt (f b) (f a)) b a) xs, lower_of-both f b a))
+lowest_of-each f a x (b ∷ xs) (inr h) = lowest_of-each f (cond (nat_lt (f b) (f a)) b a) x xs h
 
 cond_one : {A : Type 0} (P : A → Type 0) (t : Bool) (x y : A) → P x → P y → P (cond t x y)
 cond_one P true x y h k = h
 cond_one P false x y h k = k
 
--- whatever holds of all holds of the least
-least_of-one : {A : Type 0} (P : A → Type 0) (f : A → ℕ) (a : A) (xs : List A) → P a → AllByRecursion P xs
-    → P (least_of f a xs)
-least_of-one P f a [] h w = h
-least_of-one P f a (b ∷ xs) h w = least_of-one P f (cond (nat_lt (f b) (f a)) b a) xs
+-- whatever holds of all holds of the cheapest
+lowest_of-one : {A : Type 0} (P : A → Type 0) (f : A → ℕ) (a : A) (xs : List A) → P a → AllByRecursion P xs
+    → P (lowest_of f a xs)
+lowest_of-one P f a [] h w = h
+lowest_of-one P f a (b ∷ xs) h w = lowest_of-one P f (cond (nat_lt (f b) (f a)) b a) xs
     (cond_one P (nat_lt (f b) (f a)) b a w.0 h) w.1
 
-cheapest-least : (version : ℕ) (x : List Segment) (lists : List (List Segment)) → IsIn x lists
+cheapest-le : (version : ℕ) (x : List Segment) (lists : List (List Segment)) → IsIn x lists
     → cost version (cheapest version lists) ≤ cost version x
-cheapest-least version x [] h = absurd h
-cheapest-least version x (a ∷ lists) (inl e) = rw e (least_of-first (cost version) a lists)
-cheapest-least version x (a ∷ lists) (inr h) = least_of-each (cost version) a x lists h
+cheapest-le version x [] h = absurd h
+cheapest-le version x (a ∷ lists) (inl e) = rw e (lowest_of-first (cost version) a lists)
+cheapest-le version x (a ∷ lists) (inr h) = lowest_of-each (cost version) a x lists h
 
 any_mode : (mode : Mode) → IsIn mode modes
 any_mode Numeric = inl refl
@@ -94,26 +94,26 @@ least_step version n bytes s segments cut later =
     rw (cut.0.characters, lt-ltb s.len (2 ^ count_width version s.mode) cut.0.counted) refl in
     let tried = IsIn-map (λ (t : Segment). t ∷ best_within version n (drop t.len bytes)) s
     (first_segments version bytes) (first_is_tried version bytes s cut.0.some cut.0.inside holds) in
-    let least = cheapest-least version (s ∷ best_within version n (drop s.len bytes))
+    let lowest = cheapest-le version (s ∷ best_within version n (drop s.len bytes))
     (map (λ t. t ∷ best_within version n (drop t.len bytes)) (first_segments version bytes)) tried in
-    at_most least (rw (cost-cons version s (best_within version n (drop s.len bytes)), cost-cons version s segments)
+    at_most lowest (rw (cost-cons version s (best_within version n (drop s.len bytes)), cost-cons version s segments)
     (omega arith))
 
 -- No list of segments of the bytes costs less.
-best_within-least : (version n : ℕ) (bytes : List ℕ) (segments : List Segment) → length bytes ≤ n
+best_within-le_cost : (version n : ℕ) (bytes : List ℕ) (segments : List Segment) → length bytes ≤ n
     → IsSegmentation version segments bytes → cost version (best_within version n bytes) ≤ cost version segments
 unfolding best_within
-best_within-least version n bytes [] short cut = rw (cut, best_within-nil version n) (omega arith)
-best_within-least version zero bytes (s ∷ segments) short cut = absurd (omega (arith, cut.0.some, cut.0.inside))
-best_within-least version (suc n) bytes (s ∷ segments) short cut =
+best_within-le_cost version n bytes [] short cut = rw (cut, best_within-nil version n) (omega arith)
+best_within-le_cost version zero bytes (s ∷ segments) short cut = absurd (omega (arith, cut.0.some, cut.0.inside))
+best_within-le_cost version (suc n) bytes (s ∷ segments) short cut =
     let shorter : length (drop s.len bytes) ≤ n = omega (arith, length-drop s.len bytes, cut.0.some, cut.0.inside) in
-    least_step version n bytes s segments cut (best_within-least version n (drop s.len bytes) segments shorter cut.1)
+    least_step version n bytes s segments cut (best_within-le_cost version n (drop s.len bytes) segments shorter cut.1)
 
-pub chosen_segments-least : (version : ℕ) (bytes : List ℕ) (segments : List Segment)
+pub chosen_segments-le_cost : (version : ℕ) (bytes : List ℕ) (segments : List Segment)
     → IsSegmentation version segments bytes → cost version (chosen_segments version bytes) ≤ cost version segments
 unfolding chosen_segments
-chosen_segments-least version bytes segments cut =
-    best_within-least version (length bytes) bytes segments (omega arith) cut
+chosen_segments-le_cost version bytes segments cut =
+    best_within-le_cost version (length bytes) bytes segments (omega arith) cut
 
 -- The segments that are tried are first segments of the bytes.
 pub All-filter : {A : Type 0} (P : A → Type 0) (p : A → Bool) (xs : List A) → AllByRecursion P xs
@@ -152,7 +152,7 @@ all_tried version bytes = All-filter (λ (s : Segment). (0 < s.len) × (s.len �
 cheapest-one : (P : List Segment → Type 0) (version : ℕ) (x : List Segment) (lists : List (List Segment)) → IsIn x lists
     → AllByRecursion P lists → P (cheapest version lists)
 cheapest-one P version x [] h w = absurd h
-cheapest-one P version x (a ∷ lists) h w = least_of-one P (cost version) a lists w.0 w.1
+cheapest-one P version x (a ∷ lists) h w = lowest_of-one P (cost version) a lists w.0 w.1
 
 pub byte_holds : (version : ℕ) → (true && nat_lt 1 (2 ^ count_width version Byte)) ≡ true
 byte_holds version = elim (nat_lt version 10) as (λ v. nat_lt 1 (2 ^ cond v 8 16) ≡ true) [ true ↦ refl | false ↦ refl ]

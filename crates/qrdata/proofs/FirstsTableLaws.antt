@@ -16,7 +16,7 @@ use Rattle.qrdata.specs.Private.SmallestPlan.{NamesBest, SameWidths}
 use Rattle.qrdata.specs.Segments.{IsSegmentation, cost, segment_length}
 use Rattle.qrdata.specs.Private.Table.{HasFirsts, choices_of, fewest_bits, next_choices, no_choices}
 use Rattle.qrdata.specs.Versions.{capacity}
-use Rattle.qrdata.proofs.BestChoiceLaws.{fewest_bits-least}
+use Rattle.qrdata.proofs.BestChoiceLaws.{fewest_bits-le_cost}
 use Rattle.qrdata.proofs.ChoiceLimitLaws.{Agrees-if_fits, widest}
 use Rattle.qrdata.proofs.FewestBitsLaws.{chosen_segments-is}
 use Rattle.qrdata.proofs.SameWidthLaws.{chosen_segments-same, cost-chosen_same}
@@ -85,7 +85,7 @@ fewest_bits-below v w same bytes =
     omega (
       arith,
       cost-chosen_same v w same bytes,
-      fewest_bits-least w (chosen_segments w bytes) bytes (chosen_segments-is w bytes),
+      fewest_bits-le_cost w (chosen_segments w bytes) bytes (chosen_segments-is w bytes),
     )
 
 -- and as many where they fit

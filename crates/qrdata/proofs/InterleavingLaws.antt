@@ -15,10 +15,12 @@ use Rattle.qrdata.specs.Reading.{deinterleaving, interleaving_place}
 abbrev pub Blocks : Type 0
 Blocks = List (List ℕ)
 
-codewords_at-tails : (blocks : Blocks) (place : ℕ) → codewords_at (map (drop 1) blocks) place ≡ codewords_at blocks (suc place)
+codewords_at-tails : (blocks : Blocks) (place : ℕ) → codewords_at (map (drop 1) blocks) place
+    ≡ codewords_at blocks (suc place)
 codewords_at-tails [] place = refl
 codewords_at-tails ([] ∷ blocks) place = codewords_at-tails blocks place
-codewords_at-tails ((w ∷ codewords) ∷ blocks) place = ap (cons_option (slice_get codewords place)) (codewords_at-tails blocks place)
+codewords_at-tails ((w ∷ codewords) ∷ blocks) place = ap (cons_option (slice_get codewords place))
+    (codewords_at-tails blocks place)
 
 pub places_from : (blocks : Blocks) (n a : ℕ)
     → flat_map (codewords_at (map (drop 1) blocks)) (range_with_len a n)

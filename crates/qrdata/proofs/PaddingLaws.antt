@@ -128,7 +128,8 @@ data_codewords_of-ends size bits h =
       ],
     )
 
-pub length-data_codewords_of : (size : ℕ) (bits : List Bool) → length bits ≤ 8 * size → length (data_codewords_of size bits) ≡ size
+pub length-data_codewords_of : (size : ℕ) (bits : List Bool) → length bits ≤ 8 * size
+    → length (data_codewords_of size bits) ≡ size
 unfolding data_codewords_of with_pad_codewords
 length-data_codewords_of size bits h =
     let a = with_zeros-whole size bits h in

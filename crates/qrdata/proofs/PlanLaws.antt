@@ -1,17 +1,16 @@
 -- A plan of the smallest version in which the best segments fit is the best plan.
-use Rattle.std.proofs.Common.{◌≡◌, ◌≤◌, ◌<◌, ℕ, List, length}
+use Rattle.std.proofs.Common.{ℕ, List}
 use Rattle.qrdata.specs.declared.level.Level.{Level}
-use Rattle.qrdata.specs.Fewest.{chosen_segments}
 use Rattle.qrdata.specs.PlanView.{FitsNowhere, IsBestPlan, PlanView}
 use Rattle.qrdata.specs.Private.SmallestPlan.{IsSmallestPlan, NoPlan}
-use Rattle.qrdata.proofs.FewestBitsLaws.{chosen_segments-is, chosen_segments-least}
+use Rattle.qrdata.proofs.FewestBitsLaws.{chosen_segments-is, chosen_segments-le_cost}
 use Rattle.qrdata.proofs.LengthLaws.{length-segments_bits}
 use Rattle.qrdata.proofs.VersionSearchLaws.{NoneFits-from_chosen, chosen_version-is, chosen_version-none}
 
 pub IsBestPlan-of : (lowest : ℕ) (level : Level) (bytes : List ℕ) (plan : PlanView)
     → IsSmallestPlan lowest 10 level bytes plan → IsBestPlan lowest level bytes plan
 IsBestPlan-of lowest level bytes plan h = record {
-  version = chosen_version-is lowest level bytes plan.version h.from h.to h.fits h.least;
+  version = chosen_version-is lowest level bytes plan.version h.from h.to h.fits h.smallest;
   same_level = h.same_level;
   same_bytes = h.same_bytes;
   segments = h.same_segments;
@@ -19,8 +18,8 @@ IsBestPlan-of lowest level bytes plan h = record {
   fits = rw h.same_segments h.fits;
   bits = length-segments_bits plan.version plan.segments bytes
       (rw h.same_segments (chosen_segments-is plan.version bytes));
-  fewest = rw h.same_segments (chosen_segments-least plan.version bytes);
-  smallest = λ v from less. NoneFits-from_chosen v level bytes (h.least v from less);
+  fewest = rw h.same_segments (chosen_segments-le_cost plan.version bytes);
+  smallest = λ v from less. NoneFits-from_chosen v level bytes (h.smallest v from less);
 }
 
 pub FitsNowhere-of : (lowest : ℕ) (level : Level) (bytes : List ℕ) → NoPlan lowest 10 level bytes

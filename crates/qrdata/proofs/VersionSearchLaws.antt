@@ -1,4 +1,4 @@
--- A search in rising order finds the least version in which the best segments fit.
+-- A search in rising order finds the smallest version in which the best segments fit.
 use Rattle.std.proofs.Common.{◌≡◌, ℕ, zero, suc, ◌+◌, ◌-◌, ◌<◌, ◌≤◌, List, arith, Bool, true, false, inl, inr, refl}
 use Rattle.std.specs.Prelude.{nat_le, Some, None}
 use Rattle.std.specs.List.{find, range_with_len}
@@ -8,7 +8,7 @@ use Rattle.qrdata.specs.Segments.{cost}
 use Rattle.qrdata.specs.Versions.{capacity}
 use Rattle.qrdata.specs.Fewest.{NoneFits, chosen_segments, chosen_version}
 use Rattle.qrdata.specs.Private.SmallestPlan.{DoNotFit}
-use Rattle.qrdata.proofs.FewestBitsLaws.{chosen_segments-least}
+use Rattle.qrdata.proofs.FewestBitsLaws.{chosen_segments-le_cost}
 
 find_is : (p : ℕ → Bool) (n low v : ℕ) → low ≤ v → v < low + n → p v ≡ true → ((u : ℕ) → low ≤ u → u < v → p u ≡ false)
     → find p (range_with_len low n) ≡ Some v
@@ -45,4 +45,4 @@ chosen_version-none lowest level bytes others =
 pub NoneFits-from_chosen : (version : ℕ) (level : Level) (bytes : List ℕ) → DoNotFit version level bytes
     → NoneFits version level bytes
 NoneFits-from_chosen version level bytes long segments cut =
-    omega (arith, long, chosen_segments-least version bytes segments cut)
+    omega (arith, long, chosen_segments-le_cost version bytes segments cut)

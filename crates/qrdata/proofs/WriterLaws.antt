@@ -19,7 +19,8 @@ use Rattle.qrdata.specs.Bits.{bits_of, codewords_of, number_of}
 use Rattle.qrdata.specs.Codewords.{largest, split_by}
 use Rattle.qrdata.specs.Segments.{IsSegmentation, alphanumeric_bits, alphanumeric_value, byte_bits, cost, count_width}
 use Rattle.qrdata.specs.Segments.{segment_bits, segment_length, segment_of, segments_bits}
-use Rattle.qrdata.specs.Versions.{block_count, block_lengths, data_codewords, ec_codewords_per_block}
+use Rattle.qrdata.specs.Private.Blocks.{HasBlocks}
+use Rattle.qrdata.specs.Versions.{block_lengths, data_codewords, ec_codewords_per_block}
 use Rattle.qrdata.proofs.BlockLaws.{split_lengths}
 use Rattle.qrdata.proofs.BitStringLaws.{bits_of-nil, drop_front, length-bits_of, number_of-bits_of, take_front}
 use Rattle.qrdata.proofs.InterleavingLaws.{Blocks, longest}
@@ -33,7 +34,7 @@ use Rattle.qrdata.proofs.LengthLaws.{length-segment_bits, length-segments_bits}
 use Rattle.qrdata.proofs.PaddingLaws.{with_zeros-whole, length-byte_bits, length-data_codewords_of}
 use Rattle.qrdata.proofs.BlockLaws.{length-split_by}
 use Rattle.qrdata.proofs.DataReadingLaws.{AreBytes-split, HasEcCodewords-from_law, lengths_hold}
-use Rattle.qrdata.proofs.VersionLaws.{HasSoundBlocks-of, total_is}
+use Rattle.qrdata.proofs.VersionLaws.{HasSoundBlocks-of, data_codewords-add_ec_codewords}
 
 -- characters
 pub alphanumeric_bits-two_left : (xs : List ℕ) (i : ℕ) → 2 ≤ length xs - i → alphanumeric_bits (drop i xs)
@@ -116,9 +117,14 @@ pub split_by-next : (lengths codewords : List ℕ) (i start : ℕ) → i < lengt
     → split_by (drop i lengths) (drop start codewords) ≡ take (get_or lengths i 0) (drop start codewords)
     ∷ split_by (drop (i + 1) lengths) (drop (start + get_or lengths i 0) codewords)
 unfolding split_by
-split_by-next lengths codewords i start h = rw (drop_more lengths i 0 h, ← drop-drop (get_or lengths i 0) start codewords) refl
+split_by-next lengths codewords i start h = rw (
+  drop_more lengths i 0 h,
+  ← drop-drop
+      (get_or lengths i 0) start codewords,
+) refl
 
-pub split_by-none_left : (lengths codewords : List ℕ) (i : ℕ) → length lengths ≤ i → split_by (drop i lengths) codewords ≡ []
+pub split_by-none_left : (lengths codewords : List ℕ) (i : ℕ) → length lengths ≤ i
+    → split_by (drop i lengths) codewords ≡ []
 unfolding split_by
 split_by-none_left lengths codewords i h = rw (drop_all i lengths h) refl
 
@@ -147,20 +153,6 @@ pub AreBytes-slice : (bytes : List ℕ) → ((i : ℕ) → get_or bytes i 0 < 25
 AreBytes-slice bytes each = recursion_from_All (λ b. b < 256) bytes
     (All-from_get_or (λ b. b < 256) bytes 0 (λ i h. each i))
 
--- the error correction codewords of the blocks of a symbol
-pub record HasBlocks (version : ℕ) (level : Level) (message : List ℕ) : Type 0 where
-  pub count : length (block_lengths version level) ≡ block_count version level
-  pub whole : sum (block_lengths version level) ≡ length message
-  pub ec_blocks : length (flat_map (ec_codewords_of (ec_codewords_per_block version level))
-      (split_by (block_lengths version level) message)) ≡ block_count version level * ec_codewords_per_block version level
-  pub cut : split_by (replicate (length (block_lengths version level)) (ec_codewords_per_block version level))
-      (flat_map (ec_codewords_of (ec_codewords_per_block version level)) (split_by (block_lengths version level) message))
-      ≡ map (ec_codewords_of (ec_codewords_per_block version level)) (split_by (block_lengths version level) message)
-  pub few : block_count version level ≤ 8
-  pub some_ec_codewords : 1 ≤ ec_codewords_per_block version level
-  pub few_ec_codewords : ec_codewords_per_block version level ≤ 30
-  pub total : length message + block_count version level * ec_codewords_per_block version level ≤ 346
-
 pub HasBlocks-message : (version : ℕ) (level : Level) (message : List ℕ) → 1 ≤ version → version ≤ 10
     → EcCodewordsAreRemainder → RemaindersHaveRoots → AreBytes message
     → length message ≡ data_codewords version level → HasBlocks version level message
@@ -176,12 +168,13 @@ HasBlocks-message version level message low high remainder codeword w whole =
     record {
       count = shapes.1;
       whole = shapes.0 ∙ sym whole;
-      ec_blocks = length-flat_map (ec_codewords_of k) k AreBytes blocks law.count bytes ∙ ap (λ n. n * k) (same ∙ shapes.1);
+      ec_blocks = length-flat_map (ec_codewords_of k) k AreBytes blocks law.count bytes
+          ∙ ap (λ n. n * k) (same ∙ shapes.1);
       cut = rw (← same) (split_by-flat_map (ec_codewords_of k) k AreBytes blocks law.count bytes);
       few = sound.few_blocks;
       some_ec_codewords = sound.some_ec_codewords;
       few_ec_codewords = sound.few_ec_codewords;
-      total = omega (arith, total_is version level low high, sound.few_codewords);
+      total = omega (arith, data_codewords-add_ec_codewords version level low high, sound.few_codewords);
     }
 
 -- the bits of a segment of the first bytes
@@ -206,7 +199,8 @@ length-data_of version level segments bytes held fits =
     (omega (arith, length-segments_bits version segments bytes held))
 
 -- the codewords of the bits of bytes are the bytes
-pub codewords_of-byte_bits : (codewords : List ℕ) → AreBytes codewords → codewords_of (length codewords) (byte_bits codewords) ≡ codewords
+pub codewords_of-byte_bits : (codewords : List ℕ) → AreBytes codewords
+    → codewords_of (length codewords) (byte_bits codewords) ≡ codewords
 unfolding codewords_of byte_bits
 codewords_of-byte_bits [] w = refl
 codewords_of-byte_bits (codeword ∷ codewords) w =
@@ -231,7 +225,8 @@ whole_codewords codewords count number n w few whole =
       length-bits_of count number,
     ) in
     let none : count ≡ 0 = omega (arith, long, whole) in
-    let size : length (byte_bits codewords ++ bits_of count number) / 8 ≡ length codewords = omega (arith, long, none) in
+    let size : length (byte_bits codewords ++ bits_of count number) / 8
+    ≡ length codewords = omega (arith, long, none) in
     rw (size, none, bits_of-nil, append-nil) (sym (codewords_of-byte_bits codewords w))
 
 pub length-bits_in : (bits : Bits) → length (bits_in bits) ≡ 8 * length bits.codewords.items + bits.rest.count

@@ -17,23 +17,24 @@ with_terminator capacity bits = bits ++ replicate (min 4 (capacity - length bits
 unfoldable pub with_zeros : List Bool → List Bool
 with_zeros bits = bits ++ replicate ((8 - length bits % 8) % 8) false
 
--- so many pad codewords: 11101100 and 00010001 in turn
+-- n pad codewords: 11101100 and 00010001 in turn
 abbrev pub pad_codewords : ℕ → List ℕ
 pad_codewords zero = []
 pad_codewords (suc zero) = 0xEC ∷ []
 pad_codewords (suc (suc n)) = 0xEC ∷ 0x11 ∷ pad_codewords n
 
--- so many codewords: those of the bits, and the padding
+-- as many codewords as the size: those of the bits, and the padding
 unfoldable pub with_pad_codewords : ℕ → List Bool → List ℕ
 with_pad_codewords size bits = codewords_of (length bits / 8) bits ++ pad_codewords (size - length bits / 8)
 
--- so many data codewords: the bits, the terminator, zeros to the end of a codeword, and the padding
+-- as many data codewords as the size: the bits, the terminator, zeros to the end of a codeword, and the padding
 unfoldable pub data_codewords_of : ℕ → List Bool → List ℕ
 data_codewords_of size bits = with_pad_codewords size (with_zeros (with_terminator (8 * size) bits))
 
 -- the data codewords of the segments
 unfoldable pub data_of : ℕ → Level → List Segment → List ℕ → List ℕ
-data_of version level segments bytes = data_codewords_of (data_codewords version level) (segments_bits version segments bytes)
+data_of version level segments bytes = data_codewords_of (data_codewords version level)
+    (segments_bits version segments bytes)
 
 -- codewords cut into blocks of these lengths
 unfoldable pub split_by : List ℕ → List ℕ → List (List ℕ)
@@ -53,7 +54,8 @@ largest (n ∷ ns) = max n (largest ns)
 unfoldable pub interleaving : List (List ℕ) → List ℕ
 interleaving blocks = flat_map (codewords_at blocks) (range_with_len 0 (largest (map length blocks)))
 
--- the codewords of a symbol: the blocks of its data codewords interleaved, then their error correction codewords interleaved
+-- the codewords of a symbol: the blocks of its data codewords interleaved, then their error correction codewords
+-- interleaved
 unfoldable pub final_message : ℕ → Level → List ℕ → List ℕ
 final_message version level codewords =
     let blocks = split_by (block_lengths version level) codewords in

@@ -1,10 +1,12 @@
 -- A plan as clauses see it: what is chosen for a symbol (ISO/IEC 18004, 7.4.1).
-use Rattle.std.specs.Prelude.{◌≡◌, ◌≤◌, ◌<◌, ℕ, List, Option, Some, None, length}
+use Rattle.std.specs.Prelude.{◌≡◌, ◌≤◌, ◌<◌, ℕ, List, Some, None, length}
 use Rattle.qrdata.specs.declared.level.Level.{Level}
 use Rattle.qrdata.specs.declared.mode.Segment.{Segment}
+use Rattle.qrdata.specs.Codewords.{symbol_codewords}
 use Rattle.qrdata.specs.Fewest.{NoneFits, chosen_segments, chosen_version}
+use Rattle.qrdata.specs.Reading.{data_in}
 use Rattle.qrdata.specs.Segments.{IsSegmentation, cost, segments_bits}
-use Rattle.qrdata.specs.Versions.{capacity}
+use Rattle.qrdata.specs.Versions.{capacity, total_codewords}
 
 -- the version, the level and the segments of a symbol, and the data that they cut
 pub record PlanView : Type 0 where
@@ -12,6 +14,11 @@ pub record PlanView : Type 0 where
   pub level : Level
   pub segments : List Segment
   pub bytes : List ℕ
+
+-- a plan of these four
+abbrev pub plan_view : ℕ → Level → List Segment → List ℕ → PlanView
+plan_view version level segments bytes =
+    record { version = version; level = level; segments = segments; bytes = bytes }
 
 -- the segments are segments of the data, and fit the data codewords
 pub record HasFittingSegments (plan : PlanView) : Type 0 where
@@ -36,3 +43,10 @@ pub record IsBestPlan (lowest : ℕ) (level : Level) (bytes : List ℕ) (plan : 
 pub record FitsNowhere (lowest : ℕ) (level : Level) (bytes : List ℕ) : Type 0 where
   pub version : chosen_version lowest level bytes ≡ None
   pub nowhere : (v : ℕ) → lowest ≤ v → v ≤ 10 → NoneFits v level bytes
+
+-- The codewords of the symbol of a plan: they are those of the standard, as many as the version has, and they read back
+-- as the data.
+pub record AreSymbolCodewords (plan : PlanView) (codewords : List ℕ) : Type 0 where
+  pub value : codewords ≡ symbol_codewords plan.version plan.level plan.segments plan.bytes
+  pub count : length codewords ≡ total_codewords plan.version
+  pub read : data_in plan.version plan.level codewords ≡ Some plan.bytes

@@ -1,5 +1,6 @@
--- Words that only the contracts of private functions cite: nothing here has to be believed.
+-- Definitions that only the contracts of private functions cite: nothing here has to be believed.
 pub mod BitsInCodewords
+pub mod Blocks
 pub mod ChoiceView
 pub mod SmallestPlan
 pub mod Table

@@ -1,6 +1,6 @@
 //! Blocks, their error correction codewords and interleaving (ISO/IEC 18004, 7.5 and 7.6).
 ghost use Rattle.arrayvec.specs.ArrayVec.{array_vec_len};
-ghost use Rattle.gf256.specs.ErrorCorrection.{ec_codewords_of};
+ghost use Rattle.gf256.specs.ErrorCorrection.{IsEcCodewordCount, ec_codewords_of};
 ghost use Rattle.qrdata.specs.Codewords.{interleaving, largest, split_by, codewords_at};
 ghost use Rattle.std.specs.List.{flat_map};
 ghost use Rattle.std.specs.Prelude.{length, ◌≡◌, ◌+◌, ◌≤◌, ◌<◌, ◌++◌, sum, ◌*◌, ◌/◌, replicate};
@@ -14,7 +14,8 @@ pub(crate) const MAX_CODEWORDS: usize = 346;
 /// The codewords of a symbol.
 pub type Codewords = ArrayVec<u8, MAX_CODEWORDS>;
 
-/// Writes the codewords at one place of the blocks, block by block. The blocks have these lengths, one after another.
+/// Writes the codewords at one place of the blocks, block by block. `lengths` are those of the blocks, one after
+/// another.
 fn push_place(lengths: &[usize], codewords: &[u8], place: usize, out: &mut Codewords)
     requires whole { sum lengths.now ≡ length codewords.now }
     requires room { array_vec_len out.old
@@ -30,7 +31,7 @@ fn push_place(lengths: &[usize], codewords: &[u8], place: usize, out: &mut Codew
     }
 }
 
-/// The greatest of some lengths, 0 if there is none.
+/// Returns the greatest of some lengths, 0 if there is none.
 fn greatest(lengths: &[usize]) -> usize
     ensures { result ≡ largest lengths.now }
 {
@@ -58,7 +59,7 @@ pub(crate) fn interleave(lengths: &[usize], codewords: &[u8], out: &mut Codeword
 /// The lengths of the blocks of a symbol, at most 8 of them.
 pub(crate) type Lengths = ArrayVec<usize, 8>;
 
-/// Writes a length so many times.
+/// Writes a length `count` times.
 pub(crate) fn push_lengths(lengths: &mut Lengths, count: usize, size: usize)
     requires room { array_vec_len lengths.old + count ≤ 8 }
     ensures { lengths.new.items ≡ lengths.old.items ++ replicate count size }
@@ -83,8 +84,7 @@ fn push_codewords(out: &mut Codewords, codewords: &[u8])
 /// Writes the error correction codewords of a block.
 fn push_block_ec_codewords(generator: &Generator, count: usize, block: &[u8], out: &mut Codewords)
     requires count { generator.now ≡ count }
-    requires low { 1 ≤ count }
-    requires high { count ≤ 30 }
+    requires few { count ≤ 30 }
     requires room { array_vec_len out.old + count ≤ MAX_CODEWORDS }
     ensures codewords { out.new.items ≡ out.old.items ++ ec_codewords_of count block.now }
     ensures len { array_vec_len out.new ≡ array_vec_len out.old + count }
@@ -94,17 +94,15 @@ fn push_block_ec_codewords(generator: &Generator, count: usize, block: &[u8], ou
     push_codewords(out, &ec_codewords[..count]);
 }
 
-/// Writes the error correction codewords of each block. The blocks have these lengths, one after another.
+/// Writes the error correction codewords of each block. `lengths` are those of the blocks, one after another.
 pub(crate) fn push_ec_codewords(
     count: usize,
     lengths: &[usize],
     codewords: &[u8],
     out: &mut Codewords,
 )
-    requires low { 1 ≤ count }
-    requires high { count ≤ 30 }
-    requires whole { sum lengths.now ≡ length codewords.now }
-    requires few { length lengths.now ≤ 8 }
+    requires count { IsEcCodewordCount count }
+    requires blocks { (sum lengths.now ≡ length codewords.now) × (length lengths.now ≤ 8) }
     requires room { array_vec_len out.old ≤ 106 }
     ensures { out.new.items
         ≡ out.old.items ++ flat_map (ec_codewords_of count) (split_by lengths.now codewords.now) }

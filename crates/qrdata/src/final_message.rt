@@ -1,13 +1,11 @@
 //! The codewords of a symbol (ISO/IEC 18004, 7.4 to 7.6).
 ghost use Rattle.arrayvec.specs.ArrayVec.{array_vec_len};
 ghost use Rattle.qrdata.specs.Private.BitsInCodewords.{bits_in};
-ghost use Rattle.qrdata.specs.Codewords.{data_of, final_message, symbol_codewords};
-ghost use Rattle.qrdata.specs.Versions.{capacity};
-ghost use Rattle.qrdata.specs.Reading.{data_in};
-ghost use Rattle.qrdata.specs.Segments.{IsSegmentation, cost};
-ghost use Rattle.qrdata.specs.Versions.{data_codewords, ec_codewords_per_block, total_codewords};
-ghost use Rattle.qrdata.specs.declared.mode.Segment.{Segment};
-ghost use Rattle.std.specs.Prelude.{Some, length, ◌≡◌, ◌+◌, ◌≤◌, ◌++◌, ◌/◌, [], map};
+ghost use Rattle.qrdata.specs.Private.Blocks.{HasBlocks};
+ghost use Rattle.qrdata.specs.Codewords.{data_of, final_message};
+ghost use Rattle.qrdata.specs.PlanView.{AreSymbolCodewords, HasFittingSegments, plan_view};
+ghost use Rattle.qrdata.specs.Versions.{data_codewords, ec_codewords_per_block};
+ghost use Rattle.std.specs.Prelude.{length, ◌≡◌, ◌+◌, ◌≤◌, ◌/◌, []};
 
 use crate::bits::{Bits, push_padding};
 use crate::blocks::{Codewords, Lengths, interleave, push_ec_codewords, push_lengths};
@@ -17,15 +15,10 @@ use crate::plan::Plan;
 use crate::version::Version;
 
 /// Writes the codewords of the symbol of a plan into `codewords`, in the order in which they are placed: the data
-/// codewords of its blocks interleaved, then their error correction codewords interleaved (ISO/IEC 18004, 7.6). What
-/// `codewords` held is dropped.
+/// codewords of its blocks interleaved, then their error correction codewords interleaved (ISO/IEC 18004, 7.6). They
+/// replace what `codewords` held, and read back as the data.
 pub fn codewords(plan: &Plan, codewords: &mut Codewords)
-    ensures codewords { codewords.new.items
-        ≡ symbol_codewords plan.now.version plan.now.level plan.now.segments plan.now.bytes }
-    ensures count { length codewords.new.items ≡ total_codewords plan.now.version }
-
-    // They read back as the data: each block is a multiple of its generator, and the segments stop where they should.
-    ensures read { data_in plan.now.version plan.now.level codewords.new.items ≡ Some plan.now.bytes }
+    ensures { AreSymbolCodewords plan.now codewords.new.items }
 {
     write_codewords(
         plan.version(),
@@ -44,11 +37,8 @@ fn write_codewords(
     bytes: &[u8],
     codewords: &mut Codewords,
 )
-    requires cut { IsSegmentation version segments.now bytes.now }
-    requires fits { cost version segments.now ≤ capacity version level }
-    ensures codewords { codewords.new.items ≡ symbol_codewords version level segments.now bytes.now }
-    ensures count { length codewords.new.items ≡ total_codewords version }
-    ensures read { data_in version level codewords.new.items ≡ Some bytes.now }
+    requires { HasFittingSegments (plan_view version level segments.now bytes.now) }
+    ensures { AreSymbolCodewords (plan_view version level segments.now bytes.now) codewords.new.items }
 {
     version.known();
     let mut message = Bits::new();
@@ -60,8 +50,7 @@ fn write_codewords(
 /// Writes the data codewords of the segments.
 fn push_data(version: Version, level: Level, segments: &[Segment], bytes: &[u8], message: &mut Bits)
     requires empty { bits_in message.old ≡ [] }
-    requires cut { IsSegmentation version segments.now bytes.now }
-    requires fits { cost version segments.now ≤ capacity version level }
+    requires plan { HasFittingSegments (plan_view version level segments.now bytes.now) }
     ensures { message.new.codewords.items ≡ data_of version level segments.now bytes.now }
 {
     version.known();
@@ -71,13 +60,21 @@ fn push_data(version: Version, level: Level, segments: &[Segment], bytes: &[u8],
     push_padding(size - message.codewords.len(), &mut message.codewords);
 }
 
+/// A message with all data codewords is cut into blocks that fill a symbol. It does nothing when it runs.
+fn have_blocks(version: Version, level: Level, message: &[u8])
+    requires whole { length message.now ≡ data_codewords version level }
+    ensures { HasBlocks version level message.now }
+{
+    gf256::ec_codewords_are_sound();
+    version.known();
+}
+
 /// Writes the blocks of the data codewords interleaved, and then their error correction codewords interleaved.
 fn write_symbol(version: Version, level: Level, message: &[u8], codewords: &mut Codewords)
     requires whole { length message.now ≡ data_codewords version level }
     ensures { codewords.new.items ≡ final_message version level message.now }
 {
-    gf256::ec_codewords_are_sound();
-    version.known();
+    have_blocks(version, level, message);
     let count = version.ec_codewords_per_block(level);
     let lengths = version.lengths(level);
     let mut ec_lengths = Lengths::new();

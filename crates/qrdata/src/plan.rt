@@ -1,9 +1,9 @@
 //! The choice of a version and of segments.
 ghost use Rattle.qrdata.specs.Fewest.{chosen_segments};
-ghost use Rattle.qrdata.specs.PlanView.{FitsNowhere, HasFittingSegments, IsBestPlan};
-ghost use Rattle.qrdata.specs.Private.SmallestPlan.{IsSmallestPlan, NamesBest, NoPlan, SameWidths};
+ghost use Rattle.qrdata.specs.PlanView.{FitsNowhere, HasFittingSegments, IsBestPlan, plan_view};
+ghost use Rattle.qrdata.specs.Private.SmallestPlan.{FitsBits, IsSmallestPlan, IsTable, NoPlan, SameWidths};
 ghost use Rattle.qrdata.specs.Segments.{cost};
-ghost use Rattle.qrdata.specs.Versions.{IsVersion, capacity};
+ghost use Rattle.qrdata.specs.Versions.{IsVersion};
 ghost use Rattle.std.specs.Prelude.{length, ◌≡◌, ◌≤◌, IfErr, IfNone, IfOk, IfSome, ℕ};
 
 use crate::level::Level;
@@ -13,8 +13,8 @@ use crate::version::Version;
 use arrayvec::ArrayVec;
 use std::marker::Model;
 
-/// The most segments that fit a symbol: in version 10 each has 20 bits or more, and there are 2192 data bits at most.
-/// Fewer fit the other versions.
+/// The most segments that fit a symbol: in version 10 each has at least 20 bits, and there are at most 2192 data bits.
+/// Fewer segments fit the other versions.
 const MAX_SEGMENTS: usize = 109;
 
 /// What is chosen for a symbol: its version, its level and the segments of its data, which it borrows.
@@ -51,7 +51,7 @@ impl<'a> Model for Plan<'a> {
 }
 
 impl<'a> Plan<'a> {
-    /// The version of the symbol.
+    /// Returns the version of the symbol.
     pub fn version(&self) -> Version
         ensures value { result ≡ self.now.version }
         ensures known { IsVersion result }
@@ -61,21 +61,21 @@ impl<'a> Plan<'a> {
         version
     }
 
-    /// The error correction level of the symbol.
+    /// Returns the error correction level of the symbol.
     pub fn level(&self) -> Level
         ensures { result ≡ self.now.level }
     {
         self.level
     }
 
-    /// The data.
+    /// Returns the data.
     pub fn bytes(&self) -> &'a [u8]
         ensures { result.now ≡ self.now.bytes }
     {
         self.bytes
     }
 
-    /// The segments, from the front of the data. They cut the data and fit the symbol.
+    /// Returns the segments, from the front of the data. They cut the data and fit the symbol.
     pub fn segments(&self) -> &[Segment]
         ensures value { result.now ≡ self.now.segments }
         ensures fit { HasFittingSegments self.now }
@@ -83,7 +83,7 @@ impl<'a> Plan<'a> {
         self.segments.as_slice()
     }
 
-    /// The bits of the segments, with their modes and character counts.
+    /// Returns the number of bits of the segments, with their mode indicators and character counts.
     pub fn bits(&self) -> u32
         ensures { result ≡ cost self.now.version self.now.segments }
     {
@@ -100,8 +100,8 @@ pub struct DoesNotFit {
 
 /// Chooses the smallest version, from `min_version` to 10, in which some segments of the data fit the data codewords of
 /// the level, and in it the segments of the fewest bits (ISO/IEC 18004, 7.4.1). Of lists of equally few bits it is that
-/// of the longest first segment, then of the mode numeric before alphanumeric before byte, and likewise for the segments
-/// after it. Empty data has no segments.
+/// of the longest first segment, then of the mode numeric before alphanumeric before byte, and likewise for the
+/// segments after it. Empty data has no segments.
 ///
 /// # Errors
 ///
@@ -122,11 +122,10 @@ pub fn choose<'a>(
     }
 }
 
-/// The plan of the smallest version from the lowest one to 10. One table of best segments serves all versions up to 9, and
-/// a second one version 10.
+/// Makes the plan of the smallest version from `lowest` to 10. One table of best segments serves all versions up to 9,
+/// and a second one version 10.
 fn plan_from<'a>(lowest: u8, level: Level, bytes: &'a [u8]) -> Option<Plan<'a>>
-    requires low { 1 ≤ lowest }
-    requires high { lowest ≤ 10 }
+    requires { IsVersion lowest }
     ensures some { IfSome result (IsSmallestPlan lowest 10 level bytes.now) }
     ensures none { IfNone result (NoPlan lowest 10 level bytes.now) }
 {
@@ -141,13 +140,11 @@ fn plan_from<'a>(lowest: u8, level: Level, bytes: &'a [u8]) -> Option<Plan<'a>>
     plan_between(10, 10, level, bytes)
 }
 
-/// The plan of the smallest version from the lowest one to the highest one. In all of these a character count has the same
-/// bits, so that the best segments are the same.
+/// Makes the plan of the smallest version from `lowest` to `highest`. In all of these a character count has the
+/// same bits, so that the best segments are the same.
 fn plan_between<'a>(lowest: u8, highest: u8, level: Level, bytes: &'a [u8]) -> Option<Plan<'a>>
     requires few { length bytes.now ≤ MAX_BYTES }
-    requires low { 1 ≤ lowest }
-    requires some { lowest ≤ highest }
-    requires high { highest ≤ 10 }
+    requires range { (1 ≤ lowest) × (lowest ≤ highest) × (highest ≤ 10) }
     requires same { (v : ℕ) → lowest ≤ v → v ≤ highest → SameWidths v highest }
     ensures some { IfSome result (IsSmallestPlan lowest highest level bytes.now) }
     ensures none { IfNone result (NoPlan lowest highest level bytes.now) }
@@ -171,7 +168,7 @@ fn plan_between<'a>(lowest: u8, highest: u8, level: Level, bytes: &'a [u8]) -> O
     None
 }
 
-/// The plan of the segments that a table names, from the front of the data. They have this many bits.
+/// Makes the plan of the segments that a table names, from the front of the data. They have `bits` bits.
 fn plan_of<'a>(
     version: Version,
     level: Level,
@@ -179,18 +176,9 @@ fn plan_of<'a>(
     firsts: &[Segment],
     bits: u32,
 ) -> Plan<'a>
-    requires few { length bytes.now ≤ MAX_BYTES }
-    requires size { length firsts.now ≡ MAX_BYTES }
-    requires firsts { NamesBest version bytes.now bits firsts.now }
-    requires short { length (chosen_segments version bytes.now) ≤ MAX_SEGMENTS }
-    requires bits { bits ≡ cost version (chosen_segments version bytes.now) }
-    requires fits { bits ≤ capacity version level }
-    ensures { result ≡ record {
-      version = version;
-      level = level;
-      segments = chosen_segments version bytes.now;
-      bytes = bytes.now;
-    } }
+    requires table { IsTable version bytes.now bits firsts.now }
+    requires bits { FitsBits version level bits (chosen_segments version bytes.now) }
+    ensures { result ≡ plan_view version level (chosen_segments version bytes.now) bytes.now }
 {
     let mut segments = ArrayVec::new();
     let mut place = 0;

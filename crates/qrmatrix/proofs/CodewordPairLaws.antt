@@ -41,16 +41,19 @@ second_bit codewords pairs i h p =
           let r : 14 - i % 8 - 8 ≡ 7 - (i + 1) % 8 = omega arith in
           let a : 8 ≤ 14 - i % 8 = omega arith in
           ap (λ z. bit z (14 - i % 8)) (p.each (i / 8) j)
-          ∙ high_of_pair (slice_index codewords (i / 8)) (slice_index codewords (i / 8 + 1)) (14 - i % 8) (p.narrow (i / 8 + 1))
+          ∙ high_of_pair (slice_index codewords (i / 8)) (slice_index codewords (i / 8 + 1)) (14 - i % 8) (p.narrow
+          (i / 8 + 1))
           a
-          ∙ ap (bit (slice_index codewords (i / 8))) r ∙ ap (λ z. bit (slice_index codewords z) (7 - (i + 1) % 8)) (sym q)
+          ∙ ap (bit (slice_index codewords (i / 8))) r ∙ ap (λ z. bit (slice_index codewords z) (7 - (i + 1) % 8))
+          (sym q)
       | inr g ↦
           let q : (i + 1) / 8 ≡ i / 8 + 1 = omega arith in
           let r : 14 - i % 8 ≡ 7 - (i + 1) % 8 = omega arith in
           let a : 14 - i % 8 < 8 = omega arith in
           ap (λ z. bit z (14 - i % 8)) (p.each (i / 8) j)
           ∙ low_of_pair (slice_index codewords (i / 8)) (slice_index codewords (i / 8 + 1)) (14 - i % 8) a
-          ∙ ap (bit (slice_index codewords (i / 8 + 1))) r ∙ ap (λ z. bit (slice_index codewords z) (7 - (i + 1) % 8)) (sym q)
+          ∙ ap (bit (slice_index codewords (i / 8 + 1))) r ∙ ap (λ z. bit (slice_index codewords z) (7 - (i + 1) % 8))
+          (sym q)
     ]
 
 first_bit : (codewords : List ℕ) (pairs : List ℕ) (i : ℕ) → i < 3200 → ArePairs codewords pairs
@@ -60,7 +63,8 @@ first_bit codewords pairs i h p =
     let r : 15 - i % 8 - 8 ≡ 7 - i % 8 = omega arith in
     let a : 8 ≤ 15 - i % 8 = omega arith in
     ap (λ z. bit z (15 - i % 8)) (p.each (i / 8) j)
-    ∙ high_of_pair (slice_index codewords (i / 8)) (slice_index codewords (i / 8 + 1)) (15 - i % 8) (p.narrow (i / 8 + 1)) a
+    ∙ high_of_pair (slice_index codewords (i / 8)) (slice_index codewords (i / 8 + 1)) (15 - i % 8) (p.narrow
+    (i / 8 + 1)) a
     ∙ ap (bit (slice_index codewords (i / 8))) r
 
 pub two_shown : (codewords : List ℕ) (pairs : List ℕ) (i : ℕ) → i < 3200 → ArePairs codewords pairs
@@ -79,7 +83,7 @@ two_shown codewords pairs i h p =
 
 -- ---- two modules of a row
 
--- two bits of a word are zeros
+-- two bits of a row are zeros
 pub two_clear : (w x : ℕ) → bit_and (w / 2 ^ x) 3 ≡ 0 → (bit w x ≡ false) × (bit w (x + 1) ≡ false)
 two_clear w x e =
     let none : 0 + x ≡ x = omega arith in
@@ -185,7 +189,8 @@ no_pairs n i codewords e = record { made = λ j l. absurd (omega arith); none = 
   zeros (suc n) (suc j) = zeros n j
 
 -- the last codeword, with nothing after it
-pub pairs_last : (codewords pairs : List ℕ) (i value : ℕ) → PairsBelow codewords pairs i → length pairs ≡ 400 → i ≡ length codewords
+pub pairs_last : (codewords pairs : List ℕ) (i value : ℕ) → PairsBelow codewords pairs i → length pairs ≡ 400 → i
+    ≡ length codewords
     → 1 ≤ i → i < 400
     → value ≡ slice_index codewords (i - 1) * 256 → ((j : ℕ) → slice_index codewords j < 256)
     → ArePairs codewords (set pairs (i - 1) value)
@@ -199,7 +204,11 @@ pairs_last codewords pairs i value p size whole some few e bytes =
             ∙ sym (rw none (add-zero (slice_index codewords j * 256)))
         | inr ne ↦ get_or-set_other pairs (i - 1) j value 0 ne ∙ elim (cases_lt (j + 1) i) [
           | inl l ↦ p.made j l
-          | inr g ↦ p.none j g ∙ sym (rw (slice_past codewords j (omega arith), slice_past codewords (j + 1) (omega arith))
+          | inr g ↦ p.none j g ∙ sym (rw (
+            slice_past codewords j (omega arith),
+            slice_past codewords (j + 1)
+                (omega arith),
+          )
               refl)
         ]
       ];
@@ -208,13 +217,3 @@ pairs_last codewords pairs i value p size whole some few e bytes =
   where
     get_or_at : (xs : List ℕ) (k j value : ℕ) → k < length xs → j ≡ k → get_or (set xs k value) j 0 ≡ value
     get_or_at xs k j value l same = ap (λ z. get_or (set xs k value) z 0) same ∙ get_or-set_same xs k value 0 l
-
--- no codewords
-pub pairs_of_none : (codewords pairs : List ℕ) (i : ℕ) → PairsBelow codewords pairs i → i ≤ 1 → length codewords ≤ 0
-    → ((j : ℕ) → slice_index codewords j < 256) → ArePairs codewords pairs
-pairs_of_none codewords pairs i p first none bytes =
-    record {
-      each = λ j l. p.none j (omega arith)
-          ∙ sym (rw (slice_past codewords j (omega arith), slice_past codewords (j + 1) (omega arith)) refl);
-      narrow = bytes;
-    }

@@ -82,7 +82,8 @@ unwritten : (m n : ℕ → ℕ → Bool) (a b : ℕ) (value : Bool) → Writes m
     → n x y ≡ m x y
 unwritten m n a b value w x y ne = w x y ∙ grind (arith, nat_tests)
 
-module _ (v : ℕ) (c : Computed v) (codewords : List ℕ) (old m : ℕ → ℕ → Bool) (i k a b : ℕ) (p : Placed v codewords old m i k)
+module _ (v : ℕ) (c : Computed v) (codewords : List ℕ) (old m : ℕ → ℕ → Bool) (i k a b : ℕ)
+    (p : Placed v codewords old m i k)
     (la : a < side_of v) (lb : b < side_of v) (ne : a ≢ 6) (e : key (side_of v) a b ≡ k) where
   -- a bit is placed on a free module
   step_free : (n : ℕ → ℕ → Bool) → is_free v a b ≡ true → Writes m n a b (codeword_bit codewords i)
@@ -232,7 +233,8 @@ row_done n s t = omega arith
 -- the two modules of a row of a strip, one after the other
 pub placed_pair : (v : ℕ) → Computed v → (codewords : List ℕ) (old : ℕ → ℕ → Bool) (m n o : List (List Bool))
     (i j h s t right y : ℕ) (function : List (List Bool))
-    → MarksFunctions v function → Placed v codewords old (value_at m) i (2 * side_of v * s + 2 * t) → AtRow v s t right y
+    → MarksFunctions v function → Placed v codewords old (value_at m) i (2 * side_of v * s + 2 * t)
+    → AtRow v s t right y
     → (value_at function right y ≡ false → (j ≡ i + 1) × WritesAt m n right y (codeword_bit codewords i))
     → (value_at function right y ≡ true → (j ≡ i) × (n ≡ m))
     → (value_at function (right - 1) y ≡ false → (h ≡ j + 1) × WritesAt n o (right - 1) y (codeword_bit codewords j))
@@ -250,7 +252,8 @@ placed_pair v c codewords old m n o i j h s t right y function marks p at w0 k0 
 -- the two modules of a row of a strip at once, where both are free
 pub placed_two : (v : ℕ) → Computed v → (codewords : List ℕ) (old : ℕ → ℕ → Bool) (m o function : List (List Bool))
     (i s t right y two : ℕ)
-    → MarksFunctions v function → Placed v codewords old (value_at m) i (2 * side_of v * s + 2 * t) → AtRow v s t right y
+    → MarksFunctions v function → Placed v codewords old (value_at m) i (2 * side_of v * s + 2 * t)
+    → AtRow v s t right y
     → (value_at function (right - 1) y ≡ false) × (value_at function (right - 1 + 1) y ≡ false)
     → ShowsTwo two (codeword_bit codewords i) (codeword_bit codewords (i + 1))
     → WritesTwo m o (right - 1) y (bit two 0) (bit two 1)
@@ -277,7 +280,8 @@ placed_two v c codewords old m o function i s t right y two marks p at free show
 
 -- free modules at the cursor are light
 pub light_ahead : (v : ℕ) (codewords : List ℕ) (old : ℕ → ℕ → Bool) (m function : List (List Bool)) (i s t right y : ℕ)
-    → MarksFunctions v function → Placed v codewords old (value_at m) i (2 * side_of v * s + 2 * t) → AtRow v s t right y
+    → MarksFunctions v function → Placed v codewords old (value_at m) i (2 * side_of v * s + 2 * t)
+    → AtRow v s t right y
     → (value_at function (right - 1) y ≡ false) × (value_at function (right - 1 + 1) y ≡ false)
     → (value_at m (right - 1) y ≡ false) × (value_at m (right - 1 + 1) y ≡ false)
 light_ahead v codewords old m function i s t right y marks p at free =

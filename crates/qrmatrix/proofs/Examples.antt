@@ -42,7 +42,8 @@ rows =
     ∷ 0x078210 ∷ 0x0129F8 ∷ 0x067D00 ∷ 0x00D67F ∷ 0x147D41 ∷ 0x06915D ∷ 0x00935D ∷ 0x052D5D ∷ 0x0D8041 ∷ 0x052F7F ∷ []
 
 row : ℕ → ℕ → ℕ
-unfolding codewords number_of module_at fixed_module role rank free_below is_free key is_flipped format_information version_information
+unfolding codewords number_of module_at fixed_module role rank free_below is_free key is_flipped format_information
+    version_information
     binary_remainder
 row mask y = number_of (reverse (map (λ x. module_at 1 M mask codewords x y) (range_with_len 0 21)))
 

@@ -1,4 +1,4 @@
--- The words of the function patterns and of the format information, computed for each version.
+-- The rows of the function patterns and of the format information, computed for each version.
 use Rattle.std.proofs.Common.{◌≡◌, ◌≢◌, ℕ, zero, suc, ◌<◌, ◌≤◌, ◌^◌, ◌+◌, ◌-◌, ◌*◌, ◌/◌, ◌%◌, refl, sym, ap, subst, ◌∙◌}
 use Rattle.std.proofs.Common.{arith, Bool, true, false, not, ◌&&◌, List, Option, None, Some, inl, inr}
 use Rattle.std.proofs.Math.Bool.{and-false, and-true}
@@ -30,14 +30,14 @@ use Rattle.qrmatrix.proofs.SumLaws.{all_below_at}
 
 -- ---- the function patterns
 
--- the bit of the format word that a role shows
+-- the bit of the format information that a role shows
 index_of : Role → Option ℕ
 index_of (Function b) = None
 index_of (Format i) = Some i
 index_of (Version i) = None
 index_of Free = None
 
--- the bit of a word, where one is shown
+-- the bit of a number, where one is shown
 bit_if : ℕ → Option ℕ → Bool
 bit_if information None = false
 bit_if information (Some i) = bit information i
@@ -155,7 +155,7 @@ all_patterns v y = refl
 
 -- ---- the format information
 
--- a bit of a word, moved to column 8
+-- a bit of a number, moved to column 8
 moved : (d x : ℕ) → d < 2 → bit (d * 2 ^ 8 % 2 ^ 64) x ≡ ((x == 8) && (d == 1))
 moved zero x l = above_bit 0 0 x (omega arith) (omega arith) ∙ sym (and-false (x == 8))
 moved (suc zero) x l = one_bit 8 x (omega arith) ∙ sym (and-true (x == 8))
@@ -170,9 +170,10 @@ column_bit : (information i x : ℕ) → bit (up (bit_and (information / 2 ^ i) 
 column_bit information i x = rw (shr_and_one information i) (moved (bit_at information i) x (bit_at-lt information i))
 
 column_narrow : (information i : ℕ) → up (bit_and (information / 2 ^ i) 1) 8 < 2 ^ 9
-column_narrow information i = rw (shr_and_one information i) (moved_narrow (bit_at information i) (bit_at-lt information i))
+column_narrow information i = rw (shr_and_one information i) (moved_narrow (bit_at information i)
+    (bit_at-lt information i))
 
--- the word of a row above, between or below, as the tests say
+-- the row above, between or below, as the tests say
 by_tests : (a b c e : Bool) (information x p q r : ℕ) → (x == 8) ≡ e
     → bit (if a then up (bit_and (information / 2 ^ p) 1) 8 else
     (if b then up (bit_and (information / 2 ^ q) 1) 8 else (if c then up (bit_and (information / 2 ^ r) 1) 8 else 0))) x
@@ -189,7 +190,8 @@ by_tests false false false false information x p q r h = above_bit 0 0 x (omega 
 
 narrow_by : (a b c : Bool) (information p q r : ℕ)
     → (if a then up (bit_and (information / 2 ^ p) 1) 8 else
-    (if b then up (bit_and (information / 2 ^ q) 1) 8 else (if c then up (bit_and (information / 2 ^ r) 1) 8 else 0))) < 2 ^ 9
+    (if b then up (bit_and (information / 2 ^ q) 1) 8 else (if c then up (bit_and
+    (information / 2 ^ r) 1) 8 else 0))) < 2 ^ 9
 narrow_by true b c information p q r = column_narrow information p
 narrow_by false true c information p q r = column_narrow information q
 narrow_by false false true information p q r = column_narrow information r
@@ -206,10 +208,11 @@ unfolding format_row
 other_narrow n information y ne =
     rw (ne_eqb y 8 ne) (narrow_by (nat_lt y 6) (y == 7) (nat_le (n - 7) y) information y 6 (y + 15 - n))
 
--- row 8 of a word
+-- row 8 of the format information
 right_eight : ℕ → ℕ → ℕ → Bool
 unfolding bit_if format_bit
-right_eight n information row = nat_lt row (2 ^ n) && all_below n (λ x. beq (bit row x) (bit_if information (format_bit n x 8)))
+right_eight n information row = nat_lt row (2 ^ n) && all_below n (λ x. beq (bit row x) (bit_if information
+    (format_bit n x 8)))
 
 eight : ℕ → ℕ → Bool
 unfolding right_eight format_row
@@ -218,11 +221,13 @@ eight n information = right_eight n information (format_row n information 8)
 abbrev format_informations : Level → List ℕ
 format_informations level = map (format_information level) (range_with_len 0 8)
 
--- computed for each format word and column
+-- computed for each format information and column
 abbrev EightRight : ℕ → Type 0
 EightRight v =
-    (list_all (eight (side_of v)) (format_informations L) ≡ true) × (list_all (eight (side_of v)) (format_informations M) ≡ true)
-    × (list_all (eight (side_of v)) (format_informations Q) ≡ true) × (list_all (eight (side_of v)) (format_informations H) ≡ true)
+    (list_all (eight (side_of v)) (format_informations L) ≡ true) × (list_all (eight (side_of v))
+    (format_informations M) ≡ true)
+    × (list_all (eight (side_of v)) (format_informations Q) ≡ true) × (list_all (eight (side_of v))
+    (format_informations H) ≡ true)
 
 eight_right : (v : ℕ) → 1 ≤ v → v ≤ 10 → EightRight v
 unfolding eight format_information binary_remainder reverse_bits_onto
@@ -239,12 +244,12 @@ at_level v f M = f.1
 at_level v f Q = f.2
 at_level v f H = f.3
 
--- the word of a row has the bits of the format word that the modules show
+-- a row has the bits of the format information that the modules show
 pub record ShowsInformation (v : ℕ) (information y row : ℕ) : Type 0 where
   pub shown : (x : ℕ) → x < side_of v → bit row x ≡ format_module information (role v x y)
   pub narrow : row < 2 ^ side_of v
 
--- the bits of a row where the format word has its places
+-- the bits of a row where the format information has its places
 record ShowsBits (n information y row : ℕ) : Type 0 where
   bits : (x : ℕ) → x < n → bit row x ≡ bit_if information (format_bit n x y)
   narrow : row < 2 ^ n
@@ -259,7 +264,8 @@ eight_shows v l h level mask lm =
     let right : eight n information ≡ true =
     mapped_all (format_information level) (eight n) 0 8 (at_level v (eight_right v l h) level) mask (omega arith)
     (omega arith) in
-    let parts = and_parts (nat_lt row (2 ^ n)) (all_below n (λ x. beq (bit row x) (bit_if information (format_bit n x 8))))
+    let parts = and_parts (nat_lt row (2 ^ n)) (all_below n (λ x. beq (bit row x) (bit_if information
+    (format_bit n x 8))))
     right in
     record {
       bits = λ x lx. same_beq _ _
@@ -316,7 +322,8 @@ format_between v l h level mask x y lm lx low high =
     ∙ above_bit 0 0 x (omega arith) (omega arith)
 
 -- the same at the values of a drawing
-pub row_shows : (v n information row : ℕ) (level : Level) (mask y : ℕ) → 1 ≤ v → v ≤ 10 → mask < 8 → y < n → n ≡ side_of v
+pub row_shows : (v n information row : ℕ) (level : Level) (mask y : ℕ) → 1 ≤ v → v ≤ 10 → mask < 8 → y < n → n
+    ≡ side_of v
     → information ≡ format_information level mask
     → row ≡ format_row n information y → ShowsInformation v (format_information level mask) y row
 row_shows v n information row level mask y l h lm ly en ew er =

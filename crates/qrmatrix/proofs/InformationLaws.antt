@@ -1,12 +1,14 @@
--- The format and version words that ISO/IEC 18004 lists (Annexes C and D), computed, and their quotients.
+-- The format and version information that ISO/IEC 18004 lists (Annexes C and D), computed, and their quotients.
 use Rattle.std.proofs.Common.{◌≡◌, ℕ, ◌*◌, ◌+◌, ◌/◌, ◌^◌, refl}
 use Rattle.std.specs.Prelude.{bit_xor}
 use Rattle.gf256.specs.BinaryPolynomial.{binary_product, binary_remainder}
 use Rattle.gf256.proofs.ProductRemainderLaws.{binary_quotient, binary_quotient-lt}
 use Rattle.qrdata.specs.declared.level.Level.{Level}
 use Rattle.qrdata.specs.declared.level.Level.TheVariants.{L, M, Q, H}
-use Rattle.qrmatrix.specs.Information.{level_indicator, format_information, version_information, IsMultipleOf, FormatInformationIsListed}
-use Rattle.qrmatrix.specs.Information.{FormatInformationIsMultiple, VersionInformationIsListed, VersionInformationIsMultiple}
+use Rattle.qrmatrix.specs.Information.{level_indicator, format_information, version_information, IsMultipleOf}
+use Rattle.qrmatrix.specs.Information.{FormatInformationIsListed}
+use Rattle.qrmatrix.specs.Information.{FormatInformationIsMultiple, VersionInformationIsListed}
+use Rattle.qrmatrix.specs.Information.{VersionInformationIsMultiple}
 use Rattle.qrmatrix.proofs.ByVersionLaws.{by_version}
 use Rattle.qrmatrix.proofs.InformationReadingLaws.{by_mask}
 
@@ -18,15 +20,15 @@ pub version_information-listed : VersionInformationIsListed
 unfolding version_information binary_remainder
 version_information-listed = refl
 
--- a word whose division by the generator leaves nothing
-divided : (degree generator terms message information : ℕ) → information / 2 ^ degree ≡ message
-    → information ≡ binary_product terms generator (binary_quotient degree generator terms information)
-    → IsMultipleOf degree generator terms message information
-divided degree generator terms message information high whole =
+-- a number whose division by the generator leaves nothing
+IsMultipleOf-quotient : (degree generator terms message n : ℕ) → n / 2 ^ degree ≡ message
+    → n ≡ binary_product terms generator (binary_quotient degree generator terms n)
+    → IsMultipleOf degree generator terms message n
+IsMultipleOf-quotient degree generator terms message n high whole =
     record {
       message_bits = high;
-      quotient = binary_quotient degree generator terms information;
-      quotient_degree = binary_quotient-lt degree generator terms information;
+      quotient = binary_quotient degree generator terms n;
+      quotient_degree = binary_quotient-lt degree generator terms n;
       division = whole;
     }
 
@@ -35,7 +37,8 @@ format_code : (level : Level) (mask : ℕ)
     → bit_xor 0x5412 (format_information level mask)
     ≡ binary_product 5 0x537 (binary_quotient 10 0x537 5 (bit_xor 0x5412 (format_information level mask)))
     → IsMultipleOf 10 0x537 5 (level_indicator level * 8 + mask) (bit_xor 0x5412 (format_information level mask))
-format_code level mask = divided 10 0x537 5 (level_indicator level * 8 + mask) (bit_xor 0x5412 (format_information level mask))
+format_code level mask = IsMultipleOf-quotient 10 0x537 5 (level_indicator level * 8 + mask) (bit_xor 0x5412
+    (format_information level mask))
 
 abbrev FormatCode : Level → ℕ → Type 0
 FormatCode level mask = IsMultipleOf 10 0x537 5 (level_indicator level * 8 + mask)
@@ -63,7 +66,7 @@ format_information-multiple H =
 version_code : (v : ℕ) → version_information v / 2 ^ 12 ≡ v
     → version_information v ≡ binary_product 6 0x1F25 (binary_quotient 12 0x1F25 6 (version_information v))
     → IsMultipleOf 12 0x1F25 6 v (version_information v)
-version_code v = divided 12 0x1F25 6 v (version_information v)
+version_code v = IsMultipleOf-quotient 12 0x1F25 6 v (version_information v)
 
 pub version_information-multiple : VersionInformationIsMultiple
 unfolding version_information binary_remainder binary_product binary_quotient

@@ -27,10 +27,11 @@ by_mask P p0 p1 p2 p3 p4 p5 p6 p7 (suc (suc (suc (suc (suc (suc zero)))))) h = p
 by_mask P p0 p1 p2 p3 p4 p5 p6 p7 (suc (suc (suc (suc (suc (suc (suc zero))))))) h = p7
 by_mask P p0 p1 p2 p3 p4 p5 p6 p7 (suc (suc (suc (suc (suc (suc (suc (suc n)))))))) h = absurd (omega arith)
 
--- the format word of a level and a mask is the number of its bits, and is read as that level and mask
+-- the format information of a level and a mask is the number of its bits, and is read as that level and mask
 abbrev pub FormatRead : Level → ℕ → Type 0
 FormatRead level mask =
-    (number_of (reverse (map (bit (format_information level mask)) (range_with_len 0 15))) ≡ format_information level mask)
+    (number_of (reverse (map (bit (format_information level mask)) (range_with_len 0 15)))
+    ≡ format_information level mask)
     × (read_format_information (format_information level mask) ≡ Some (level, mask))
 
 pub format_read : (level : Level) (mask : ℕ) → mask < 8 → FormatRead level mask
@@ -44,13 +45,13 @@ format_read Q = by_mask (FormatRead Q) (refl, refl) (refl, refl) (refl, refl) (r
 format_read H = by_mask (FormatRead H) (refl, refl) (refl, refl) (refl, refl) (refl, refl) (refl, refl) (refl, refl)
     (refl, refl) (refl, refl)
 
--- the bits of a word have their roles at a list of places, which are in the square
+-- the bits of a number have their roles at a list of places, which are in the square
 abbrev pub StandsAt : ℕ → (ℕ → Role) → ℕ → List (ℕ × ℕ) → Type 0
 StandsAt v kind count places =
     (map (λ (p : ℕ × ℕ). role v p.0 p.1) places ≡ map kind (range_with_len 0 count))
     × (list_all (λ (p : ℕ × ℕ). is_inside (side_of v) p.0 p.1) places ≡ true)
 
--- both copies of the format word
+-- both copies of the format information
 abbrev pub FormatCopies : ℕ → Type 0
 FormatCopies v = StandsAt v Format 15 format_copy_1 × StandsAt v Format 15 (format_copy_2 (side_of v))
 
@@ -63,7 +64,7 @@ format_copies =
     ((refl, refl), (refl, refl)) ((refl, refl), (refl, refl)) ((refl, refl), (refl, refl)) ((refl, refl), (refl, refl))
     ((refl, refl), (refl, refl))
 
--- both copies of the version word, from version 7 on
+-- both copies of the version information, from version 7 on
 abbrev pub VersionCopies : ℕ → Type 0
 VersionCopies v = nat_le 7 v ≡ true → StandsAt v Version 18 (version_copy_1 (side_of v))
     × StandsAt v Version 18 (version_copy_2 (side_of v))
@@ -76,9 +77,10 @@ version_copies =
     (λ h. ((refl, refl), (refl, refl))) (λ h. ((refl, refl), (refl, refl))) (λ h. ((refl, refl), (refl, refl)))
     (λ h. ((refl, refl), (refl, refl)))
 
--- a symbol whose copies of the version information hold the bits of its version word shows its version
+-- a symbol whose copies of the version information hold the bits of its version information shows its version
 abbrev pub HoldsVersion : ℕ → (ℕ → ℕ → Bool) → List (ℕ × ℕ) → Type 0
-HoldsVersion v m places = information_at m places ≡ number_of (reverse (map (bit (version_information v)) (range_with_len 0 18)))
+HoldsVersion v m places = information_at m places ≡ number_of (reverse (map (bit (version_information v))
+    (range_with_len 0 18)))
 
 abbrev pub VersionShown : ℕ → Type 0
 VersionShown v =

@@ -1,4 +1,4 @@
--- The rows of the masks as words.
+-- The rows of the masks, 64 bits each.
 use Rattle.std.proofs.Common.{◌≡◌, ℕ, ◌+◌, ◌*◌, ◌%◌, ◌<◌, ◌≤◌, ◌^◌, refl, ap, ◌∙◌, arith, Bool, true, false, not, cond}
 use Rattle.std.proofs.Common.{◌&&◌, List, []}
 use Rattle.std.specs.Prelude.{slice_index_or, ◌==◌, bit_and}
@@ -14,7 +14,7 @@ use Rattle.qrmatrix.proofs.PassLaws.{Mapped, row_turned}
 use Rattle.qrmatrix.proofs.SumLaws.{all_below_at}
 use Rattle.qrmatrix.proofs.RowBitsLaws.{and_bit, not_bit, same_beq}
 
--- the word that the table of patterns gives
+-- the row that the table of patterns gives
 abbrev pub mask_row_bits : ℕ → ℕ → ℕ
 mask_row_bits mask place = slice_index_or (slice_index_or {A = List ℕ} PATTERNS mask []) place 0 * EVERY_SIXTH
 
@@ -26,12 +26,14 @@ are_masks_right : all_below 8 (λ mask. all_below 57 (λ y. all_below 57 (is_mas
 unfolding is_flipped is_mask_right
 are_masks_right = refl
 
-pub bit-mask_row_bits : (mask y x : ℕ) → mask < 8 → y < 57 → x < 57 → bit (mask_row_bits mask (y % 12)) x ≡ is_flipped mask x y
+pub bit-mask_row_bits : (mask y x : ℕ) → mask < 8 → y < 57 → x < 57 → bit (mask_row_bits mask (y % 12)) x
+    ≡ is_flipped mask x y
 unfolding is_mask_right
 bit-mask_row_bits mask y x lm ly lx =
     same_beq _ _ (all_below_at 57 (is_mask_right mask y)
     (all_below_at 57 (λ y. all_below 57 (is_mask_right mask y))
-    (all_below_at 8 (λ mask. all_below 57 (λ y. all_below 57 (is_mask_right mask y))) are_masks_right mask lm) y ly) x lx)
+    (all_below_at 8 (λ mask. all_below 57 (λ y. all_below 57
+    (is_mask_right mask y))) are_masks_right mask lm) y ly) x lx)
 
 free_flip : (f t b : Bool) → flip_if (not f && t) b ≡ cond f b (flip_if t b)
 free_flip true true b = refl

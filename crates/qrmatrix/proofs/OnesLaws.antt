@@ -1,4 +1,4 @@
--- How many bits of a word are set, as a count over its places.
+-- How many bits of a row are set, as a count over its places.
 use Rattle.std.proofs.Common.{◌≡◌, ℕ, zero, suc, ◌+◌, ◌*◌, ◌/◌, ◌%◌, ◌^◌, ◌<◌, refl, sym, ap, ◌∙◌, arith}
 use Rattle.std.specs.Prelude.{count_ones, ◌==◌}
 use Rattle.std.specs.Int.{bit_at}

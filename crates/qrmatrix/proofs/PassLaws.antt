@@ -49,7 +49,7 @@ rows_kept n a b old m target p l kept =
       | inr ne ↦ p.below x y (omega arith)
     ]
 
--- one more row is turned over by a word
+-- one more row is turned over by row bits
 pub row_turned : (n row w : ℕ) (old m r : List (List Bool)) (target : ℕ → ℕ → Bool) → Mapped n old m target row 0
     → ((a b : ℕ) → value_at r a b ≡ flip_if ((b == row) && bit w a) (value_at m a b))
     → ((a : ℕ) → a < n → flip_if (bit w a) (value_at old a row) ≡ target a row)

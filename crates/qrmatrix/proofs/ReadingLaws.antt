@@ -1,6 +1,7 @@
 -- Reading inverts drawing.
 use Rattle.std.proofs.Common.{◌≡◌, ℕ, ◌+◌, ◌-◌, ◌*◌, ◌/◌, ◌<◌, ◌≤◌, refl, ap, ◌∙◌, arith, Bool, true, false, cond, List}
 use Rattle.std.proofs.Common.{[], ◌∷◌, length, Option, Some, None, eq-eqb}
+use Rattle.std.specs.Bool.{beq}
 use Rattle.std.specs.Prelude.{unwrap_or, map, nat_lt, reverse, All}
 use Rattle.std.specs.List.{range_with_len, filter, list_all}
 use Rattle.std.proofs.lemmas.Bool.{and_from, and_parts, lt-ltb, le-leb}
@@ -16,7 +17,7 @@ use Rattle.qrmatrix.specs.Modules.{module_at, is_inside}
 use Rattle.qrmatrix.specs.Masks.{flip_if, is_flipped}
 use Rattle.qrmatrix.specs.Placement.{codeword_bit, rank, remainder_bits}
 use Rattle.qrmatrix.specs.Reading.{walk, read_bits, read_matrix, format_copy_1, format_copy_2, version_copy_1}
-use Rattle.qrmatrix.specs.Reading.{version_copy_2, information_at, read_format, shows_version, shows_functions, agrees}
+use Rattle.qrmatrix.specs.Reading.{version_copy_2, information_at, read_format, shows_version, shows_functions}
 use Rattle.qrmatrix.proofs.SumLaws.{all_below_from}
 use Rattle.qrmatrix.proofs.VersionLaws.{Computed, computed}
 use Rattle.qrmatrix.proofs.WalkLaws.{walk_ranks}
@@ -72,7 +73,8 @@ module _ (v : ℕ) (level : Level) (mask : ℕ) (codewords : List ℕ) where
   module_outside x y h = rw h
 
   unmasked : (p : ℕ × ℕ) → is_inside (side_of v) p.0 p.1 ≡ true → is_free v p.0 p.1 ≡ true
-      → flip_if (is_flipped mask p.0 p.1) (module_at v level mask codewords p.0 p.1) ≡ codeword_bit codewords (rank v p.0 p.1)
+      → flip_if (is_flipped mask p.0 p.1) (module_at v level mask codewords p.0 p.1)
+      ≡ codeword_bit codewords (rank v p.0 p.1)
   unfolding is_free fixed_module
   unmasked p i h =
       rw (
@@ -100,8 +102,9 @@ module _ (v : ℕ) (level : Level) (mask : ℕ) (codewords : List ℕ) where
 
   -- ---- the function patterns
 
-  agrees_itself : (o : Option Bool) (d : Bool) → agrees o (unwrap_or o d) ≡ true
-  agrees_itself None d = refl
+  agrees_itself : (o : Option Bool) (d : Bool) → beq (unwrap_or o (unwrap_or o d)) (unwrap_or o d) ≡ true
+  agrees_itself None true = refl
+  agrees_itself None false = refl
   agrees_itself (Some true) d = refl
   agrees_itself (Some false) d = refl
 
@@ -109,12 +112,15 @@ module _ (v : ℕ) (level : Level) (mask : ℕ) (codewords : List ℕ) where
   unfolding shows_functions
   functions_shown =
       all_below_from (side_of v) (λ y. all_below (side_of v)
-      (λ x. agrees (fixed_module v level mask x y) (module_at v level mask codewords x y)))
-      (λ y ly. all_below_from (side_of v) (λ x. agrees (fixed_module v level mask x y) (module_at v level mask codewords x y))
+      (λ x. beq (unwrap_or (fixed_module v level mask x y)
+      (module_at v level mask codewords x y)) (module_at v level mask codewords x y)))
+      (λ y ly. all_below_from (side_of v) (λ x. beq (unwrap_or (fixed_module v level mask x y)
+      (module_at v level mask codewords x y)) (module_at v level mask codewords x y))
       (λ x lx. rw (module_inside x y (inside_from (side_of v) x y lx ly))
-      (agrees_itself (fixed_module v level mask x y) (flip_if (is_flipped mask x y) (codeword_bit codewords (rank v x y))))))
+      (agrees_itself (fixed_module v level mask x y) (flip_if (is_flipped mask x y) (codeword_bit codewords
+      (rank v x y))))))
 
-  -- the modules at the places of a word's bits
+  -- the modules at the places of the bits of a number
   modules_at_role : (places : List (ℕ × ℕ)) (kind : ℕ → Role) (information : ℕ) (is_ : List ℕ)
       → ((i : ℕ) → module_of_role v level mask (kind i) ≡ Some (bit information i))
       → list_all (λ (p : ℕ × ℕ). is_inside (side_of v) p.0 p.1) places ≡ true
@@ -136,7 +142,7 @@ module _ (v : ℕ) (level : Level) (mask : ℕ) (codewords : List ℕ) where
       cc
 
   module _ (at_least : 1 ≤ v) (at_most : v ≤ 10) (mask_below : mask < 8) where
-    -- the word that stands at places where its bits have their roles
+    -- the number at places where its bits have their roles
     information_at-shown : (places : List (ℕ × ℕ)) (kind : ℕ → Role) (information count : ℕ)
         → ((i : ℕ) → module_of_role v level mask (kind i) ≡ Some (bit information i))
         → StandsAt v kind count places → information_at (module_at v level mask codewords) places
@@ -150,15 +156,18 @@ module _ (v : ℕ) (level : Level) (mask : ℕ) (codewords : List ℕ) where
     format_shown =
         let copies = format_copies v at_least at_most in
         let f = format_read level mask mask_below in
-        let by = λ (i : ℕ). let e : module_of_role v level mask (Format i) ≡ Some (bit (format_information level mask) i) = refl in
+        let by = λ (i : ℕ). let e : module_of_role v level mask (Format i)
+        ≡ Some (bit (format_information level mask) i) = refl in
         e in
         let one = information_at-shown format_copy_1 Format (format_information level mask) 15 by copies.0 ∙ f.0 in
-        let two = information_at-shown (format_copy_2 (side_of v)) Format (format_information level mask) 15 by copies.1 ∙ f.0 in
+        let two = information_at-shown (format_copy_2 (side_of v)) Format
+        (format_information level mask) 15 by copies.1 ∙ f.0 in
         rw (one, two, eq-eqb (format_information level mask) (format_information level mask) refl) f.1
 
     pub version_is_shown : shows_version v (side_of v) (module_at v level mask codewords) ≡ true
     version_is_shown =
-        let by = λ (i : ℕ). let e : module_of_role v level mask (Version i) ≡ Some (bit (version_information v) i) = refl in e in
+        let by = λ (i : ℕ). let e : module_of_role v level mask (Version i)
+        ≡ Some (bit (version_information v) i) = refl in e in
         version_shown v at_least at_most (module_at v level mask codewords) (λ h.
         let copies = version_copies v at_least at_most h in (
           information_at-shown (version_copy_1 (side_of v)) Version (version_information v) 18 by copies.0,

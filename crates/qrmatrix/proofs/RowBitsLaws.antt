@@ -1,4 +1,4 @@
--- The bits of words that operators make.
+-- The bits of rows that operators make.
 use Rattle.std.proofs.Common.{◌≡◌, ◌≢◌, ℕ, zero, suc, ◌+◌, ◌-◌, ◌*◌, ◌/◌, ◌%◌, ◌^◌, ◌<◌, ◌≤◌, refl, sym, ap, ◌∙◌, arith}
 use Rattle.std.proofs.Common.{Bool, true, false, not, ◌&&◌, ◌||◌, min, max, inl, inr}
 use Rattle.std.specs.Prelude.{bit_and, bit_or, bit_xor, ◌==◌, nat_lt, if◌then◌else◌}
@@ -72,7 +72,7 @@ no_bit w x h = ap (λ z. z == 1) h
 pub above_bit : (w k x : ℕ) → w < 2 ^ k → k ≤ x → bit w x ≡ false
 above_bit w k x h g = no_bit w x (bit_at_above w k x h g)
 
--- the word of n ones
+-- the row of n ones
 pub low_bit : (n i : ℕ) → bit (2 ^ n - 1) i ≡ nat_lt i n
 low_bit n i =
     elim (cases_lt i n) [
@@ -80,7 +80,7 @@ low_bit n i =
       | inr g ↦ ap (λ z. z == 1) (bit_at_ones_above n i g) ∙ sym (le-ltb i n g)
     ]
 
--- the word of a single one
+-- the row of a single one
 pub one_bit : (x a : ℕ) → x < 64 → bit (1 * 2 ^ x % 2 ^ 64) a ≡ (a == x)
 one_bit x a h =
     rw (one_shl x 64 h) (elim (cases_eq a x) [
@@ -127,7 +127,7 @@ mod_bit k n i h =
     let whole : n ≡ (n / 2 ^ k) * 2 ^ k + n % 2 ^ k = omega arith in
     sym (ap (λ z. z == 1) (ap (λ z. bit_at z i) whole ∙ bit_at_cat_low (n / 2 ^ k) k (n % 2 ^ k) i h))
 
--- a word moved up by one place
+-- a row moved up by one place
 pub shl_bit : (w i : ℕ) → 0 < i → i < 64 → bit (w * 2 ^ 1 % 2 ^ 64) i ≡ bit w (i - 1)
 shl_bit w i p h =
     let e : w * 2 ^ 1 ≡ w * 2 ^ 1 + 0 = omega arith in

@@ -1,4 +1,4 @@
--- Sums and counts of the bits of words.
+-- Sums and counts of the bits of rows.
 use Rattle.std.proofs.Common.{◌≡◌, ℕ, zero, suc, ◌+◌, ◌*◌, ◌<◌, ◌≤◌, refl, sym, ap, ◌∙◌, arith, Bool, true, false, cond}
 use Rattle.std.proofs.Common.{◌&&◌, inl, inr}
 use Rattle.std.specs.Prelude.{count_ones, bit_and, nat_lt, ◌^◌}
@@ -64,7 +64,7 @@ and_inside false true h = refl
 and_inside true false h = h
 and_inside false false h = refl
 
--- the ones of a word below n
+-- the ones of a row below n
 pub ones_below : (w low n : ℕ) → n ≤ 57 → low < 2 ^ 57 → ((i : ℕ) → bit low i ≡ nat_lt i n)
     → count_ones (bit_and w low) ≡ count_below n (bit w)
 ones_below w low n l small is_low =

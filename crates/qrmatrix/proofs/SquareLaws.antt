@@ -1,4 +1,4 @@
--- A square kept as one word a row, seen row by row.
+-- A square kept as 64 bits a row, seen row by row.
 use Rattle.std.proofs.Common.{◌≡◌, ℕ, zero, suc, ◌/◌, ◌%◌, ◌^◌, ◌<◌, refl, sym, ap, ◌∙◌, arith, Bool, true, false, List}
 use Rattle.std.proofs.Common.{[], ◌∷◌, get_or, length, inl, inr, set, get_or-set_other, get_or-set_same, ◌&&◌, not}
 use Rattle.std.proofs.Common.{length-set}
@@ -37,7 +37,7 @@ rows_seen [] h x y = sym (no_bit 0 x (bit_at-zero x))
 rows_seen (w ∷ ws) h x zero = row_bits w (All-head (λ w. w < 2 ^ 57) w ws h) x
 rows_seen (w ∷ ws) h x (suc y) = rows_seen ws (All-tail (λ w. w < 2 ^ 57) w ws h) x y
 
--- a word is written
+-- a row is written
 pub row_written : (ws : List ℕ) (w x y : ℕ) (value : Bool) → AreRows ws → w < 2 ^ 57 → y < 57
     → ((a : ℕ) → bit w a ≡ (if a == x then value else bit (get_or ws y 0) a))
     → WritesAt (map low_bits ws) (map low_bits (set ws y w)) x y value
@@ -70,7 +70,7 @@ flipped_rows ws w y rows l ly =
           All-set (λ w. w < 2 ^ 57) ws y _ (xor_lt 57 _ w (narrow_at ws rows.narrow y) l) rows.narrow;
     }
 
--- a row is turned over where a word has bits
+-- a row is turned over where other row bits are set
 pub row_flipped : (ws : List ℕ) (w y : ℕ) → AreRows ws → w < 2 ^ 57 → y < 57 → (a b : ℕ)
     → value_at (map low_bits (set ws y (bit_xor (get_or ws y 0) w))) a b
     ≡ flip_if ((b == y) && bit w a) (value_at (map low_bits ws) a b)

@@ -43,4 +43,5 @@ pub under : (v : ℕ) (level : Level) (mask : ℕ) (codewords : List ℕ) (funct
 unfolding fixed_module is_free
 under v level mask codewords function old m u s x y lx ly =
     rw (s.inside x y lx ly) (shown v level mask (role v x y) (value_at function x y) (is_flipped mask x y)
-    (codeword_bit codewords (rank v x y)) (value_at old x y) (u.marked x y lx ly) (u.free x y lx ly) (u.taken x y lx ly))
+    (codeword_bit codewords (rank v x y)) (value_at old x y) (u.marked x y lx ly) (u.free x y lx ly)
+    (u.taken x y lx ly))

@@ -59,12 +59,12 @@ pub record Computed (v : ℕ) : Type 0 where
   pub area : length (filter (λ (p : ℕ × ℕ). is_free v p.0 p.1) (walk (side_of v))) ≡ 8 * total_codewords v
       + remainder_bits v
 
--- the words of the rows of a version
+-- the rows of a version, the taken modules as bits
 taken_rows : ℕ → List ℕ
 unfolding function_row
 taken_rows v = map (λ y. (function_row v y).taken) (range_with_len 0 (side_of v))
 
--- whether words of rows leave a place free
+-- whether rows leave a place free
 is_left : List ℕ → ℕ → ℕ → Bool
 is_left rows x y = not (bit (slice_index rows y) x)
 
@@ -94,7 +94,7 @@ places =
     (refl, refl, refl, refl, refl) (refl, refl, refl, refl, refl) (refl, refl, refl, refl, refl)
     (refl, refl, refl, refl, refl)
 
--- what is computed of words of rows
+-- what is computed of such rows
 abbrev Left : ℕ → List ℕ → Type 0
 Left v rows =
     (all_below (side_of v) (λ y. not (is_left rows 6 y)) ≡ true)

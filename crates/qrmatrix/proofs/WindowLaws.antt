@@ -1,4 +1,4 @@
--- Windows of lines by bits of words.
+-- Windows of lines by bits of rows.
 use Rattle.std.proofs.Common.{◌≡◌, ℕ, suc, ◌+◌, ◌-◌, ◌*◌, ◌/◌, ◌^◌, ◌<◌, ◌≤◌, refl, sym, ap, ◌∙◌, arith, Bool, true}
 use Rattle.std.proofs.Common.{false, cond, ◌&&◌, add-zero, add-one, List, ◌∷◌, drop, drop-cons, length, get_or}
 use Rattle.std.specs.Bool.{beq}

@@ -10,8 +10,8 @@ use Rattle.qrdata.specs.Versions.{side_of}
 use Rattle.qrmatrix.specs.Bits.{bit}
 use Rattle.qrmatrix.specs.Information.{format_information, version_information}
 
--- what a module is there for: a function pattern, dark where true; a bit of the format word; a bit of the version
--- word; or the codewords
+-- what a module is there for: a function pattern, dark where true; a bit of the format information; a bit of the
+-- version information; or the codewords
 pub data Role : Type 0 where
   Function : (dark : Bool) → Role
   Format : (i : ℕ) → Role
@@ -57,7 +57,7 @@ alignment v x y =
 unfoldable pub timing : ℕ → ℕ → Option Bool
 timing x y = if x == 6 then Some (y % 2 == 0) else if y == 6 then Some (x % 2 == 0) else None
 
--- which bit of the format word stands at a place, in either of its two copies
+-- which bit of the format information is at a place, in either of its two copies
 unfoldable pub format_bit : ℕ → ℕ → ℕ → Option ℕ
 format_bit n x y =
     if x == 8 then
@@ -68,7 +68,7 @@ format_bit n x y =
     else if nat_le (n - 8) x then Some (n - 1 - x) else None)
     else None
 
--- which bit of the version word stands at a place, in either of its two copies
+-- which bit of the version information is at a place, in either of its two copies
 unfoldable pub version_bit : ℕ → ℕ → ℕ → Option ℕ
 version_bit n x y =
     if nat_lt x 6 && (nat_le (n - 11) y && nat_lt y (n - 8)) then Some (3 * x + (y - (n - 11)))

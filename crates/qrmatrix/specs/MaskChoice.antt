@@ -10,11 +10,8 @@ use Rattle.qrmatrix.specs.Penalty.{penalty}
 unfoldable pub penalties : ℕ → Level → List ℕ → List ℕ
 penalties v level codewords = map (λ mask. penalty (side_of v) (module_at v level mask codewords)) (range_with_len 0 8)
 
--- the lowest place of a least number
-abbrev pub least_place : List ℕ → ℕ
-least_place ps = position_or_len (λ p. list_all (nat_le p) ps) ps
-
--- the mask that is asked for, else the first of the least penalty
+-- the mask that is asked for, or else the first of the lowest penalty
 unfoldable pub chosen_mask : ℕ → Level → Option ℕ → List ℕ → ℕ
-chosen_mask v level None codewords = least_place (penalties v level codewords)
+chosen_mask v level None codewords =
+    let ps = penalties v level codewords in position_or_len (λ p. list_all (nat_le p) ps) ps
 chosen_mask v level (Some mask) codewords = mask

@@ -1,12 +1,12 @@
 -- The order in which the codewords are placed on the free modules (ISO/IEC 18004, 7.7.3 and Table 1).
-use Rattle.std.specs.Prelude.{ℕ, ◌+◌, ◌-◌, ◌*◌, ◌/◌, ◌%◌, Bool, ◌&&◌, ◌==◌, nat_lt, if◌then◌else◌, List, [], ◌∷◌}
-use Rattle.std.specs.Prelude.{slice_index}
-use Rattle.qrdata.specs.Versions.{side_of}
+use Rattle.std.specs.Prelude.{◌≡◌, ◌≤◌, ℕ, ◌+◌, ◌-◌, ◌*◌, ◌/◌, ◌%◌, Bool, ◌&&◌, ◌==◌, nat_lt, List}
+use Rattle.std.specs.Prelude.{if◌then◌else◌, [], ◌∷◌, slice_index}
+use Rattle.qrdata.specs.Versions.{side_of, total_codewords}
 use Rattle.qrmatrix.specs.Bits.{bit}
 use Rattle.qrmatrix.specs.Counting.{sum_below, count_below}
 use Rattle.qrmatrix.specs.Functions.{is_free}
 
--- how many columns stand to the right of column x, the timing column 6 not counted
+-- how many columns are to the right of column x, the timing column 6 not counted
 abbrev pub columns_right : ℕ → ℕ → ℕ
 columns_right n x = if nat_lt 6 x then n - 1 - x else n - 2 - x
 
@@ -39,3 +39,8 @@ free_count v = sum_below (side_of v) (λ y. count_below (side_of v) (λ x. is_fr
 -- the free modules that are left after the last codeword (Table 1, remainder bits)
 unfoldable pub remainder_bits : ℕ → ℕ
 remainder_bits v = slice_index (0 ∷ 0 ∷ 7 ∷ 7 ∷ 7 ∷ 7 ∷ 7 ∷ 0 ∷ 0 ∷ 0 ∷ 0 ∷ []) v
+
+-- in each version the free modules are the bits of the codewords and the remainder bits
+abbrev pub CodewordsFillFreeModules : Type 0
+CodewordsFillFreeModules =
+    (v : ℕ) → 1 ≤ v → v ≤ 10 → free_count v ≡ 8 * total_codewords v + remainder_bits v

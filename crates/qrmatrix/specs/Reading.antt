@@ -1,6 +1,6 @@
 -- The reading of a symbol's modules, m x y being the module at column x and row y of n by n (ISO/IEC 18004, 12).
-use Rattle.std.specs.Prelude.{ℕ, ◌+◌, ◌-◌, ◌*◌, ◌/◌, ◌%◌, ◌^◌, Bool, true, not, ◌&&◌, ◌||◌, ◌==◌, nat_le, if◌then◌else◌}
-use Rattle.std.specs.Prelude.{List, [], ◌∷◌, ◌++◌, map, reverse, Option, None, Some, bit_xor}
+use Rattle.std.specs.Prelude.{ℕ, ◌+◌, ◌-◌, ◌*◌, ◌/◌, ◌%◌, ◌^◌, Bool, not, ◌&&◌, ◌||◌, ◌==◌, nat_le, if◌then◌else◌}
+use Rattle.std.specs.Prelude.{List, [], ◌∷◌, ◌++◌, map, reverse, Option, None, Some, bit_xor, unwrap_or}
 use Rattle.std.specs.Bool.{beq}
 use Rattle.std.specs.List.{range_with_len, filter}
 use Rattle.gf256.specs.BinaryPolynomial.{binary_remainder}
@@ -13,24 +13,24 @@ use Rattle.qrmatrix.specs.Counting.{all_below}
 use Rattle.qrmatrix.specs.Functions.{fixed_module, is_free}
 use Rattle.qrmatrix.specs.Masks.{is_flipped, flip_if}
 
--- the places of the bits of the format word, bit 0 first, in each of its two copies
+-- the places of the bits of the format information, bit 0 first, in its first copy
 abbrev pub format_copy_1 : List (ℕ × ℕ)
 format_copy_1 =
     map (λ i. (8, i)) (range_with_len 0 6) ++ ((8, 7) ∷ (8, 8) ∷ (7, 8) ∷ map (λ i. (14 - i, 8)) (range_with_len 9 6))
 
--- where the bits of the second copy of the format word stand
+-- the places of the bits of the format information in its second copy
 abbrev pub format_copy_2 : ℕ → List (ℕ × ℕ)
 format_copy_2 n = map (λ i. (n - 1 - i, 8)) (range_with_len 0 8) ++ map (λ i. (8, n - 15 + i)) (range_with_len 8 7)
 
--- the places of the bits of the version word, bit 0 first, in each of its two copies
+-- the places of the bits of the version information, bit 0 first, in its first copy
 abbrev pub version_copy_1 : ℕ → List (ℕ × ℕ)
 version_copy_1 n = map (λ i. (n - 11 + i % 3, i / 3)) (range_with_len 0 18)
 
--- where the bits of the second copy of the version word stand
+-- the places of the bits of the version information in its second copy
 abbrev pub version_copy_2 : ℕ → List (ℕ × ℕ)
 version_copy_2 n = map (λ i. (i / 3, n - 11 + i % 3)) (range_with_len 0 18)
 
--- the word that stands at a list of places, its bit 0 at the first
+-- the number whose bits are at a list of places, bit 0 at the first
 abbrev pub information_at : (ℕ → ℕ → Bool) → List (ℕ × ℕ) → ℕ
 information_at m places = number_of (reverse (map (λ (p : ℕ × ℕ). m p.0 p.1) places))
 
@@ -38,34 +38,31 @@ information_at m places = number_of (reverse (map (λ (p : ℕ × ℕ). m p.0 p.
 abbrev pub level_of : ℕ → Level
 level_of indicator = if indicator == 0 then M else if indicator == 1 then L else if indicator == 2 then H else Q
 
--- the level and the mask of a word that is a codeword of the format information
+-- the level and the mask of format information that is a multiple of its generator
 abbrev pub read_format_information : ℕ → Option (Level × ℕ)
 read_format_information information =
-    let codeword = bit_xor information 0x5412 in
-    if binary_remainder 10 0x537 5 codeword == 0
-    then Some (level_of (codeword / 2 ^ 13), codeword / 2 ^ 10 % 8) else None
+    let unmasked = bit_xor information 0x5412 in
+    if binary_remainder 10 0x537 5 unmasked == 0
+    then Some (level_of (unmasked / 2 ^ 13), unmasked / 2 ^ 10 % 8) else None
 
 -- the level and the mask, where both copies of the format information agree
 unfoldable pub read_format : ℕ → (ℕ → ℕ → Bool) → Option (Level × ℕ)
 read_format n m =
-    if information_at m format_copy_1 == information_at m (format_copy_2 n) then read_format_information (information_at m format_copy_1) else None
+    if information_at m format_copy_1 == information_at m (format_copy_2 n) then read_format_information
+    (information_at m format_copy_1) else None
 
--- whether both copies of the version information, where the version has it, are its codeword
+-- whether both copies of the version information are that of the version, where the version has it
 unfoldable pub shows_version : ℕ → ℕ → (ℕ → ℕ → Bool) → Bool
 shows_version v n m =
     let first = information_at m (version_copy_1 n) in
     let second = information_at m (version_copy_2 n) in
     not (nat_le 7 v) || ((first == second) && ((binary_remainder 12 0x1F25 6 first == 0) && (first / 2 ^ 12 == v)))
 
--- whether a module is the one that is fixed there, if any
-abbrev pub agrees : Option Bool → Bool → Bool
-agrees None b = true
-agrees (Some a) b = beq a b
-
 -- whether every module that the codewords do not choose is right
 unfoldable pub shows_functions : ℕ → Level → ℕ → (ℕ → ℕ → Bool) → Bool
 shows_functions v level mask m =
-    all_below (side_of v) (λ y. all_below (side_of v) (λ x. agrees (fixed_module v level mask x y) (m x y)))
+    all_below (side_of v) (λ y. all_below (side_of v) (λ x.
+    beq (unwrap_or (fixed_module v level mask x y) (m x y)) (m x y)))
 
 -- a strip of two columns: in each of its rows the right module, then the left one
 abbrev pub strip : ℕ → List ℕ → List (ℕ × ℕ)
@@ -103,7 +100,7 @@ read_with v m format =
     if shows_version v (side_of v) m && shows_functions v format.0 format.1 m
     then Some (record { version = v; level = format.0; codewords = codewords }) else None
 
--- the version, the level and the words of a symbol; there is no reading where any check fails
+-- the version, the level and the codewords of a symbol; there is no reading where any check fails
 unfoldable pub read_matrix : ℕ → (ℕ → ℕ → Bool) → Option Reading
 read_matrix n m =
     let v = (n - 17) / 4 in

@@ -7,8 +7,8 @@ use crate::information::format_information;
 use crate::square::{SIDE, Square};
 use qrdata::{Level, Version};
 
-/// The modules of row `y` that show a one of the format word, in either of its two copies (ISO/IEC 18004, 7.9). Outside
-/// of row 8 they are in column 8.
+/// Returns the modules of row `y` that show a one of the format information, in either of its two copies (ISO/IEC
+/// 18004, 7.9). Outside of row 8 they are in column 8.
 #[tactic(auto, unfolding(crate::specs::Private::FunctionRows::format_row))]
 fn format_row(n: usize, information: u32, y: usize) -> u64
     requires side { (21 ≤ n) × (n ≤ SIDE) }
@@ -16,7 +16,7 @@ fn format_row(n: usize, information: u32, y: usize) -> u64
     ensures { result ≡ FunctionRows.format_row n information y }
 {
     if y == 8 {
-        // The highest bit stands on the left. The first copy leaves out column 6, that of the timing pattern.
+        // The highest bit is on the left. The first copy leaves out column 6, that of the timing pattern.
         let across = u64::from(information.reverse_bits() >> 17);
         (across & 0x3F) | ((across & 0xC0) << 1) | ((across >> 7) << (n - 8))
     } else if y < 6 {
@@ -30,7 +30,7 @@ fn format_row(n: usize, information: u32, y: usize) -> u64
     }
 }
 
-/// Draws the format information for a mask. Its modules are light before.
+/// Draws the format information for a mask over modules that are light.
 pub fn draw_format(version: Version, level: Level, mask: u8, modules: &mut Square)
     requires { mask < 8 }
     ensures { ShowsFormat version level mask modules.old modules.new }

@@ -1,4 +1,4 @@
-//! The function patterns row by row, as words: bit x of a word is the module at column x.
+//! The function patterns row by row, 64 bits a row: bit x is the module at column x.
 ghost use Rattle.std.specs.Prelude.{◌≡◌, ◌-◌, ◌^◌, ◌<◌, ◌≤◌};
 ghost use Rattle.qrdata.specs.Versions.{side_of};
 ghost use Rattle.qrmatrix.specs.Private.Drawing.{HasFunctions};
@@ -9,12 +9,12 @@ use crate::row::low_ones;
 use crate::square::SIDE;
 use qrdata::Version;
 
-/// What patterns have of a row.
+/// The modules that patterns have in a row.
 #[derive(Clone, Copy)]
 pub struct PatternRow {
-    /// Their modules.
+    /// The modules of the patterns.
     pub taken: u64,
-    /// Those of their modules that are dark.
+    /// Those of them that are dark.
     pub dark: u64,
 }
 
@@ -27,7 +27,7 @@ const FINDER: [u64; 8] = [
 ];
 
 /// The coordinates of the centres of the alignment patterns (ISO/IEC 18004, Table E.1): bit k says whether k is one.
-/// The first word is for version 1.
+/// Place 0 is for version 1.
 const CENTRES: [u64; 10] = [
     0,
     (1 << 6) | (1 << 18),
@@ -45,7 +45,7 @@ const CENTRES: [u64; 10] = [
 const EVERY_OTHER: u64 = 0x5555555555555555;
 
 impl PatternRow {
-    /// The first of two patterns that has a module.
+    /// Lays this pattern over another one: a module is that of this pattern, or else that of the other.
     #[tactic(auto, unfolding(crate::specs::Private::FunctionRows::or_else))]
     fn or_else(self, other: PatternRow) -> PatternRow
         ensures { result ≡ FunctionRows.or_else self other }
@@ -79,7 +79,7 @@ fn finders(n: usize, y: usize) -> PatternRow
     }
 }
 
-/// The row of an alignment pattern that comes to lie in row `y`, from the left module of the pattern on.
+/// Returns the row of an alignment pattern that lies in row `y`, the left module of the pattern in bit 0.
 #[tactic(auto, unfolding(crate::specs::Private::FunctionRows::alignment_row))]
 fn alignment_row(centres: u64, y: usize) -> PatternRow
     requires { y < SIDE }
@@ -107,7 +107,7 @@ fn alignment_row(centres: u64, y: usize) -> PatternRow
     }
 }
 
-/// The left columns of the alignment patterns that row `y` may have. None has its centre in a finder pattern.
+/// Returns the left columns of the alignment patterns that row `y` may have. None has its centre in a finder pattern.
 #[tactic(auto, unfolding(crate::specs::Private::FunctionRows::left_columns))]
 fn left_columns(n: usize, centres: u64, y: usize) -> u64
     requires side { (21 ≤ n) × (n ≤ SIDE) }
@@ -192,7 +192,7 @@ fn formats(n: usize, y: usize) -> PatternRow
     }
 }
 
-/// The bits 0, 3, 6, .. of a word of 18 bits side by side.
+/// Returns the bits 0, 3, 6, 9, 12 and 15 of the version information side by side.
 #[tactic(auto, unfolding(crate::specs::Private::FunctionRows::every_third))]
 fn every_third(information: u64) -> u64
     ensures { result ≡ FunctionRows.every_third information }
@@ -229,7 +229,7 @@ fn versions(version: Version, y: usize) -> PatternRow
     }
 }
 
-/// The modules of row `y` that the codewords do not choose (ISO/IEC 18004, 6.3 and 7.10). Those of the format
+/// Returns the modules of row `y` that the codewords do not choose (ISO/IEC 18004, 6.3 and 7.10). Those of the format
 /// information are light.
 pub fn function_row(version: Version, y: usize) -> PatternRow
     requires { y < side_of version }

@@ -2,18 +2,15 @@
 ghost use Rattle.std.specs.Prelude.{◌≡◌, ◌+◌, ◌*◌, ◌^◌, ◌<◌, ◌≤◌};
 ghost use Rattle.gf256.specs.BinaryPolynomial.{binary_remainder};
 ghost use Rattle.qrmatrix.specs.Information;
-ghost use Rattle.qrmatrix.specs.Information.{FormatInformationIsListed, FormatInformationIsMultiple, VersionInformationIsListed};
-ghost use Rattle.qrmatrix.specs.Information.{VersionInformationIsMultiple};
+ghost use Rattle.qrmatrix.specs.StandardLists.{AgreesWithLists};
 
 use qrdata::{Level, Version};
 
-/// The remainder of `message`, of degree below `degree + count`, by `modulus`, of that degree, as polynomials over two
-/// elements: bit i of a number is the coefficient of x^i.
+/// Returns the remainder of `message`, of degree below `degree + count`, by `modulus`, of that degree, as polynomials
+/// over two elements: bit i of a number is the coefficient of x^i.
 fn remainder(degree: u32, modulus: u32, count: u32, message: u32) -> u32
     requires modulus { modulus < 2 ^ 13 }
-    requires degree { degree + count ≤ 18 }
-    requires count { count ≤ 6 }
-    requires message { message < 2 ^ 18 }
+    requires message { (message < 2 ^ 18) × (degree + count ≤ 18) × (count ≤ 6) }
     ensures value { result ≡ binary_remainder degree modulus count message }
     ensures bound { result < 2 ^ 20 }
 {
@@ -27,7 +24,7 @@ fn remainder(degree: u32, modulus: u32, count: u32, message: u32) -> u32
     rest
 }
 
-/// The two bits that stand for an error correction level (Table 12).
+/// Returns the two bits of an error correction level (ISO/IEC 18004, Table 12).
 fn level_indicator(level: Level) -> u32
     ensures value { result ≡ Information.level_indicator level }
     ensures bound { result ≤ 3 }
@@ -40,8 +37,8 @@ fn level_indicator(level: Level) -> u32
     }
 }
 
-/// The format information of 15 bits: level and mask with their check bits, under the mask of the format information
-/// (ISO/IEC 18004, 7.9).
+/// Returns the format information of 15 bits: level and mask with their check bits, under the mask of the format
+/// information (ISO/IEC 18004, 7.9).
 #[tactic(auto, unfolding(crate::specs::Information::format_information))]
 pub fn format_information(level: Level, mask: u8) -> u32
     requires { mask < 8 }
@@ -51,7 +48,7 @@ pub fn format_information(level: Level, mask: u8) -> u32
     0x5412 ^ (message + remainder(10, 0x537, 5, message))
 }
 
-/// The version information of 18 bits: the version with its check bits (ISO/IEC 18004, 7.10).
+/// Returns the version information of 18 bits: the version with its check bits (ISO/IEC 18004, 7.10).
 #[tactic(auto, unfolding(crate::specs::Information::version_information))]
 pub fn version_information(version: Version) -> u32
     ensures { result ≡ Information.version_information version }
@@ -60,11 +57,9 @@ pub fn version_information(version: Version) -> u32
     message + remainder(12, 0x1F25, 6, message)
 }
 
-/// The words that the standard lists are those that are computed: all 32 format words (ISO/IEC 18004, Annex C) and the
-/// version words of the versions 7 to 10 (Annex D). Each is a multiple of its code's generator.
-pub fn information_laws()
-    ensures format { FormatInformationIsListed }
-    ensures format_code { FormatInformationIsMultiple }
-    ensures version { VersionInformationIsListed }
-    ensures version_code { VersionInformationIsMultiple }
+/// What the standard lists is what the definitions compute: the format information of all levels and masks (ISO/IEC
+/// 18004, Annex C), the version information of versions 7 to 10 (Annex D), and the remainder bits (Table 1). It does
+/// nothing when it runs.
+pub fn symbol_laws()
+    ensures { AgreesWithLists }
 {}

@@ -1,4 +1,4 @@
-//! The eight masks, one word a row.
+//! The eight masks, 64 bits a row.
 ghost use Rattle.std.specs.Prelude.{◌≡◌, ℕ, ◌*◌, ◌%◌, ◌<◌, ◌≤◌};
 ghost use Rattle.qrmatrix.specs.Bits.{bit};
 ghost use Rattle.qrmatrix.specs.Private.Drawing.{module_under_mask};
@@ -9,8 +9,8 @@ ghost use Rattle.qrmatrix.specs.Private.Squares.{SameOutside};
 use crate::row::low_ones;
 use crate::square::{SIDE, Square};
 
-/// Of each mask, which of the first six modules it flips in each of the first twelve rows, the first module lowest. The
-/// masks repeat after six columns and twelve rows.
+/// For each mask, which of the first six modules it flips in each of the first twelve rows. The first module is the
+/// lowest bit. The masks repeat after six columns and twelve rows.
 const PATTERNS: [[u64; 12]; 8] = [
     [
         0b010101, 0b101010, 0b010101, 0b101010, 0b010101, 0b101010, 0b010101, 0b101010, 0b010101,
@@ -49,7 +49,7 @@ const PATTERNS: [[u64; 12]; 8] = [
 /// A one in every sixth place.
 const EVERY_SIXTH: u64 = 0x0041041041041041;
 
-/// The modules of the rows `place`, `place` + 12, .. that a mask flips.
+/// Returns the modules that a mask flips in the rows `place`, `place` + 12 and so on.
 fn mask_row_bits(mask: u8, place: usize) -> u64
     requires mask { mask < 8 }
     requires place { place < 12 }

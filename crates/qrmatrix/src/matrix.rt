@@ -1,14 +1,11 @@
 //! A drawn symbol.
-ghost use Rattle.std.specs.Prelude.{◌≡◌, ℕ, ◌+◌, ◌*◌, ◌<◌, ◌≤◌, ◌&&◌, All, Bool, false, IfSome, length, List, Some};
+ghost use Rattle.std.specs.Prelude.{◌≡◌, ℕ, ◌<◌, ◌≤◌, ◌&&◌, All, Bool, IfSome, length, List};
 ghost use Rattle.std.specs.Prelude.{slice_index};
 ghost use Rattle.qrdata.specs.Versions.{side_of, total_codewords};
 ghost use Rattle.qrmatrix.specs.Bits.{bit};
-ghost use Rattle.qrmatrix.specs.MaskChoice.{chosen_mask};
-ghost use Rattle.qrmatrix.specs.Modules.{is_inside, module_at};
+ghost use Rattle.qrmatrix.specs.Modules.{is_inside};
 ghost use Rattle.qrmatrix.specs.Penalty;
-ghost use Rattle.qrmatrix.specs.Placement.{free_count, remainder_bits};
-ghost use Rattle.qrmatrix.specs.Reading.{read_matrix};
-ghost use Rattle.qrmatrix.specs.Symbol.{Symbol, is_dark};
+ghost use Rattle.qrmatrix.specs.Symbol.{IsSymbolOf, Symbol, is_dark};
 ghost use Rattle.qrmatrix.specs.Private.Squares.{IsWithin};
 
 use crate::penalty::penalty;
@@ -16,6 +13,9 @@ use crate::square::{SIDE, Square};
 use crate::unmasked::Unmasked;
 use qrdata::{Codewords, Level, Version};
 use std::marker::Model;
+
+/// The width of the quiet zone on each side of a symbol, in modules (ISO/IEC 18004, 9.1).
+pub const QUIET_ZONE: usize = 4;
 
 /// The modules of a QR Code symbol.
 #[derive(Drop)]
@@ -38,46 +38,35 @@ impl Model for Matrix {
     } };
 }
 
-/// A slice of bytes has numbers below 256, which the type of an `ArrayVec` does not tell a proof. It does nothing when
-/// it runs.
+/// The numbers of a slice of bytes are below 256, which the type of an `ArrayVec` does not say to a proof. It does
+/// nothing when it runs.
 fn are_bytes(bytes: &[u8])
     ensures { All (λ b. b < 256) bytes.now }
 {}
 
 impl Matrix {
-    /// Draws the codewords of a symbol under the given mask, 0 to 7, or else under the mask of the least penalty, the
-    /// first of several (ISO/IEC 18004, 7.7 to 7.10). The modules read back as the version, the level and the
+    /// Draws the codewords of a symbol under the given mask, 0 to 7, or else under the mask of the lowest penalty,
+    /// the first of several (ISO/IEC 18004, 7.7 to 7.10). The modules read back as the version, the level and the
     /// codewords.
     pub fn draw(version: Version, level: Level, mask: Option<u8>, codewords: &Codewords) -> Matrix
         requires count { length codewords.now.items ≡ total_codewords version }
         requires mask { IfSome mask (λ k. k < 8) }
-        ensures side { result.side ≡ side_of version }
-        ensures mask { result.mask ≡ chosen_mask version level mask codewords.now.items }
-        ensures modules { (x y : ℕ) → is_dark result x y
-            ≡ module_at version level result.mask codewords.now.items x y }
-        ensures outside { (x y : ℕ) → is_inside result.side x y ≡ false
-            → is_dark result x y ≡ false }
-        ensures reads { read_matrix result.side (is_dark result)
-            ≡ Some (record { version = version; level = level; codewords = codewords.now.items }) }
-
-        // No codeword is left out, and only the remainder bits hold none.
-        ensures room { free_count version
-            ≡ 8 * length codewords.now.items + remainder_bits version }
+        ensures { IsSymbolOf version level mask codewords.now.items result }
     {
         are_bytes(codewords);
         let unmasked = Unmasked::draw(version, level, codewords);
-        let mask = match mask {
-            Some(mask) => mask,
-            None => unmasked.least_mask(),
+        let masked = match mask {
+            Some(mask) => unmasked.under(mask),
+            None => unmasked.under_best_mask(),
         };
         Matrix {
             side: version.side(),
-            mask,
-            modules: unmasked.under(mask),
+            mask: masked.mask,
+            modules: masked.modules,
         }
     }
 
-    /// Whether the module at column `x` and row `y` is dark.
+    /// Returns whether the module at column `x` and row `y` is dark.
     pub fn dark(&self, x: usize, y: usize) -> bool
         requires column { x < self.now.side }
         requires row { y < self.now.side }
@@ -86,7 +75,7 @@ impl Matrix {
         self.modules.get(x, y)
     }
 
-    /// The rows as words: bit x of word y is the module at column x and row y, and the bits from the side on are 0.
+    /// Returns the rows: bit x of number y is the module at column x and row y, and the bits from the side on are 0.
     pub fn rows(&self) -> &[u64; SIDE]
         ensures bits { (x y : ℕ) → bit (slice_index result.now y) x
             ≡ (is_inside self.now.side x y && is_dark self.now x y) }
@@ -95,7 +84,7 @@ impl Matrix {
         self.modules.rows()
     }
 
-    /// The number of modules on a side.
+    /// Returns the number of modules on a side, 21 to 57.
     pub fn side(&self) -> usize
         ensures value { result ≡ self.now.side }
         ensures bound { result ≤ side_of 10 }
@@ -103,7 +92,7 @@ impl Matrix {
         self.side
     }
 
-    /// The mask, 0 to 7.
+    /// Returns the number of the mask, 0 to 7.
     pub fn mask(&self) -> u8
         ensures value { result ≡ self.now.mask }
         ensures bound { result < 8 }
@@ -111,7 +100,7 @@ impl Matrix {
         self.mask
     }
 
-    /// The penalty of the modules (in the manner of ISO/IEC 18004, 7.8.3).
+    /// Returns the penalty of the modules (in the manner of ISO/IEC 18004, 7.8.3).
     pub fn penalty(&self) -> u32
         ensures { result ≡ Penalty.penalty self.now.side (is_dark self.now) }
     {

@@ -5,20 +5,19 @@ ghost use Rattle.std.specs.Prelude.{if◌then◌else◌, IsTrue, IsFalse, nat_lt
 ghost use Rattle.qrdata.specs.Versions.{side_of};
 ghost use Rattle.qrmatrix.specs.Functions.{is_free};
 ghost use Rattle.qrmatrix.specs.Placement;
-ghost use Rattle.qrmatrix.specs.Placement.{rank};
 ghost use Rattle.qrmatrix.specs.Bits.{bit};
 ghost use Rattle.qrmatrix.specs.Square.{value_at};
-ghost use Rattle.qrmatrix.specs.Private.Squares.{WritesAt, WritesTwo, SameOutside};
+ghost use Rattle.qrmatrix.specs.Private.Squares.{WritesAt, WritesTwo};
 ghost use Rattle.qrmatrix.specs.Private.CodewordPairs.{ArePairs, ShowsTwo};
-ghost use Rattle.qrmatrix.specs.Private.Drawing.{MarksFunctions};
+ghost use Rattle.qrmatrix.specs.Private.Drawing.{MarksFunctions, PlacesCodewords};
 
 use crate::square::{SIDE, Square};
 use qrdata::{Codewords, Version};
 
-/// How many numbers of two codewords there are: enough that each module of the largest symbol has a bit.
+/// The number of pairs of codewords: enough that each module of the largest symbol has a bit.
 const PAIRS: usize = 400;
 
-/// Bit `i` of the codewords, the high bit of each first, and light past their end.
+/// Returns bit `i` of the codewords, the high bit of each first, and false past their end.
 fn codeword_bit(codewords: &Codewords, i: usize) -> bool
     ensures { result ≡ Placement.codeword_bit codewords.now.items i }
 {
@@ -28,7 +27,7 @@ fn codeword_bit(codewords: &Codewords, i: usize) -> bool
     }
 }
 
-/// Places bit `i` on the module, if it is free, and says how many bits are placed then.
+/// Places bit `i` on a module, if the module is free, and returns how many bits are placed after that.
 fn place_module(
     codewords: &Codewords,
     function: &Square,
@@ -37,8 +36,7 @@ fn place_module(
     y: usize,
     i: usize,
 ) -> usize
-    requires column { x < SIDE }
-    requires row { y < SIDE }
+    requires place { (x < SIDE) × (y < SIDE) }
     requires count { i < 2 ^ 32 }
     ensures free { IsFalse (value_at function.now x y) → (result ≡ i + 1)
         × WritesAt modules.old modules.new x y (Placement.codeword_bit codewords.now.items i) }
@@ -52,7 +50,7 @@ fn place_module(
     }
 }
 
-/// The numbers of 16 bits that each codeword makes with the next one; zeros follow the last.
+/// Returns for each codeword the 16 bits of it and the next one. Zeros follow the last.
 fn codeword_pairs(codewords: &[u8]) -> [u16; PAIRS]
     requires { length codewords.now < PAIRS }
     ensures { ArePairs codewords.now result }
@@ -68,7 +66,7 @@ fn codeword_pairs(codewords: &[u8]) -> [u16; PAIRS]
     pairs
 }
 
-/// The bits `i` and `i + 1` of the codewords, the first one higher.
+/// Returns the bits `i` and `i + 1` of the codewords, the first one higher.
 fn two_bits(pairs: &[u16; PAIRS], i: usize) -> u64
     requires { i < 8 * PAIRS }
     ensures bits { (codewords : List ℕ) → ArePairs codewords pairs.now
@@ -78,10 +76,9 @@ fn two_bits(pairs: &[u16; PAIRS], i: usize) -> u64
     u64::from((pairs[i / 8] >> (14 - i % 8)) & 3)
 }
 
-/// Whether no function module is at column `x` and at the next one.
+/// Returns whether the modules at column `x` and at the next one are both free.
 fn are_free(function: &Square, x: usize, y: usize) -> bool
-    requires column { x + 1 < SIDE }
-    requires row { y < SIDE }
+    requires { (x + 1 < SIDE) × (y < SIDE) }
     ensures { IsTrue result → (value_at function.now x y ≡ false)
         × (value_at function.now (x + 1) y ≡ false) }
 {
@@ -91,8 +88,7 @@ fn are_free(function: &Square, x: usize, y: usize) -> bool
 /// Writes two bits on light modules, the lower one at column `x` and the other one at the next.
 fn place_two(two: u64, modules: &mut Square, x: usize, y: usize)
     requires bits { two < 4 }
-    requires column { x + 1 < SIDE }
-    requires row { y < SIDE }
+    requires place { (x + 1 < SIDE) × (y < SIDE) }
     requires light { (value_at modules.old x y ≡ false)
         × (value_at modules.old (x + 1) y ≡ false) }
     ensures { WritesTwo modules.old modules.new x y (bit two 0) (bit two 1) }
@@ -106,12 +102,7 @@ pub fn place(version: Version, codewords: &Codewords, function: &Square, modules
     requires marked { MarksFunctions version function.now }
     requires light { (x y : ℕ) → x < side_of version → y < side_of version
         → is_free version x y ≡ true → value_at modules.old x y ≡ false }
-    ensures placed { (x y : ℕ) → x < side_of version → y < side_of version
-        → is_free version x y ≡ true → value_at modules.new x y
-        ≡ Placement.codeword_bit codewords.now.items (rank version x y) }
-    ensures others { (x y : ℕ) → x < side_of version → y < side_of version
-        → is_free version x y ≡ false → value_at modules.new x y ≡ value_at modules.old x y }
-    ensures outside { SameOutside (side_of version) modules.old modules.new }
+    ensures { PlacesCodewords version codewords.now.items modules.old modules.new }
 {
     let n = version.side();
     let pairs = codeword_pairs(codewords);

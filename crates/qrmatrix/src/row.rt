@@ -1,4 +1,4 @@
-//! Rows of modules as words: bit i of a word is the module at place i.
+//! Rows of modules, 64 bits each: bit i is the module at place i.
 ghost use Rattle.std.specs.Prelude.{◌≡◌, ℕ, ◌+◌, ◌-◌, ◌*◌, ◌^◌, ◌<◌, ◌≤◌, Bool, nat_lt, if◌then◌else◌, ◌&&◌};
 ghost use Rattle.std.specs.Bool.{beq};
 ghost use Rattle.qrmatrix.specs.Counting.{sum_below, count_below};
@@ -7,7 +7,7 @@ ghost use Rattle.qrmatrix.specs.Penalty.{begins_run};
 
 use crate::square::SIDE;
 
-/// The word of ones in the lowest `n` places.
+/// Returns ones in the lowest `n` places, and zeros above.
 pub fn low_ones(n: usize) -> u64
     requires { n ≤ SIDE }
     ensures value { result ≡ 2 ^ n - 1 }
@@ -17,7 +17,7 @@ pub fn low_ones(n: usize) -> u64
     (1 << n) - 1
 }
 
-/// How many of the lowest `n` places have a one.
+/// Returns how many of the lowest `n` places have a one.
 pub fn ones_below(row_bits: u64, n: usize) -> u32
     requires { n ≤ SIDE }
     ensures value { result ≡ count_below n (bit row_bits) }
@@ -26,14 +26,14 @@ pub fn ones_below(row_bits: u64, n: usize) -> u32
     (row_bits & low_ones(n)).count_ones()
 }
 
-/// The places at which two rows have one colour.
+/// Returns the places at which two rows have the same colour.
 pub fn agreeing(a: u64, b: u64) -> u64
     ensures { (i : ℕ) → i < 64 → bit result i ≡ beq (bit b i) (bit a i) }
 {
     !(b ^ a)
 }
 
-/// The places at which five rows have one colour.
+/// Returns the places at which five rows have the same colour.
 pub fn agreeing_five(a: u64, b: u64, c: u64, d: u64, e: u64) -> u64
     ensures { (i : ℕ) → i < 64 → bit result i
         ≡ (((beq (bit b i) (bit a i) && beq (bit c i) (bit a i))
@@ -42,22 +42,22 @@ pub fn agreeing_five(a: u64, b: u64, c: u64, d: u64, e: u64) -> u64
     agreeing(a, b) & agreeing(a, c) & agreeing(a, d) & agreeing(a, e)
 }
 
-/// The places that are found already and at which the row is dark, or else light.
+/// Returns the places of `found` at which the row has the colour that is asked for: dark, or else light.
 pub fn found_with(found: u64, row_bits: u64, dark: bool) -> u64
     ensures { (i : ℕ) → i < 64 → bit result i ≡ (bit found i && beq (bit row_bits i) dark) }
 {
     found & if dark { row_bits } else { !row_bits }
 }
 
-/// The places of a row at which a run begins.
+/// Returns the places of a row at which a run begins.
 pub fn run_starts(row_bits: u64) -> u64
     ensures { (i : ℕ) → i < 64 → bit result i ≡ begins_run (bit row_bits) i }
 {
     ((row_bits ^ (row_bits >> 1)) << 1) | 1
 }
 
-/// The penalty of runs, where `uniform` has the places of windows of one colour and `begins` those at which a run
-/// begins.
+/// Returns the penalty of runs in the lowest `n` places. `uniform` has the places at which windows of one colour begin,
+/// and `begins` those at which a run begins.
 pub fn run_points(uniform: u64, begins: u64, n: usize) -> u32
     requires { n ≤ SIDE }
     ensures value { result

@@ -1,4 +1,4 @@
-//! A square of truth values, one word a row.
+//! A square of truth values, 64 bits a row.
 ghost use Rattle.std.specs.Prelude.{◌≡◌, ℕ, ◌^◌, ◌<◌, Bool, ◌&&◌, ◌==◌, if◌then◌else◌, List, [], false, map};
 ghost use Rattle.std.specs.Prelude.{slice_index, All};
 ghost use Rattle.qrmatrix.specs.Bits.{bit};
@@ -12,7 +12,7 @@ use std::marker::Model;
 /// The modules of a side of the largest symbol, version 10 (ISO/IEC 18004, Table 1).
 pub const SIDE: usize = 57;
 
-/// A truth value for each column and row: bit x of word y is that at column x and row y.
+/// A truth value for each column and row: bit x of row y is the value at column x.
 #[derive(Drop)]
 pub struct Square {
     rows: [u64; SIDE],
@@ -26,10 +26,9 @@ impl Model for Square {
     ghost invariant = { λ s. AreRows s.rows };
 }
 
-/// The word with one bit written.
+/// Returns the bits of a row with one bit written.
 fn with_bit(row_bits: u64, x: usize, value: bool) -> u64
-    requires row_bits { row_bits < 2 ^ SIDE }
-    requires place { x < SIDE }
+    requires { (row_bits < 2 ^ SIDE) × (x < SIDE) }
     ensures bits { (a : ℕ) → bit result a ≡ (if a == x then value else bit row_bits a) }
     ensures bound { result < 2 ^ SIDE }
 {
@@ -41,39 +40,37 @@ fn with_bit(row_bits: u64, x: usize, value: bool) -> u64
 }
 
 impl Square {
-    /// All false.
+    /// Makes a square of false values.
     pub fn new() -> Square
         ensures { (x y : ℕ) → value_at result x y ≡ false }
     {
         Square { rows: [0; SIDE] }
     }
 
-    /// The same square again.
+    /// Returns a copy.
     pub fn copied(&self) -> Square
         ensures { result ≡ self.now }
     {
         Square { rows: self.rows }
     }
 
-    /// The value at column `x` and row `y`.
+    /// Returns the value at column `x` and row `y`.
     pub fn get(&self, x: usize, y: usize) -> bool
-        requires column { x < SIDE }
-        requires row { y < SIDE }
+        requires { (x < SIDE) × (y < SIDE) }
         ensures { result ≡ value_at self.now x y }
     {
         (self.rows[y] >> x) & 1 == 1
     }
 
-    /// Writes one value.
+    /// Writes the value at column `x` and row `y`.
     pub fn set(&mut self, x: usize, y: usize, value: bool)
-        requires column { x < SIDE }
-        requires row { y < SIDE }
+        requires { (x < SIDE) × (y < SIDE) }
         ensures { WritesAt self.old self.new x y value }
     {
         self.rows[y] = with_bit(self.rows[y], x, value);
     }
 
-    /// The word of row `y`.
+    /// Returns the bits of row `y`.
     pub fn row(&self, y: usize) -> u64
         requires { y < SIDE }
         ensures bits { (x : ℕ) → bit result x ≡ value_at self.now x y }
@@ -82,7 +79,7 @@ impl Square {
         self.rows[y]
     }
 
-    /// Turns the modules of row `y` over that have a bit in the word.
+    /// Turns over the values of row `y` at the places of the ones of `row_bits`.
     pub fn flip(&mut self, y: usize, row_bits: u64)
         requires row { y < SIDE }
         requires row_bits { row_bits < 2 ^ SIDE }
@@ -92,7 +89,7 @@ impl Square {
         self.rows[y] ^= row_bits;
     }
 
-    /// The words, one a row.
+    /// Returns the bits of all rows.
     pub fn rows(&self) -> &[u64; SIDE]
         ensures bits { (x y : ℕ) → bit (slice_index result.now y) x ≡ value_at self.now x y }
         ensures narrow { All (λ w. w < 2 ^ SIDE) result.now }

@@ -1,13 +1,11 @@
-//! A symbol before its mask: what stays under all eight masks is drawn once.
-ghost use Rattle.std.specs.Prelude.{◌≡◌, ℕ, ◌<◌, false, List};
+//! A symbol before its mask: what all eight masks share is drawn once.
+ghost use Rattle.std.specs.Prelude.{◌≡◌, ℕ, ◌<◌, List, None};
 ghost use Rattle.qrdata.specs.Versions.{side_of};
-ghost use Rattle.qrmatrix.specs.Private.Drawing.{unmasked_module, MarksFunctions, Places};
-ghost use Rattle.qrmatrix.specs.Functions.{role};
-ghost use Rattle.qrmatrix.specs.MaskChoice.{least_place, penalties};
+ghost use Rattle.qrmatrix.specs.Private.Drawing.{Draws, DrawsFunctions, Places, ShowsSymbol};
+ghost use Rattle.qrmatrix.specs.MaskChoice.{chosen_mask};
 ghost use Rattle.qrmatrix.specs.Modules.{module_at};
 ghost use Rattle.qrmatrix.specs.Penalty;
-ghost use Rattle.qrmatrix.specs.Square.{value_at};
-ghost use Rattle.qrmatrix.specs.Private.Squares.{SameOutside};
+ghost use Rattle.qrmatrix.specs.Private.Squares.{IsBlank};
 
 use crate::format::draw_format;
 use crate::function::function_row;
@@ -19,12 +17,8 @@ use qrdata::{Codewords, Level, Version};
 
 /// Draws the function patterns on two blank squares: their modules, and those that are dark.
 fn draw_functions(version: Version, function: &mut Square, modules: &mut Square)
-    requires blank_function { (x y : ℕ) → value_at function.old x y ≡ false }
-    requires blank_modules { (x y : ℕ) → value_at modules.old x y ≡ false }
-    ensures marked { MarksFunctions version function.new }
-    ensures drawn { (x y : ℕ) → x < side_of version → y < side_of version
-        → value_at modules.new x y ≡ unmasked_module version (role version x y) }
-    ensures outside { SameOutside (side_of version) modules.old modules.new }
+    requires { IsBlank function.old × IsBlank modules.old }
+    ensures { DrawsFunctions version function.new modules.old modules.new }
 {
     let n = version.side();
     for y in 0..n {
@@ -45,12 +39,19 @@ pub struct Unmasked {
     modules: Square,
 }
 
+/// A symbol under a mask.
+#[derive(Drop)]
+pub struct Masked {
+    /// The number of the mask, 0 to 7.
+    pub mask: u8,
+    /// The modules that are dark.
+    pub modules: Square,
+}
+
 impl Unmasked {
     /// Draws the codewords without a mask.
     pub fn draw(version: Version, level: Level, codewords: &Codewords) -> Unmasked
-        ensures version { result.version ≡ version }
-        ensures level { result.level ≡ level }
-        ensures placed { Places result codewords.now.items }
+        ensures { Draws version level codewords.now.items result }
     {
         let mut modules = Square::new();
         let mut function = Square::new();
@@ -64,41 +65,45 @@ impl Unmasked {
         }
     }
 
-    /// The symbol under a mask.
-    pub fn under(&self, mask: u8) -> Square
+    /// Lays a mask over a copy of the modules, and draws the format information for it.
+    pub fn under(&self, mask: u8) -> Masked
         requires { mask < 8 }
-        ensures { (codewords : List ℕ) → Places self.now codewords → (x y : ℕ) → value_at result x y
-            ≡ module_at self.now.version self.now.level mask codewords x y }
+        ensures mask { result.mask ≡ mask }
+        ensures modules { (codewords : List ℕ) → Places self.now codewords
+            → ShowsSymbol self.now codewords result }
     {
         let mut modules = self.modules.copied();
         draw_format(self.version, self.level, mask, &mut modules);
         apply_mask(self.version.side(), mask, &self.function, &mut modules);
-        modules
+        Masked { mask, modules }
     }
 
     /// The penalty of the symbol under a mask.
-    fn penalty_under(&self, mask: u8) -> u32
-        requires { mask < 8 }
-        ensures { (codewords : List ℕ) → Places self.now codewords → result
+    fn penalty_of(&self, masked: &Masked) -> u32
+        ensures { (codewords : List ℕ) → ShowsSymbol self.now codewords masked.now → result
             ≡ Penalty.penalty (side_of self.now.version)
-            (module_at self.now.version self.now.level mask codewords) }
+            (module_at self.now.version self.now.level masked.now.mask codewords) }
     {
-        penalty(&self.under(mask), self.version.side())
+        penalty(&masked.modules, self.version.side())
     }
 
-    /// The first mask of the least penalty (ISO/IEC 18004, 7.8.1).
-    pub fn least_mask(&self) -> u8
-        ensures value { (codewords : List ℕ) → Places self.now codewords → result
-            ≡ least_place (penalties self.now.version self.now.level codewords) }
-        ensures bound { result < 8 }
+    /// Lays each mask over the modules and keeps the symbol of the lowest penalty, the first of several (ISO/IEC 18004,
+    /// 7.8.1).
+    pub fn under_best_mask(&self) -> Masked
+        ensures mask { (codewords : List ℕ) → Places self.now codewords → result.mask
+            ≡ chosen_mask self.now.version self.now.level None codewords }
+        ensures modules { (codewords : List ℕ) → Places self.now codewords
+            → ShowsSymbol self.now codewords result }
+        ensures bound { result.mask < 8 }
     {
-        let mut best = 0;
-        let mut least = self.penalty_under(0);
+        let mut best = self.under(0);
+        let mut lowest = self.penalty_of(&best);
         for mask in 1..8 {
-            let next = self.penalty_under(mask);
-            if next < least {
-                least = next;
-                best = mask;
+            let next = self.under(mask);
+            let penalty = self.penalty_of(&next);
+            if penalty < lowest {
+                lowest = penalty;
+                best = next;
             }
         }
         best

@@ -1,8 +1,10 @@
--- The plan of the least version in a range (ISO/IEC 18004, 7.4.1).
+-- The plan of the smallest version in a range (ISO/IEC 18004, 7.4.1).
 use Rattle.std.specs.Prelude.{◌≡◌, ℕ, ◌<◌, ◌≤◌, List, ◌∷◌, length, drop, slice_get, Some}
 use Rattle.qrdata.specs.declared.level.Level.{Level}
 use Rattle.qrdata.specs.declared.mode.Mode.{Mode}
 use Rattle.qrdata.specs.declared.mode.Segment.{Segment}
+use Rattle.qrdata.specs.declared.plan.TheConstants.{MAX_SEGMENTS}
+use Rattle.qrdata.specs.declared.segmentation.TheConstants.{MAX_BYTES}
 use Rattle.qrdata.specs.Fewest.{chosen_segments}
 use Rattle.qrdata.specs.PlanView.{PlanView}
 use Rattle.qrdata.specs.Segments.{cost, count_width}
@@ -16,7 +18,7 @@ SameWidths v w = (mode : Mode) → count_width v mode ≡ count_width w mode
 abbrev pub DoNotFit : ℕ → Level → List ℕ → Type 0
 DoNotFit version level bytes = capacity version level < cost version (chosen_segments version bytes)
 
--- the plan has the least version in a range in which the best segments of the bytes fit, and it has these segments
+-- the plan has the smallest version in a range in which the best segments of the bytes fit, and it has these segments
 pub record IsSmallestPlan (lowest highest : ℕ) (level : Level) (bytes : List ℕ) (plan : PlanView) : Type 0 where
   pub from : lowest ≤ plan.version
   pub to : plan.version ≤ highest
@@ -24,7 +26,7 @@ pub record IsSmallestPlan (lowest highest : ℕ) (level : Level) (bytes : List �
   pub same_bytes : plan.bytes ≡ bytes
   pub same_segments : plan.segments ≡ chosen_segments plan.version bytes
   pub fits : cost plan.version (chosen_segments plan.version bytes) ≤ capacity plan.version level
-  pub least : (v : ℕ) → lowest ≤ v → v < plan.version → DoNotFit v level bytes
+  pub smallest : (v : ℕ) → lowest ≤ v → v < plan.version → DoNotFit v level bytes
 
 -- in no version of a range do the best segments of the bytes fit
 abbrev pub NoPlan : (lowest highest : ℕ) → Level → List ℕ → Type 0
@@ -36,3 +38,15 @@ NamesBest version bytes limit firsts =
     (k : ℕ) → k < length bytes → cost version (chosen_segments version (drop k bytes)) ≤ limit
     → (first : Segment) → slice_get firsts k ≡ Some first
     → first ∷ chosen_segments version (drop first.len (drop k bytes)) ≡ chosen_segments version (drop k bytes)
+
+-- a table with a place for each byte, which names the best first segments of the bytes and of their rests
+pub record IsTable (version : ℕ) (bytes : List ℕ) (limit : ℕ) (firsts : List Segment) : Type 0 where
+  pub few : length bytes ≤ MAX_BYTES
+  pub size : length firsts ≡ MAX_BYTES
+  pub named : NamesBest version bytes limit firsts
+
+-- the segments have so many bits, these fit the version, and there is room for the segments in a plan
+pub record FitsBits (version : ℕ) (level : Level) (bits : ℕ) (segments : List Segment) : Type 0 where
+  pub value : bits ≡ cost version segments
+  pub fits : bits ≤ capacity version level
+  pub short : length segments ≤ MAX_SEGMENTS

@@ -6,11 +6,13 @@ use Rattle.qrmatrix.specs.Bits.{bit}
 use Rattle.qrmatrix.specs.Functions.{Role, Function, Format, Version, Free, role, is_free}
 use Rattle.qrmatrix.specs.Information.{format_information, version_information}
 use Rattle.qrmatrix.specs.Masks.{is_flipped, flip_if}
+use Rattle.qrmatrix.specs.Modules.{module_at}
 use Rattle.qrmatrix.specs.Placement.{codeword_bit, rank}
 use Rattle.qrmatrix.specs.Square.{value_at}
 use Rattle.qrmatrix.specs.Private.Squares.{SameOutside}
 use Rattle.qrmatrix.specs.declared.function.PatternRow.{PatternRow}
 use Rattle.qrmatrix.specs.declared.unmasked.Unmasked.{Unmasked}
+use Rattle.qrmatrix.specs.declared.unmasked.Masked.{Masked}
 
 -- the square marks the modules that the codewords do not choose
 abbrev pub MarksFunctions : ℕ → List (List Bool) → Type 0
@@ -29,14 +31,14 @@ unmasked_module v (Format i) = false
 unmasked_module v (Version i) = bit (version_information v) i
 unmasked_module v Free = false
 
--- the words of a row have the modules that the codewords do not choose, and those of them that are dark
+-- the bits of a row have the modules that the codewords do not choose, and those of them that are dark
 pub record HasFunctions (v y : ℕ) (row : PatternRow) : Type 0 where
   pub taken : (x : ℕ) → x < side_of v → bit row.taken x ≡ not (is_free v x y)
   pub dark : (x : ℕ) → x < side_of v → bit row.dark x ≡ unmasked_module v (role v x y)
   pub narrow_taken : row.taken < 2 ^ side_of v
   pub narrow_dark : row.dark < 2 ^ side_of v
 
--- the module that the format word makes dark
+-- the module that the format information makes dark
 abbrev pub format_module : ℕ → Role → Bool
 format_module information (Function b) = false
 format_module information (Format i) = bit information i
@@ -57,8 +59,33 @@ pub record IsUnmasked (v : ℕ) (codewords : List ℕ) (function modules : List 
 abbrev pub Places : Unmasked → List ℕ → Type 0
 Places unmasked codewords = IsUnmasked unmasked.version codewords unmasked.function unmasked.modules
 
+-- a drawing of the codewords of a symbol, without a mask
+pub record Draws (v : ℕ) (level : Level) (codewords : List ℕ) (unmasked : Unmasked) : Type 0 where
+  pub same_version : unmasked.version ≡ v
+  pub same_level : unmasked.level ≡ level
+  pub placed : Places unmasked codewords
+
+-- the modules under a mask are those of the symbol
+abbrev pub ShowsSymbol : Unmasked → List ℕ → Masked → Type 0
+ShowsSymbol unmasked codewords masked =
+    (x y : ℕ) → value_at masked.modules x y ≡ module_at unmasked.version unmasked.level masked.mask codewords x y
+
 -- the modules of the format information are drawn for a mask, where they were light
 pub record ShowsFormat (v : ℕ) (level : Level) (mask : ℕ) (old new : List (List Bool)) : Type 0 where
   pub inside : (x y : ℕ) → x < side_of v → y < side_of v
       → value_at new x y ≡ flip_if (format_module (format_information level mask) (role v x y)) (value_at old x y)
+  pub outside : SameOutside (side_of v) old new
+
+-- the codewords are placed on the free modules, and nothing else is written
+pub record PlacesCodewords (v : ℕ) (codewords : List ℕ) (old new : List (List Bool)) : Type 0 where
+  pub placed : (x y : ℕ) → x < side_of v → y < side_of v → is_free v x y ≡ true
+      → value_at new x y ≡ codeword_bit codewords (rank v x y)
+  pub others : (x y : ℕ) → x < side_of v → y < side_of v → is_free v x y ≡ false → value_at new x y ≡ value_at old x y
+  pub outside : SameOutside (side_of v) old new
+
+-- the function patterns are drawn: the modules that the codewords do not choose are marked, and those of them that are
+-- dark are drawn
+pub record DrawsFunctions (v : ℕ) (function old new : List (List Bool)) : Type 0 where
+  pub marked : MarksFunctions v function
+  pub drawn : (x y : ℕ) → x < side_of v → y < side_of v → value_at new x y ≡ unmasked_module v (role v x y)
   pub outside : SameOutside (side_of v) old new

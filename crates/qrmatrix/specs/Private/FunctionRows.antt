@@ -1,5 +1,5 @@
--- What the patterns of a symbol have of each row, as words: bit x is the module at column x (ISO/IEC 18004, 6.3, 7.9
--- and 7.10).
+-- What the patterns of a symbol have in each row, 64 bits a row: bit x is the module at column x (ISO/IEC 18004, 6.3,
+-- 7.9 and 7.10).
 use Rattle.std.specs.Prelude.{ℕ, ◌+◌, ◌-◌, ◌*◌, ◌/◌, ◌%◌, ◌^◌, ◌&&◌, ◌||◌, ◌==◌, nat_lt, nat_le, not, if◌then◌else◌}
 use Rattle.std.specs.Prelude.{bit_and, bit_or, slice_index}
 use Rattle.std.specs.Int.{bit_not, reverse_bits, w32, w64}
@@ -12,7 +12,7 @@ use Rattle.qrmatrix.specs.declared.function.TheConstants.{CENTRES, EVERY_OTHER, 
 abbrev pub pattern_row : ℕ → ℕ → PatternRow
 pattern_row taken dark = record { taken = taken; dark = dark }
 
--- a word moved up by k places
+-- a row moved up by k places
 abbrev pub up : ℕ → ℕ → ℕ
 up w k = w * 2 ^ k % 2 ^ 64
 
@@ -30,7 +30,7 @@ finders n y =
     else (if nat_le (n - 8) y then pattern_row 0xFF (slice_index FINDER (n - 1 - y))
     else pattern_row 0 0)
 
--- the row of an alignment pattern that comes to lie in a row, where these are the centres
+-- the row of an alignment pattern that lies in a row, where these are the centres
 unfoldable pub alignment_row : ℕ → ℕ → PatternRow
 alignment_row centres y =
     let near = bit_and (up centres 2 / 2 ^ y) 31 in
@@ -71,7 +71,7 @@ formats n y =
     else (if nat_lt y 8 || nat_lt (n - 8) y then pattern_row 256 0
     else pattern_row 0 0))
 
--- the bits 0, 3, 6, .. of a word of 18 bits
+-- the bits 0, 3, 6, 9, 12 and 15 of the version information
 unfoldable pub every_third : ℕ → ℕ
 every_third w =
     let low_three = bit_or (bit_or (bit_and w 1) (bit_and (w / 2 ^ 2) 2)) (bit_and (w / 2 ^ 4) 4) in
@@ -95,7 +95,7 @@ function_row v y =
     let n = side_of v in
     or_else (or_else (or_else (or_else (finders n y) (alignments v y)) (timing n y)) (formats n y)) (versions v y)
 
--- the modules that show a one of the format word
+-- the modules that show a one of the format information
 unfoldable pub format_row : ℕ → ℕ → ℕ → ℕ
 format_row n information y =
     if y == 8

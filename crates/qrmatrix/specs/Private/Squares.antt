@@ -2,6 +2,7 @@
 use Rattle.std.specs.Prelude.{◌≡◌, ◌≤◌, ◌+◌, ℕ, Bool, false, List, if◌then◌else◌, ◌==◌, ◌&&◌}
 use Rattle.qrmatrix.specs.Modules.{is_inside}
 use Rattle.qrmatrix.specs.Square.{value_at}
+use Rattle.qrmatrix.specs.declared.square.TheConstants.{SIDE}
 
 -- new is old with a value written at column x and row y
 abbrev pub WritesAt : List (List Bool) → List (List Bool) → ℕ → ℕ → Bool → Type 0
@@ -22,3 +23,11 @@ IsWithin n rows = (x y : ℕ) → is_inside n x y ≡ false → value_at rows x 
 pub record SameOutside (n : ℕ) (old new : List (List Bool)) : Type 0 where
   pub columns : (x y : ℕ) → n ≤ x → value_at new x y ≡ value_at old x y
   pub rows : (x y : ℕ) → n ≤ y → value_at new x y ≡ value_at old x y
+
+-- no value is true
+abbrev pub IsBlank : List (List Bool) → Type 0
+IsBlank rows = (x y : ℕ) → value_at rows x y ≡ false
+
+-- a side has room for a finder pattern with four light modules, and is one of a symbol
+abbrev pub IsSide : ℕ → Type 0
+IsSide n = (11 ≤ n) × (n ≤ SIDE)

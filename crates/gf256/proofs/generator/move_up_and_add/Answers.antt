@@ -9,7 +9,7 @@ returns c = λ k h.
     moved_last (λ j. field_product (field_power alpha c.args.logarithm)
     (field_power alpha (get_or c.args.logarithms.now j 0)))
     c.args.register.now c.loop-j.register last c.product_of_powers-2.result k
-    c.loop-j.auto.register (omega (arith, c.requires.some, c.requires.same))
+    c.loop-j.auto.register (omega (arith, c.requires))
     (λ j below. c.loop-j.invariant.written j (omega (arith, c.loop-j-test.false)))
     c.product_of_powers-2.ensures
     (omega (arith, length-set c.loop-j.register last c.product_of_powers-2.result))

@@ -5,7 +5,7 @@ use Rattle.std.specs.Char.{IsAsciiDigit}
 use Rattle.linear.specs.Digits.{digit_value}
 use Rattle.linear.specs.Ean.{left_sets, symbol, ean13_row}
 use Rattle.linear.proofs.PatternLaws.{length-left_sets}
-use Rattle.linear.proofs.TableForms.{sets_of_left, read_left_sets}
+use Rattle.linear.proofs.TableLaws.{sets_of_left, sets_of_left-left_sets}
 use Rattle.linear.proofs.ean.push_ean13.Goals as goal
 
 first_below : (full : List ℕ) → length full ≡ 13 → All IsAsciiDigit full → get_or full 0 0 - 48 < 10
@@ -13,7 +13,7 @@ first_below full long all = let d = all 0 0 (omega arith) in omega arith
 
 same_left : (left : List ℕ) (i digit : ℕ) → i ≡ digit → digit < 10 → length left ≡ 6
     → length (get_or sets_of_left i []) ≡ length left
-same_left left i digit e h six = ap length (read_left_sets i digit [] e h) ∙ length-left_sets digit h ∙ sym six
+same_left left i digit e h six = ap length (sets_of_left-left_sets i digit [] e h) ∙ length-left_sets digit h ∙ sym six
 
 -- the halves that the code cuts
 symbol_is : (full left right : List ℕ) (i : ℕ) → length full ≡ 13 → i ≡ get_or full 0 0 - 48
@@ -24,17 +24,21 @@ symbol_is [] left right i long e h l r = absurd (omega arith)
 symbol_is (first ∷ rest) left right i long e h l r =
     let whole = take_all (length (first ∷ rest) - 1) rest (omega arith) in
     let sets = left_sets (digit_value first) in
-    ap (λ s. symbol s left right) (read_left_sets i (digit_value first) [] e h)
+    ap (λ s. symbol s left right) (sets_of_left-left_sets i (digit_value first) [] e h)
     ∙ ap (λ s. symbol sets s right) (l ∙ ap (λ xs. take 6 xs) whole)
     ∙ ap (λ s. symbol sets (take 6 rest) s) (r ∙ ap (λ xs. drop 6 xs) whole)
 
 pub push_symbol-requires-clause-same : goal.push_symbol-requires-clause-same
 unfolding sets_of_left
 push_symbol-requires-clause-same c = same_left _ c.from.result _ c.from.ensures
-    (first_below c.args.full.now c.requires.len c.requires.digits) c.split_at.ensures.front_len
+    (first_below c.args.full.now c.requires.digits.long c.requires.digits.digits) c.split_at.ensures.front_len
 
-pub returns-clause-drawn : goal.returns-clause-drawn
+pub returns : goal.returns
 unfolding sets_of_left
-returns-clause-drawn c = c.push_symbol.ensures.drawn ∙ ap (λ bars. c.args.row.now.items ++ bars)
-    (symbol_is c.args.full.now _ _ c.from.result c.requires.len c.from.ensures
-    (first_below c.args.full.now c.requires.len c.requires.digits) c.split_at.ensures.front c.split_at.ensures.back)
+returns c = record {
+  items = c.push_symbol.ensures.items ∙ ap (λ row. c.args.row.now.items ++ row)
+      (symbol_is c.args.full.now _ _ c.from.result c.requires.digits.long c.from.ensures
+      (first_below c.args.full.now c.requires.digits.long c.requires.digits.digits) c.split_at.ensures.front
+      c.split_at.ensures.back);
+  len = c.push_symbol.ensures.len;
+}

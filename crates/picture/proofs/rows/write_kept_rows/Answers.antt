@@ -1,10 +1,16 @@
-use Rattle.std.proofs.Common.{◌≡◌, ◌<◌, ◌++◌, ◌∙◌, ℕ, List, ap, sym, refl, subst, arith, flat_map, take}
-use Rattle.device.proofs.WritingLaws.{HasWritten, HasWritten-none, HasWritten-more, WritesText-fails}
-use Rattle.device.proofs.WritingLaws.{WritesText-whole}
-use Rattle.picture.specs.Private.Rows.{row_text}
+use Rattle.std.proofs.Common.{◌≡◌, ◌<◌, ◌∙◌, ℕ, Bool, List, [], ap, sym, refl, subst, arith, flat_map, take, append-nil}
+use Rattle.device.proofs.WritingLaws.{HasWritten, HasWritten-none, WritesText-whole}
+use Rattle.picture.specs.Picture.{Picture}
+use Rattle.picture.specs.Private.Rows.{KeepsRows, row_text}
 use Rattle.picture.specs.Text.{below, pixel_row}
-use Rattle.picture.proofs.WritingLaws.{flat_map-below_front, flat_map-below_more}
+use Rattle.picture.proofs.WritingLoopLaws.{HasWritten-below_more, WritesText-below_fails}
 use Rattle.picture.proofs.rows.write_kept_rows.Goals as goal
+
+-- the text of the row that is kept
+kept_text : (text : List Bool → List ℕ) (p : Picture) (y next width : ℕ) (kept : List Bool) → width ≡ p.width
+    → KeepsRows p y next kept → y < next → text (take width kept) ≡ text (pixel_row p y)
+kept_text text p y next width kept same keeps further =
+    ap (λ (n : ℕ). text (take n kept)) same ∙ ap text (keeps.rows y (omega arith) further)
 
 pub loop-y-init : goal.loop-y-init
 loop-y-init g c = record {
@@ -16,36 +22,24 @@ loop-y-init g c = record {
 pub returns-in_err-write_row : goal.returns-in_err-write_row
 returns-in_err-write_row g c =
     let p = g.G.Grid.picture c.args.grid.now in
-    let y = c.loop-y.y in
     let text = row_text g.T.PixelText.text g.T.PixelText.row_end in
-    let row : ℕ → List ℕ = λ y. text (pixel_row p y) in
-    let inside : y < p.height = omega (arith, c.height-y-end.ensures) in
-    let front = flat_map-below_front row y p.height inside in
-    let kept = c.read_next_rows-next.new.kept in
     let e = c.read_next_rows-next.ensures in
-    let held : text (take c.width-width.result kept) ≡ row y =
-    ap (λ (n : ℕ). text (take n kept)) c.width-width.ensures ∙ ap text (e.kept.rows y (omega arith) e.further) in
-    WritesText-fails g.S.Sink g.met.S.Sink.took_joined _ _ _ (flat_map row (below y)) _ front.0 _ c.from_residual.result
-    c.from_residual.ensures.0 (front.1 ∙ ap (λ (t : List ℕ). (flat_map row (below y) ++ t) ++ front.0) (sym held))
-    c.loop-y.invariant.written c.in_err-write_row.ensures
+    WritesText-below_fails g.S.Sink g.met.S.Sink.took_joined (λ y. text (pixel_row p y)) _ _ _ c.loop-y.y _
+    (kept_text text p _ _ _ _ c.width-width.ensures e.kept e.further) c.loop-y.invariant.written p.height [] _
+    c.from_residual.result c.from_residual.ensures.0 (omega (arith, c.height-y-end.ensures)) (sym (append-nil _))
+    c.in_err-write_row.ensures
 
 pub loop-y-preserved : goal.loop-y-preserved
 loop-y-preserved g c =
     let p = g.G.Grid.picture c.args.grid.now in
-    let y = c.loop-y.y in
     let text = row_text g.T.PixelText.text g.T.PixelText.row_end in
-    let row : ℕ → List ℕ = λ y. text (pixel_row p y) in
     let h = c.loop-y.invariant in
-    let kept = c.read_next_rows-next.new.kept in
     let e = c.read_next_rows-next.ensures in
-    let held : text (take c.width-width.result kept) ≡ row y =
-    ap (λ (n : ℕ). text (take n kept)) c.width-width.ensures ∙ ap text (e.kept.rows y (omega arith) e.further) in
     record {
       keeps = record { fits = e.kept.fits; rows = λ k low high. e.kept.rows k (omega arith) high };
       size = e.size ∙ h.size;
-      written = HasWritten-more g.S.Sink g.met.S.Sink.took_joined _ _ _ (flat_map row (below y)) _ _
-          (ap (λ (t : List ℕ). flat_map row (below y) ++ t) held ∙ sym (flat_map-below_more row y))
-          h.written c.in_ok-write_row.ensures;
+      written = HasWritten-below_more g.S.Sink g.met.S.Sink.took_joined (λ y. text (pixel_row p y)) _ _ _ c.loop-y.y _
+          (kept_text text p _ _ _ _ c.width-width.ensures e.kept e.further) h.written c.in_ok-write_row.ensures;
     }
 
 pub returns : goal.returns

@@ -1,4 +1,4 @@
-use Rattle.std.proofs.Common.{◌≡◌, ◌<◌, ◌≤◌, ℕ, flat_map, take, length}
+use Rattle.std.proofs.Common.{◌≡◌, ℕ, flat_map, length}
 use Rattle.device.proofs.WritingLaws.{HasWritten}
 use Rattle.picture.specs.Private.Rows.{KeepsRows, row_text}
 use Rattle.picture.specs.Text.{below, pixel_row}

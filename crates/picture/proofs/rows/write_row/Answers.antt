@@ -1,10 +1,11 @@
-use Rattle.std.proofs.Common.{◌≡◌, ◌++◌, ◌<◌, ℕ, List, flat_map, length, take, ap, sym, ◌∙◌, arith, append_assoc}
+use Rattle.std.proofs.Common.{◌≡◌, ◌++◌, ℕ, List, flat_map, length, take, ap, refl, ◌∙◌, arith}
 use Rattle.std.specs.Int.{div_ceil}
 use Rattle.std.proofs.lemmas.List.{length-take-le}
-use Rattle.device.proofs.WritingLaws.{HasWritten-none, HasWritten-more, WritesText-fails, WritesText-last}
+use Rattle.device.proofs.WritingLaws.{HasWritten-none, WritesText-last}
 use Rattle.picture.specs.Private.Rows.{piece}
 use Rattle.picture.specs.Text.{below}
-use Rattle.picture.proofs.WritingLaws.{flat_map-below_front, flat_map-below_more, piece_held}
+use Rattle.picture.proofs.WritingLaws.{piece_held}
+use Rattle.picture.proofs.WritingLoopLaws.{HasWritten-below_more, WritesText-below_fails}
 use Rattle.picture.proofs.rows.write_row.Goals as goal
 
 pub loop-k-init : goal.loop-k-init
@@ -13,34 +14,21 @@ loop-k-init g c = record { written = HasWritten-none g.S.Sink c.args.sink.now (g
 pub returns-in_err-write_piece : goal.returns-in_err-write_piece
 returns-in_err-write_piece g c =
     let k = c.loop-k.k in
-    let kept = c.args.kept.now in
-    let row = take c.args.width kept in
-    let piece_text : ℕ → List ℕ = λ k. g.T.PixelText.text (piece row k) in
-    let end = g.T.PixelText.row_end in
-    let size : length row ≡ c.args.width = length-take-le c.args.width kept c.requires.fits in
-    let inside : k < div_ceil (length row) 70 = omega arith in
-    let front = flat_map-below_front piece_text k (div_ceil (length row) 70) inside in
-    let text : flat_map piece_text (below (div_ceil (length row) 70)) ++ end
-    ≡ (flat_map piece_text (below k) ++ piece_text k) ++ (front.0 ++ end) =
-    ap (λ (t : List ℕ). t ++ end) front.1 ∙ append_assoc (flat_map piece_text (below k) ++ piece_text k) front.0 end in
-    let held = ap g.T.PixelText.text (piece_held kept c.args.width k c.min.result (omega arith) c.requires.fits
-    (omega arith)) in
-    WritesText-fails g.S.Sink g.met.S.Sink.took_joined _ _ _ (flat_map piece_text (below k)) _ (front.0 ++ end) _
-    c.from_residual.result c.from_residual.ensures.0
-    (text ∙ ap (λ (t : List ℕ). (flat_map piece_text (below k) ++ t) ++ (front.0 ++ end)) (sym held))
-    c.loop-k.invariant.written c.in_err-write_piece.ensures
+    let row = take c.args.width c.args.kept.now in
+    let size : length row ≡ c.args.width = length-take-le c.args.width c.args.kept.now c.requires.fits in
+    WritesText-below_fails g.S.Sink g.met.S.Sink.took_joined (λ k. g.T.PixelText.text (piece row k)) _ _ _ k _
+    (ap g.T.PixelText.text (piece_held c.args.kept.now c.args.width k c.min.result (omega arith) c.requires.fits
+    (omega arith))) c.loop-k.invariant.written (div_ceil (length row) 70) g.T.PixelText.row_end _
+    c.from_residual.result c.from_residual.ensures.0 (omega arith) refl c.in_err-write_piece.ensures
 
 pub loop-k-preserved : goal.loop-k-preserved
 loop-k-preserved g c =
     let k = c.loop-k.k in
-    let kept = c.args.kept.now in
-    let piece_text : ℕ → List ℕ = λ k. g.T.PixelText.text (piece (take c.args.width kept) k) in
-    let held = ap g.T.PixelText.text (piece_held kept c.args.width k c.min.result (omega arith) c.requires.fits
-    (omega arith)) in
+    let row = take c.args.width c.args.kept.now in
     record {
-      written = HasWritten-more g.S.Sink g.met.S.Sink.took_joined _ _ _ (flat_map piece_text (below k)) _ _
-          (ap (λ (t : List ℕ). flat_map piece_text (below k) ++ t) held ∙ sym (flat_map-below_more piece_text k))
-          c.loop-k.invariant.written c.in_ok-write_piece.ensures;
+      written = HasWritten-below_more g.S.Sink g.met.S.Sink.took_joined (λ k. g.T.PixelText.text (piece row k)) _ _ _ k _
+          (ap g.T.PixelText.text (piece_held c.args.kept.now c.args.width k c.min.result (omega arith) c.requires.fits
+          (omega arith))) c.loop-k.invariant.written c.in_ok-write_piece.ensures;
     }
 
 pub returns : goal.returns

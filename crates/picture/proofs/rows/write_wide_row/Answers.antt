@@ -1,10 +1,10 @@
-use Rattle.std.proofs.Common.{◌≡◌, ◌++◌, ◌<◌, ℕ, List, flat_map, length, ap, sym, ◌∙◌, arith, append_assoc}
+use Rattle.std.proofs.Common.{◌≡◌, ◌++◌, ℕ, List, flat_map, length, ap, refl, ◌∙◌, arith}
 use Rattle.std.specs.Int.{div_ceil}
 use Rattle.std.proofs.lemmas.List.FromFn.{length-map-range_with_len}
-use Rattle.device.proofs.WritingLaws.{HasWritten-none, HasWritten-more, WritesText-fails, WritesText-last}
+use Rattle.device.proofs.WritingLaws.{HasWritten-none, WritesText-last}
 use Rattle.picture.specs.Private.Rows.{piece}
 use Rattle.picture.specs.Text.{below, pixel_row}
-use Rattle.picture.proofs.WritingLaws.{flat_map-below_front, flat_map-below_more}
+use Rattle.picture.proofs.WritingLoopLaws.{HasWritten-below_more, WritesText-below_fails}
 use Rattle.picture.proofs.rows.write_wide_row.Goals as goal
 
 pub loop-k-init : goal.loop-k-init
@@ -12,28 +12,19 @@ loop-k-init g c = record { written = HasWritten-none g.S.Sink c.args.sink.now (g
 
 pub returns-in_err-write_wide_piece : goal.returns-in_err-write_wide_piece
 returns-in_err-write_wide_piece g c =
-    let k = c.loop-k.k in
     let p = g.G.Grid.picture c.args.grid.now in
     let row = pixel_row p c.args.y in
-    let piece_text : ℕ → List ℕ = λ k. g.T.PixelText.text (piece row k) in
-    let end = g.T.PixelText.row_end in
     let size : length row ≡ p.width = length-map-range_with_len (λ x. p.dark x c.args.y) 0 p.width in
-    let inside : k < div_ceil (length row) 70 = omega (arith, c.width.ensures) in
-    let front = flat_map-below_front piece_text k (div_ceil (length row) 70) inside in
-    let text : flat_map piece_text (below (div_ceil (length row) 70)) ++ end
-    ≡ (flat_map piece_text (below k) ++ piece_text k) ++ (front.0 ++ end) =
-    ap (λ (t : List ℕ). t ++ end) front.1 ∙ append_assoc (flat_map piece_text (below k) ++ piece_text k) front.0 end in
-    WritesText-fails g.S.Sink g.met.S.Sink.took_joined _ _ _ (flat_map piece_text (below k)) (piece_text k) (front.0 ++ end) _
-    c.from_residual.result c.from_residual.ensures.0 text c.loop-k.invariant.written c.in_err-write_wide_piece.ensures
+    WritesText-below_fails g.S.Sink g.met.S.Sink.took_joined (λ k. g.T.PixelText.text (piece row k)) _ _ _ c.loop-k.k _
+    refl c.loop-k.invariant.written (div_ceil (length row) 70) g.T.PixelText.row_end _ c.from_residual.result
+    c.from_residual.ensures.0 (omega (arith, c.width.ensures)) refl c.in_err-write_wide_piece.ensures
 
 pub loop-k-preserved : goal.loop-k-preserved
 loop-k-preserved g c =
-    let k = c.loop-k.k in
-    let p = g.G.Grid.picture c.args.grid.now in
-    let piece_text : ℕ → List ℕ = λ k. g.T.PixelText.text (piece (pixel_row p c.args.y) k) in
+    let row = pixel_row (g.G.Grid.picture c.args.grid.now) c.args.y in
     record {
-      written = HasWritten-more g.S.Sink g.met.S.Sink.took_joined _ _ _ (flat_map piece_text (below k)) (piece_text k) _
-          (sym (flat_map-below_more piece_text k)) c.loop-k.invariant.written c.in_ok-write_wide_piece.ensures;
+      written = HasWritten-below_more g.S.Sink g.met.S.Sink.took_joined (λ k. g.T.PixelText.text (piece row k)) _ _ _
+          c.loop-k.k _ refl c.loop-k.invariant.written c.in_ok-write_wide_piece.ensures;
     }
 
 pub returns : goal.returns

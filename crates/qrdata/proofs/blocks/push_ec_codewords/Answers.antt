@@ -12,7 +12,7 @@ loop-size-preserved c =
     let sums = sum_by-drop_more (λ x. x) c.args.lengths.now c.loop-size.size-index 0 c.loop-size-test.true in (
       rw (c.push_block_ec_codewords.ensures.codewords, piece, append_assoc) (rw next at c.loop-size.invariant.0),
       omega (arith, sums, c.loop-size.invariant.1),
-      omega (arith, c.push_block_ec_codewords.ensures.len, c.requires.high),
+      omega (arith, c.push_block_ec_codewords.ensures.len, c.requires.count.1),
     )
 
 pub returns : goal.returns

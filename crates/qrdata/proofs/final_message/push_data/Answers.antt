@@ -14,7 +14,7 @@ push_segments-requires-clause-room c =
     omega (
       arith,
       ap length c.requires.empty,
-      c.requires.fits,
+      c.requires.plan.fits,
       capacity-le c.args.level c.args.version c.known.ensures.0 c.known.ensures.1,
     )
 
@@ -26,9 +26,9 @@ end-requires c =
       fits = omega (
         arith,
         ap length whole,
-        c.requires.fits,
+        c.requires.plan.fits,
         c.data_codewords-size.ensures,
-        length-segments_bits c.args.version c.args.segments.now c.args.bytes.now c.requires.cut,
+        length-segments_bits c.args.version c.args.segments.now c.args.bytes.now c.requires.plan.cut,
       );
       size = omega (
         arith,
@@ -46,11 +46,13 @@ returns c =
     let ended : bits_in c.end.new.self ≡ with_zeros (with_terminator (8 * size) bits) =
     rw (c.end.ensures.bits, whole, c.data_codewords-size.ensures) refl in
     let codewords : c.end.new.self.codewords.items
-    ≡ codewords_of (length (with_zeros (with_terminator (8 * size) bits)) / 8) (with_zeros (with_terminator (8 * size) bits)) =
+    ≡ codewords_of (length (with_zeros (with_terminator (8 * size) bits)) / 8) (with_zeros (with_terminator
+    (8 * size) bits)) =
     c.end.ensures.codewords ∙ ap (λ l. codewords_of (length l / 8) l) ended in
     let count : c.len.result ≡ length (with_zeros (with_terminator (8 * size) bits)) / 8 =
     c.len.ensures.value ∙ (ap length codewords
-    ∙ length-codewords_of (length (with_zeros (with_terminator (8 * size) bits)) / 8) (with_zeros (with_terminator (8 * size) bits))) in
+    ∙ length-codewords_of (length (with_zeros (with_terminator (8 * size) bits)) / 8) (with_zeros (with_terminator
+    (8 * size) bits))) in
     rw (c.push_padding.ensures, count, codewords, c.data_codewords-size.ensures) refl
 
 pub push_padding-requires : goal.push_padding-requires

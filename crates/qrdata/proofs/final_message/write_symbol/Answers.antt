@@ -1,95 +1,56 @@
-use Rattle.std.proofs.Common.{◌≡◌, ◌*◌, length, replicate, arith, ap, refl, sym, ◌∙◌}
+use Rattle.std.proofs.Common.{◌≡◌, ◌*◌, length, arith, ap, refl, sym, ◌∙◌}
 use Rattle.qrdata.specs.Codewords.{final_message, split_by}
 use Rattle.qrdata.specs.Versions.{block_lengths, ec_codewords_per_block}
 use Rattle.std.specs.List.{flat_map}
 use Rattle.gf256.specs.ErrorCorrection.{ec_codewords_of}
 use Rattle.std.proofs.lemmas.List.Folds.{sum_by-replicate}
 use Rattle.qrdata.proofs.BlockStepLaws.{length-interleaving-split_by}
-use Rattle.qrdata.proofs.WriterLaws.{AreBytes-slice, HasBlocks-message}
 use Rattle.qrdata.proofs.final_message.write_symbol.Goals as goal
 
-pub push_ec_codewords-requires-clause-low : goal.push_ec_codewords-requires-clause-low
-push_ec_codewords-requires-clause-low c =
-    let blocks = HasBlocks-message c.args.version c.args.level c.args.message.now c.known.ensures.0 c.known.ensures.1
-    c.ec_codewords_are_sound.ensures.remainder c.ec_codewords_are_sound.ensures.roots
-    (AreBytes-slice c.args.message.now (λ i. omega (arith, c.type_inv.message i))) c.requires.whole in
-    omega (arith, c.ec_codewords_per_block-count.ensures, blocks.some_ec_codewords)
+pub push_ec_codewords-requires-clause-count : goal.push_ec_codewords-requires-clause-count
+push_ec_codewords-requires-clause-count c = (
+  omega (arith, c.ec_codewords_per_block-count.ensures, c.have_blocks.ensures.some_ec_codewords),
+  omega (arith, c.ec_codewords_per_block-count.ensures, c.have_blocks.ensures.few_ec_codewords),
+)
 
-pub push_ec_codewords-requires-clause-high : goal.push_ec_codewords-requires-clause-high
-push_ec_codewords-requires-clause-high c =
-    let blocks = HasBlocks-message c.args.version c.args.level c.args.message.now c.known.ensures.0 c.known.ensures.1
-    c.ec_codewords_are_sound.ensures.remainder c.ec_codewords_are_sound.ensures.roots
-    (AreBytes-slice c.args.message.now (λ i. omega (arith, c.type_inv.message i))) c.requires.whole in
-    omega (arith, c.ec_codewords_per_block-count.ensures, blocks.few_ec_codewords)
-
-pub push_ec_codewords-requires-clause-whole : goal.push_ec_codewords-requires-clause-whole
-push_ec_codewords-requires-clause-whole c =
-    let blocks = HasBlocks-message c.args.version c.args.level c.args.message.now c.known.ensures.0 c.known.ensures.1
-    c.ec_codewords_are_sound.ensures.remainder c.ec_codewords_are_sound.ensures.roots
-    (AreBytes-slice c.args.message.now (λ i. omega (arith, c.type_inv.message i))) c.requires.whole in
-    rw (c.as_slice.ensures.value, c.lengths-lengths.ensures) blocks.whole
+pub push_ec_codewords-requires-clause-blocks : goal.push_ec_codewords-requires-clause-blocks
+push_ec_codewords-requires-clause-blocks c = (
+  rw (c.as_slice.ensures.value, c.lengths-lengths.ensures) c.have_blocks.ensures.whole,
+  omega arith,
+)
 
 pub interleave-requires-clause-whole : goal.interleave-requires-clause-whole
-interleave-requires-clause-whole c =
-    let blocks = HasBlocks-message c.args.version c.args.level c.args.message.now c.known.ensures.0 c.known.ensures.1
-    c.ec_codewords_are_sound.ensures.remainder c.ec_codewords_are_sound.ensures.roots
-    (AreBytes-slice c.args.message.now (λ i. omega (arith, c.type_inv.message i))) c.requires.whole in
-    rw (c.as_slice-2.ensures.value, c.lengths-lengths.ensures) blocks.whole
+interleave-requires-clause-whole c = rw (c.as_slice-2.ensures.value, c.lengths-lengths.ensures) c.have_blocks.ensures.whole
 
 pub interleave-requires-clause-room : goal.interleave-requires-clause-room
-interleave-requires-clause-room c =
-    let blocks = HasBlocks-message c.args.version c.args.level c.args.message.now c.known.ensures.0 c.known.ensures.1
-    c.ec_codewords_are_sound.ensures.remainder c.ec_codewords_are_sound.ensures.roots
-    (AreBytes-slice c.args.message.now (λ i. omega (arith, c.type_inv.message i))) c.requires.whole in
-    omega (arith, ap length c.clear.ensures, blocks.total)
+interleave-requires-clause-room c = omega (arith, ap length c.clear.ensures, c.have_blocks.ensures.total)
 
 pub interleave-requires-2-clause-whole : goal.interleave-requires-2-clause-whole
 interleave-requires-2-clause-whole c =
     let k = ec_codewords_per_block c.args.version c.args.level in
-    let lengths = block_lengths c.args.version c.args.level in
-    let all = split_by (block_lengths c.args.version c.args.level) c.args.message.now in
-    let blocks = HasBlocks-message c.args.version c.args.level c.args.message.now c.known.ensures.0 c.known.ensures.1
-    c.ec_codewords_are_sound.ensures.remainder c.ec_codewords_are_sound.ensures.roots
-    (AreBytes-slice c.args.message.now (λ i. omega (arith, c.type_inv.message i))) c.requires.whole in
-    let rooms : c.as_slice-3.result.now ≡ replicate (length lengths) k =
     rw (
       c.as_slice-3.ensures.value,
       c.push_lengths.ensures,
       c.new-ec_lengths.ensures,
       c.len.ensures.value,
-      c.lengths-lengths.ensures,
-      c.ec_codewords_per_block-count.ensures,
-    ) refl in
-    let codewords : c.as_slice-4.result.now ≡ flat_map (ec_codewords_of k) all =
-    rw (
       c.as_slice-4.ensures.value,
       c.push_ec_codewords.ensures,
       c.new-ec_codewords.ensures,
       c.as_slice.ensures.value,
       c.lengths-lengths.ensures,
       c.ec_codewords_per_block-count.ensures,
-    ) refl in
-    rw (rooms, codewords) (sum_by-replicate (λ x. x) (length lengths) k
-    ∙ (ap (λ n. n * k) blocks.count ∙ sym blocks.ec_blocks))
+    ) (sum_by-replicate (λ x. x) (length (block_lengths c.args.version c.args.level)) k
+    ∙ (ap (λ n. n * k) c.have_blocks.ensures.count ∙ sym c.have_blocks.ensures.ec_blocks))
 
 pub interleave-requires-2-clause-room : goal.interleave-requires-2-clause-room
 interleave-requires-2-clause-room c =
-    let k = ec_codewords_per_block c.args.version c.args.level in
-    let lengths = block_lengths c.args.version c.args.level in
-    let all = split_by (block_lengths c.args.version c.args.level) c.args.message.now in
-    let blocks = HasBlocks-message c.args.version c.args.level c.args.message.now c.known.ensures.0 c.known.ensures.1
-    c.ec_codewords_are_sound.ensures.remainder c.ec_codewords_are_sound.ensures.roots
-    (AreBytes-slice c.args.message.now (λ i. omega (arith, c.type_inv.message i))) c.requires.whole in
-    let rooms : c.as_slice-3.result.now ≡ replicate (length lengths) k =
-    rw (
-      c.as_slice-3.ensures.value,
-      c.push_lengths.ensures,
-      c.new-ec_lengths.ensures,
-      c.len.ensures.value,
-      c.lengths-lengths.ensures,
-      c.ec_codewords_per_block-count.ensures,
-    ) refl in
-    let codewords : c.as_slice-4.result.now ≡ flat_map (ec_codewords_of k) all =
+    let first : length c.interleave.new.out.items ≡ length c.args.message.now =
+    ap length c.interleave.ensures ∙ (rw (c.clear.ensures, c.as_slice-2.ensures.value, c.lengths-lengths.ensures)
+    (length-interleaving-split_by (block_lengths c.args.version c.args.level) c.args.message.now c.have_blocks.ensures.whole)) in
+    let version = c.args.version in
+    let level = c.args.level in
+    let written : c.as_slice-4.result.now ≡ flat_map (ec_codewords_of (ec_codewords_per_block version level))
+    (split_by (block_lengths version level) c.args.message.now) =
     rw (
       c.as_slice-4.ensures.value,
       c.push_ec_codewords.ensures,
@@ -98,45 +59,25 @@ interleave-requires-2-clause-room c =
       c.lengths-lengths.ensures,
       c.ec_codewords_per_block-count.ensures,
     ) refl in
-    let first : length c.interleave.new.out.items ≡ length c.args.message.now =
-    ap length c.interleave.ensures ∙ (rw (c.clear.ensures, c.as_slice-2.ensures.value, c.lengths-lengths.ensures)
-    (length-interleaving-split_by lengths c.args.message.now blocks.whole)) in
-    omega (arith, first, ap length codewords, blocks.ec_blocks, blocks.total)
+    omega (arith, first, ap length written, c.have_blocks.ensures.ec_blocks, c.have_blocks.ensures.total)
 
 pub returns : goal.returns
 unfolding final_message
 returns c =
-    let k = ec_codewords_per_block c.args.version c.args.level in
-    let lengths = block_lengths c.args.version c.args.level in
-    let all = split_by (block_lengths c.args.version c.args.level) c.args.message.now in
-    let blocks = HasBlocks-message c.args.version c.args.level c.args.message.now c.known.ensures.0 c.known.ensures.1
-    c.ec_codewords_are_sound.ensures.remainder c.ec_codewords_are_sound.ensures.roots
-    (AreBytes-slice c.args.message.now (λ i. omega (arith, c.type_inv.message i))) c.requires.whole in
-    let rooms : c.as_slice-3.result.now ≡ replicate (length lengths) k =
-    rw (
-      c.as_slice-3.ensures.value,
-      c.push_lengths.ensures,
-      c.new-ec_lengths.ensures,
-      c.len.ensures.value,
-      c.lengths-lengths.ensures,
-      c.ec_codewords_per_block-count.ensures,
-    ) refl in
-    let codewords : c.as_slice-4.result.now ≡ flat_map (ec_codewords_of k) all =
-    rw (
-      c.as_slice-4.ensures.value,
-      c.push_ec_codewords.ensures,
-      c.new-ec_codewords.ensures,
-      c.as_slice.ensures.value,
-      c.lengths-lengths.ensures,
-      c.ec_codewords_per_block-count.ensures,
-    ) refl in
     rw (
       c.interleave-2.ensures,
       c.interleave.ensures,
       c.clear.ensures,
       c.as_slice-2.ensures.value,
+      c.as_slice-3.ensures.value,
+      c.push_lengths.ensures,
+      c.new-ec_lengths.ensures,
+      c.len.ensures.value,
+      c.as_slice-4.ensures.value,
+      c.push_ec_codewords.ensures,
+      c.new-ec_codewords.ensures,
+      c.as_slice.ensures.value,
       c.lengths-lengths.ensures,
-      rooms,
-      codewords,
-      blocks.cut,
+      c.ec_codewords_per_block-count.ensures,
+      c.have_blocks.ensures.cut,
     ) refl

@@ -3,7 +3,7 @@ use Rattle.qrdata.specs.declared.level.Level.{Level}
 use Rattle.std.proofs.lemmas.Bool.{cases_lt}
 use Rattle.qrdata.specs.Fewest.{chosen_segments}
 use Rattle.qrdata.specs.Segments.{cost}
-use Rattle.qrdata.specs.Private.SmallestPlan.{DoNotFit, SameWidths}
+use Rattle.qrdata.specs.Private.SmallestPlan.{FitsBits, DoNotFit, SameWidths}
 use Rattle.qrdata.specs.Private.Table.{fewest_bits}
 use Rattle.qrdata.specs.Versions.{capacity}
 use Rattle.qrdata.proofs.BoundLaws.{few_segments, third}
@@ -16,7 +16,7 @@ pub overflow_mul-data_codewords : goal.overflow_mul-data_codewords
 overflow_mul-data_codewords c = omega (
   arith,
   (rw c.of-widest.ensures at c.data_codewords.ensures),
-  capacity-le c.args.level c.args.highest (omega (arith, c.requires.low, c.requires.some)) c.requires.high,
+  capacity-le c.args.level c.args.highest (omega (arith, c.requires.range.0, c.requires.range.1)) c.requires.range.2,
 )
 
 pub returns-then-bytes-data_codewords-clause-none : goal.returns-then-bytes-data_codewords-clause-none
@@ -28,7 +28,7 @@ returns-then-bytes-data_codewords-clause-none c = λ v from to.
       c.if-bytes-data_codewords.true,
       (rw c.of-widest.ensures at c.data_codewords.ensures),
       many,
-      capacity-rising c.args.level v c.args.highest (omega (arith, c.requires.low)) to c.requires.high,
+      capacity-rising c.args.level v c.args.highest (omega (arith, c.requires.range.0)) to c.requires.range.2,
     )
 
 pub overflow_mul-data_codewords-in-loop-number : goal.overflow_mul-data_codewords-in-loop-number
@@ -49,68 +49,68 @@ overflow_cast-bits c = omega (
       (omega (arith, c.loop-number-test.true)),
 )
 
--- the bits of the best segments, where they fit
-fitting : (number highest : ℕ) (level : Level) (bytes : List ℕ) (bits : ℕ) → SameWidths number highest → 1 ≤ number
+-- the best segments of a version that the bits fit
+FitsBits-of : (number highest : ℕ) (level : Level) (bytes : List ℕ) (bits : ℕ) → SameWidths number highest → 1 ≤ number
     → number ≤ 10 → length bytes ≤ 652 → bits ≡ fewest_bits highest bytes → bits ≤ capacity number level
-    → bits ≡ cost number (chosen_segments number bytes)
-fitting number highest level bytes bits same low high few is fits =
+    → FitsBits number level bits (chosen_segments number bytes)
+FitsBits-of number highest level bytes bits same low high few is fits =
+    let value : bits ≡ cost number (chosen_segments number bytes) =
     is ∙ fewest_bits-is number highest same bytes few
-    (omega (arith, is, capacity_as_wide number highest level same low high))
+    (omega (arith, is, capacity_as_wide number highest level same low high)) in
+    record {
+      value = value;
+      fits = fits;
+      short = few_segments number level (chosen_segments number bytes) bytes low high (chosen_segments-is number bytes)
+          (omega (arith, value, fits));
+    }
 
-pub plan_of-requires-clause-firsts : goal.plan_of-requires-clause-firsts
-plan_of-requires-clause-firsts c =
+pub plan_of-requires-clause-table : goal.plan_of-requires-clause-table
+plan_of-requires-clause-table c =
     let number = c.loop-number.number in
     let same = c.requires.same number c.loop-number.auto.number (omega (arith, c.loop-number-test.true)) in
-    rw c.of-version.ensures (NamesBest-of number c.args.highest same c.args.bytes.now c.fill-bits.result
-    c.fill-bits.new.firsts c.requires.few
-    (omega (
-      arith,
-      (rw c.of-version.ensures at c.data_codewords-in-loop-number.ensures),
-      c.if-bits-data_codewords.true,
-      capacity_as_wide number c.args.highest c.args.level same (omega (arith, c.loop-number.auto.number))
-          (omega (arith, c.loop-number-test.true)),
-    )) (rw c.of-widest.ensures at c.fill-bits.ensures.firsts))
+    record {
+      few = c.requires.few;
+      size = c.fill-bits.auto.firsts;
+      named = rw c.of-version.ensures (NamesBest-of number c.args.highest same c.args.bytes.now c.fill-bits.result
+          c.fill-bits.new.firsts c.requires.few
+          (omega (
+            arith,
+            (rw c.of-version.ensures at c.data_codewords-in-loop-number.ensures),
+            c.if-bits-data_codewords.true,
+            capacity_as_wide number c.args.highest c.args.level same (omega (arith, c.loop-number.auto.number))
+                (omega (arith, c.loop-number-test.true)),
+          )) (rw c.of-widest.ensures at c.fill-bits.ensures.firsts));
+    }
 
 pub plan_of-requires-clause-bits : goal.plan_of-requires-clause-bits
 plan_of-requires-clause-bits c =
-    let number = c.loop-number.number in
-    let same = c.requires.same number c.loop-number.auto.number (omega (arith, c.loop-number-test.true)) in
-    rw c.of-version.ensures (fitting number c.args.highest c.args.level c.args.bytes.now c.fill-bits.result same
+    rw c.of-version.ensures (FitsBits-of c.loop-number.number c.args.highest c.args.level c.args.bytes.now c.fill-bits.result
+    (c.requires.same c.loop-number.number c.loop-number.auto.number (omega (arith, c.loop-number-test.true)))
     (omega (arith, c.loop-number.auto.number)) (omega (arith, c.loop-number-test.true)) c.requires.few
-    (rw c.of-widest.ensures at c.fill-bits.ensures.bits)
-    (omega (arith, (rw c.of-version.ensures at c.data_codewords-in-loop-number.ensures), c.if-bits-data_codewords.true)))
-
-pub plan_of-requires-clause-short : goal.plan_of-requires-clause-short
-plan_of-requires-clause-short c =
-    let number = c.loop-number.number in
-    let bytes = c.args.bytes.now in
-    let same = c.requires.same number c.loop-number.auto.number (omega (arith, c.loop-number-test.true)) in
-    let fits : c.fill-bits.result ≤ capacity number c.args.level =
-    omega (arith, (rw c.of-version.ensures at c.data_codewords-in-loop-number.ensures), c.if-bits-data_codewords.true) in
-    let bits = fitting number c.args.highest c.args.level bytes c.fill-bits.result same
-    (omega (arith, c.loop-number.auto.number)) (omega (arith, c.loop-number-test.true)) c.requires.few
-    (rw c.of-widest.ensures at c.fill-bits.ensures.bits) fits in
-    rw c.of-version.ensures (few_segments number c.args.level (chosen_segments number bytes) bytes
-    (omega (arith, c.loop-number.auto.number)) (omega (arith, c.loop-number-test.true))
-    (chosen_segments-is number bytes) (omega (arith, bits, fits)))
+    (rw c.of-widest.ensures at c.fill-bits.ensures.bits) (omega (
+      arith,
+      (rw c.of-version.ensures at c.data_codewords-in-loop-number.ensures),
+      c.if-bits-data_codewords.true,
+    )))
 
 pub returns-then-bits-data_codewords-clause-some : goal.returns-then-bits-data_codewords-clause-some
 returns-then-bits-data_codewords-clause-some c =
-    let number = c.loop-number.number in
-    let same = c.requires.same number c.loop-number.auto.number (omega (arith, c.loop-number-test.true)) in
-    let fits : c.fill-bits.result ≤ capacity number c.args.level =
-    omega (arith, (rw c.of-version.ensures at c.data_codewords-in-loop-number.ensures), c.if-bits-data_codewords.true) in
-    let bits = fitting number c.args.highest c.args.level c.args.bytes.now c.fill-bits.result same
+    let bits = FitsBits-of c.loop-number.number c.args.highest c.args.level c.args.bytes.now c.fill-bits.result
+    (c.requires.same c.loop-number.number c.loop-number.auto.number (omega (arith, c.loop-number-test.true)))
     (omega (arith, c.loop-number.auto.number)) (omega (arith, c.loop-number-test.true)) c.requires.few
-    (rw c.of-widest.ensures at c.fill-bits.ensures.bits) fits in
+    (rw c.of-widest.ensures at c.fill-bits.ensures.bits) (omega (
+      arith,
+      (rw c.of-version.ensures at c.data_codewords-in-loop-number.ensures),
+      c.if-bits-data_codewords.true,
+    )) in
     rw (c.plan_of.ensures, c.of-version.ensures) (record {
       from = c.loop-number.auto.number;
       to = omega (arith, c.loop-number-test.true);
       same_level = refl;
       same_bytes = refl;
       same_segments = refl;
-      fits = omega (arith, bits, fits);
-      least = c.loop-number.invariant;
+      fits = omega (arith, bits.value, bits.fits);
+      smallest = c.loop-number.invariant;
     })
 
 pub loop-number-preserved : goal.loop-number-preserved

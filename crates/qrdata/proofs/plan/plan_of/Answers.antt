@@ -9,34 +9,34 @@ use Rattle.qrdata.proofs.FirstsTableLaws.{IsNamed-first}
 use Rattle.qrdata.proofs.plan.plan_of.Goals as goal
 
 pub loop-place-init : goal.loop-place-init
-loop-place-init c = (rw c.new-segments.ensures refl, omega arith, omega (arith, c.requires.bits))
+loop-place-init c = (rw c.new-segments.ensures refl, omega arith, omega (arith, c.requires.bits.value))
 
 pub push-requires : goal.push-requires
 push-requires c =
     let named = IsNamed-first c.args.version c.args.bytes.now c.args.bits c.args.firsts.now c.loop-place.place
-    c.loop-place-test.true (omega (arith, c.requires.few, c.requires.size)) c.requires.firsts
+    c.loop-place-test.true (omega (arith, c.requires.table.few, c.requires.table.size)) c.requires.table.named
     c.loop-place.invariant.2 in
     let all = rw named.next at c.loop-place.invariant.0 in
-    (lit< tt, omega (arith, ap length all, length-append {A = Segment}, c.requires.short))
+    (lit< tt, omega (arith, ap length all, length-append {A = Segment}, c.requires.bits.short))
 
 pub overflow_add-place : goal.overflow_add-place
 overflow_add-place c =
     let named = IsNamed-first c.args.version c.args.bytes.now c.args.bits c.args.firsts.now c.loop-place.place
-    c.loop-place-test.true (omega (arith, c.requires.few, c.requires.size)) c.requires.firsts
+    c.loop-place-test.true (omega (arith, c.requires.table.few, c.requires.table.size)) c.requires.table.named
     c.loop-place.invariant.2 in
-    omega (arith, named.inside, c.requires.few, c.from-place.ensures)
+    omega (arith, named.inside, c.requires.table.few, c.from-place.ensures)
 
 pub loop-place-smaller : goal.loop-place-smaller
 loop-place-smaller c =
     let named = IsNamed-first c.args.version c.args.bytes.now c.args.bits c.args.firsts.now c.loop-place.place
-    c.loop-place-test.true (omega (arith, c.requires.few, c.requires.size)) c.requires.firsts
+    c.loop-place-test.true (omega (arith, c.requires.table.few, c.requires.table.size)) c.requires.table.named
     c.loop-place.invariant.2 in
     omega (arith, named.some, named.inside, c.from-place.ensures)
 
 pub loop-place-preserved : goal.loop-place-preserved
 loop-place-preserved c =
     let named = IsNamed-first c.args.version c.args.bytes.now c.args.bits c.args.firsts.now c.loop-place.place
-    c.loop-place-test.true (omega (arith, c.requires.few, c.requires.size)) c.requires.firsts
+    c.loop-place-test.true (omega (arith, c.requires.table.few, c.requires.table.size)) c.requires.table.named
     c.loop-place.invariant.2 in (
       rw (c.push.ensures.items, c.from-place.ensures, append_assoc) (rw named.next at c.loop-place.invariant.0),
       omega (arith, named.inside, c.from-place.ensures),
@@ -53,8 +53,8 @@ invariant_of-result c =
     let bytes = c.args.bytes.now in
     rw (whole c.args.version bytes c.loop-place.place c.loop-place.segments.items c.loop-place.invariant.0
     c.loop-place-test.false) (
-      c.requires.bits,
-      record { cut = chosen_segments-is c.args.version bytes; fits = omega (arith, c.requires.bits, c.requires.fits) },
+      c.requires.bits.value,
+      record { cut = chosen_segments-is c.args.version bytes; fits = omega (arith, c.requires.bits.value, c.requires.bits.fits) },
     )
 
 pub returns : goal.returns

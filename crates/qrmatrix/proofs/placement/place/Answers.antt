@@ -15,7 +15,8 @@ loop-strip-init c =
     record {
       placed = placed_none v (computed v c.side-n.ensures.known.0 c.side-n.ensures.known.1) c.args.codewords.now.items _
           (2 * side_of v * 0) (omega arith) c.requires.light;
-      pairs = subst (λ codewords. ArePairs codewords c.codeword_pairs-pairs.result) c.deref.ensures.0 c.codeword_pairs-pairs.ensures;
+      pairs = subst
+          (λ codewords. ArePairs codewords c.codeword_pairs-pairs.result) c.deref.ensures.0 c.codeword_pairs-pairs.ensures;
       width = c.side-n.ensures.value;
     }
 
@@ -65,7 +66,8 @@ loop-t-preserved c =
         | else-are_free w ↦
             subst (λ z. Placed v codewords (value_at c.args.modules.now) (value_at c.if-are_free.modules) z
             (2 * side_of v * c.loop-strip.strip + 2 * (c.loop-t.t + 1))) (sym w.i-is)
-            (subst (λ z. Placed v codewords (value_at c.args.modules.now) (value_at z) w.place_module-i-else-are_free.result
+            (subst (λ z. Placed v codewords (value_at c.args.modules.now)
+            (value_at z) w.place_module-i-else-are_free.result
             (2 * side_of v * c.loop-strip.strip + 2 * (c.loop-t.t + 1))) (sym w.modules-is)
             (placed_pair v known codewords (value_at c.args.modules.now) c.loop-t.modules w.place_module-i.new.modules
             w.place_module-i-else-are_free.new.modules c.loop-t.i w.place_module-i.result
@@ -81,11 +83,14 @@ loop-t-preserved c =
       inside = i.inside;
     }
 
-pub returns-clause-placed : goal.returns-clause-placed
-returns-clause-placed c =
-    λ x y lx ly free.
+pub returns : goal.returns
+returns c =
     let v = c.args.version in
     let k = computed v c.side-n.ensures.known.0 c.side-n.ensures.known.1 in
     let n : c.loop-strip.strip ≡ (side_of v - 1) / 2 = omega arith in
-    let b = below_at v k x y lx ly (outside_at v k x y ly free) in
-    c.loop-strip.invariant.placed.placed x y lx ly free (rw n b)
+    let placed = c.loop-strip.invariant.placed in
+    record {
+      placed = λ x y lx ly free. placed.placed x y lx ly free (rw n (below_at v k x y lx ly (outside_at v k x y ly free)));
+      others = placed.others;
+      outside = record { columns = placed.columns; rows = placed.rows };
+    }

@@ -26,11 +26,11 @@ loop-y-preserved c =
     record {
       function = row_turned n y row.taken c.args.function.now c.loop-y.function c.flip.new.self
           (λ x y. not (is_free v x y)) c.loop-y.invariant.function c.flip.ensures
-          (λ x l. rw (c.requires.blank_function x y) (flip_light _ ∙ has.taken x l))
+          (λ x l. rw (c.requires.0 x y) (flip_light _ ∙ has.taken x l))
           (λ x g. above_bit row.taken n x has.narrow_taken g);
       modules = row_turned n y row.dark c.args.modules.now c.loop-y.modules c.flip-in-loop-y.new.self
           (λ x y. unmasked_module v (role v x y)) c.loop-y.invariant.modules c.flip-in-loop-y.ensures
-          (λ x l. rw (c.requires.blank_modules x y) (flip_light _ ∙ has.dark x l))
+          (λ x l. rw (c.requires.1 x y) (flip_light _ ∙ has.dark x l))
           (λ x g. above_bit row.dark n x has.narrow_dark g);
       width = c.loop-y.invariant.width;
     }

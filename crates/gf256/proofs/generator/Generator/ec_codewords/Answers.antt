@@ -3,7 +3,7 @@ use Rattle.std.specs.Prelude.{bit_xor}
 use Rattle.std.proofs.lemmas.List.{drop_more, drop_all}
 use Rattle.std.proofs.lemmas.List.Elements.{All-from_get_or}
 use Rattle.gf256.specs.Field.{alpha, field_power, field_product, IsElement}
-use Rattle.gf256.specs.Polynomial.{zeros}
+use Rattle.gf256.specs.Private.{zeros}
 use Rattle.gf256.specs.ErrorCorrection.{IsRemainder}
 use Rattle.gf256.proofs.DivisionLaws.{next_register, register_after}
 use Rattle.gf256.proofs.GeneratorLaws.{low_of, length-low_of, IsRemainder-register, ec_codewords_of-register}
@@ -34,42 +34,32 @@ loop-codeword-preserved c =
     (omega (arith, length-low_of k, c.loop-codeword.auto.out, c.clear.auto.register, c.requires))
     c.shift.auto.register
     each in
-    let rest : drop i codewords ≡ codeword ∷ drop (i + 1) codewords = drop_more codewords i 0 c.loop-codeword-test.true in
+    let rest : drop i codewords ≡ codeword ∷ drop (i + 1) codewords =
+    drop_more codewords i 0 c.loop-codeword-test.true in
     ap (λ r. register_after (low_of k) r (drop (i + 1) codewords)) same
     ∙ ap (register_after (low_of k) old) (sym rest)
     ∙ c.loop-codeword.invariant
 
--- what the register holds after the last codeword
+-- after the last codeword the register holds what all codewords leave in it
 held : (k : ℕ) (out codewords : List ℕ) (i : ℕ) → length codewords ≤ i →
     register_after (low_of k) out (drop i codewords) ≡ register_after (low_of k) (zeros k) codewords →
     out ≡ register_after (low_of k) (zeros k) codewords
 unfolding register_after
 held k out codewords i past same = ap (register_after (low_of k) out) (sym (drop_all i codewords past)) ∙ same
 
-pub returns-clause-remainder : goal.returns-clause-remainder
-returns-clause-remainder c =
-    let view : c.self.inside.count ≡ c.args.self.now = c.self.view_is in
-    let inv = c.self.invariant in
-    let last : c.loop-codeword.out ≡ register_after (low_of c.args.self.now) (zeros c.args.self.now) c.args.block.now =
-    held c.args.self.now c.loop-codeword.out c.args.block.now
-    c.loop-codeword.codeword-index c.loop-codeword-test.false c.loop-codeword.invariant in
-    subst (IsRemainder c.args.self.now c.args.block.now) (sym last)
-    (IsRemainder-register c.args.self.now c.args.block.now
-    (omega (arith, view, inv.0))
-    (All-from_get_or IsElement c.args.block.now 0 (λ i h. omega (arith, c.type_inv.block i))))
-
-pub returns-clause-value : goal.returns-clause-value
-returns-clause-value c =
-    let view : c.self.inside.count ≡ c.args.self.now = c.self.view_is in
-    let inv = c.self.invariant in
-    held c.args.self.now c.loop-codeword.out c.args.block.now
-    c.loop-codeword.codeword-index c.loop-codeword-test.false c.loop-codeword.invariant
-    ∙ sym (ec_codewords_of-register c.args.self.now c.args.block.now (omega (arith, view, inv.0)))
-
-pub returns-clause-only : goal.returns-clause-only
-returns-clause-only c = λ ec_codewords h. IsRemainder-unique c.args.self.now c.args.block.now ec_codewords c.loop-codeword.out h
-    (returns-clause-remainder c)
-
-pub returns-clause-roots : goal.returns-clause-roots
-returns-clause-roots c = HasRoots-remainder c.args.self.now c.args.block.now c.loop-codeword.out
-    (returns-clause-remainder c)
+pub returns : goal.returns
+returns c =
+    let k = c.args.self.now in
+    let block = c.args.block.now in
+    let out = c.loop-codeword.out in
+    let some : 0 < k = omega (arith, c.self.view_is, c.self.invariant.0) in
+    let last : out ≡ register_after (low_of k) (zeros k) block =
+    held k out block c.loop-codeword.codeword-index c.loop-codeword-test.false c.loop-codeword.invariant in
+    let elements = All-from_get_or IsElement block 0 (λ i h. omega (arith, c.type_inv.block i)) in
+    let remainder = subst (IsRemainder k block) (sym last) (IsRemainder-register k block some elements) in
+    record {
+      value = last ∙ sym (ec_codewords_of-register k block some);
+      remainder = remainder;
+      only = λ others h. IsRemainder-unique k block others out h remainder;
+      roots = HasRoots-remainder k block out remainder;
+    }

@@ -16,7 +16,8 @@ loop-count-init c =
     let long = length-append (byte_bits codewords) (bits_of rest.count rest.number) in
     rw c.power_of_two-unit.ensures (record {
       written = rw (bits_of-joined rest.count c.args.width rest.number c.args.number)
-          (sym (append_assoc (byte_bits codewords) (bits_of rest.count rest.number) (bits_of c.args.width c.args.number)));
+          (sym (append_assoc (byte_bits codewords) (bits_of rest.count rest.number)
+          (bits_of c.args.width c.args.number)));
       small = joined-lt rest.count c.args.width rest.number c.args.number rest.small;
       few = omega (arith, rest.few, c.requires.narrow);
       room = omega (arith, long, length-byte_bits codewords, length-bits_of rest.count rest.number, c.requires.room);

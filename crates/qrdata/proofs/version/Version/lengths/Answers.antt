@@ -50,7 +50,8 @@ push_lengths-requires-2 c =
         arith,
         ap length c.push_lengths.ensures,
         ap length c.new-lengths.ensures,
-        length-append c.new-lengths.result.items (replicate short (c.data_codewords-codewords.result / c.block_count-blocks.result)),
+        length-append c.new-lengths.result.items (replicate short
+            (c.data_codewords-codewords.result / c.block_count-blocks.result)),
         length-replicate short (c.data_codewords-codewords.result / c.block_count-blocks.result),
         mod-lt c.data_codewords-codewords.result some,
         c.block_count-blocks.ensures,

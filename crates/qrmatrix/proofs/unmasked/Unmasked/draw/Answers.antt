@@ -1,4 +1,4 @@
-use Rattle.std.proofs.Common.{◌∙◌}
+use Rattle.std.proofs.Common.{◌∙◌, refl}
 use Rattle.qrmatrix.specs.Functions.{is_free, role}
 use Rattle.qrmatrix.proofs.UnderMaskLaws.{free_is_light}
 use Rattle.qrmatrix.proofs.unmasked.Unmasked.draw.Goals as goal
@@ -9,14 +9,18 @@ place-requires-clause-light c =
     λ x y lx ly free. c.draw_functions.ensures.drawn x y lx ly
     ∙ free_is_light c.args.version (role c.args.version x y) free
 
-pub returns-clause-placed : goal.returns-clause-placed
-returns-clause-placed c =
+pub returns : goal.returns
+returns c =
     record {
-      marked = c.draw_functions.ensures.marked;
-      free = c.place.ensures.placed;
-      taken = λ x y lx ly t. c.place.ensures.others x y lx ly t ∙ c.draw_functions.ensures.drawn x y lx ly;
-      columns = λ x y l. c.place.ensures.outside.columns x y l ∙ c.draw_functions.ensures.outside.columns x y l
-          ∙ c.new-modules.ensures x y;
-      rows = λ x y l. c.place.ensures.outside.rows x y l ∙ c.draw_functions.ensures.outside.rows x y l
-          ∙ c.new-modules.ensures x y;
+      same_version = refl;
+      same_level = refl;
+      placed = record {
+        marked = c.draw_functions.ensures.marked;
+        free = c.place.ensures.placed;
+        taken = λ x y lx ly t. c.place.ensures.others x y lx ly t ∙ c.draw_functions.ensures.drawn x y lx ly;
+        columns = λ x y l. c.place.ensures.outside.columns x y l ∙ c.draw_functions.ensures.outside.columns x y l
+            ∙ c.new-modules.ensures x y;
+        rows = λ x y l. c.place.ensures.outside.rows x y l ∙ c.draw_functions.ensures.outside.rows x y l
+            ∙ c.new-modules.ensures x y;
+      };
     }

@@ -7,8 +7,8 @@ use Rattle.qrmatrix.proofs.UnderMaskLaws.{under}
 use Rattle.qrmatrix.proofs.ReadingLaws.{inside_from, module_inside, module_outside}
 use Rattle.qrmatrix.proofs.unmasked.Unmasked.under.Goals as goal
 
-pub returns : goal.returns
-returns c =
+pub returns-clause-modules : goal.returns-clause-modules
+returns-clause-modules c =
     λ codewords u x y.
     let v = c.args.self.now.version in
     let level = c.args.self.now.level in

@@ -1,0 +1,10 @@
+-- What a symbology's drawing promises of its row.
+use Rattle.std.specs.Prelude.{◌≡◌, ◌≤◌, ℕ, Bool, List, Option, Some, length}
+use Rattle.linear.specs.declared.limits.TheConstants.{MAX_MODULES}
+
+-- a row is that of the full data, fits, and is read as the full data
+pub record IsDrawn (row_of : List ℕ → List Bool) (reading : List Bool → Option (List ℕ)) (full : List ℕ)
+    (row : List Bool) : Type 0 where
+  pub drawn : row ≡ row_of full
+  pub fits : length (row_of full) ≤ MAX_MODULES
+  pub read : reading (row_of full) ≡ Some full

@@ -1,0 +1,19 @@
+-- What the private contracts say of data and its digits.
+use Rattle.std.specs.Prelude.{◌≡◌, ◌≤◌, ◌<◌, ℕ, List, All, length}
+use Rattle.std.specs.Char.{IsAsciiDigit}
+use Rattle.linear.specs.declared.limits.TheConstants.{MAX_BYTES}
+
+-- `count` digits
+pub record AreDigits (count : ℕ) (bytes : List ℕ) : Type 0 where
+  pub long : length bytes ≡ count
+  pub digits : All IsAsciiDigit bytes
+
+-- the digits of a half, at most six
+pub record IsHalf (bytes : List ℕ) : Type 0 where
+  pub few : length bytes ≤ 6
+  pub digits : All IsAsciiDigit bytes
+
+-- the data of a Code 128 symbol: at most 80 bytes, each of them ASCII
+pub record IsCode128Data (bytes : List ℕ) : Type 0 where
+  pub few : length bytes ≤ MAX_BYTES
+  pub ascii : All (λ byte. byte < 128) bytes

@@ -1,0 +1,16 @@
+use Rattle.std.proofs.Common.{ℕ, ◌<◌, List}
+use Rattle.qrdata.specs.Versions.{side_of}
+use Rattle.qrmatrix.specs.Private.Drawing.{Places, ShowsSymbol}
+use Rattle.qrmatrix.specs.Modules.{module_at}
+use Rattle.qrmatrix.specs.Penalty.{penalty}
+use Rattle.qrmatrix.proofs.MaskChoiceLaws.{Found}
+use Rattle.qrmatrix.proofs.unmasked.Unmasked.under_best_mask.Given as goal
+
+abbrev pub invariant-loop-mask : goal.invariant-loop-mask
+invariant-loop-mask l = record {
+  found : (codewords : List ℕ) → Places l.self codewords
+      → Found (λ k. penalty (side_of l.self.version) (module_at l.self.version l.self.level k codewords)) l.mask
+      l.best.mask l.lowest;
+  shown : (codewords : List ℕ) → Places l.self codewords → ShowsSymbol l.self codewords l.best;
+  below : l.best.mask < l.mask;
+}
