@@ -4,8 +4,8 @@ use Rattle.std.proofs.Common.{append_assoc, refl, ap, subst, sym, ◌∙◌, ari
 use Rattle.std.proofs.lemmas.List.{append-nil}
 use Rattle.labelcore.specs.HeldLine.{held_line, line_limit}
 use Rattle.device.specs.Lines.{LF, lines, ended_lines, open_line, unless_empty}
-use Rattle.device.proofs.LinesLemmas.{ended_lines-nil, open_line-nil, ended_lines-push_lf, ended_lines-push_other}
-use Rattle.device.proofs.LinesLemmas.{open_line-push_lf, open_line-push_other, some_added}
+use Rattle.device.proofs.LinesLaws.{ended_lines-nil, open_line-nil, ended_lines-push_lf, ended_lines-push_other}
+use Rattle.device.proofs.LinesLaws.{open_line-push_lf, open_line-push_other, some_added}
 use Rattle.labelcore.specs.LineItem.{Outcome}
 use Rattle.filter.specs.Output.{outcome, image_of, message_of, is_refusal, line_number, images, messages_after}
 use Rattle.filter.specs.Output.{any_refused, status_if, status_of}
