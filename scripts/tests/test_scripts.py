@@ -67,6 +67,7 @@ class Words(unittest.TestCase):
 
     def names(self):
         own = ["believed.py", "wrong_bodies.py", "read_back.py", "same_modules.py", "unused.py", "contracts.py"]
+        own += ["glossary.py", "plain_words.py"]
         return [*own, "instructions.sh", "benchmark.sh", "refuse_each_growth.sh"]
 
     def test_help(self):
@@ -545,6 +546,102 @@ class Contracts(SmallTree):
 
     def test_misspelled_crate(self):
         self.assertEqual(run("contracts.py", "--top", self.folder, "smal")[0], 2)
+
+
+class Glossary(InFolder):
+    """Each name of the glossary is in the file beside it."""
+
+    HEAD = "| Term | Meaning | Clause | Name | File |\n|---|---|---|---|---|\n"
+    ROW = "| sink | what takes bytes | own | `Sink` | `src/sink.rt` |\n"
+
+    def glossary(self, rows):
+        write(self.path("src", "sink.rt"), "pub trait Sink {}\npub trait Sinks {}\n")
+        write(self.path("docs", "GLOSSARY.md"), f"# Glossary\n\n{self.HEAD}{rows}")
+        return run("glossary.py", "--top", self.folder)
+
+    def test_the_page_of_the_repository(self):
+        status, said = run("glossary.py")
+        self.assertEqual((status, said.split()[-2:]), (0, ["0", "missing"]), said)
+
+    def test_name_that_is_there(self):
+        self.assertEqual(self.glossary(self.ROW), (0, "1 terms, 0 missing\n"))
+
+    def test_name_that_is_missing(self):
+        status, said = self.glossary(self.ROW + "| source | what gives bytes | own | `Source` | `src/sink.rt` |\n")
+        self.assertEqual((status, said.split("\n")[-2]), (1, "2 terms, 1 missing"))
+        self.assertIn("docs/GLOSSARY.md:6: source: no `Source` in src/sink.rt", said)
+
+    def test_name_that_is_only_a_part_of_a_word(self):
+        self.assertEqual(self.glossary("| sink | what takes bytes | own | `Sin` | `src/sink.rt` |\n")[0], 1)
+
+    def test_file_that_is_missing(self):
+        status, said = self.glossary("| sink | what takes bytes | own | `Sink` | `src/sinks.rt` |\n")
+        self.assertEqual((status, "no file src/sinks.rt" in said), (1, True))
+
+    def test_row_without_a_name(self):
+        self.assertEqual(self.glossary("| sink | what takes bytes | own | | `src/sink.rt` |\n")[0], 1)
+
+    def test_row_with_a_cell_too_few(self):
+        self.assertEqual(self.glossary("| sink | what takes bytes | `Sink` | `src/sink.rt` |\n")[0], 1)
+
+    def test_term_twice(self):
+        self.assertEqual(self.glossary(self.ROW + self.ROW)[0], 1)
+
+    def test_no_terms(self):
+        self.assertEqual(self.glossary(""), (1, "0 terms, 0 missing\n"))
+
+
+class PlainWords(InFolder):
+    """Words that prose avoids are found in pages and comments, and not in code."""
+
+    def check(self, name, text, folder="."):
+        write(self.path(*name.split("/")), text)
+        return run("plain_words.py", "--top", self.folder, "--check", folder)
+
+    def test_plain(self):
+        self.assertEqual(self.check("docs/A.md", "At least one line is drawn.\n"), (0, "1 files, 0 found\n"))
+
+    def test_in_a_page(self):
+        status, said = self.check("docs/A.md", "One.\nThe rule stands here.\n")
+        self.assertEqual((status, said.split("\n")[-2]), (1, "1 files, 1 found"))
+        self.assertIn("docs/A.md:2: `stands`, write: is", said)
+
+    def test_over_a_line_end(self):
+        self.assertIn("docs/A.md:1: `the least`", self.check("docs/A.md", "Under the\nleast penalty.\n")[1])
+
+    def test_in_the_code_of_a_page(self):
+        self.assertEqual(self.check("docs/A.md", "```sh\ngrep stands\n```\n")[0], 0)
+
+    def test_in_comments(self):
+        for name, text in (
+            ("crates/a/src/a.rt", "fn a() {} // it answers `Err`\n"),
+            ("crates/a/specs/A.antt", "-- the parity of it\nx : Type 0\n"),
+            ("scripts/a.py", "x = 1  # so many\n"),
+            ("scripts/b.py", "def f():\n    \"\"\"What it tells.\"\"\"\n"),
+            ("tools/a", "#!/bin/sh\n# it comes to this\n"),
+        ):
+            with self.subTest(name):
+                self.assertEqual(self.check(name, text, name)[0], 1)
+
+    def test_in_code(self):
+        for name, text in (
+            ("crates/a/src/a.rt", 'fn tells() { "stands" }\n'),
+            ("crates/a/specs/A.antt", "parity : Type 0\n"),
+            ("scripts/a.py", 'tells = "stands"\n'),
+        ):
+            with self.subTest(name):
+                self.assertEqual(self.check(name, text, name)[0], 0)
+
+    def test_without_check_it_only_lists(self):
+        write(self.path("README.md"), "It stands here.\n")
+        status, said = run("plain_words.py", "--top", self.folder)
+        self.assertEqual((status, "1 files, 1 found" in said), (0, True))
+
+    def test_nothing_to_read(self):
+        self.assertEqual(self.check("data.txt", "")[0], 1)
+
+    def test_folder_that_is_not_there(self):
+        self.assertEqual(run("plain_words.py", "--check", "no/such/folder")[0], 2)
 
 
 if __name__ == "__main__":
