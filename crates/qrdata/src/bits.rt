@@ -5,7 +5,6 @@ ghost use Rattle.qrdata.specs.Codewords.{with_zeros, pad_codewords, with_termina
 ghost use Rattle.qrdata.specs.Segments.{IsSegmentation, alphanumeric_bits, byte_bits, cost, count_width, has_character};
 ghost use Rattle.qrdata.specs.Segments.{numeric_bits, payload_bits, payload_length, segment_bits, segments_bits};
 ghost use Rattle.qrdata.specs.declared.mode.Mode.TheVariants.{Alphanumeric, Numeric};
-ghost use Rattle.qrdata.specs.declared.mode.Segment.{Segment};
 ghost use Rattle.std.specs.Char.{is_ascii_digit};
 ghost use Rattle.std.specs.List.{list_all};
 ghost use Rattle.std.specs.Prelude.{◌≡◌, ◌+◌, ◌*◌, ◌/◌, ◌^◌, ◌<◌, ◌≤◌, [], ◌++◌, All, IsTrue, length};

@@ -2,11 +2,10 @@
 ghost use Rattle.qrdata.specs.Versions.{IsVersion, block_count, block_lengths, data_codewords, ec_codewords_per_block};
 ghost use Rattle.qrdata.specs.Versions.{side_of};
 ghost use Rattle.qrdata.specs.Versions.{total_codewords};
-ghost use Rattle.std.specs.Prelude.{None, Some, ◌≡◌, ◌+◌, ◌*◌, ◌/◌, ◌<◌, ◌≤◌, ◌↔◌, ◌⊎◌, IfSome, IsNone, ℕ};
+ghost use Rattle.std.specs.Prelude.{◌≡◌, ◌<◌, ◌↔◌, ◌⊎◌, IfSome, IsNone, ℕ};
 
 use crate::blocks::{Lengths, push_lengths};
 use crate::level::Level;
-use arrayvec::ArrayVec;
 use std::marker::Model;
 
 /// The codewords of a symbol, data and error correction codewords. In each of these tables place 0 is version 1. They

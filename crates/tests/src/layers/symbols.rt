@@ -1,6 +1,6 @@
 //! The worked example of the standard, and every symbol against the slow form.
-ghost use Rattle.std.specs.Prelude.{◌≡◌, ◌<◌, ◌≤◌, ◌+◌, ◌*◌, IfSome, length};
-ghost use Rattle.qrdata.specs.Versions.{side_of, total_codewords};
+ghost use Rattle.std.specs.Prelude.{◌≡◌, ◌<◌, IfSome, length};
+ghost use Rattle.qrdata.specs.Versions.{total_codewords};
 
 mod slow;
 

@@ -5,8 +5,7 @@ mod function;
 mod penalty;
 mod square;
 
-ghost use Rattle.std.specs.Prelude.{◌≡◌, ◌+◌, ◌*◌, ◌<◌, ◌≤◌, IfSome};
-ghost use Rattle.qrdata.specs.Versions.{side_of};
+ghost use Rattle.std.specs.Prelude.{◌<◌, ◌≤◌, IfSome};
 
 use qrdata::Level;
 use penalty::penalty;

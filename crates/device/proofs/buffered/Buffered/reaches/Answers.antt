@@ -1,5 +1,3 @@
-use Rattle.std.proofs.Common.{sym, subst, ◌∙◌, ap}
-use Rattle.std.specs.Prelude.{slice_range}
 use Rattle.device.proofs.PassingLaws.{PassesOn-all, slice_range-none}
 use Rattle.device.proofs.buffered.Buffered.reaches.Goals as goal
 

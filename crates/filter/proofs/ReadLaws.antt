@@ -22,8 +22,8 @@ use Rattle.qrmatrix.specs.Modules.{is_inside}
 use Rattle.qrmatrix.specs.Reading.{read_matrix}
 use Rattle.qrmatrix.specs.Square.{value_at}
 use Rattle.picture.specs.Picture.{Picture, bars}
-use Rattle.picture.specs.Text.{below, pixel_row, pbm_text, ascii_text}
-use Rattle.picture.specs.Reading.{raster, pbm_files, ascii_files, pbm_pixels, ascii_pixels}
+use Rattle.picture.specs.Text.{below, pixel_row}
+use Rattle.picture.specs.Reading.{raster}
 use Rattle.picture.specs.ReadingLaws.{ReadingLaws, IsDrawable, PixelsAreThePicture, BarsAreOneRow}
 use Rattle.filter.specs.Symbol.{Symbol, quiet_zone, linear_symbol}
 use Rattle.labelcore.specs.LineItem.{Outcome, skipped, refused, drawn, outcome_of}

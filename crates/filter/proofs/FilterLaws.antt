@@ -1,5 +1,5 @@
 -- A filter's state and what it wrote, byte by byte and piece by piece.
-use Rattle.std.proofs.Common.{◌≡◌, ◌≢◌, ℕ, ◌+◌, ◌-◌, ◌^◌, min, Bool, ◌||◌, false, List, [], ◌∷◌, ◌++◌, length, take}
+use Rattle.std.proofs.Common.{◌≡◌, ◌≢◌, ℕ, ◌+◌, ◌-◌, ◌^◌, min, false, List, [], ◌∷◌, ◌++◌, length, take}
 use Rattle.std.proofs.Common.{append_assoc, refl, ap, subst, sym, ◌∙◌, arith, add-zero, length-append, length-take}
 use Rattle.std.proofs.lemmas.List.{append-nil}
 use Rattle.labelcore.specs.HeldLine.{held_line, line_limit}
@@ -19,8 +19,8 @@ use Rattle.filter.specs.Readback.{ReadsBack}
 use Rattle.filter.specs.Filter.{FilterState, StandsAt, TookLines, StopsInLine, TookPiece, StopsInPiece}
 use Rattle.filter.specs.declared.status.RunFault.{RunFault}
 use Rattle.filter.specs.declared.status.RunFault.TheVariants.{Read, WriteOut, WriteMessages, Spent}
-use Rattle.filter.proofs.OutputLemmas.{images-nil, images-append, images_one, messages_after-nil, messages_after-append}
-use Rattle.filter.proofs.OutputLemmas.{messages_after_one, any_refused-nil, any_refused-push, worst-status_if}
+use Rattle.filter.proofs.OutputLaws.{images-nil, images-append, images_one, messages_after-nil, messages_after-append}
+use Rattle.filter.proofs.OutputLaws.{messages_after_one, any_refused-nil, any_refused-push, worst-status_if}
 use Rattle.labelcore.specs.OptionValues.{OptionValues}
 
 module _ (options : OptionValues) where
