@@ -3,6 +3,7 @@ mod bars;
 mod codewords;
 mod field;
 mod held_back;
+mod limits;
 mod lines;
 mod pictures;
 mod segments;
