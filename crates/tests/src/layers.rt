@@ -3,6 +3,7 @@ mod bars;
 mod codewords;
 mod field;
 mod buffered_bytes;
+mod limits;
 mod lines;
 mod pictures;
 mod segments;

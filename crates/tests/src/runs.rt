@@ -6,3 +6,4 @@ mod linear_rows;
 mod qr_rows;
 mod streams;
 pub mod support;
+mod zint_sums;

@@ -1,5 +1,6 @@
 //! Worked rows, and each public call once.
 mod listings;
+mod thresholds;
 
 use labelcore::Fault;
 use linear::{Code128, Ean8, Ean13, Linear, Row, UpcA, switching_law, table_laws};
