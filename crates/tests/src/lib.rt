@@ -1,9 +1,14 @@
-//! All tests, by public calls alone: of the layers below the filter (`layers`), of runs (`runs`) and of the command's
-//! words (`words`). They stand apart, so that a crate is proved without reading what tests read.
+//! All tests, by public calls alone: of the layers below the filter (`layers`), of runs (`runs`), of the calls that
+//! reach devices (`calls`), of the command's words (`words`) and of the names of files (`names`). They are in a crate of
+//! their own, so that a crate is proved without reading what tests read.
 #![tactic(auto)]
 
 #[cfg(test)]
+mod calls;
+#[cfg(test)]
 mod layers;
+#[cfg(test)]
+mod names;
 #[cfg(test)]
 mod runs;
 #[cfg(test)]
