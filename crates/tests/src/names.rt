@@ -87,7 +87,7 @@ fn only_an_error_of_memory_is_no_memory(rt: HostRuntime) {
     }
 }
 
-/// So many letters.
+/// `count` letters.
 fn letters(alloc: Global, count: usize) -> Result<String, AllocError> {
     let mut text = String::new(alloc);
     for _ in 0..count {
@@ -133,7 +133,7 @@ fn a_folder_can_not_be_read(rt: HostRuntime) {
     assert!(rt; answer == Err(RunFault::Read));
 }
 
-/// A word, so many times.
+/// A word, `count` times.
 fn many(alloc: Global, word: &str, count: usize) -> Result<Vec<String>, AllocError> {
     let mut words = Vec::new(alloc);
     for _ in 0..count {

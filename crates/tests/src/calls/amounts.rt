@@ -60,7 +60,7 @@ fn a_whole_text_is_one_write(rt: HostRuntime) {
     }
 }
 
-/// Whether so many calls reached the sink below, and so many bytes are held back.
+/// Whether `calls` calls reached the sink below, and `held` bytes are held back.
 fn has_passed(sink: &Held<FailAt<MemSink<65536>>>, calls: u64, held: usize) -> bool {
     sink.sink().calls() == calls && sink.held().len() == held
 }

@@ -67,13 +67,13 @@ impl Counts {
         }
     }
 
-    /// Whether there were so many reads or writes, and so many flushes.
+    /// Whether there were `moves` reads or writes, and `flushes` flushes.
     fn are(&self, moves: u32, flushes: u32) -> bool {
         self.moves.get() == moves && self.flushes.get() == flushes
     }
 }
 
-/// Moves so many bytes a call, and fails with an error of this kind at the call of this number, counted from 1.
+/// Moves `moved` bytes a call, and fails with an error of this kind at the call of this number, counted from 1.
 #[derive(Drop)]
 struct Failing<'a> {
     kind: ErrorKind,

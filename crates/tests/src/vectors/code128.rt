@@ -3,7 +3,7 @@
 use crate::vectors::assert_drawn;
 use linear::Code128;
 
-/// Rows of the test suites of zint and barcode; zint has some from ISO/IEC 15417, HIBC's and DPD's specifications.
+/// Rows of the test suites of zint and barcode. zint has some from ISO/IEC 15417 and the specifications of HIBC and DPD.
 const CODE128: &[(&[u8], &[u8])] = &[
     (
         b"AIM1234",
@@ -67,7 +67,7 @@ const CODE128: &[(&[u8], &[u8])] = &[
     ),
 ];
 
-/// Rows of set B or set C alone, as zint and GNU barcode draw them alike.
+/// Data of set B or set C alone of which zint and GNU barcode draw the same row.
 const CODE128_DRAWN: &[(&[u8], &[u8])] = &[
     (
         b" !\"#$%&'()*+",
@@ -167,7 +167,7 @@ const CODE128_DRAWN: &[(&[u8], &[u8])] = &[
     ),
 ];
 
-/// Rows with control characters, as zint draws them.
+/// Data with control characters, and the row that zint draws.
 const CODE128_CONTROLS: &[(&[u8], &[u8])] = &[
     (b"~\x7F", b"2112141311411141131341112331112"),
     (

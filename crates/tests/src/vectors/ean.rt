@@ -2,7 +2,8 @@
 use crate::vectors::assert_digits;
 use linear::{Ean8, Ean13};
 
-/// EAN-13 in the test suites of zint, barcode and barby; zint has most of them from the GS1 General Specifications.
+/// EAN-13 in the test suites of zint, barcode and barby. zint has most of them from the GS1 General Specifications and
+/// from manuals of ISBN.
 const EAN13: &[(&[u8], &[u8])] = &[
     (
         b"4512345678906",
@@ -74,7 +75,7 @@ const EAN13: &[(&[u8], &[u8])] = &[
     ),
 ];
 
-/// EAN-13 as zint and GNU barcode draw it alike.
+/// EAN-13 of which zint and GNU barcode draw the same row.
 const EAN13_DRAWN: &[(&[u8], &[u8])] = &[
     (
         b"0954255503499",
@@ -184,7 +185,7 @@ const EAN8: &[(&[u8], &[u8])] = &[
     (b"98765430", b"1113112121313121114111111231113214113211111"),
 ];
 
-/// EAN-8 as zint and GNU barcode draw it alike.
+/// EAN-8 of which zint and GNU barcode draw the same row.
 const EAN8_DRAWN: &[(&[u8], &[u8])] = &[
     (b"00170154", b"1113211321122211312111113211222112311132111"),
     (b"12397594", b"1112221212214113112111111312123131121132111"),

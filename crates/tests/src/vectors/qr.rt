@@ -129,7 +129,7 @@ enum Kind {
     Bytes,
 }
 
-/// The 45 characters of the alphanumeric mode, no two digits beside each other.
+/// The 45 characters of the alphanumeric mode, with no two digits in a row.
 const CHARACTERS: &[u8; 45] = b"0A1B2C3D4E5F6G7H8I9JKLMNOPQRSTUVWXYZ $%*+-./:";
 
 impl Kind {
@@ -144,8 +144,8 @@ impl Kind {
     }
 }
 
-/// A kind and a number of bytes, their form, and the modules: each version with each level, as zint and qrencode draw it
-/// alike. The data fills its symbol but for a few characters, so that 0, 1, 2, 3 and more bits are left.
+/// A kind and a number of bytes, their form, and the modules: each version with each level. zint and qrencode draw the
+/// same modules. The data fills its symbol but for a few characters, so that 0, 1, 2, 3 and more bits are left.
 const FULL_SYMBOLS: &[((Kind, usize), Form, &[u8])] = &[
     (
         (Kind::Letters, 25),
@@ -581,7 +581,6 @@ const CODEWORDS: &[(&[u8], Level, &[u8])] = &[
     (b"ABCDEF", Level::H, b"20 31 CD 45 2A 14 00 EC 11"),
     (b"wxyz", Level::H, b"40 47 77 87 97 A0 EC 11 EC"),
     (b"012345A", Level::H, b"20 38 01 0B A2 E4 A0 EC 11"),
-    (b"012a", Level::H, b"40 43 03 13 26 10 EC 11 EC"),
     (b"0123a", Level::H, b"10 10 0C 34 01 61 00 EC 11"),
     (b"ABCDEa", Level::H, b"40 64 14 24 34 44 56 10 EC"),
     (b"ABCDEFa", Level::H, b"20 31 CD 45 2A 15 00 58 40"),
@@ -662,7 +661,7 @@ fn symbols(rt: HostRuntime) {
     }
 }
 
-/// So many bytes of a kind.
+/// `count` bytes of a kind.
 fn data_of(alloc: Global, kind: Kind, count: usize) -> Result<Vec<u8>, AllocError> {
     let mut data = Vec::new(alloc);
     for place in 0..count {

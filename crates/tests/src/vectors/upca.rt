@@ -2,7 +2,7 @@
 use crate::vectors::assert_digits;
 use linear::UpcA;
 
-/// UPC-A in the test suite of zint, most of it from the GS1 General Specifications.
+/// UPC-A in the test suite of zint, which has some of it from the GS1 General Specifications.
 const UPCA: &[(&[u8], &[u8])] = &[
     (
         b"012345678905",
@@ -34,7 +34,7 @@ const UPCA: &[(&[u8], &[u8])] = &[
     ),
 ];
 
-/// UPC-A as zint and GNU barcode draw it alike.
+/// UPC-A of which zint and GNU barcode draw the same row.
 const UPCA_DRAWN: &[(&[u8], &[u8])] = &[
     (
         b"041980125383",
