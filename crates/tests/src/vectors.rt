@@ -5,7 +5,7 @@
 //! - barcode 1.0.1 of Florian Sundermann, in Go (MIT), <https://github.com/boombuler/barcode>
 //! - barby 0.6.8, in Ruby (MIT), <https://github.com/toretore/barby>
 //! - BaconQrCode 2.0.8, in PHP (BSD-2-Clause), <https://github.com/Bacon/BaconQrCode>
-//! - GNU barcode 0.99 (GPL-2.0-or-later), <https://www.gnu.org/software/barcode/>
+//! - GNU barcode 0.99 (GPL-3.0-or-later), <https://www.gnu.org/software/barcode/>
 //! - qrencode 4.1.1 (LGPL-2.1-or-later), <https://fukuchi.org/works/qrencode/>
 mod code128;
 mod ean;
