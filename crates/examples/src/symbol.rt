@@ -1,5 +1,8 @@
 //! From bytes to the modules of a QR symbol.
-ghost use Rattle.std.specs.Prelude.{◌≡◌, ◌≤◌, Some, option_and_then, IfOk};
+ghost use Rattle.std.specs.Prelude.{◌≡◌, ◌≤◌, Some, Ok, Err, option_and_then, IfOk, IfErr};
+ghost use Rattle.filter.specs.Label.{label_of};
+ghost use Rattle.labelcore.specs.declared.symbology.Symbology.TheVariants.{Qr};
+ghost use Rattle.picture.specs.Picture.{symbol_picture};
 ghost use Rattle.qrdata.specs.Reading.{data_in};
 ghost use Rattle.qrmatrix.specs.Reading.{read_matrix};
 ghost use Rattle.qrmatrix.specs.Symbol.{is_dark};
@@ -12,7 +15,12 @@ use qrmatrix::Matrix;
 /// bytes.
 ///
 /// Bytes that fit no version are refused by `DoesNotFit`.
+#[tactic(auto, unfolding(filter::specs::Label::label_of, filter::specs::Label::qr_modules, filter::specs::Label::qr_codewords))]
 pub fn symbol_of(options: &Options, bytes: &[u8]) -> Result<Matrix, Fault>
+    // It is the symbol that the filter draws of these bytes, and refused where the filter refuses them.
+    ensures symbol { IfOk result (λ matrix. label_of options.now Qr bytes.now
+        ≡ Ok (record { symbology = Qr; full = bytes.now; modules = symbol_picture matrix })) }
+    ensures refusal { IfErr result (λ fault. label_of options.now Qr bytes.now ≡ Err fault) }
     ensures read { IfOk result (λ matrix.
         option_and_then (λ symbol. data_in symbol.version symbol.level symbol.words)
         (read_matrix matrix.side (is_dark matrix)) ≡ Some bytes.now) }

@@ -8,6 +8,6 @@ mod lines;
 mod pictures;
 mod segments;
 mod streams;
-mod support;
+pub mod support;
 mod symbols;
 mod versions;
