@@ -6,12 +6,12 @@ mod negative;
 mod pieces;
 mod symbol;
 
-use filter::Status;
 use device::{MemSink, StdSink};
+use filter::Status;
 use labelcore::{Format, Options};
+use picture::{Framed, write_ascii};
 use qrdata::Level;
 use negative::Negative;
-use picture::{Framed, write_ascii};
 use pieces::draw_in_two;
 use std::io;
 use symbol::symbol_of;

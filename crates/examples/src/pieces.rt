@@ -5,8 +5,8 @@ ghost use Rattle.filter.specs.Line.{CountsFault};
 ghost use Rattle.filter.specs.Output.{status_of};
 ghost use Rattle.device.specs.Lines.{lines};
 
-use filter::{Filter, RunFault, Status};
 use device::Sink;
+use filter::{Filter, RunFault, Status};
 use labelcore::Options;
 
 /// Draws the labels of a text that comes in two pieces, wherever it is cut: the sinks take the images and the messages

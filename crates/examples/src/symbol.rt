@@ -8,7 +8,7 @@ ghost use Rattle.qrmatrix.specs.Reading.{read_matrix};
 ghost use Rattle.qrmatrix.specs.Symbol.{is_dark};
 
 use labelcore::{Fault, Options};
-use qrdata::{Words, choose, codewords};
+use qrdata::{Codewords, choose, codewords};
 use qrmatrix::Matrix;
 
 /// The QR symbol of the bytes, in the least version that holds them at the options' level. Its modules read back as the
@@ -27,7 +27,7 @@ pub fn symbol_of(options: &Options, bytes: &[u8]) -> Result<Matrix, Fault>
     ensures side { IfOk result (λ matrix. matrix.side ≤ 57) }
 {
     let plan = choose(options, bytes)?;
-    let mut words = Words::new();
+    let mut words = Codewords::new();
     codewords(&plan, bytes, &mut words);
     Ok(Matrix::draw(plan.version(), plan.level(), options.mask(), &words))
 }

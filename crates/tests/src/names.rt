@@ -1,9 +1,9 @@
 //! Names of files, long lists of words, and the help text: what no clause says of them.
 use crate::calls::kinds::KINDS;
 use crate::runs::support::low;
-use command::{OpenFault, WordsFault, open_file, options_of};
+use command::{OpenFault, ArgumentsFault, open_file, options_of};
+use device::MemSink;
 use filter::{RunFault, run};
-use labelcore::MemSink;
 use std::alloc::{AllocError, Allocator, Global};
 use std::fs::{File, Metadata, OpenOptions};
 use std::io::{self, ErrorKind};
@@ -144,10 +144,10 @@ fn many(alloc: Global, word: &str, count: usize) -> Result<Vec<String>, AllocErr
 
 /// Whether words are refused as bad, and for no other reason.
 fn are_bad(alloc: Global, words: &[String]) -> bool {
-    matches!(&options_of(alloc, words), Err(WordsFault::Bad))
+    matches!(&options_of(alloc, words), Err(ArgumentsFault::Bad))
 }
 
-/// Words, and from which number on they are bad.
+/// Codewords, and from which number on they are bad.
 const BAD_WORDS: [(&str, usize); 7] = [
     ("--no-such-option", 1),
     ("-x", 1),
@@ -242,7 +242,7 @@ Example: echo 'ean13 400638133393' | labels --scale 4 --height 70 > pencil.pbm
 fn assert_helps(rt: &impl Abort, alloc: Global, word: &str) -> Result<(), AllocError> {
     let words = many(alloc, word, 1)?;
     match options_of(alloc, words.as_slice()) {
-        Err(WordsFault::Help(text)) => assert!(rt; text.as_str() == HELP, "{word}"),
+        Err(ArgumentsFault::Help(text)) => assert!(rt; text.as_str() == HELP, "{word}"),
         _ => panic!(rt; "no help"),
     }
     Ok(())

@@ -1,6 +1,6 @@
 //! How many bytes a call moves. With less a run would take more time, which no clause speaks of.
 use crate::layers::support::{flushes, gives, sends_on, takes, takes_some};
-use labelcore::{FailAt, Held, MemSink, StdSink, StdSource};
+use device::{Buffered, FailAt, MemSink, StdSink, StdSource};
 use std::io::{self, Read, Write};
 
 /// Fills each buffer, and takes each text.
@@ -61,20 +61,20 @@ fn a_whole_text_is_one_write(rt: HostRuntime) {
 }
 
 /// Whether `calls` calls reached the sink below, and `held` bytes are held back.
-fn has_passed(sink: &Held<FailAt<MemSink<65536>>>, calls: u64, held: usize) -> bool {
-    sink.sink().calls() == calls && sink.held().len() == held
+fn has_passed(sink: &Buffered<FailAt<MemSink<65536>>>, calls: u64, held: usize) -> bool {
+    sink.sink().calls() == calls && sink.buffered().len() == held
 }
 
 /// Nothing goes on before 65,536 bytes are held and one more comes; then all of them go on at once.
 #[test]
 fn held_bytes_go_on_in_one_write(rt: HostRuntime) {
     let text = [b'a'; 65_536];
-    let mut sink = Held::new(FailAt::new(MemSink::new(65_536, 65_536), 0));
+    let mut sink = Buffered::new(FailAt::new(MemSink::new(65_536, 65_536), 0));
     assert!(rt; takes_some(&mut sink, &text[..65_535], 65_535));
     assert!(rt; has_passed(&sink, 0, 65_535));
     assert!(rt; takes_some(&mut sink, b"bc", 1));
     assert!(rt; has_passed(&sink, 0, 65_536));
-    let mut more = Held::new(FailAt::new(MemSink::new(65_536, 65_536), 0));
+    let mut more = Buffered::new(FailAt::new(MemSink::new(65_536, 65_536), 0));
     assert!(rt; takes_some(&mut more, &text, 65_536));
     assert!(rt; has_passed(&more, 0, 65_536));
     assert!(rt; takes_some(&mut more, b"bc", 2));
@@ -85,7 +85,7 @@ fn held_bytes_go_on_in_one_write(rt: HostRuntime) {
 fn sending_on_is_one_write_and_a_flush_one_more_call(rt: HostRuntime) {
     let text = [b'a'; 65_536];
     for amount in AMOUNTS {
-        let mut sink = Held::new(FailAt::new(MemSink::new(65_536, 65_536), 0));
+        let mut sink = Buffered::new(FailAt::new(MemSink::new(65_536, 65_536), 0));
         assert!(rt;
             takes_some(&mut sink, &text[..amount], amount),
             "{amount} bytes"

@@ -1,7 +1,7 @@
 //! A reader and a writer of std that fail with each kind of error, at each of their calls, and a writer that takes each
 //! part of a text. Each call of a device is one call of theirs, whatever it returns.
 use crate::layers::support::{flushes, gives, gives_none, takes_none, takes_some};
-use labelcore::{StdSink, StdSource};
+use device::{StdSink, StdSource};
 use std::cell::Cell;
 use std::io::{self, ErrorKind, Read, Write};
 use std::process::Abort;

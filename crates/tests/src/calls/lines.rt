@@ -3,8 +3,8 @@
 ghost use Rattle.std.specs.Prelude.{◌<◌};
 
 use crate::runs::support::{answer_of, low};
+use device::{Buffered, IoFault, MemSink, MemSource, Sink, Source};
 use filter::Status;
-use labelcore::{Held, IoFault, MemSink, MemSource, Sink, Source};
 use std::alloc::{AllocError, Global};
 use std::cell::RefCell;
 use std::process::Abort;
@@ -87,7 +87,7 @@ impl<S: Sink + Drop> Sink for Recorded<'_, S> {
 
     fn send_on(&mut self) -> Result<(), IoFault> {
         self.note(&[SENDING_ON]);
-        self.device.send_on()
+        self.device.pass_on()
     }
 
     ghost took_none = { λ s. S.took_none s.device };
@@ -287,7 +287,7 @@ fn held_pictures_of_300_lines_go_out_before_reads_and_messages(
         let calls = record_of(alloc, input.len(), BUFFER.min(piece))?;
         let want = held_record_of(alloc, calls.as_slice())?;
         let record = RefCell::new(Vec::new(alloc));
-        let mut out = Held::new(pictures(&record));
+        let mut out = Buffered::new(pictures(&record));
         assert_runs(&rt, input.as_slice(), piece, &record, &mut out);
         assert!(rt;
             record.into_inner().as_slice() == want.as_slice(),

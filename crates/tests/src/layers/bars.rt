@@ -3,7 +3,7 @@ mod listings;
 mod thresholds;
 
 use labelcore::Fault;
-use linear::{Code128, Ean8, Ean13, Linear, Row, UpcA, switching_law, table_laws};
+use linear::{Code128, Ean13, Ean8, Linear, Row, UpcA, switching_law, table_laws};
 use std::process::Abort;
 
 /// What a symbology answers to data that it is to draw over an old row, and the row.

@@ -5,8 +5,7 @@ ghost use Rattle.std.specs.Prelude.{◌≤◌};
 
 use crate::layers::support::qr_options;
 use labelcore::Fault;
-use qrdata::Level;
-use qrdata::{Mode, Plan, Segment, Version, Codewords, choose, codewords};
+use qrdata::{Codewords, Level, Mode, Plan, Segment, Version, choose, codewords};
 use std::process::Abort;
 
 fn planned(rt: &impl Abort, level: Level, min_version: u8, data: &[u8]) -> Plan
@@ -67,10 +66,10 @@ const SIZES: [(u8, usize, usize, [usize; 4]); 10] = [
 ];
 
 fn expect_data_words(rt: &impl Abort, version: Version, data: &[usize; 4]) {
-    assert!(rt; version.data_words(Level::L) == data[0]);
-    assert!(rt; version.data_words(Level::M) == data[1]);
-    assert!(rt; version.data_words(Level::Q) == data[2]);
-    assert!(rt; version.data_words(Level::H) == data[3]);
+    assert!(rt; version.data_codewords(Level::L) == data[0]);
+    assert!(rt; version.data_codewords(Level::M) == data[1]);
+    assert!(rt; version.data_codewords(Level::Q) == data[2]);
+    assert!(rt; version.data_codewords(Level::H) == data[3]);
 }
 
 #[test]
@@ -83,7 +82,7 @@ fn sizes(rt: HostRuntime) {
         };
         assert!(rt; version.number() == number);
         assert!(rt; version.side() == side);
-        assert!(rt; version.total_words() == total);
+        assert!(rt; version.total_codewords() == total);
         expect_data_words(&rt, version, &data);
     }
 }

@@ -1,8 +1,8 @@
 //! Both ends of each range of a setting, and what lies beside them; the letters and places of messages
 //! (docs/SPECIFICATION.md, Settings, Refusals).
-use labelcore::{
-    Fault, Format, Item, Level, LineBuf, MemSink, Options, Scratch, Symbology, parse, write_fault,
-};
+use device::MemSink;
+use labelcore::{Fault, Format, Item, LineBuf, Options, Scratch, Symbology, parse, write_fault};
+use qrdata::Level;
 use std::process::Abort;
 
 /// What a line asks for under the default options, of data `1`.
@@ -15,9 +15,9 @@ fn asked(rt: &impl Abort, line: &[u8], escapes: bool) -> Result<Options, Fault> 
     }
     let mut scratch = Scratch::new();
     match parse(&options, &held, &mut scratch) {
-        Item::Draw(_, own, _) => Ok(own),
-        Item::Refuse(fault) => Err(fault),
-        Item::Skip => panic!(rt; "a line that is skipped"),
+        Item::Drawn(_, own, _) => Ok(own),
+        Item::Refused(fault) => Err(fault),
+        Item::Skipped => panic!(rt; "a line that is skipped"),
     }
 }
 

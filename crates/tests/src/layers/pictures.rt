@@ -2,10 +2,7 @@
 mod widths;
 
 use device::{MemSink, write_whole};
-use picture::{
-    Bars, Framed, Grid, Scaled, files_of_texts, modules_of_pixels, pixels_of_texts, write_ascii,
-    write_pbm,
-};
+use picture::{Bars, Framed, Grid, Scaled, files_of_texts, modules_of_pixels, pixels_of_texts, write_ascii, write_pbm};
 use std::process::Abort;
 
 /// The modules of the symbol of `ean8 7351353`.

@@ -3,8 +3,7 @@
 ghost use Rattle.std.specs.Prelude.{length, ◌≤◌, ◌<◌};
 
 use crate::layers::support::qr_options;
-use qrdata::Level;
-use qrdata::{Mode, Plan, Segment, Version, choose};
+use qrdata::{Level, Mode, Plan, Segment, Version, choose};
 use std::process::Abort;
 
 /// A first segment of a rest of the data, and the bits of the list that it begins.
@@ -150,7 +149,7 @@ fn slow_version(
             long[0].bits
         };
         if let Some(version) = Version::new(number) {
-            if bits <= version.data_words(level).saturating_mul(8) {
+            if bits <= version.data_codewords(level).saturating_mul(8) {
                 return Some(version);
             }
         }

@@ -1,7 +1,6 @@
 //! How much data each version holds, beside the listing of the standard (ISO/IEC 18004, table 7).
 use crate::layers::support::qr_options;
-use qrdata::Level;
-use qrdata::choose;
+use qrdata::{Level, choose};
 use std::process::Abort;
 
 /// The most digits at the levels L, M, Q and H, from version 1 on.

@@ -1,7 +1,7 @@
 //! Output that is held back, over writers in memory.
 use crate::runs::support::{EAN8, answer_of, answer_to, joined, low, repeated};
+use device::{Buffered, FailAt, IoFault, MemSink, MemSource, Sink, Source, StdSink};
 use filter::{RunFault, Status};
-use device::{FailAt, Buffered, IoFault, MemSink, MemSource, Sink, Source, StdSink};
 use std::cell::RefCell;
 use std::io::{self, ErrorKind, Write};
 use std::process::Abort;
@@ -112,7 +112,7 @@ fn assert_one_is_held<const N: usize>(
     sent: &[u8],
 ) {
     assert!(rt; out.sink().device().bytes() == sent);
-    assert!(rt; out.held() == EAN8);
+    assert!(rt; out.buffered() == EAN8);
     assert!(rt; out.pass_on().is_ok());
     assert!(rt; out.sink().device().bytes().strip_prefix(sent) == Some(EAN8));
 }

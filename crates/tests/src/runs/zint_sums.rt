@@ -2,7 +2,8 @@
 //! draws. A picture is compared by one number, its Adler-32 sum (RFC 1950).
 use crate::runs::support::{DEFAULT, Named, run_by};
 use filter::Status;
-use labelcore::{Level, Options};
+use labelcore::Options;
+use qrdata::Level;
 use std::process::Abort;
 
 /// The Adler-32 sum of bytes.

@@ -1,7 +1,7 @@
 //! QR: symbols module by module, under a mask that is given, and the codewords of data. All data is of one mode, or of
 //! segments that no other list of segments equals in bits.
-use labelcore::{Format, Level, Options};
-use qrdata::{Words, choose, codewords};
+use labelcore::{Format, Options};
+use qrdata::{Level, Codewords, choose, codewords};
 use qrmatrix::Matrix;
 use std::alloc::{AllocError, Global};
 use std::process::Abort;
@@ -611,7 +611,7 @@ fn symbol_of(rt: &impl Abort, options: &Options, data: &[u8]) -> Matrix {
     let Ok(plan) = choose(options, data) else {
         panic!(rt; "data does not fit");
     };
-    let mut words = Words::new();
+    let mut words = Codewords::new();
     codewords(&plan, data, &mut words);
     Matrix::draw(plan.version(), plan.level(), options.mask(), &words)
 }
@@ -698,10 +698,10 @@ fn assert_codewords(rt: &impl Abort, data: &[u8], level: Level, digits: &[u8]) {
     let Ok(plan) = choose(&options_of(rt, (1, level, 0)), data) else {
         panic!(rt; "data does not fit");
     };
-    let mut words = Words::new();
+    let mut words = Codewords::new();
     codewords(&plan, data, &mut words);
     assert!(rt;
-        plan.version().data_words(level) == digits.len().div_ceil(3),
+        plan.version().data_codewords(level) == digits.len().div_ceil(3),
         "{data:?}"
     );
     assert!(rt; begin_with(words.as_slice(), digits), "{data:?}");

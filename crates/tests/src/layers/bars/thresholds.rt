@@ -1,7 +1,7 @@
 //! Both sides of each limit and of each threshold of Code 128 (ISO/IEC 15417, annex on the use of code sets).
 use super::{assert_refused, assert_widths, encoded};
 use labelcore::Fault;
-use linear::{Code128, Ean8, Ean13, UpcA};
+use linear::{Code128, Ean13, Ean8, UpcA};
 
 /// Data whose values Zint 2.11.1 writes in the same sets (`zint -b 20 --verbose`): digits at the start and at the end,
 /// two to eight of them, and bytes 31, 32, 95, 96 and 127.

@@ -1,16 +1,16 @@
 //! Bytes that are held back: how many, which calls they go on at, and what a failure leaves.
 use crate::layers::support::{flushes, sends_on, takes, takes_none, takes_some};
-use device::{FailAt, Buffered, MemSink, Sink};
+use device::{Buffered, FailAt, MemSink, Sink};
 use std::process::Abort;
 
 /// Whether the memory below has the one text, and the other is held back.
 fn stands(sink: &Buffered<MemSink<8>>, below: &[u8], held: &[u8]) -> bool {
-    sink.sink().bytes() == below && sink.held() == held
+    sink.sink().bytes() == below && sink.buffered() == held
 }
 
 /// Whether the memory below the counted calls has the one text, and the other is held back.
 fn stands_counted(sink: &Buffered<FailAt<MemSink<8>>>, below: &[u8], held: &[u8]) -> bool {
-    sink.sink().device().bytes() == below && sink.held() == held
+    sink.sink().device().bytes() == below && sink.buffered() == held
 }
 
 #[test]
@@ -37,7 +37,7 @@ fn write_letters(rt: &impl Abort, count: usize, sink: &mut impl Sink) {
 
 /// Whether so many bytes went on to the memory below, and so many are held back.
 fn counts(sink: &Buffered<MemSink<66000>>, below: usize, held: usize) -> bool {
-    sink.sink().bytes().len() == below && sink.held().len() == held
+    sink.sink().bytes().len() == below && sink.buffered().len() == held
 }
 
 /// Bytes that are written, and how many of them go on before the flush and are held back.
@@ -106,9 +106,9 @@ fn a_write_into_a_full_room_fails_as_the_sink_below(rt: HostRuntime) {
     let mut sink = Buffered::new(FailAt::new(MemSink::<66000>::new(66000, 66000), 1));
     write_letters(&rt, 65_536, &mut sink);
     assert!(rt; takes_none(&mut sink, b"b"));
-    assert!(rt; sink.held().len() == 65_536);
+    assert!(rt; sink.buffered().len() == 65_536);
     assert!(rt; takes_some(&mut sink, b"b", 1));
-    assert!(rt; sink.held() == b"b".as_slice());
+    assert!(rt; sink.buffered() == b"b".as_slice());
     assert!(rt; sink.sink().device().bytes().len() == 65_536);
 }
 
