@@ -1,33 +1,49 @@
 #!/usr/bin/env python3
 """What has to be believed: every definition that the clause `whole` of the filter's `run` rests on.
 
-usage: scripts/believed.py            prints the list in reading order, and the lines by crate
-       scripts/believed.py --write    writes the lists of docs/DEFINITIONS.md
-       scripts/believed.py --check    compares that page with the lists: status 1 where a definition is missing or one too many
+With no option it prints the list in reading order, and how many lines each crate and each kind has. --write
+makes the lists of docs/DEFINITIONS.md anew. --check makes them anew, and compares the whole page with what
+--write would leave: status 1, and the differences, where a word, a description or a number of lines is not the
+one that the files give. It compares the number of lines that README.md gives too.
 
-The first list of the page has the definitions of the headline, the second the other words of specs/, but for the modules whose
-name begins with Private: only contracts inside a crate cite these. What the page says after `Why: ` of a file is kept.
+The first list of the page has the definitions of the headline, the second the other words of specs/, but for
+the modules whose name begins with Private: only contracts inside a crate cite these. What the page says after
+`Why: ` of a file is kept. The third list has what contracts speak by and is no definition: traits, types and
+views of the code.
 
-It reads the text of the files in crates/*/specs; no tool of the kit is needed. A definition is a block of lines between blank ones.
-It rests on a word that stands in it, where the word is defined in its file or brought in by a line `use`. A name that is bound in a
-definition and means something else in its file counts as that word: the list may be too long by that, never too short.
+It reads the text of the files in crates/*/specs and crates/*/src; no tool of the kit is needed. A definition is
+a block of lines between blank ones. It rests on a word that stands in it, where the word is defined in its file
+or brought in by a line `use`. A name that is bound in a definition and means something else in its file counts
+as that word: the list may be too long by that, never too short.
 """
 
+import argparse
+import difflib
 import itertools
 import os
 import re
 import sys
 import textwrap
+from collections import Counter
+from dataclasses import dataclass
 
-TOP = os.path.dirname(os.path.dirname(os.path.abspath(__file__)))
+import declared
+import sources
+
 ROOT = ("filter", "Run", "RunsWhole")
+# The function whose clause it is, and the file of it: what the headline speaks by stands in its head.
+HEADLINE = ("filter", "engine", "run")
 # The crates in the order in which a reader meets them, from the headline down.
 CRATES = ["filter", "labelcore", "picture", "linear", "qrmatrix", "qrdata", "gf256", "command"]
-PAGE = os.path.join(TOP, "docs", "DEFINITIONS.md")
-MARKS = [("<!-- believed: begin -->", "<!-- believed: end -->"), ("<!-- other: begin -->", "<!-- other: end -->")]
+# The crates on whose contracts no other crate rests.
+AT_THE_TOP = {"labels", "examples", "tests"}
+PAGE = os.path.join("docs", "DEFINITIONS.md")
+README_NUMBER = re.compile(r"([\d,]+)\s+lines\s+of\s+\[definitions\]")
+# The most lines of differences that --check prints.
+SHOWN = 60
 
 NAME = r"[^\W\d][\w']*(?:-[\w']+)*"
-NO_WORDS = {"infixl", "infixr", "unfolding", "module"}
+NO_WORDS = {"infixl", "infixr", "unfolding", "module", "mod"}
 HEAD = re.compile(rf"^(?:(?:abbrev|unfoldable)\s+)?(?:pub\s+)?(?:record\s+|data\s+)?(◌\S+◌|{NAME})(?=[\s:(])")
 WORD = re.compile(rf"{NAME}(?:\.{NAME})*")
 
@@ -97,16 +113,17 @@ class File:
             self.modules[whole.group(3) or whole.group(2).split(".")[-1]] = (whole.group(1), whole.group(2))
 
 
-def read_files():
-    files = {}
+def read_files(top):
+    files, unknown = {}, set(sources.crates_of(top)) - {*CRATES} - AT_THE_TOP
+    if unknown:
+        names = ", ".join(sorted(unknown))
+        sys.exit(f"crates.txt has {names}: scripts/believed.py has to name it in CRATES or AT_THE_TOP")
     for crate in CRATES:
-        folder = os.path.join(TOP, "crates", crate, "specs")
-        for where, _, names in os.walk(folder):
-            for name in sorted(names):
-                if name.endswith(".antt") and name != "Lib.antt":
-                    path = os.path.relpath(os.path.join(where, name), folder)[:-5].replace(os.sep, ".")
-                    with open(os.path.join(where, name), encoding="utf-8") as text:
-                        files[crate, path] = File(crate, path, text.read())
+        folder = os.path.join(top, "crates", crate, "specs")
+        for path in sources.files_below(folder, ".antt"):
+            module = os.path.relpath(path, folder)[:-5].replace(os.sep, ".")
+            if os.path.basename(path) != "Lib.antt":
+                files[crate, module] = File(crate, module, sources.read(path))
     return files
 
 
@@ -115,7 +132,10 @@ def find(files, crate, module, name):
     if module.startswith("declared"):
         return (crate, module, name)
     file = files.get((crate, module))
-    return file.of_name.get(name) if file else None
+    found = file.of_name.get(name) if file else None
+    if crate in CRATES and found is None:
+        sys.exit(f"crates/{crate}/specs/{module.replace('.', '/')}.antt has no {name}, which another file names")
+    return found
 
 
 def rests_on(files, file, definition):
@@ -139,9 +159,8 @@ def rests_on(files, file, definition):
     return [one for one in found if one is not None and one is not definition]
 
 
-def believed():
+def believed(files):
     """The definitions that the headline rests on, and the code's own types, each in reading order."""
-    files = read_files()
     crate, module, word = ROOT
     if (crate, module) not in files or word not in files[crate, module].of_name:
         sys.exit(f"no definition {word} in crates/{crate}/specs/{module}.antt")
@@ -158,7 +177,7 @@ def believed():
             continue
         reached.append(one)
         waiting.extend(rests_on(files, files[key[0], key[1]], one))
-    return files, reached, types
+    return reached, types
 
 
 def by_file(reached):
@@ -204,13 +223,70 @@ def part(files, definitions, whys):
     return "\n".join(out) + "\n"
 
 
-def between(page, marks):
-    return page.partition(marks[0])[2].partition(marks[1])[0]
+def types_named(files, definitions):
+    """The code's own types and constants that definitions name, each with its crate and module."""
+    found = []
+    for one in definitions:
+        found += [it for it in rests_on(files, files[one.key[0], one.key[1]], one) if isinstance(it, tuple)]
+    return found
 
 
-def read_part(text):
-    """The words that a list has, each with its crate and file, and what it says of the files after `Why: `."""
-    words, whys, crate, module = set(), {}, None, None
+@dataclass
+class Lists:
+    """What the page lists: definitions of the headline and others, items of code of the headline and others."""
+
+    files: dict
+    reached: list
+    others: list
+    code_of_headline: list
+    other_code: list
+
+
+def read_lists(top):
+    files = read_files(top)
+    reached, types = believed(files)
+    rest = others(files, reached)
+    in_headline = declared.named_in(types)
+    items = declared.code_items(top, CRATES, in_headline | declared.named_in(types_named(files, rest)))
+    words = declared.words_of_head(top, *HEADLINE)
+    if words is None:
+        sys.exit(f"no function {HEADLINE[2]} in crates/{HEADLINE[0]}/src/{HEADLINE[1]}.rt")
+
+    def is_of_headline(item):
+        if item.kind in ("trait", "view"):
+            return item.name in words
+        return (item.crate, item.file, item.name) in in_headline
+
+    other_items = [one for one in items if not is_of_headline(one)]
+    return Lists(files, reached, rest, [one for one in items if is_of_headline(one)], other_items)
+
+
+def counts_of_code(items):
+    """How many items of each kind there are, and their lines, in words."""
+    lines = Counter()
+    for one in items:
+        lines[one.kind] += one.lines
+    counts = Counter(one.kind for one in items)
+    shown = []
+    for kind in declared.KINDS:
+        if counts[kind]:
+            many = kind if kind == "members" or counts[kind] == 1 else f"{kind}s"
+            shown.append(f"{counts[kind]} {many}, {lines[kind]} lines")
+    return "; ".join(shown)
+
+
+def code_part(heading, items):
+    """A list of items of code as the page has it."""
+    out = ["", f"### {heading}", "", f"{counts_of_code(items)}.", ""]
+    out += ["| Item | Of `crates/` | Lines | What it says |", "|---|---|---|---|"]
+    for one in items:
+        out.append(f"| {one.kind} `{one.name}` | `{one.crate}/src/{one.file}.rt` | {one.lines} | {cell(one.about)} |")
+    return "\n".join(out) + "\n"
+
+
+def whys_of(text):
+    """What a list of the page says of its files after `Why: `, each by crate and file."""
+    whys, crate, module, is_open = {}, None, None, False
     for line in text.split("\n"):
         if head := re.match(r"### `(\w+)`", line):
             crate = head.group(1)
@@ -218,67 +294,112 @@ def read_part(text):
             module = head.group(1)
         elif line.startswith("Why: "):
             whys[crate, module] = line
-        elif (crate, module) in whys and line and not line.startswith("|"):
+        elif is_open and line:
             whys[crate, module] += "\n" + line
-        elif row := re.match(r"\| `([^`]+)` \|", line):
-            words.add((crate, module, row.group(1)))
-    return words, whys
+        is_open = line != "" and (is_open or line.startswith("Why: "))
+    return whys
 
 
-def check(page, lists):
-    """Whether the lists of the page are these, each difference printed."""
-    same = True
-    for marks, definitions in zip(MARKS, lists):
-        there, wanted = read_part(between(page, marks))[0], {one.key for one in definitions}
-        for crate, module, word in sorted(wanted - there):
-            print(f"docs/DEFINITIONS.md lacks {word} of crates/{crate}/specs/{module}.antt")
-        for crate, module, word in sorted(there - wanted):
-            print(f"docs/DEFINITIONS.md has {word} of crates/{crate}/specs/{module}.antt in a list where it does not belong")
-        same = same and there == wanted
-    return same
+def list_texts(lists):
+    """The name of each list of the page, and a function that makes its text of the old one."""
+    code = code_part("Of the headline", lists.code_of_headline)
+    code += code_part("Of other public contracts", lists.other_code)
+    return {
+        "believed": lambda old: part(lists.files, lists.reached, whys_of(old)),
+        "other": lambda old: part(lists.files, lists.others, whys_of(old)),
+        "code": lambda old: code,
+    }
 
 
-def write(page, files, lists):
+def page_anew(page, lists):
     """The page with its lists made anew."""
-    for marks, definitions in zip(MARKS, lists):
-        before, _, rest = page.partition(marks[0])
-        old, _, after = rest.partition(marks[1])
-        page = before + marks[0] + "\n" + part(files, definitions, read_part(old)[1]) + "\n" + marks[1] + after
+    for name, made in list_texts(lists).items():
+        begin, end = f"<!-- {name}: begin -->", f"<!-- {name}: end -->"
+        before, found_begin, rest = page.partition(begin)
+        old, found_end, after = rest.partition(end)
+        if not found_begin or not found_end:
+            sys.exit(f"{PAGE} lacks the line '{begin}' or, after it, the line '{end}'")
+        page = before + begin + "\n" + made(old) + "\n" + end + after
     return page
 
 
-def main():
-    files, reached, types = believed()
-    lists = [reached, others(files, reached)]
-    if sys.argv[1:] in (["--check"], ["--write"]):
-        with open(PAGE, encoding="utf-8") as text:
-            page = text.read()
-        if sys.argv[1] == "--check":
-            return 0 if check(page, lists) else 1
-        with open(PAGE, "w", encoding="utf-8") as text:
-            text.write(write(page, files, lists))
-        return 0
-    if sys.argv[1:]:
-        sys.exit(__doc__)
-    for crate, modules in by_file(reached):
+def check_page(page, lists):
+    """Whether the page is the one that --write would leave. Prints the first differences."""
+    anew = page_anew(page, lists)
+    if anew == page:
+        return True
+    differences = list(difflib.unified_diff(
+        page.split("\n"), anew.split("\n"), f"{PAGE} as it is", f"{PAGE} as the files give it", lineterm="", n=1
+    ))
+    print(*differences[:SHOWN], sep="\n")
+    if len(differences) > SHOWN:
+        print(f"and {len(differences) - SHOWN} more lines")
+    print(f"{PAGE} is not what the files give: scripts/believed.py --write makes its lists anew")
+    return False
+
+
+def check_readme(readme, lists):
+    """Whether README.md gives the number of lines of the headline's definitions."""
+    found, lines = README_NUMBER.search(readme), lines_of(lists.reached)
+    if not found:
+        print(f"README.md does not give the number of lines of definitions, as '{lines:,} lines of [definitions]'")
+    elif found.group(1) != f"{lines:,}":
+        print(f"README.md says {found.group(1)} lines of definitions; specs/ has {lines:,}")
+    return bool(found) and found.group(1) == f"{lines:,}"
+
+
+def print_definitions(lists):
+    for crate, modules in by_file(lists.reached):
         for module, definitions in modules.items():
-            print(f"crates/{crate}/specs/{module.replace('.', '/')}.antt: {files[crate, module].about}")
+            print(f"crates/{crate}/specs/{module.replace('.', '/')}.antt: {lists.files[crate, module].about}")
             for one in definitions:
                 print(f"    {one.key[2]}: {one.comment}")
-    print("\nThe code's own types and constants among them:")
-    for crate, module, word in types:
-        print(f"    {word} ({crate}, {module})")
+    print("\nTypes, traits and views of the code among them:")
+    for one in lists.code_of_headline:
+        print(f"    {one.kind} {one.name} (crates/{one.crate}/src/{one.file}.rt, {one.lines} lines)")
+
+
+def print_counts(lists):
     print("\nLines, without blank lines and comments:")
-    total = 0
-    for crate, modules in by_file(reached):
+    for crate, modules in by_file(lists.reached):
         here = [one for definitions in modules.values() for one in definitions]
-        total += lines_of(here)
         print(f"    {crate}: {len(here)} definitions, {lines_of(here)} lines")
-    print(f"    in all: {len(reached)} definitions, {total} lines in {len({one.key[:2] for one in reached})} files")
-    every = [one for file in files.values() for one in file.order]
-    rest, private = lines_of(lists[1]), lines_of(every) - total - lines_of(lists[1])
-    print(f"    beside it: {len(lists[1])} definitions, {rest} lines; words of private contracts: {private} lines")
+    total, file_count = lines_of(lists.reached), len({one.key[:2] for one in lists.reached})
+    print(f"    in all: {len(lists.reached)} definitions, {total} lines in {file_count} files")
+    print(f"    of the code: {counts_of_code(lists.code_of_headline)}")
+    every = [one for file in lists.files.values() for one in file.order]
+    private = lines_of(every) - total - lines_of(lists.others)
+    rest = lists.others
+    print(f"    what other public contracts speak of: {len(rest)} definitions, {lines_of(rest)} lines")
+    print(f"        of the code: {counts_of_code(lists.other_code)}")
+    print(f"    words of private contracts: {private} lines")
+
+
+def arguments():
+    parser = argparse.ArgumentParser(description=__doc__, formatter_class=argparse.RawDescriptionHelpFormatter)
+    way = parser.add_mutually_exclusive_group()
+    way.add_argument("--write", action="store_true", help="make the lists of docs/DEFINITIONS.md anew")
+    way.add_argument("--check", action="store_true", help="compare docs/DEFINITIONS.md and README.md with the files")
+    parser.add_argument("--top", default=sources.TOP, metavar="FOLDER", help="the repository (that of this script)")
+    return parser.parse_args()
+
+
+def main():
+    given = arguments()
+    lists, path = read_lists(given.top), os.path.join(given.top, PAGE)
+    if given.write:
+        anew = page_anew(sources.read(path), lists)
+        with open(path, "w", encoding="utf-8") as file:
+            file.write(anew)
+    elif given.check:
+        is_page_right = check_page(sources.read(path), lists)
+        is_readme_right = check_readme(sources.read(os.path.join(given.top, "README.md")), lists)
+        return 0 if is_page_right and is_readme_right else 1
+    else:
+        print_definitions(lists)
+        print_counts(lists)
     return 0
 
 
-sys.exit(main())
+if __name__ == "__main__":
+    sys.exit(main())

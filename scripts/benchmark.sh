@@ -3,16 +3,45 @@
 #
 # usage: scripts/benchmark.sh [PROGRAM] > rows.md
 #
-# PROGRAM is crates/labels/out/labels where none is given. It prints Markdown tables, those of docs/BENCHMARKS.md. All tools draw the
-# same labels. A time is processor time, user and system together, of all processes of a measurement: on a machine that does other work too
-# it says more than the time on the clock. It is the least of ROUNDS rounds (5), in which the tools take turns. ONE_BY_ONE (300) labels
-# are drawn with a process for each, MANY (1000) in one run, HUGE (1000000) in the run for memory. Files go to a folder in TMPDIR, /tmp
-# where it is not set: TMPDIR=/dev/shm keeps them off the disk.
+# PROGRAM is crates/labels/out/labels where none is given. It prints Markdown tables, those of docs/BENCHMARKS.md.
+# All tools draw the same labels. A time is processor time, user and system together, of all processes of a
+# measurement: on a machine that does other work too it says more than the time on the clock. It is the lowest of
+# ROUNDS rounds (5), in which the tools take turns. ONE_BY_ONE (300) labels are drawn with a process for each,
+# MANY (1000) in one run, HUGE (1000000) in the run for memory. Files go to a folder in TMPDIR, /tmp where it is
+# not set: TMPDIR=/dev/shm keeps them off the disk.
+#
+# What is not installed is named on standard error, and left out: a tool of the three, or GNU time, by which
+# memory is measured. Status 77: not one of the three tools is installed, so there is nothing to measure beside.
+# Status 2: bad words or no such program.
 # shellcheck disable=SC2016  # a command in single quotes is for the bash of its measurement
 set -euo pipefail
 
+usage() { sed -n '/^# usage: /,/^#$/s/^# \{0,1\}//p' "$0" | sed '/^$/d'; }
+
+stop() {
+    echo "$0: $1" >&2
+    exit "${2:-2}"
+}
+
+has() { command -v "$1" > /dev/null; }
+
+case ${1-} in
+    -h | --help) usage && exit 0 ;;
+    -*) usage >&2 && exit 2 ;;
+esac
+[ $# -le 1 ] || { usage >&2 && exit 2; }
+
 top=$(cd "$(dirname "$0")/.." && pwd)
-labels=$(realpath "${1:-$top/crates/labels/out/labels}")
+labels=${1:-$top/crates/labels/out/labels}
+missing=()
+for tool in qrencode zint barcode; do has "$tool" || missing+=("$tool"); done
+[ ${#missing[@]} -lt 3 ] || stop "skipped, nothing was measured: not installed: ${missing[*]}" 77
+[ -x /usr/bin/time ] || missing+=("/usr/bin/time (no table of memory)")
+[ ${#missing[@]} -eq 0 ] || echo "$0: not installed, so left out: ${missing[*]}" >&2
+if ! [ -f "$labels" ] || ! [ -x "$labels" ]; then
+    stop "$labels is no program: run 'rt run < /dev/null' in crates/labels, or name another one"
+fi
+labels=$(realpath "$labels")
 rounds=${ROUNDS:-5}
 one_by_one=${ONE_BY_ONE:-300}
 many=${MANY:-1000}
@@ -21,8 +50,6 @@ scratch=$(mktemp -d)
 trap 'rm -rf "$scratch"' EXIT
 cd "$scratch"
 export labels
-
-has() { command -v "$1" > /dev/null; }
 
 # The data of $2 labels of kind $1, one a line.
 data_of() {
@@ -78,7 +105,8 @@ measure() {
     commands+=("$2")
 }
 
-# Runs the measurements in rounds, and prints a row for each: its least time for each of $1 labels, and the ratio to the first.
+# Runs the measurements in rounds, and prints a row for each: its lowest time for each of $1 labels, and the ratio to
+# the first.
 print_rows() {
     local count=$1 round i seconds first
     local best=() TIMEFORMAT='%3U %3S'
@@ -113,13 +141,16 @@ table_one_by_one() {
     lines_of "$1" < data > lines
     measure 'labels' 'while read -r line; do "$labels" <<< "$line" > /dev/null; done < lines'
     if has qrencode && [ -n "$(qrencode_words "$1")" ]; then
-        measure 'qrencode (text)' "while read -r data; do qrencode $(qrencode_words "$1") -o /dev/null \"\$data\"; done < data"
+        measure 'qrencode (text)' "while read -r data; do
+            qrencode $(qrencode_words "$1") -o /dev/null \"\$data\"; done < data"
     fi
     if has zint; then
-        measure 'zint (BMP)' "while read -r data; do zint $(zint_words "$1") --scale=0.5 --direct --filetype=bmp -d \"\$data\" > /dev/null; done < data"
+        measure 'zint (BMP)' "while read -r data; do
+            zint $(zint_words "$1") --scale=0.5 --direct --filetype=bmp -d \"\$data\" > /dev/null; done < data"
     fi
     if has barcode && [ -n "$(barcode_words "$1")" ]; then
-        measure 'GNU barcode (EPS)' "while read -r data; do barcode $(barcode_words "$1") -E -b \"\$data\" -o /dev/null; done < data"
+        measure 'GNU barcode (EPS)' "while read -r data; do
+            barcode $(barcode_words "$1") -E -b \"\$data\" -o /dev/null; done < data"
     fi
     measure '(a process that does nothing)' 'while read -r line; do /bin/true <<< "$line" > /dev/null; done < lines'
     print_head "$2, $one_by_one labels, a process for each"
@@ -133,7 +164,8 @@ table_one_run() {
     measure 'labels, one stream' '"$labels" lines > /dev/null'
     measure 'labels and csplit, one file a label' '"$labels" lines | csplit -sz -n 6 -f pictures/ - "/^P1$/" "{*}"'
     if has zint; then
-        measure 'zint --batch (BMP), one file a label' "cd pictures && zint $(zint_words "$1") --scale=0.5 --batch -i ../data -o '~~~~~~.bmp' --filetype=bmp"
+        measure 'zint --batch (BMP), one file a label' "cd pictures &&
+            zint $(zint_words "$1") --scale=0.5 --batch -i ../data -o '~~~~~~.bmp' --filetype=bmp"
     fi
     if has barcode && [ -n "$(barcode_words "$1")" ]; then
         measure 'GNU barcode, one PostScript file' "barcode $(barcode_words "$1") -i data -o /dev/null"
@@ -173,7 +205,8 @@ table_memory() {
         for count in "$many" 10000; do
             data_of ean13 "$count" > data
             rm -rf pictures && mkdir pictures
-            memory_row "zint --batch, $count lines" zint "${zint_ean13[@]}" --scale=0.5 --batch -i data -o 'pictures/~~~~~~.bmp' --filetype=bmp
+            memory_row "zint --batch, $count lines" \
+                zint "${zint_ean13[@]}" --scale=0.5 --batch -i data -o 'pictures/~~~~~~.bmp' --filetype=bmp
         done
     fi
     if has qrencode; then
@@ -188,7 +221,8 @@ print_machine() {
     has qrencode && echo "- $(qrencode --version 2>&1 | head -n 1)"
     has zint && echo "- $(zint --version | head -n 1)"
     has barcode && echo "- GNU barcode $(barcode --version 2>&1 | awk '{ print $3; exit }')"
-    echo "- System: $(sed -n 's/^PRETTY_NAME="\(.*\)"$/\1/p' /etc/os-release), files on $(df --output=fstype . | tail -n 1)"
+    echo "- System: $(sed -n 's/^PRETTY_NAME="\(.*\)"$/\1/p' /etc/os-release)," \
+        "files on $(df --output=fstype . | tail -n 1)"
     echo "- Load of the machine before: $(cut -d' ' -f1-3 /proc/loadavg)"
 }
 
@@ -198,4 +232,4 @@ for kind in 'ean13 EAN-13' 'code128 Code 128, 19 characters' 'qr QR, version 3, 
     table_one_by_one "${kind%% *}" "${kind#* }"
     table_one_run "${kind%% *}" "${kind#* }"
 done
-table_memory
+[ ! -x /usr/bin/time ] || table_memory

@@ -2,39 +2,95 @@
 # Counts the instructions that a label takes, beside zint, GNU barcode and qrencode, as far as they are installed.
 #
 # usage: scripts/instructions.sh [PROGRAM] > table.md
+#        scripts/instructions.sh --check [--table FILE] [PROGRAM]
 #
-# PROGRAM is crates/labels/out/labels where none is given. It needs valgrind, and prints the first table of docs/BENCHMARKS.md. The
-# count is valgrind's (callgrind), the same on a busy machine as on an idle one. Of each tool the start of the process is taken off:
-# COUNT (20) equal labels are drawn in one run, and a run over none is subtracted, for zint and GNU barcode one over a single label, for
-# qrencode, which draws one label a run, one that prints its version. So a row says what one label more costs. Every tool writes to /dev/null.
+# PROGRAM is crates/labels/out/labels where none is given. Without --check it prints the first two tables of
+# docs/BENCHMARKS.md. The count is valgrind's (callgrind), the same on a busy machine as on an idle one. Of each
+# tool the start of the process is taken off: COUNT (20) equal labels are drawn in one run, and a run over none is
+# subtracted, for zint and GNU barcode one over a single label, for qrencode, which draws one label a run, one
+# that prints its version. So a row says what one label more costs. The second table counts the system calls of
+# one run, without those of a run over no line. Every tool writes to /dev/null.
+#
+# With --check it counts for `labels` alone, and compares each row with these tables (or those in FILE): it prints
+# the count of the table, the one measured and the difference. Status 1 where a row takes more than 5 % more than
+# the table says, or where a table lacks a row, has one that is no number, or one that is not measured here. A
+# row that takes more than 5 % less is no failure: a note says that the table is out of date.
+#
+# Status 2: bad words, no such program, or a count that failed. Status 77: valgrind is not installed, nothing was
+# counted.
+# shellcheck disable=SC2016  # names of rows have backticks
 set -euo pipefail
 shopt -s inherit_errexit
 
+usage() { sed -n '/^# usage: /,/^#$/s/^# \{0,1\}//p' "$0" | sed '/^$/d'; }
+
+stop() {
+    echo "$0: $1" >&2
+    exit "${2:-2}"
+}
+
 top=$(cd "$(dirname "$0")/.." && pwd)
-labels=$(realpath "${1:-$top/crates/labels/out/labels}")
+mode=table
+table=$top/docs/BENCHMARKS.md
+labels=
+while [ $# -gt 0 ]; do
+    case $1 in
+        -h | --help) usage && exit 0 ;;
+        --check) mode=check ;;
+        --table)
+            [ $# -gt 1 ] || { usage >&2 && exit 2; }
+            table=$2
+            shift
+            ;;
+        -*) usage >&2 && exit 2 ;;
+        *)
+            [ -z "$labels" ] || { usage >&2 && exit 2; }
+            labels=$1
+            ;;
+    esac
+    shift
+done
+
+has() { command -v "$1" > /dev/null; }
+
+has valgrind || stop "skipped, nothing was counted: not installed: valgrind" 77
+labels=${labels:-$top/crates/labels/out/labels}
+if ! [ -f "$labels" ] || ! [ -x "$labels" ]; then
+    stop "$labels is no program: run 'rt run < /dev/null' in crates/labels, or name another one"
+fi
+[ -r "$table" ] || stop "$table cannot be read"
+labels=$(realpath "$labels")
+table=$(realpath "$table")
 count=${COUNT:-20}
+# By how much in a hundred a count may be above that of the table.
+room=5
 scratch=$(mktemp -d)
 trap 'rm -rf "$scratch"' EXIT
 cd "$scratch"
 
-has() { command -v "$1" > /dev/null; }
-
-has valgrind || { echo "$0: valgrind is not installed" >&2; exit 3; }
-
 # The instructions of a command.
 instructions_of() {
     valgrind --tool=callgrind --callgrind-out-file=/dev/null "$@" 2>&1 > /dev/null |
-        awk '/ Collected : / { print $4; found = 1 } END { exit !found }' || {
-        echo "$0: no count of: $*" >&2
-        return 3
-    }
+        awk '/ Collected : / { print $4; found = 1 } END { exit !found }' || stop "no count of: $*"
+}
+
+# How often a command makes the system call $1.
+calls_of() {
+    local call=$1
+    shift
+    valgrind --tool=none --trace-syscalls=yes "$@" 2> calls > /dev/null || stop "no count of: $*"
+    grep -q ' sys_read ' calls || stop "valgrind names no system call of: $*"
+    grep -c " $call " calls || true
 }
 
 # The text $1, $2 times, each on a line.
 times() { for ((i = 0; i < $2; i++)); do printf '%s\n' "$1"; done; }
 
-# What a label more costs, rounded to hundreds: the instructions $1 of a run over so many labels $3, less those $2 of one without them.
-each() { awk -v all="$1" -v start="$2" -v n="$3" 'BEGIN { printf "%d", 100 * int((all - start) / n / 100 + 0.5) }'; }
+# What a label more costs: the instructions $1 of a run over so many labels $3, less those $2 of one without them.
+each() { awk -v all="$1" -v start="$2" -v n="$3" 'BEGIN { printf "%d", (all - start) / n + 0.5 }'; }
+
+# A number rounded to hundreds.
+rounded() { awk '{ printf "%d", 100 * int($1 / 100 + 0.5) }'; }
 
 # A number with a comma after its thousands.
 shown() { sed -E ':a; s/^([0-9]+)([0-9]{3})/\1,\2/; ta'; }
@@ -44,6 +100,7 @@ by_labels() {
     local line=$1 all start
     shift
     times "$line" "$count" > lines
+    if ! "$labels" "$@" lines > drawn || ! [ -s drawn ]; then stop "$labels draws no label of: $line"; fi
     all=$(instructions_of "$labels" "$@" lines)
     start=$(instructions_of "$labels" "$@" /dev/null)
     each "$all" "$start" "$count"
@@ -77,21 +134,95 @@ by_qrencode() {
 
 # A cell: the count by tool $1, if it is installed and has words for it.
 cell() {
-    if [ $# -gt 2 ] && has "$1"; then "by_$1" "${@:2}" | shown; else printf -- '-'; fi
+    if [ $# -gt 2 ] && has "$1"; then "by_$1" "${@:2}" | rounded | shown; else printf -- '-'; fi
 }
 
-# A row with name $1 for the labels' line $2, their words $3, the data $4, and each tool's words.
-row() {
+# A row of the table: name $1, the line $2 of `labels` and its words $3, the data $4, and each tool's words.
+print_row() {
     local name=$1 line=$2 words=$3 data=$4 zint=$5 barcode=$6 qrencode=$7
     local ours
     # shellcheck disable=SC2086  # words are several words
     {
-        ours=$(by_labels "$line" $words | shown)
+        ours=$(by_labels "$line" $words | rounded | shown)
         zint=$(cell zint "$data" $zint)
         barcode=$(cell barcode "$data" $barcode)
         qrencode=$(cell qrencode "$data" $qrencode)
     }
     printf '| %s | %s | %s | %s | %s |\n' "$name" "$ours" "$zint" "$barcode" "$qrencode"
+}
+
+# The rows below the heads of both tables, as far as they go: a name, a tab, what stands in the column of `labels`.
+rows_of_table() {
+    awk -F ' *[|] *' -v OFS='\t' '($2 == "Label" || $2 == "Calls") && $3 == "labels" { inside = 1; next }
+        !/^[|]/ { inside = 0 }
+        inside && $2 !~ /^-+$/ { print $2, $3 }' "$table"
+}
+
+names=()
+failures=0
+
+fail() {
+    echo "$1"
+    failures=$((failures + 1))
+}
+
+# Compares the count $2 of the row of name $1 with the table.
+compare() {
+    local name=$1 found=$2
+    local wanted percent line
+    names+=("$name")
+    wanted=$(rows_of_table | awk -F '\t' -v name="$name" '$1 == name { print $2 }')
+    if ! [[ ${wanted//,/} =~ ^[1-9][0-9]*$ ]]; then
+        fail "FAILS $name: the table has ${wanted:-no such row}${wanted:+, which is no one count}"
+        return
+    fi
+    percent=$(awk -v a="$found" -v b="${wanted//,/}" 'BEGIN { printf "%+.1f", 100 * (a - b) / b }')
+    line="$name: $wanted in the table, $(shown <<< "$found") measured, $percent %"
+    if awk -v p="$percent" -v room="$room" 'BEGIN { exit !(p > room) }'; then
+        fail "FAILS $line"
+    elif awk -v p="$percent" -v room="$room" 'BEGIN { exit !(p < -room) }'; then
+        echo "note: the table is out of date: $line"
+    else
+        echo "$line"
+    fi
+}
+
+# A row of name $1 for the line $2 of `labels` and the words $3; for the table also the data and each tool's words.
+row() {
+    local found
+    if [ "$mode" = table ]; then
+        print_row "$@"
+    else
+        # shellcheck disable=SC2086  # words are several words
+        found=$(by_labels "$2" $3)
+        compare "$1" "$found"
+    fi
+}
+
+# A row of name $1 for the calls $2 of a run over 1,000 EAN-13 labels.
+calls_row() {
+    local found
+    times 'ean13 400638133393' 1000 > lines
+    found=$(($(calls_of "$2" "$labels" lines) - $(calls_of "$2" "$labels" /dev/null)))
+    if [ "$mode" = table ]; then printf '| %s | %s |\n' "$1" "$found"; else compare "$1" "$found"; fi
+}
+
+# Sees that the table has no row but those of `names`, and says how the check ended.
+end_check() {
+    local name
+    while IFS=$'\t' read -r name _; do
+        printf '%s\n' "${names[@]}" | grep -qxF -- "$name" ||
+            fail "FAILS $name: a row of the table that is not measured here"
+    done < <(rows_of_table)
+    echo "${#names[@]} rows, $failures failed"
+    [ "$failures" -eq 0 ]
+}
+
+# Which other tools are not installed: their columns are empty.
+name_missing() {
+    local tool missing=()
+    for tool in zint barcode qrencode; do has "$tool" || missing+=("$tool"); done
+    [ ${#missing[@]} -eq 0 ] || echo "$0: not installed, so not counted: ${missing[*]}" >&2
 }
 
 # The first $1 characters of the text $2 over and over.
@@ -103,14 +234,22 @@ letters=$(front 200 'a1b2c3d4e5f6g7h8i9j0klmnopqrstuvwxyz')
 long=$(front 600 31415926535897932384)
 digits=$(front 300 31415926535897932384)
 
-echo '| Label | labels | zint (`--dump`) | GNU barcode (PostScript) | qrencode (text) |'
-echo '|---|---|---|---|---|'
+if [ "$mode" = table ]; then
+    name_missing
+    echo '| Label | labels | zint (`--dump`) | GNU barcode (PostScript) | qrencode (text) |'
+    echo '|---|---|---|---|---|'
+fi
 row 'EAN-13' 'ean13 400638133393' '' 400638133393 '-b EANX --notext --quietzones' '-e ean13 -n' ''
 row "Code 128, \`$lot\`" "code128 $lot" '' "$lot" '-b CODE128 --notext --quietzones' '-e 128 -n' ''
 row "QR, \`$url\`, level M" "qr $url" '' "$url" '-b QRCODE --secure=2 --quietzones' '' '-l M -s 1'
-row 'QR, 200 letters and digits in lower case, level M' "qr $letters" '' "$letters" '-b QRCODE --secure=2 --quietzones' '' '-l M -s 1'
+row 'QR, 200 letters and digits in lower case, level M' "qr $letters" '' \
+    "$letters" '-b QRCODE --secure=2 --quietzones' '' '-l M -s 1'
 row 'QR, 600 digits, level L' "qr $long" '--level L' "$long" '-b QRCODE --secure=1 --quietzones' '' '-l L -s 1'
 row 'QR, 300 digits, level L' "qr $digits" '--level L' "$digits" '-b QRCODE --secure=1 --quietzones' '' '-l L -s 1'
 row 'EAN-13, `--scale 8`' 'ean13 400638133393' '--scale 8' '' '' '' ''
 row "QR, \`$url\`, \`--scale 8\`" "qr $url" '--scale 8' '' '' '' ''
 row 'EAN-13, `--format ascii --height 5`' 'ean13 400638133393' '--format ascii --height 5' '' '' '' ''
+if [ "$mode" = table ]; then printf '\n| Calls | labels |\n|---|---|\n'; fi
+calls_row 'reads of 1,000 EAN-13 lines' sys_read
+calls_row 'writes of 1,000 EAN-13 labels' sys_write
+if [ "$mode" = check ]; then end_check; fi

@@ -1,17 +1,18 @@
 #!/usr/bin/env python3
-"""Draws some hundred labels with the program `labels` and reads each back with zbarimg, a reader of another hand.
+"""Draws some hundred labels with the program `labels`, and reads each back with zbarimg, a third-party reader.
 
-usage: scripts/read_back.py [PROGRAM]
+The labels are the same in every run: all five symbologies, every error correction level, mask and QR
+version from 1 to 10, short data and the longest that fits, data of either length of EAN and UPC, control
+characters, all 256 bytes, with escapes and without, at 2, 3 and 4 pixels a module. What is read must be the
+full data: the digits with their check digit, or all bytes.
 
-PROGRAM is crates/labels/out/labels where none is given: the proved program, which `rt run` in crates/labels leaves there.
-The labels are the same in every run: all five symbologies, every error correction level, mask and QR version from 1 to 10,
-short data and the longest that fits, data of either length of EAN and UPC, control characters, all 256 bytes, with escapes and
-without, at 2, 3 and 4 pixels a module. What is read must be the full data: the digits with their check digit, or all bytes.
-
-Each picture goes through Netpbm: pnmpad puts white above and below, which a reader wants and a linear label lacks,
-and pnmtopng makes the PNG. The last line is `N of N read back`; any label that is not read, or is read as something
-else, is told with its line, and the status is then 1. Where zbarimg or Netpbm is missing, it says so and ends with status 0.
+Each picture goes through Netpbm: pnmpad puts white above and below, which a reader wants and a linear label
+lacks, and pnmtopng makes the PNG. The last line is `N of N read back`. Any label that is not read, or is
+read as something else, is printed with its line, and the status is then 1. Where zbarimg or Netpbm is
+missing nothing can be tried: the script says so and ends with status 77. Bad words and a program that is
+not there end with status 2.
 """
+
 import os
 import random
 import shutil
@@ -20,12 +21,15 @@ import sys
 import tempfile
 from dataclasses import dataclass
 
-TOP = os.path.dirname(os.path.dirname(os.path.abspath(__file__)))
+import sources
+
+SKIPPED = 77
 TOOLS = ("zbarimg", "pnmpad", "pnmtopng")
 # The reader that zbarimg has for each symbology. It reads UPC-A as the EAN-13 of the same bars.
 READERS = {"ean13": "ean13", "ean8": "ean8", "upca": "ean13", "code128": "code128", "qr": "qrcode"}
 ALPHANUMERIC = "0123456789ABCDEFGHIJKLMNOPQRSTUVWXYZ $%*+-./:"
-# The most digits, alphanumeric characters and bytes that versions 1, 5 and 10 hold at each level (ISO/IEC 18004, table 7).
+# The most digits, alphanumeric characters and bytes that versions 1, 5 and 10 hold at each level (ISO/IEC 18004,
+# table 7).
 CAPACITIES = {
     (1, "L"): (41, 25, 17), (1, "M"): (34, 20, 14), (1, "Q"): (27, 16, 11), (1, "H"): (17, 10, 7),
     (5, "L"): (255, 154, 106), (5, "M"): (202, 122, 84), (5, "Q"): (144, 87, 60), (5, "H"): (106, 64, 44),
@@ -35,7 +39,7 @@ CAPACITIES = {
 
 @dataclass(frozen=True)
 class Label:
-    """One label: its line's head, the data as bytes, what a reader must tell, and how the run is set."""
+    """One label: its line's head, the data as bytes, what a reader must return, and how the run is set."""
     head: str
     data: bytes
     full: bytes
@@ -155,15 +159,16 @@ def pictures_of(program, labels, scale, escapes):
         sys.exit(f"labels ended with status {ran.returncode}:\n{ran.stderr.decode()}")
     pictures = [b"P1\n" + rest for rest in ran.stdout.split(b"P1\n")[1:]]
     if len(pictures) != len(labels):
-        sys.exit(f"{len(labels)} labels came to {len(pictures)} pictures")
+        sys.exit(f"{len(labels)} labels gave {len(pictures)} pictures")
     return pictures
 
 
 def write_png(picture, scale, path):
     """Writes a picture with ten modules of white above and below as PNG."""
     rows = str(10 * scale)
-    padded = subprocess.run(["pnmpad", "-white", "-top", rows, "-bottom", rows], input=picture, capture_output=True, check=True)
-    png = subprocess.run(["pnmtopng", "-quiet"], input=padded.stdout, capture_output=True, check=True)
+    how = {"capture_output": True, "check": True}
+    padded = subprocess.run(["pnmpad", "-white", "-top", rows, "-bottom", rows], input=picture, **how)
+    png = subprocess.run(["pnmtopng", "-quiet"], input=padded.stdout, **how)
     with open(path, "wb") as file:
         file.write(png.stdout)
 
@@ -178,31 +183,36 @@ def reading_of(path, symbology):
     return ran.stdout
 
 
+def all_labels():
+    draw = random.Random(18004)
+    parts = (ean_and_upc, code128, qr_by_settings, qr_by_capacity, qr_of_bytes)
+    return [label for part in parts for label in part(draw)]
+
+
+def count_read_back(program, labels, folder):
+    """How many of the labels are read back. Prints each of the others."""
+    good, path = 0, os.path.join(folder, "label.png")
+    for scale, escapes in sorted({(label.scale, label.escapes) for label in labels}):
+        group = [label for label in labels if (label.scale, label.escapes) == (scale, escapes)]
+        for label, picture in zip(group, pictures_of(program, group, scale, escapes)):
+            write_png(picture, scale, path)
+            found = reading_of(path, label.symbology())
+            if found == label.full:
+                good += 1
+            else:
+                print(f"scale {scale}, {label.line()!r}: read as {found!r}")
+    return good
+
+
 def main():
+    program = sources.program_given(__doc__)
     missing = [tool for tool in TOOLS if shutil.which(tool) is None]
     if missing:
-        print(f"skipped: {', '.join(missing)} not installed")
-        return 0
-    program = os.path.abspath(sys.argv[1] if len(sys.argv) > 1 else f"{TOP}/crates/labels/out/labels")
-    if not os.access(program, os.X_OK):
-        sys.exit(f"{program} is not there: run `rt run` in crates/labels")
-    draw = random.Random(18004)
-    labels = [label for part in (ean_and_upc, code128, qr_by_settings, qr_by_capacity, qr_of_bytes) for label in part(draw)]
-    good = 0
+        print(f"skipped, nothing was read back: not installed: {', '.join(missing)}")
+        return SKIPPED
+    labels = all_labels()
     with tempfile.TemporaryDirectory() as folder:
-        for scale in (2, 3, 4):
-            for escapes in (False, True):
-                group = [label for label in labels if (label.scale, label.escapes) == (scale, escapes)]
-                if not group:
-                    continue
-                for label, picture in zip(group, pictures_of(program, group, scale, escapes)):
-                    path = f"{folder}/label.png"
-                    write_png(picture, scale, path)
-                    told = reading_of(path, label.symbology())
-                    if told == label.full:
-                        good += 1
-                    else:
-                        print(f"scale {scale}, {label.line()!r}: read as {told!r}")
+        good = count_read_back(program, labels, folder)
     print(f"{good} of {len(labels)} read back")
     return 0 if good == len(labels) else 1
 

@@ -3,28 +3,58 @@
 #
 # usage: scripts/refuse_each_growth.sh [--try]
 #
-# The words and the input are those of the stored run (crates/labels/args and stdin), from standard input and from a FILE; then some
-# other words. In run N the Nth growth of memory is refused. A run is good where it either
+# The words and the input are those of the stored run (crates/labels/args and stdin), from standard input and from
+# a FILE; then some other words. In run N the Nth growth of memory is refused. A run is good where it either
 #   - does what it does when no growth is refused: the same output, messages and status, or
 #   - writes nothing on standard output and `labels: no memory` on standard error, and ends with status 3.
-# Any other run is told, and makes the status of this script 1.
+# Any other run is reported, and makes the status of this script 1.
 #
-# Without a word it takes the proved program, crates/labels/out/labels, which `rt run` in crates/labels leaves there (another
-# program: LABELS=PATH), and refuses the Nth call of malloc or realloc by a small library that is loaded before the C library (it
-# needs glibc and a C compiler). N goes up to the first run that makes fewer than N such calls.
-# With --try it takes `rt try --fail-alloc N`, which needs no proof and no C compiler, but builds anew for each N; so it makes the
-# stored run alone. Here nothing says whether a run comes to its Nth growth: it stops after four runs in a row that do as ever.
+# Without a word it takes the proved program, crates/labels/out/labels, which `rt run` in crates/labels leaves
+# there (another program: LABELS=PATH), and refuses the Nth call of malloc or realloc by a small library that is
+# loaded before the C library (it needs glibc and a C compiler). N goes up to the first run that makes fewer than
+# N such calls. With --try it takes `rt try --fail-alloc N`, which needs no proof and no C compiler, but builds
+# anew for each N; so it makes the stored run alone. Here nothing says whether a run reaches its Nth growth: it
+# stops after four runs in a row that do as ever.
+#
+# Status 2: bad words, or no such program. Status 77: no C compiler or, with --try, no `rt`: nothing was tried.
 set -euo pipefail
+
+usage() { sed -n '/^# usage: /,/^#$/s/^# \{0,1\}//p' "$0" | sed '/^$/d'; }
+
+stop() {
+    echo "$0: $1" >&2
+    exit "${2:-2}"
+}
+
+has() { command -v "$1" > /dev/null; }
 
 top=$(cd "$(dirname "$0")/.." && pwd)
 crate=$top/crates/labels
-program=${LABELS:-$crate/out/labels}
+program=$(realpath -m "${LABELS:-$crate/out/labels}")
+compiler=${CC:-cc}
+way=built
+[ $# -le 1 ] || { usage >&2 && exit 2; }
+case ${1-} in
+    '') ;;
+    --try) way=tried ;;
+    -h | --help) usage && exit 0 ;;
+    *) usage >&2 && exit 2 ;;
+esac
+if [ "$way" = tried ]; then
+    has rt || stop "skipped, nothing was tried: not installed: rt" 77
+else
+    has "$compiler" || stop "skipped, nothing was tried: not installed: $compiler, a C compiler" 77
+    if ! [ -f "$program" ] || ! [ -x "$program" ]; then
+        stop "$program is no program: run 'rt run < /dev/null' in crates/labels, or this script with --try"
+    fi
+fi
 stored=()
 while IFS= read -r word; do stored+=("$word"); done < "$crate/args"
 scratch=$(mktemp -d)
 trap 'rm -rf "$scratch"' EXIT
 
-# The library: the call of malloc or realloc whose number is GROWTH answers that there is no memory, and leaves the file MARK.
+# The library: the call of malloc or realloc whose number is GROWTH reports that there is no memory, and leaves the
+# file MARK.
 build_library() {
     cat > "$scratch/refuse.c" <<'C'
 #include <errno.h>
@@ -57,10 +87,11 @@ void *realloc(void *old, size_t size) {
     return is_refused() ? NULL : __libc_realloc(old, size);
 }
 C
-    "${CC:-cc}" -O2 -fPIC -shared -o "$scratch/refuse.so" "$scratch/refuse.c"
+    "$compiler" -O2 -fPIC -shared -o "$scratch/refuse.so" "$scratch/refuse.c"
 }
 
-# Runs the program by the words $2 .. with growth $1 refused (none, where $1 is 0), into the files out and err and the variable status.
+# Runs the program by the words $2 .. with growth $1 refused (none, where $1 is 0), into the files out and err and the
+# variable status.
 run_refused() {
     local growth=$1
     shift
@@ -82,7 +113,8 @@ run_refused() {
 
 # Says what the last run was: whole, refused or bad.
 judge() {
-    if [ "$status" = "$whole_status" ] && cmp -s "$scratch/out" "$scratch/whole_out" && cmp -s "$scratch/err" "$scratch/whole_err"; then
+    if [ "$status" = "$whole_status" ] && cmp -s "$scratch/out" "$scratch/whole_out" &&
+        cmp -s "$scratch/err" "$scratch/whole_err"; then
         echo whole
     elif [ "$status" = 3 ] && ! [ -s "$scratch/out" ] && [ "$(cat "$scratch/err")" = 'labels: no memory' ]; then
         echo refused
@@ -91,7 +123,7 @@ judge() {
     fi
 }
 
-# Refuses each growth of the run by the words $1 .., and tells the counts.
+# Refuses each growth of the run by the words $1 .., and prints the counts.
 refuse_each() {
     local growth=0 refused=0 whole=0 bad=0 in_a_row=0 verdict
     echo "labels $*:"
@@ -111,14 +143,16 @@ refuse_each() {
             whole) whole=$((whole + 1)) in_a_row=$((in_a_row + 1)) ;;
             bad)
                 bad=$((bad + 1)) in_a_row=0
-                echo "  growth $growth: status $status, $(wc -c < "$scratch/out") bytes on standard output, on standard error:"
+                echo "  growth $growth: status $status, $(wc -c < "$scratch/out") bytes on standard output," \
+                    "on standard error:"
                 cat "$scratch/err"
                 ;;
         esac
         [ "$way" = built ] || [ "$in_a_row" -lt 4 ] || break
     done
-    echo "  $growth growths: $refused end with 'no memory' and no output, $whole as ever with status $whole_status, $bad otherwise"
-    [ "$bad" -eq 0 ] && [ "$refused" -gt 0 ] || good=1
+    echo "  $growth growths: $refused end with 'no memory' and no output," \
+        "$whole as ever with status $whole_status, $bad otherwise"
+    if [ "$bad" -gt 0 ] || [ "$refused" -eq 0 ]; then good=1; fi
 }
 
 # Sees that the last words, with no growth refused, did the stored run.
@@ -129,22 +163,7 @@ see_stored() {
     fi
 }
 
-case ${1-} in
-    --try) way=tried ;;
-    '')
-        way=built
-        if ! [ -x "$program" ]; then
-            echo "$program is not there: run 'rt run' in crates/labels, or this script with --try" >&2
-            exit 2
-        fi
-        build_library
-        ;;
-    *)
-        echo "usage: scripts/refuse_each_growth.sh [--try]" >&2
-        exit 2
-        ;;
-esac
-
+[ "$way" = tried ] || build_library
 good=0
 refuse_each "${stored[@]}"
 see_stored

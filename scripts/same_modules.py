@@ -1,21 +1,24 @@
 #!/usr/bin/env python3
 """Draws some hundred labels with the program `labels` and with zint, and compares them module by module.
 
-usage: scripts/same_modules.py [PROGRAM]
+A reader corrects errors, so scripts/read_back.py would not see one wrong module of a QR symbol. This
+comparison does. It takes only labels in which the standards leave no choice: EAN and UPC; Code 128 data of
+one code set; QR data of one mode, with its version, level and mask given. The labels are the same in every
+run.
 
-PROGRAM is crates/labels/out/labels where none is given: the proved program, which `rt run` in crates/labels leaves there.
-A reader corrects errors, so scripts/read_back.py would not see one wrong module of a QR symbol. This comparison does. It takes only labels in which
-the standards leave no choice: EAN and UPC; Code 128 data of one code set; QR data of one mode, with its version, level and mask
-given. The labels are the same in every run. The last line is `N of N are the same`; any other label is told with its line, and the
-status is then 1. Where zint is missing, it says so and ends with status 0.
+The last line is `N of N are the same`. Any other label is printed with its line, and the status is then 1.
+Where zint is missing nothing can be compared: the script says so and ends with status 77. Bad words and a
+program that is not there end with status 2.
 """
-import os
+
 import random
 import shutil
 import subprocess
 import sys
 
-TOP = os.path.dirname(os.path.dirname(os.path.abspath(__file__)))
+import sources
+
+SKIPPED = 77
 # What versions 1 to 10 hold at level H (ISO/IEC 18004, table 7): all levels hold as much.
 MOST = {
     "digits": (17, 34, 58, 82, 106, 139, 154, 202, 235, 288),
@@ -55,7 +58,8 @@ def qr_labels(draw):
                 length = 1 + draw.randrange(MOST[kind][version - 1])
                 data = "".join(draw.choices(alphabets[kind], k=length))
                 head = f"qr,level={level},min-version={version},mask={mask}"
-                yield head, data, ["-b", "QRCODE", f"--secure={level_number + 1}", f"--vers={version}", f"--mask={mask}"]
+                words = [f"--secure={level_number + 1}", f"--vers={version}", f"--mask={mask}"]
+                yield head, data, ["-b", "QRCODE", *words]
 
 
 def rows_of_ours(picture):
@@ -78,29 +82,37 @@ def rows_of_zint(words, data, width):
     return [row[:width] for row in rows]
 
 
-def main():
-    if shutil.which("zint") is None:
-        print("skipped: zint not installed")
-        return 0
-    program = os.path.abspath(sys.argv[1] if len(sys.argv) > 1 else f"{TOP}/crates/labels/out/labels")
-    if not os.access(program, os.X_OK):
-        sys.exit(f"{program} is not there: run `rt run` in crates/labels")
-    draw = random.Random(15420)
-    labels = list(linear_labels(draw)) + list(qr_labels(draw))
+def pictures_of(program, labels):
+    """The pictures of all labels at one pixel a module, linear symbols one module high."""
     lines = "".join(f"{head} {data}\n" for head, data, _ in labels)
     ran = subprocess.run([program, "--height", "1"], input=lines.encode(), capture_output=True)
-    pictures = ran.stdout.split(b"P1\n")[1:]
+    pictures = [b"P1\n" + rest for rest in ran.stdout.split(b"P1\n")[1:]]
     if ran.returncode != 0 or len(pictures) != len(labels):
-        sys.exit(f"{len(labels)} labels came to status {ran.returncode} and {len(pictures)} pictures\n{ran.stderr.decode()}")
-    good = 0
-    for (head, data, words), picture in zip(labels, pictures):
-        ours = rows_of_ours(b"P1\n" + picture)
-        zints = rows_of_zint(words, data, len(ours[0]))
-        if ours == zints:
-            good += 1
-        else:
-            wrong = sum(a != b for row, other in zip(ours, zints) for a, b in zip(row, other))
-            print(f"{head} {data}: {len(ours[0])} by {len(ours)} and {len(zints[0])} by {len(zints)} modules, {wrong} differ")
+        found = f"status {ran.returncode} and {len(pictures)} pictures"
+        sys.exit(f"{len(labels)} labels gave {found}\n{ran.stderr.decode()}")
+    return pictures
+
+
+def is_same(label, picture):
+    """Whether the picture has the modules of zint's symbol. Prints the label where it has not."""
+    head, data, words = label
+    ours = rows_of_ours(picture)
+    zints = rows_of_zint(words, data, len(ours[0]))
+    if ours != zints:
+        wrong = sum(a != b for row, other in zip(ours, zints) for a, b in zip(row, other))
+        sizes = f"{len(ours[0])} by {len(ours)} and {len(zints[0])} by {len(zints)} modules"
+        print(f"{head} {data}: {sizes}, {wrong} differ")
+    return ours == zints
+
+
+def main():
+    program = sources.program_given(__doc__)
+    if shutil.which("zint") is None:
+        print("skipped, nothing was compared: not installed: zint")
+        return SKIPPED
+    draw = random.Random(15420)
+    labels = list(linear_labels(draw)) + list(qr_labels(draw))
+    good = sum(is_same(label, picture) for label, picture in zip(labels, pictures_of(program, labels)))
     print(f"{good} of {len(labels)} are the same")
     return 0 if good == len(labels) else 1
 

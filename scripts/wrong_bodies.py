@@ -1,22 +1,22 @@
 #!/usr/bin/env python3
 """Tries the wrong bodies of crates/*/wrong-bodies: the prover must refuse each.
 
-usage: scripts/wrong_bodies.py [--built] [--show] [CRATE ..]
+A wrong body is a file like a must-fail edit, with one line more. `refused: FUNCTION` names the function
+whose proof has to fail, by its path below the crate, as a check prints it. `file: FILE` and pairs of `old:
+TEXT` and `new: TEXT` change the code; each TEXT stands in the file once. `alone: WHY` keeps it apart from
+others, as where the proofs of several functions read what it changes.
 
-A wrong body is a file like a must-fail edit, with one line more. `refused: FUNCTION` names the function whose proof has
-to fail, by its path below the crate, as a check prints it. `file: FILE` and pairs of `old: TEXT` and `new: TEXT` change
-the code; each TEXT stands in the file once. `alone: WHY` keeps it apart from others, as where the proofs of
-several functions read what it changes.
+`rt` tries each must-fail edit by a check of the crate. Here one check tries many: a proof reads of other
+functions their contracts alone, so wrong bodies of several functions stand in one copy of the crate, and
+the check says of each function whether it is refused. What fails only because it calls another is not
+judged, and is tried again without it.
 
-`rt` tries each must-fail edit by a check of the crate. Here one check tries many: a proof reads of other functions
-their contracts alone, so wrong bodies of several functions stand in one copy of the crate, and the check tells of each
-function whether it is refused. What fails only because it calls another is not judged, and is tried again without it.
-
---built takes the libraries below as `rt ci` left them; else they are built where they changed. --show prints of each
-wrong body what the check says of its functions.
-The status is 0 where each wrong body is refused. The last line is `N passed, M failed`, as of `rt ci`.
+The status is 0 where each wrong body is refused, 1 where one is not or there is none, and 2 where the words
+name no crate or the kit is not the one that this script was written for. The last line is `N passed, M
+failed`, as of `rt ci`.
 """
 
+import argparse
 import concurrent.futures
 import dataclasses
 import importlib.machinery
@@ -28,18 +28,46 @@ import subprocess
 import sys
 import tempfile
 
-TOP = os.path.dirname(os.path.dirname(os.path.realpath(__file__)))
+import sources
+
+# What `rt version` prints of the kit that this script was written for: it calls functions of that kit, and reads the
+# words that its check prints for people.
+KIT_ID = "rattle-kit-13b logic dac8208d650f15bf"
+KIT_NAMES = ("PARTS", "RATTLE", "guarded", "crates_below", "Crate.words", "Crate.below", "Crate.build_rlib")
 # The line of a function that was not proved for what is written in it, and not for what it calls.
 REFUSED = re.compile(r"not proved|no proof: expected answers|.*did not prove")
 
 
-def kit():
-    """Returns the kit's module of crates, which `rt` itself uses."""
+def stop(why):
+    print(f"wrong_bodies.py: {why}", file=sys.stderr)
+    sys.exit(2)
+
+
+def has(thing, path):
+    """Whether a thing has what a dotted path names."""
+    for name in path.split("."):
+        if not hasattr(thing, name):
+            return False
+        thing = getattr(thing, name)
+    return True
+
+
+def kit(takes_any):
+    """Returns the kit's module of crates, which `rt` itself uses. Stops where it is not the one that is known here."""
     sys.dont_write_bytecode = True
-    folder = os.path.dirname(os.path.realpath(shutil.which("rt") or sys.exit("rt is not on the path")))
-    loader = importlib.machinery.SourceFileLoader("rtlib", f"{folder}/rtlib.py")
+    folder = os.path.dirname(os.path.realpath(shutil.which("rt") or stop("rt is not on the path")))
+    id_file, library = os.path.join(os.path.dirname(folder), "KIT-ID"), os.path.join(folder, "rtlib.py")
+    kit_id = sources.read(id_file).strip() if os.path.exists(id_file) else "without KIT-ID"
+    if kit_id != KIT_ID and not takes_any:
+        stop(f"the kit is {kit_id}; this script was written for {KIT_ID}. With --any-kit it goes on")
+    if not os.path.exists(library):
+        stop(f"the kit {kit_id} has no file {library}, which this script calls")
+    loader = importlib.machinery.SourceFileLoader("rtlib", library)
     module = importlib.util.module_from_spec(importlib.util.spec_from_loader("rtlib", loader))
     loader.exec_module(module)
+    missing = [name for name in KIT_NAMES if not has(module, name)]
+    if missing:
+        stop(f"the kit {kit_id} has no {', '.join(missing)} in {library}, which this script calls")
     return module
 
 
@@ -74,8 +102,8 @@ def read_body(path):
     return body
 
 
-def bodies_of(crate):
-    folder = f"{crate.folder}/wrong-bodies"
+def bodies_of(crate_folder):
+    folder = f"{crate_folder}/wrong-bodies"
     names = sorted(os.listdir(folder)) if os.path.isdir(folder) else []
     return [read_body(f"{folder}/{name}") for name in names if name.endswith(".edit")]
 
@@ -152,7 +180,7 @@ def judged(crate, body, said):
 
 def try_all(rtlib, crate, shows):
     """Tries the wrong bodies of a crate, and returns how many are refused and a line on each that isn't."""
-    left, refused, lines, checks = bodies_of(crate), 0, [], 0
+    left, refused, lines, checks = bodies_of(crate.folder), 0, [], 0
     with tempfile.TemporaryDirectory(prefix="wrong-bodies-kept-") as kept:
         while left:
             chosen, texts = together(left, crate.folder)
@@ -177,21 +205,56 @@ def try_all(rtlib, crate, shows):
     return refused, lines
 
 
-def main(words):
-    rtlib, names = kit(), [it for it in words if not it.startswith("-")]
+def arguments():
+    parser = argparse.ArgumentParser(description=__doc__, formatter_class=argparse.RawDescriptionHelpFormatter)
+    parser.add_argument("crates", nargs="*", metavar="CRATE",
+                        help="a crate of crates.txt (all that have wrong bodies)")
+    parser.add_argument("--built", action="store_true",
+                        help="take the libraries below as `rt ci` left them; else build those that changed")
+    parser.add_argument("--show", action="store_true", help="print what the check says of each wrong body's functions")
+    parser.add_argument("--any-kit", action="store_true", help="go on with a kit that this script does not know")
+    given, known = parser.parse_args(), sources.crates_of(sources.TOP)
+    for name in given.crates:
+        if name not in known:
+            parser.error(f"no crate {name} in crates.txt, which has: {' '.join(known)}")
+    return given
+
+
+def chosen_crates(names):
+    """The folders of the crates that have wrong bodies, the names of those that were asked for and have none."""
+    folders, without = [], []
+    for name in names or sources.crates_of(sources.TOP):
+        folder = os.path.join(sources.TOP, "crates", name)
+        if bodies_of(folder):
+            folders.append(os.path.realpath(folder))
+        elif names:
+            without.append(name)
+    return folders, without
+
+
+def main():
+    given = arguments()
+    folders, without = chosen_crates(given.crates)
+    if without or not folders:
+        print(f"no wrong bodies in {', '.join(without) or 'any crate'}: nothing was tried")
+        print("0 passed, 1 failed")
+        return 1
+    rtlib = kit(given.any_kit)
     rtlib.guarded()
-    crates = [it for it in rtlib.crates_below(TOP) if bodies_of(it) and (not names or it.name in names)]
-    if "--built" not in words:
+    crates = [it for it in rtlib.crates_below(sources.TOP) if os.path.realpath(it.folder) in folders]
+    if len(crates) != len(folders):
+        stop(f"the kit finds {len(crates)} of {len(folders)} crates below {sources.TOP}")
+    if not given.built:
         if any(dep.build_rlib(["--jobs", "1"], anew=False) for crate in crates for dep in crate.below()):
             return 1
-    crates.sort(key=lambda it: -len(bodies_of(it)))
+    crates.sort(key=lambda it: -len(bodies_of(it.folder)))
     with concurrent.futures.ThreadPoolExecutor(len(os.sched_getaffinity(0))) as pool:
-        given = [*pool.map(lambda it: try_all(rtlib, it, "--show" in words), crates)]
-    failed = [f"{crate.name}/{line}" for crate, (_, lines) in zip(crates, given) for line in lines]
+        results = [*pool.map(lambda it: try_all(rtlib, it, given.show), crates)]
+    failed = [f"{crate.name}/{line}" for crate, (_, lines) in zip(crates, results) for line in lines]
     print(*failed, sep="\n", end="\n" if failed else "")
-    print(f"{sum(refused for refused, _ in given)} passed, {len(failed)} failed")
+    print(f"{sum(refused for refused, _ in results)} passed, {len(failed)} failed")
     return 1 if failed else 0
 
 
 if __name__ == "__main__":
-    sys.exit(main(sys.argv[1:]))
+    sys.exit(main())

@@ -16,7 +16,7 @@ use labelcore::{Fault, Format, Options, Symbology};
 use linear::{Code128, Ean8, Ean13, Linear, Row, UpcA};
 use picture::{Bars, Framed, Grid, QuietZone, Scaled, reading_laws, write_ascii, write_pbm};
 use qrdata::{Codewords, Plan, Version, choose, codewords};
-use qrmatrix::Matrix;
+use qrmatrix::{Matrix, QUIET_ZONE};
 
 /// Draws one symbol: writes the image of data in a symbology, under these options, and flushes nothing. No line of text
 /// is needed. The inner result says whether the data is refused; nothing is written then.
@@ -53,8 +53,8 @@ fn draw_linear<L: Linear, O: Sink>(
     out: &mut O,
 ) -> Result<Result<(), Fault>, IoFault>
     requires some { bytes.now ≢ [] }
-    requires narrow { L.QUIET_LEFT + L.QUIET_RIGHT ≤ 20 }
-    ensures { (symbology : Symbology) → IsLinear symbology L.QUIET_LEFT L.QUIET_RIGHT L.reading
+    requires narrow { L.QUIET_ZONES.left + L.QUIET_ZONES.right ≤ 20 }
+    ensures { (symbology : Symbology) → IsLinear symbology L.QUIET_ZONES L.reading
         → DrawsOutcome O.Sink out.old out.new options.now
         (outcome_of (linear_symbol symbology L.row_of options.now (L.full_data bytes.now))) result }
 {
@@ -65,8 +65,8 @@ fn draw_linear<L: Linear, O: Sink>(
     }
     let bars = Bars::new(row.as_slice(), usize::from(options.height()));
     let zone = QuietZone {
-        left: L::QUIET_LEFT,
-        right: L::QUIET_RIGHT,
+        left: L::QUIET_ZONES.left,
+        right: L::QUIET_ZONES.right,
         top: 0,
         bottom: 0,
     };
@@ -88,10 +88,10 @@ fn draw_qr<O: Sink>(
     match choose(min_version, options.level(), bytes) {
         Ok(plan) => {
             let zone = QuietZone {
-                left: 4,
-                right: 4,
-                top: 4,
-                bottom: 4,
+                left: QUIET_ZONE,
+                right: QUIET_ZONE,
+                top: QUIET_ZONE,
+                bottom: QUIET_ZONE,
             };
             write_picture(options, Framed::new(matrix_of(options, &plan), zone), out)?;
             Ok(Ok(()))

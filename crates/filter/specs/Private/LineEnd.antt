@@ -4,6 +4,7 @@ use Rattle.device.specs.Device.{Begins}
 use Rattle.labelcore.specs.declared.symbology.Symbology.{Symbology}
 use Rattle.labelcore.specs.LineItem.{Outcome}
 use Rattle.labelcore.specs.OptionValues.{OptionValues}
+use Rattle.linear.specs.declared.linear.QuietZones.{QuietZones}
 use Rattle.filter.specs.Output.{image_of, message_of, is_refusal, status_if}
 use Rattle.filter.specs.Readback.{ReadsBack, read_linear, read_modules}
 use Rattle.filter.specs.Symbol.{Symbol, quiet_zone}
@@ -18,8 +19,8 @@ worst Clean other = other
 worst Refused other = Refused
 
 -- a symbology of one row, with these quiet zones before and after it, read by this rule
-pub record IsLinear (symbology : Symbology) (left right : ℕ) (reading : List Bool → Option (List ℕ)) : Type 0 where
-  pub zone : quiet_zone symbology ≡ record { left = left; right = right; top = 0; bottom = 0 }
+pub record IsLinear (symbology : Symbology) (zones : QuietZones) (reading : List Bool → Option (List ℕ)) : Type 0 where
+  pub zone : quiet_zone symbology ≡ record { left = zones.left; right = zones.right; top = 0; bottom = 0 }
   pub rule : (rows : List (List Bool)) → read_modules symbology rows ≡ read_linear reading rows
   pub none : reading [] ≡ None
 

@@ -1,0 +1,551 @@
+"""The scripts see what they are there to see: each planted mistake makes the script fail, and nothing passes unseen.
+
+Run by `python3 -m unittest discover -s scripts/tests`. No kit, no third-party tool and no built program is needed:
+where a script calls one, a stand-in of a few lines is put on the path.
+"""
+
+import importlib
+import os
+import re
+import shutil
+import stat
+import subprocess
+import sys
+import tempfile
+import unittest
+
+TOP = os.path.dirname(os.path.dirname(os.path.dirname(os.path.abspath(__file__))))
+SCRIPTS = os.path.join(TOP, "scripts")
+sys.path.insert(0, SCRIPTS)
+sources = importlib.import_module("sources")
+# What the shell scripts call of every system.
+OF_THE_SYSTEM = "bash env dirname realpath mktemp rm sed awk cat grep head cut true".split()
+
+
+def run(script, *words, **environment):
+    """A script's status and all that it prints."""
+    path = os.path.join(SCRIPTS, script)
+    command = [sys.executable, path] if script.endswith(".py") else [shutil.which("bash"), path]
+    how = {"stdin": subprocess.DEVNULL, "stdout": subprocess.PIPE, "stderr": subprocess.STDOUT, "text": True}
+    ran = subprocess.run([*command, *words], env={**os.environ, **environment}, **how)
+    return ran.returncode, ran.stdout
+
+
+def read(path):
+    with open(path, encoding="utf-8") as file:
+        return file.read()
+
+
+def write(path, text, is_program=False):
+    os.makedirs(os.path.dirname(path), exist_ok=True)
+    with open(path, "w", encoding="utf-8") as file:
+        file.write(text)
+    if is_program:
+        os.chmod(path, os.stat(path).st_mode | stat.S_IXUSR)
+
+
+class InFolder(unittest.TestCase):
+    """A test with a folder of its own."""
+
+    def setUp(self):
+        self.folder = tempfile.mkdtemp(prefix="test-scripts-")
+        self.addCleanup(shutil.rmtree, self.folder)
+
+    def path(self, *names):
+        return os.path.join(self.folder, *names)
+
+    def bare_path(self):
+        """A folder for PATH with what every system has, and no third-party tool."""
+        for tool in OF_THE_SYSTEM:
+            os.makedirs(self.path("bin"), exist_ok=True)
+            os.symlink(shutil.which(tool), self.path("bin", tool))
+        return self.path("bin")
+
+
+class Words(unittest.TestCase):
+    """Help ends with status 0 and an unknown word with usage and status 2, in each script."""
+
+    def names(self):
+        own = ["believed.py", "wrong_bodies.py", "read_back.py", "same_modules.py", "unused.py", "contracts.py"]
+        return [*own, "instructions.sh", "benchmark.sh", "refuse_each_growth.sh"]
+
+    def test_help(self):
+        for name in self.names():
+            status, said = run(name, "--help")
+            self.assertEqual((name, status, "usage: " in said), (name, 0, True))
+
+    def test_unknown_flag(self):
+        for name in self.names():
+            status, said = run(name, "--no-such-flag")
+            self.assertEqual((name, status, "usage: " in said), (name, 2, True))
+
+    def test_no_such_program(self):
+        for name in ("read_back.py", "same_modules.py"):
+            self.assertEqual(run(name, "/no/such/program")[0], 2, name)
+
+
+CODE = """/// A brace.
+#[derive(Debug)]
+pub fn brace<'a>(text: &'a [u8], _other: &'a str) -> bool
+    requires some { 0 < length text.now }
+    ensures { result ≡ (x == 1) }
+{
+    // } { no brace
+    text[0] == b'{' || _other == "}" || text[0] == b'\\''
+}
+
+ghost use Rattle.std.specs.Prelude.{◌≡◌};
+
+pub(crate) trait Named {
+    ghost name: { Self → List ℕ };
+
+    fn name(&self) -> usize
+        ensures { result ≡ length (name self.now) };
+}
+"""
+
+
+class Sources(unittest.TestCase):
+    """Items are found by their brackets, whatever stands in comments, texts and characters."""
+
+    def test_items(self):
+        found = [(item.kind, item.name, item.is_public) for item in sources.items_of(CODE)]
+        self.assertEqual(found, [("fn", "brace", True), ("use", "Rattle", False), ("trait", "Named", False)])
+
+    def test_clauses_and_docs(self):
+        brace, _, named = sources.items_of(CODE)
+        self.assertEqual(brace.docs, "A brace.")
+        self.assertEqual([brace.clause_count(kind) for kind in ("requires", "ensures")], [1, 1])
+        self.assertEqual([item.kind for item in sources.items_of(named.body)], ["ghost", "fn"])
+
+    def test_lines(self):
+        self.assertEqual(len(sources.code_lines(CODE)), 12)
+
+
+class Believed(unittest.TestCase):
+    """The page and README's number are compared with the files, word for word."""
+
+    @classmethod
+    def setUpClass(cls):
+        """A copy of the repository whose page and README are right."""
+        cls.folder = tempfile.mkdtemp(prefix="test-scripts-")
+        cls.addClassCleanup(shutil.rmtree, cls.folder)
+        left_out = shutil.ignore_patterns("out", "proofs", "wrong-bodies", "must-fail", "pictures")
+        for name in ("crates", "docs"):
+            shutil.copytree(os.path.join(TOP, name), os.path.join(cls.folder, name), ignore=left_out)
+        shutil.copy(os.path.join(TOP, "crates.txt"), cls.folder)
+        if run("believed.py", "--write", "--top", cls.folder)[0] != 0:
+            raise AssertionError("believed.py --write failed")
+        said = run("believed.py", "--top", cls.folder)[1]
+        cls.lines = int(re.search(r"in all: \d+ definitions, (\d+) lines", said).group(1))
+        readme = read(os.path.join(TOP, "README.md"))
+        readme = re.sub(r"[\d,]+(\s+lines\s+of\s+\[definitions\])", rf"{cls.lines:,}\1", readme)
+        write(os.path.join(cls.folder, "README.md"), readme)
+
+    def change(self, file, old, new):
+        """Changes a file until the end of this test."""
+        path = os.path.join(self.folder, file)
+        text = read(path)
+        self.assertEqual(text.count(old), 1, f"{old!r} stands once in {file}")
+        self.addCleanup(write, path, text)
+        write(path, text.replace(old, new))
+
+    def check(self):
+        return run("believed.py", "--check", "--top", self.folder)
+
+    def test_what_write_leaves_is_right(self):
+        self.assertEqual(self.check(), (0, ""))
+
+    def test_nonsense_for_a_description(self):
+        self.change("docs/DEFINITIONS.md", "| `LF` | the line feed |", "| `LF` | purple elephants |")
+        status, said = self.check()
+        self.assertEqual(status, 1)
+        self.assertIn("-| `LF` | purple elephants |", said)
+        self.assertIn("+| `LF` | the line feed |", said)
+
+    def test_a_word_left_out(self):
+        self.change("docs/DEFINITIONS.md", "| `LF` | the line feed |\n", "")
+        self.assertEqual(self.check()[0], 1)
+
+    def test_another_comment_in_the_specs(self):
+        self.change("crates/labelcore/specs/Lines.antt", "-- the line feed", "-- the carriage return")
+        self.assertEqual(self.check()[0], 1)
+
+    def test_another_clause_in_a_trait(self):
+        clause = "        ensures some { IfOk result (λ n. 0 < n) }\n"
+        self.change("crates/labelcore/src/device.rt", clause, "")
+        status, said = self.check()
+        self.assertEqual(status, 1)
+        self.assertIn("trait `Sink`", said)
+
+    def test_a_type_that_is_not_listed(self):
+        page = read(os.path.join(self.folder, "docs", "DEFINITIONS.md"))
+        self.change("docs/DEFINITIONS.md", re.search(r"\| type `Fault` .*\n", page).group(), "")
+        self.assertEqual(self.check()[0], 1)
+
+    def test_a_crate_that_no_list_has(self):
+        self.change("crates.txt", "gf256:", "gf65536:\ngf256:")
+        status, said = self.check()
+        self.assertEqual(status, 1)
+        self.assertIn("gf65536", said)
+
+    def test_a_definition_that_is_gone(self):
+        self.change("crates/labelcore/specs/Lines.antt", "pub line_limit :", "pub line_bound :")
+        status, said = self.check()
+        self.assertEqual(status, 1)
+
+    def test_a_list_without_its_marks(self):
+        self.change("docs/DEFINITIONS.md", "<!-- code: end -->", "")
+        status, said = self.check()
+        self.assertEqual(status, 1)
+        self.assertIn("code: end", said)
+
+    def test_another_number_in_readme(self):
+        self.change("README.md", f"{self.lines:,} lines of", f"{self.lines + 1:,} lines of")
+        status, said = self.check()
+        self.assertEqual(status, 1)
+        self.assertIn(f"{self.lines:,}", said)
+        self.assertIn(f"{self.lines + 1:,}", said)
+
+    def test_no_number_in_readme(self):
+        self.change("README.md", f"{self.lines:,} lines of", "few lines of")
+        self.assertEqual(self.check()[0], 1)
+
+
+class WrongBodies(InFolder):
+    """No crate passes unseen, and no kit but the known one is called."""
+
+    def fake_kit(self, kit_id, library):
+        write(self.path("bin", "rt"), "#!/bin/sh\n", is_program=True)
+        write(self.path("bin", "rtlib.py"), library)
+        write(self.path("KIT-ID"), kit_id + "\n")
+        return {"PATH": f"{self.path('bin')}:{os.environ['PATH']}"}
+
+    def test_misspelled_crate(self):
+        status, said = run("wrong_bodies.py", "labelcor")
+        self.assertEqual(status, 2)
+        self.assertIn("no crate labelcor", said)
+
+    def test_crate_without_wrong_bodies(self):
+        status, said = run("wrong_bodies.py", "labels")
+        self.assertEqual(status, 1)
+        self.assertIn("no wrong bodies in labels", said)
+
+    def test_another_kit(self):
+        status, said = run("wrong_bodies.py", "gf256", **self.fake_kit("some other kit", "PARTS = ()\n"))
+        self.assertEqual(status, 2)
+        self.assertIn("the kit is some other kit", said)
+
+    def test_another_kit_that_lacks_what_is_called(self):
+        status, said = run("wrong_bodies.py", "--any-kit", "gf256", **self.fake_kit("some other kit", "PARTS = ()\n"))
+        self.assertEqual(status, 2)
+        self.assertIn("has no RATTLE", said)
+
+    def test_no_kit(self):
+        status, said = run("wrong_bodies.py", "gf256", PATH=self.bare_path())
+        self.assertEqual(status, 2)
+        self.assertIn("rt is not on the path", said)
+
+
+class Skipped(InFolder):
+    """A script that can try nothing, for want of a tool, says which one and ends with 77."""
+
+    def assert_skipped(self, tool, script, *words):
+        status, said = run(script, *words, PATH=self.bare_path())
+        self.assertEqual((script, status), (script, 77), said)
+        self.assertRegex(said, rf"skipped, nothing was .*: not installed: .*{tool}")
+
+    def test_read_back(self):
+        self.assert_skipped("zbarimg", "read_back.py", "/bin/true")
+
+    def test_same_modules(self):
+        self.assert_skipped("zint", "same_modules.py", "/bin/true")
+
+    def test_instructions(self):
+        self.assert_skipped("valgrind", "instructions.sh", "--check", "/bin/true")
+
+    def test_benchmark(self):
+        self.assert_skipped("qrencode zint barcode", "benchmark.sh", "/bin/true")
+
+    def test_refuse_each_growth(self):
+        self.assert_skipped("cc", "refuse_each_growth.sh")
+
+    def test_refuse_each_growth_by_rt(self):
+        self.assert_skipped("rt", "refuse_each_growth.sh", "--try")
+
+
+VALGRIND = """#!/usr/bin/env bash
+# Stands in for valgrind: each line of the last word takes EACH instructions, and the run one write for a line.
+for last in "$@"; do :; done
+lines=$(grep -c . "$last")
+if [[ $* == *--trace-syscalls* ]]; then
+    for ((i = 0; i < lines + 9; i++)); do echo 'SYSCALL[1,1](0) sys_read ( 3 )' >&2; done
+    for ((i = 0; i < lines * ${WRITES:-1}; i++)); do echo 'SYSCALL[1,1](1) sys_write ( 1 )' >&2; done
+else
+    echo "==1== Collected : $((1000 + lines * ${EACH:-20000}))" >&2
+fi
+"""
+
+
+class Instructions(InFolder):
+    """--check compares each row of the tables; valgrind and the program are stand-ins."""
+
+    table = ""
+
+    def setUp(self):
+        super().setUp()
+        self.program = self.path("labels")
+        write(self.program, "#!/bin/sh\necho drawn\n", is_program=True)
+        self.environment = {"PATH": self.bare_path()}
+        write(self.path("bin", "valgrind"), VALGRIND, is_program=True)
+        write(self.path("table.md"), self.table or self.make_table())
+
+    def make_table(self):
+        """The table that the script prints of the stand-ins, made once for all tests."""
+        status, table = run("instructions.sh", self.program, **self.environment)
+        self.assertEqual(status, 0, table)
+        type(self).table = table[table.index("| Label |"):]
+        return self.table
+
+    def check(self, **more):
+        words = ("--check", "--table", self.path("table.md"), self.program)
+        return run("instructions.sh", *words, **self.environment, **more)
+
+    def test_as_in_the_table(self):
+        status, said = self.check()
+        self.assertEqual(status, 0, said)
+        self.assertIn("EAN-13: 20,000 in the table, 20,000 measured, +0.0 %", said)
+        self.assertIn("11 rows, 0 failed", said)
+
+    def test_five_in_a_hundred_more_pass(self):
+        self.assertEqual(self.check(EACH="21000")[0], 0)
+
+    def test_six_in_a_hundred_more(self):
+        status, said = self.check(EACH="21200")
+        self.assertEqual(status, 1)
+        self.assertIn("FAILS EAN-13: 20,000 in the table, 21,200 measured, +6.0 %", said)
+
+    def test_less(self):
+        status, said = self.check(EACH="10000")
+        self.assertEqual(status, 0)
+        self.assertIn("note: the table is out of date: EAN-13", said)
+
+    def test_more_writes(self):
+        status, said = self.check(WRITES="3")
+        self.assertEqual(status, 1)
+        self.assertIn("FAILS writes of 1,000 EAN-13 labels", said)
+
+    def test_row_missing(self):
+        write(self.path("table.md"), re.sub(r"\| QR, 600 digits.*\n", "", self.table))
+        status, said = self.check()
+        self.assertEqual(status, 1)
+        self.assertIn("FAILS QR, 600 digits, level L: the table has no such row", said)
+
+    def test_row_that_is_no_number(self):
+        write(self.path("table.md"), re.sub(r"(\| QR, 600 digits, level L \|) [\d,]+", r"\1 many", self.table))
+        status, said = self.check()
+        self.assertEqual(status, 1)
+        self.assertIn("FAILS QR, 600 digits, level L: the table has many", said)
+
+    def test_row_that_is_not_measured(self):
+        write(self.path("table.md"), self.table.replace("| EAN-13 |", "| EAN-99 | 1 | - | - | - |\n| EAN-13 |"))
+        status, said = self.check()
+        self.assertEqual(status, 1)
+        self.assertIn("FAILS EAN-99", said)
+
+    def test_program_that_draws_nothing(self):
+        write(self.program, "#!/bin/sh\n", is_program=True)
+        status, said = self.check()
+        self.assertEqual(status, 2)
+        self.assertIn("draws no label", said)
+
+    def test_program_that_fails(self):
+        write(self.program, "#!/bin/sh\necho drawn\nexit 3\n", is_program=True)
+        self.assertEqual(self.check()[0], 2)
+
+
+LIBRARY = """//! A small crate.
+ghost use Rattle.std.specs.Prelude.{◌≡◌, ◌+◌};
+ghost use Rattle.small.specs.Words.{twice};
+
+use std::io::Write;
+
+mod other;
+
+pub use other::half;
+
+/// Twice a number.
+pub fn double(number: u32) -> u32
+    requires { number + number ≡ number + number }
+    ensures value { result ≡ twice number }
+    ensures again { result ≡ number + number }
+{
+    added(number, number)
+}
+
+fn added(a: u32, b: u32) -> u32 {
+    a + b
+}
+
+#[test]
+fn doubles() {
+    half(double(2));
+}
+"""
+OTHER = """//! Halves.
+/// Half a number.
+pub fn half(number: u32) -> u32 {
+    number / 2
+}
+"""
+SPEC = """-- Words.
+use Rattle.std.specs.Prelude.{ℕ, ◌+◌}
+
+-- twice a number
+pub twice : ℕ → ℕ
+twice n = n + n
+"""
+LEMMAS = """-- Lemmas.
+use Rattle.std.proofs.Common.{◌≡◌, ℕ, ◌+◌, refl}
+use Rattle.small.specs.Words.{twice}
+
+-- twice
+pub twice-sum : (n : ℕ) → twice n ≡ n + n
+twice-sum n = refl
+"""
+ANSWERS = """use Rattle.small.proofs.Lemmas.{twice-sum}
+use Rattle.small.proofs.double.Goals as goal
+
+pub returns : goal.returns
+returns g c = twice-sum c.args.number
+"""
+WORKED = """-- Worked values.
+use Rattle.std.proofs.Common.{◌≡◌, ℕ, refl}
+use Rattle.small.specs.Words.{twice}
+
+three : ℕ
+three = 3
+
+six : twice three ≡ 6
+unfolding twice
+six = refl
+"""
+NEVER_USED = "\n-- never used\npub never : ℕ → ℕ\nnever n = n\n"
+
+
+class SmallTree(InFolder):
+    """A repository of one crate, in which all is used."""
+
+    def setUp(self):
+        super().setUp()
+        write(self.path("crates.txt"), "# all\nsmall:\n")
+        self.plant("src/lib.rt", LIBRARY)
+        self.plant("src/other.rt", OTHER)
+        self.plant("specs/Words.antt", SPEC)
+        self.plant("proofs/Lemmas.antt", LEMMAS)
+        self.plant("proofs/double/Answers.antt", ANSWERS)
+
+    def plant(self, file, text):
+        write(self.path("crates", "small", file), text)
+
+
+class Unused(SmallTree):
+    """What is planted and used by nothing is found; what is used is not."""
+
+    def found(self):
+        status, said = run("unused.py", "--top", self.folder)
+        *lines, last = said.rstrip("\n").split("\n")
+        self.assertEqual(status, 1 if lines else 0, said)
+        self.assertTrue(last.endswith(f": {len(lines)} unused"), said)
+        return lines
+
+    def assert_found(self, wanted):
+        lines = self.found()
+        self.assertEqual(len(lines), 1, lines)
+        self.assertIn(wanted, lines[0])
+
+    def test_all_is_used(self):
+        self.assertEqual(self.found(), [])
+
+    def test_lemma(self):
+        self.plant("proofs/Lemmas.antt", LEMMAS + NEVER_USED)
+        self.assert_found("proofs/Lemmas.antt:10: nothing uses the lemma never")
+
+    def test_lemma_that_calls_itself(self):
+        self.plant("proofs/Lemmas.antt", LEMMAS + NEVER_USED.replace("never n = n", "never n = never n"))
+        self.assert_found("nothing uses the lemma never")
+
+    def test_lemma_of_an_unused_lemma(self):
+        self.plant("proofs/Lemmas.antt", LEMMAS + NEVER_USED + "\nabove : ℕ → ℕ\nabove n = never n\n")
+        self.assertEqual(len(self.found()), 2)
+
+    def test_lemma_that_only_its_import_names(self):
+        self.plant("proofs/Lemmas.antt", LEMMAS + NEVER_USED)
+        self.plant("proofs/double/Answers.antt", ANSWERS.replace("{twice-sum}", "{twice-sum, never}"))
+        self.assertEqual(len(self.found()), 2)
+
+    def test_worked_values(self):
+        self.plant("proofs/Tables.antt", WORKED)
+        self.assertEqual(self.found(), [])
+
+    def test_lemma_of_a_file_that_nothing_cites(self):
+        self.plant("proofs/Tables.antt", WORKED + NEVER_USED)
+        self.assert_found("nothing uses the lemma never")
+
+    def test_worked_value_of_a_file_that_is_cited(self):
+        self.plant("proofs/Lemmas.antt", LEMMAS + "\npub twice-nil : twice 0 ≡ 0\ntwice-nil = refl\n")
+        self.assert_found("nothing uses the lemma twice-nil")
+
+    def test_definition(self):
+        self.plant("specs/Words.antt", SPEC + NEVER_USED)
+        self.assert_found("specs/Words.antt:9: nothing uses the definition never")
+
+    def test_definition_that_only_a_comment_names(self):
+        self.plant("specs/Words.antt", SPEC + NEVER_USED + "\n-- never\n")
+        self.assert_found("nothing uses the definition never")
+
+    def test_imported_name_of_the_logic(self):
+        self.plant("proofs/Lemmas.antt", LEMMAS.replace("◌+◌, refl", "◌+◌, ◌*◌, refl"))
+        self.assert_found("proofs/Lemmas.antt:2: the imported name ◌*◌ is not used")
+
+    def test_imported_name_of_a_contract(self):
+        self.plant("src/lib.rt", LIBRARY.replace("◌≡◌, ◌+◌", "◌≡◌, ◌+◌, ◌*◌"))
+        self.assert_found("src/lib.rt:2: the imported name ◌*◌ is not used")
+
+    def test_imported_name_that_only_code_has(self):
+        self.plant("src/lib.rt", LIBRARY.replace("◌≡◌, ◌+◌", "◌≡◌, ◌+◌, added"))
+        self.assert_found("the imported name added is not used")
+
+    def test_imported_name_of_the_code(self):
+        self.plant("src/lib.rt", LIBRARY.replace("use std::io::Write;", "use std::io::{ErrorKind, Write};"))
+        self.assert_found("src/lib.rt:5: the imported name ErrorKind is not used")
+
+    def test_private_function(self):
+        self.plant("src/other.rt", OTHER + "\nfn lonely() {\n    lonely()\n}\n")
+        self.assert_found("src/other.rt:7: nothing calls the function lonely")
+
+    def test_public_function(self):
+        self.plant("src/lib.rt", LIBRARY.replace("    half(double(2));\n", "    double(2);\n"))
+        self.assert_found("nothing calls the function half")
+
+    def test_nothing_to_look_at(self):
+        write(self.path("crates.txt"), "")
+        self.assertEqual(run("unused.py", "--top", self.folder)[0], 1)
+
+
+class Contracts(SmallTree):
+    """Clauses are counted by function, exported and private apart."""
+
+    def test_counts(self):
+        self.plant("src/lib.rt", LIBRARY.replace("pub use other::half;", "pub use other::half;\npub use lib::double;"))
+        status, said = run("contracts.py", "--top", self.folder, "--most", "1")
+        self.assertEqual(status, 0)
+        self.assertIn("| `small` | 2 | 2 | 1.0 | 1 | 2 | 0 | 0.0 | 0 |", said)
+        self.assertIn("| `small::lib::double` | exported | 2 | 1 |", said)
+
+    def test_misspelled_crate(self):
+        self.assertEqual(run("contracts.py", "--top", self.folder, "smal")[0], 2)
+
+
+if __name__ == "__main__":
+    unittest.main()
