@@ -12,8 +12,7 @@ mod ean;
 mod qr;
 mod upca;
 
-use labelcore::Fault;
-use linear::{Linear, Row};
+use linear::{Linear, Refusal, Row};
 use std::process::Abort;
 
 /// The row of elements of these widths in modules, a bar first.
@@ -30,7 +29,7 @@ fn row_of(widths: &[u8]) -> Row {
 }
 
 /// What a symbology returns for data, and the row.
-fn encoded<L: Linear>(rt: &impl Abort, data: &[u8]) -> (Result<(), Fault>, Row) {
+fn encoded<L: Linear>(rt: &impl Abort, data: &[u8]) -> (Result<(), Refusal>, Row) {
     assert!(rt; !data.is_empty());
     let mut row = Row::new();
     let result = L::encode(data, &mut row);
@@ -76,7 +75,7 @@ fn assert_check_digit<L: Linear>(rt: &impl Abort, full: &[u8], last: usize) {
         let want = if digit == right {
             Ok(())
         } else {
-            Err(Fault::WrongCheckDigit {
+            Err(Refusal::WrongCheckDigit {
                 given: digit.wrapping_sub(b'0'),
                 right: right.wrapping_sub(b'0'),
             })

@@ -1,5 +1,5 @@
 //! How many bytes a call moves. With less a run would take more time, which no clause speaks of.
-use crate::layers::support::{flushes, gives, sends_on, takes, takes_some};
+use crate::layers::support::{MOST_BUFFERED, flushes, gives, passes_on, takes, takes_some};
 use device::{Buffered, FailAt, MemSink, StdSink, StdSource};
 use std::io::{self, Read, Write};
 
@@ -23,7 +23,7 @@ impl Write for Whole {
     }
 }
 
-/// Numbers of bytes, up to as many as are held back.
+/// Numbers of bytes.
 const AMOUNTS: [usize; 6] = [1, 512, 1024, 4096, 60_000, 65_536];
 
 #[test]
@@ -60,42 +60,45 @@ fn a_whole_text_is_one_write(rt: HostRuntime) {
     }
 }
 
-/// Whether `calls` calls reached the sink below, and `held` bytes are held back.
-fn has_passed(sink: &Buffered<FailAt<MemSink<65536>>>, calls: u64, held: usize) -> bool {
-    sink.sink().calls() == calls && sink.buffered().len() == held
+/// Numbers of bytes, up to as many as are buffered.
+const BUFFERED_AMOUNTS: [usize; 6] = [1, 512, 1024, 4096, 30_000, MOST_BUFFERED];
+
+/// Whether `calls` calls reached the sink below, and `buffered` bytes are buffered.
+fn has_passed(sink: &Buffered<FailAt<MemSink<65536>>>, calls: u64, buffered: usize) -> bool {
+    sink.sink().calls() == calls && sink.buffered().len() == buffered
 }
 
-/// Nothing goes on before 65,536 bytes are held and one more comes; then all of them go on at once.
+/// Nothing is passed on before the buffer is full and one more byte comes; then all of its bytes go on at once.
 #[test]
-fn held_bytes_go_on_in_one_write(rt: HostRuntime) {
-    let text = [b'a'; 65_536];
+fn buffered_bytes_go_on_in_one_write(rt: HostRuntime) {
+    let text = [b'a'; MOST_BUFFERED];
     let mut sink = Buffered::new(FailAt::new(MemSink::new(65_536, 65_536), 0));
-    assert!(rt; takes_some(&mut sink, &text[..65_535], 65_535));
-    assert!(rt; has_passed(&sink, 0, 65_535));
+    assert!(rt; takes_some(&mut sink, &text[..MOST_BUFFERED - 1], MOST_BUFFERED - 1));
+    assert!(rt; has_passed(&sink, 0, MOST_BUFFERED - 1));
     assert!(rt; takes_some(&mut sink, b"bc", 1));
-    assert!(rt; has_passed(&sink, 0, 65_536));
+    assert!(rt; has_passed(&sink, 0, MOST_BUFFERED));
     let mut more = Buffered::new(FailAt::new(MemSink::new(65_536, 65_536), 0));
-    assert!(rt; takes_some(&mut more, &text, 65_536));
-    assert!(rt; has_passed(&more, 0, 65_536));
+    assert!(rt; takes_some(&mut more, &text, MOST_BUFFERED));
+    assert!(rt; has_passed(&more, 0, MOST_BUFFERED));
     assert!(rt; takes_some(&mut more, b"bc", 2));
     assert!(rt; has_passed(&more, 1, 2));
 }
 
 #[test]
-fn sending_on_is_one_write_and_a_flush_one_more_call(rt: HostRuntime) {
-    let text = [b'a'; 65_536];
-    for amount in AMOUNTS {
+fn passing_on_is_one_write_and_a_flush_one_more_call(rt: HostRuntime) {
+    let text = [b'a'; MOST_BUFFERED];
+    for amount in BUFFERED_AMOUNTS {
         let mut sink = Buffered::new(FailAt::new(MemSink::new(65_536, 65_536), 0));
         assert!(rt;
             takes_some(&mut sink, &text[..amount], amount),
             "{amount} bytes"
         );
         assert!(rt;
-            sends_on(&mut sink) && has_passed(&sink, 1, 0),
+            passes_on(&mut sink) && has_passed(&sink, 1, 0),
             "{amount} bytes"
         );
         assert!(rt;
-            sends_on(&mut sink) && has_passed(&sink, 1, 0),
+            passes_on(&mut sink) && has_passed(&sink, 1, 0),
             "{amount} bytes"
         );
         assert!(rt;

@@ -13,7 +13,7 @@ use std::test::Fail;
 /// The marks of calls in a record. The text of a message follows its mark.
 const READ: u8 = b'<';
 
-const SENDING_ON: u8 = b'^';
+const PASSING_ON: u8 = b'^';
 
 const WRITE: u8 = b'*';
 
@@ -85,8 +85,8 @@ impl<S: Sink + Drop> Sink for Recorded<'_, S> {
         self.device.flush()
     }
 
-    fn send_on(&mut self) -> Result<(), IoFault> {
-        self.note(&[SENDING_ON]);
+    fn pass_on(&mut self) -> Result<(), IoFault> {
+        self.note(&[PASSING_ON]);
         self.device.pass_on()
     }
 
@@ -140,15 +140,15 @@ fn input_of(alloc: Global) -> Result<Vec<u8>, AllocError> {
     Ok(input)
 }
 
-/// Adds the calls of reads, from one number of reads to another: sending on comes before each.
+/// Adds the calls of reads, from one number of reads to another: passing on comes before each.
 fn add_reads(record: &mut Vec<u8>, from: usize, to: usize) -> Result<(), AllocError> {
     for _ in from..to {
-        record.extend_from_slice(&[SENDING_ON, READ])?;
+        record.extend_from_slice(&[PASSING_ON, READ])?;
     }
     Ok(())
 }
 
-/// Adds the calls of a line: the writes of its picture, or sending on and its message.
+/// Adds the calls of a line: the writes of its picture, or passing on and its message.
 fn add_line(
     alloc: Global,
     record: &mut Vec<u8>,
@@ -161,7 +161,7 @@ fn add_line(
     }
     if !refusal.is_empty() {
         let front = format!(in alloc; "line {number}: ")?;
-        record.extend_from_slice(&[SENDING_ON, MESSAGE])?;
+        record.extend_from_slice(&[PASSING_ON, MESSAGE])?;
         record.extend_from_slice(front.as_bytes())?;
         record.extend_from_slice(refusal)?;
         record.push(b'\n')?;
@@ -169,7 +169,7 @@ fn add_line(
     Ok(())
 }
 
-/// The record of a run over the input, `piece` bytes a read: pictures are sent on before each read and each message, and
+/// The record of a run over the input, `piece` bytes a read: pictures are passed on before each read and each message, and
 /// nowhere else. The last read gives nothing. After it the last line is refused, and then the outputs are flushed.
 fn record_of(alloc: Global, len: usize, piece: usize) -> Result<Vec<u8>, Fail>
     requires { 0 < piece }
@@ -198,24 +198,24 @@ fn record_of(alloc: Global, len: usize, piece: usize) -> Result<Vec<u8>, Fail>
     Ok(record)
 }
 
-/// The same record where pictures are held back: one write at each sending on and each flush at which some are held.
-fn held_record_of(alloc: Global, record: &[u8]) -> Result<Vec<u8>, AllocError> {
-    let mut held_record = Vec::new(alloc);
-    let mut is_held = false;
+/// The same record where pictures are buffered: one write at each passing on and each flush before which some are buffered.
+fn buffered_record_of(alloc: Global, record: &[u8]) -> Result<Vec<u8>, AllocError> {
+    let mut buffered_record = Vec::new(alloc);
+    let mut is_buffered = false;
     for mark in record {
         if *mark == WRITE {
-            is_held = true;
+            is_buffered = true;
             continue;
         }
-        if (*mark == SENDING_ON || *mark == FLUSH) && is_held {
-            held_record.push(WRITE)?;
-            is_held = false;
+        if (*mark == PASSING_ON || *mark == FLUSH) && is_buffered {
+            buffered_record.push(WRITE)?;
+            is_buffered = false;
         }
-        if *mark != SENDING_ON {
-            held_record.push(*mark)?;
+        if *mark != PASSING_ON {
+            buffered_record.push(*mark)?;
         }
     }
-    Ok(held_record)
+    Ok(buffered_record)
 }
 
 /// The most bytes that a read gives: fewer than the run asks for, as many, and more.
@@ -278,14 +278,14 @@ fn the_calls_of_300_lines_are_in_order(rt: HostRuntime) -> Result<(), Fail> {
 }
 
 #[test]
-fn held_pictures_of_300_lines_go_out_before_reads_and_messages(
+fn buffered_pictures_of_300_lines_go_out_before_reads_and_messages(
     rt: HostRuntime,
 ) -> Result<(), Fail> {
     let alloc = rt.alloc();
     let input = input_of(alloc)?;
     for piece in PIECES {
         let calls = record_of(alloc, input.len(), BUFFER.min(piece))?;
-        let want = held_record_of(alloc, calls.as_slice())?;
+        let want = buffered_record_of(alloc, calls.as_slice())?;
         let record = RefCell::new(Vec::new(alloc));
         let mut out = Buffered::new(pictures(&record));
         assert_runs(&rt, input.as_slice(), piece, &record, &mut out);

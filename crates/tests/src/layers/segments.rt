@@ -2,7 +2,7 @@
 //! counts.
 ghost use Rattle.std.specs.Prelude.{length, ◌≤◌, ◌<◌};
 
-use crate::layers::support::qr_options;
+use crate::layers::support::version;
 use qrdata::{Level, Mode, Plan, Segment, Version, choose};
 use std::process::Abort;
 
@@ -181,7 +181,7 @@ fn expect_same(rt: &impl Abort, data: &[u8]) {
     for level in [Level::L, Level::M, Level::Q, Level::H] {
         for lowest in [1, 9, 10] {
             match (
-                choose(&qr_options(rt, level, lowest), data),
+                choose(version(rt, lowest), level, data),
                 slow_version(lowest, level, &short, &long),
             ) {
                 (Ok(plan), Some(version)) => {

@@ -1,7 +1,7 @@
 //! QR: symbols module by module, under a mask that is given, and the codewords of data. All data is of one mode, or of
 //! segments that no other list of segments equals in bits.
-use labelcore::{Format, Options};
-use qrdata::{Level, Codewords, choose, codewords};
+use crate::layers::support::version;
+use qrdata::{Codewords, Level, Plan, choose, codewords};
 use qrmatrix::Matrix;
 use std::alloc::{AllocError, Global};
 use std::process::Abort;
@@ -598,22 +598,21 @@ const CODEWORDS: &[(&[u8], Level, &[u8])] = &[
     ),
 ];
 
-/// The options of a form.
-fn options_of(rt: &impl Abort, (version, level, mask): Form) -> Options {
-    match Options::new(Format::Pbm, 1, 1, level, version, Some(mask), false) {
-        Some(options) => options,
-        None => panic!(rt; "an option is out of its range"),
+/// The plan of data, in the smallest version from this one on.
+fn plan_of<'a>(rt: &impl Abort, lowest: u8, level: Level, data: &'a [u8]) -> Plan<'a> {
+    match choose(version(rt, lowest), level, data) {
+        Ok(plan) => plan,
+        Err(_) => panic!(rt; "data does not fit"),
     }
 }
 
-/// The symbol of data, in the smallest version from that of the options on.
-fn symbol_of(rt: &impl Abort, options: &Options, data: &[u8]) -> Matrix {
-    let Ok(plan) = choose(options, data) else {
-        panic!(rt; "data does not fit");
-    };
-    let mut words = Codewords::new();
-    codewords(&plan, data, &mut words);
-    Matrix::draw(plan.version(), plan.level(), options.mask(), &words)
+/// The symbol of data, in the smallest version from that of the form on.
+fn symbol_of(rt: &impl Abort, (lowest, level, mask): Form, data: &[u8]) -> Matrix {
+    assert!(rt; mask < 8);
+    let plan = plan_of(rt, lowest, level, data);
+    let mut drawn = Codewords::new();
+    codewords(&plan, &mut drawn);
+    Matrix::draw(plan.version(), plan.level(), Some(mask), &drawn)
 }
 
 /// The value of a hexadecimal digit.
@@ -646,7 +645,7 @@ fn has_modules(matrix: &Matrix, digits: &[u8]) -> bool {
 
 /// The data is drawn as these modules, in this version.
 fn assert_symbol(rt: &impl Abort, data: &[u8], form: Form, digits: &[u8]) {
-    let matrix = symbol_of(rt, &options_of(rt, form), data);
+    let matrix = symbol_of(rt, form, data);
     assert!(rt;
         matrix.side() == 17usize.saturating_add(usize::from(form.0).saturating_mul(4)),
         "{form:?}"
@@ -695,16 +694,14 @@ fn begin_with(words: &[u8], digits: &[u8]) -> bool {
 
 /// The symbol of data at a level begins with these codewords.
 fn assert_codewords(rt: &impl Abort, data: &[u8], level: Level, digits: &[u8]) {
-    let Ok(plan) = choose(&options_of(rt, (1, level, 0)), data) else {
-        panic!(rt; "data does not fit");
-    };
-    let mut words = Codewords::new();
-    codewords(&plan, data, &mut words);
+    let plan = plan_of(rt, 1, level, data);
+    let mut written = Codewords::new();
+    codewords(&plan, &mut written);
     assert!(rt;
         plan.version().data_codewords(level) == digits.len().div_ceil(3),
         "{data:?}"
     );
-    assert!(rt; begin_with(words.as_slice(), digits), "{data:?}");
+    assert!(rt; begin_with(written.as_slice(), digits), "{data:?}");
 }
 
 #[test]

@@ -1,7 +1,6 @@
 //! Both sides of each limit and of each threshold of Code 128 (ISO/IEC 15417, annex on the use of code sets).
 use super::{assert_refused, assert_widths, encoded};
-use labelcore::Fault;
-use linear::{Code128, Ean13, Ean8, UpcA};
+use linear::{Code128, Ean8, Ean13, Refusal, UpcA};
 
 /// Data whose values Zint 2.11.1 writes in the same sets (`zint -b 20 --verbose`): digits at the start and at the end,
 /// two to eight of them, and bytes 31, 32, 95, 96 and 127.
@@ -82,10 +81,10 @@ fn eighty_bytes_and_no_more(rt: HostRuntime) {
     let (answer, row) = encoded::<Code128>(&rt, &[b'a'; 80]);
     assert!(rt; answer.is_ok());
     assert!(rt; row.len() == 11 * 82 + 13);
-    assert_refused::<Code128>(&rt, &[(&[b'a'; 81], Fault::DataTooLong)]);
+    assert_refused::<Code128>(&rt, &[(&[b'a'; 81], Refusal::DataTooLong)]);
     let (ascii, _) = encoded::<Code128>(&rt, &[0, 127]);
     assert!(rt; ascii.is_ok());
-    assert_refused::<Code128>(&rt, &[(&[127, 128], Fault::NotAscii(2))]);
+    assert_refused::<Code128>(&rt, &[(&[127, 128], Refusal::NotAscii(2))]);
 }
 
 #[test]
@@ -93,22 +92,22 @@ fn numbers_of_digits(rt: HostRuntime) {
     assert_refused::<Ean13>(
         &rt,
         &[
-            (b"40063813339", Fault::WrongNumberOfDigits(11)),
-            (b"40063813339311", Fault::WrongNumberOfDigits(14)),
+            (b"40063813339", Refusal::WrongNumberOfDigits(11)),
+            (b"40063813339311", Refusal::WrongNumberOfDigits(14)),
         ],
     );
     assert_refused::<Ean8>(
         &rt,
         &[
-            (b"735135", Fault::WrongNumberOfDigits(6)),
-            (b"735135377", Fault::WrongNumberOfDigits(9)),
+            (b"735135", Refusal::WrongNumberOfDigits(6)),
+            (b"735135377", Refusal::WrongNumberOfDigits(9)),
         ],
     );
     assert_refused::<UpcA>(
         &rt,
         &[
-            (b"0360002914", Fault::WrongNumberOfDigits(10)),
-            (b"0360002914522", Fault::WrongNumberOfDigits(13)),
+            (b"0360002914", Refusal::WrongNumberOfDigits(10)),
+            (b"0360002914522", Refusal::WrongNumberOfDigits(13)),
         ],
     );
 }

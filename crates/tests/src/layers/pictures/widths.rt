@@ -1,6 +1,6 @@
 //! Rows at the widths where their form changes, against the slow form, which asks for each pixel.
 use device::{IoFault, MemSink, Sink, write_whole};
-use picture::{Bars, Framed, Grid, write_ascii, write_pbm};
+use picture::{Bars, Framed, Grid, QuietZone, write_ascii, write_pbm};
 use std::process::Abort;
 
 /// About a line, the room for a row at scale 1, and the room for any label's row.
@@ -44,7 +44,7 @@ fn pbm_letter(dark: bool, ends_line: bool) -> &'static [u8] {
 }
 
 /// The rows of a plain PBM file, a pixel at a time.
-fn write_pbm_slowly<G: Grid, S: Sink>(grid: &G, sink: &mut S) -> Result<(), IoFault> {
+fn write_pbm_slowly<G: Grid, QuietZone, S: Sink>(grid: &G, sink: &mut S) -> Result<(), IoFault> {
     let width = grid.width();
     for y in 0..grid.height() {
         for x in 0..width {
@@ -56,7 +56,7 @@ fn write_pbm_slowly<G: Grid, S: Sink>(grid: &G, sink: &mut S) -> Result<(), IoFa
 }
 
 /// A text picture, a pixel at a time.
-fn write_ascii_slowly<G: Grid, S: Sink>(grid: &G, sink: &mut S) -> Result<(), IoFault> {
+fn write_ascii_slowly<G: Grid, QuietZone, S: Sink>(grid: &G, sink: &mut S) -> Result<(), IoFault> {
     for y in 0..grid.height() {
         for x in 0..grid.width() {
             write_whole(if grid.dark(x, y) { b"##" } else { b"  " }, sink)?;
@@ -109,6 +109,12 @@ fn rows_that_are_known_to_be_equal(rt: HostRuntime) {
     for width in WIDTHS {
         let all = &modules[..];
         let bars = Bars::new(&all[..width.min(15000)], 2);
-        assert_texts(&rt, &Framed::new(bars, 0, 0, 1, 1));
+        let zone = QuietZone {
+            left: 0,
+            right: 0,
+            top: 1,
+            bottom: 1,
+        };
+        assert_texts(&rt, &Framed::new(bars, zone));
     }
 }
