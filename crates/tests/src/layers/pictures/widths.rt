@@ -44,7 +44,7 @@ fn pbm_letter(dark: bool, ends_line: bool) -> &'static [u8] {
 }
 
 /// The rows of a plain PBM file, a pixel at a time.
-fn write_pbm_slowly<G: Grid, QuietZone, S: Sink>(grid: &G, sink: &mut S) -> Result<(), IoFault> {
+fn write_pbm_slowly<G: Grid, S: Sink>(grid: &G, sink: &mut S) -> Result<(), IoFault> {
     let width = grid.width();
     for y in 0..grid.height() {
         for x in 0..width {
@@ -56,7 +56,7 @@ fn write_pbm_slowly<G: Grid, QuietZone, S: Sink>(grid: &G, sink: &mut S) -> Resu
 }
 
 /// A text picture, a pixel at a time.
-fn write_ascii_slowly<G: Grid, QuietZone, S: Sink>(grid: &G, sink: &mut S) -> Result<(), IoFault> {
+fn write_ascii_slowly<G: Grid, S: Sink>(grid: &G, sink: &mut S) -> Result<(), IoFault> {
     for y in 0..grid.height() {
         for x in 0..grid.width() {
             write_whole(if grid.dark(x, y) { b"##" } else { b"  " }, sink)?;
