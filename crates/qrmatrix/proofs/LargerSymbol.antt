@@ -40,7 +40,7 @@ codewords =
     178 ∷ 214 ∷ 178 ∷ 88 ∷ 117 ∷ 152 ∷ 117 ∷ 129 ∷ 115 ∷ 201 ∷ 115 ∷ 235 ∷ 63 ∷ 57 ∷ 63 ∷ []
 
 reading : read_matrix 45 (λ x y. bit (slice_index rows y) x) ≡
-    Some (record { version = 7; level = M; words = codewords })
+    Some (record { version = 7; level = M; codewords = codewords })
 unfolding read_matrix total_codewords read_format shows_version shows_functions read_bits walk codewords_of number_of
     fixed_module role is_free is_flipped format_information version_information binary_remainder rows codewords
 reading = refl
