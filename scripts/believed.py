@@ -32,9 +32,9 @@ import sources
 
 ROOT = ("filter", "Run", "RunsWhole")
 # The function whose clause it is, and the file of it: what the headline speaks by stands in its head.
-HEADLINE = ("filter", "engine", "run")
+HEADLINE = ("filter", "whole_run", "run")
 # The crates in the order in which a reader meets them, from the headline down.
-CRATES = ["filter", "labelcore", "picture", "linear", "qrmatrix", "qrdata", "gf256", "command"]
+CRATES = ["filter", "labelcore", "device", "picture", "linear", "qrmatrix", "qrdata", "gf256", "command"]
 # The crates on whose contracts no other crate rests.
 AT_THE_TOP = {"labels", "examples", "tests"}
 PAGE = os.path.join("docs", "DEFINITIONS.md")

@@ -1,6 +1,6 @@
 //! What the arguments of the command line ask for.
-ghost use Rattle.std.specs.Prelude.{◌≡◌, IfOk, map, string_bytes, codes};
-ghost use Rattle.clap.specs.Words.{app_of, first_value, found_of, kind_of, one_text, rows_of};
+ghost use Rattle.std.specs.Prelude.{◌≡◌, IfOk, map, string_bytes};
+ghost use Rattle.clap.specs.Words.{app_of, found_of, kind_of, one_text, rows_of};
 ghost use Rattle.command.specs.CommandLine.{command_line, file_argument, format_in, format_of, invocation_of};
 ghost use Rattle.command.specs.CommandLine.{invocation_refused, level_in, number_of, options_named, picture_options};
 ghost use Rattle.command.specs.CommandLine.{run_of, switch, symbol_options, text_option};

@@ -1,5 +1,5 @@
 //! A sink that buffers bytes.
-ghost use Rattle.std.specs.Prelude.{◌≡◌, ◌+◌, ◌<◌, ◌≤◌, ◌++◌, ℕ, List, [], true, false, length, take, IfOk, OnOk, MatchResult};
+ghost use Rattle.std.specs.Prelude.{◌≡◌, ◌+◌, ◌<◌, ◌≤◌, ◌++◌, ℕ, List, [], true, false, length, OnOk};
 ghost use borrow.Rule.Slice.PartMut.{put_mid};
 ghost use Rattle.device.specs.Passing.{PassesOn};
 ghost use Rattle.device.specs.Sink.{Flushes, PassesBuffered};
@@ -8,7 +8,7 @@ ghost use Rattle.device.specs.Private.Passed.{PassesOn_none, PassesOn_joined};
 
 use crate::{IoFault, Sink};
 
-/// The most bytes that are buffered.
+/// The most bytes that are buffered. A larger buffer saves writes and needs as much more stack.
 const ROOM: usize = 32768;
 
 /// Buffers bytes before another sink, which then takes them in large pieces: when there is no room for more, when
@@ -16,8 +16,8 @@ const ROOM: usize = 32768;
 #[derive(Drop)]
 pub struct Buffered<S: Sink> {
     sink: S,
-    // What is buffered stands here from `start` to `end`. It begins further on where a call failed in the middle of it. A
-    // vector would write over all of it when it is cleared.
+    // The buffered bytes are those from `start` to `end`; `start` is above 0 after a call that failed when the sink below
+    // had taken some. A vector would write over all of its bytes when it is cleared.
     bytes: [u8; ROOM],
     start: usize,
     end: usize,
@@ -31,7 +31,7 @@ pub struct Buffered<S: Sink> {
 impl<S: Sink> Buffered<S> {
     ghost use Rattle.device.specs.Buffered.{sink_of, buffered_bytes};
 
-    /// Buffers nothing, and is not flushed.
+    /// A buffer before `sink`, empty and not flushed.
     pub fn new(sink: S) -> Self
         ensures sink { sink_of result ≡ sink }
         ensures buffered { buffered_bytes result ≡ [] }
@@ -61,8 +61,8 @@ impl<S: Sink> Buffered<S> {
         &all[self.start..self.end]
     }
 
-    /// A flushed sink buffers nothing, and the sink below it is flushed. So that one took all that this one took, and
-    /// what was buffered before.
+    /// A flushed sink buffers nothing, and the sink below is flushed: that one took all that this one took, after what
+    /// was buffered before. A fact for a caller's proof, no work.
     pub fn reaches(&self)
         ensures buffered { ⟦<Buffered<S> as Sink>⟧.is_flushed self.now ≡ true → buffered_bytes self.now ≡ [] }
         ensures below { ⟦<Buffered<S> as Sink>⟧.is_flushed self.now ≡ true
@@ -88,7 +88,7 @@ impl<S: Sink> Buffered<S> {
         Ok(())
     }
 
-    /// Passes on what is buffered, if there is no room for more.
+    /// Passes on what is buffered if there is no room for more.
     fn make_room(&mut self) -> Result<(), IoFault>
         ensures passes { let sink = ⟦<Buffered<S> as Sink>⟧ in
             PassesBuffered sink.failures sink.is_flushed sink.took self.old self.new result }
@@ -156,7 +156,7 @@ impl<S: Sink> Sink for Buffered<S> {
         (S.took_joined s.sink t.sink u.sink) };
 }
 
-/// Puts bytes at a place.
+/// Copies bytes into a slice, from the index `at` on.
 fn put(room: &mut [u8], at: usize, bytes: &[u8])
     requires { at + length bytes.now ≤ length room.old }
     ensures { room.new ≡ put_mid at (length bytes.now) room.old bytes.now }

@@ -1,6 +1,6 @@
 //! A device that fails at one call.
-ghost use Rattle.std.specs.Prelude.{◌≡◌, ◌+◌, ◌-◌, ◌^◌, ◌<◌, ◌≤◌, ◌==◌, ◌↔◌, [], true, false, length, take, min, IfOk};
-ghost use Rattle.std.specs.Prelude.{IsTrue, MatchResult};
+ghost use Rattle.std.specs.Prelude.{◌≡◌, ◌+◌, ◌-◌, ◌^◌, ◌<◌, ◌==◌, ◌↔◌, false, length, min};
+ghost use Rattle.std.specs.Prelude.{IsTrue};
 ghost use Rattle.device.specs.Device.{CountsFailure, total_failures};
 ghost use Rattle.device.specs.FailAt.{device_of, calls_of, failing_call, own_failures, FailsNext, CountsCall};
 ghost use Rattle.device.specs.FailAt.{FailsInTurn};
@@ -9,8 +9,8 @@ ghost use Rattle.device.specs.Source.{ReadsSome};
 
 use crate::{IoFault, Sink, Source};
 
-/// Fails at the call of this number, which does not reach the device. Every other call does. Calls are counted from 1,
-/// so that with 0 none fails.
+/// Fails at the call with the number `failing`, which does not reach the device; every other read, write and flush does.
+/// Calls are counted from 1, so with 0 none fails.
 #[derive(Drop)]
 pub struct FailAt<D> {
     device: D,
@@ -20,7 +20,7 @@ pub struct FailAt<D> {
 }
 
 impl<D> FailAt<D> {
-    /// No call so far.
+    /// A device that fails at one call, before its first call.
     pub fn new(device: D, failing: u64) -> Self
         ensures device { device_of result ≡ device }
         ensures calls { calls_of result ≡ 0 }
@@ -42,14 +42,14 @@ impl<D> FailAt<D> {
         &self.device
     }
 
-    /// The calls so far.
+    /// How many reads, writes and flushes were made so far.
     pub fn calls(&self) -> u64
         ensures { result ≡ calls_of self.now }
     {
         self.calls
     }
 
-    /// Counts a call, and says whether it is the one that fails.
+    /// Counts a call, and returns whether it is the one that fails.
     fn fails_now(&mut self) -> bool
         ensures others { self.new ≡ record self.old { calls = self.new.calls } }
         ensures counts { CountsCall self.old self.new }
@@ -130,7 +130,7 @@ impl<D: Sink> Sink for FailAt<D> {
         self.device.flush()
     }
 
-    /// Is not counted as a call, and reaches the device.
+    /// Passes on what the device buffers. It is not counted as a call.
     fn pass_on(&mut self) -> Result<(), IoFault>
         ensures passes { let sink = ⟦<FailAt<D> as Sink>⟧ in
             PassesBuffered sink.failures sink.is_flushed sink.took self.old self.new result }

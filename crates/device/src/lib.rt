@@ -1,7 +1,7 @@
 //! Devices: what gives bytes ([`Source`]) and what takes them ([`Sink`]).
 //!
-//! [`StdSource`] and [`StdSink`] are the readers and writers of std, [`MemSource`] and [`MemSink`] hold their bytes in
-//! memory, [`Buffered`] collects bytes before another sink, and [`FailAt`] fails at one call, for tests.
+//! [`StdSource`] and [`StdSink`] are the readers and writers of std, [`MemSource`] and [`MemSink`] keep their bytes in
+//! memory, [`Buffered`] buffers bytes before another sink, and [`FailAt`] fails at one call, for tests.
 //! [`write_whole`] writes a text in as many writes as a sink needs.
 #![tactic(auto)]
 

@@ -1,6 +1,6 @@
 //! Devices in memory.
-ghost use Rattle.std.specs.Prelude.{◌≡◌, ◌+◌, ◌-◌, ◌<◌, ◌≤◌, ◌==◌, ◌↔◌, ◌++◌, [], true, false, length, take, drop, min};
-ghost use Rattle.std.specs.Prelude.{IfOk, IsOk, IsErr, IsTrue, MatchResult, refl};
+ghost use Rattle.std.specs.Prelude.{◌≡◌, ◌+◌, ◌-◌, ◌<◌, ◌≤◌, ◌==◌, ◌↔◌, ◌++◌, [], true, false, length, min};
+ghost use Rattle.std.specs.Prelude.{IfOk, IsOk, IsErr, refl};
 ghost use Rattle.std.proofs.lemmas.List.{append-nil};
 ghost use Rattle.std.proofs.Common.{sym};
 ghost use Rattle.device.specs.Private.Joined.{cut_joined, grown_joined};
@@ -10,7 +10,7 @@ ghost use Rattle.device.specs.Source.{ReadsSome};
 use crate::{IoFault, Sink, Source};
 use arrayvec::ArrayVec;
 
-/// Gives its bytes, at most `piece` a read. After them each read gives nothing, or fails.
+/// Gives its bytes, at most `piece` a read. After them each read returns 0, or fails if `fails` says so.
 #[derive(Drop)]
 pub struct MemSource<'a> {
     rest: &'a [u8],
@@ -25,7 +25,7 @@ pub struct MemSource<'a> {
 impl<'a> MemSource<'a> {
     ghost use Rattle.device.specs.Memory.{left_in, fails_after, read_limit};
 
-    /// No failure, and not at the end.
+    /// A source of these bytes that counts no failure and is not at its end.
     pub fn new(bytes: &'a [u8], piece: usize, fails: bool) -> Self
         requires { 0 < piece }
         ensures bytes { left_in result ≡ bytes.now }
@@ -81,7 +81,7 @@ impl<'a> Source for MemSource<'a> {
     ghost gave_joined = { λ s t u xs ys. cut_joined s.rest.now t.rest.now u.rest.now xs ys };
 }
 
-/// Holds what it takes: at most `piece` bytes a write, and `limit` in all.
+/// Keeps the bytes that it takes: at most `piece` a write, and `limit` in all. A write to a full one fails.
 #[derive(Drop)]
 pub struct MemSink<const N: usize> {
     held: ArrayVec<u8, N>,
@@ -96,7 +96,7 @@ pub struct MemSink<const N: usize> {
 impl<const N: usize> MemSink<N> {
     ghost use Rattle.device.specs.Memory.{held_by, write_limit, room_of};
 
-    /// No bytes, no failure, and not flushed.
+    /// An empty sink that counts no failure and is not flushed.
     pub fn new(piece: usize, limit: usize) -> Self
         requires piece_positive { 0 < piece }
         requires limit_in_range { limit ≤ N }

@@ -1,5 +1,5 @@
 //! What takes bytes.
-ghost use Rattle.std.specs.Prelude.{◌≡◌, ℕ, ◌<◌, ◌≤◌, Bool, true, false, List, [], ◌++◌, length, take, IfOk, MatchResult};
+ghost use Rattle.std.specs.Prelude.{ℕ, ◌<◌, Bool, List, [], ◌++◌, length};
 ghost use Rattle.device.specs.Sink.{WritesSome, Flushes, PassesBuffered};
 
 use crate::IoFault;

@@ -1,5 +1,5 @@
 //! The readers and writers of std as devices.
-ghost use Rattle.std.specs.Prelude.{◌≡◌, ◌<◌, ◌≤◌, ◌==◌, [], false, length, take, IfOk, MatchResult};
+ghost use Rattle.std.specs.Prelude.{◌≡◌, ◌<◌, ◌==◌, false};
 ghost use Rattle.std.specs.Io.KnownBytes.{Appends, Consumes, IsAtEnd};
 ghost use Rattle.device.specs.Streams.{reader_of, writer_of};
 ghost use Rattle.device.specs.Private.Joined.{Appends_none, Appends_joined, Consumes_none, Consumes_joined};
@@ -16,7 +16,7 @@ pub struct StdSource<R> {
 }
 
 impl<R: Read> StdSource<R> {
-    /// No failure, and not at the end.
+    /// A source that counts no failure and is not at its end.
     pub fn new(reader: R) -> Self
         ensures reader { reader_of result ≡ reader }
         ensures failures { ⟦<StdSource<R> as Source>⟧.failures result ≡ 0 }
@@ -67,7 +67,7 @@ pub struct StdSink<W> {
 }
 
 impl<W: Write> StdSink<W> {
-    /// No failure, and not flushed.
+    /// A sink that counts no failure and is not flushed.
     pub fn new(writer: W) -> Self
         ensures writer { writer_of result ≡ writer }
         ensures failures { ⟦<StdSink<W> as Sink>⟧.failures result ≡ 0 }

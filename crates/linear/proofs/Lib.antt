@@ -4,6 +4,7 @@ pub mod Code128Laws
 pub mod CodeSetLaws
 pub mod DataValueLaws
 pub mod DigitLaws
+pub mod DrawingLaws
 pub mod EanLaws
 pub mod Examples
 pub mod GroupLaws

@@ -13,7 +13,7 @@ use Rattle.linear.specs.Code128Reading.{Meaning, meaning, other_set, read_values
 use Rattle.linear.proofs.CodeSetLaws.{picked_set-has, is_next-C, byte_values_by, PickedHas, lt-from_ltb_96}
 use Rattle.linear.proofs.CodeSetLaws.{le-from_ltb_96, le-from_leb_32, lt-from_leb_32, pair_digits}
 
--- a character of set A stands for its byte
+-- a character of set A means its byte
 meaning-a : (byte : ℕ) → byte < 96 → meaning A (character_value byte) ≡ Meaning.text (byte ∷ [])
 meaning-a byte h =
     elim (cases_lt byte 32) [

@@ -10,15 +10,15 @@ use Rattle.linear.specs.Modules.{same_modules, each_group}
 use Rattle.linear.specs.CodeSets.{change_value, shift_value}
 use Rattle.linear.specs.Code128.{characters, character_modules, with_check}
 
--- what a value stands for: text, a change of set that lasts, a shift of the next character alone to the other of A
--- and B, or nothing that may stand between the start and the check value
+-- the meaning of a value: text, a change of set that lasts, a shift of the next character alone to the other of A and
+-- B, or none between the start and the check value
 pub data Meaning : Type 0 where
   text : List ℕ → Meaning
   change : CodeSet → Meaning
   shift : Meaning
   none : Meaning
 
--- what a value stands for that is no character: a shift, or a change to one of these sets
+-- the meaning of a value that is no character: a shift, or a change to one of these sets
 abbrev pub switch_meaning : List CodeSet → ℕ → Meaning
 switch_meaning sets value =
     if value == shift_value then shift
@@ -34,7 +34,7 @@ meaning C value =
     if nat_lt value 100 then text ((48 + value / 10) ∷ (48 + value % 10) ∷ [])
     else switch_meaning (A ∷ B ∷ []) value
 
--- the set to which Shift goes for one character
+-- the set of the one character after a shift
 abbrev pub other_set : CodeSet → CodeSet
 other_set A = B
 other_set B = A

@@ -23,8 +23,8 @@ has_guards half row =
     && same_modules (take 5 (drop (3 + 7 * half) row)) centre_guard
     && same_modules (drop (8 + 14 * half) row) normal_guard
 
--- what is found for the left groups, and the digits of the right groups in set C, if the row is framed and all are
--- found
+-- what is found for the left groups, and the digits of the right groups in set C, if the row has its guards and all
+-- are found
 abbrev pub read_halves : {Y : Type 0} → ℕ → (List Bool → Option Y) → List Bool → Option (List Y × List ℕ)
 read_halves half found row =
     if has_guards half row

@@ -9,7 +9,7 @@ use Rattle.linear.specs.CodeSets.{is_pair_next, pair_values, byte_values, data_v
 use Rattle.linear.proofs.DataValueLaws.{PairAt, pair_at, byte_at}
 use Rattle.linear.proofs.switching.data_values.Goals as goal
 
--- what stands behind `&xs[i..]`
+-- the elements of `&xs[i..]`
 rest_is : (xs : List ℕ) (i : ℕ) → take (length xs - i) (drop i xs) ≡ drop i xs
 rest_is xs i = take_all (length xs - i) (drop i xs) (let e = length-drop i xs in omega arith)
 
