@@ -8,6 +8,7 @@ use Rattle.linear.specs.declared.ean.NumberSet.TheVariants as number_set
 use Rattle.linear.specs.declared.switching.CodeSet.TheVariants.{A, B, C}
 use Rattle.linear.specs.Modules.{modules}
 use Rattle.linear.specs.Digits.{digit_value, weighted_sum, full_digits}
+use Rattle.linear.specs.Switching.{step}
 use Rattle.linear.specs.Tables.{rows, number_set_a, left_half_sets, character_widths}
 use Rattle.linear.specs.Ean.{pattern, normal_guard, centre_guard, ean8_row, ean13_row, upca_row}
 use Rattle.linear.specs.EanReading.{read_ean8, read_ean13, read_upca}
@@ -327,3 +328,7 @@ meanings_in_b = refl
 meanings_in_c : map (meaning C) (0 ∷ 42 ∷ 99 ∷ 100 ∷ 101 ∷ 102 ∷ []) ≡ text (codes "00") ∷ text (codes "42")
     ∷ text (codes "99") ∷ change B ∷ change A ∷ none ∷ []
 meanings_in_c = refl
+
+-- a step in set C takes two digits
+step_in_c : step C 49 (codes "234") ≡ record { values = 12 ∷ []; set = C; rest = codes "34" }
+step_in_c = refl

@@ -91,6 +91,29 @@ fn each_mask_at_each_level(rt: HostRuntime) {
     }
 }
 
+/// Data of each mode, with payloads that leave 1 to 3 digits or 1 to 2 characters, and the sums of Zint's symbols of
+/// version 1 at level M under mask 0. The 21 bits of two digits need all four bits of the terminator.
+const DATA: &[(&[u8], u32)] = &[
+    (b"qr 1\n", 0x2835A12C),
+    (b"qr 12\n", 0x4445A140),
+    (b"qr 123\n", 0x4D66A144),
+    (b"qr AC-42\n", 0x465EA140),
+    (b"qr A\n", 0x3563A134),
+    (b"qr abc\n", 0x344CA132),
+    (b"qr a12b\n", 0x44E2A13E),
+];
+
+#[test]
+fn each_mode(rt: HostRuntime) {
+    let named = Named {
+        mask: Some(0),
+        ..DEFAULT
+    };
+    for (line, sum) in DATA {
+        assert_sum(&rt, rt.alloc(), named.options(&rt), line, *sum);
+    }
+}
+
 /// Lines of each linear symbology, and the sums of Zint's modules in 50 rows between the quiet zones of ISO/IEC 15420 and
 /// 15417: 11 and 7, 7 and 7, 9 and 9, 10 and 10 modules.
 const LINEAR: &[(&[u8], u32)] = &[
