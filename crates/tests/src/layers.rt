@@ -1,8 +1,8 @@
 //! Worked rows, the standards' listings, plain slow forms, devices that fail: the layers below the filter.
 mod bars;
+mod buffered_bytes;
 mod codewords;
 mod field;
-mod buffered_bytes;
 mod limits;
 mod lines;
 mod pictures;

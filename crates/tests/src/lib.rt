@@ -1,8 +1,10 @@
 //! All tests, by public calls alone: of the layers below the filter (`layers`), of runs (`runs`), of the calls that
-//! reach devices (`calls`), of the command's words (`words`), of the names of files (`names`) and by facts of other
+//! reach devices (`calls`), of the command's arguments (`arguments`), of the names of files (`names`) and by facts of other
 //! projects (`vectors`). They are in a crate of their own, so that a crate is proved without reading what tests read.
 #![tactic(auto)]
 
+#[cfg(test)]
+mod arguments;
 #[cfg(test)]
 mod calls;
 #[cfg(test)]
@@ -13,5 +15,3 @@ mod names;
 mod runs;
 #[cfg(test)]
 mod vectors;
-#[cfg(test)]
-mod words;

@@ -1,7 +1,7 @@
 //! Names of files, long lists of words, and the help text: what no clause says of them.
 use crate::calls::kinds::KINDS;
 use crate::runs::support::low;
-use command::{OpenFault, ArgumentsFault, open_file, options_of};
+use command::{ArgumentsFault, OpenFault, open_file, options_of};
 use device::MemSink;
 use filter::{RunFault, run};
 use std::alloc::{AllocError, Allocator, Global};
@@ -206,34 +206,36 @@ fn the_longest_command_line_is_taken(rt: HostRuntime) -> Result<(), Fail> {
 
 /// The help text, which `-h` and `--help` ask for. No other test has all of it.
 const HELP: &str = "\
-Draws EAN, UPC, Code 128 and QR Code labels: a picture for each line of the input.
+labels 1.0.0
+
+Draws EAN, UPC, Code 128 and QR Code labels: one picture for each line of the input.
 
 Usage: labels [OPTIONS] [FILE]
 
 Arguments:
-  [FILE]  The file to read; standard input where there is none
+  [FILE]  The file to read; standard input if there is none
 
 Options:
-      --format <pbm|ascii>  The pictures, as plain PBM or as text [default: pbm]
-      --scale <1-8>         The side of a module in pixels [default: 1]
+      --format <pbm|ascii>  How pictures are written: as plain PBM or as text [default: pbm]
+      --scale <1-8>         The width and height of a module in pixels [default: 1]
       --height <1-500>      The height of EAN, UPC and Code 128 symbols in modules [default: 50]
-      --level <L|M|Q|H>     The error correction of QR symbols [default: M]
-      --min-version <1-10>  The least version of QR symbols [default: 1]
-      --mask <0-7>          The mask of QR symbols [default: the one of the least penalty]
-      --escapes             Read \\\\, \\n and \\xHH in the data
+      --level <L|M|Q|H>     The error correction level of QR symbols [default: M]
+      --min-version <1-10>  The smallest version of QR symbols [default: 1]
+      --mask <0-7>          The mask of QR symbols [default: the mask with the lowest penalty]
+      --escapes             Read \\\\, \\n and \\xHH in the data as one byte each
   -h, --help                Print help
 
 Lines: NAME[,KEY=VALUE].. DATA, where NAME and DATA are
   ean13 400638133393       12 digits, or 13 with the check digit
-  ean8 7351353             7 digits, or 8
-  upca 03600029145         11 digits, or 12
+  ean8 7351353             7 digits, or 8 with the check digit
+  upca 03600029145         11 digits, or 12 with the check digit
   code128 SHELF-7          1 to 80 bytes of ASCII
-  qr https://example.com   any bytes that fit version 10
-and KEY is height, or for qr level, min-version or mask (0 to 7 or auto). Empty lines and
+  qr https://example.com   any bytes that fit in version 10
+and KEY is height, or for qr level, min-version or mask (0 to 7, or auto). Empty lines and
 lines that begin with # draw nothing. A refused line gives a message on standard error.
 
-Status: 0 no line was refused, 1 some line was refused, 2 bad words (of this command),
-3 reading, writing, opening FILE or memory failed.
+Status: 0 no line was refused, 1 at least one line was refused, 2 labels does not take the
+arguments (bad words), 3 reading, writing or opening FILE failed, or memory ran out.
 
 Example: echo 'ean13 400638133393' | labels --scale 4 --height 70 > pencil.pbm
 ";

@@ -2,7 +2,7 @@
 mod listings;
 mod thresholds;
 
-use linear::{Code128, Ean13, Ean8, Linear, QuietZones, Refusal, Row, UpcA, coding_laws};
+use linear::{Code128, Ean8, Ean13, Linear, QuietZones, Refusal, Row, UpcA, coding_laws};
 use std::process::Abort;
 
 /// What a symbology answers to data that it is to draw over an old row, and the row.
@@ -159,6 +159,12 @@ fn quiet_zones_and_laws(rt: HostRuntime) {
     assert!(rt; Ean8::QUIET_ZONES == QuietZones { left: 7, right: 7 });
     assert!(rt; Ean13::QUIET_ZONES == QuietZones { left: 11, right: 7 });
     assert!(rt; UpcA::QUIET_ZONES == QuietZones { left: 9, right: 9 });
-    assert!(rt; Code128::QUIET_ZONES == QuietZones { left: 10, right: 10 });
+    assert!(rt;
+        Code128::QUIET_ZONES
+            == QuietZones {
+                left: 10,
+                right: 10
+            }
+    );
     coding_laws();
 }

@@ -1,6 +1,6 @@
 //! Known symbols, and the shortest lists of segments found by listing them all.
 use crate::layers::support::version;
-use qrdata::{DoesNotFit, Codewords, Level, Mode, Plan, Segment, Version, choose, codewords};
+use qrdata::{Codewords, DoesNotFit, Level, Mode, Plan, Segment, Version, choose, codewords};
 use std::process::Abort;
 
 fn planned<'a>(rt: &impl Abort, level: Level, min_version: u8, data: &'a [u8]) -> Plan<'a> {

@@ -1,6 +1,6 @@
 //! EAN-13 and EAN-8: full data and its row.
 use crate::vectors::assert_digits;
-use linear::{Ean13, Ean8};
+use linear::{Ean8, Ean13};
 
 /// EAN-13 in the test suites of zint, barcode and barby. zint has most of them from the GS1 General Specifications and
 /// from manuals of ISBN.

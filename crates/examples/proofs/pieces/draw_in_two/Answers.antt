@@ -3,7 +3,7 @@ use Rattle.filter.proofs.FilterLemmas.{TookPiece-append}
 use Rattle.filter.proofs.RunLemmas.{at_ok, TookLines-finish}
 use Rattle.filter.specs.Filter.{TookLines, StopsInFinish}
 use Rattle.filter.specs.Output.{status_of}
-use Rattle.labelcore.specs.Lines.{lines, ended_lines, open_line, unless_empty}
+use Rattle.device.specs.Lines.{lines, ended_lines, open_line, unless_empty}
 use Rattle.examples.proofs.pieces.draw_in_two.Goals as goal
 
 pub returns-clause-draws : goal.returns-clause-draws

@@ -2,7 +2,7 @@
 ghost use Rattle.std.specs.Prelude.{◌<◌};
 
 use super::{assert_drawn, assert_row, assert_widths, push_widths};
-use linear::{Code128, Ean13, Ean8, Row};
+use linear::{Code128, Ean8, Ean13, Row};
 
 /// The widths of the values 0 to 105, six digits each, as `zint -b 20 --dump` and, for 102, `zint -b 16 --dump` draw
 /// them: 0 to 99 and 105 in the symbols of two digits, 103 in that of bytes 1 and 2, 104 in that of `ab`, 101 in that

@@ -8,8 +8,8 @@ mod square;
 ghost use Rattle.std.specs.Prelude.{◌≡◌, ◌+◌, ◌*◌, ◌<◌, ◌≤◌, IfSome};
 ghost use Rattle.qrdata.specs.Versions.{side_of};
 
-use qrdata::{Codewords, Level, Version};
 use penalty::penalty;
+use qrdata::{Codewords, Level, Version};
 use square::Square;
 
 /// The modules of a symbol.

@@ -1,4 +1,4 @@
-//! Output that is held back, over writers in memory.
+//! Output that is buffered, over writers in memory.
 use crate::runs::support::{EAN8, answer_of, answer_to, joined, low, repeated};
 use device::{Buffered, FailAt, IoFault, MemSink, MemSource, Sink, Source, StdSink};
 use filter::{RunFault, Status};
@@ -9,9 +9,9 @@ use std::test::Fail;
 
 /// Adds its bytes to a text that several writers share, or fails.
 #[derive(Drop)]
-struct SharedWriter<'a> {
-    text: &'a RefCell<Vec<u8>>,
-    fails: bool,
+pub struct SharedWriter<'a> {
+    pub text: &'a RefCell<Vec<u8>>,
+    pub fails: bool,
 }
 
 impl Write for SharedWriter<'_> {

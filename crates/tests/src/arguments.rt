@@ -1,6 +1,6 @@
 //! The words of the command line, the file that they name, and how the program ends.
 use crate::runs::support::{DEFAULT, EAN8, LEVEL_L, LOW, Named};
-use command::{Choice, End, OpenFault, ArgumentsFault, open_file, options_of};
+use command::{ArgumentsFault, Choice, End, OpenFault, open_file, options_of};
 use device::MemSink;
 use filter::{RunFault, Status, run};
 use labelcore::{Format, Options};
@@ -29,7 +29,10 @@ fn choice_of(alloc: Global, texts: &[&str]) -> Result<Choice, Fail> {
 /// Whether words are refused as bad.
 fn are_bad(alloc: Global, texts: &[&str]) -> Result<bool, AllocError> {
     let words = words_of(alloc, texts)?;
-    Ok(matches!(&options_of(alloc, words.as_slice()), Err(ArgumentsFault::Bad)))
+    Ok(matches!(
+        &options_of(alloc, words.as_slice()),
+        Err(ArgumentsFault::Bad)
+    ))
 }
 
 #[test]
