@@ -7,9 +7,8 @@ mod square;
 
 ghost use Rattle.std.specs.Prelude.{◌<◌, ◌≤◌, IfSome};
 
-use qrdata::Level;
 use penalty::penalty;
-use qrdata::{Version, Codewords};
+use qrdata::{Codewords, Level, Version};
 use square::Square;
 
 /// The modules of a symbol.
