@@ -1,16 +1,14 @@
 -- What a line comes to, from what its symbol or its refusal comes to.
 use Rattle.std.proofs.Common.{◌≡◌, ℕ, List, [], Result, Ok, Err, refl, subst}
 use Rattle.std.specs.Prelude.{IfErr, IfOk, OnOk}
-use Rattle.labelcore.specs.OptionValues.{OptionValues, KeepsRunOptions}
+use Rattle.labelcore.specs.OptionValues.{OptionValues}
 use Rattle.labelcore.specs.LineItem.{item}
 use Rattle.labelcore.specs.Message.{message}
 use Rattle.labelcore.specs.declared.fault.Fault.{Fault}
 use Rattle.labelcore.specs.LineItem.{Outcome, skipped, refused, drawn}
 use Rattle.filter.specs.Output.{outcome, outcome_of_item, image_of}
 use Rattle.filter.specs.Line.{FailsInLine}
-use Rattle.device.specs.Writing.{WritesText}
-use Rattle.device.specs.declared.sink.Sink.{Ghosts}
-use Rattle.filter.specs.Drawing.{DrawsOutcome, refusal_of}
+use Rattle.filter.specs.Drawing.{refusal_of}
 use Rattle.filter.specs.Private.LineEnd.{EndsLine, FailsInMessage}
 use Rattle.filter.specs.Symbol.{Symbol}
 use Rattle.filter.specs.declared.status.Status.{Status}
@@ -72,18 +70,3 @@ drawn_ends options took_out took_err number skipped e image none read =
 drawn_ends options took_out took_err number (refused why) e image none read = cc
 drawn_ends options took_out took_err number (drawn symbol) e image none read =
     record { status_is = refl; image = image; message = none; read = read }
-
--- a line keeps the format and the scale of the run, so its image is the run's
-module _ (run own : OptionValues) (kept : KeepsRunOptions run own) where
-  image_of-own : (o : Outcome Symbol) → image_of own o ≡ image_of run o
-  image_of-own skipped = refl
-  image_of-own (refused fault) = refl
-  image_of-own (drawn symbol) = rw (kept.format, kept.scale) refl
-
-  pub DrawsOutcome-own : {S E : Type 0} (sink : Ghosts S) (old new : S) (o : Outcome Symbol)
-      (r : Result (Result (Unit {0}) Fault) E) → DrawsOutcome sink old new own o r → DrawsOutcome sink old new run o r
-  DrawsOutcome-own sink old new o r h = record {
-    writes = subst (λ (text : List ℕ). WritesText sink old new text r) (image_of-own o) h.writes;
-    refusal = h.refusal;
-    read = h.read;
-  }

@@ -1,6 +1,6 @@
 -- Images that are read back, one and many.
 use Rattle.std.proofs.Common.{◌≡◌, ℕ, ◌+◌, ◌*◌, ◌^◌, ◌<◌, ◌≤◌, Bool, true, false, List, [], ◌∷◌, ◌++◌, map, length}
-use Rattle.std.proofs.Common.{Option, None, Some, Result, Ok, Err, refl, sym, ap, ◌∙◌, arith, get_or, inl, inr, ◌&&◌}
+use Rattle.std.proofs.Common.{Some, refl, sym, ap, ◌∙◌, arith, get_or, inl, inr, ◌&&◌}
 use Rattle.std.proofs.Common.{◌==◌, eq-eqb}
 use mathlib.Core.Path.{fun_ext}
 use Rattle.std.specs.Prelude.{nat_lt}
@@ -10,7 +10,6 @@ use Rattle.std.proofs.lemmas.Bool.{cases_lt, le-ltb}
 use Rattle.std.proofs.lemmas.List.{get_or_past}
 use Rattle.std.proofs.lemmas.List.Elements.{All-from_recursion}
 use Rattle.std.proofs.lemmas.List.FromFn.{get_or-map-range_with_len, length-map-range_with_len}
-use Rattle.linear.specs.declared.refusal.Refusal.{Refusal}
 use Rattle.labelcore.specs.declared.options.Format.{Format}
 use Rattle.labelcore.specs.declared.options.Format.TheVariants.{Pbm, Ascii}
 use Rattle.qrdata.specs.declared.level.Level.{Level}
@@ -21,15 +20,15 @@ use Rattle.qrdata.specs.Reading.{data_in}
 use Rattle.qrmatrix.specs.Modules.{is_inside}
 use Rattle.qrmatrix.specs.Reading.{read_matrix}
 use Rattle.qrmatrix.specs.Square.{value_at}
-use Rattle.picture.specs.Picture.{Picture, bars}
+use Rattle.picture.specs.Picture.{Picture}
 use Rattle.picture.specs.Text.{below, pixel_row}
 use Rattle.picture.specs.Reading.{raster}
-use Rattle.picture.specs.ReadingLaws.{ReadingLaws, IsDrawable, PixelsAreThePicture, BarsAreOneRow}
-use Rattle.filter.specs.Symbol.{Symbol, quiet_zone, linear_symbol}
-use Rattle.labelcore.specs.LineItem.{Outcome, skipped, refused, drawn, outcome_of}
+use Rattle.picture.specs.ReadingLaws.{ReadingLaws, IsDrawable, PixelsAreThePicture}
+use Rattle.filter.specs.Symbol.{Symbol, quiet_zone}
+use Rattle.labelcore.specs.LineItem.{Outcome, skipped, refused, drawn}
 use Rattle.filter.specs.Output.{outcome, image_of, images}
 use Rattle.filter.specs.Output.{picture_of, text_of}
-use Rattle.filter.specs.Readback.{cut, pixels, read_linear, read_modules, read_image, drawn_symbols, with_symbol, AreRead}
+use Rattle.filter.specs.Readback.{cut, pixels, read_image, drawn_symbols, with_symbol, AreRead}
 use Rattle.filter.specs.Readback.{IsReadable, ReadsBack}
 
 -- the quiet zones are narrow
@@ -152,31 +151,6 @@ module _ (laws : ReadingLaws) (options : OptionValues) (low : 1 ≤ options.scal
       let readable = drawn_symbols_readable lines all in
       rw (images_are lines, stream_cut options.format (drawn_symbols options lines) readable)
       (all_read (drawn_symbols options lines) readable)
-
--- a row that is read is not empty
-some_row : (reading : List Bool → Option (List ℕ)) (row : List Bool) (full : List ℕ) → reading [] ≡ None
-    → reading row ≡ Some full → 0 < length row
-some_row reading [] full none e = absurd (let no : None ≡ Some full = sym none ∙ e in cc)
-some_row reading (module_ ∷ row) full none e = omega arith
-
--- a linear symbol whose row is read
-pub linear_readable : BarsAreOneRow → (symbology : Symbology) (row : List ℕ → List Bool)
-    (reading : List Bool → Option (List ℕ)) (options : OptionValues) (r : Result (List ℕ) Refusal) → 1 ≤ options.height
-    → options.height ≤ 500 →
-    ((rows : List (List Bool)) → read_modules symbology rows ≡ read_linear reading rows) → reading [] ≡ None →
-    ((full : List ℕ) → r ≡ Ok full → (length (row full) ≤ 1795) × (reading (row full) ≡ Some full))
-    → ReadsBack (outcome_of (linear_symbol symbology row options r))
-linear_readable one_row symbology row reading options (Err fault) low high law none back = tt
-linear_readable one_row symbology row reading options (Ok full) low high law none back =
-    let b = back full refl in
-    let one = one_row (row full) options.height low in
-    record {
-      some_columns = some_row reading (row full) full none b.1;
-      columns = omega (arith, b.0);
-      some_rows = low;
-      rows = high;
-      read = law (raster (bars (row full) options.height)).rows ∙ rw one b.1;
-    }
 
 equal_lengths : (p : Picture) (n : ℕ) (ys : List ℕ) → p.width ≡ n
     → list_all (λ row. length row == n) (map (pixel_row p) ys) ≡ true

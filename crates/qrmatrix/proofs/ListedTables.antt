@@ -1,15 +1,13 @@
 -- The tables of QR symbols beside those of other programs: qrencode 4.1.1 (qrspec.c) and what Zint 2.11.1 draws; and
 -- the weights of ISO/IEC 18004, 7.8.3.
-use Rattle.std.proofs.Common.{◌≡◌, ℕ, ◌+◌, ◌*◌, refl, Bool, true, false, List, [], ◌∷◌, ◌++◌, map, codes}
-use Rattle.std.specs.Prelude.{◌==◌, None, nat_le, replicate, slice_index_or}
+use Rattle.std.proofs.Common.{◌≡◌, ℕ, ◌+◌, refl, Bool, true, false, List, [], ◌∷◌, ◌++◌, map, codes}
+use Rattle.std.specs.Prelude.{◌==◌, nat_le, slice_index_or}
 use Rattle.std.specs.List.{flat_map, list_all, position_or_len, range_with_len, slice_split}
 use Rattle.gf256.specs.BinaryPolynomial.{binary_remainder}
-use Rattle.qrdata.specs.declared.level.Level.{Level}
 use Rattle.qrdata.specs.declared.level.Level.TheVariants.{L, M, Q, H}
 use Rattle.qrmatrix.specs.Functions.{alignment_coordinates}
 use Rattle.qrmatrix.specs.Information.{format_information, level_indicator, version_information}
 use Rattle.qrmatrix.specs.Masks.{is_flipped}
-use Rattle.qrmatrix.specs.MaskChoice.{chosen_mask, penalties}
 use Rattle.qrmatrix.specs.Penalty.{balance_penalty, dark_count, finder_before_light, finder_penalty, run_penalty}
 use Rattle.qrmatrix.specs.Penalty.{square_penalty}
 use Rattle.qrmatrix.specs.Placement.{remainder_bits}
@@ -147,11 +145,6 @@ dark_modules = refl
 -- without a mask that is asked for, the chosen one has the place of the lowest penalty
 place_of_lowest : List ℕ → ℕ
 place_of_lowest numbers = position_or_len (λ p. list_all (nat_le p) numbers) numbers
-
-mask_of_lowest : (v : ℕ) (level : Level) (codewords : List ℕ)
-    → chosen_mask v level None codewords ≡ place_of_lowest (penalties v level codewords)
-unfolding chosen_mask place_of_lowest
-mask_of_lowest v level codewords = refl
 
 -- of equal penalties the first counts
 lowest : map place_of_lowest ((3 ∷ 1 ∷ 2 ∷ 1 ∷ []) ∷ (5 ∷ []) ∷ (2 ∷ 2 ∷ []) ∷ []) ≡ 1 ∷ 0 ∷ 0 ∷ []

@@ -1,7 +1,7 @@
 //! Both ends of each range of a setting, and what lies beside them; the letters and places of messages
 //! (docs/SPECIFICATION.md, Settings, Refusals).
 use device::MemSink;
-use labelcore::{Fault, Format, Item, LineBuf, Options, Scratch, Symbology, parse, write_fault};
+use labelcore::{Fault, Format, Item, LineBuf, Options, Scratch, parse, write_fault};
 use qrdata::Level;
 use std::process::Abort;
 
