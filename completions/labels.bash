@@ -1,4 +1,4 @@
-# Completion of `labels` for bash: options, their values, and files.
+# Completion of `labels` and its tools for bash: options, the values of those of `labels`, and files.
 _labels() {
     local word=${COMP_WORDS[COMP_CWORD]} before=${COMP_WORDS[COMP_CWORD-1]} values=
     # bash cuts --option=value into three words
@@ -27,3 +27,13 @@ _labels() {
     mapfile -t COMPREPLY < <(compgen -W "$values" -- "$word")
 }
 complete -F _labels labels
+
+# the options that a tool's help text names
+_label_tool() {
+    local word=${COMP_WORDS[COMP_CWORD]} options
+    if [[ $word == -* ]]; then
+        options=$("$1" --help 2> /dev/null | grep -o -e '--[a-z][a-z-]*' | sort -u)
+        mapfile -t COMPREPLY < <(compgen -W "$options" -- "$word")
+    fi
+}
+complete -o default -F _label_tool label-caption label-escpos label-fits label-lines label-sheet label-table label-zpl

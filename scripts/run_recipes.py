@@ -1,26 +1,28 @@
 #!/usr/bin/env python3
 """Runs each command of the documents, and compares what it prints.
 
-usage: scripts/run_recipes.py [--kit] [--long] [--times] [PROGRAM]
-
-The documents are README.md, docs/INPUT.md, docs/PRINTING.md, docs/RECIPES.md and the examples of man/labels.1. PROGRAM
-is crates/labels/out/labels where none is given: the proved program, which `rt run` in crates/labels leaves there.
+The pages are README.md, docs/INPUT.md, docs/PRINTING.md, docs/RECIPES.md and the examples of the man pages. PROGRAM is
+crates/labels/out/labels where none is given: the proved program, which `rt run` in crates/labels leaves there.
 
 In a page a block ```sh holds commands, and the block ```text right after it, if there is one, what they print on
 standard output and standard error together; where there is none, they print nothing. A block has to end with status 0.
 The blocks of a page run in their order, each by its own `sh`, at the top of a new copy of the repository's files, with
-the program, as `labels`, and the programs of tools on the path, and with a home of their own. In the man page an
-example with a prompt `$ ` may end with any status; one without it has to end with status 0 and may print anything.
+the program, as `labels`, and the programs of tools on the path, and with a home of their own. In a man page an example
+with prompts `$ ` is a session: each command may end with any status, and what it prints is below it; `$ cat FILE` of a
+file that is not there makes the file. An example without a prompt has to end with status 0 and may print anything; it
+runs in labels.1 alone, since those of the other man pages name files and printers of the reader.
 
-A block ```sh kit calls the kit, which proves for minutes, and may print anything; --kit runs it too, in a fresh clone,
-README.md first, and the other pages with the program that it builds. A block ```sh long takes minutes; --long runs it.
---times tells the seconds of each block.
+A block ```sh kit calls the kit, which proves for minutes, and may print anything. It runs with --kit alone, in a fresh
+clone of what is committed, README.md first, and the other pages with the program that it builds.
 
-The pictures that RECIPES.md makes must be those of docs/pictures, pixel for pixel. mandoc and groff must find nothing
-in the man page, and each option of the help text must stand in it and in the completion. The last line is `N of N as
-printed`; where one is not, the status is 1. Where a tool of the pages is missing, the script says so and ends with
-status 0.
+Besides, the pictures that RECIPES.md makes must be those of docs/pictures, pixel for pixel; each link from one file of
+the repository to another must lead to a file and a heading; mandoc and groff must find nothing in the man pages; and
+each option of a help text must be in its man page and in the completion, where there is one. The last line is `N of N
+as printed`; where one is not, the status is 1. Where a third-party program of the pages is missing, the script names
+it and ends with status 77. Bad words and a program that is not there end with status 2.
 """
+
+import argparse
 import os
 import re
 import shutil
@@ -28,131 +30,241 @@ import subprocess
 import sys
 import tempfile
 import time
+from pathlib import Path
+from typing import Dict, Iterator, List, NamedTuple, Optional, Tuple
 
-TOP = os.path.dirname(os.path.dirname(os.path.abspath(__file__)))
-TOOLS = ("man", "csplit", "awk", "iconv", "basenc", "bash", "pamfile", "pnmpad", "pnmcat", "pbmtext", "pnmtopng",
-         "pnmtops", "zbarimg", "gs", "convert", "pdftoppm", "pv", "parallel", "mandoc", "groff")
+TOP = Path(__file__).resolve().parent.parent
 PROGRAM = "crates/labels/out/labels"
 PAGES = ("README.md", "docs/INPUT.md", "docs/PRINTING.md", "docs/RECIPES.md")
-FOLDERS = ("man", "completions", "tools", "docs")
-BLOCK = re.compile(r"^```(sh|sh kit|sh long)\n(.*?)^```\n(?:\n*^```text\n(.*?)^```$)?", re.MULTILINE | re.DOTALL)
+FOLDERS = ("man", "completions", "tools", "docs", "scripts")
+THIRD_PARTY = (
+    *("man", "mandoc", "groff", "bash", "awk", "csplit", "pv", "parallel"),
+    *("pamfile", "pbmtext", "pngtopnm", "pnmpad", "pnmtopng", "pnmtops"),
+    *("zbarimg", "pdfinfo", "pdftoppm"),
+)
+SECONDS = 3600
+SKIPPED = 77
+PROMPT, CONTINUED = "$ ", "> "
 
-# zbar's warnings of its reader of another symbology, which come in some runs and not in others
+# the man page of each tool; the tools that have none of their own share one
+MAN_PAGES = {"labels": "labels.1", "label-sheet": "label-sheet.1", "label-table": "label-table.1"}
+SHARED_MAN_PAGE = "label-tools.1"
+
+BLOCK = re.compile(r"^```(sh|sh kit)\n(.*?)^```\n(?:\n*^```text\n(.*?)^```$)?", re.MULTILINE | re.DOTALL)
+ANY_BLOCK = re.compile(r"^```.*?^```$", re.MULTILINE | re.DOTALL)
+EXAMPLE = re.compile(r"(?:^ {14}.*\n)+", re.MULTILINE)
+LINK = re.compile(r"\]\(([^()\s#]*)(?:#([^()\s]*))?\)")
+SHOWN_FILE = re.compile(r"cat ([\w.]+)\n")
+HEADING = re.compile(r"^#+ (.*)$", re.MULTILINE)
+
+# zbar's warnings of its reader of another symbology, which are printed in some runs and not in others
 DATABAR = re.compile(r"^WARNING: decoder/databar.*\n(?:\t.*\n)?", re.MULTILINE)
 
 
-def blocks_of(page):
-    """The kind of each block of a page, its commands, and what they print."""
-    with open(f"{TOP}/{page}", encoding="utf-8") as file:
-        yield from BLOCK.findall(file.read())
+class Block(NamedTuple):
+    """Commands, what they print (None where that is not compared), and whether they may fail."""
+
+    commands: str
+    printed: Optional[str]
+    may_fail: bool
 
 
-def examples():
-    """The commands of each example of the man page, and what they print, or None where the page does not say."""
-    page = subprocess.run(["man", "-l", f"{TOP}/man/labels.1"], capture_output=True, check=True, text=True,
-                          env={**os.environ, "MANWIDTH": "200", "MAN_KEEP_FORMATTING": ""})
-    section = re.search(r"^EXAMPLES\n(.*?)^\S", page.stdout, re.MULTILINE | re.DOTALL).group(1)
-    for block in re.findall(r"(?:^ {14}.*\n)+", section, re.MULTILINE):
-        lines = [line[14:] for line in block.splitlines()]
-        commands = [line[2:] for line in lines if line[:2] in ("$ ", "> ")]
-        if commands:
-            printed = [line for line in lines if line[:2] not in ("$ ", "> ")]
-            yield "\n".join(commands) + "\n", "".join(f"{line}\n" for line in printed)
-        else:
-            yield "\n".join(lines) + "\n", None
+def blocks_of(page: str, with_kit: bool) -> List[Block]:
+    """The blocks of a page that are to run."""
+    blocks = BLOCK.findall((TOP / page).read_text(encoding="utf-8"))
+    return [
+        Block(commands, None if kind == "sh kit" else printed, False)
+        for kind, commands, printed in blocks
+        if with_kit or kind != "sh kit"
+    ]
+
+
+def examples_of(page: Path) -> List[Block]:
+    """The examples of a man page: commands behind a prompt and what they print, or commands alone."""
+    environment = {**os.environ, "MANWIDTH": "200", "MAN_KEEP_FORMATTING": ""}
+    text = subprocess.run(["man", "-l", page], capture_output=True, check=True, text=True, env=environment).stdout
+    section = re.search(r"^EXAMPLES\n(.*?)^\S", text, re.MULTILINE | re.DOTALL)
+    blocks = []
+    for example in EXAMPLE.findall(section.group(1) if section else ""):
+        lines = [line[14:] for line in example.splitlines()]
+        if not lines[0].startswith(PROMPT):
+            blocks.append(Block("\n".join(lines) + "\n", None, False))
+        for line in lines if lines[0].startswith(PROMPT) else []:
+            if line.startswith(PROMPT):
+                blocks.append(Block(line.removeprefix(PROMPT) + "\n", "", True))
+            elif line.startswith(CONTINUED):
+                blocks[-1] = blocks[-1]._replace(commands=f"{blocks[-1].commands}{line.removeprefix(CONTINUED)}\n")
+            else:
+                blocks[-1] = blocks[-1]._replace(printed=f"{blocks[-1].printed}{line}\n")
+    return blocks
+
+
+def anchors_of(page: Path) -> List[str]:
+    """The names by which links lead to the headings of a page."""
+    headings = HEADING.findall(ANY_BLOCK.sub("", page.read_text(encoding="utf-8")))
+    return [re.sub(r"[^\w\- ]", "", heading.lower()).replace(" ", "-") for heading in headings]
+
+
+def pixels(picture: Path) -> bytes:
+    """The pixels of a PNG; none where it is not there."""
+    return subprocess.run(["pngtopnm", picture], capture_output=True).stdout if picture.exists() else b""
 
 
 class Run:
     """Counts what was tried, and what was as printed."""
 
-    def __init__(self, program, words):
+    def __init__(self, program: Optional[Path], with_kit: bool, with_times: bool) -> None:
         self.program = program
-        self.words = words
+        self.with_kit = with_kit
+        self.with_times = with_times
         self.count = self.good = 0
+        self.kept = tempfile.TemporaryDirectory()
 
-    def tell(self, is_good, text):
-        """Counts one thing, and tells what is wrong with it."""
+    def judge(self, is_good: bool, text: str) -> None:
+        """Counts one thing, and prints what is wrong with it."""
         self.count += 1
         self.good += is_good
         if not is_good:
-            print(text)
+            print(text, flush=True)
 
-    def try_page(self, name, blocks):
+    def try_page(self, name: str, blocks: List[Block]) -> None:
         """Runs the blocks of a page in a new folder, and compares the pictures that they leave there."""
+        if not blocks:
+            self.judge(False, f"{name}: no block to run")
         with tempfile.TemporaryDirectory() as folder:
-            work = f"{folder}/labels"
-            if "--kit" in self.words:
-                subprocess.run(["git", "clone", "--quiet", TOP, work], check=True)
-            for part in () if "--kit" in self.words else FOLDERS:
-                shutil.copytree(f"{TOP}/{part}", f"{work}/{part}")
-            os.makedirs(f"{work}/crates/labels/out", exist_ok=True)
-            os.makedirs(f"{folder}/bin")
-            os.makedirs(f"{folder}/home")
-            if self.program:
-                shutil.copy(self.program, f"{work}/{PROGRAM}")
-            os.symlink(f"{work}/{PROGRAM}", f"{folder}/bin/labels")
-            environment = {**os.environ, "HOME": f"{folder}/home",
-                           "PATH": f"{folder}/bin:{TOP}/tools:{os.environ['PATH']}"}
-            for commands, wanted, may_fail in blocks:
-                self.try_block(name, commands, wanted, may_fail, work, environment)
+            work = Path(folder) / "labels"
+            environment = self.prepare(Path(folder), work)
+            for block in blocks:
+                self.try_block(name, block, work, environment)
             if not self.program:
-                self.program = f"{tempfile.mkdtemp()}/labels"
-                shutil.copy(f"{work}/{PROGRAM}", self.program)
+                self.program = Path(self.kept.name) / "labels"
+                shutil.copy(work / PROGRAM, self.program)
             if name == "docs/RECIPES.md":
                 self.compare_pictures(work)
 
-    def try_block(self, name, commands, wanted, may_fail, work, environment):
+    def prepare(self, folder: Path, work: Path) -> Dict[str, str]:
+        """Copies the repository's files and the program, and returns the environment of the blocks."""
+        if self.with_kit:
+            subprocess.run(["git", "clone", "--quiet", TOP, work], check=True)
+        else:
+            for part in FOLDERS:
+                shutil.copytree(TOP / part, work / part, ignore=shutil.ignore_patterns("__pycache__"))
+        (work / PROGRAM).parent.mkdir(parents=True, exist_ok=True)
+        for name in ("bin", "home"):
+            (folder / name).mkdir()
+        if self.program:
+            shutil.copy(self.program, work / PROGRAM)
+        (folder / "bin/labels").symlink_to(work / PROGRAM)
+        environment = {name: value for name, value in os.environ.items() if name != "LABELS"}
+        path = f"{folder}/bin:{work}/tools:{os.environ['PATH']}"
+        return {**environment, "HOME": f"{folder}/home", "PATH": path}
+
+    def try_block(self, name: str, block: Block, work: Path, environment: Dict[str, str]) -> None:
         """Runs one block, and compares what it prints."""
+        shown = SHOWN_FILE.fullmatch(block.commands) if block.may_fail else None
+        if shown and not (work / shown[1]).exists():
+            (work / shown[1]).write_text(block.printed or "", encoding="utf-8")
         before = time.monotonic()
-        ran = subprocess.run(["sh", "-c", commands], cwd=work, env=environment, stdin=subprocess.DEVNULL,
-                             stdout=subprocess.PIPE, stderr=subprocess.STDOUT, timeout=3600)
-        if "--times" in self.words:
-            print(f"{time.monotonic() - before:7.1f} s  {name}: {commands.splitlines()[0]}")
+        ran = subprocess.run(
+            ["sh", "-c", block.commands],
+            cwd=work,
+            env=environment,
+            stdin=subprocess.DEVNULL,
+            stdout=subprocess.PIPE,
+            stderr=subprocess.STDOUT,
+            timeout=SECONDS,
+        )
+        if self.with_times:
+            print(f"{time.monotonic() - before:7.1f} s  {name}: {block.commands.splitlines()[0]}", flush=True)
         printed = DATABAR.sub("", ran.stdout.decode("utf-8", "backslashreplace"))
-        self.tell((ran.returncode == 0 or may_fail) and wanted in (None, printed),
-                  f"{name}: status {ran.returncode} of:\n{commands}it printed:\n{printed}")
+        is_good = (ran.returncode == 0 or block.may_fail) and block.printed in (None, printed)
+        self.judge(is_good, f"{name}: status {ran.returncode} of:\n{block.commands}it printed:\n{printed}")
 
-    def compare_pictures(self, folder):
+    def compare_pictures(self, folder: Path) -> None:
         """Compares the pictures of the documents with those in the folder that have their names."""
-        for name in sorted(os.listdir(f"{TOP}/docs/pictures")):
-            pixels = [subprocess.run(["pngtopnm", f"{place}/{name}"], capture_output=True).stdout
-                      for place in (f"{TOP}/docs/pictures", folder)]
-            self.tell(pixels[0] and pixels[0] == pixels[1], f"docs/pictures/{name} is not what the page makes")
+        pictures = sorted((TOP / "docs/pictures").iterdir())
+        for picture in pictures:
+            wanted = pixels(picture)
+            is_good = bool(wanted) and wanted == pixels(folder / picture.name)
+            self.judge(is_good, f"docs/pictures/{picture.name} is not what docs/RECIPES.md makes")
 
-    def try_man_page(self):
-        """Lets mandoc and groff read the man page, and looks for each option of the help in it and the completion."""
-        page = f"{TOP}/man/labels.1"
-        for words in (["mandoc", "-Tlint", page], ["groff", "-ww", "-man", "-z", page],
-                      ["groff", "-ww", "-man", "-Tascii", "-z", page]):
-            ran = subprocess.run(words, capture_output=True, text=True)
-            self.tell(not ran.stdout + ran.stderr, f"{' '.join(words)}:\n{ran.stdout}{ran.stderr}")
-        text = subprocess.run([self.program, "--help"], capture_output=True, text=True).stdout
-        with open(page, encoding="utf-8") as file:
-            told = file.read().replace("\\-", "-")
-        with open(f"{TOP}/completions/labels.bash", encoding="utf-8") as file:
-            completed = file.read()
-        options = set(re.findall(r"--[a-z-]+", text))
-        self.tell(options and all(option in told and option in completed for option in options),
-                  f"an option of {sorted(options)} is missing in the man page or in the completion")
+    def try_links(self) -> None:
+        """Looks for the file and the heading of each link between the files of the repository."""
+        for page in (TOP / "README.md", *sorted((TOP / "docs").glob("*.md"))):
+            text = ANY_BLOCK.sub("", page.read_text(encoding="utf-8"))
+            for path, anchor in LINK.findall(text):
+                if re.match("[a-z]+:", path):
+                    continue
+                target = page.parent / path if path else page
+                is_good = target.exists() and (not anchor or anchor in anchors_of(target))
+                self.judge(is_good, f"{page.relative_to(TOP)}: a link to {path}#{anchor} leads nowhere")
+
+    def try_man_pages(self) -> None:
+        """Lets mandoc and groff read each man page, and runs its examples."""
+        for page in sorted((TOP / "man").glob("*.1")):
+            for words in (
+                ["mandoc", "-Tlint", "-W", "warning"],
+                ["groff", "-ww", "-man", "-z"],
+                ["groff", "-ww", "-man", "-Tascii", "-z"],
+            ):
+                ran = subprocess.run([*words, page], capture_output=True, text=True)
+                self.judge(not ran.stdout + ran.stderr, f"{' '.join(words)} {page}:\n{ran.stdout}{ran.stderr}")
+            blocks = examples_of(page)
+            if page.name != MAN_PAGES["labels"]:
+                blocks = [block for block in blocks if block.printed is not None]
+            if blocks or page.name == MAN_PAGES["labels"]:
+                self.try_page(f"man/{page.name}", blocks)
+
+    def try_options(self) -> None:
+        """Looks for each option of each help text in the man page and in the completion."""
+        for name, program in self.programs():
+            text = subprocess.run([program, "--help"], capture_output=True, text=True).stdout
+            options = set(re.findall(r"--[a-z][a-z-]*", text))
+            self.judge(bool(options), f"{name} --help names no option")
+            page = TOP / "man" / MAN_PAGES.get(name, SHARED_MAN_PAGE)
+            places = [page, *(TOP / "completions").glob(f"{name}.bash")]
+            for place in places:
+                told = place.read_text(encoding="utf-8").replace("\\-", "-") if place.exists() else ""
+                missing = sorted(option for option in options if option not in told)
+                self.judge(not missing, f"{name}: {', '.join(missing)} not in {place.relative_to(TOP)}")
+
+    def programs(self) -> Iterator[Tuple[str, Path]]:
+        """The program and the tools, each by its name."""
+        if self.program:
+            yield "labels", self.program
+        for tool in sorted((TOP / "tools").glob("label-*")):
+            yield tool.name, tool
 
 
-def main():
-    missing = [tool for tool in TOOLS if shutil.which(tool) is None]
+def parse_words() -> argparse.Namespace:
+    """The words of the command; ends with status 2 for bad ones."""
+    parser = argparse.ArgumentParser(description=__doc__, formatter_class=argparse.RawDescriptionHelpFormatter)
+    parser.allow_abbrev = False
+    parser.add_argument("--kit", action="store_true", help="run the blocks that call the kit too, in a fresh clone")
+    parser.add_argument("--times", action="store_true", help="print the seconds of each block")
+    parser.add_argument("program", metavar="PROGRAM", nargs="?", type=Path, help=f"the program ({PROGRAM})")
+    words = parser.parse_args()
+    if words.program is None and not words.kit:
+        words.program = TOP / PROGRAM
+    if words.program is not None:
+        words.program = words.program.resolve()
+        if not os.access(words.program, os.X_OK) or words.program.is_dir():
+            parser.error(f"{words.program} is no program: run (cd crates/labels && rt run < /dev/null)")
+    return words
+
+
+def main() -> int:
+    words = parse_words()
+    missing = [program for program in THIRD_PARTY if shutil.which(program) is None]
     if missing:
-        print(f"skipped: {', '.join(missing)} not installed")
-        return 0
-    words = [word for word in sys.argv[1:] if word.startswith("--")]
-    paths = [word for word in sys.argv[1:] if not word.startswith("--")]
-    program = None if "--kit" in words and not paths else os.path.abspath(paths[0] if paths else f"{TOP}/{PROGRAM}")
-    if program and not os.access(program, os.X_OK):
-        sys.exit(f"{program} is not there: run `rt run` in crates/labels")
-    run = Run(program, words)
+        print(f"skipped: not installed: {', '.join(missing)}")
+        return SKIPPED
+    run = Run(words.program, words.kit, words.times)
     for page in PAGES:
-        left_out = [f"sh {word}" for word in ("kit", "long") if f"--{word}" not in words]
-        run.try_page(page, [(commands, None if kind == "sh kit" else printed, False)
-                            for kind, commands, printed in blocks_of(page) if kind not in left_out])
-    run.try_page("man/labels.1", [(commands, wanted, wanted is not None) for commands, wanted in examples()])
-    run.try_man_page()
+        run.try_page(page, blocks_of(page, words.kit))
+    run.try_man_pages()
+    run.try_links()
+    run.try_options()
     print(f"{run.good} of {run.count} as printed")
     return 0 if run.good == run.count else 1
 

@@ -1,9 +1,13 @@
 -- The definition at command lines that are written out.
-use Rattle.std.proofs.Common.{◌≡◌, refl, codes, [], ◌∷◌, Some, true}
+use Rattle.std.proofs.Common.{◌≡◌, refl, codes, [], ◌∷◌, map, Some, None, Ok, Err, true, false}
 use Rattle.clap.proofs.OnLiterals.{clap_on_literals}
 use Rattle.command.specs.CommandLine.{bad, help, invocation_of, run}
-use Rattle.labelcore.specs.declared.options.Format.TheVariants.{Ascii}
-use Rattle.qrdata.specs.declared.level.Level.TheVariants.{H}
+use Rattle.command.specs.declared.end.End.TheVariants.{Ran, Helped, BadArguments, NoFile, NoMemory}
+use Rattle.command.specs.End.{exit_status, line_of}
+use Rattle.filter.specs.declared.status.RunFault.TheVariants.{Read, WriteOut, WriteMessages}
+use Rattle.filter.specs.declared.status.Status.TheVariants.{Clean, Refused}
+use Rattle.labelcore.specs.declared.options.Format.TheVariants.{Pbm, Ascii}
+use Rattle.qrdata.specs.declared.level.Level.TheVariants.{M, H}
 use Rattle.labelcore.specs.OptionValues.{OptionValues, level_named}
 
 scale-9 : invocation_of (codes "--scale" ∷ codes "9" ∷ []) ≡ bad
@@ -38,3 +42,35 @@ all-named : invocation_of (codes "--format" ∷ codes "ascii" ∷ codes "--scale
     ∷ codes "--mask" ∷ codes "0" ∷ codes "--escapes" ∷ codes "-" ∷ []) ≡ run full (Some (codes "-"))
 unfolding clap_on_literals level_named full
 all-named = refl
+
+-- the defaults, and each number at the low end of its range (docs/SPECIFICATION.md, Options)
+plain : OptionValues
+plain = record { format = Pbm; scale = 1; height = 50; level = M; min_version = 1; mask = None; escapes = false }
+
+no-words : invocation_of [] ≡ run plain None
+unfolding clap_on_literals level_named plain
+no-words = refl
+
+lowest : invocation_of (codes "--scale=1" ∷ codes "--height=1" ∷ codes "--min-version=1" ∷ codes "--mask=7"
+    ∷ codes "--format=pbm" ∷ codes "label.txt" ∷ []) ≡
+    run (record plain { height = 1; mask = Some 7 }) (Some (codes "label.txt"))
+unfolding clap_on_literals level_named plain
+lowest = refl
+
+-- beside the ranges
+out-of-range : map invocation_of ((codes "--scale=0" ∷ []) ∷ (codes "--height=0" ∷ []) ∷ (codes "--height=501" ∷ [])
+    ∷ (codes "--min-version=0" ∷ []) ∷ (codes "--min-version=11" ∷ []) ∷ (codes "--mask=8" ∷ []) ∷ []) ≡
+    bad ∷ bad ∷ bad ∷ bad ∷ bad ∷ bad ∷ []
+unfolding clap_on_literals level_named
+out-of-range = refl
+
+-- the statuses and the lines of the program's ends (docs/SPECIFICATION.md, Statuses)
+statuses : map exit_status (Ran (Ok Clean) ∷ Ran (Ok Refused) ∷ Helped ∷ BadArguments ∷ NoFile ∷ NoMemory ∷ Ran (Err Read)
+    ∷ Ran (Err WriteOut) ∷ Ran (Err WriteMessages) ∷ []) ≡ 0 ∷ 1 ∷ 0 ∷ 2 ∷ 3 ∷ 3 ∷ 3 ∷ 3 ∷ 3 ∷ []
+statuses = refl
+
+end-lines : map line_of (Ran (Ok Clean) ∷ Ran (Ok Refused) ∷ Helped ∷ BadArguments ∷ NoFile ∷ NoMemory ∷ Ran (Err Read)
+    ∷ Ran (Err WriteOut) ∷ Ran (Err WriteMessages) ∷ []) ≡ [] ∷ [] ∷ [] ∷ codes "labels: bad words\n"
+    ∷ codes "labels: cannot open file\n" ∷ codes "labels: no memory\n" ∷ codes "labels: read failed\n"
+    ∷ codes "labels: write failed\n" ∷ codes "labels: write failed\n" ∷ []
+end-lines = refl

@@ -1,4 +1,4 @@
 pub mod Examples
-pub mod Named
-pub mod OneKind
-pub mod Parsed
+pub mod NamedLaws
+pub mod OneKindLaws
+pub mod ParsedLaws

@@ -1,3 +1,3 @@
-pub mod LinesLemmas
-pub mod WriteLemmas
-pub mod WritingLemmas
+pub mod LinesLaws
+pub mod PassingLaws
+pub mod WritingLaws

@@ -1,5 +1,5 @@
 //! A device that fails at one call.
-ghost use Rattle.std.specs.Prelude.{◌≡◌, ◌+◌, ◌-◌, ◌^◌, ◌<◌, ◌==◌, ◌↔◌, false, length, min};
+ghost use Rattle.std.specs.Prelude.{◌≡◌, ◌+◌, ◌-◌, ◌^◌, ◌<◌, ◌↔◌, length, min};
 ghost use Rattle.std.specs.Prelude.{IsTrue};
 ghost use Rattle.device.specs.Device.{CountsFailure, total_failures};
 ghost use Rattle.device.specs.FailAt.{device_of, calls_of, failing_call, own_failures, FailsNext, CountsCall};

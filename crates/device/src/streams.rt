@@ -1,5 +1,5 @@
 //! The readers and writers of std as devices.
-ghost use Rattle.std.specs.Prelude.{◌≡◌, ◌<◌, ◌==◌, false};
+ghost use Rattle.std.specs.Prelude.{◌≡◌, false};
 ghost use Rattle.std.specs.Io.KnownBytes.{Appends, Consumes, IsAtEnd};
 ghost use Rattle.device.specs.Streams.{reader_of, writer_of};
 ghost use Rattle.device.specs.Private.Joined.{Appends_none, Appends_joined, Consumes_none, Consumes_joined};

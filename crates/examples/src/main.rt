@@ -6,15 +6,16 @@ mod negative;
 mod pieces;
 mod symbol;
 
-use filter::Status;
 use device::{MemSink, StdSink};
+use filter::Status;
 use labelcore::{Format, Options};
-use qrdata::Level;
 use negative::Negative;
-use picture::{Framed, write_ascii};
+use picture::{Framed, QuietZone, write_ascii};
 use pieces::draw_in_two;
+use qrdata::Level;
+use qrmatrix::QUIET_ZONE;
 use std::io;
-use symbol::symbol_of;
+use symbol::matrix_of;
 
 fn main(rt: HostRuntime) -> io::Result<()> {
     feed_pieces(&rt)?;
@@ -54,10 +55,16 @@ fn show_symbol(rt: &HostRuntime) -> io::Result<()> {
     let Some(options) = Options::new(Format::Ascii, 1, 1, Level::M, 1, Some(2), false) else {
         return println!(rt; "options out of range");
     };
-    let Ok(symbol) = symbol_of(&options, b"01234567") else {
+    let Ok(symbol) = matrix_of(&options, b"01234567") else {
         return println!(rt; "the data does not fit");
     };
-    let picture = Negative::new(Framed::new(symbol, 4, 4, 4, 4));
+    let zone = QuietZone {
+        left: QUIET_ZONE,
+        right: QUIET_ZONE,
+        top: QUIET_ZONE,
+        bottom: QUIET_ZONE,
+    };
+    let picture = Negative::new(Framed::new(symbol, zone));
     match write_ascii(&picture, &mut StdSink::new(rt.stdout())) {
         Ok(()) => Ok(()),
         Err(_) => println!(rt; "a write failed"),

@@ -1,13 +1,16 @@
 //! A filter that is fed in two pieces.
 ghost use Rattle.std.specs.Prelude.{◌≡◌, ◌++◌, true, IfOk, OnOk};
+ghost use Rattle.filter.specs.Filter.{TookLines};
+ghost use Rattle.filter.specs.Line.{CountsFault};
 ghost use Rattle.filter.specs.Output.{status_of};
 ghost use Rattle.device.specs.Lines.{lines};
 
-use filter::{Filter, RunFault, Status};
 use device::Sink;
+use filter::{Filter, RunFault, Status};
 use labelcore::Options;
 
-/// Draws the labels of a text that comes in two pieces, wherever it is cut. The answer is that of the whole text.
+/// Draws the labels of a text that comes in two pieces, wherever it is cut: the sinks take the images and the messages
+/// of the whole text, and the answer is its status. It fails only where a call of a sink does.
 pub fn draw_in_two<O: Sink, E: Sink>(
     options: Options,
     first: &[u8],
@@ -17,6 +20,10 @@ pub fn draw_in_two<O: Sink, E: Sink>(
 ) -> Result<Status, RunFault>
     ensures status { IfOk result
         (λ status. status ≡ status_of options (lines (first.now ++ second.now))) }
+    ensures draws { OnOk result (TookLines options (O.took out.old out.new) (E.took err.old err.new) 0
+        (lines (first.now ++ second.now))) }
+    ensures counts { CountsFault (O.failures out.old) (O.failures out.new)
+        (E.failures err.old) (E.failures err.new) result }
     ensures flushed { OnOk result ((O.is_flushed out.new ≡ true) × (E.is_flushed err.new ≡ true)) }
 {
     let mut filter = Filter::new(options);

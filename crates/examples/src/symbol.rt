@@ -1,25 +1,34 @@
 //! From bytes to the modules of a QR symbol.
-ghost use Rattle.std.specs.Prelude.{◌≡◌, ◌≤◌, Some, option_and_then, IfOk};
+ghost use Rattle.std.specs.Prelude.{◌≡◌, ◌≤◌, Some, Ok, Err, option_and_then, IfOk, IfErr};
+ghost use Rattle.filter.specs.Symbol.{symbol_of};
+ghost use Rattle.labelcore.specs.declared.symbology.Symbology.TheVariants.{Qr};
+ghost use Rattle.picture.specs.Picture.{symbol_picture};
 ghost use Rattle.qrdata.specs.Reading.{data_in};
 ghost use Rattle.qrmatrix.specs.Reading.{read_matrix};
 ghost use Rattle.qrmatrix.specs.Symbol.{is_dark};
 
 use labelcore::{Fault, Options};
-use qrdata::{Words, choose, codewords};
+use qrdata::{Codewords, Version, choose, codewords};
 use qrmatrix::Matrix;
 
-/// The QR symbol of the bytes, in the least version that holds them at the options' level. Its modules read back as the
+/// The QR symbol of the bytes, in the smallest version that holds them at the options' level. Its modules read back as the
 /// bytes.
 ///
 /// Bytes that fit no version are refused by `DoesNotFit`.
-pub fn symbol_of(options: &Options, bytes: &[u8]) -> Result<Matrix, Fault>
+#[tactic(auto, unfolding(filter::specs::Symbol::symbol_of, filter::specs::Symbol::qr_modules, filter::specs::Symbol::qr_codewords))]
+pub fn matrix_of(options: &Options, bytes: &[u8]) -> Result<Matrix, Fault>
+    // It is the symbol that the filter draws of these bytes, and refused where the filter refuses them.
+    ensures symbol { IfOk result (λ matrix. symbol_of options.now Qr bytes.now
+        ≡ Ok (record { symbology = Qr; full = bytes.now; modules = symbol_picture matrix })) }
+    ensures refusal { IfErr result (λ fault. symbol_of options.now Qr bytes.now ≡ Err fault) }
     ensures read { IfOk result (λ matrix.
-        option_and_then (λ symbol. data_in symbol.version symbol.level symbol.words)
+        option_and_then (λ symbol. data_in symbol.version symbol.level symbol.codewords)
         (read_matrix matrix.side (is_dark matrix)) ≡ Some bytes.now) }
     ensures side { IfOk result (λ matrix. matrix.side ≤ 57) }
 {
-    let plan = choose(options, bytes)?;
-    let mut words = Words::new();
-    codewords(&plan, bytes, &mut words);
-    Ok(Matrix::draw(plan.version(), plan.level(), options.mask(), &words))
+    let lowest = Version::of(options.min_version());
+    let plan = choose(lowest, options.level(), bytes)?;
+    let mut written = Codewords::new();
+    codewords(&plan, &mut written);
+    Ok(Matrix::draw(plan.version(), plan.level(), options.mask(), &written))
 }

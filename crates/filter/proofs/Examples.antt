@@ -1,5 +1,5 @@
--- A worked row, computed.
-use Rattle.std.proofs.Common.{◌≡◌, ℕ, List, [], ◌∷◌, map, refl, None, codes, false}
+-- Worked rows and the limits of a run, computed.
+use Rattle.std.proofs.Common.{◌≡◌, ℕ, ◌+◌, List, [], ◌∷◌, map, refl, None, Err, codes, true, false, replicate}
 use Rattle.labelcore.specs.declared.options.Format.TheVariants.{Pbm}
 use Rattle.qrdata.specs.declared.level.Level.TheVariants.{M}
 use Rattle.labelcore.specs.OptionValues.{OptionValues}
@@ -7,8 +7,12 @@ use Rattle.std.specs.Fmt.{digits}
 use Rattle.labelcore.specs.LineItem.{request, head_read, symbology_named}
 use Rattle.labelcore.specs.HeldLine.{line_limit}
 use Rattle.linear.specs.Tables.{number_set_a}
-use Rattle.filter.specs.Symbol.{Symbol, symbol_of}
-use Rattle.filter.specs.Output.{outcome, images, messages, messages_after}
+use Rattle.labelcore.specs.declared.fault.Fault.TheVariants.{WrongNumberOfDigits}
+use Rattle.labelcore.specs.declared.symbology.Symbology.TheVariants.{Ean13, Ean8, UpcA, Code128, Qr}
+use Rattle.picture.specs.declared.quiet_zone.QuietZone.{QuietZone}
+use Rattle.filter.specs.declared.status.Status.TheVariants.{Clean, Refused}
+use Rattle.filter.specs.Symbol.{Symbol, symbol_of, quiet_zone}
+use Rattle.filter.specs.Output.{any_refused, outcome, images, line_number, messages, messages_after, status_of}
 use Rattle.filter.specs.Readback.{drawn_symbols}
 
 abbrev settings : OptionValues
@@ -29,3 +33,44 @@ images_of_input = refl
 messages_of_input : messages settings input ≡ codes "line 2: unknown symbology\nline 4: check digit is 0, should be 7\n"
 unfolding messages_after outcome symbol_of request head_read symbology_named line_limit digits
 messages_of_input = refl
+
+-- the quiet zones: 11 and 7, 7 and 7, 9 and 9 modules (ISO/IEC 15420), 10 on each side (ISO/IEC 15417), 4 on all four
+-- sides (ISO/IEC 18004, 6.3.8), as `zint --quietzones` has them, but for bars, which have none above and below
+beside : ℕ → ℕ → QuietZone
+beside left right = record { left = left; right = right; top = 0; bottom = 0 }
+
+zones : map quiet_zone (Ean13 ∷ Ean8 ∷ UpcA ∷ Code128 ∷ Qr ∷ []) ≡ beside 11 7 ∷ beside 7 7 ∷ beside 9 9 ∷ beside 10 10
+    ∷ record { left = 4; right = 4; top = 4; bottom = 4 } ∷ []
+unfolding beside
+zones = refl
+
+-- a digit more than with the check digit, and one less than without it
+wrong_numbers : map (λ bytes. symbol_of settings Ean13 bytes) (codes "40063813339" ∷ codes "40063813339311" ∷ []) ≡
+    Err (WrongNumberOfDigits 11) ∷ Err (WrongNumberOfDigits 14) ∷ []
+unfolding symbol_of
+wrong_numbers = refl
+
+wrong_numbers_8 : map (λ bytes. symbol_of settings Ean8 bytes) (codes "735135" ∷ codes "735135377" ∷ []) ≡
+    Err (WrongNumberOfDigits 6) ∷ Err (WrongNumberOfDigits 9) ∷ []
+unfolding symbol_of
+wrong_numbers_8 = refl
+
+wrong_numbers_a : map (λ bytes. symbol_of settings UpcA bytes) (codes "0360002914" ∷ codes "0360002914522" ∷ []) ≡
+    Err (WrongNumberOfDigits 10) ∷ Err (WrongNumberOfDigits 13) ∷ []
+unfolding symbol_of
+wrong_numbers_a = refl
+
+-- lines are numbered from 1, and the number stops at the greatest of 64 bits
+line_numbers : map line_number (0 ∷ 1 ∷ 18446744073709551613 ∷ 18446744073709551614 ∷ 18446744073709551615 ∷ []) ≡
+    1 ∷ 2 ∷ 18446744073709551614 ∷ 18446744073709551615 ∷ 18446744073709551615 ∷ []
+line_numbers = refl
+
+second_message : messages_after settings 9 (codes "#" ∷ codes "pdf x" ∷ []) ≡ codes "line 11: unknown symbology\n"
+unfolding messages_after outcome symbol_of request head_read symbology_named line_limit digits
+second_message = refl
+
+-- the status is that of refused lines alone
+statuses : map (status_of settings) ([] ∷ (codes "#" ∷ []) ∷ (codes "pdf x" ∷ []) ∷ (codes "#" ∷ codes "pdf x" ∷ [])
+    ∷ []) ≡ Clean ∷ Clean ∷ Refused ∷ Refused ∷ []
+unfolding any_refused outcome symbol_of request head_read symbology_named line_limit
+statuses = refl

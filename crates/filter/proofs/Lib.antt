@@ -1,6 +1,6 @@
 pub mod Examples
-pub mod FilterLemmas
-pub mod LineLemmas
-pub mod OutputLemmas
-pub mod ReadLemmas
-pub mod RunLemmas
+pub mod FilterLaws
+pub mod LineLaws
+pub mod OutputLaws
+pub mod ReadLaws
+pub mod RunLaws

@@ -1,5 +1,5 @@
 -- What is drawn of a line's data: ISO/IEC 15420, 15417 and 18004.
-use Rattle.std.specs.Prelude.{ℕ, Bool, List, Option, Result, ok_or, option_map}
+use Rattle.std.specs.Prelude.{ℕ, Bool, List, Result, ok_or, option_map}
 use Rattle.std.specs.Result.{result_map_both}
 use Rattle.labelcore.specs.declared.symbology.Symbology.{Symbology}
 use Rattle.labelcore.specs.declared.symbology.Symbology.TheVariants.{Ean13, Ean8, UpcA, Code128, Qr}

@@ -1,5 +1,5 @@
 //! The filter, fed piece by piece.
-ghost use Rattle.std.specs.Prelude.{◌≡◌, ℕ, Bool, true, false, List, [], ◌∷◌, ◌++◌, length, Err, OnOk, OnErr, IfOk};
+ghost use Rattle.std.specs.Prelude.{◌≡◌, ℕ, true, false, List, [], ◌∷◌, length, Err, OnOk, OnErr, IfOk};
 ghost use Rattle.std.specs.Prelude.{IfErr};
 ghost use Rattle.device.specs.Device.{Unflushed};
 ghost use Rattle.labelcore.specs.OptionValues.{OptionValues};

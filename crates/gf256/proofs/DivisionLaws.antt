@@ -8,7 +8,8 @@ use Rattle.std.proofs.lemmas.List.Elements.{All-head, All-tail, All-cons, All-ni
 use Rattle.std.proofs.lemmas.Nat.{xor_of_8}
 use Rattle.gf256.specs.Field.{field_product, IsElement}
 use Rattle.gf256.specs.ErrorCorrection.{long_division}
-use Rattle.gf256.specs.Polynomial.{zeros, polynomial_sum, scalar_multiple, polynomial_product}
+use Rattle.gf256.specs.Private.{zeros}
+use Rattle.gf256.specs.Polynomial.{polynomial_sum, scalar_multiple, polynomial_product}
 use Rattle.gf256.proofs.FieldLaws.{field_product-lt, field_product-one_right}
 use Rattle.gf256.proofs.PolynomialSumLaws.{length-zeros, polynomial_sum-assoc, polynomial_sum-comm}
 use Rattle.gf256.proofs.PolynomialSumLaws.{polynomial_sum-zeros_left, polynomial_sum-twice, length-polynomial_sum}

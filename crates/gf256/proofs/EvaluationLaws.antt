@@ -5,7 +5,8 @@ use Rattle.std.proofs.lemmas.List.{length-append}
 use Rattle.std.proofs.lemmas.List.Elements.{All-head, All-tail}
 use Rattle.std.proofs.lemmas.Nat.{xor_of_8}
 use Rattle.gf256.specs.Field.{field_product, field_power, IsElement}
-use Rattle.gf256.specs.Polynomial.{zeros, evaluate, polynomial_sum, scalar_multiple, polynomial_product}
+use Rattle.gf256.specs.Private.{zeros}
+use Rattle.gf256.specs.Polynomial.{evaluate, polynomial_sum, scalar_multiple, polynomial_product}
 use Rattle.gf256.proofs.DistributivityLaws.{field_product-xor_left, field_product-xor_right, field_product-zero_left}
 use Rattle.gf256.proofs.DistributivityLaws.{field_product-zero_right, xor_medial}
 use Rattle.gf256.proofs.FieldLaws.{field_product-lt, field_product-comm, field_product-assoc, field_product-one_right}

@@ -4,7 +4,8 @@ use Rattle.std.specs.Prelude.{bit_xor}
 use Rattle.std.specs.Int.Bits.{xor_assoc, xor_comm, xor_self}
 use Rattle.std.proofs.lemmas.List.{length-map, length-replicate}
 use Rattle.gf256.specs.Field.{field_product}
-use Rattle.gf256.specs.Polynomial.{zeros, polynomial_sum, scalar_multiple}
+use Rattle.gf256.specs.Private.{zeros}
+use Rattle.gf256.specs.Polynomial.{polynomial_sum, scalar_multiple}
 
 pub length-zeros : (n : ℕ) → length (zeros n) ≡ n
 length-zeros n = length-replicate {A = ℕ} n 0

@@ -9,7 +9,8 @@ use Rattle.std.proofs.lemmas.Nat.{mul-le}
 use Rattle.std.proofs.lemmas.Nat.Bits.{bit_at_cat_low, bit_at_cat_high, bit_at_lowest, bit_at-lt}
 use Rattle.std.proofs.Math.Nat.{pow-suc, mod-eq_of_lt}
 use Rattle.gf256.specs.BinaryPolynomial.{binary_product, binary_remainder}
-use Rattle.gf256.specs.Field.{field_product, field_modulus, IsFieldProduct}
+use Rattle.gf256.specs.Private.{field_modulus}
+use Rattle.gf256.specs.Field.{field_product, IsFieldProduct}
 use Rattle.gf256.proofs.AllBelowLaws.{all_below, all_below-at}
 use Rattle.gf256.proofs.DistributivityLaws.{binary_product-xor_right, xor_medial}
 use Rattle.gf256.proofs.FieldLaws.{field_product-lt}

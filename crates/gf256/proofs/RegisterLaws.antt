@@ -7,7 +7,8 @@ use Rattle.std.proofs.lemmas.List.{get_or_past}
 use Rattle.std.proofs.lemmas.Bool.{cases_lt}
 use Rattle.std.proofs.lemmas.Grind.{same_number_lists}
 use Rattle.gf256.specs.Field.{field_product, field_power}
-use Rattle.gf256.specs.Polynomial.{zeros, polynomial_sum, scalar_multiple}
+use Rattle.gf256.specs.Private.{zeros}
+use Rattle.gf256.specs.Polynomial.{polynomial_sum, scalar_multiple}
 use Rattle.gf256.proofs.DistributivityLaws.{field_product-zero_right}
 use Rattle.gf256.proofs.DivisionLaws.{next_register, length-next_register}
 

@@ -1,7 +1,7 @@
 -- The error correction codewords of a block (ISO/IEC 18004, 7.5.2 and annex A).
-use Rattle.std.specs.Prelude.{◌≡◌, ◌-◌, ◌<◌, ◌≤◌, ℕ, zero, suc, List, [], ◌∷◌, ◌++◌, length, drop, All}
+use Rattle.std.specs.Prelude.{◌≡◌, ◌-◌, ◌<◌, ◌≤◌, ℕ, zero, suc, List, [], ◌∷◌, ◌++◌, length, drop, replicate, All}
 use Rattle.gf256.specs.Field.{alpha, field_power, IsElement}
-use Rattle.gf256.specs.Polynomial.{zeros, scalar_multiple, evaluate, polynomial_sum, polynomial_product}
+use Rattle.gf256.specs.Polynomial.{scalar_multiple, evaluate, polynomial_sum, polynomial_product}
 
 -- the generator polynomial of k codewords: the product of x + alpha^i over the i below k
 unfoldable pub generator : ℕ → List ℕ
@@ -14,11 +14,11 @@ unfoldable pub long_division : (n : ℕ) (low : List ℕ) → List ℕ → List 
 long_division zero low p = p
 long_division (suc n) low [] = []
 long_division (suc n) low (c ∷ p) =
-    long_division n low (polynomial_sum (scalar_multiple c low ++ zeros (length p - length low)) p)
+    long_division n low (polynomial_sum (scalar_multiple c low ++ replicate (length p - length low) 0) p)
 
 -- the k error correction codewords of a block: the remainder of its codewords times x^k by the generator
 unfoldable pub ec_codewords_of : ℕ → List ℕ → List ℕ
-ec_codewords_of k message = long_division (length message) (drop 1 (generator k)) (message ++ zeros k)
+ec_codewords_of k message = long_division (length message) (drop 1 (generator k)) (message ++ replicate k 0)
 
 -- there are k error correction codewords, and for some quotient the message times x^k is the quotient times the
 -- generator plus the error correction codewords
@@ -29,8 +29,8 @@ pub record IsRemainder (k : ℕ) (message ec_codewords : List ℕ) : Type 0 wher
   pub ec_codewords_length : length ec_codewords ≡ k
   pub ec_codewords_elements : All IsElement ec_codewords
   pub division :
-      message ++ zeros k
-      ≡ polynomial_sum (polynomial_product quotient (generator k)) (zeros (length message) ++ ec_codewords)
+      message ++ replicate k 0
+      ≡ polynomial_sum (polynomial_product quotient (generator k)) (replicate (length message) 0 ++ ec_codewords)
 
 -- the polynomial is 0 at alpha^i for each i below k: it is a multiple of the generator
 abbrev pub HasRoots : (k : ℕ) → List ℕ → Type 0

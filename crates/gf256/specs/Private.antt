@@ -1,6 +1,14 @@
--- Words that only the contracts of private functions cite: nothing here has to be believed.
-use Rattle.std.specs.Prelude.{◌≡◌, ◌+◌, ◌<◌, ℕ, List, length, slice_index, EachIndex, bit_xor}
+-- Definitions that only the contracts of private functions cite: nothing here has to be believed.
+use Rattle.std.specs.Prelude.{◌≡◌, ◌+◌, ◌<◌, ℕ, List, length, slice_index, EachIndex, bit_xor, replicate}
 use Rattle.gf256.specs.Field.{alpha, field_power, field_product}
+
+-- n coefficients 0
+abbrev pub zeros : ℕ → List ℕ
+zeros n = replicate n 0
+
+-- the modulus of the field, x^8 + x^4 + x^3 + x^2 + 1
+abbrev pub field_modulus : ℕ
+field_modulus = 0x11D
 
 -- a register has a place for each coefficient of a divisor, and there are some
 abbrev pub HasPlaces : List ℕ → List ℕ → Type 0

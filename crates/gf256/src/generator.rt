@@ -3,7 +3,7 @@ ghost use Rattle.gf256.specs.Field.{alpha, field_power};
 ghost use Rattle.gf256.specs.ErrorCorrection.{AreEcCodewords, IsEcCodewordCount, EcCodewordsAreRemainder};
 ghost use Rattle.gf256.specs.ErrorCorrection.{RemaindersHaveRoots, generator};
 ghost use Rattle.gf256.specs.Private.{HasPlaces, MovesUp};
-ghost use Rattle.gf256.specs.Polynomial.{zeros};
+ghost use Rattle.gf256.specs.Private.{zeros};
 ghost use Rattle.std.specs.Prelude.{◌≡◌, ◌+◌, ◌<◌, ℕ, ◌∷◌, length, map, slice_index, EachIndex, bit_xor};
 
 use crate::field::{logarithm_of, product_of_powers};

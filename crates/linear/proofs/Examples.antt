@@ -1,14 +1,20 @@
 -- Worked symbols, computed from the definitions: EAN and UPC (ISO/IEC 15420), then Code 128 (ISO/IEC 15417).
-use Rattle.std.specs.Prelude.{◌≡◌, refl, Some, None, Ok, Err, codes, length, ◌+◌, ℕ, List, [], ◌∷◌}
+use Rattle.std.specs.Prelude.{◌≡◌, refl, true, false, Some, None, Ok, Err, codes, length, map, replicate, ◌+◌, ◌++◌, ℕ}
+use Rattle.std.specs.Prelude.{List, [], ◌∷◌}
+use Rattle.std.specs.List.{range_with_len}
 use Rattle.linear.specs.declared.refusal.Refusal.TheVariants.{NotADigit, WrongNumberOfDigits, WrongCheckDigit}
+use Rattle.linear.specs.declared.refusal.Refusal.TheVariants.{DataTooLong, NotAscii}
+use Rattle.linear.specs.declared.ean.NumberSet.TheVariants as number_set
+use Rattle.linear.specs.declared.switching.CodeSet.TheVariants.{A, B, C}
 use Rattle.linear.specs.Modules.{modules}
-use Rattle.linear.specs.Digits.{weighted_sum, full_digits}
-use Rattle.linear.specs.Tables.{number_set_a, left_half_sets, character_widths}
-use Rattle.linear.specs.Ean.{ean8_row, ean13_row, upca_row}
+use Rattle.linear.specs.Digits.{digit_value, weighted_sum, full_digits}
+use Rattle.linear.specs.Switching.{step}
+use Rattle.linear.specs.Tables.{rows, number_set_a, left_half_sets, character_widths}
+use Rattle.linear.specs.Ean.{pattern, normal_guard, centre_guard, ean8_row, ean13_row, upca_row}
 use Rattle.linear.specs.EanReading.{read_ean8, read_ean13, read_upca}
 use Rattle.linear.specs.CodeSets.{start_value, start_set, data_values}
-use Rattle.linear.specs.Code128.{check_value, code128_row, weighted_from}
-use Rattle.linear.specs.Code128Reading.{read_code128}
+use Rattle.linear.specs.Code128.{bars_and_spaces, characters, full_code128, check_value, code128_row, weighted_from}
+use Rattle.linear.specs.Code128Reading.{meaning, text, change, shift, none, read_code128}
 
 -- `ean8 7351353`
 sum_ean8 : weighted_sum (codes "7351353") ≡ 63
@@ -196,3 +202,133 @@ nothing_upca = refl
 
 nothing_code128 : read_code128 [] ≡ None
 nothing_code128 = refl
+
+-- ---- the tables, row by row, as Zint 2.11.1 draws them
+
+-- a guard, module by module (ISO/IEC 15420, guard patterns)
+guards : (normal_guard ≡ true ∷ false ∷ true ∷ []) × (centre_guard ≡ false ∷ true ∷ false ∷ true ∷ false ∷ [])
+guards = (refl, refl)
+
+-- the widths of a digit's modules in set A, light first, in the left halves of EAN-8 symbols (ISO/IEC 15420, symbol
+-- characters)
+widths_in_a : map (pattern number_set.A) (range_with_len 0 10) ≡
+    map (λ widths. bars_and_spaces false (map digit_value widths))
+    (rows (codes "3211 2221 2122 1411 1132 1231 1114 1312 1213 3112"))
+unfolding number_set_a
+widths_in_a = refl
+
+-- in set B, in the left halves of EAN-13 symbols
+widths_in_b : map (pattern number_set.B) (range_with_len 0 10) ≡
+    map (λ widths. bars_and_spaces false (map digit_value widths))
+    (rows (codes "1123 1222 2212 1141 2311 1321 4111 2131 3121 2113"))
+unfolding number_set_a
+widths_in_b = refl
+
+-- in set C, dark first, in right halves
+widths_in_c : map (pattern number_set.C) (range_with_len 0 10) ≡
+    map (λ widths. bars_and_spaces true (map digit_value widths))
+    (rows (codes "3211 2221 2122 1411 1132 1231 1114 1312 1213 3112"))
+unfolding number_set_a
+widths_in_c = refl
+
+-- the sets of digits 3 to 7 of an EAN-13 symbol, after a 2nd digit in set A, for the first digits 0 to 9
+sets_of_left_halves : left_half_sets ≡ map (λ letters. 65 ∷ letters)
+    (rows (codes "AAAAA ABABB ABBAB ABBBA BAABB BBAAB BBBAA BABAB BABBA BBABA"))
+unfolding left_half_sets
+sets_of_left_halves = refl
+
+-- the modules of each value: 0 to 99, 105 and 106 in the symbols of two digits, 103 in that of bytes 1 and 2, 104 in
+-- that of `ab`, 101 in that of `ab` and bytes 1 to 3, 100 in that of `1234ab`, 102 in the GS1 symbol of
+-- `[01]12345678901231`
+modules_of_values : characters ≡ map modules (rows (
+    codes "11011001100 11001101100 11001100110 10010011000 10010001100 10001001100 10011001000 10011000100 " ++
+    codes "10001100100 11001001000 11001000100 11000100100 10110011100 10011011100 10011001110 10111001100 " ++
+    codes "10011101100 10011100110 11001110010 11001011100 11001001110 11011100100 11001110100 11101101110 " ++
+    codes "11101001100 11100101100 11100100110 11101100100 11100110100 11100110010 11011011000 11011000110 " ++
+    codes "11000110110 10100011000 10001011000 10001000110 10110001000 10001101000 10001100010 11010001000 " ++
+    codes "11000101000 11000100010 10110111000 10110001110 10001101110 10111011000 10111000110 10001110110 " ++
+    codes "11101110110 11010001110 11000101110 11011101000 11011100010 11011101110 11101011000 11101000110 " ++
+    codes "11100010110 11101101000 11101100010 11100011010 11101111010 11001000010 11110001010 10100110000 " ++
+    codes "10100001100 10010110000 10010000110 10000101100 10000100110 10110010000 10110000100 10011010000 " ++
+    codes "10011000010 10000110100 10000110010 11000010010 11001010000 11110111010 11000010100 10001111010 " ++
+    codes "10100111100 10010111100 10010011110 10111100100 10011110100 10011110010 11110100100 11110010100 " ++
+    codes "11110010010 11011011110 11011110110 11110110110 10101111000 10100011110 10001011110 10111101000 " ++
+    codes "10111100010 11110101000 11110100010 10111011110 10111101110 11101011110 11110101110 11010000100 " ++
+    codes "11010010000 11010011100 1100011101011"))
+unfolding character_widths
+modules_of_values = refl
+
+-- ---- limits
+
+-- docs/SPECIFICATION.md, Symbologies: at most 80 bytes, the last ASCII byte being 127
+most_bytes : full_code128 (replicate 80 97) ≡ Ok (replicate 80 97)
+most_bytes = refl
+
+too_many_bytes : full_code128 (replicate 81 97) ≡ Err DataTooLong
+too_many_bytes = refl
+
+last_ascii : full_code128 (0 ∷ 127 ∷ []) ≡ Ok (0 ∷ 127 ∷ [])
+last_ascii = refl
+
+first_not_ascii : full_code128 (127 ∷ 128 ∷ []) ≡ Err (NotAscii 2)
+first_not_ascii = refl
+
+-- check digits 0 and 9, as Zint 2.11.1 appends them
+check_digit_zero : full_digits 7 (codes "1234567") ≡ Ok (codes "12345670")
+check_digit_zero = refl
+
+check_digit_nine : full_digits 7 (codes "1234564") ≡ Ok (codes "12345649")
+check_digit_nine = refl
+
+-- ---- code sets
+
+-- The values of data before the check value, on both sides of each threshold, where Zint 2.11.1 writes the same ones
+-- (`--verbose`; ISO/IEC 15417, annex on the use of code sets). At the start four digits go to set C, and three do not;
+-- at the end four do, and three do not; between others six do; an odd digit stands before the change.
+values_of_digits : map values_of (codes "1234" ∷ codes "123" ∷ codes "12" ∷ codes "12a" ∷ codes "12345a" ∷ codes "A1234"
+    ∷ codes "A123" ∷ codes "A123456B" ∷ codes "A1234567" ∷ codes "A12345678" ∷ []) ≡
+    (105 ∷ 12 ∷ 34 ∷ []) ∷ (104 ∷ 17 ∷ 18 ∷ 19 ∷ []) ∷ (105 ∷ 12 ∷ []) ∷ (104 ∷ 17 ∷ 18 ∷ 65 ∷ [])
+    ∷ (105 ∷ 12 ∷ 34 ∷ 100 ∷ 21 ∷ 65 ∷ []) ∷ (104 ∷ 33 ∷ 99 ∷ 12 ∷ 34 ∷ []) ∷ (104 ∷ 33 ∷ 17 ∷ 18 ∷ 19 ∷ [])
+    ∷ (104 ∷ 33 ∷ 99 ∷ 12 ∷ 34 ∷ 56 ∷ 100 ∷ 34 ∷ []) ∷ (104 ∷ 33 ∷ 17 ∷ 99 ∷ 23 ∷ 45 ∷ 67 ∷ [])
+    ∷ (104 ∷ 33 ∷ 99 ∷ 12 ∷ 34 ∷ 56 ∷ 78 ∷ []) ∷ []
+unfolding values_of
+values_of_digits = refl
+
+-- between others fewer than six digits stay in the set that holds, which Zint does from four digits on not
+values_of_few_digits : map values_of (codes "A1234B" ∷ codes "A12345B" ∷ []) ≡
+    (104 ∷ 33 ∷ 17 ∷ 18 ∷ 19 ∷ 20 ∷ 34 ∷ []) ∷ (104 ∷ 33 ∷ 17 ∷ 18 ∷ 19 ∷ 20 ∷ 21 ∷ 34 ∷ []) ∷ []
+unfolding values_of
+values_of_few_digits = refl
+
+-- bytes 31, 32, 95, 96 and 127: the first byte below 32 picks set A, and the first from 96 on set B
+values_of_bytes : map values_of ((1 ∷ 31 ∷ 32 ∷ 95 ∷ []) ∷ (1 ∷ 95 ∷ []) ∷ (97 ∷ 32 ∷ []) ∷ (32 ∷ 97 ∷ [])
+    ∷ (32 ∷ 1 ∷ []) ∷ (95 ∷ 97 ∷ []) ∷ (96 ∷ 127 ∷ []) ∷ (97 ∷ 98 ∷ 1 ∷ 2 ∷ 3 ∷ []) ∷ (1 ∷ 2 ∷ 97 ∷ 3 ∷ []) ∷ []) ≡
+    (103 ∷ 65 ∷ 95 ∷ 0 ∷ 63 ∷ []) ∷ (103 ∷ 65 ∷ 63 ∷ []) ∷ (104 ∷ 65 ∷ 0 ∷ []) ∷ (104 ∷ 0 ∷ 65 ∷ [])
+    ∷ (103 ∷ 0 ∷ 65 ∷ []) ∷ (104 ∷ 63 ∷ 65 ∷ []) ∷ (104 ∷ 64 ∷ 95 ∷ []) ∷ (104 ∷ 65 ∷ 66 ∷ 101 ∷ 65 ∷ 66 ∷ 67 ∷ [])
+    ∷ (103 ∷ 65 ∷ 66 ∷ 98 ∷ 65 ∷ 67 ∷ []) ∷ []
+unfolding values_of
+values_of_bytes = refl
+
+-- one byte that the set lacks, with none after it, changes the set, where Zint shifts: the lengths are the same
+values_of_last_bytes : map values_of ((1 ∷ 96 ∷ []) ∷ (97 ∷ 31 ∷ []) ∷ (31 ∷ 97 ∷ []) ∷ (96 ∷ 1 ∷ []) ∷ []) ≡
+    (103 ∷ 65 ∷ 100 ∷ 64 ∷ []) ∷ (104 ∷ 65 ∷ 101 ∷ 95 ∷ []) ∷ (103 ∷ 95 ∷ 100 ∷ 65 ∷ []) ∷ (104 ∷ 64 ∷ 101 ∷ 65 ∷ [])
+    ∷ []
+unfolding values_of
+values_of_last_bytes = refl
+
+-- what the first and the last values of each set stand for (ISO/IEC 15417, symbol characters)
+meanings_in_a : map (meaning A) (0 ∷ 63 ∷ 64 ∷ 95 ∷ 96 ∷ 98 ∷ 99 ∷ 100 ∷ 101 ∷ []) ≡ text (32 ∷ []) ∷ text (95 ∷ [])
+    ∷ text (0 ∷ []) ∷ text (31 ∷ []) ∷ none ∷ shift ∷ change C ∷ change B ∷ none ∷ []
+meanings_in_a = refl
+
+meanings_in_b : map (meaning B) (0 ∷ 64 ∷ 95 ∷ 96 ∷ 98 ∷ 99 ∷ 100 ∷ 101 ∷ []) ≡ text (32 ∷ []) ∷ text (96 ∷ [])
+    ∷ text (127 ∷ []) ∷ none ∷ shift ∷ change C ∷ none ∷ change A ∷ []
+meanings_in_b = refl
+
+meanings_in_c : map (meaning C) (0 ∷ 42 ∷ 99 ∷ 100 ∷ 101 ∷ 102 ∷ []) ≡ text (codes "00") ∷ text (codes "42")
+    ∷ text (codes "99") ∷ change B ∷ change A ∷ none ∷ []
+meanings_in_c = refl
+
+-- a step in set C takes two digits
+step_in_c : step C 49 (codes "234") ≡ record { values = 12 ∷ []; set = C; rest = codes "34" }
+step_in_c = refl

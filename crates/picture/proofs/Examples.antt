@@ -1,11 +1,13 @@
 -- Worked pictures, computed.
-use Rattle.std.specs.Prelude.{◌≡◌, Bool, ◌==◌, List, [], ◌∷◌, ◌++◌, map, length, codes, refl, true, false, Some, take}
+use Rattle.std.specs.Prelude.{◌≡◌, Bool, ◌==◌, List, [], ◌∷◌, ◌++◌, map, length, codes, refl, true, false, Some, None}
+use Rattle.std.specs.Prelude.{replicate, take}
 use Rattle.std.specs.Fmt.{digits}
 use Rattle.device.specs.Lines.{lines, ended_lines, open_line}
 use Rattle.picture.specs.Picture.{Picture, bars, with_quiet_zone, enlargement}
 use Rattle.picture.specs.declared.quiet_zone.QuietZone.{QuietZone}
 use Rattle.picture.specs.Text.{pbm_text, ascii_text}
-use Rattle.picture.specs.Reading.{pbm_pixels, ascii_pixels, raster, pbm_files, ascii_files, sample}
+use Rattle.picture.specs.Reading.{pbm_pixels, ascii_pixels, is_white, raster, pbm_files, ascii_files, sample}
+use Rattle.qrmatrix.specs.Square.{value_at}
 
 -- the modules of the symbol of `ean8 7351353`
 abbrev ean8_modules : List Bool
@@ -68,3 +70,41 @@ full_row : pbm_text (bars
     ++ codes "1111111111111111111111111111111111111111111111111111111111111111111111\n"
 unfolding digits
 full_row = refl
+
+-- 71 pixels are a full line and one more
+longer_row : pbm_text (bars (replicate 71 true) 1)
+    ≡ codes "P1\n71 1\n1111111111111111111111111111111111111111111111111111111111111111111111\n1\n"
+unfolding digits
+longer_row = refl
+
+-- pbm(5): white space is a blank, a tab, a carriage return or a line feed, and a number is decimal
+white : map is_white (8 ∷ 9 ∷ 10 ∷ 11 ∷ 12 ∷ 13 ∷ 14 ∷ 31 ∷ 32 ∷ 33 ∷ []) ≡
+    false ∷ true ∷ true ∷ false ∷ false ∷ true ∷ false ∷ false ∷ true ∷ false ∷ []
+white = refl
+
+spaced : pbm_pixels (codes "P1\t2\r\n1\n\n1\t0 \r") ≡ Some (record {
+  width = 2;
+  height = 1;
+  rows = (true ∷ false ∷ []) ∷ [];
+})
+unfolding pbm_pixels lines ended_lines open_line
+spaced = refl
+
+nine_wide : pbm_pixels (codes "P1\n9 1\n111111110\n") ≡ Some (record {
+  width = 9;
+  height = 1;
+  rows = (true ∷ true ∷ true ∷ true ∷ true ∷ true ∷ true ∷ true ∷ false ∷ []) ∷ [];
+})
+unfolding pbm_pixels lines ended_lines open_line
+nine_wide = refl
+
+-- neither a letter as a digit, nor 71 characters in a line, nor a text where one white byte has to stand
+no_pixels : map pbm_pixels (codes "P1\na 1\n1111111111\n"
+    ∷ codes "P1\n71 1\n11111111111111111111111111111111111111111111111111111111111111111111111\n"
+    ∷ codes "P1\n1 1" ∷ []) ≡ None ∷ None ∷ None ∷ []
+unfolding pbm_pixels lines ended_lines open_line
+no_pixels = refl
+
+-- light beside the picture
+beside_pixels : map (λ y. value_at (raster (bars (true ∷ []) 1)).rows 1 y) (0 ∷ 1 ∷ []) ≡ false ∷ false ∷ []
+beside_pixels = refl

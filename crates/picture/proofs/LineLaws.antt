@@ -5,7 +5,7 @@ use Rattle.std.proofs.lemmas.Bool.{and_parts, not-true, eqb-false}
 use Rattle.std.proofs.lemmas.List.Concat.{flat_map-cons}
 use Rattle.std.proofs.lemmas.List.Elements.{All-nil, All-cons}
 use Rattle.device.specs.Lines.{LF, HasNoLF, IsCut, ended_lines, open_line, unless_empty, lines, with_ends}
-use Rattle.device.proofs.LinesLemmas.{IsCut-ended_lines, ended_lines-cut, open_line-cut}
+use Rattle.device.proofs.LinesLaws.{IsCut-ended_lines, ended_lines-cut, open_line-cut}
 
 -- the byte that ends a line
 abbrev pub is_line_feed : ℕ → Bool

@@ -3,7 +3,7 @@ use Rattle.std.proofs.Common.{◌≡◌, ℕ, ◌+◌, ◌<◌, List, ◌++◌, 
 use Rattle.std.specs.Result.{IsErr}
 use Rattle.device.specs.Writing.{WritesText}
 use Rattle.device.specs.declared.sink.Sink.{Ghosts}
-use Rattle.device.proofs.WritingLemmas.{HasWritten, HasWritten-more, WritesText-fails}
+use Rattle.device.proofs.WritingLaws.{HasWritten, HasWritten-more, WritesText-fails}
 use Rattle.picture.specs.Text.{below}
 use Rattle.picture.proofs.WritingLaws.{flat_map-below_more, flat_map-below_front}
 

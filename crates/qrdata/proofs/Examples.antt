@@ -1,21 +1,24 @@
 -- Worked values, computed from the definitions.
-use Rattle.std.proofs.Common.{◌≡◌, ℕ, List, [], ◌∷◌, map, refl, Some}
-use Rattle.std.specs.Prelude.{codes}
+use Rattle.std.proofs.Common.{◌≡◌, ℕ, ◌*◌, Bool, true, false, List, [], ◌∷◌, length, map, refl, Some, None}
+use Rattle.std.specs.Prelude.{codes, replicate, sum, ◌==◌}
 use Rattle.std.specs.List.{range_with_len}
 use Rattle.qrdata.specs.declared.level.Level.{Level}
 use Rattle.qrdata.specs.declared.level.Level.TheVariants.{L, M, Q, H}
 use Rattle.gf256.specs.BinaryPolynomial.{binary_product, binary_remainder}
 use Rattle.gf256.specs.Field.{field_product, field_power}
 use Rattle.gf256.specs.Polynomial.{evaluate}
-use Rattle.qrdata.specs.declared.mode.Mode.TheVariants.{Numeric, Byte}
-use Rattle.qrdata.specs.Bits.{bits_of, number_of}
-use Rattle.qrdata.specs.Codewords.{split_by, interleaving}
-use Rattle.qrdata.specs.Fewest.{first_segments, best_within, chosen_segments}
+use Rattle.qrdata.specs.declared.mode.Mode.TheVariants.{Numeric, Alphanumeric, Byte}
+use Rattle.qrdata.specs.Bits.{bits_of, codewords_of, number_of}
+use Rattle.qrdata.specs.Codewords.{data_codewords_of, data_of, interleaving, pad_codewords, split_by}
+use Rattle.qrdata.specs.Codewords.{with_pad_codewords, with_terminator, with_zeros}
+use Rattle.qrdata.specs.Fewest.{first_segments, best_within, chosen_segments, chosen_version}
 use Rattle.qrdata.specs.Reading.{number_at, digits_at, characters_at, bytes_at, segment_at, segments_at}
-use Rattle.qrdata.specs.Reading.{deinterleaving, data_in}
-use Rattle.qrdata.specs.Segments.{alphanumeric_characters, alphanumeric_value, byte_bits, cost, segment_of}
+use Rattle.qrdata.specs.Reading.{deinterleaving, data_in, is_end}
+use Rattle.qrdata.specs.Segments.{alphanumeric_bits, alphanumeric_characters, alphanumeric_value, byte_bits, cost}
+use Rattle.qrdata.specs.Segments.{count_width, mode_indicator, modes, numeric_bits, payload_length, segment_of}
+use Rattle.qrdata.specs.Segments.{segments_bits}
 use Rattle.qrdata.specs.Versions.{total_codewords, block_count, ec_codewords_per_block, data_codewords, block_lengths}
-use Rattle.qrdata.specs.Versions.{block_table, groups_of}
+use Rattle.qrdata.specs.Versions.{block_table, groups_of, side_of}
 
 -- a symbol of version 1-Q that is known from outside is read
 hello_world_reads : data_in 1 Q (32 ∷ 91 ∷ 11 ∷ 120 ∷ 209 ∷ 114 ∷ 220 ∷ 77 ∷ 67 ∷ 64 ∷ 236 ∷ 17 ∷ 236 ∷ 168 ∷ 72 ∷ 22
@@ -84,3 +87,196 @@ blocks_at_h : blocks_of_versions H ≡
     (24, 12 ∷ 12 ∷ 12 ∷ 12 ∷ 13 ∷ 13 ∷ 13 ∷ 13 ∷ []) ∷ (28, 15 ∷ 15 ∷ 15 ∷ 15 ∷ 15 ∷ 15 ∷ 16 ∷ 16 ∷ []) ∷ []
 unfolding ec_codewords_per_block block_lengths groups_of block_table
 blocks_at_h = refl
+
+-- ---- the tables of qrencode 4.1.1 (qrspec.c, qrinput.c), which come from those of JIS X 0510 and ISO/IEC 18004
+
+-- of each version the side and the codewords
+sides : map side_of (range_with_len 1 10) ≡ 21 ∷ 25 ∷ 29 ∷ 33 ∷ 37 ∷ 41 ∷ 45 ∷ 49 ∷ 53 ∷ 57 ∷ []
+sides = refl
+
+codewords : map total_codewords (range_with_len 1 10) ≡ 26 ∷ 44 ∷ 70 ∷ 100 ∷ 134 ∷ 172 ∷ 196 ∷ 242 ∷ 292 ∷ 346 ∷ []
+unfolding total_codewords
+codewords = refl
+
+-- of each level the error correction codewords of the versions
+ec_codewords : Level → List ℕ
+ec_codewords level = map (λ version. block_count version level * ec_codewords_per_block version level) (range_with_len 1 10)
+
+ec_codewords_of_levels : map ec_codewords (L ∷ M ∷ Q ∷ H ∷ []) ≡
+    (7 ∷ 10 ∷ 15 ∷ 20 ∷ 26 ∷ 36 ∷ 40 ∷ 48 ∷ 60 ∷ 72 ∷ [])
+    ∷ (10 ∷ 16 ∷ 26 ∷ 36 ∷ 48 ∷ 64 ∷ 72 ∷ 88 ∷ 110 ∷ 130 ∷ [])
+    ∷ (13 ∷ 22 ∷ 36 ∷ 52 ∷ 72 ∷ 96 ∷ 108 ∷ 132 ∷ 160 ∷ 192 ∷ [])
+    ∷ (17 ∷ 28 ∷ 44 ∷ 64 ∷ 88 ∷ 112 ∷ 130 ∷ 156 ∷ 192 ∷ 224 ∷ []) ∷ []
+unfolding ec_codewords block_count ec_codewords_per_block block_lengths groups_of block_table
+ec_codewords_of_levels = refl
+
+-- the blocks of a symbol, those of one length together
+abbrev counts_of : Level → List (List ℕ)
+counts_of level =
+    map (λ version. map (λ (group : ℕ × ℕ × ℕ). group.0) (groups_of version level)) (range_with_len 1 10)
+
+counts_at_l : counts_of L ≡
+    (1 ∷ []) ∷ (1 ∷ []) ∷ (1 ∷ []) ∷ (1 ∷ []) ∷ (1 ∷ []) ∷ (2 ∷ []) ∷ (2 ∷ []) ∷ (2 ∷ []) ∷ (2 ∷ []) ∷
+    (2 ∷ 2 ∷ []) ∷ []
+unfolding groups_of block_table
+counts_at_l = refl
+
+counts_at_m : counts_of M ≡
+    (1 ∷ []) ∷ (1 ∷ []) ∷ (1 ∷ []) ∷ (2 ∷ []) ∷ (2 ∷ []) ∷ (4 ∷ []) ∷ (4 ∷ []) ∷ (2 ∷ 2 ∷ []) ∷ (3 ∷ 2 ∷ []) ∷
+    (4 ∷ 1 ∷ []) ∷ []
+unfolding groups_of block_table
+counts_at_m = refl
+
+counts_at_q : counts_of Q ≡
+    (1 ∷ []) ∷ (1 ∷ []) ∷ (2 ∷ []) ∷ (2 ∷ []) ∷ (2 ∷ 2 ∷ []) ∷ (4 ∷ []) ∷ (2 ∷ 4 ∷ []) ∷ (4 ∷ 2 ∷ []) ∷
+    (4 ∷ 4 ∷ []) ∷ (6 ∷ 2 ∷ []) ∷ []
+unfolding groups_of block_table
+counts_at_q = refl
+
+counts_at_h : counts_of H ≡
+    (1 ∷ []) ∷ (1 ∷ []) ∷ (2 ∷ []) ∷ (4 ∷ []) ∷ (2 ∷ 2 ∷ []) ∷ (4 ∷ []) ∷ (4 ∷ 1 ∷ []) ∷ (4 ∷ 2 ∷ []) ∷
+    (4 ∷ 4 ∷ []) ∷ (6 ∷ 2 ∷ []) ∷ []
+unfolding groups_of block_table
+counts_at_h = refl
+
+-- the blocks' codewords together are the symbol's
+abbrev codewords_of_blocks : Level → List ℕ
+codewords_of_blocks level = map (λ version. sum (map (λ (group : ℕ × ℕ × ℕ). group.0 * group.1)
+    (groups_of version level))) (range_with_len 1 10)
+
+codewords_of_levels : map codewords_of_blocks (L ∷ M ∷ Q ∷ H ∷ []) ≡ replicate 4
+    (26 ∷ 44 ∷ 70 ∷ 100 ∷ 134 ∷ 172 ∷ 196 ∷ 242 ∷ 292 ∷ 346 ∷ [])
+unfolding groups_of block_table
+codewords_of_levels = refl
+
+-- the values of the bytes 0 to 127, 45 for those that qrencode's table has at -1, and of the bytes from 128 on
+values_of_bytes : map alphanumeric_value (range_with_len 0 128) ≡
+    45 ∷ 45 ∷ 45 ∷ 45 ∷ 45 ∷ 45 ∷ 45 ∷ 45 ∷ 45 ∷ 45 ∷ 45 ∷ 45 ∷ 45 ∷ 45 ∷ 45 ∷ 45 ∷ 45 ∷ 45 ∷ 45 ∷ 45 ∷ 45 ∷ 45 ∷
+    45 ∷ 45 ∷ 45 ∷ 45 ∷ 45 ∷ 45 ∷ 45 ∷ 45 ∷ 45 ∷ 45 ∷ 36 ∷ 45 ∷ 45 ∷ 45 ∷ 37 ∷ 38 ∷ 45 ∷ 45 ∷ 45 ∷ 45 ∷ 39 ∷ 40 ∷
+    45 ∷ 41 ∷ 42 ∷ 43 ∷ 0 ∷ 1 ∷ 2 ∷ 3 ∷ 4 ∷ 5 ∷ 6 ∷ 7 ∷ 8 ∷ 9 ∷ 44 ∷ 45 ∷ 45 ∷ 45 ∷ 45 ∷ 45 ∷ 45 ∷ 10 ∷ 11 ∷ 12 ∷
+    13 ∷ 14 ∷ 15 ∷ 16 ∷ 17 ∷ 18 ∷ 19 ∷ 20 ∷ 21 ∷ 22 ∷ 23 ∷ 24 ∷ 25 ∷ 26 ∷ 27 ∷ 28 ∷ 29 ∷ 30 ∷ 31 ∷ 32 ∷ 33 ∷ 34 ∷
+    35 ∷ 45 ∷ 45 ∷ 45 ∷ 45 ∷ 45 ∷ 45 ∷ 45 ∷ 45 ∷ 45 ∷ 45 ∷ 45 ∷ 45 ∷ 45 ∷ 45 ∷ 45 ∷ 45 ∷ 45 ∷ 45 ∷ 45 ∷ 45 ∷ 45 ∷
+    45 ∷ 45 ∷ 45 ∷ 45 ∷ 45 ∷ 45 ∷ 45 ∷ 45 ∷ 45 ∷ 45 ∷ 45 ∷ 45 ∷ 45 ∷ 45 ∷ 45 ∷ 45 ∷ []
+unfolding alphanumeric_value alphanumeric_characters
+values_of_bytes = refl
+
+values_of_others : map alphanumeric_value (range_with_len 128 128) ≡ replicate 128 45
+unfolding alphanumeric_value alphanumeric_characters
+values_of_others = refl
+
+-- the bits of a character count in versions 1, 9 and 10
+count_widths : map (λ mode. map (λ version. count_width version mode) (1 ∷ 9 ∷ 10 ∷ [])) modes ≡
+    (10 ∷ 10 ∷ 12 ∷ []) ∷ (9 ∷ 9 ∷ 11 ∷ []) ∷ (8 ∷ 8 ∷ 16 ∷ []) ∷ []
+count_widths = refl
+
+-- ---- the standard's numbers (ISO/IEC 18004, 7.4)
+
+-- the mode indicators 0001, 0010 and 0100, and the modes in the order that decides ties
+indicators : (map mode_indicator (Numeric ∷ Alphanumeric ∷ Byte ∷ []) ≡ 1 ∷ 2 ∷ 4 ∷ [])
+    × (modes ≡ Numeric ∷ Alphanumeric ∷ Byte ∷ [])
+indicators = (refl, refl)
+
+-- a text of 0 and 1 as bits
+bits : List ℕ → List Bool
+bits text = map (λ c. c == 49) text
+
+-- the standard's examples `01234567`, `0123456789012345` and `AC-42`
+eight_digits : numeric_bits (codes "01234567") ≡ bits (codes "000000110001010110011000011")
+unfolding numeric_bits bits_of bits
+eight_digits = refl
+
+sixteen_digits : numeric_bits (codes "0123456789012345")
+    ≡ bits (codes "000000110001010110011010100110111000010100111010100101")
+unfolding numeric_bits bits_of bits
+sixteen_digits = refl
+
+five_characters : alphanumeric_bits (codes "AC-42") ≡ bits (codes "0011100111011100111001000010")
+unfolding alphanumeric_bits alphanumeric_value alphanumeric_characters bits_of bits
+five_characters = refl
+
+three_bytes : byte_bits (0 ∷ 170 ∷ 255 ∷ []) ≡ bits (codes "000000001010101011111111")
+unfolding byte_bits bits_of bits
+three_bytes = refl
+
+-- the lengths of such payloads
+lengths_of_payloads : (map (payload_length Numeric) (1 ∷ 2 ∷ 3 ∷ 8 ∷ 16 ∷ []) ≡ 4 ∷ 7 ∷ 10 ∷ 27 ∷ 54 ∷ [])
+    × (map (payload_length Alphanumeric) (1 ∷ 2 ∷ 5 ∷ []) ≡ 6 ∷ 11 ∷ 28 ∷ [])
+    × (map (payload_length Byte) (1 ∷ 3 ∷ []) ≡ 8 ∷ 24 ∷ [])
+lengths_of_payloads = (refl, refl, refl)
+
+-- the data codewords of the standard's annex I
+annex_i : data_of 1 M (segment_of Numeric 8 ∷ []) (codes "01234567") ≡
+    0x10 ∷ 0x20 ∷ 0x0C ∷ 0x56 ∷ 0x61 ∷ 0x80 ∷ 0xEC ∷ 0x11 ∷ 0xEC ∷ 0x11 ∷ 0xEC ∷ 0x11 ∷ 0xEC ∷ 0x11 ∷ 0xEC ∷ 0x11 ∷ []
+unfolding data_of data_codewords_of with_pad_codewords with_terminator with_zeros codewords_of segments_bits numeric_bits bits_of number_of
+    data_codewords block_lengths groups_of block_table
+annex_i = refl
+
+-- a terminator has four bits, or as many as are left
+terminators : map (λ n. length (with_terminator 152 (replicate n true))) (41 ∷ 147 ∷ 148 ∷ 149 ∷ 151 ∷ 152 ∷ []) ≡
+    45 ∷ 151 ∷ 152 ∷ 152 ∷ 152 ∷ 152 ∷ []
+unfolding with_terminator
+terminators = refl
+
+terminator_is_light : with_terminator 8 (true ∷ []) ≡ true ∷ false ∷ false ∷ false ∷ false ∷ []
+unfolding with_terminator
+terminator_is_light = refl
+
+aligned_bits : map (λ n. length (with_zeros (replicate n true))) (0 ∷ 1 ∷ 7 ∷ 8 ∷ 9 ∷ []) ≡ 0 ∷ 8 ∷ 8 ∷ 8 ∷ 16 ∷ []
+unfolding with_zeros
+aligned_bits = refl
+
+aligned_with_light : with_zeros (true ∷ true ∷ true ∷ true ∷ true ∷ true ∷ true ∷ []) ≡
+    true ∷ true ∷ true ∷ true ∷ true ∷ true ∷ true ∷ false ∷ []
+unfolding with_zeros
+aligned_with_light = refl
+
+pads : pad_codewords 5 ≡ 236 ∷ 17 ∷ 236 ∷ 17 ∷ 236 ∷ []
+pads = refl
+
+one_pad : pad_codewords 1 ≡ 236 ∷ []
+one_pad = refl
+
+-- versions from the least one allowed to 10
+versions_asked_for : map (λ lowest. chosen_version lowest H (codes "1")) (1 ∷ 2 ∷ 10 ∷ 11 ∷ []) ≡
+    Some 1 ∷ Some 2 ∷ Some 10 ∷ None ∷ []
+unfolding chosen_version chosen_segments best_within first_segments alphanumeric_characters alphanumeric_value
+    data_codewords block_lengths groups_of block_table
+versions_asked_for = refl
+
+-- numbers that no digits, characters or bytes have are not read
+largest_digits : (digits_at 1 (bits_of 4 9) ≡ Some (codes "9", []))
+    × (digits_at 2 (bits_of 7 99) ≡ Some (codes "99", []))
+    × (digits_at 3 (bits_of 10 999) ≡ Some (codes "999", []))
+    × (digits_at 4 (bits_of 14 1984) ≡ Some (codes "1240", []))
+unfolding digits_at number_at number_of bits_of
+largest_digits = (refl, refl, refl, refl)
+
+no_digits : (digits_at 1 (bits_of 4 10) ≡ None) × (digits_at 2 (bits_of 7 100) ≡ None)
+    × (digits_at 3 (bits_of 10 1000) ≡ None)
+unfolding digits_at number_at number_of bits_of
+no_digits = (refl, refl, refl)
+
+largest_characters : (characters_at 1 (bits_of 6 44) ≡ Some (codes ":", []))
+    × (characters_at 2 (bits_of 11 2024) ≡ Some (codes "::", []))
+unfolding characters_at number_at number_of bits_of alphanumeric_characters
+largest_characters = (refl, refl)
+
+no_characters : (characters_at 1 (bits_of 6 45) ≡ None) × (characters_at 2 (bits_of 11 2025) ≡ None)
+unfolding characters_at number_at number_of bits_of
+no_characters = (refl, refl)
+
+largest_byte : bytes_at 1 (bits_of 8 255) ≡ Some (255 ∷ [], [])
+unfolding bytes_at number_at number_of bits_of
+largest_byte = refl
+
+-- the segments end at four zeros, or where fewer than four bits are left
+ends : map is_end (bits (codes "0000") ∷ bits (codes "0001") ∷ bits (codes "00001") ∷ bits (codes "111")
+    ∷ bits (codes "1111") ∷ [] ∷ []) ≡ true ∷ false ∷ true ∷ true ∷ false ∷ true ∷ []
+unfolding bits number_of
+ends = refl
+
+-- no mode indicator beside the three
+no_mode : map (segment_at 1) (bits (codes "0011000000000100001") ∷ bits (codes "1000000000000100001") ∷ []) ≡
+    None ∷ None ∷ []
+unfolding segment_at number_at number_of bits
+no_mode = refl

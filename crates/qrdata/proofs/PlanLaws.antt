@@ -1,7 +1,6 @@
 -- A plan of the smallest version in which the best segments fit is the best plan.
-use Rattle.std.proofs.Common.{◌≡◌, ◌≤◌, ◌<◌, ℕ, List, length}
+use Rattle.std.proofs.Common.{ℕ, List}
 use Rattle.qrdata.specs.declared.level.Level.{Level}
-use Rattle.qrdata.specs.Fewest.{chosen_segments}
 use Rattle.qrdata.specs.PlanView.{FitsNowhere, IsBestPlan, PlanView}
 use Rattle.qrdata.specs.Private.SmallestPlan.{IsSmallestPlan, NoPlan}
 use Rattle.qrdata.proofs.FewestBitsLaws.{chosen_segments-is, chosen_segments-le_cost}

@@ -20,7 +20,7 @@ use Rattle.qrdata.specs.Codewords.{largest, split_by}
 use Rattle.qrdata.specs.Segments.{IsSegmentation, alphanumeric_bits, alphanumeric_value, byte_bits, cost, count_width}
 use Rattle.qrdata.specs.Segments.{segment_bits, segment_length, segment_of, segments_bits}
 use Rattle.qrdata.specs.Private.Blocks.{HasBlocks}
-use Rattle.qrdata.specs.Versions.{block_count, block_lengths, data_codewords, ec_codewords_per_block}
+use Rattle.qrdata.specs.Versions.{block_lengths, data_codewords, ec_codewords_per_block}
 use Rattle.qrdata.proofs.BlockLaws.{split_lengths}
 use Rattle.qrdata.proofs.BitStringLaws.{bits_of-nil, drop_front, length-bits_of, number_of-bits_of, take_front}
 use Rattle.qrdata.proofs.InterleavingLaws.{Blocks, longest}

@@ -17,17 +17,17 @@ with_terminator capacity bits = bits ++ replicate (min 4 (capacity - length bits
 unfoldable pub with_zeros : List Bool → List Bool
 with_zeros bits = bits ++ replicate ((8 - length bits % 8) % 8) false
 
--- so many pad codewords: 11101100 and 00010001 in turn
+-- n pad codewords: 11101100 and 00010001 in turn
 abbrev pub pad_codewords : ℕ → List ℕ
 pad_codewords zero = []
 pad_codewords (suc zero) = 0xEC ∷ []
 pad_codewords (suc (suc n)) = 0xEC ∷ 0x11 ∷ pad_codewords n
 
--- so many codewords: those of the bits, and the padding
+-- as many codewords as the size: those of the bits, and the padding
 unfoldable pub with_pad_codewords : ℕ → List Bool → List ℕ
 with_pad_codewords size bits = codewords_of (length bits / 8) bits ++ pad_codewords (size - length bits / 8)
 
--- so many data codewords: the bits, the terminator, zeros to the end of a codeword, and the padding
+-- as many data codewords as the size: the bits, the terminator, zeros to the end of a codeword, and the padding
 unfoldable pub data_codewords_of : ℕ → List Bool → List ℕ
 data_codewords_of size bits = with_pad_codewords size (with_zeros (with_terminator (8 * size) bits))
 

@@ -25,13 +25,13 @@ is_first version bytes s =
 unfoldable pub first_segments : ℕ → List ℕ → List Segment
 first_segments version bytes = filter (is_first version bytes) (candidates (length bytes))
 
--- the first list of least cost
+-- the first list of the lowest cost
 abbrev pub cheapest : ℕ → List (List Segment) → List Segment
 cheapest version [] = []
 cheapest version (segments ∷ lists) = best_of (λ s t. nat_lt (cost version s) (cost version t)) segments lists
 
--- Of the lists of a first segment and the best segments of the rest, the first of least cost. There are n bytes at
--- most.
+-- Of the lists of a first segment and the best segments of the rest, the first of the lowest cost. There are
+-- at most n bytes.
 unfoldable pub best_within : ℕ → ℕ → List ℕ → List Segment
 best_within version zero bytes = []
 best_within version (suc n) bytes =
@@ -41,7 +41,7 @@ best_within version (suc n) bytes =
 unfoldable pub chosen_segments : ℕ → List ℕ → List Segment
 chosen_segments version bytes = best_within version (length bytes) bytes
 
--- the least version from a lowest one to 10 in which the segments of the bytes fit the data bits
+-- the smallest version from a lowest one to 10 in which the segments of the bytes fit the data bits
 unfoldable pub chosen_version : (lowest : ℕ) → Level → List ℕ → Option ℕ
 chosen_version lowest level bytes =
     find (λ version. nat_le (cost version (chosen_segments version bytes)) (capacity version level))

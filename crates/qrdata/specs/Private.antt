@@ -1,4 +1,4 @@
--- Words that only the contracts of private functions cite: nothing here has to be believed.
+-- Definitions that only the contracts of private functions cite: nothing here has to be believed.
 pub mod BitsInCodewords
 pub mod Blocks
 pub mod ChoiceView

@@ -19,7 +19,7 @@ number_at limit width bits =
     if nat_lt (length bits) width || nat_le limit (number_of (take width bits)) then None
     else Some (number_of (take width bits), drop width bits)
 
--- so many digits, and the bits after them
+-- `count` digits, and the bits after them
 unfoldable pub digits_at : ℕ → List Bool → Option (List ℕ × List Bool)
 digits_at zero bits = Some ([], bits)
 digits_at (suc zero) bits = number_at 10 4 bits >>= λ n. Some ((48 + n.0) ∷ [], n.1)
@@ -31,20 +31,20 @@ digits_at (suc (suc (suc count))) bits = number_at 1000 10 bits >>= λ n. digits
 abbrev pub alphanumeric_character : ℕ → ℕ
 alphanumeric_character value = slice_index alphanumeric_characters value
 
--- so many alphanumeric characters, and the bits after them
+-- `count` alphanumeric characters, and the bits after them
 unfoldable pub characters_at : ℕ → List Bool → Option (List ℕ × List Bool)
 characters_at zero bits = Some ([], bits)
 characters_at (suc zero) bits = number_at 45 6 bits >>= λ n. Some (alphanumeric_character n.0 ∷ [], n.1)
 characters_at (suc (suc count)) bits = number_at 2025 11 bits >>= λ n. characters_at count n.1 >>= λ others.
     Some (alphanumeric_character (n.0 / 45) ∷ alphanumeric_character (n.0 % 45) ∷ others.0, others.1)
 
--- so many bytes, and the bits after them
+-- `count` bytes, and the bits after them
 unfoldable pub bytes_at : ℕ → List Bool → Option (List ℕ × List Bool)
 bytes_at zero bits = Some ([], bits)
 bytes_at (suc count) bits = number_at 256 8 bits >>= λ n. bytes_at count n.1 >>= λ others.
     Some (n.0 ∷ others.0, others.1)
 
--- the payload of so many bytes, and the bits after it
+-- the payload of `count` bytes, and the bits after it
 abbrev pub payload_at : Mode → ℕ → List Bool → Option (List ℕ × List Bool)
 payload_at Numeric count bits = digits_at count bits
 payload_at Alphanumeric count bits = characters_at count bits
@@ -62,7 +62,7 @@ segment_at version bits = do
 abbrev pub is_end : List Bool → Bool
 is_end bits = number_of (take 4 bits) == 0 || nat_lt (length bits) 4
 
--- the payloads of at most so many segments, joined
+-- the payloads of at most n segments, joined
 unfoldable pub segments_at : ℕ → ℕ → List Bool → Option (List ℕ)
 segments_at version zero bits = if is_end bits then Some [] else None
 segments_at version (suc n) bits = if is_end bits then Some [] else do
@@ -70,25 +70,23 @@ segments_at version (suc n) bits = if is_end bits then Some [] else do
   others ← segments_at version n first.1
   Some (first.0 ++ others)
 
--- Where codeword i of block b stands among codewords that are dealt in turn to blocks of these lengths: after the
--- codewords of the rounds before it, and in its own round after those of the blocks before it. A full block is passed
--- over.
+-- Where codeword i of block b is among the interleaved codewords of blocks of these lengths: after the codewords of the
+-- rounds before it, and in its own round after those of the blocks before it. A block that is at its end has none.
 abbrev pub interleaving_place : List ℕ → ℕ → ℕ → ℕ
 interleaving_place lengths b i = sum_by (min i) lengths + count_by (nat_lt i) (take b lengths)
 
--- the codewords dealt in turn to blocks of these lengths
+-- the blocks of these lengths whose codewords are interleaved
 unfoldable pub deinterleaving : List ℕ → List ℕ → List (List ℕ)
 deinterleaving lengths codewords =
-    map (λ b. map (λ i. slice_index codewords (interleaving_place lengths b i)) (range_with_len 0
-    (slice_index lengths b)))
-    (range_with_len 0 (length lengths))
+    map (λ b. map (λ i. slice_index codewords (interleaving_place lengths b i))
+    (range_with_len 0 (slice_index lengths b))) (range_with_len 0 (length lengths))
 
 -- whether the polynomial of a block and its error correction codewords is 0 at alpha^0 to alpha^(k-1)
 abbrev pub has_roots : ℕ → List ℕ × List ℕ → Bool
 has_roots k block = list_all (λ i. evaluate (block.0 ++ block.1) (field_power alpha i) == 0) (range_with_len 0 k)
 
--- The data that the codewords of a symbol hold: dealt to blocks, each block a codeword of its error correction
--- codewords, and the data codewords joined and read as segments.
+-- The data that the codewords of a symbol hold. They are taken back to their blocks, each block has to be a multiple of
+-- its generator, and the data codewords are joined and read as segments.
 unfoldable pub data_in : ℕ → Level → List ℕ → Option (List ℕ)
 data_in version level codewords =
     let size = data_codewords version level in

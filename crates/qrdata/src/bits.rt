@@ -5,7 +5,6 @@ ghost use Rattle.qrdata.specs.Codewords.{with_zeros, pad_codewords, with_termina
 ghost use Rattle.qrdata.specs.Segments.{IsSegmentation, alphanumeric_bits, byte_bits, cost, count_width, has_character};
 ghost use Rattle.qrdata.specs.Segments.{numeric_bits, payload_bits, payload_length, segment_bits, segments_bits};
 ghost use Rattle.qrdata.specs.declared.mode.Mode.TheVariants.{Alphanumeric, Numeric};
-ghost use Rattle.qrdata.specs.declared.mode.Segment.{Segment};
 ghost use Rattle.std.specs.Char.{is_ascii_digit};
 ghost use Rattle.std.specs.List.{list_all};
 ghost use Rattle.std.specs.Prelude.{◌≡◌, ◌+◌, ◌*◌, ◌/◌, ◌^◌, ◌<◌, ◌≤◌, [], ◌++◌, All, IsTrue, length};
@@ -36,7 +35,7 @@ struct Rest {
     ghost small: { number < 2 ^ count },
 }
 
-/// The power 2^n.
+/// Returns 2^n.
 #[inline(always)]
 fn power_of_two(n: usize) -> u32
     requires { n ≤ 23 }
@@ -48,7 +47,7 @@ fn power_of_two(n: usize) -> u32
 impl Bits {
     ghost use Rattle.qrdata.specs.Private.BitsInCodewords.{bits_in};
 
-    /// No bits.
+    /// Makes an empty list of bits.
     pub(crate) fn new() -> Bits
         ensures { bits_in result ≡ [] }
     {
@@ -61,7 +60,7 @@ impl Bits {
         }
     }
 
-    /// Writes a number at the end in so many bits, the high bit first.
+    /// Writes the lowest `width` bits of a number at the end, the high bit first.
     #[inline(always)]
     fn push_number(&mut self, number: u32, width: usize)
         requires narrow { width ≤ 16 }
@@ -181,14 +180,14 @@ impl Bits {
         }
     }
 
-    /// How many bits there are.
+    /// Returns how many bits there are.
     fn len(&self) -> usize
         ensures { result ≡ length (bits_in self.now) }
     {
         8 * self.codewords.len() + self.rest.count
     }
 
-    /// Writes the terminator, four zeros or as many as are left in so many codewords, and zeros to the end of a
+    /// Writes the terminator, which is four zeros or as many as are left in `size` codewords, and zeros to the end of a
     /// codeword.
     pub(crate) fn end(&mut self, size: usize)
         requires fits { length (bits_in self.old) ≤ 8 * size }
@@ -205,13 +204,13 @@ impl Bits {
     }
 }
 
-/// A slice of bytes has numbers below 256, which the type of an `ArrayVec` does not tell a proof. It does nothing when
-/// it runs.
+/// The numbers of a slice of bytes are below 256, which the type of an `ArrayVec` does not say to a proof. It does
+/// nothing when it runs.
 fn are_bytes(bytes: &[u8])
     ensures { All (λ b. b < 256) bytes.now }
 {}
 
-/// Writes so many pad codewords, of which there are two in turn.
+/// Writes `count` pad codewords: two of them in turn.
 pub(crate) fn push_padding(count: usize, codewords: &mut Codewords)
     requires room { array_vec_len codewords.old + count ≤ MAX_CODEWORDS }
     ensures { codewords.new.items ≡ codewords.old.items ++ pad_codewords count }

@@ -3,7 +3,7 @@ ghost use Rattle.arrayvec.specs.ArrayVec.{array_vec_len};
 ghost use Rattle.gf256.specs.ErrorCorrection.{IsEcCodewordCount, ec_codewords_of};
 ghost use Rattle.qrdata.specs.Codewords.{interleaving, largest, split_by, codewords_at};
 ghost use Rattle.std.specs.List.{flat_map};
-ghost use Rattle.std.specs.Prelude.{length, ◌≡◌, ◌+◌, ◌≤◌, ◌<◌, ◌++◌, sum, ◌*◌, ◌/◌, replicate};
+ghost use Rattle.std.specs.Prelude.{length, ◌≡◌, ◌+◌, ◌≤◌, ◌++◌, sum, replicate};
 
 use arrayvec::ArrayVec;
 use gf256::Generator;

@@ -1,11 +1,10 @@
 //! The codewords of a symbol (ISO/IEC 18004, 7.4 to 7.6).
-ghost use Rattle.arrayvec.specs.ArrayVec.{array_vec_len};
 ghost use Rattle.qrdata.specs.Private.BitsInCodewords.{bits_in};
 ghost use Rattle.qrdata.specs.Private.Blocks.{HasBlocks};
 ghost use Rattle.qrdata.specs.Codewords.{data_of, final_message};
 ghost use Rattle.qrdata.specs.PlanView.{AreSymbolCodewords, HasFittingSegments, plan_view};
-ghost use Rattle.qrdata.specs.Versions.{data_codewords, ec_codewords_per_block};
-ghost use Rattle.std.specs.Prelude.{length, ◌≡◌, ◌+◌, ◌≤◌, ◌/◌, []};
+ghost use Rattle.qrdata.specs.Versions.{data_codewords};
+ghost use Rattle.std.specs.Prelude.{length, ◌≡◌, []};
 
 use crate::bits::{Bits, push_padding};
 use crate::blocks::{Codewords, Lengths, interleave, push_ec_codewords, push_lengths};

@@ -21,12 +21,12 @@ pub enum Mode {
 pub struct Segment {
     /// How the bytes are written.
     pub mode: Mode,
-    /// How many bytes there are. These are digits or characters in the numeric and the alphanumeric mode.
+    /// The number of bytes. In the numeric mode these are digits, in the alphanumeric mode its characters.
     pub len: u16,
 }
 
 impl Mode {
-    /// The mode indicator, a number of four bits.
+    /// Returns the mode indicator, a number of four bits.
     pub(crate) fn indicator(self) -> u8
         ensures { result ≡ mode_indicator self }
     {
@@ -37,7 +37,7 @@ impl Mode {
         }
     }
 
-    /// The bits of the character count indicator in a version.
+    /// Returns the width of the character count indicator in a version, in bits.
     pub(crate) fn count_width(self, version: Version) -> usize
         ensures { result ≡ count_width version self }
     {
@@ -49,7 +49,7 @@ impl Mode {
         }
     }
 
-    /// The bits of a payload of so many bytes.
+    /// Returns the number of bits of a payload of `len` bytes.
     pub(crate) fn payload_length(self, len: usize) -> usize
         requires { len < 65536 }
         ensures { result ≡ payload_length self len }
@@ -77,7 +77,7 @@ const VALUES: [u8; 256] = [
     45, 45, 45, 45, 45, 45, 45, 45, 45, 45, 45, 45, 45, 45,
 ];
 
-/// The value of a character of the alphanumeric mode, and 45 for any other byte.
+/// Returns the value of a character of the alphanumeric mode, 0 to 44, and 45 for any other byte.
 #[inline(always)]
 pub(crate) fn value_of(character: u8) -> u8
     ensures value { result ≡ alphanumeric_value character }

@@ -13,8 +13,8 @@ use crate::version::Version;
 use arrayvec::ArrayVec;
 use std::marker::Model;
 
-/// The most segments that fit a symbol: in version 10 each has 20 bits or more, and there are 2192 data bits at most.
-/// Fewer fit the other versions.
+/// The most segments that fit a symbol: in version 10 each has at least 20 bits, and there are at most 2192 data bits.
+/// Fewer segments fit the other versions.
 const MAX_SEGMENTS: usize = 109;
 
 /// What is chosen for a symbol: its version, its level and the segments of its data, which it borrows.
@@ -51,7 +51,7 @@ impl<'a> Model for Plan<'a> {
 }
 
 impl<'a> Plan<'a> {
-    /// The version of the symbol.
+    /// Returns the version of the symbol.
     pub fn version(&self) -> Version
         ensures value { result ≡ self.now.version }
         ensures known { IsVersion result }
@@ -61,21 +61,21 @@ impl<'a> Plan<'a> {
         version
     }
 
-    /// The error correction level of the symbol.
+    /// Returns the error correction level of the symbol.
     pub fn level(&self) -> Level
         ensures { result ≡ self.now.level }
     {
         self.level
     }
 
-    /// The data.
+    /// Returns the data.
     pub fn bytes(&self) -> &'a [u8]
         ensures { result.now ≡ self.now.bytes }
     {
         self.bytes
     }
 
-    /// The segments, from the front of the data. They cut the data and fit the symbol.
+    /// Returns the segments, from the front of the data. They cut the data and fit the symbol.
     pub fn segments(&self) -> &[Segment]
         ensures value { result.now ≡ self.now.segments }
         ensures fit { HasFittingSegments self.now }
@@ -83,7 +83,7 @@ impl<'a> Plan<'a> {
         self.segments.as_slice()
     }
 
-    /// The bits of the segments, with their modes and character counts.
+    /// Returns the number of bits of the segments, with their mode indicators and character counts.
     pub fn bits(&self) -> u32
         ensures { result ≡ cost self.now.version self.now.segments }
     {
@@ -122,7 +122,7 @@ pub fn choose<'a>(
     }
 }
 
-/// The plan of the smallest version from the lowest one to 10. One table of best segments serves all versions up to 9,
+/// Makes the plan of the smallest version from `lowest` to 10. One table of best segments serves all versions up to 9,
 /// and a second one version 10.
 fn plan_from<'a>(lowest: u8, level: Level, bytes: &'a [u8]) -> Option<Plan<'a>>
     requires { IsVersion lowest }
@@ -140,7 +140,7 @@ fn plan_from<'a>(lowest: u8, level: Level, bytes: &'a [u8]) -> Option<Plan<'a>>
     plan_between(10, 10, level, bytes)
 }
 
-/// The plan of the smallest version from the lowest one to the highest one. In all of these a character count has the
+/// Makes the plan of the smallest version from `lowest` to `highest`. In all of these a character count has the
 /// same bits, so that the best segments are the same.
 fn plan_between<'a>(lowest: u8, highest: u8, level: Level, bytes: &'a [u8]) -> Option<Plan<'a>>
     requires few { length bytes.now ≤ MAX_BYTES }
@@ -168,7 +168,7 @@ fn plan_between<'a>(lowest: u8, highest: u8, level: Level, bytes: &'a [u8]) -> O
     None
 }
 
-/// The plan of the segments that a table names, from the front of the data. They have this many bits.
+/// Makes the plan of the segments that a table names, from the front of the data. They have `bits` bits.
 fn plan_of<'a>(
     version: Version,
     level: Level,

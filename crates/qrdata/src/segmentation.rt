@@ -12,7 +12,7 @@ use std::marker::Model;
 /// The most bytes that a symbol of version 10 holds: more digits than this have more bits than its data codewords.
 pub(crate) const MAX_BYTES: usize = 652;
 
-/// The bits of a choice that there is not: more than the best segments of so few bytes have.
+/// The bits of an absent choice: more than the best segments of `MAX_BYTES` bytes have.
 const ABSENT: usize = 65536;
 
 /// A first segment of a rest of the bytes, and the bits of the list of it and of the best segments of what comes
@@ -20,8 +20,8 @@ const ABSENT: usize = 65536;
 #[derive(Drop)]
 struct Choice {
     mode: Mode,
-    /// 1024 times the bits of the list, and what the length of the segment lacks to 1023. The choice of less weight has
-    /// fewer bits, or as many and a longer segment.
+    /// 1024 times the bits of the list, plus 1023 less the length of the segment. The choice of less weight has fewer
+    /// bits, or as many and a longer segment.
     weight: usize,
 }
 
@@ -39,7 +39,7 @@ impl Model for Choice {
 }
 
 impl Choice {
-    /// The segment.
+    /// Returns the segment.
     #[inline(always)]
     fn segment(&self) -> Segment
         ensures { result ≡ self.now.segment }
@@ -50,7 +50,7 @@ impl Choice {
         }
     }
 
-    /// The bits of the list.
+    /// Returns the bits of the list.
     #[inline(always)]
     fn bits(&self) -> usize
         ensures { result ≡ self.now.bits }
@@ -95,7 +95,7 @@ struct Choices {
     best: Choice,
 }
 
-/// No choice of a mode.
+/// Returns an absent choice of a mode.
 fn absent(mode: Mode) -> Choice
     ensures { result ≡ absent_choice mode }
 {
@@ -105,7 +105,7 @@ fn absent(mode: Mode) -> Choice
     }
 }
 
-/// The choice of one byte, where the best segments of what comes after it have `after` bits.
+/// Returns the choice of one byte, where the best segments of what comes after it have `after` bits.
 fn short(version: Version, mode: Mode, after: usize) -> Choice
     requires { after < 2 ^ 20 }
     ensures { result ≡ short_choice version mode after }
@@ -116,7 +116,7 @@ fn short(version: Version, mode: Mode, after: usize) -> Choice
     }
 }
 
-/// A choice with one byte more at the front, which adds so many bits.
+/// Returns a choice with one byte more at the front, which adds `added` bits.
 fn longer(choice: &Choice, added: usize) -> Choice
     requires choice { IsSmall choice.now }
     requires some { 0 < added }
@@ -129,7 +129,8 @@ fn longer(choice: &Choice, added: usize) -> Choice
     }
 }
 
-/// The choice of fewer bits, of equally many the longer segment, and of equally long ones the first.
+/// Returns the choice of fewer bits, of equally many bits that of the longer segment, and of equally long ones the
+/// first.
 fn better(first: &Choice, second: &Choice) -> Choice
     ensures { result ≡ better_choice first.now second.now }
 {
@@ -140,8 +141,8 @@ fn better(first: &Choice, second: &Choice) -> Choice
     }
 }
 
-/// The choices in numeric mode of a byte and a rest, whose best segments have `after` bits. The second of three digits
-/// adds three bits, and so does the third.
+/// Returns the choices in numeric mode of a byte and a rest, whose best segments have `after` bits. The second of three
+/// digits adds three bits, and so does the third.
 #[tactic(auto, unfolding(crate::specs::Private::Table::next_digits))]
 fn with_digit(version: Version, byte: u8, rest: &Digits, after: usize) -> Digits
     requires rest { AreSmallDigits rest.now }
@@ -161,7 +162,7 @@ fn with_digit(version: Version, byte: u8, rest: &Digits, after: usize) -> Digits
     }
 }
 
-/// The choices in alphanumeric mode of a byte and a rest, whose best segments have `after` bits.
+/// Returns the choices in alphanumeric mode of a byte and a rest, whose best segments have `after` bits.
 #[tactic(auto, unfolding(crate::specs::Private::Table::next_characters))]
 fn with_character(version: Version, byte: u8, rest: &Characters, after: usize) -> Characters
     requires rest { AreSmallCharacters rest.now }
@@ -180,7 +181,7 @@ fn with_character(version: Version, byte: u8, rest: &Characters, after: usize) -
     }
 }
 
-/// The best of the choices in all modes.
+/// Returns the best of the choices in all modes.
 #[tactic(auto, unfolding(crate::specs::Private::Table::best_choice))]
 fn best_of(digits: &Digits, characters: &Characters, bytes: &Choice) -> Choice
     ensures { result ≡ best_choice digits.now characters.now bytes.now }
@@ -191,7 +192,7 @@ fn best_of(digits: &Digits, characters: &Characters, bytes: &Choice) -> Choice
     better(&better(&numeric, &alphanumeric), bytes)
 }
 
-/// The choices of a byte and a rest.
+/// Returns the choices of a byte and a rest.
 #[tactic(auto, unfolding(crate::specs::Private::Table::next_choices))]
 fn with_byte(version: Version, byte: u8, rest: &Choices) -> Choices
     requires { AreSmall rest.now }
@@ -210,7 +211,7 @@ fn with_byte(version: Version, byte: u8, rest: &Choices) -> Choices
     }
 }
 
-/// No choices in numeric mode.
+/// Returns absent choices in numeric mode.
 fn no_digits() -> Digits
     ensures { result ≡ absent_digits }
 {
@@ -221,7 +222,7 @@ fn no_digits() -> Digits
     }
 }
 
-/// No choices in alphanumeric mode.
+/// Returns absent choices in alphanumeric mode.
 fn no_characters() -> Characters
     ensures { result ≡ absent_characters }
 {
@@ -231,7 +232,7 @@ fn no_characters() -> Characters
     }
 }
 
-/// The choices of no bytes.
+/// Returns the choices of no bytes.
 fn without_bytes() -> Choices
     ensures { result ≡ no_choices }
 {
@@ -246,9 +247,9 @@ fn without_bytes() -> Choices
     }
 }
 
-/// Fills a table from its end: at each place stands the first of the best segments of the bytes from there on. The
-/// result is the bits of the best segments of all the bytes. The limits of the character counts are left out, for
-/// they bind no segments that fit. Its time grows with the number of bytes.
+/// Fills a table from its end: at each place is the first of the best segments of the bytes from there on. Returns the
+/// bits of the best segments of all the bytes. The limits of the character counts are left out, because no segments
+/// that fit reach them. The time grows with the number of bytes.
 pub(crate) fn fill(version: Version, bytes: &[u8], firsts: &mut [Segment]) -> usize
     requires few { length bytes.now ≤ MAX_BYTES }
     requires firsts { length firsts.old ≡ MAX_BYTES }

@@ -2,39 +2,38 @@
 ghost use Rattle.qrdata.specs.Versions.{IsVersion, block_count, block_lengths, data_codewords, ec_codewords_per_block};
 ghost use Rattle.qrdata.specs.Versions.{side_of};
 ghost use Rattle.qrdata.specs.Versions.{total_codewords};
-ghost use Rattle.std.specs.Prelude.{None, Some, ◌≡◌, ◌+◌, ◌*◌, ◌/◌, ◌<◌, ◌≤◌, ◌↔◌, ◌⊎◌, IfSome, IsNone, ℕ};
+ghost use Rattle.std.specs.Prelude.{◌≡◌, ◌<◌, ◌↔◌, ◌⊎◌, IfSome, IsNone, ℕ};
 
 use crate::blocks::{Lengths, push_lengths};
 use crate::level::Level;
-use arrayvec::ArrayVec;
 use std::marker::Model;
 
 /// The codewords of a symbol, data and error correction codewords. In each of these tables place 0 is version 1. They
 /// are proved to hold what `specs/Versions.antt` lists in the standard's notation.
 const TOTAL: [usize; 10] = [26, 44, 70, 100, 134, 172, 196, 242, 292, 346];
 
-/// The blocks of a symbol at level L.
+/// The number of blocks of a symbol at level L.
 const BLOCKS_L: [usize; 10] = [1, 1, 1, 1, 1, 2, 2, 2, 2, 4];
 
-/// The blocks of a symbol at level M.
+/// The number of blocks of a symbol at level M.
 const BLOCKS_M: [usize; 10] = [1, 1, 1, 2, 2, 4, 4, 4, 5, 5];
 
-/// The blocks of a symbol at level Q.
+/// The number of blocks of a symbol at level Q.
 const BLOCKS_Q: [usize; 10] = [1, 1, 2, 2, 4, 4, 6, 6, 8, 8];
 
-/// The blocks of a symbol at level H.
+/// The number of blocks of a symbol at level H.
 const BLOCKS_H: [usize; 10] = [1, 1, 2, 4, 4, 4, 5, 6, 8, 8];
 
-/// The error correction codewords of each block at level L.
+/// The number of error correction codewords of each block at level L.
 const EC_CODEWORDS_L: [usize; 10] = [7, 10, 15, 20, 26, 18, 20, 24, 30, 18];
 
-/// The error correction codewords of each block at level M.
+/// The number of error correction codewords of each block at level M.
 const EC_CODEWORDS_M: [usize; 10] = [10, 16, 26, 18, 24, 16, 18, 22, 22, 26];
 
-/// The error correction codewords of each block at level Q.
+/// The number of error correction codewords of each block at level Q.
 const EC_CODEWORDS_Q: [usize; 10] = [13, 22, 18, 26, 18, 24, 18, 22, 20, 24];
 
-/// The error correction codewords of each block at level H.
+/// The number of error correction codewords of each block at level H.
 const EC_CODEWORDS_H: [usize; 10] = [17, 28, 22, 16, 22, 28, 26, 26, 24, 28];
 
 /// A version of a symbol, 1 to 10. Clauses see it as that number.
@@ -54,7 +53,7 @@ impl Model for Version {
 }
 
 impl Version {
-    /// The version of a number. There is none outside 1 to 10.
+    /// Returns the version of a number, or `None` outside 1 to 10.
     pub fn new(number: u8) -> Option<Version>
         ensures some { IfSome result (λ version. version ≡ number) }
         ensures none { IsNone result ↔ ((number < 1) ⊎ (10 < number)) }
@@ -66,7 +65,7 @@ impl Version {
         }
     }
 
-    /// The version of a number that is known to be one, 1 to 10.
+    /// Returns the version of a number that is known to be one, 1 to 10.
     pub fn of(number: u8) -> Version
         requires { IsVersion number }
         ensures { result ≡ number }
@@ -74,14 +73,14 @@ impl Version {
         Version { number }
     }
 
-    /// Whatever the version, it is one of 1 to 10. It does nothing when it runs.
+    /// States that a version is one of 1 to 10. It does nothing when it runs.
     pub fn known(self)
         ensures { IsVersion self }
     {
         let _ = &self.number;
     }
 
-    /// The number of the version.
+    /// Returns the number of the version, 1 to 10.
     pub fn number(self) -> u8
         ensures value { result ≡ self }
         ensures known { IsVersion self }
@@ -89,7 +88,7 @@ impl Version {
         self.number
     }
 
-    /// The modules of a side, without the quiet zone.
+    /// Returns the number of modules on a side, 21 to 57, without the quiet zone.
     pub fn side(self) -> usize
         ensures value { result ≡ side_of self }
         ensures known { IsVersion self }
@@ -97,14 +96,14 @@ impl Version {
         17 + 4 * usize::from(self.number)
     }
 
-    /// The codewords of a symbol, data and error correction codewords.
+    /// Returns the number of codewords of a symbol: data and error correction codewords.
     pub fn total_codewords(self) -> usize
         ensures { result ≡ total_codewords self }
     {
         TOTAL[usize::from(self.number) - 1]
     }
 
-    /// The data codewords of a symbol at a level, of all its blocks.
+    /// Returns the number of data codewords of a symbol at a level, those of all its blocks.
     pub fn data_codewords(self, level: Level) -> usize
         ensures { result ≡ data_codewords self level }
     {
@@ -112,7 +111,7 @@ impl Version {
         self.total_codewords() - self.block_count(level) * self.ec_codewords_per_block(level)
     }
 
-    /// The blocks of a symbol at a level.
+    /// Returns the number of blocks of a symbol at a level.
     pub(crate) fn block_count(self, level: Level) -> usize
         ensures { result ≡ block_count self level }
     {
@@ -125,7 +124,7 @@ impl Version {
         }
     }
 
-    /// The error correction codewords of each block at a level.
+    /// Returns the number of error correction codewords of each block at a level.
     pub(crate) fn ec_codewords_per_block(self, level: Level) -> usize
         ensures { result ≡ ec_codewords_per_block self level }
     {
@@ -138,7 +137,7 @@ impl Version {
         }
     }
 
-    /// The data codewords of each block at a level, the short blocks first.
+    /// Returns the number of data codewords of each block at a level, the short blocks first.
     pub(crate) fn lengths(self, level: Level) -> Lengths
         ensures { result.items ≡ block_lengths self level }
     {

@@ -1,5 +1,5 @@
 //! The format information and the version information as numbers.
-ghost use Rattle.std.specs.Prelude.{◌≡◌, ◌+◌, ◌*◌, ◌^◌, ◌<◌, ◌≤◌};
+ghost use Rattle.std.specs.Prelude.{◌≡◌, ◌+◌, ◌^◌, ◌<◌, ◌≤◌};
 ghost use Rattle.gf256.specs.BinaryPolynomial.{binary_remainder};
 ghost use Rattle.qrmatrix.specs.Information;
 ghost use Rattle.qrmatrix.specs.StandardLists.{AgreesWithLists};

@@ -1,7 +1,7 @@
 //! The placement of the codewords: a cursor goes along the strips and counts the free modules, both modules of a
 //! strip's row at once where both are free.
-ghost use Rattle.std.specs.Prelude.{◌≡◌, ℕ, ◌+◌, ◌-◌, ◌*◌, ◌/◌, ◌%◌, ◌^◌, ◌<◌, ◌≤◌, Bool, true, false, not, ◌&&◌, ◌==◌};
-ghost use Rattle.std.specs.Prelude.{if◌then◌else◌, IsTrue, IsFalse, nat_lt, List, length};
+ghost use Rattle.std.specs.Prelude.{◌≡◌, ℕ, ◌+◌, ◌*◌, ◌^◌, ◌<◌, true, false};
+ghost use Rattle.std.specs.Prelude.{IsTrue, IsFalse, List, length};
 ghost use Rattle.qrdata.specs.Versions.{side_of};
 ghost use Rattle.qrmatrix.specs.Functions.{is_free};
 ghost use Rattle.qrmatrix.specs.Placement;

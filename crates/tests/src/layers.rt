@@ -1,12 +1,13 @@
 //! Worked rows, the standards' listings, plain slow forms, devices that fail: the layers below the filter.
 mod bars;
+mod buffered_bytes;
 mod codewords;
 mod field;
-mod buffered_bytes;
+mod limits;
 mod lines;
 mod pictures;
 mod segments;
 mod streams;
-mod support;
+pub mod support;
 mod symbols;
 mod versions;

@@ -1,10 +1,17 @@
-//! All tests, by public calls alone: of the layers below the filter (`layers`), of runs (`runs`) and of the command's
-//! words (`words`). They stand apart, so that a crate is proved without reading what tests read.
+//! All tests, by public calls alone: of the layers below the filter (`layers`), of runs (`runs`), of the calls that
+//! reach devices (`calls`), of the command's arguments (`arguments`), of the names of files (`names`) and by facts of other
+//! projects (`vectors`). They are in a crate of their own, so that a crate is proved without reading what tests read.
 #![tactic(auto)]
 
 #[cfg(test)]
+mod arguments;
+#[cfg(test)]
+mod calls;
+#[cfg(test)]
 mod layers;
+#[cfg(test)]
+mod names;
 #[cfg(test)]
 mod runs;
 #[cfg(test)]
-mod words;
+mod vectors;

@@ -1,8 +1,10 @@
 //! Worked labels, devices, hostile use: the filter as a whole.
+mod buffered_output;
 mod device_rows;
-mod held_output;
+mod entry_points;
 mod hostile;
 mod linear_rows;
 mod qr_rows;
 mod streams;
 pub mod support;
+mod zint_sums;

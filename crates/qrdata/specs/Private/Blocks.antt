@@ -1,10 +1,10 @@
 -- The blocks of a message on their way into a symbol (ISO/IEC 18004, 7.5 and 7.6).
-use Rattle.std.specs.Prelude.{◌≡◌, ◌≤◌, ◌<◌, ◌+◌, ◌*◌, ℕ, List, length, map, replicate, sum}
+use Rattle.std.specs.Prelude.{◌≡◌, ◌≤◌, ◌+◌, ◌*◌, ℕ, List, length, map, replicate, sum}
 use Rattle.std.specs.List.{flat_map}
 use Rattle.gf256.specs.ErrorCorrection.{ec_codewords_of}
 use Rattle.qrdata.specs.declared.level.Level.{Level}
 use Rattle.qrdata.specs.Codewords.{split_by}
-use Rattle.qrdata.specs.Versions.{block_count, block_lengths, ec_codewords_per_block, total_codewords}
+use Rattle.qrdata.specs.Versions.{block_count, block_lengths, ec_codewords_per_block}
 
 -- the message is cut into blocks, some and few, which have error correction codewords, some and few, and with these
 -- fill a symbol

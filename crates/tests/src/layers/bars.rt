@@ -1,12 +1,12 @@
 //! Worked rows, and each public call once.
 mod listings;
+mod thresholds;
 
-use labelcore::Fault;
-use linear::{Code128, Ean8, Ean13, Linear, Row, UpcA, switching_law, table_laws};
+use linear::{Code128, Ean8, Ean13, Linear, QuietZones, Refusal, Row, UpcA, coding_laws};
 use std::process::Abort;
 
 /// What a symbology answers to data that it is to draw over an old row, and the row.
-fn encoded<L: Linear>(rt: &impl Abort, data: &[u8]) -> (Result<(), Fault>, Row) {
+fn encoded<L: Linear>(rt: &impl Abort, data: &[u8]) -> (Result<(), Refusal>, Row) {
     assert!(rt; !data.is_empty());
     let mut row = Row::new();
     row.push(true);
@@ -53,7 +53,7 @@ fn assert_widths(rt: &impl Abort, rows: &[(&[u8], &[u8])]) {
 }
 
 /// Each data is refused, and the row is empty.
-fn assert_refused<L: Linear>(rt: &impl Abort, rows: &[(&[u8], Fault)]) {
+fn assert_refused<L: Linear>(rt: &impl Abort, rows: &[(&[u8], Refusal)]) {
     for (data, want) in rows {
         let (answer, row) = encoded::<L>(rt, data);
         assert!(rt; answer == Err(*want));
@@ -123,43 +123,48 @@ fn rows_are_drawn(rt: HostRuntime) {
 }
 
 /// Data that EAN-8 refuses.
-const EAN8_REFUSALS: &[(&[u8], Fault)] = &[
-    (b"73513530", Fault::WrongCheckDigit { given: 0, right: 7 }),
-    (b"73x1353", Fault::NotADigit(3)),
-    (b"7351353\r", Fault::NotADigit(8)),
-    (b"7\\x", Fault::NotADigit(2)),
+const EAN8_REFUSALS: &[(&[u8], Refusal)] = &[
+    (b"73513530", Refusal::WrongCheckDigit { given: 0, right: 7 }),
+    (b"73x1353", Refusal::NotADigit(3)),
+    (b"7351353\r", Refusal::NotADigit(8)),
+    (b"7\\x", Refusal::NotADigit(2)),
 ];
 
 /// Data that EAN-13 refuses.
-const EAN13_REFUSALS: &[(&[u8], Fault)] = &[
+const EAN13_REFUSALS: &[(&[u8], Refusal)] = &[
     (
         b"4006381333932",
-        Fault::WrongCheckDigit { given: 2, right: 1 },
+        Refusal::WrongCheckDigit { given: 2, right: 1 },
     ),
-    (b"123", Fault::WrongNumberOfDigits(3)),
+    (b"123", Refusal::WrongNumberOfDigits(3)),
 ];
 
 /// Data that Code 128 refuses.
-const CODE128_REFUSALS: &[(&[u8], Fault)] = &[
-    (b"\xC3\xA9", Fault::NotAscii(1)),
-    (&[b'a'; 81], Fault::DataTooLong),
-    (&[0xC3; 81], Fault::DataTooLong),
+const CODE128_REFUSALS: &[(&[u8], Refusal)] = &[
+    (b"\xC3\xA9", Refusal::NotAscii(1)),
+    (&[b'a'; 81], Refusal::DataTooLong),
+    (&[0xC3; 81], Refusal::DataTooLong),
 ];
 
 #[test]
 fn data_is_refused(rt: HostRuntime) {
     assert_refused::<Ean8>(&rt, EAN8_REFUSALS);
     assert_refused::<Ean13>(&rt, EAN13_REFUSALS);
-    assert_refused::<UpcA>(&rt, &[(b"12345", Fault::WrongNumberOfDigits(5))]);
+    assert_refused::<UpcA>(&rt, &[(b"12345", Refusal::WrongNumberOfDigits(5))]);
     assert_refused::<Code128>(&rt, CODE128_REFUSALS);
 }
 
 #[test]
 fn quiet_zones_and_laws(rt: HostRuntime) {
-    assert!(rt; Ean8::QUIET_LEFT == 7 && Ean8::QUIET_RIGHT == 7);
-    assert!(rt; Ean13::QUIET_LEFT == 11 && Ean13::QUIET_RIGHT == 7);
-    assert!(rt; UpcA::QUIET_LEFT == 9 && UpcA::QUIET_RIGHT == 9);
-    assert!(rt; Code128::QUIET_LEFT == 10 && Code128::QUIET_RIGHT == 10);
-    table_laws();
-    switching_law();
+    assert!(rt; Ean8::QUIET_ZONES == QuietZones { left: 7, right: 7 });
+    assert!(rt; Ean13::QUIET_ZONES == QuietZones { left: 11, right: 7 });
+    assert!(rt; UpcA::QUIET_ZONES == QuietZones { left: 9, right: 9 });
+    assert!(rt;
+        Code128::QUIET_ZONES
+            == QuietZones {
+                left: 10,
+                right: 10
+            }
+    );
+    coding_laws();
 }

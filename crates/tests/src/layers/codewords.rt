@@ -1,28 +1,19 @@
 //! Known symbols, and the shortest lists of segments found by listing them all.
-ghost use Rattle.qrdata.specs.Segments.{IsSegmentation, cost};
-ghost use Rattle.qrdata.specs.Versions.{capacity};
-ghost use Rattle.std.specs.Prelude.{◌≤◌};
-
-use crate::layers::support::qr_options;
-use labelcore::Fault;
-use qrdata::Level;
-use qrdata::{Mode, Plan, Segment, Version, Codewords, choose, codewords};
+use crate::layers::support::version;
+use qrdata::{Codewords, DoesNotFit, Level, Mode, Plan, Segment, Version, choose, codewords};
 use std::process::Abort;
 
-fn planned(rt: &impl Abort, level: Level, min_version: u8, data: &[u8]) -> Plan
-    ensures cut { IsSegmentation result.version result.segments «data».now }
-    ensures fits { cost result.version result.segments ≤ capacity result.version result.level }
-{
-    match choose(&qr_options(rt, level, min_version), data) {
+fn planned<'a>(rt: &impl Abort, level: Level, min_version: u8, data: &'a [u8]) -> Plan<'a> {
+    match choose(version(rt, min_version), level, data) {
         Ok(plan) => plan,
         Err(_) => panic!(rt; "data does not fit"),
     }
 }
 
 fn expect_refused(rt: &impl Abort, level: Level, data: &[u8]) {
-    match choose(&qr_options(rt, level, 1), data) {
+    match choose(version(rt, 1), level, data) {
         Ok(_) => panic!(rt; "data fits"),
-        Err(fault) => assert!(rt; fault == Fault::DoesNotFit(level)),
+        Err(refusal) => assert!(rt; refusal == DoesNotFit { level }),
     }
 }
 
@@ -31,18 +22,14 @@ fn expect_version(rt: &impl Abort, plan: &Plan, number: u8, bits: u32) {
     assert!(rt; plan.bits() == bits);
 }
 
-fn words_of(plan: &Plan, data: &[u8]) -> Codewords
-    requires cut { IsSegmentation plan.now.version plan.now.segments «data».now }
-    requires fits { cost plan.now.version plan.now.segments
-        ≤ capacity plan.now.version plan.now.level }
-{
-    let mut words = Codewords::new();
-    words.push(7);
-    codewords(plan, data, &mut words);
-    words
+fn codewords_of(plan: &Plan) -> Codewords {
+    let mut written = Codewords::new();
+    written.push(7);
+    codewords(plan, &mut written);
+    written
 }
 
-fn expect_words(rt: &impl Abort, words: &Codewords, from: usize, expected: &[u8]) {
+fn expect_codewords(rt: &impl Abort, words: &Codewords, from: usize, expected: &[u8]) {
     let all = words.as_slice();
     assert!(rt; from <= all.len());
     assert!(rt; all[from..].starts_with(expected));
@@ -66,11 +53,11 @@ const SIZES: [(u8, usize, usize, [usize; 4]); 10] = [
     (10, 57, 346, [274, 216, 154, 122]),
 ];
 
-fn expect_data_words(rt: &impl Abort, version: Version, data: &[usize; 4]) {
-    assert!(rt; version.data_words(Level::L) == data[0]);
-    assert!(rt; version.data_words(Level::M) == data[1]);
-    assert!(rt; version.data_words(Level::Q) == data[2]);
-    assert!(rt; version.data_words(Level::H) == data[3]);
+fn expect_data_codewords(rt: &impl Abort, version: Version, data: &[usize; 4]) {
+    assert!(rt; version.data_codewords(Level::L) == data[0]);
+    assert!(rt; version.data_codewords(Level::M) == data[1]);
+    assert!(rt; version.data_codewords(Level::Q) == data[2]);
+    assert!(rt; version.data_codewords(Level::H) == data[3]);
 }
 
 #[test]
@@ -83,8 +70,8 @@ fn sizes(rt: HostRuntime) {
         };
         assert!(rt; version.number() == number);
         assert!(rt; version.side() == side);
-        assert!(rt; version.total_words() == total);
-        expect_data_words(&rt, version, &data);
+        assert!(rt; version.total_codewords() == total);
+        expect_data_codewords(&rt, version, &data);
     }
 }
 
@@ -197,9 +184,9 @@ fn known_symbols(rt: HostRuntime) {
         let plan = planned(&rt, *level, 1, data);
         expect_version(&rt, &plan, 1, *bits);
         expect_segments(&rt, &plan, segments);
-        let words = words_of(&plan, data);
+        let words = codewords_of(&plan);
         assert!(rt; words.len() == 26);
-        expect_words(&rt, &words, 0, front);
+        expect_codewords(&rt, &words, 0, front);
     }
 }
 
@@ -208,9 +195,9 @@ fn terminator_of_one_bit(rt: HostRuntime) {
     let data = [b'1'; 42];
     let plan = planned(&rt, Level::L, 1, &data[..41]);
     expect_version(&rt, &plan, 1, 151);
-    let words = words_of(&plan, &data[..41]);
-    expect_words(&rt, &words, 0, &[0x10, 0xA4, 0x6F]);
-    expect_words(&rt, &words, 18, &[0x16]);
+    let words = codewords_of(&plan);
+    expect_codewords(&rt, &words, 0, &[0x10, 0xA4, 0x6F]);
+    expect_codewords(&rt, &words, 18, &[0x16]);
     let longer = planned(&rt, Level::L, 1, &data);
     assert!(rt; longer.version().number() == 2);
 }
@@ -220,16 +207,16 @@ fn terminator_of_four_bits(rt: HostRuntime) {
     let data = [b'a'; 18];
     let plan = planned(&rt, Level::L, 1, &data[..17]);
     expect_version(&rt, &plan, 1, 148);
-    let words = words_of(&plan, &data[..17]);
-    expect_words(&rt, &words, 0, &[0x41]);
-    expect_words(&rt, &words, 1, &[0x16; 17]);
-    expect_words(&rt, &words, 18, &[0x10]);
+    let words = codewords_of(&plan);
+    expect_codewords(&rt, &words, 0, &[0x41]);
+    expect_codewords(&rt, &words, 1, &[0x16; 17]);
+    expect_codewords(&rt, &words, 18, &[0x10]);
     let longer = planned(&rt, Level::L, 1, &data);
     assert!(rt; longer.version().number() == 2);
-    let words = words_of(&longer, &data);
-    expect_words(&rt, &words, 0, &[0x41, 0x26]);
-    expect_words(&rt, &words, 2, &[0x16; 17]);
-    expect_words(
+    let words = codewords_of(&longer);
+    expect_codewords(&rt, &words, 0, &[0x41, 0x26]);
+    expect_codewords(&rt, &words, 2, &[0x16; 17]);
+    expect_codewords(
         &rt,
         &words,
         19,
@@ -249,7 +236,7 @@ fn longest_data(rt: HostRuntime) {
     let digits = [b'1'; 653];
     let plan = planned(&rt, Level::L, 1, &digits[..652]);
     expect_version(&rt, &plan, 10, 2190);
-    assert!(rt; words_of(&plan, &digits[..652]).len() == 346);
+    assert!(rt; codewords_of(&plan).len() == 346);
     expect_refused(&rt, Level::L, &digits);
     let mut mixed = [b'1'; 646];
     mixed[0] = b'a';
@@ -265,15 +252,15 @@ fn uneven_blocks(rt: HostRuntime) {
     assert!(rt; plan.version().number() == 5);
     assert!(rt; plan.level() == Level::Q);
     assert!(rt; planned(&rt, Level::Q, 1, &data).version().number() == 3);
-    let words = words_of(&plan, &data);
+    let words = codewords_of(&plan);
     assert!(rt; words.len() == 62 + 72);
-    expect_words(
+    expect_codewords(
         &rt,
         &words,
         0,
         &[0x41, 0x16, 0x16, 0xEC, 0xE6, 0x16, 0x10, 0x11],
     );
-    expect_words(&rt, &words, 56, &[0x16, 0x16, 0xEC, 0xEC, 0x11, 0x11]);
+    expect_codewords(&rt, &words, 56, &[0x16, 0x16, 0xEC, 0xEC, 0x11, 0x11]);
 }
 
 /// The data words of four blocks of 15, 15, 16 and 16 in turn, where the word at each place is the place itself, but for
@@ -299,9 +286,9 @@ fn interleaving_order(rt: HostRuntime) {
             len: 60,
         }],
     );
-    let words = words_of(&plan, &data);
+    let words = codewords_of(&plan);
     assert!(rt; words.len() == 62 + 72);
-    expect_words(&rt, &words, 0, &IN_TURN);
+    expect_codewords(&rt, &words, 0, &IN_TURN);
 }
 
 /// The bits of a list of segments in versions 1 to 9. The data is cut after each byte whose bit in `cuts` is set, and
@@ -388,12 +375,12 @@ fn values_of_characters(rt: HostRuntime) {
         };
         // The pair of an `A` and the byte, whose values make a number of 11 bits, or two bytes.
         let data = [b'A', byte];
-        let words = words_of(&planned(&rt, Level::L, 1, &data), &data);
+        let words = codewords_of(&planned(&rt, Level::L, 1, &data));
         if value == 45 {
-            expect_words(&rt, &words, 0, &[0x40, 0x24]);
+            expect_codewords(&rt, &words, 0, &[0x40, 0x24]);
         } else {
             let pair = 450 + u16::from(value);
-            expect_words(
+            expect_codewords(
                 &rt,
                 &words,
                 0,

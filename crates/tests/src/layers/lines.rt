@@ -1,7 +1,10 @@
 //! Worked rows, and each public call once.
 use crate::layers::support::{flushes, gives, gives_none, takes, takes_some};
 use device::{FailAt, MemSink, MemSource};
-use labelcore::{Fault, Format, Item, LineBuf, Options, Scratch, Symbology, first_bad_settings, items_of_lines, lines_of_texts, parse, units_of_data, write_fault};
+use labelcore::{
+    Fault, Format, Item, LineBuf, Options, Scratch, Symbology, first_bad_settings, items_of_lines,
+    lines_of_texts, parse, units_of_data, write_fault,
+};
 use qrdata::Level;
 use std::process::Abort;
 
@@ -97,7 +100,10 @@ fn lines_are_skipped_or_too_long(rt: HostRuntime) {
         (LineBuf::new(), Item::Skipped),
         (long_line(b'#', 2000), Item::Skipped),
         (long_line(b'a', 1100), Item::Refused(Fault::LineTooLong)),
-        (long_line(b'a', 1099), Item::Refused(Fault::UnknownSymbology)),
+        (
+            long_line(b'a', 1099),
+            Item::Refused(Fault::UnknownSymbology),
+        ),
     ] {
         let mut scratch = Scratch::new();
         assert!(rt; parse(&options, &line, &mut scratch) == want);

@@ -2,10 +2,7 @@
 mod widths;
 
 use device::{MemSink, write_whole};
-use picture::{
-    Bars, Framed, Grid, Scaled, files_of_texts, modules_of_pixels, pixels_of_texts, write_ascii,
-    write_pbm,
-};
+use picture::{Bars, Framed, Grid, QuietZone, Scaled, reading_laws, write_ascii, write_pbm};
 use std::process::Abort;
 
 /// The modules of the symbol of `ean8 7351353`.
@@ -15,6 +12,30 @@ const EAN8_MODULES: &[u8; 67] =
 /// Its plain PBM file, one module high: a line of 70 and a line of 11.
 const EAN8_PBM: &[u8; 91] =
     b"P1\n81 1\n0000000101011101101111010110001001100101010100001010011101000010100010\n01010000000\n";
+
+/// The quiet zone of EAN-8.
+const EAN8_ZONE: QuietZone = QuietZone {
+    left: 7,
+    right: 7,
+    top: 0,
+    bottom: 0,
+};
+
+/// The quiet zone of Code 128.
+const CODE128_ZONE: QuietZone = QuietZone {
+    left: 10,
+    right: 10,
+    top: 0,
+    bottom: 0,
+};
+
+/// A quiet zone whose widths all differ.
+const UNEVEN: QuietZone = QuietZone {
+    left: 4,
+    right: 1,
+    top: 0,
+    bottom: 2,
+};
 
 /// The modules of a text of `0` and `1`.
 fn modules_of(text: &[u8; 67]) -> [bool; 67] {
@@ -76,7 +97,7 @@ fn bars_are_asked(rt: HostRuntime) {
     assert!(rt; is_sized(&bars, 2, 3));
     assert!(rt; has_pixel(&bars, 0, 2, true));
     assert!(rt; has_pixel(&bars, 1, 2, false));
-    let framed = Framed::new(bars, 4, 1, 0, 2);
+    let framed = Framed::new(bars, UNEVEN);
     assert!(rt; is_sized(&framed, 7, 5));
     for (x, y, dark) in FRAMED_PIXELS {
         assert!(rt; has_pixel(&framed, *x, *y, *dark));
@@ -86,7 +107,7 @@ fn bars_are_asked(rt: HostRuntime) {
 #[test]
 fn larger_pixels_are_asked(rt: HostRuntime) {
     let row = [true, false];
-    let scaled = Scaled::new(Framed::new(Bars::new(&row, 3), 4, 1, 0, 2), 2);
+    let scaled = Scaled::new(Framed::new(Bars::new(&row, 3), UNEVEN), 2);
     assert!(rt; is_sized(&scaled, 14, 10));
     for (x, y, dark) in LARGER_PIXELS {
         assert!(rt; has_pixel(&scaled, *x, *y, *dark));
@@ -103,15 +124,13 @@ fn larger_pixels_are_asked(rt: HostRuntime) {
 
 #[test]
 fn laws() {
-    files_of_texts();
-    pixels_of_texts();
-    modules_of_pixels();
+    reading_laws();
 }
 
 #[test]
 fn pbm_of_a_row(rt: HostRuntime) {
     let modules = modules_of(EAN8_MODULES);
-    let grid = Framed::new(Bars::new(&modules, 1), 7, 7, 0, 0);
+    let grid = Framed::new(Bars::new(&modules, 1), EAN8_ZONE);
     let mut sink = MemSink::<91>::new(7, 91);
     assert!(rt; write_pbm(&grid, &mut sink).is_ok());
     assert!(rt; sink.bytes() == EAN8_PBM.as_slice());
@@ -122,7 +141,7 @@ fn pbm_of_a_row(rt: HostRuntime) {
 fn pbm_of_a_failing_sink(rt: HostRuntime) {
     let modules = modules_of(EAN8_MODULES);
     for limit in 0..91 {
-        let grid = Framed::new(Bars::new(&modules, 1), 7, 7, 0, 0);
+        let grid = Framed::new(Bars::new(&modules, 1), EAN8_ZONE);
         let mut sink = MemSink::<91>::new(4096, limit);
         assert!(rt; write_pbm(&grid, &mut sink).is_err());
         assert!(rt; EAN8_PBM.starts_with(sink.bytes()));
@@ -153,7 +172,7 @@ fn full_lines(rt: &impl Abort) -> MemSink<5476> {
 #[test]
 fn pbm_of_full_lines(rt: HostRuntime) {
     let modules = [true; 90];
-    let framed = Framed::new(Bars::new(&modules, 1), 10, 10, 0, 0);
+    let framed = Framed::new(Bars::new(&modules, 1), CODE128_ZONE);
     let mut sink = MemSink::<5476>::new(4096, 5476);
     assert!(rt; write_pbm(&Scaled::new(framed, 7), &mut sink).is_ok());
     assert!(rt; sink.bytes().len() == 5476);
@@ -163,7 +182,7 @@ fn pbm_of_full_lines(rt: HostRuntime) {
 #[test]
 fn ascii_of_a_row(rt: HostRuntime) {
     let modules = modules_of(EAN8_MODULES);
-    let grid = Framed::new(Bars::new(&modules, 1), 7, 7, 0, 0);
+    let grid = Framed::new(Bars::new(&modules, 1), EAN8_ZONE);
     let mut sink = MemSink::<164>::new(3, 164);
     assert!(rt; write_ascii(&grid, &mut sink).is_ok());
     assert!(rt; sink.bytes().len() == 164);
@@ -186,7 +205,7 @@ fn is_line(line: &[u8]) -> bool {
 #[test]
 fn ascii_of_large_pixels(rt: HostRuntime) {
     let modules = modules_of(EAN8_MODULES);
-    let framed = Framed::new(Bars::new(&modules, 1), 7, 7, 0, 0);
+    let framed = Framed::new(Bars::new(&modules, 1), EAN8_ZONE);
     let mut sink = MemSink::<10377>::new(4096, 10377);
     assert!(rt; write_ascii(&Scaled::new(framed, 8), &mut sink).is_ok());
     assert!(rt; sink.bytes().len() == 10377);

@@ -2,9 +2,8 @@
 //! counts.
 ghost use Rattle.std.specs.Prelude.{length, ◌≤◌, ◌<◌};
 
-use crate::layers::support::qr_options;
-use qrdata::Level;
-use qrdata::{Mode, Plan, Segment, Version, choose};
+use crate::layers::support::version;
+use qrdata::{Level, Mode, Plan, Segment, Version, choose};
 use std::process::Abort;
 
 /// A first segment of a rest of the data, and the bits of the list that it begins.
@@ -150,7 +149,7 @@ fn slow_version(
             long[0].bits
         };
         if let Some(version) = Version::new(number) {
-            if bits <= version.data_words(level).saturating_mul(8) {
+            if bits <= version.data_codewords(level).saturating_mul(8) {
                 return Some(version);
             }
         }
@@ -182,7 +181,7 @@ fn expect_same(rt: &impl Abort, data: &[u8]) {
     for level in [Level::L, Level::M, Level::Q, Level::H] {
         for lowest in [1, 9, 10] {
             match (
-                choose(&qr_options(rt, level, lowest), data),
+                choose(version(rt, lowest), level, data),
                 slow_version(lowest, level, &short, &long),
             ) {
                 (Ok(plan), Some(version)) => {

@@ -1,5 +1,5 @@
 //! What no clause says of the devices over std: which calls reach the reader and the writer.
-use crate::layers::support::{flushes, gives, sends_on, takes, takes_some};
+use crate::layers::support::{flushes, gives, passes_on, takes, takes_some};
 use device::{StdSink, StdSource};
 use std::cell::Cell;
 use std::io::{self, ErrorKind, Read, Write};
@@ -55,7 +55,7 @@ fn a_write_flushes_nothing_and_a_flush_writes_nothing(rt: HostRuntime) {
     assert!(rt; takes_some(&mut sink, b"ab", 2));
     assert!(rt; takes_some(&mut sink, b"c", 1));
     assert!(rt; write_count.get() == 2 && flush_count.get() == 0);
-    assert!(rt; sends_on(&mut sink));
+    assert!(rt; passes_on(&mut sink));
     assert!(rt; write_count.get() == 2 && flush_count.get() == 0);
     assert!(rt; flushes(&mut sink));
     assert!(rt; write_count.get() == 2 && flush_count.get() == 1);

@@ -1,14 +1,16 @@
-//! What the tests share: options of QR symbols, and one call of a device each, with whether it answers as it should.
+//! What the tests share: versions of QR symbols, and one call of a device each, with whether it answers as it should.
 use device::{Sink, Source, write_whole};
-use labelcore::{Format, Options};
-use qrdata::Level;
+use qrdata::Version;
 use std::process::Abort;
 
-/// The defaults but for the level and the least version.
-pub fn qr_options(rt: &impl Abort, level: Level, min_version: u8) -> Options {
-    match Options::new(Format::Pbm, 1, 50, level, min_version, None, false) {
-        Some(options) => options,
-        None => panic!(rt; "an option is out of its range"),
+/// The most bytes that are buffered before a sink.
+pub const MOST_BUFFERED: usize = 32_768;
+
+/// The version of a number from 1 to 10.
+pub fn version(rt: &impl Abort, number: u8) -> Version {
+    match Version::new(number) {
+        Some(version) => version,
+        None => panic!(rt; "there is no such version"),
     }
 }
 
@@ -38,8 +40,8 @@ pub fn flushes(sink: &mut impl Sink) -> bool {
     sink.flush().is_ok()
 }
 
-/// Whether sending on succeeds; it fails if not.
-pub fn sends_on(sink: &mut impl Sink) -> bool {
+/// Whether passing on succeeds; it fails if not.
+pub fn passes_on(sink: &mut impl Sink) -> bool {
     sink.pass_on().is_ok()
 }
 

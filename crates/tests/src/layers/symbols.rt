@@ -1,13 +1,12 @@
 //! The worked example of the standard, and every symbol against the slow form.
-ghost use Rattle.std.specs.Prelude.{◌≡◌, ◌<◌, ◌≤◌, ◌+◌, ◌*◌, IfSome, length};
-ghost use Rattle.qrdata.specs.Versions.{side_of, total_codewords};
+ghost use Rattle.std.specs.Prelude.{◌≡◌, ◌<◌, IfSome, length};
+ghost use Rattle.qrdata.specs.Versions.{total_codewords};
 
 mod slow;
 
 use arrayvec::ArrayVec;
-use qrdata::Level;
-use qrdata::{Version, Codewords};
-use qrmatrix::{Matrix, information_laws};
+use qrdata::{Codewords, Level, Version};
+use qrmatrix::{Matrix, symbol_laws};
 
 /// The codewords of the digits 01234567 in version 1 at level M (ISO/IEC 18004, Annex I).
 const CODEWORDS: [u8; 26] = [
@@ -53,7 +52,7 @@ fn example(mask: Option<u8>) -> Option<Matrix>
         let _ = words.try_push(word);
     }
     let version = Version::new(1)?;
-    if words.len() == version.total_words() {
+    if words.len() == version.total_codewords() {
         Some(Matrix::draw(version, Level::M, mask, &words))
     } else {
         None
@@ -62,7 +61,7 @@ fn example(mask: Option<u8>) -> Option<Matrix>
 
 #[test]
 fn draws_the_worked_example(rt: HostRuntime) {
-    information_laws();
+    symbol_laws();
     let matrix = example(Some(2)).expect(&rt, "26 codewords");
     assert!(rt; matrix.side() == 21);
     assert!(rt; matrix.mask() == 2);
@@ -143,8 +142,8 @@ fn agrees(version: Version, level: Level, mask: Option<u8>, words: &Codewords) -
 /// Whether the symbols of a version and a level agree, with no mask given and with each.
 fn all_agree(version: Version, level: Level) -> bool {
     for filling in [Filling::Zeros, Filling::Ones, Filling::Places] {
-        let words = filling.words(version.total_words());
-        if words.len() != version.total_words() || !agrees(version, level, None, &words) {
+        let words = filling.words(version.total_codewords());
+        if words.len() != version.total_codewords() || !agrees(version, level, None, &words) {
             return false;
         }
         for mask in 0..8 {

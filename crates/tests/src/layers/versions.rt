@@ -1,7 +1,6 @@
 //! How much data each version holds, beside the listing of the standard (ISO/IEC 18004, table 7).
-use crate::layers::support::qr_options;
-use qrdata::Level;
-use qrdata::choose;
+use crate::layers::support::version;
+use qrdata::{Level, choose};
 use std::process::Abort;
 
 /// The most digits at the levels L, M, Q and H, from version 1 on.
@@ -48,7 +47,7 @@ const BYTES: [[usize; 4]; 10] = [
 
 /// The number of the version that data gets, and 11 where it is refused.
 fn version_of(rt: &impl Abort, level: Level, text: &[u8]) -> usize {
-    match choose(&qr_options(rt, level, 1), text) {
+    match choose(version(rt, 1), level, text) {
         Ok(plan) => usize::from(plan.version().number()),
         Err(_) => 11,
     }

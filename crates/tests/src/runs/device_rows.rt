@@ -2,8 +2,8 @@
 use crate::runs::support::{
     DEFAULT, EAN8, Named, answer_of, answer_to, feed_piece, finish, joined, low,
 };
-use filter::{Filter, RunFault, Status};
 use device::{MemSink, MemSource, Sink, StdSink, StdSource};
+use filter::{Filter, RunFault, Status};
 use labelcore::Options;
 use std::process::Abort;
 use std::test::Fail;

@@ -3,8 +3,8 @@ use crate::runs::support::{
     EAN8, REFUSALS, TOO_LONG, answer_of, answer_to, assert_came_to, first_lines, joined, line_ends,
     long_lines, low, rather_long_lines, refused_lines, repeated, run_by,
 };
-use filter::{RunFault, Status};
 use device::{FailAt, MemSink, MemSource};
+use filter::{RunFault, Status};
 use labelcore::Options;
 use std::alloc::{AllocError, Global};
 use std::process::Abort;

@@ -1,7 +1,7 @@
 //! Readers and writers of std that move one byte a call, break off once, or take nothing once.
 use crate::runs::support::{EAN8, EAN13_ROW, REFUSALS, answer_of, bars, low, refused_lines};
-use filter::{RunFault, Status};
 use device::{StdSink, StdSource};
+use filter::{RunFault, Status};
 use labelcore::Options;
 use std::alloc::Global;
 use std::io::{self, ErrorKind, Read, Write};

@@ -1,8 +1,8 @@
 //! What the tests share: runs over memory, and the texts that they compare with.
 ghost use Rattle.std.specs.Prelude.{◌<◌};
 
-use filter::{Filter, RunFault, Status, run};
 use device::{MemSource, Sink, Source, StdSink};
+use filter::{Filter, RunFault, Status, run};
 use labelcore::{Format, Options};
 use qrdata::Level;
 use std::alloc::{AllocError, Global};

@@ -3,7 +3,7 @@ use Rattle.clap.specs.Words.{first_of, found_of, rows_of}
 use Rattle.clap.proofs.WalkLemmas.{first_value-rows}
 use Rattle.command.specs.Choosing.{Chooses}
 use Rattle.command.specs.CommandLine.{Invocation}
-use Rattle.command.proofs.Named.{run_named}
+use Rattle.command.proofs.NamedLaws.{run_named}
 use Rattle.command.proofs.arguments.choice_of.Goals as goal
 use Rattle.command.proofs.arguments.choice_of.Goals.{in-Some-get_str+in-Ok, in-None}
 

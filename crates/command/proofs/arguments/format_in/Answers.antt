@@ -1,7 +1,7 @@
 use Rattle.std.proofs.Common.{◌∙◌, ap, codes, Some}
 use Rattle.clap.specs.Words.{found_of}
 use Rattle.command.specs.CommandLine.{format_of}
-use Rattle.command.proofs.Named.{read_default, read_given}
+use Rattle.command.proofs.NamedLaws.{read_default, read_given}
 use Rattle.command.proofs.arguments.format_in.Goals as goal
 
 pub returns-in-Some : goal.returns-in-Some

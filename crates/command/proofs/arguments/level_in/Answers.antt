@@ -1,7 +1,7 @@
 use Rattle.std.proofs.Common.{◌∙◌, ap, codes, Some}
 use Rattle.clap.specs.Words.{found_of}
 use Rattle.labelcore.specs.OptionValues.{level_named}
-use Rattle.command.proofs.Named.{read_default, read_given}
+use Rattle.command.proofs.NamedLaws.{read_default, read_given}
 use Rattle.command.proofs.arguments.level_in.Goals as goal
 
 pub returns-in-Some : goal.returns-in-Some

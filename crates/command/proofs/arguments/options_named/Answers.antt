@@ -1,7 +1,7 @@
 use Rattle.std.proofs.Common.{◌∙◌, ap, arith, codes, sym}
 use Rattle.clap.specs.Words.{found_of, rows_of}
-use Rattle.command.proofs.Named.{NumberIs-read, made-options_named, mask_in_range, no_format, no_level, number_read}
-use Rattle.command.proofs.Named.{switch_read}
+use Rattle.command.proofs.NamedLaws.{NumberIs-read, made-options_named, mask_in_range, no_format, no_level, number_read}
+use Rattle.command.proofs.NamedLaws.{switch_read}
 use Rattle.command.proofs.arguments.options_named.Goals as goal
 
 pub returns-in_err-format : goal.returns-in_err-format

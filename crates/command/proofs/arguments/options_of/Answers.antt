@@ -2,8 +2,8 @@ use Rattle.std.proofs.Common.{◌≡◌, ◌∙◌, ap, refl, sym, subst, map, s
 use Rattle.clap.specs.Words.{App, app_of, fault_of, found_of, is_simple, is_simple_and_free, matches_of, rows_of}
 use Rattle.command.specs.Choosing.{Chooses}
 use Rattle.command.specs.CommandLine.{Invocation, command_line, invocation_by, invocation_of, run_of}
-use Rattle.command.proofs.OneKind.{one_kind}
-use Rattle.command.proofs.Parsed.{refused, still_built, values_hold}
+use Rattle.command.proofs.OneKindLaws.{one_kind}
+use Rattle.command.proofs.ParsedLaws.{refused, still_built, values_hold}
 use Rattle.command.proofs.arguments.options_of.Goals as goal
 
 pub choice_of-requires : goal.choice_of-requires

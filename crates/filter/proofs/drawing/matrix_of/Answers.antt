@@ -1,6 +1,7 @@
 use Rattle.std.proofs.Common.{arith}
 use Rattle.qrmatrix.specs.Symbol.{is_dark}
-use Rattle.filter.proofs.ReadLemmas.{is_dark-outside, qr_readable}
+use Rattle.qrmatrix.proofs.SymbolLaws.{is_dark-outside}
+use Rattle.filter.proofs.ReadLaws.{qr_readable}
 use Rattle.filter.proofs.drawing.matrix_of.Goals as goal
 
 pub returns-clause-read : goal.returns-clause-read

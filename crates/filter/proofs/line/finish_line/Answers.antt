@@ -2,7 +2,7 @@ use Rattle.std.proofs.Common.{◌∙◌, ℕ, ap, refl, sym, subst}
 use Rattle.std.proofs.lemmas.List.{append-nil}
 use Rattle.filter.specs.Line.{CountsFault}
 use Rattle.filter.specs.Output.{image_of, outcome_of_item}
-use Rattle.filter.proofs.LineLemmas.{drawn_ends, outcome-item, refused_ends, refused_fails}
+use Rattle.filter.proofs.LineLaws.{drawn_ends, outcome-item, refused_ends, refused_fails}
 use Rattle.labelcore.specs.ItemView.{item_seen}
 use Rattle.filter.proofs.line.finish_line.Goals as goal
 

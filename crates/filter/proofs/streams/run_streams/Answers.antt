@@ -1,4 +1,4 @@
-use Rattle.std.proofs.Common.{List, ℕ, Option, [], ◌++◌, subst}
+use Rattle.std.proofs.Common.{List, ℕ, Option, [], subst}
 use Rattle.std.proofs.lemmas.List.{append-nil}
 use Rattle.std.specs.Io.KnownBytes.{Appends}
 use Rattle.device.specs.Passing.{PassesOn}
@@ -6,7 +6,7 @@ use Rattle.device.specs.Private.Joined.{Appends_joined}
 use Rattle.device.specs.Private.Passed.{PassesOn_joined}
 use Rattle.device.specs.Streams.{writer_of}
 use Rattle.device.specs.declared.streams.StdSink.{StdSink}
-use Rattle.filter.proofs.RunLemmas.{RunStops-by}
+use Rattle.filter.proofs.RunLaws.{RunStops-by}
 use Rattle.filter.proofs.streams.run_streams.Goals as goal
 
 -- a buffer before a writer of std that took a text, and then no more

@@ -2,16 +2,16 @@ use Rattle.std.proofs.Common.{◌≡◌, ℕ, List, length, [], ◌++◌, take, 
 use Rattle.std.proofs.Common.{sym, rules}
 use Rattle.std.proofs.lemmas.List.{append-nil}
 use Rattle.std.proofs.lemmas.Result.{err_from_is_err_and}
-use Rattle.filter.proofs.FilterLemmas.{TookPiece-none, TookPiece-append, StopsInPiece-append, TookLines-ended}
-use Rattle.filter.proofs.FilterLemmas.{StopsInLine-lines}
+use Rattle.filter.proofs.FilterLaws.{TookPiece-none, TookPiece-append, StopsInPiece-append, TookLines-ended}
+use Rattle.filter.proofs.FilterLaws.{StopsInLine-lines}
 use Rattle.device.specs.Lines.{lines, ended_lines, open_line, unless_empty}
 use Rattle.filter.specs.Line.{RaisesOneCount}
 use Rattle.filter.specs.Filter.{TookLines, StopsInFinish}
 use Rattle.filter.specs.Output.{images, status_of}
 use Rattle.filter.specs.Run.{RunsWhole, RunStops}
-use Rattle.filter.proofs.ReadLemmas.{images_read}
-use Rattle.filter.proofs.RunLemmas.{at_err, at_ok, RunStops-in_line, RunStops-between, TookPiece-sent, TookLines-finish}
-use Rattle.filter.proofs.RunLemmas.{RunStops-finish}
+use Rattle.filter.proofs.ReadLaws.{images_read}
+use Rattle.filter.proofs.RunLaws.{at_err, at_ok, RunStops-in_line, RunStops-between, TookPiece-sent, TookLines-finish}
+use Rattle.filter.proofs.RunLaws.{RunStops-finish}
 use Rattle.filter.proofs.whole_run.run.Goals as goal
 
 pub loop-turn-init : goal.loop-turn-init

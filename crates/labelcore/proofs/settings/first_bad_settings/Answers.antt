@@ -1,4 +1,4 @@
-use Rattle.labelcore.proofs.FirstBadLemmas.{first_bad, first_bad_decides}
+use Rattle.labelcore.proofs.FirstBadLaws.{first_bad, first_bad_decides}
 use Rattle.labelcore.proofs.settings.first_bad_settings.Goals as goal
 
 pub returns : goal.returns

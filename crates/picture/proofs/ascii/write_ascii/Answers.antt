@@ -1,5 +1,5 @@
 use Rattle.std.proofs.Common.{◌∷◌, ◌++◌, [], ap, sym, List, ℕ, flat_map}
-use Rattle.device.proofs.WritingLemmas.{HasWritten-call, WritesText-begun, WritesText-last}
+use Rattle.device.proofs.WritingLaws.{HasWritten-call, WritesText-begun, WritesText-last}
 use Rattle.picture.specs.Private.Rows.{rows_text}
 use Rattle.picture.specs.Text.{ascii_pixel, below}
 use Rattle.picture.proofs.AsciiLaws.{ascii_pixels-ascii_text}

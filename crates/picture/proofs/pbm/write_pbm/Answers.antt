@@ -1,5 +1,5 @@
 use Rattle.std.proofs.Common.{◌≡◌, ◌++◌, [], ℕ, List, ap, sym, refl, ◌∙◌, arith, flat_map}
-use Rattle.device.proofs.WritingLemmas.{HasWritten-call, WritesText-begun, WritesText-last}
+use Rattle.device.proofs.WritingLaws.{HasWritten-call, WritesText-begun, WritesText-last}
 use Rattle.picture.specs.Private.Rows.{rows_text}
 use Rattle.picture.specs.Text.{pbm_header, pbm_piece, pbm_row, below}
 use Rattle.picture.proofs.PbmLaws.{pbm_pixels-pbm_text}

@@ -1,5 +1,5 @@
 use Rattle.std.proofs.Common.{◌≡◌, ◌<◌, ◌∙◌, ℕ, Bool, List, [], ap, sym, refl, subst, arith, flat_map, take, append-nil}
-use Rattle.device.proofs.WritingLemmas.{HasWritten, HasWritten-none, WritesText-whole}
+use Rattle.device.proofs.WritingLaws.{HasWritten, HasWritten-none, WritesText-whole}
 use Rattle.picture.specs.Picture.{Picture}
 use Rattle.picture.specs.Private.Rows.{KeepsRows, row_text}
 use Rattle.picture.specs.Text.{below, pixel_row}

@@ -1,5 +1,5 @@
 use Rattle.std.proofs.Common.{ℕ, flat_map, take}
-use Rattle.device.proofs.WritingLemmas.{HasWritten}
+use Rattle.device.proofs.WritingLaws.{HasWritten}
 use Rattle.picture.specs.Private.Rows.{piece}
 use Rattle.picture.specs.Text.{below}
 use Rattle.picture.proofs.rows.write_row.Given as goal

@@ -1,5 +1,5 @@
 use Rattle.std.proofs.Common.{◌≡◌, ℕ, List, [], arith, flat_map, refl, subst, sym, append-nil}
-use Rattle.device.proofs.WritingLemmas.{HasWritten, HasWritten-none, WritesText-whole}
+use Rattle.device.proofs.WritingLaws.{HasWritten, HasWritten-none, WritesText-whole}
 use Rattle.picture.specs.Private.Rows.{row_text}
 use Rattle.picture.specs.Text.{below, pixel_row}
 use Rattle.picture.proofs.WritingLoopLaws.{HasWritten-below_more, WritesText-below_fails}

@@ -1,4 +1,4 @@
-use Rattle.std.proofs.Common.{◌≡◌, ◌*◌, length, replicate, arith, ap, refl, sym, ◌∙◌}
+use Rattle.std.proofs.Common.{◌≡◌, ◌*◌, length, arith, ap, refl, sym, ◌∙◌}
 use Rattle.qrdata.specs.Codewords.{final_message, split_by}
 use Rattle.qrdata.specs.Versions.{block_lengths, ec_codewords_per_block}
 use Rattle.std.specs.List.{flat_map}

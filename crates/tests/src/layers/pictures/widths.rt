@@ -1,6 +1,6 @@
 //! Rows at the widths where their form changes, against the slow form, which asks for each pixel.
 use device::{IoFault, MemSink, Sink, write_whole};
-use picture::{Bars, Framed, Grid, write_ascii, write_pbm};
+use picture::{Bars, Framed, Grid, QuietZone, write_ascii, write_pbm};
 use std::process::Abort;
 
 /// About a line, the room for a row at scale 1, and the room for any label's row.
@@ -109,6 +109,12 @@ fn rows_that_are_known_to_be_equal(rt: HostRuntime) {
     for width in WIDTHS {
         let all = &modules[..];
         let bars = Bars::new(&all[..width.min(15000)], 2);
-        assert_texts(&rt, &Framed::new(bars, 0, 0, 1, 1));
+        let zone = QuietZone {
+            left: 0,
+            right: 0,
+            top: 1,
+            bottom: 1,
+        };
+        assert_texts(&rt, &Framed::new(bars, zone));
     }
 }

@@ -5,12 +5,10 @@ mod function;
 mod penalty;
 mod square;
 
-ghost use Rattle.std.specs.Prelude.{◌≡◌, ◌+◌, ◌*◌, ◌<◌, ◌≤◌, IfSome};
-ghost use Rattle.qrdata.specs.Versions.{side_of};
+ghost use Rattle.std.specs.Prelude.{◌<◌, ◌≤◌, IfSome};
 
-use qrdata::Level;
 use penalty::penalty;
-use qrdata::{Version, Codewords};
+use qrdata::{Codewords, Level, Version};
 use square::Square;
 
 /// The modules of a symbol.

@@ -1,6 +1,6 @@
 use Rattle.std.proofs.Common.{◌+◌, length, refl, ◌∙◌, ap, arith, List, ℕ}
 use Rattle.std.specs.Prelude.{slice_range}
-use Rattle.device.proofs.WriteLemmas.{buffered_more}
+use Rattle.device.proofs.PassingLaws.{buffered_more}
 use Rattle.device.proofs.buffered.Buffered.buffer.Goals as goal
 
 pub returns-clause-buffered : goal.returns-clause-buffered

@@ -3,7 +3,7 @@ use Rattle.std.specs.Prelude.{slice_range}
 use Rattle.std.proofs.lemmas.List.{append-nil}
 use Rattle.std.proofs.lemmas.Result.{MatchResult-from_err}
 use Rattle.device.specs.Device.{Rises}
-use Rattle.device.proofs.WriteLemmas.{cut_buffered}
+use Rattle.device.proofs.PassingLaws.{cut_buffered}
 use Rattle.device.proofs.buffered.Buffered.drain.Goals as goal
 
 pub returns-in_err-count-clause-passes : goal.returns-in_err-count-clause-passes

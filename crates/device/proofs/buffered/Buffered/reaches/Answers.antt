@@ -1,6 +1,4 @@
-use Rattle.std.proofs.Common.{sym, subst, ◌∙◌, ap}
-use Rattle.std.specs.Prelude.{slice_range}
-use Rattle.device.proofs.WriteLemmas.{PassesOn-all, slice_range-none}
+use Rattle.device.proofs.PassingLaws.{PassesOn-all, slice_range-none}
 use Rattle.device.proofs.buffered.Buffered.reaches.Goals as goal
 
 pub returns-clause-buffered : goal.returns-clause-buffered

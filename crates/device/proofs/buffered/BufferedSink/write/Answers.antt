@@ -1,7 +1,7 @@
 use Rattle.std.proofs.Common.{take, sym, subst, ap, arith, ◌∙◌}
 use Rattle.device.specs.Buffered.{buffered_bytes}
 use Rattle.device.specs.Passing.{PassesOn}
-use Rattle.device.proofs.WriteLemmas.{PassesOn-more}
+use Rattle.device.proofs.PassingLaws.{PassesOn-more}
 use Rattle.device.proofs.buffered.BufferedSink.write.Goals as goal
 
 pub returns : goal.returns

@@ -3,7 +3,7 @@ use Rattle.std.proofs.Common.{take-append-drop}
 use Rattle.std.proofs.lemmas.List.{append-nil, take_more}
 use Rattle.std.proofs.lemmas.Result.{err_from_is_err_and}
 use Rattle.filter.specs.Filter.{StandsAt, StopsInPiece}
-use Rattle.filter.proofs.FilterLemmas.{TookPiece-none, TookPiece-append, StopsInPiece-append, StopsInPiece-longer}
+use Rattle.filter.proofs.FilterLaws.{TookPiece-none, TookPiece-append, StopsInPiece-append, StopsInPiece-longer}
 use Rattle.filter.proofs.filter.Filter.feed.Goals as goal
 
 pub loop-byte-init : goal.loop-byte-init

@@ -3,8 +3,8 @@ use Rattle.device.specs.Lines.{open_line, ended_lines}
 use Rattle.filter.specs.Filter.{FilterState, StandsAt}
 use Rattle.filter.specs.Output.{outcome, is_refusal, line_number, status_if}
 use Rattle.filter.specs.Private.LineEnd.{worst}
-use Rattle.filter.proofs.FilterLemmas.{StandsAt-other, StandsAt-lf, line_number-counts, TookPiece-other, TookPiece-lf}
-use Rattle.filter.proofs.FilterLemmas.{StopsInPiece-lf}
+use Rattle.filter.proofs.FilterLaws.{StandsAt-other, StandsAt-lf, line_number-counts, TookPiece-other, TookPiece-lf}
+use Rattle.filter.proofs.FilterLaws.{StopsInPiece-lf}
 use Rattle.filter.proofs.filter.Filter.feed_byte.Goals as goal
 
 pub returns-then-byte-ne10-clause-feeds : goal.returns-then-byte-ne10-clause-feeds

@@ -1,7 +1,7 @@
-use Rattle.std.proofs.Common.{length, inr, refl}
+use Rattle.std.proofs.Common.{length, inr}
 use Rattle.std.proofs.lemmas.Result.{err_from_is_err_and}
 use Rattle.device.specs.Lines.{ended_lines, open_line, unless_empty}
-use Rattle.filter.proofs.FilterLemmas.{TookLines-flushed}
+use Rattle.filter.proofs.FilterLaws.{TookLines-flushed}
 use Rattle.filter.proofs.filter.Filter.finish.Goals as goal
 
 pub returns-in_err-flush_both-clause-ends : goal.returns-in_err-flush_both-clause-ends

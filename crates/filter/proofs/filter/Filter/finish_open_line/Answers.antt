@@ -3,8 +3,8 @@ use Rattle.std.proofs.lemmas.Bool.{false≢true}
 use Rattle.device.specs.Lines.{ended_lines, open_line}
 use Rattle.filter.specs.Filter.{FilterState, StandsAt}
 use Rattle.filter.specs.Private.LineEnd.{worst}
-use Rattle.filter.proofs.FilterLemmas.{line_number-counts, no_rest, a_rest, status_of-no_rest, status_of-rest}
-use Rattle.filter.proofs.FilterLemmas.{TookLines-none, TookLines-one, StopsInLine-one}
+use Rattle.filter.proofs.FilterLaws.{line_number-counts, no_rest, a_rest, status_of-no_rest, status_of-rest}
+use Rattle.filter.proofs.FilterLaws.{TookLines-none, TookLines-one, StopsInLine-one}
 use Rattle.filter.proofs.filter.Filter.finish_open_line.Goals as goal
 
 pub returns-then-is_empty-clause-status : goal.returns-then-is_empty-clause-status

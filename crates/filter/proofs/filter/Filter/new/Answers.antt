@@ -1,6 +1,6 @@
 use Rattle.std.proofs.Common.{refl, false}
 use Rattle.filter.specs.declared.status.Status.TheVariants.{Clean}
-use Rattle.filter.proofs.FilterLemmas.{StandsAt-new}
+use Rattle.filter.proofs.FilterLaws.{StandsAt-new}
 use Rattle.filter.proofs.filter.Filter.new.Goals as goal
 
 pub returns : goal.returns

@@ -3,7 +3,7 @@ use Rattle.std.specs.Prelude.{bit_xor}
 use Rattle.std.proofs.lemmas.List.{drop_more, drop_all}
 use Rattle.std.proofs.lemmas.List.Elements.{All-from_get_or}
 use Rattle.gf256.specs.Field.{alpha, field_power, field_product, IsElement}
-use Rattle.gf256.specs.Polynomial.{zeros}
+use Rattle.gf256.specs.Private.{zeros}
 use Rattle.gf256.specs.ErrorCorrection.{IsRemainder}
 use Rattle.gf256.proofs.DivisionLaws.{next_register, register_after}
 use Rattle.gf256.proofs.GeneratorLaws.{low_of, length-low_of, IsRemainder-register, ec_codewords_of-register}

@@ -1,5 +1,5 @@
 use Rattle.std.proofs.Common.{◌≡◌, drop}
-use Rattle.gf256.specs.Polynomial.{zeros}
+use Rattle.gf256.specs.Private.{zeros}
 use Rattle.gf256.proofs.DivisionLaws.{register_after}
 use Rattle.gf256.proofs.GeneratorLaws.{low_of}
 use Rattle.gf256.proofs.generator.Generator.ec_codewords.Given as goal

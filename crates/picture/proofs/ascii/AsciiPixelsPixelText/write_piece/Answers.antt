@@ -1,6 +1,6 @@
 use Rattle.std.proofs.Common.{◌/◌, take, sym, flat_map, arith}
 use Rattle.std.specs.Prelude.{slice_range}
-use Rattle.device.proofs.WritingLemmas.{HasWritten-call, WritesText-begun, WritesText-last}
+use Rattle.device.proofs.WritingLaws.{HasWritten-call, WritesText-begun, WritesText-last}
 use Rattle.picture.specs.Text.{ascii_pixel}
 use Rattle.picture.proofs.LetterLaws.{ascii_halves}
 use Rattle.picture.proofs.ascii.AsciiPixelsPixelText.write_piece.Goals as goal

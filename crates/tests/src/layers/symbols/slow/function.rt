@@ -1,9 +1,8 @@
 //! The function patterns, the format information and the version information, each module asked what it is there for.
-ghost use Rattle.std.specs.Prelude.{◌+◌, ◌*◌, ◌<◌, ◌≤◌, IfSome};
+ghost use Rattle.std.specs.Prelude.{◌<◌, ◌≤◌, IfSome};
 ghost use Rattle.qrdata.specs.Versions.{side_of};
 
-use qrdata::Level;
-use qrdata::Version;
+use qrdata::{Level, Version};
 
 /// The format words of the masks 0 to 7 at the levels L, M, Q and H (ISO/IEC 18004, Table C.1).
 const FORMAT_WORDS: [[u32; 8]; 4] = [

@@ -1,5 +1,5 @@
 //! The penalty of a symbol, counted module by module.
-ghost use Rattle.std.specs.Prelude.{◌<◌, ◌≤◌};
+ghost use Rattle.std.specs.Prelude.{◌≤◌};
 
 use super::square::Square;
 

@@ -35,7 +35,7 @@ use Rattle.command.specs.CommandLine.{invocation_refused, invocation_by, run}
 use Rattle.command.specs.Private.Checked.{HoldsNumber, HoldsValues, IsNumberIn}
 use Rattle.command.specs.declared.arguments.ArgumentsFault.{ArgumentsFault}
 use Rattle.command.specs.declared.arguments.ArgumentsFault.TheVariants.{Memory}
-use Rattle.command.proofs.OneKind.{IsOneAtMost}
+use Rattle.command.proofs.OneKindLaws.{IsOneAtMost}
 use Rattle.clap.specs.declared.builder.arg.Arg.{Arg}
 use Rattle.clap.specs.declared.builder.command.Command.{Command}
 use Rattle.clap.specs.declared.builder.value_parser.Reading.{Reading}

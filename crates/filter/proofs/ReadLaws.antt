@@ -1,7 +1,7 @@
 -- Images that are read back, one and many.
 use Rattle.std.proofs.Common.{◌≡◌, ℕ, ◌+◌, ◌*◌, ◌^◌, ◌<◌, ◌≤◌, Bool, true, false, List, [], ◌∷◌, ◌++◌, map, length}
 use Rattle.std.proofs.Common.{Option, None, Some, Result, Ok, Err, refl, sym, ap, ◌∙◌, arith, get_or, inl, inr, ◌&&◌}
-use Rattle.std.proofs.Common.{◌==◌, eq-eqb, subst}
+use Rattle.std.proofs.Common.{◌==◌, eq-eqb}
 use mathlib.Core.Path.{fun_ext}
 use Rattle.std.specs.Prelude.{nat_lt}
 use Rattle.std.specs.List.{AllByRecursion, flat_map, list_all}
@@ -18,14 +18,12 @@ use Rattle.labelcore.specs.declared.symbology.Symbology.{Symbology}
 use Rattle.labelcore.specs.declared.symbology.Symbology.TheVariants.{Ean13, Ean8, UpcA, Code128, Qr}
 use Rattle.labelcore.specs.OptionValues.{OptionValues}
 use Rattle.qrdata.specs.Reading.{data_in}
-use Rattle.qrdata.specs.Versions.{side_of}
-use Rattle.qrmatrix.specs.Modules.{is_inside, module_at}
-use Rattle.qrmatrix.specs.Symbol.{IsSymbolOf, is_dark, Symbol as Matrix}
+use Rattle.qrmatrix.specs.Modules.{is_inside}
 use Rattle.qrmatrix.specs.Reading.{read_matrix}
 use Rattle.qrmatrix.specs.Square.{value_at}
 use Rattle.picture.specs.Picture.{Picture, bars}
-use Rattle.picture.specs.Text.{below, pixel_row, pbm_text, ascii_text}
-use Rattle.picture.specs.Reading.{raster, pbm_files, ascii_files, pbm_pixels, ascii_pixels}
+use Rattle.picture.specs.Text.{below, pixel_row}
+use Rattle.picture.specs.Reading.{raster}
 use Rattle.picture.specs.ReadingLaws.{ReadingLaws, IsDrawable, PixelsAreThePicture, BarsAreOneRow}
 use Rattle.filter.specs.Symbol.{Symbol, quiet_zone, linear_symbol}
 use Rattle.labelcore.specs.LineItem.{Outcome, skipped, refused, drawn, outcome_of}
@@ -196,17 +194,6 @@ right_false false b e = refl
 left_false : (a b : Bool) → a ≡ false → (a && b) ≡ false
 left_false true b e = cc
 left_false false b e = refl
-
-module_at-outside : (v : ℕ) (level : Level) (mask : ℕ) (codewords : List ℕ) (x y : ℕ)
-    → is_inside (side_of v) x y ≡ false → module_at v level mask codewords x y ≡ false
-unfolding module_at
-module_at-outside v level mask codewords x y e = rw e refl
-
--- a drawn symbol is light outside its square
-pub is_dark-outside : (v : ℕ) (level : Level) (asked : Option ℕ) (codewords : List ℕ) (s : Matrix)
-    → IsSymbolOf v level asked codewords s → (x y : ℕ) → is_inside s.side x y ≡ false → is_dark s x y ≡ false
-is_dark-outside v level asked codewords s h x y e = h.modules x y
-    ∙ module_at-outside v level s.mask codewords x y (subst (λ (n : ℕ). is_inside n x y ≡ false) h.side e)
 
 module _ (pixels_are : PixelsAreThePicture) (n : ℕ) (dark : ℕ → ℕ → Bool)
     (outside : (x y : ℕ) → is_inside n x y ≡ false → dark x y ≡ false) where

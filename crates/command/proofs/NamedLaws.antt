@@ -10,7 +10,6 @@ use Rattle.clap.proofs.WalkLemmas.{first_value-rows, one_text-rows}
 use Rattle.labelcore.specs.Defaults.{default_options}
 use Rattle.labelcore.specs.OptionValues.{IsInRange, IsMask, OptionValues}
 use Rattle.labelcore.specs.declared.options.Format.{Format}
-use Rattle.qrdata.specs.declared.level.Level.{Level}
 use Rattle.command.specs.CommandLine.{format_in, is_on, level_in, number_named, number_of, options_named, options_with}
 use Rattle.command.specs.CommandLine.{run, run_of}
 use Rattle.command.specs.Private.Checked.{HoldsNumber, IsNumberIn}

@@ -1,11 +1,11 @@
 -- A filter's state and what it wrote, byte by byte and piece by piece.
-use Rattle.std.proofs.Common.{◌≡◌, ◌≢◌, ℕ, ◌+◌, ◌-◌, ◌^◌, min, Bool, ◌||◌, false, List, [], ◌∷◌, ◌++◌, length, take}
+use Rattle.std.proofs.Common.{◌≡◌, ◌≢◌, ℕ, ◌+◌, ◌-◌, ◌^◌, min, false, List, [], ◌∷◌, ◌++◌, length, take}
 use Rattle.std.proofs.Common.{append_assoc, refl, ap, subst, sym, ◌∙◌, arith, add-zero, length-append, length-take}
 use Rattle.std.proofs.lemmas.List.{append-nil}
 use Rattle.labelcore.specs.HeldLine.{held_line, line_limit}
 use Rattle.device.specs.Lines.{LF, lines, ended_lines, open_line, unless_empty}
-use Rattle.device.proofs.LinesLemmas.{ended_lines-nil, open_line-nil, ended_lines-push_lf, ended_lines-push_other}
-use Rattle.device.proofs.LinesLemmas.{open_line-push_lf, open_line-push_other, some_added}
+use Rattle.device.proofs.LinesLaws.{ended_lines-nil, open_line-nil, ended_lines-push_lf, ended_lines-push_other}
+use Rattle.device.proofs.LinesLaws.{open_line-push_lf, open_line-push_other, some_added}
 use Rattle.labelcore.specs.LineItem.{Outcome}
 use Rattle.filter.specs.Output.{outcome, image_of, message_of, is_refusal, line_number, images, messages_after}
 use Rattle.filter.specs.Output.{any_refused, status_if, status_of}
@@ -19,8 +19,8 @@ use Rattle.filter.specs.Readback.{ReadsBack}
 use Rattle.filter.specs.Filter.{FilterState, StandsAt, TookLines, StopsInLine, TookPiece, StopsInPiece}
 use Rattle.filter.specs.declared.status.RunFault.{RunFault}
 use Rattle.filter.specs.declared.status.RunFault.TheVariants.{Read, WriteOut, WriteMessages, Spent}
-use Rattle.filter.proofs.OutputLemmas.{images-nil, images-append, images_one, messages_after-nil, messages_after-append}
-use Rattle.filter.proofs.OutputLemmas.{messages_after_one, any_refused-nil, any_refused-push, worst-status_if}
+use Rattle.filter.proofs.OutputLaws.{images-nil, images-append, images_one, messages_after-nil, messages_after-append}
+use Rattle.filter.proofs.OutputLaws.{messages_after_one, any_refused-nil, any_refused-push, worst-status_if}
 use Rattle.labelcore.specs.OptionValues.{OptionValues}
 
 module _ (options : OptionValues) where

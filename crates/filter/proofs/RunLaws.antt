@@ -11,8 +11,8 @@ use Rattle.filter.specs.Filter.{TookLines, StopsInLine, TookPiece, StopsInFinish
 use Rattle.filter.specs.Run.{StopsInText, RunStops}
 use Rattle.filter.specs.declared.status.RunFault.{RunFault}
 use Rattle.filter.specs.declared.status.RunFault.TheVariants.{Read, WriteOut, WriteMessages, Spent}
-use Rattle.filter.proofs.FilterLemmas.{lines-split, TookLines-ended, TookLines-none, TookLines-append}
-use Rattle.filter.proofs.FilterLemmas.{TookLines-flushed, StopsInLine-one, StopsInLine-append}
+use Rattle.filter.proofs.FilterLaws.{lines-split, TookLines-ended, TookLines-none, TookLines-append}
+use Rattle.filter.proofs.FilterLaws.{TookLines-flushed, StopsInLine-one, StopsInLine-append}
 use Rattle.labelcore.specs.OptionValues.{OptionValues}
 
 module _ (options : OptionValues) where

@@ -1,7 +1,7 @@
-//! Output that is held back, over writers in memory.
+//! Output that is buffered, over writers in memory.
 use crate::runs::support::{EAN8, answer_of, answer_to, joined, low, repeated};
+use device::{Buffered, FailAt, IoFault, MemSink, MemSource, Sink, Source, StdSink};
 use filter::{RunFault, Status};
-use device::{FailAt, Buffered, IoFault, MemSink, MemSource, Sink, Source, StdSink};
 use std::cell::RefCell;
 use std::io::{self, ErrorKind, Write};
 use std::process::Abort;
@@ -9,9 +9,9 @@ use std::test::Fail;
 
 /// Adds its bytes to a text that several writers share, or fails.
 #[derive(Drop)]
-struct SharedWriter<'a> {
-    text: &'a RefCell<Vec<u8>>,
-    fails: bool,
+pub struct SharedWriter<'a> {
+    pub text: &'a RefCell<Vec<u8>>,
+    pub fails: bool,
 }
 
 impl Write for SharedWriter<'_> {
@@ -112,7 +112,7 @@ fn assert_one_is_held<const N: usize>(
     sent: &[u8],
 ) {
     assert!(rt; out.sink().device().bytes() == sent);
-    assert!(rt; out.held() == EAN8);
+    assert!(rt; out.buffered() == EAN8);
     assert!(rt; out.pass_on().is_ok());
     assert!(rt; out.sink().device().bytes().strip_prefix(sent) == Some(EAN8));
 }

@@ -1,8 +1,8 @@
 //! The words of the command line, the file that they name, and how the program ends.
 use crate::runs::support::{DEFAULT, EAN8, LEVEL_L, LOW, Named};
-use command::{Choice, End, OpenFault, WordsFault, open_file, options_of};
-use filter::{RunFault, Status, run};
+use command::{ArgumentsFault, Choice, End, OpenFault, open_file, options_of};
 use device::MemSink;
+use filter::{RunFault, Status, run};
 use labelcore::{Format, Options};
 use qrdata::Level;
 use std::alloc::{AllocError, Global};
@@ -29,7 +29,10 @@ fn choice_of(alloc: Global, texts: &[&str]) -> Result<Choice, Fail> {
 /// Whether words are refused as bad.
 fn are_bad(alloc: Global, texts: &[&str]) -> Result<bool, AllocError> {
     let words = words_of(alloc, texts)?;
-    Ok(matches!(&options_of(alloc, words.as_slice()), Err(WordsFault::Bad)))
+    Ok(matches!(
+        &options_of(alloc, words.as_slice()),
+        Err(ArgumentsFault::Bad)
+    ))
 }
 
 #[test]
@@ -59,7 +62,7 @@ fn chooses(
     Ok(Some(choice.options) == options && choice.file.as_deref() == file)
 }
 
-/// Words that name each setting and the standard input.
+/// Codewords that name each setting and the standard input.
 const ALL_SETTINGS: &[&str] = &[
     "--format",
     "ascii",
@@ -190,7 +193,7 @@ fn helps(rt: HostRuntime) -> Result<(), Fail> {
     let alloc = rt.alloc();
     let words = words_of(alloc, &["--help"])?;
     match options_of(alloc, words.as_slice()) {
-        Err(WordsFault::Help(text)) => {
+        Err(ArgumentsFault::Help(text)) => {
             for part in [
                 "\nUsage: labels [OPTIONS] [FILE]\n",
                 "--format <pbm|ascii>",
@@ -253,7 +256,7 @@ const ENDS: &[(End, u8, &str)] = &[
         "labels: write failed\n",
     ),
     (End::Helped, 0, ""),
-    (End::BadWords, 2, "labels: bad words\n"),
+    (End::BadArguments, 2, "labels: bad words\n"),
     (End::NoFile, 3, "labels: cannot open file\n"),
     (End::NoMemory, 3, "labels: no memory\n"),
 ];
@@ -277,7 +280,7 @@ fn run_of_file<R: Abort + Files>(
 ) -> Option<Result<Status, RunFault>> {
     let choice = match options_of(alloc, words) {
         Ok(choice) => choice,
-        Err(WordsFault::Memory) => return None,
+        Err(ArgumentsFault::Memory) => return None,
         Err(_) => panic!(rt; "words refused"),
     };
     let Some(name) = &choice.file else {

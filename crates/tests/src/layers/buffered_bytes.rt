@@ -1,24 +1,24 @@
-//! Bytes that are held back: how many, which calls they go on at, and what a failure leaves.
-use crate::layers::support::{flushes, sends_on, takes, takes_none, takes_some};
-use device::{FailAt, Buffered, MemSink, Sink};
+//! Bytes that are buffered: how many, which calls pass them on, and what a failure leaves.
+use crate::layers::support::{MOST_BUFFERED, flushes, passes_on, takes, takes_none, takes_some};
+use device::{Buffered, FailAt, MemSink, Sink};
 use std::process::Abort;
 
-/// Whether the memory below has the one text, and the other is held back.
-fn stands(sink: &Buffered<MemSink<8>>, below: &[u8], held: &[u8]) -> bool {
-    sink.sink().bytes() == below && sink.held() == held
+/// Whether the memory below has the one text, and the other is buffered.
+fn stands(sink: &Buffered<MemSink<8>>, below: &[u8], buffered: &[u8]) -> bool {
+    sink.sink().bytes() == below && sink.buffered() == buffered
 }
 
-/// Whether the memory below the counted calls has the one text, and the other is held back.
-fn stands_counted(sink: &Buffered<FailAt<MemSink<8>>>, below: &[u8], held: &[u8]) -> bool {
-    sink.sink().device().bytes() == below && sink.held() == held
+/// Whether the memory below the counted calls has the one text, and the other is buffered.
+fn stands_counted(sink: &Buffered<FailAt<MemSink<8>>>, below: &[u8], buffered: &[u8]) -> bool {
+    sink.sink().device().bytes() == below && sink.buffered() == buffered
 }
 
 #[test]
-fn bytes_are_buffered_bytes(rt: HostRuntime) {
+fn bytes_are_buffered(rt: HostRuntime) {
     let mut sink = Buffered::new(MemSink::<8>::new(3, 8));
     assert!(rt; takes(&mut sink, b"abcd"));
     assert!(rt; stands(&sink, b"", b"abcd"));
-    assert!(rt; sends_on(&mut sink));
+    assert!(rt; passes_on(&mut sink));
     assert!(rt; stands(&sink, b"abcd", b""));
     assert!(rt; takes(&mut sink, b"efghij"));
     assert!(rt; !flushes(&mut sink));
@@ -35,25 +35,28 @@ fn write_letters(rt: &impl Abort, count: usize, sink: &mut impl Sink) {
     assert!(rt; takes(sink, &letters[..count % 1000]));
 }
 
-/// Whether so many bytes went on to the memory below, and so many are held back.
-fn counts(sink: &Buffered<MemSink<66000>>, below: usize, held: usize) -> bool {
-    sink.sink().bytes().len() == below && sink.held().len() == held
+/// Whether so many bytes went on to the memory below, and so many are buffered.
+fn counts(sink: &Buffered<MemSink<66000>>, below: usize, buffered: usize) -> bool {
+    sink.sink().bytes().len() == below && sink.buffered().len() == buffered
 }
 
-/// Bytes that are written, and how many of them go on before the flush and are held back.
+/// Bytes that are written, and how many of them go on before the flush and are buffered.
 const ROOMS: &[(usize, usize, usize)] = &[
-    (65_535, 0, 65_535),
-    (65_536, 0, 65_536),
+    (32_767, 0, 32_767),
+    (32_768, 0, 32_768),
+    (32_769, 32_768, 1),
+    (65_535, 32_768, 32_767),
+    (65_536, 32_768, 32_768),
     (65_537, 65_536, 1),
     (66_000, 65_536, 464),
 ];
 
 #[test]
 fn a_full_room_goes_on_at_the_next_byte(rt: HostRuntime) {
-    for (count, below, held) in ROOMS {
+    for (count, below, buffered) in ROOMS {
         let mut sink = Buffered::new(MemSink::<66000>::new(66000, 66000));
         write_letters(&rt, *count, &mut sink);
-        assert!(rt; counts(&sink, *below, *held));
+        assert!(rt; counts(&sink, *below, *buffered));
         assert!(rt; flushes(&mut sink));
         assert!(rt; counts(&sink, *count, 0));
     }
@@ -64,7 +67,7 @@ fn a_sink_of_one_byte_a_call_gets_all_bytes_in_order(rt: HostRuntime) {
     let mut sink = Buffered::new(FailAt::new(MemSink::<8>::new(1, 8), 0));
     assert!(rt; takes(&mut sink, b"abcde"));
     assert!(rt; sink.sink().calls() == 0);
-    assert!(rt; sends_on(&mut sink));
+    assert!(rt; passes_on(&mut sink));
     assert!(rt; sink.sink().calls() == 5);
     assert!(rt; takes(&mut sink, b"fgh"));
     assert!(rt; flushes(&mut sink));
@@ -72,7 +75,7 @@ fn a_sink_of_one_byte_a_call_gets_all_bytes_in_order(rt: HostRuntime) {
     assert!(rt; stands_counted(&sink, b"abcdefgh", b""));
 }
 
-/// The call of the sink below at which a text that is sent on in pieces of two bytes fails.
+/// The call of the sink below at which a text that is passed on in pieces of two bytes fails.
 #[test]
 fn a_failing_call_leaves_what_did_not_go_on(rt: HostRuntime) {
     for (call, sent, left) in [
@@ -82,7 +85,7 @@ fn a_failing_call_leaves_what_did_not_go_on(rt: HostRuntime) {
     ] {
         let mut sink = Buffered::new(FailAt::new(MemSink::<8>::new(2, 8), call));
         assert!(rt; takes(&mut sink, b"abcde"));
-        assert!(rt; !sends_on(&mut sink));
+        assert!(rt; !passes_on(&mut sink));
         assert!(rt; stands_counted(&sink, sent, left));
         assert!(rt; takes(&mut sink, b"fgh"));
         assert!(rt; flushes(&mut sink));
@@ -90,9 +93,9 @@ fn a_failing_call_leaves_what_did_not_go_on(rt: HostRuntime) {
     }
 }
 
-/// The fourth call is the flush below, at which nothing is held any more.
+/// The fourth call is the flush below, at which nothing is buffered any more.
 #[test]
-fn a_flush_that_fails_below_holds_nothing(rt: HostRuntime) {
+fn a_flush_that_fails_below_buffers_nothing(rt: HostRuntime) {
     let mut sink = Buffered::new(FailAt::new(MemSink::<8>::new(2, 8), 4));
     assert!(rt; takes(&mut sink, b"abcde"));
     assert!(rt; !flushes(&mut sink));
@@ -104,21 +107,21 @@ fn a_flush_that_fails_below_holds_nothing(rt: HostRuntime) {
 #[test]
 fn a_write_into_a_full_room_fails_as_the_sink_below(rt: HostRuntime) {
     let mut sink = Buffered::new(FailAt::new(MemSink::<66000>::new(66000, 66000), 1));
-    write_letters(&rt, 65_536, &mut sink);
+    write_letters(&rt, MOST_BUFFERED, &mut sink);
     assert!(rt; takes_none(&mut sink, b"b"));
-    assert!(rt; sink.held().len() == 65_536);
+    assert!(rt; sink.buffered().len() == MOST_BUFFERED);
     assert!(rt; takes_some(&mut sink, b"b", 1));
-    assert!(rt; sink.held() == b"b".as_slice());
-    assert!(rt; sink.sink().device().bytes().len() == 65_536);
+    assert!(rt; sink.buffered() == b"b".as_slice());
+    assert!(rt; sink.sink().device().bytes().len() == MOST_BUFFERED);
 }
 
 #[test]
-fn sending_on_is_no_call(rt: HostRuntime) {
+fn passing_on_is_no_call(rt: HostRuntime) {
     let mut sink = FailAt::new(Buffered::new(MemSink::<8>::new(8, 8)), 2);
     assert!(rt; takes_some(&mut sink, b"ab", 2));
-    assert!(rt; sends_on(&mut sink));
+    assert!(rt; passes_on(&mut sink));
     assert!(rt; sink.calls() == 1);
     assert!(rt; sink.device().sink().bytes() == b"ab".as_slice());
     assert!(rt; !flushes(&mut sink));
-    assert!(rt; sends_on(&mut sink));
+    assert!(rt; passes_on(&mut sink));
 }

@@ -1,5 +1,5 @@
 -- What a line comes to, from what its symbol or its refusal comes to.
-use Rattle.std.proofs.Common.{◌≡◌, ℕ, Bool, true, List, [], Some, Result, Ok, Err, refl, subst}
+use Rattle.std.proofs.Common.{◌≡◌, ℕ, List, [], Result, Ok, Err, refl, subst}
 use Rattle.std.specs.Prelude.{IfErr, IfOk, OnOk}
 use Rattle.labelcore.specs.OptionValues.{OptionValues, KeepsRunOptions}
 use Rattle.labelcore.specs.LineItem.{item}
@@ -7,7 +7,6 @@ use Rattle.labelcore.specs.Message.{message}
 use Rattle.labelcore.specs.declared.fault.Fault.{Fault}
 use Rattle.labelcore.specs.LineItem.{Outcome, skipped, refused, drawn}
 use Rattle.filter.specs.Output.{outcome, outcome_of_item, image_of}
-use Rattle.device.specs.Device.{Begins}
 use Rattle.filter.specs.Line.{FailsInLine}
 use Rattle.device.specs.Writing.{WritesText}
 use Rattle.device.specs.declared.sink.Sink.{Ghosts}

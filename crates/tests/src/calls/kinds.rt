@@ -1,0 +1,189 @@
+//! A reader and a writer of std that fail with each kind of error, at each of their calls, and a writer that takes each
+//! part of a text. Each call of a device is one call of theirs, whatever it returns.
+use crate::layers::support::{flushes, gives, gives_none, takes_none, takes_some};
+use device::{StdSink, StdSource};
+use std::cell::Cell;
+use std::io::{self, ErrorKind, Read, Write};
+use std::process::Abort;
+
+/// Each kind of error that std has.
+pub const KINDS: [ErrorKind; 42] = [
+    ErrorKind::NotFound,
+    ErrorKind::PermissionDenied,
+    ErrorKind::ConnectionRefused,
+    ErrorKind::ConnectionReset,
+    ErrorKind::HostUnreachable,
+    ErrorKind::NetworkUnreachable,
+    ErrorKind::ConnectionAborted,
+    ErrorKind::NotConnected,
+    ErrorKind::AddrInUse,
+    ErrorKind::AddrNotAvailable,
+    ErrorKind::NetworkDown,
+    ErrorKind::BrokenPipe,
+    ErrorKind::AlreadyExists,
+    ErrorKind::WouldBlock,
+    ErrorKind::NotADirectory,
+    ErrorKind::IsADirectory,
+    ErrorKind::DirectoryNotEmpty,
+    ErrorKind::ReadOnlyFilesystem,
+    ErrorKind::FilesystemLoop,
+    ErrorKind::StaleNetworkFileHandle,
+    ErrorKind::InvalidInput,
+    ErrorKind::InvalidData,
+    ErrorKind::TimedOut,
+    ErrorKind::WriteZero,
+    ErrorKind::StorageFull,
+    ErrorKind::NotSeekable,
+    ErrorKind::QuotaExceeded,
+    ErrorKind::FileTooLarge,
+    ErrorKind::ResourceBusy,
+    ErrorKind::ExecutableFileBusy,
+    ErrorKind::Deadlock,
+    ErrorKind::CrossesDevices,
+    ErrorKind::TooManyLinks,
+    ErrorKind::InvalidFilename,
+    ErrorKind::ArgumentListTooLong,
+    ErrorKind::Interrupted,
+    ErrorKind::Unsupported,
+    ErrorKind::UnexpectedEof,
+    ErrorKind::OutOfMemory,
+    ErrorKind::InProgress,
+    ErrorKind::Other,
+    ErrorKind::Uncategorized,
+];
+
+/// Counts of the calls of a reader or a writer.
+#[derive(Drop)]
+struct Counts {
+    moves: Cell<u32>,
+    flushes: Cell<u32>,
+}
+
+impl Counts {
+    fn new() -> Self {
+        Counts {
+            moves: Cell::new(0),
+            flushes: Cell::new(0),
+        }
+    }
+
+    /// Whether there were `moves` reads or writes, and `flushes` flushes.
+    fn are(&self, moves: u32, flushes: u32) -> bool {
+        self.moves.get() == moves && self.flushes.get() == flushes
+    }
+}
+
+/// Moves `moved` bytes a call, and fails with an error of this kind at the call of this number, counted from 1.
+#[derive(Drop)]
+struct Failing<'a> {
+    kind: ErrorKind,
+    call: u32,
+    moved: usize,
+    counts: &'a Counts,
+}
+
+impl Failing<'_> {
+    /// Counts a call, and fails if it is the one that fails.
+    fn count(&self, calls: &Cell<u32>) -> io::Result<()> {
+        calls.set(calls.get().wrapping_add(1));
+        if calls.get() == self.call {
+            return Err(self.kind.into());
+        }
+        Ok(())
+    }
+}
+
+impl Read for Failing<'_> {
+    fn read(&mut self, buf: &mut [u8]) -> io::Result<usize> {
+        self.count(&self.counts.moves)?;
+        Ok(self.moved.min(buf.len()))
+    }
+}
+
+impl Write for Failing<'_> {
+    fn write(&mut self, bytes: &[u8]) -> io::Result<usize> {
+        self.count(&self.counts.moves)?;
+        Ok(self.moved.min(bytes.len()))
+    }
+
+    fn flush(&mut self) -> io::Result<()> {
+        self.count(&self.counts.flushes)
+    }
+}
+
+/// Of three reads the one of this number fails, and no call of the reader is added or left out.
+fn assert_read_fails(rt: &impl Abort, kind: ErrorKind, failing: u32) {
+    let counts = Counts::new();
+    let mut source = StdSource::new(Failing {
+        kind,
+        call: failing,
+        moved: 2,
+        counts: &counts,
+    });
+    let mut buf = [0; 4];
+    for call in 1..4u32 {
+        if call == failing {
+            assert!(rt; gives_none(&mut source, &mut buf), "read {call}, {kind:?}");
+        } else {
+            assert!(rt; gives(&mut source, &mut buf, 2), "read {call}, {kind:?}");
+        }
+        assert!(rt; counts.are(call, 0), "read {call}, {kind:?}");
+    }
+}
+
+/// Of three writes the one of this number fails, and then of three flushes. No call of the writer is added or left out.
+fn assert_write_fails(rt: &impl Abort, kind: ErrorKind, failing: u32) {
+    let counts = Counts::new();
+    let mut sink = StdSink::new(Failing {
+        kind,
+        call: failing,
+        moved: 2,
+        counts: &counts,
+    });
+    for call in 1..4u32 {
+        if call == failing {
+            assert!(rt; takes_none(&mut sink, b"abc"), "write {call}, {kind:?}");
+        } else {
+            assert!(rt; takes_some(&mut sink, b"abc", 2), "write {call}, {kind:?}");
+        }
+        assert!(rt; counts.are(call, 0), "write {call}, {kind:?}");
+    }
+    for call in 1..4u32 {
+        assert!(rt;
+            flushes(&mut sink) == (call != failing),
+            "flush {call}, {kind:?}"
+        );
+        assert!(rt; counts.are(3, call), "flush {call}, {kind:?}");
+    }
+}
+
+#[test]
+fn each_kind_of_error_is_one_failed_call(rt: HostRuntime) {
+    for kind in KINDS {
+        for failing in 1..4u32 {
+            assert_read_fails(&rt, kind, failing);
+            assert_write_fails(&rt, kind, failing);
+        }
+    }
+}
+
+/// A writer that takes each part of a text, from none of it on: one write each, and no flush.
+#[test]
+fn a_short_write_is_one_write_and_no_flush(rt: HostRuntime) {
+    for moved in 0..16usize {
+        let counts = Counts::new();
+        let mut sink = StdSink::new(Failing {
+            kind: ErrorKind::Other,
+            call: 0,
+            moved,
+            counts: &counts,
+        });
+        let text = b"0123456789abcde";
+        if moved == 0 {
+            assert!(rt; takes_none(&mut sink, text));
+        } else {
+            assert!(rt; takes_some(&mut sink, text, moved), "{moved} bytes");
+        }
+        assert!(rt; counts.are(1, 0), "{moved} bytes");
+    }
+}

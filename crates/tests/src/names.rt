@@ -1,0 +1,259 @@
+//! Names of files, long lists of words, and the help text: what no clause says of them.
+use crate::calls::kinds::KINDS;
+use crate::runs::support::low;
+use command::{ArgumentsFault, OpenFault, open_file, options_of};
+use device::MemSink;
+use filter::{RunFault, run};
+use std::alloc::{AllocError, Allocator, Global};
+use std::fs::{File, Metadata, OpenOptions};
+use std::io::{self, ErrorKind};
+use std::process::Abort;
+use std::rt::Files;
+use std::test::Fail;
+
+/// Files that can't be opened, for one reason.
+#[derive(Drop)]
+struct Refusing {
+    kind: ErrorKind,
+}
+
+impl Files for Refusing {
+    type File = File;
+
+    type Dir = &'static [u8];
+
+    fn open_file(&self, _how: &OpenOptions, _path: &str) -> io::Result<File> {
+        Err(self.kind.into())
+    }
+
+    fn open_dir(&self, _path: &str) -> io::Result<&'static [u8]> {
+        Err(self.kind.into())
+    }
+
+    fn metadata(&self, _path: &str) -> io::Result<Metadata> {
+        Err(self.kind.into())
+    }
+
+    fn symlink_metadata(&self, _path: &str) -> io::Result<Metadata> {
+        Err(self.kind.into())
+    }
+
+    fn copy(&self, _from: &str, _to: &str) -> io::Result<u64> {
+        Err(self.kind.into())
+    }
+
+    fn rename(&self, _from: &str, _to: &str) -> io::Result<()> {
+        Err(self.kind.into())
+    }
+
+    fn remove_file(&self, _path: &str) -> io::Result<()> {
+        Err(self.kind.into())
+    }
+
+    fn create_dir(&self, _path: &str) -> io::Result<()> {
+        Err(self.kind.into())
+    }
+
+    fn remove_dir(&self, _path: &str) -> io::Result<()> {
+        Err(self.kind.into())
+    }
+
+    fn remove_dir_all<B: Allocator>(&self, _alloc: B, _path: &str) -> io::Result<()> {
+        Err(self.kind.into())
+    }
+}
+
+/// Why a file of this name is not opened, if it is not.
+fn refusal_of<R: Files>(rt: &R, alloc: Global, name: &str) -> Option<OpenFault> {
+    match open_file(rt, alloc, name) {
+        Ok(_) => None,
+        Err(fault) => Some(fault),
+    }
+}
+
+#[test]
+fn only_an_error_of_memory_is_no_memory(rt: HostRuntime) {
+    for kind in KINDS {
+        let want = if kind == ErrorKind::OutOfMemory {
+            OpenFault::Memory
+        } else {
+            OpenFault::NoFile
+        };
+        let files = Refusing { kind };
+        assert!(rt;
+            refusal_of(&files, rt.alloc(), "a-name") == Some(want),
+            "{kind:?}"
+        );
+    }
+}
+
+/// `count` letters.
+fn letters(alloc: Global, count: usize) -> Result<String, AllocError> {
+    let mut text = String::new(alloc);
+    for _ in 0..count {
+        text.push('a')?;
+    }
+    Ok(text)
+}
+
+/// Names of no file: with no byte, with a NUL, below a file's name, and of nothing that there is.
+const NO_FILES: [&str; 5] = [
+    "",
+    "a\0b",
+    "\0",
+    "there-is-no-such-folder/a-file",
+    "there-is-no-such-file",
+];
+
+#[test]
+fn names_of_no_file_are_no_file(rt: HostRuntime) -> Result<(), Fail> {
+    for name in NO_FILES {
+        assert!(rt;
+            refusal_of(&rt, rt.alloc(), name) == Some(OpenFault::NoFile),
+            "{name:?}"
+        );
+    }
+    for count in [255, 256, 4095, 4096, 5000] {
+        let name = letters(rt.alloc(), count)?;
+        let refusal = refusal_of(&rt, rt.alloc(), name.as_str());
+        assert!(rt; refusal == Some(OpenFault::NoFile), "{count} letters");
+    }
+    Ok(())
+}
+
+/// The system opens a folder, and then fails to read it.
+#[test]
+fn a_folder_can_not_be_read(rt: HostRuntime) {
+    let Ok(mut source) = open_file(&rt, rt.alloc(), ".") else {
+        panic!(rt; "not opened");
+    };
+    let mut out: MemSink<1> = MemSink::new(1, 1);
+    let mut err: MemSink<1> = MemSink::new(1, 1);
+    let answer = run(low(&rt, false), &mut source, &mut out, &mut err);
+    assert!(rt; answer == Err(RunFault::Read));
+}
+
+/// A word, `count` times.
+fn many(alloc: Global, word: &str, count: usize) -> Result<Vec<String>, AllocError> {
+    let mut words = Vec::new(alloc);
+    for _ in 0..count {
+        words.push(String::from_str(alloc, word)?)?;
+    }
+    Ok(words)
+}
+
+/// Whether words are refused as bad, and for no other reason.
+fn are_bad(alloc: Global, words: &[String]) -> bool {
+    matches!(&options_of(alloc, words), Err(ArgumentsFault::Bad))
+}
+
+/// Codewords, and from which number on they are bad.
+const BAD_WORDS: [(&str, usize); 7] = [
+    ("--no-such-option", 1),
+    ("-x", 1),
+    ("--scale=9", 1),
+    ("--scale=2", 2),
+    ("--escapes", 2),
+    ("--level=L", 2),
+    ("a-file", 2),
+];
+
+#[test]
+fn many_words_are_bad_words(rt: HostRuntime) -> Result<(), Fail> {
+    let alloc = rt.alloc();
+    for (word, first_bad) in BAD_WORDS {
+        for count in [1, 2, 3, 10, 15, 16, 30, 100, 1000] {
+            if count >= first_bad {
+                let words = many(alloc, word, count)?;
+                assert!(rt; are_bad(alloc, words.as_slice()), "{word} {count} times");
+            }
+        }
+    }
+    Ok(())
+}
+
+/// A command line of as many words as one has.
+const MOST_WORDS: [&str; 15] = [
+    "--format",
+    "pbm",
+    "--scale",
+    "1",
+    "--height",
+    "50",
+    "--level",
+    "M",
+    "--min-version",
+    "1",
+    "--mask",
+    "7",
+    "--escapes",
+    "--",
+    "a-file",
+];
+
+#[test]
+fn the_longest_command_line_is_taken(rt: HostRuntime) -> Result<(), Fail> {
+    let alloc = rt.alloc();
+    let mut words = Vec::new(alloc);
+    for word in MOST_WORDS {
+        words.push(String::from_str(alloc, word)?)?;
+    }
+    assert!(rt; matches!(&options_of(alloc, words.as_slice()), Ok(_)));
+    words.push(letters(alloc, 5000)?)?;
+    assert!(rt; are_bad(alloc, words.as_slice()));
+    Ok(())
+}
+
+/// The help text, which `-h` and `--help` ask for. No other test has all of it.
+const HELP: &str = "\
+labels 1.0.0
+
+Draws EAN, UPC, Code 128 and QR Code labels: one picture for each line of the input.
+
+Usage: labels [OPTIONS] [FILE]
+
+Arguments:
+  [FILE]  The file to read; standard input if there is none
+
+Options:
+      --format <pbm|ascii>  How pictures are written: as plain PBM or as text [default: pbm]
+      --scale <1-8>         The width and height of a module in pixels [default: 1]
+      --height <1-500>      The height of EAN, UPC and Code 128 symbols in modules [default: 50]
+      --level <L|M|Q|H>     The error correction level of QR symbols [default: M]
+      --min-version <1-10>  The smallest version of QR symbols [default: 1]
+      --mask <0-7>          The mask of QR symbols [default: the mask with the lowest penalty]
+      --escapes             Read \\\\, \\n and \\xHH in the data as one byte each
+  -h, --help                Print help
+
+Lines: NAME[,KEY=VALUE].. DATA, where NAME and DATA are
+  ean13 400638133393       12 digits, or 13 with the check digit
+  ean8 7351353             7 digits, or 8 with the check digit
+  upca 03600029145         11 digits, or 12 with the check digit
+  code128 SHELF-7          1 to 80 bytes of ASCII
+  qr https://example.com   any bytes that fit in version 10
+and KEY is height, or for qr level, min-version or mask (0 to 7, or auto). Empty lines and
+lines that begin with # draw nothing. A refused line gives a message on standard error.
+
+Status: 0 no line was refused, 1 at least one line was refused, 2 labels does not take the
+arguments (bad words), 3 reading, writing or opening FILE failed, or memory ran out.
+
+Example: echo 'ean13 400638133393' | labels --scale 4 --height 70 > pencil.pbm
+";
+
+/// A word asks for the whole help text.
+fn assert_helps(rt: &impl Abort, alloc: Global, word: &str) -> Result<(), AllocError> {
+    let words = many(alloc, word, 1)?;
+    match options_of(alloc, words.as_slice()) {
+        Err(ArgumentsFault::Help(text)) => assert!(rt; text.as_str() == HELP, "{word}"),
+        _ => panic!(rt; "no help"),
+    }
+    Ok(())
+}
+
+#[test]
+fn the_help_text_is_whole(rt: HostRuntime) -> Result<(), Fail> {
+    for word in ["--help", "-h"] {
+        assert_helps(&rt, rt.alloc(), word)?;
+    }
+    Ok(())
+}

@@ -1,0 +1,109 @@
+"""What the tests of the tools share: paths, how a tool is run, and what a test needs from elsewhere.
+
+The tests run from the top of the repository: python3 -m unittest discover -s tools/tests
+The program `labels` that they draw with is $LABELS, or else crates/labels/out/labels. A test that needs what is not
+there is skipped, with a message; NO_SKIP=1 makes it fail.
+"""
+
+import io
+import os
+import runpy
+import shutil
+import subprocess
+import sys
+import unittest
+from pathlib import Path
+from typing import List, NoReturn, Sequence, Tuple, Union
+from unittest import mock
+
+TESTS = Path(__file__).resolve().parent
+TOOLS = TESTS.parent
+TOP = TOOLS.parent
+LOCALES = ("C", "C.UTF-8")
+SECONDS = 60
+
+if str(TOOLS) not in sys.path:
+    sys.path.insert(0, str(TOOLS))
+
+Finished = subprocess.CompletedProcess
+
+
+def run(
+    tool: Union[str, Path],
+    *words: Union[str, bytes, Path],
+    input: bytes = b"",
+    locale: str = "C.UTF-8",
+    cwd: Union[str, Path, None] = None,
+) -> "Finished[bytes]":
+    """Runs a tool of tools/ (or a program by its whole path) and returns its status, standard output and error."""
+    program = TOOLS / tool
+    return subprocess.run(
+        [*([sys.executable] if program.parent == TOOLS else []), str(program), *words],
+        input=input,
+        capture_output=True,
+        cwd=cwd,
+        env=environment(locale),
+        timeout=SECONDS,
+    )
+
+
+def run_here(tool: str, *words: str, input: bytes = b"") -> "Finished[bytes]":
+    """Runs a tool of tools/ in this process: the same result as of `run`, for tests of hundreds of runs."""
+    source = io.TextIOWrapper(io.BytesIO(input))
+    out, err = io.TextIOWrapper(io.BytesIO()), io.TextIOWrapper(io.BytesIO(), "utf-8", "backslashreplace")
+    status = 0
+    with mock.patch.multiple(sys, argv=[tool, *words], stdin=source, stdout=out, stderr=err):
+        try:
+            runpy.run_path(str(TOOLS / tool), run_name="__main__")
+        except SystemExit as end:
+            status = int(end.code or 0)
+        out.flush()
+        err.flush()
+    return Finished([tool, *words], status, out.buffer.getvalue(), err.buffer.getvalue())
+
+
+def environment(locale: str = "C.UTF-8") -> dict:
+    """The environment of a tool under test: LC_ALL alone chooses the language, and tools/ is on the path."""
+    dropped = ("LANG", "LC_", "LABEL_FONT", "PYTHONUNBUFFERED", "PYTHONIOENCODING", "PYTHONUTF8")
+    kept = {name: value for name, value in os.environ.items() if not name.startswith(dropped)}
+    return {**kept, "LC_ALL": locale, "PATH": f"{TOOLS}{os.pathsep}{os.environ['PATH']}"}
+
+
+def messages(finished: "Finished[bytes]") -> List[str]:
+    """The lines that a tool wrote on standard error."""
+    return finished.stderr.decode("utf-8").splitlines()
+
+
+def labels_program() -> Path:
+    """The program `labels`: $LABELS, else crates/labels/out/labels; skips the test where there is none."""
+    program = Path(os.environ.get("LABELS") or TOP / "crates/labels/out/labels").resolve()
+    if not os.access(program, os.X_OK):
+        skip(f"{program} is not built: run (cd crates/labels && rt run < /dev/null), or set $LABELS")
+    return program
+
+
+def draw(lines: Union[str, bytes], *options: str) -> Tuple[bytes, bytes, int]:
+    """What `labels` makes of lines: standard output, standard error, status; skips the test where it is not built."""
+    data = lines.encode() if isinstance(lines, str) else lines
+    done = subprocess.run([str(labels_program()), *options], input=data, capture_output=True, timeout=SECONDS)
+    return done.stdout, done.stderr, done.returncode
+
+
+def needs(*programs: str) -> None:
+    """Skips the test where one of these third-party programs is missing."""
+    missing = [program for program in programs if shutil.which(program) is None]
+    if missing:
+        skip(f"not installed: {', '.join(missing)}")
+
+
+def skip(message: str) -> NoReturn:
+    """Skips the test; with $NO_SKIP set, as in the merge gate, the test fails."""
+    raise AssertionError(message) if os.environ.get("NO_SKIP") else unittest.SkipTest(message)
+
+
+def read_codes(picture: Union[str, Path]) -> List[str]:
+    """What zbarimg reads in a picture, one line of SYMBOLOGY:DATA for each code, sorted; skips where it is missing."""
+    needs("zbarimg")
+    command: Sequence[str] = ("zbarimg", "--nodbus", "--quiet", str(picture))
+    done = subprocess.run(command, capture_output=True, timeout=SECONDS)
+    return sorted(done.stdout.decode("utf-8", "replace").splitlines())

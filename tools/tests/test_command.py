@@ -1,0 +1,158 @@
+"""How each tool ends, where a stream fails or is closed: label_command, by a small tool, and then every tool."""
+
+import shutil
+import subprocess
+import tempfile
+import unittest
+from pathlib import Path
+
+import support
+import label_pictures
+from label_pictures import Picture, blank, plain, raw
+
+SMALL = Picture(3, 2, [b"\xa0", b"\x40"])
+PLAIN, RAW = plain(SMALL), raw(SMALL)
+FULL = "standard output: No space left on device"
+
+# words and an input with which each tool writes a message and ends with status 1
+COMPLAINING = {
+    "label-caption": (("text",), b"no picture"),
+    "label-escpos": ((), b"no picture"),
+    "label-fits": (("300", "1", "0.01"), PLAIN),
+    "label-lines": (("/dev/null", "nothing.txt"), b""),
+    "label-sheet": (("--dpi=300", "--columns=1", "--rows=1", "--cell=9x9"), b""),
+    "label-table": (("--code", "1"), b"code\n73513538\n"),
+    "label-zpl": ((), b"no picture"),
+}
+
+
+class Ending(unittest.TestCase):
+    """How main_of ends a tool, tried by a small one."""
+
+    SCRIPT = """
+import sys
+sys.path.insert(0, {tools!r})
+from label_command import argument_parser, main_of, standard_output
+from label_pictures import PictureError, pictures_of, write_raw
+def function():
+    words = argument_parser("small-tool", "A tool for this test.").parse_args()
+    {body}
+main_of("small-tool", function)
+"""
+
+    def small_tool(self, body: str, *words: str, shell: str = '"$@"', data: bytes = b"") -> tuple[int, bytes, str]:
+        script = self.SCRIPT.format(tools=str(support.TOOLS), body=body)
+        command = ["bash", "-c", shell, "sh", shutil.which("python3") or "", "-c", script, *words]
+        done = subprocess.run(command, input=data, capture_output=True, env=support.environment("C"))
+        return done.returncode, done.stdout, done.stderr.decode()
+
+    def test_status_and_output(self) -> None:
+        self.assertEqual(self.small_tool("print('fine')"), (0, b"fine\n", ""))
+        self.assertEqual(self.small_tool("return 1"), (1, b"", ""))
+
+    def test_messages(self) -> None:
+        self.assertEqual(self.small_tool("raise PictureError('wrong')"), (1, b"", "small-tool: wrong\n"))
+        missing = "small-tool: nothing.pbm: No such file or directory\n"
+        self.assertEqual(self.small_tool("next(pictures_of('nothing.pbm'))"), (1, b"", missing))
+        folder = "small-tool: /tmp: Is a directory\n"
+        self.assertEqual(self.small_tool("next(pictures_of('/tmp'))"), (1, b"", folder))
+
+    def test_words(self) -> None:
+        status, out, message = self.small_tool("pass", "--help")
+        self.assertEqual((status, message), (0, ""))
+        self.assertIn(b"A tool for this test.", out)
+        for word in ("--wrong", "--hel"):
+            status, out, message = self.small_tool("pass", word)
+            self.assertEqual((status, out), (2, b""))
+            self.assertIn("usage: small-tool", message)
+
+    def test_a_full_disk(self) -> None:
+        full = (1, b"", "small-tool: standard output: No space left on device\n")
+        for unbuffered in ("", "export PYTHONUNBUFFERED=1; "):
+            for body in ("print('x')", "print('x' * 100000)", "standard_output().write(b'x')"):
+                ended = self.small_tool(body, shell=unbuffered + '"$@" > /dev/full')
+                self.assertEqual(ended, full, (unbuffered, body))
+
+    def test_messages_that_nobody_takes(self) -> None:
+        for shell, out in (
+            ('"$@" 2>&-', b"fine\n"),
+            ('"$@" 2> /dev/full', b"fine\n"),
+            ('"$@" > /dev/full 2>&1', b""),
+            ('"$@" 2>&- >&-', b""),
+        ):
+            ended = self.small_tool("print('fine', flush=True); raise PictureError('wrong')", shell=shell)
+            self.assertEqual(ended, (1, out, ""), shell)
+
+    def test_an_output_without_a_buffer(self) -> None:
+        shell = 'export PYTHONUNBUFFERED=1; "$@"'
+        ended = self.small_tool("print('ä'); standard_output().write(b'x')", shell=shell)
+        self.assertEqual(ended, (0, "xä\n".encode(), ""))
+
+    def test_a_file_that_takes_a_part(self) -> None:
+        body = "[write_raw(picture, standard_output()) for picture in pictures_of(None)]"
+        data = raw(blank(8, 3000)) * 2
+        for unbuffered in ("", "export PYTHONUNBUFFERED=1; "):
+            with tempfile.TemporaryDirectory() as folder:
+                shell = f'{unbuffered}ulimit -f 4; "$@" > {folder}/out'
+                ended = self.small_tool(body, data=data, shell=shell)
+            self.assertEqual(ended, (1, b"", "small-tool: standard output: File too large\n"))
+
+    def test_a_closed_pipe(self) -> None:
+        status, _, message = self.small_tool("print('x' * 1000000)", shell='"$@" | true; exit ${PIPESTATUS[0]}')
+        self.assertEqual((status, message), (1, "small-tool: standard output: Broken pipe\n"))
+
+    def test_closed_streams(self) -> None:
+        ended = self.small_tool("standard_output()", shell='"$@" >&-')
+        self.assertEqual(ended, (1, b"", "small-tool: standard output is closed\n"))
+        ended = self.small_tool("next(pictures_of(None))", shell='"$@" <&-')
+        self.assertEqual(ended, (1, b"", "small-tool: standard input is closed\n"))
+
+    def test_standard_input(self) -> None:
+        for path in (None, "-"):
+            body = f"[write_raw(picture, standard_output()) for picture in pictures_of({path!r})]"
+            self.assertEqual(self.small_tool(body, data=PLAIN + PLAIN), (0, RAW + RAW, ""))
+            message = "small-tool: standard input: label 2: row 1 of 2 is cut off\n"
+            self.assertEqual(self.small_tool(body, data=PLAIN + PLAIN[:8]), (1, RAW, message))
+
+    def test_a_file(self) -> None:
+        with tempfile.TemporaryDirectory() as folder:
+            path = Path(folder, "Käse.pbm")
+            path.write_bytes(PLAIN)
+            self.assertEqual(list(label_pictures.pictures_of(str(path))), [SMALL])
+
+
+class EveryTool(unittest.TestCase):
+    def ended(self, tool: str, words: tuple, redirection: str, data: bytes = b"") -> tuple[int, bytes, list[str]]:
+        """The status, standard output and messages of a tool, run by a shell with a redirection."""
+        done = subprocess.run(
+            ["sh", "-c", f'"$@" {redirection}', "sh", tool, *words],
+            input=data,
+            capture_output=True,
+            env=support.environment(),
+            timeout=support.SECONDS,
+        )
+        return done.returncode, done.stdout, support.messages(done)
+
+    def test_all_are_here(self) -> None:
+        self.assertEqual(sorted(COMPLAINING), sorted(path.name for path in support.TOOLS.glob("label-*")))
+
+    def test_a_message(self) -> None:
+        for tool, (words, data) in COMPLAINING.items():
+            status, out, messages = self.ended(tool, words, "", data)
+            self.assertEqual((status, out), (1, b""), tool)
+            self.assertTrue(messages and messages[0].startswith(f"{tool}: "), messages)
+
+    def test_messages_that_nobody_takes(self) -> None:
+        for redirection in ("2> /dev/full", "2>&-"):
+            for tool, (words, data) in COMPLAINING.items():
+                self.assertEqual(self.ended(tool, words, redirection, data), (1, b"", []), (tool, redirection))
+                self.assertEqual(self.ended(tool, ("--wrong",), redirection), (2, b"", []), (tool, redirection))
+
+    def test_a_help_text_that_nobody_takes(self) -> None:
+        for tool in COMPLAINING:
+            ended = self.ended(tool, ("--help",), "> /dev/full")
+            self.assertEqual(ended, (1, b"", [f"{tool}: {FULL}"]))
+
+
+if __name__ == "__main__":
+    unittest.main()
