@@ -147,7 +147,7 @@ class Believed(unittest.TestCase):
         """Changes a file until the end of this test."""
         path = os.path.join(self.folder, file)
         text = read(path)
-        self.assertEqual(text.count(old), 1, f"{old!r} stands once in {file}")
+        self.assertEqual(text.count(old), 1, f"{old!r} is once in {file}")
         self.addCleanup(write, path, text)
         write(path, text.replace(old, new))
 
@@ -169,12 +169,12 @@ class Believed(unittest.TestCase):
         self.assertEqual(self.check()[0], 1)
 
     def test_another_comment_in_the_specs(self):
-        self.change("crates/labelcore/specs/Lines.antt", "-- the line feed", "-- the carriage return")
+        self.change("crates/device/specs/Lines.antt", "-- the line feed", "-- the carriage return")
         self.assertEqual(self.check()[0], 1)
 
     def test_another_clause_in_a_trait(self):
-        clause = "        ensures some { IfOk result (λ n. 0 < n) }\n"
-        self.change("crates/labelcore/src/device.rt", clause, "")
+        clause = "        requires { 0 < length bytes.now }\n"
+        self.change("crates/device/src/sink.rt", clause, "")
         status, said = self.check()
         self.assertEqual(status, 1)
         self.assertIn("trait `Sink`", said)
@@ -191,7 +191,7 @@ class Believed(unittest.TestCase):
         self.assertIn("gf65536", said)
 
     def test_a_definition_that_is_gone(self):
-        self.change("crates/labelcore/specs/Lines.antt", "pub line_limit :", "pub line_bound :")
+        self.change("crates/labelcore/specs/HeldLine.antt", "pub line_limit :", "pub line_bound :")
         status, said = self.check()
         self.assertEqual(status, 1)
 
