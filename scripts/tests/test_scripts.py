@@ -305,7 +305,7 @@ class Instructions(InFolder):
         """The table that the script prints of the stand-ins, made once for all tests."""
         status, table = run("instructions.sh", self.program, **self.environment)
         self.assertEqual(status, 0, table)
-        type(self).table = table[table.index("| Label |"):]
+        type(self).table = table[table.index("| Label |") :]
         return self.table
 
     def check(self, **more):
@@ -617,7 +617,7 @@ class PlainWords(InFolder):
             ("crates/a/src/a.rt", "fn a() {} // it answers `Err`\n"),
             ("crates/a/specs/A.antt", "-- the parity of it\nx : Type 0\n"),
             ("scripts/a.py", "x = 1  # so many\n"),
-            ("scripts/b.py", "def f():\n    \"\"\"What it tells.\"\"\"\n"),
+            ("scripts/b.py", 'def f():\n    """What it tells."""\n'),
             ("tools/a", "#!/bin/sh\n# it comes to this\n"),
         ):
             with self.subTest(name):
