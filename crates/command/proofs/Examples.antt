@@ -65,8 +65,8 @@ unfolding clap_on_literals level_named
 out-of-range = refl
 
 -- the statuses and the lines of the program's ends (docs/SPECIFICATION.md, Statuses)
-statuses : map exit_status (Ran (Ok Clean) ∷ Ran (Ok Refused) ∷ Helped ∷ BadArguments ∷ NoFile ∷ NoMemory ∷ Ran (Err Read)
-    ∷ Ran (Err WriteOut) ∷ Ran (Err WriteMessages) ∷ []) ≡ 0 ∷ 1 ∷ 0 ∷ 2 ∷ 3 ∷ 3 ∷ 3 ∷ 3 ∷ 3 ∷ []
+statuses : map exit_status (Ran (Ok Clean) ∷ Ran (Ok Refused) ∷ Helped ∷ BadArguments ∷ NoFile ∷ NoMemory
+    ∷ Ran (Err Read) ∷ Ran (Err WriteOut) ∷ Ran (Err WriteMessages) ∷ []) ≡ 0 ∷ 1 ∷ 0 ∷ 2 ∷ 3 ∷ 3 ∷ 3 ∷ 3 ∷ 3 ∷ []
 statuses = refl
 
 end-lines : map line_of (Ran (Ok Clean) ∷ Ran (Ok Refused) ∷ Helped ∷ BadArguments ∷ NoFile ∷ NoMemory ∷ Ran (Err Read)

@@ -11,8 +11,8 @@ use labelcore::{Fault, Options};
 use qrdata::{Codewords, Version, choose, codewords};
 use qrmatrix::Matrix;
 
-/// The QR symbol of the bytes, in the smallest version that holds them at the options' level. Its modules read back as the
-/// bytes.
+/// The QR symbol of the bytes, in the smallest version that holds them at the options' level. Its modules read back as
+/// the bytes.
 ///
 /// Bytes that fit no version are refused by `DoesNotFit`.
 #[tactic(auto, unfolding(filter::specs::Symbol::symbol_of, filter::specs::Symbol::qr_modules, filter::specs::Symbol::qr_codewords))]

@@ -4,7 +4,6 @@ pub mod Code128Laws
 pub mod CodeSetLaws
 pub mod DataValueLaws
 pub mod DigitLaws
-pub mod DrawingLaws
 pub mod EanLaws
 pub mod Examples
 pub mod GroupLaws

@@ -100,7 +100,8 @@ codewords = refl
 
 -- of each level the error correction codewords of the versions
 ec_codewords : Level → List ℕ
-ec_codewords level = map (λ version. block_count version level * ec_codewords_per_block version level) (range_with_len 1 10)
+ec_codewords level =
+    map (λ version. block_count version level * ec_codewords_per_block version level) (range_with_len 1 10)
 
 ec_codewords_of_levels : map ec_codewords (L ∷ M ∷ Q ∷ H ∷ []) ≡
     (7 ∷ 10 ∷ 15 ∷ 20 ∷ 26 ∷ 36 ∷ 40 ∷ 48 ∷ 60 ∷ 72 ∷ [])
@@ -207,7 +208,8 @@ lengths_of_payloads = (refl, refl, refl)
 -- the data codewords of the standard's annex I
 annex_i : data_of 1 M (segment_of Numeric 8 ∷ []) (codes "01234567") ≡
     0x10 ∷ 0x20 ∷ 0x0C ∷ 0x56 ∷ 0x61 ∷ 0x80 ∷ 0xEC ∷ 0x11 ∷ 0xEC ∷ 0x11 ∷ 0xEC ∷ 0x11 ∷ 0xEC ∷ 0x11 ∷ 0xEC ∷ 0x11 ∷ []
-unfolding data_of data_codewords_of with_pad_codewords with_terminator with_zeros codewords_of segments_bits numeric_bits bits_of number_of
+unfolding data_of data_codewords_of with_pad_codewords with_terminator with_zeros codewords_of segments_bits numeric_bits
+    bits_of number_of
     data_codewords block_lengths groups_of block_table
 annex_i = refl
 

@@ -4,13 +4,14 @@ use mathlib.Core.Path.{fun_ext}
 use Rattle.std.proofs.Math.Bool.{and-false}
 use Rattle.std.proofs.Common.{◌≡◌, ℕ, zero, suc, ◌+◌, ◌<◌, ◌^◌, refl, sym, ap, ◌∙◌, arith, Bool, true, ◌&&◌, inl}
 use Rattle.std.proofs.Common.{inr, List, [], ◌∷◌, map, Option, None, Some}
-use Rattle.std.specs.Prelude.{slice_index, slice_set, reverse, nat_lt}
+use Rattle.std.specs.Prelude.{slice_index, slice_set, reverse, nat_le, nat_lt}
 use Rattle.std.specs.Bool.{beq}
 use Rattle.std.proofs.lemmas.Bool.{and_parts, cases_lt, le-ltb, ltb-true}
 use Rattle.std.proofs.lemmas.List.{get_or_past}
 use Rattle.std.proofs.lemmas.List.FromFn.{get_or-map-range_with_len, length-map-range_with_len}
-use Rattle.std.specs.List.{range_with_len}
+use Rattle.std.specs.List.{list_all, position_or_len, range_with_len}
 use Rattle.gf256.specs.BinaryPolynomial.{binary_remainder}
+use Rattle.qrdata.specs.declared.level.Level.{Level}
 use Rattle.qrdata.specs.declared.level.Level.TheVariants.{M}
 use Rattle.qrdata.specs.Bits.{codewords_of, number_of}
 use Rattle.qrdata.specs.Versions.{total_codewords}
@@ -19,7 +20,7 @@ use Rattle.qrmatrix.specs.Counting.{all_below}
 use Rattle.qrmatrix.specs.Functions.{fixed_module, is_free, role}
 use Rattle.qrmatrix.specs.Information.{format_information, version_information}
 use Rattle.qrmatrix.specs.Masks.{is_flipped}
-use Rattle.qrmatrix.specs.MaskChoice.{penalties}
+use Rattle.qrmatrix.specs.MaskChoice.{chosen_mask, penalties}
 use Rattle.qrmatrix.specs.Modules.{module_at}
 use Rattle.qrmatrix.specs.Penalty.{balance_penalty, dark_count, finder_penalty, penalty, run_penalty, square_penalty}
 use Rattle.qrmatrix.specs.Placement.{free_below, key, rank}
@@ -138,3 +139,17 @@ reading = refl
 no_reading : read_rows 21 (slice_set rows 6 6401) ≡ None
 unfolding read_rows rows
 no_reading = refl
+
+-- without a mask that is asked for, the chosen one is the place of the lowest penalty
+place_of_lowest : List ℕ → ℕ
+place_of_lowest numbers = position_or_len (λ p. list_all (nat_le p) numbers) numbers
+
+mask_of_lowest : (v : ℕ) (level : Level) (codewords : List ℕ)
+    → chosen_mask v level None codewords ≡ place_of_lowest (penalties v level codewords)
+unfolding chosen_mask place_of_lowest
+mask_of_lowest v level codewords = refl
+
+-- of equal penalties the first counts
+lowest : map place_of_lowest ((3 ∷ 1 ∷ 2 ∷ 1 ∷ []) ∷ (5 ∷ []) ∷ (2 ∷ 2 ∷ []) ∷ []) ≡ 1 ∷ 0 ∷ 0 ∷ []
+unfolding place_of_lowest
+lowest = refl

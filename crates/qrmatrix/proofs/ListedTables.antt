@@ -1,8 +1,8 @@
 -- The tables of QR symbols beside those of other programs: qrencode 4.1.1 (qrspec.c) and what Zint 2.11.1 draws; and
 -- the weights of ISO/IEC 18004, 7.8.3.
 use Rattle.std.proofs.Common.{◌≡◌, ℕ, ◌+◌, refl, Bool, true, false, List, [], ◌∷◌, ◌++◌, map, codes}
-use Rattle.std.specs.Prelude.{◌==◌, nat_le, slice_index_or}
-use Rattle.std.specs.List.{flat_map, list_all, position_or_len, range_with_len, slice_split}
+use Rattle.std.specs.Prelude.{◌==◌, slice_index_or}
+use Rattle.std.specs.List.{flat_map, range_with_len, slice_split}
 use Rattle.gf256.specs.BinaryPolynomial.{binary_remainder}
 use Rattle.qrdata.specs.declared.level.Level.TheVariants.{L, M, Q, H}
 use Rattle.qrmatrix.specs.Functions.{alignment_coordinates}
@@ -141,12 +141,3 @@ balances = refl
 dark_modules : dark_count 3 (λ x y. x == y) ≡ 3
 unfolding dark_count
 dark_modules = refl
-
--- without a mask that is asked for, the chosen one has the place of the lowest penalty
-place_of_lowest : List ℕ → ℕ
-place_of_lowest numbers = position_or_len (λ p. list_all (nat_le p) numbers) numbers
-
--- of equal penalties the first counts
-lowest : map place_of_lowest ((3 ∷ 1 ∷ 2 ∷ 1 ∷ []) ∷ (5 ∷ []) ∷ (2 ∷ 2 ∷ []) ∷ []) ≡ 1 ∷ 0 ∷ 0 ∷ []
-unfolding place_of_lowest
-lowest = refl

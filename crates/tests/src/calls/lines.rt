@@ -169,8 +169,8 @@ fn add_line(
     Ok(())
 }
 
-/// The record of a run over the input, `piece` bytes a read: pictures are passed on before each read and each message, and
-/// nowhere else. The last read gives nothing. After it the last line is refused, and then the outputs are flushed.
+/// The record of a run over the input, `piece` bytes a read: pictures are passed on before each read and each message,
+/// and nowhere else. The last read gives nothing. After it the last line is refused, and then the outputs are flushed.
 fn record_of(alloc: Global, len: usize, piece: usize) -> Result<Vec<u8>, Fail>
     requires { 0 < piece }
 {
@@ -198,7 +198,7 @@ fn record_of(alloc: Global, len: usize, piece: usize) -> Result<Vec<u8>, Fail>
     Ok(record)
 }
 
-/// The same record where pictures are buffered: one write at each passing on and each flush before which some are buffered.
+/// The same record where pictures are buffered: one write at each passing on and each flush, if some are buffered.
 fn buffered_record_of(alloc: Global, record: &[u8]) -> Result<Vec<u8>, AllocError> {
     let mut buffered_record = Vec::new(alloc);
     let mut is_buffered = false;

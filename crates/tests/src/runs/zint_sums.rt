@@ -1,5 +1,5 @@
-//! The pictures of each QR version at each level, under each mask, and of each linear symbology, beside what Zint 2.11.1
-//! draws. A picture is compared by one number, its Adler-32 sum (RFC 1950).
+//! The pictures of each QR version at each level, under each mask, and of each linear symbology, beside what Zint
+//! 2.11.1 draws. A picture is compared by one number, its Adler-32 sum (RFC 1950).
 use crate::runs::support::{DEFAULT, Named, run_by};
 use filter::Status;
 use labelcore::Options;
@@ -28,7 +28,8 @@ fn assert_sum(rt: &impl Abort, alloc: std::alloc::Global, options: Options, line
 const LEVELS: &[Level] = &[Level::L, Level::M, Level::Q, Level::H];
 
 /// Of versions 1 to 10 the sums at these levels, under the mask that is the version's remainder by 8: `zint -b 58
-/// --vers=VERSION --secure=LEVEL --mask=MASK --dump -d 01234567`, as a plain PBM file with a quiet zone of four modules.
+/// --vers=VERSION --secure=LEVEL --mask=MASK --dump -d 01234567`, as a plain PBM file with a quiet zone of four
+/// modules.
 const VERSIONS: &[(u8, [u32; 4])] = &[
     (1, [0x52E8A140, 0x34FDA132, 0x3D07A138, 0x37DBA134]),
     (2, [0x7D44D03E, 0x8A2BD042, 0x88DED04A, 0x8FACD040]),
@@ -114,8 +115,8 @@ fn each_mode(rt: HostRuntime) {
     }
 }
 
-/// Lines of each linear symbology, and the sums of Zint's modules in 50 rows between the quiet zones of ISO/IEC 15420 and
-/// 15417: 11 and 7, 7 and 7, 9 and 9, 10 and 10 modules.
+/// Lines of each linear symbology, and the sums of Zint's modules in 50 rows between the quiet zones of ISO/IEC 15420
+/// and 15417: 11 and 7, 7 and 7, 9 and 9, 10 and 10 modules.
 const LINEAR: &[(&[u8], u32)] = &[
     (b"ean13 400638133393\n", 0xBAA131FE),
     (b"ean8 7351353\n", 0x1AFC0339),

@@ -3,7 +3,8 @@
 use crate::vectors::assert_drawn;
 use linear::Code128;
 
-/// Rows of the test suites of zint and barcode. zint has some from ISO/IEC 15417 and the specifications of HIBC and DPD.
+/// Rows of the test suites of zint and barcode. zint has some from ISO/IEC 15417 and the specifications of HIBC and
+/// DPD.
 const CODE128: &[(&[u8], &[u8])] = &[
     (
         b"AIM1234",
