@@ -1,5 +1,5 @@
 use Rattle.std.proofs.Common.{◌≡◌, [], ◌++◌, length}
-use Rattle.filter.proofs.FilterLemmas.{TookPiece-append}
+use Rattle.filter.proofs.FilterLaws.{TookPiece-append}
 use Rattle.filter.proofs.RunLemmas.{at_ok, TookLines-finish}
 use Rattle.filter.specs.Filter.{TookLines, StopsInFinish}
 use Rattle.filter.specs.Output.{status_of}
