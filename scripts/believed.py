@@ -69,7 +69,7 @@ class File:
         head = list(itertools.takewhile(lambda line: line.startswith("--"), lines))
         self.about = " ".join(line.removeprefix("--").strip() for line in head)
         block = []
-        for line in lines[len(head):] + [""]:
+        for line in lines[len(head) :] + [""]:
             if line.strip():
                 block.append(line)
             elif block:
@@ -328,9 +328,11 @@ def check_page(page, lists):
     anew = page_anew(page, lists)
     if anew == page:
         return True
-    differences = list(difflib.unified_diff(
-        page.split("\n"), anew.split("\n"), f"{PAGE} as it is", f"{PAGE} as the files give it", lineterm="", n=1
-    ))
+    differences = list(
+        difflib.unified_diff(
+            page.split("\n"), anew.split("\n"), f"{PAGE} as it is", f"{PAGE} as the files give it", lineterm="", n=1
+        )
+    )
     print(*differences[:SHOWN], sep="\n")
     if len(differences) > SHOWN:
         print(f"and {len(differences) - SHOWN} more lines")

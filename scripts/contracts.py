@@ -109,8 +109,10 @@ def row_of(name, functions):
 
 
 def print_tables(functions, most):
-    print("| Crate | Exported functions | `ensures` | Mean | `requires` "
-          "| Private functions | `ensures` | Mean | `requires` |")
+    print(
+        "| Crate | Exported functions | `ensures` | Mean | `requires` "
+        "| Private functions | `ensures` | Mean | `requires` |"
+    )
     print("|---|---|---|---|---|---|---|---|---|")
     for crate in dict.fromkeys(one.crate for one in functions):
         print(row_of(f"`{crate}`", [one for one in functions if one.crate == crate]))

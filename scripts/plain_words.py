@@ -130,8 +130,12 @@ def files_of(top, places):
 def main():
     parser = argparse.ArgumentParser(description=__doc__, formatter_class=argparse.RawDescriptionHelpFormatter)
     parser.add_argument("--top", default=sources.TOP, help="the top of the repository (this one)")
-    parser.add_argument("--check", nargs="+", metavar="FOLDER",
-                        help="read these folders or files alone, and fail where something is found")
+    parser.add_argument(
+        "--check",
+        nargs="+",
+        metavar="FOLDER",
+        help="read these folders or files alone, and fail where something is found",
+    )
     given = parser.parse_args()
     top = os.path.abspath(given.top)
     places = [os.path.join(top, place) for place in given.check or (".",)]

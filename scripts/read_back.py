@@ -31,15 +31,25 @@ ALPHANUMERIC = "0123456789ABCDEFGHIJKLMNOPQRSTUVWXYZ $%*+-./:"
 # The most digits, alphanumeric characters and bytes that versions 1, 5 and 10 hold at each level (ISO/IEC 18004,
 # table 7).
 CAPACITIES = {
-    (1, "L"): (41, 25, 17), (1, "M"): (34, 20, 14), (1, "Q"): (27, 16, 11), (1, "H"): (17, 10, 7),
-    (5, "L"): (255, 154, 106), (5, "M"): (202, 122, 84), (5, "Q"): (144, 87, 60), (5, "H"): (106, 64, 44),
-    (10, "L"): (652, 395, 271), (10, "M"): (513, 311, 213), (10, "Q"): (364, 221, 151), (10, "H"): (288, 174, 119),
+    (1, "L"): (41, 25, 17),
+    (1, "M"): (34, 20, 14),
+    (1, "Q"): (27, 16, 11),
+    (1, "H"): (17, 10, 7),
+    (5, "L"): (255, 154, 106),
+    (5, "M"): (202, 122, 84),
+    (5, "Q"): (144, 87, 60),
+    (5, "H"): (106, 64, 44),
+    (10, "L"): (652, 395, 271),
+    (10, "M"): (513, 311, 213),
+    (10, "Q"): (364, 221, 151),
+    (10, "H"): (288, 174, 119),
 }
 
 
 @dataclass(frozen=True)
 class Label:
     """One label: its line's head, the data as bytes, what a reader must return, and how the run is set."""
+
     head: str
     data: bytes
     full: bytes

@@ -67,12 +67,12 @@ def rows_of_ours(picture):
     header, rest = picture.split(b"\n", 2)[1], picture.split(b"\n", 2)[2]
     width, height = map(int, header.split())
     pixels = rest.replace(b"\n", b"").decode()
-    rows = [pixels[start:start + width] for start in range(0, width * height, width)]
+    rows = [pixels[start : start + width] for start in range(0, width * height, width)]
     left = min(row.index("1") for row in rows if "1" in row)
     right = max(row.rindex("1") for row in rows if "1" in row)
     # A linear symbol is drawn one module high; a QR symbol has as much white above and below as at its sides.
-    inner = rows if height == 1 else rows[left:height - left]
-    return [row[left:right + 1] for row in inner]
+    inner = rows if height == 1 else rows[left : height - left]
+    return [row[left : right + 1] for row in inner]
 
 
 def rows_of_zint(words, data, width):

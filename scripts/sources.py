@@ -23,8 +23,13 @@ def program_given(description):
     """The program `labels` that the words name, the proved one where they name none. Stops where it is not there."""
     parser = argparse.ArgumentParser(description=description, formatter_class=argparse.RawDescriptionHelpFormatter)
     default = os.path.join(TOP, "crates", "labels", "out", "labels")
-    parser.add_argument("program", nargs="?", default=default, metavar="PROGRAM",
-                        help="the program (crates/labels/out/labels, which `rt run` in crates/labels makes)")
+    parser.add_argument(
+        "program",
+        nargs="?",
+        default=default,
+        metavar="PROGRAM",
+        help="the program (crates/labels/out/labels, which `rt run` in crates/labels makes)",
+    )
     program = os.path.abspath(parser.parse_args().program)
     if not os.path.isfile(program) or not os.access(program, os.X_OK):
         parser.error(f"{program} is no program: run `rt run < /dev/null` in crates/labels, or name another one")
@@ -129,33 +134,32 @@ def items_of(text):
     blank, items, place = blanked(text), [], 0
     while match := ITEM.search(blank, place):
         start, kind = match.start(), match.group("kind")
-        if kind == "use" or re.match(r"ghost\s+use\b", blank[match.start("kind"):]):
+        if kind == "use" or re.match(r"ghost\s+use\b", blank[match.start("kind") :]):
             kind, body, clauses = "use", blank.index(";", start), []
             end = body + 1
         else:
             body, end, clauses = end_of_item(blank, start)
-        head = text[start:min([body, *(begin for _, begin, _ in clauses)])]
-        items.append(Item(
-            kind=kind,
-            name=name_of(kind, head),
-            start=start,
-            docs=docs_before([line.strip() for line in text[:start].rstrip().split("\n")]),
-            text=text[start:end],
-            is_public=bool(match.group("public")) and "(" not in match.group("public"),
-            head=head.strip(),
-            body=text[body + 1:end - 1] if blank[body:body + 1] == "{" else "",
-            clauses=[(word, text[begin:stop]) for word, begin, stop in clauses],
-        ))
+        head = text[start : min([body, *(begin for _, begin, _ in clauses)])]
+        items.append(
+            Item(
+                kind=kind,
+                name=name_of(kind, head),
+                start=start,
+                docs=docs_before([line.strip() for line in text[:start].rstrip().split("\n")]),
+                text=text[start:end],
+                is_public=bool(match.group("public")) and "(" not in match.group("public"),
+                head=head.strip(),
+                body=text[body + 1 : end - 1] if blank[body : body + 1] == "{" else "",
+                clauses=[(word, text[begin:stop]) for word, begin, stop in clauses],
+            )
+        )
         place = end
     return items
 
 
 def code_lines(text):
     """The lines of a text that hold code: no blank lines, comments and attributes."""
-    return [
-        line for line in text.split("\n")
-        if line.strip() and not line.strip().startswith(("//", "#[", "#!["))
-    ]
+    return [line for line in text.split("\n") if line.strip() and not line.strip().startswith(("//", "#[", "#!["))]
 
 
 def head_comment(text):

@@ -231,7 +231,7 @@ def rust_names(path):
     if not path.endswith("}"):
         last = re.split(r"::|\bas\b", path)[-1].strip()
         return [] if last == "*" else [last]
-    inner, depth, start = path[len(head) + 1:-1], 0, 0
+    inner, depth, start = path[len(head) + 1 : -1], 0, 0
     for place, letter in enumerate(inner + ","):
         depth += (letter == "{") - (letter == "}")
         if letter == "," and depth == 0:
@@ -251,7 +251,7 @@ def ghost_text(text):
     """Of code: contracts, ghost items and attributes."""
     blank, found = without_uses(text), []
     for match in GHOST.finditer(blank):
-        found.append(blank[match.end():sources.after_bracket(blank, match.end())])
+        found.append(blank[match.end() : sources.after_bracket(blank, match.end())])
     return "\n".join(found)
 
 
@@ -398,8 +398,10 @@ def main():
     definition_count = sum(len(file.definitions) for file in tree.antt)
     import_count = sum(len(file.imports) for file in [*tree.antt, *tree.rust])
     found = len(definitions) + len(imports) + len(functions)
-    print(f"{definition_count} definitions and lemmas, {import_count} imported names, {function_count} functions: "
-          f"{found} unused")
+    print(
+        f"{definition_count} definitions and lemmas, {import_count} imported names, {function_count} functions: "
+        f"{found} unused"
+    )
     return 1 if found or not definition_count or not function_count else 0
 
 

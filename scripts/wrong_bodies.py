@@ -207,10 +207,14 @@ def try_all(rtlib, crate, shows):
 
 def arguments():
     parser = argparse.ArgumentParser(description=__doc__, formatter_class=argparse.RawDescriptionHelpFormatter)
-    parser.add_argument("crates", nargs="*", metavar="CRATE",
-                        help="a crate of crates.txt (all that have wrong bodies)")
-    parser.add_argument("--built", action="store_true",
-                        help="take the libraries below as `rt ci` left them; else build those that changed")
+    parser.add_argument(
+        "crates", nargs="*", metavar="CRATE", help="a crate of crates.txt (all that have wrong bodies)"
+    )
+    parser.add_argument(
+        "--built",
+        action="store_true",
+        help="take the libraries below as `rt ci` left them; else build those that changed",
+    )
     parser.add_argument("--show", action="store_true", help="print what the check says of each wrong body's functions")
     parser.add_argument("--any-kit", action="store_true", help="go on with a kit that this script does not know")
     given, known = parser.parse_args(), sources.crates_of(sources.TOP)

@@ -14,10 +14,21 @@ class ToolError(Exception):
     """Why a tool cannot go on: a message without the tool's name."""
 
 
+class Parser(argparse.ArgumentParser):
+    """A parser that ends with status 2 for bad words even where standard error takes no message."""
+
+    def error(self, message: str) -> NoReturn:
+        try:
+            super().error(message)
+        except OSError:
+            _drop(sys.stderr)
+            sys.exit(BAD_WORDS)
+
+
 def argument_parser(tool: str, description: str) -> argparse.ArgumentParser:
     """A parser of a tool's words, without abbreviations; it ends with status 2 and the usage for bad words."""
     layout = argparse.RawDescriptionHelpFormatter
-    return argparse.ArgumentParser(prog=tool, description=description, formatter_class=layout, allow_abbrev=False)
+    return Parser(prog=tool, description=description, formatter_class=layout, allow_abbrev=False)
 
 
 def standard_output() -> BinaryIO:

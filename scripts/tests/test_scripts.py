@@ -67,7 +67,7 @@ class Words(unittest.TestCase):
 
     def names(self):
         own = ["believed.py", "wrong_bodies.py", "read_back.py", "same_modules.py", "unused.py", "contracts.py"]
-        own += ["glossary.py", "plain_words.py"]
+        own += ["glossary.py", "plain_words.py", "quoted_code.py"]
         return [*own, "instructions.sh", "benchmark.sh", "refuse_each_growth.sh"]
 
     def test_help(self):
@@ -147,7 +147,7 @@ class Believed(unittest.TestCase):
         """Changes a file until the end of this test."""
         path = os.path.join(self.folder, file)
         text = read(path)
-        self.assertEqual(text.count(old), 1, f"{old!r} stands once in {file}")
+        self.assertEqual(text.count(old), 1, f"{old!r} is once in {file}")
         self.addCleanup(write, path, text)
         write(path, text.replace(old, new))
 
@@ -169,12 +169,12 @@ class Believed(unittest.TestCase):
         self.assertEqual(self.check()[0], 1)
 
     def test_another_comment_in_the_specs(self):
-        self.change("crates/labelcore/specs/Lines.antt", "-- the line feed", "-- the carriage return")
+        self.change("crates/device/specs/Lines.antt", "-- the line feed", "-- the carriage return")
         self.assertEqual(self.check()[0], 1)
 
     def test_another_clause_in_a_trait(self):
-        clause = "        ensures some { IfOk result (λ n. 0 < n) }\n"
-        self.change("crates/labelcore/src/device.rt", clause, "")
+        clause = "        requires { 0 < length bytes.now }\n"
+        self.change("crates/device/src/sink.rt", clause, "")
         status, said = self.check()
         self.assertEqual(status, 1)
         self.assertIn("trait `Sink`", said)
@@ -191,7 +191,7 @@ class Believed(unittest.TestCase):
         self.assertIn("gf65536", said)
 
     def test_a_definition_that_is_gone(self):
-        self.change("crates/labelcore/specs/Lines.antt", "pub line_limit :", "pub line_bound :")
+        self.change("crates/labelcore/specs/HeldLine.antt", "pub line_limit :", "pub line_bound :")
         status, said = self.check()
         self.assertEqual(status, 1)
 
@@ -305,7 +305,7 @@ class Instructions(InFolder):
         """The table that the script prints of the stand-ins, made once for all tests."""
         status, table = run("instructions.sh", self.program, **self.environment)
         self.assertEqual(status, 0, table)
-        type(self).table = table[table.index("| Label |"):]
+        type(self).table = table[table.index("| Label |") :]
         return self.table
 
     def check(self, **more):
@@ -617,7 +617,7 @@ class PlainWords(InFolder):
             ("crates/a/src/a.rt", "fn a() {} // it answers `Err`\n"),
             ("crates/a/specs/A.antt", "-- the parity of it\nx : Type 0\n"),
             ("scripts/a.py", "x = 1  # so many\n"),
-            ("scripts/b.py", "def f():\n    \"\"\"What it tells.\"\"\"\n"),
+            ("scripts/b.py", 'def f():\n    """What it tells."""\n'),
             ("tools/a", "#!/bin/sh\n# it comes to this\n"),
         ):
             with self.subTest(name):
@@ -642,6 +642,53 @@ class PlainWords(InFolder):
 
     def test_folder_that_is_not_there(self):
         self.assertEqual(run("plain_words.py", "--check", "no/such/folder")[0], 2)
+
+
+class QuotedCode(InFolder):
+    """Code in the pages is code of the crates."""
+
+    def pages(self, library, proof=""):
+        write(self.path("crates", "a", "src", "a.rt"), "fn a() {\n    one();\n    two();\n}\n")
+        write(self.path("docs", "LIBRARY.md"), library)
+        write(self.path("docs", "PROOF.md"), proof)
+        return run("quoted_code.py", "--top", self.folder)
+
+    def block(self, code, above="In `crates/a/src/a.rt`:", language="rust"):
+        return f"{above}\n\n```{language}\n{code}\n```\n"
+
+    def test_the_pages_of_the_repository(self):
+        status, said = run("quoted_code.py")
+        self.assertEqual((status, " 0 missing" in said), (0, True), said)
+
+    def test_code_of_the_file(self):
+        self.assertEqual(self.pages(self.block("one();\ntwo();")), (0, "1 blocks, 0 missing, 0 not checked\n"))
+
+    def test_other_code(self):
+        status, said = self.pages(self.block("one();\nthree();"))
+        self.assertEqual((status, said.split(":")[:2]), (1, ["docs/LIBRARY.md", "3"]))
+
+    def test_half_a_line(self):
+        self.assertEqual(self.pages(self.block("ne();"))[0], 1)
+
+    def test_file_that_is_not_named(self):
+        self.assertEqual(self.pages(self.block("one();", "Somewhere:"))[0], 1)
+
+    def test_file_that_is_gone(self):
+        self.assertEqual(self.pages(self.block("one();", "In `crates/a/src/b.rt`:"))[0], 1)
+
+    def test_marked_as_not_checked(self):
+        said = self.pages(self.block("one();") + self.block("three();", "Not checked:"))
+        self.assertEqual(said, (0, "2 blocks, 0 missing, 1 not checked\n"))
+
+    def test_clause(self):
+        clause = self.block("ensures { three }", language="text")
+        self.assertEqual(self.pages(self.block("one();"), clause)[0], 1)
+
+    def test_other_text(self):
+        self.assertEqual(self.pages(self.block("one();"), self.block("a ──▶ b", language="text"))[0], 0)
+
+    def test_no_block(self):
+        self.assertEqual(self.pages("Nothing.\n")[0], 1)
 
 
 if __name__ == "__main__":

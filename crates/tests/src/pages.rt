@@ -1,0 +1,176 @@
+//! The examples of the crates' pages (`crates/*/README.md`). `scripts/pages.py` compares them with the pages.
+use command::{ArgumentsFault, VERSION, options_of};
+use device::{Buffered, MemSink, MemSource, Sink, write_whole};
+use filter::{Status, run};
+use gf256::Generator;
+use labelcore::{Fault, Format, Item, LineBuf, Options, Scratch, Symbology, parse};
+use linear::{Ean8, Linear, Refusal, Row, coding_laws};
+use picture::{Bars, Framed, QuietZone, Scaled, write_pbm};
+use qrdata::{Codewords, Level, Version, choose, codewords};
+use qrmatrix::{Matrix, symbol_laws};
+use std::test::Fail;
+
+#[test]
+fn page_of_device(rt: HostRuntime) {
+    let mut sink: Buffered<MemSink<16>> = Buffered::new(MemSink::new(4, 16));
+    assert!(rt; write_whole(b"ean8 7351353\n", &mut sink).is_ok());
+    assert!(rt; sink.sink().bytes().is_empty() && sink.buffered() == b"ean8 7351353\n".as_slice());
+    assert!(rt; sink.flush().is_ok());
+    assert!(rt; sink.buffered().is_empty() && sink.sink().bytes() == b"ean8 7351353\n".as_slice());
+}
+
+#[test]
+fn page_of_linear(rt: HostRuntime) {
+    let mut row = Row::new();
+    assert!(rt; Ean8::encode(b"7351353", &mut row).is_ok());
+    assert!(rt; row.len() == 67);
+    let refusal = Refusal::WrongCheckDigit { given: 0, right: 7 };
+    assert!(rt; Ean8::encode(b"73513530", &mut row) == Err(refusal));
+    assert!(rt; row.is_empty());
+    assert!(rt; Ean8::QUIET_ZONES.left == 7);
+    coding_laws();
+}
+
+#[test]
+fn page_of_gf256(rt: HostRuntime) {
+    let block = [32, 91, 11, 120, 209, 114, 220, 77, 67, 64, 236, 17, 236];
+    let mut ec_codewords = [0; 13];
+    Generator::new(13).ec_codewords(&block, &mut ec_codewords);
+    assert!(rt; ec_codewords == [168, 72, 22, 82, 217, 54, 156, 0, 46, 15, 180, 122, 16]);
+}
+
+#[test]
+fn page_of_qrdata(rt: HostRuntime) {
+    let plan = match choose(Version::of(1), Level::Q, b"HELLO WORLD") {
+        Ok(plan) => plan,
+        Err(_) => panic!(rt; "it does not fit"),
+    };
+    assert!(rt; plan.version().number() == 1 && plan.bits() == 74);
+    let mut symbol = Codewords::new();
+    codewords(&plan, &mut symbol);
+    assert!(rt; symbol.len() == 26 && symbol[0] == 32 && symbol[1] == 91);
+}
+
+#[test]
+fn page_of_qrmatrix(rt: HostRuntime) {
+    let plan = match choose(Version::of(1), Level::M, b"01234567") {
+        Ok(plan) => plan,
+        Err(_) => panic!(rt; "it does not fit"),
+    };
+    let mut symbol = Codewords::new();
+    codewords(&plan, &mut symbol);
+    let matrix = Matrix::draw(plan.version(), plan.level(), None, &symbol);
+    assert!(rt; matrix.side() == 21 && matrix.mask() == 0 && matrix.penalty() == 297);
+    symbol_laws();
+}
+
+#[test]
+fn page_of_picture(rt: HostRuntime) {
+    let row = [true, false, true];
+    let zone = QuietZone {
+        left: 1,
+        right: 1,
+        top: 0,
+        bottom: 0,
+    };
+    let picture = Scaled::new(Framed::new(Bars::new(&row, 1), zone), 2);
+    let mut sink = MemSink::<64>::new(64, 64);
+    assert!(rt; write_pbm(&picture, &mut sink).is_ok());
+    assert!(rt; sink.bytes() == b"P1\n10 2\n0011001100\n0011001100\n".as_slice());
+}
+
+#[test]
+fn page_of_labelcore(rt: HostRuntime) {
+    let Some(options) = Options::default().with_height(30) else {
+        panic!(rt; "30 is a height");
+    };
+    let mut line = LineBuf::new();
+    for byte in b"ean8 7351353" {
+        line.push(*byte);
+    }
+    let mut scratch = Scratch::new();
+    let data = b"7351353".as_slice();
+    assert!(rt;
+        parse(&options, &line, &mut scratch) == Item::Drawn(Symbology::Ean8, options, data)
+    );
+    line.clear();
+    line.push(b'x');
+    assert!(rt; parse(&options, &line, &mut scratch) == Item::Refused(Fault::UnknownSymbology));
+}
+
+#[test]
+fn options_by_steps(rt: HostRuntime) {
+    let options = Options::default()
+        .with_format(Format::Ascii)
+        .with_escapes(true);
+    let Some(options) = options.with_level(Level::H).with_scale(2) else {
+        panic!(rt; "2 is a scale");
+    };
+    assert!(rt; options.format() == Format::Ascii && options.scale() == 2 && options.escapes());
+    assert!(rt; options.with_scale(9).is_none() && options.with_height(0).is_none());
+    assert!(rt; options.with_min_version(11).is_none() && options.with_mask(Some(8)).is_none());
+}
+
+#[test]
+fn page_of_filter(rt: HostRuntime) {
+    let Some(options) = Options::new(Format::Pbm, 1, 1, Level::M, 1, None, false) else {
+        panic!(rt; "these are in their ranges");
+    };
+    let mut source = MemSource::new(b"ean8 7351353\npdf x\n", 4096, false);
+    let mut images: MemSink<512> = MemSink::new(512, 512);
+    let mut messages: MemSink<64> = MemSink::new(64, 64);
+    let answer = run(options, &mut source, &mut images, &mut messages);
+    assert!(rt; answer == Ok(Status::Refused));
+    assert!(rt; images.bytes().len() == 91);
+    assert!(rt; messages.bytes() == b"line 2: unknown symbology\n".as_slice());
+}
+
+#[test]
+fn page_of_command(rt: HostRuntime) -> Result<(), Fail> {
+    let alloc = rt.alloc();
+    let mut arguments = Vec::new(alloc);
+    arguments.push(String::from_str(alloc, "--scale=4")?)?;
+    arguments.push(String::from_str(alloc, "labels.txt")?)?;
+    match options_of(alloc, arguments.as_slice()) {
+        Ok(choice) => {
+            assert!(rt; choice.options.scale() == 4);
+            assert!(rt; choice.file.as_deref() == Some("labels.txt"));
+        }
+        Err(ArgumentsFault::Memory) => {}
+        Err(_) => panic!(rt; "refused"),
+    }
+    Ok(())
+}
+
+#[test]
+fn help_names_the_version_and_the_defaults(rt: HostRuntime) -> Result<(), Fail> {
+    let alloc = rt.alloc();
+    let mut arguments = Vec::new(alloc);
+    arguments.push(String::from_str(alloc, "--help")?)?;
+    let defaults = Options::default();
+    let scale = format!(in alloc;
+        "The width and height of a module in pixels [default: {}]\n",
+        defaults.scale()
+    )?;
+    let height = format!(in alloc; "symbols in modules [default: {}]\n", defaults.height())?;
+    let min_version = format!(in alloc;
+        "The smallest version of QR symbols [default: {}]\n",
+        defaults.min_version()
+    )?;
+    match options_of(alloc, arguments.as_slice()) {
+        Err(ArgumentsFault::Help(text)) => {
+            assert!(rt; text.as_str().starts_with(VERSION));
+            assert!(rt; text.as_str().contains(scale.as_str()));
+            assert!(rt; text.as_str().contains(height.as_str()));
+            assert!(rt; text.as_str().contains(min_version.as_str()));
+            assert!(rt;
+                defaults.format() == Format::Pbm && text.as_str().contains("[default: pbm]\n")
+            );
+            assert!(rt; defaults.level() == Level::M && text.as_str().contains("[default: M]\n"));
+            assert!(rt; defaults.mask().is_none() && !defaults.escapes());
+        }
+        Err(ArgumentsFault::Memory) => {}
+        _ => panic!(rt; "no help"),
+    }
+    Ok(())
+}
