@@ -117,6 +117,38 @@ fn options_beside_their_ranges(rt: HostRuntime) {
     assert!(rt; Options::new(Format::Pbm, 8, 500, Level::M, 10, Some(7), false).is_some());
 }
 
+/// The options with a scale, a height, a smallest version and a mask, each set by its own call.
+fn set_one_by_one(scale: u8, height: u16, version: u8, mask: u8) -> Option<Options> {
+    Options::default()
+        .with_scale(scale)?
+        .with_height(height)?
+        .with_min_version(version)?
+        .with_mask(Some(mask))
+}
+
+#[test]
+fn options_are_set_one_by_one(rt: HostRuntime) {
+    let set = set_one_by_one(8, 500, 10, 7).expect(&rt, "in range");
+    let set = set
+        .with_format(Format::Ascii)
+        .with_level(Level::Q)
+        .with_escapes(true);
+    let want = Options::new(Format::Ascii, 8, 500, Level::Q, 10, Some(7), true);
+    assert!(rt; want == Some(set));
+    assert!(rt; set_one_by_one(1, 1, 1, 0).is_some());
+    for (scale, height, version, mask) in [
+        (0, 1, 1, 0),
+        (9, 1, 1, 0),
+        (1, 0, 1, 0),
+        (1, 501, 1, 0),
+        (1, 1, 0, 0),
+        (1, 1, 11, 0),
+        (1, 1, 1, 8),
+    ] {
+        assert!(rt; set_one_by_one(scale, height, version, mask).is_none());
+    }
+}
+
 /// Escaped data, and the place of its bad backslash.
 const BAD_ESCAPES: &[(&[u8], usize)] = &[
     (b"code128 \\n\\q", 3),
