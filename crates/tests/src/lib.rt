@@ -7,4 +7,6 @@ mod layers;
 #[cfg(test)]
 mod runs;
 #[cfg(test)]
+mod word_limits;
+#[cfg(test)]
 mod words;
