@@ -167,6 +167,19 @@ fn places_of_bad_escapes(rt: HostRuntime) {
     assert!(rt; asked(&rt, b"code128 \\xff\\xFF\\x09\\n", true).is_ok());
 }
 
+#[test]
+fn bytes_of_units(rt: HostRuntime) {
+    let options = Options::new(Format::Pbm, 1, 50, Level::M, 1, None, true);
+    let options = options.expect(&rt, "in range");
+    let mut held = LineBuf::new();
+    for byte in b"qr a\\nb\\\\c\\x41\\xfF" {
+        held.push(*byte);
+    }
+    let mut scratch = Scratch::new();
+    let item = parse(&options, &held, &mut scratch);
+    assert!(rt; item == Item::Draw(Symbology::Qr, options, b"a\nb\\cA\xFF"));
+}
+
 /// Levels, and the message of data that does not fit.
 const LETTERS: &[(Level, &[u8])] = &[
     (Level::L, b"line 9: data does not fit version 10-L\n"),
