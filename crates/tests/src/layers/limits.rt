@@ -1,7 +1,7 @@
 //! Both ends of each range of a setting, and what lies beside them; the letters and places of messages
 //! (docs/SPECIFICATION.md, Settings, Refusals).
 use device::MemSink;
-use labelcore::{Fault, Format, Item, LineBuf, Options, Scratch, parse, write_fault};
+use labelcore::{Fault, Format, Item, LineBuf, Options, Scratch, Symbology, parse, write_fault};
 use qrdata::Level;
 use std::process::Abort;
 
@@ -177,7 +177,7 @@ fn bytes_of_units(rt: HostRuntime) {
     }
     let mut scratch = Scratch::new();
     let item = parse(&options, &held, &mut scratch);
-    assert!(rt; item == Item::Draw(Symbology::Qr, options, b"a\nb\\cA\xFF"));
+    assert!(rt; item == Item::Drawn(Symbology::Qr, options, b"a\nb\\cA\xFF"));
 }
 
 /// Levels, and the message of data that does not fit.
