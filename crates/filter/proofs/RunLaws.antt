@@ -114,7 +114,7 @@ module _ (options : OptionValues) where
         RunStops-at_end (took_out out out'') (took_err err err'') text o o' e e' fault r
         (elim s [ inl line ↦ inl (StopsInLine-finish fault line) | inr whole ↦ inr (TookLines-finish whole) ])
 
-    -- what is held back goes on
+    -- what is buffered goes on
     pub TookPiece-sent : took_out out' out'' [] → took_err err' err'' []
         → TookPiece options (took_out out out'') (took_err err err'') [] text
     TookPiece-sent none_out none_err = record {
@@ -124,7 +124,7 @@ module _ (options : OptionValues) where
           (length (ended_lines [])) took.added took.took none_out none_err;
     }
 
-    -- what is held back does not go on: of the open line's image nothing was taken
+    -- what is buffered does not go on: of the open line's image nothing was taken
     pub RunStops-between : took_out out' out'' [] → took_err err' err'' []
         → RunStops options (took_out out out'') (took_err err err'') text WriteOut
     RunStops-between none_out none_err =

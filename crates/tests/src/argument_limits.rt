@@ -65,15 +65,15 @@ const IN_RANGE: &[(&str, Named)] = &[
 
 #[test]
 fn numbers_at_the_ends_of_their_ranges(rt: HostRuntime) -> Result<(), Fail> {
-    for (word, named) in IN_RANGE {
-        assert!(rt; choice_of(rt.alloc(), &[*word])?.options == named.options(&rt));
+    for (argument, named) in IN_RANGE {
+        assert!(rt; choice_of(rt.alloc(), &[*argument])?.options == named.options(&rt));
     }
     Ok(())
 }
 
 #[test]
 fn numbers_beside_their_ranges(rt: HostRuntime) -> Result<(), Fail> {
-    for word in [
+    for argument in [
         "--scale=0",
         "--scale=9",
         "--height=0",
@@ -82,7 +82,7 @@ fn numbers_beside_their_ranges(rt: HostRuntime) -> Result<(), Fail> {
         "--min-version=11",
         "--mask=8",
     ] {
-        assert!(rt; are_bad(rt.alloc(), &[word])?);
+        assert!(rt; are_bad(rt.alloc(), &[argument])?);
     }
     Ok(())
 }

@@ -1,4 +1,4 @@
-//! The words of the command line, the file that they name, and how the program ends.
+//! The arguments of the command line, the file that they name, and how the program ends.
 use crate::runs::support::{DEFAULT, EAN8, LEVEL_L, LOW, Named};
 use command::{ArgumentsFault, Choice, End, OpenFault, open_file, options_of};
 use device::MemSink;
@@ -11,26 +11,26 @@ use std::process::Abort;
 use std::rt::Files;
 use std::test::Fail;
 
-/// The words of a command line.
-fn words_of(alloc: Global, texts: &[&str]) -> Result<Vec<String>, AllocError> {
-    let mut words = Vec::new(alloc);
+/// The arguments of a command line.
+fn arguments_of(alloc: Global, texts: &[&str]) -> Result<Vec<String>, AllocError> {
+    let mut arguments = Vec::new(alloc);
     for text in texts {
-        words.push(String::from_str(alloc, text)?)?;
+        arguments.push(String::from_str(alloc, text)?)?;
     }
-    Ok(words)
+    Ok(arguments)
 }
 
-/// What words choose.
+/// What arguments choose.
 pub fn choice_of(alloc: Global, texts: &[&str]) -> Result<Choice, Fail> {
-    let words = words_of(alloc, texts)?;
-    Ok(options_of(alloc, words.as_slice())?)
+    let arguments = arguments_of(alloc, texts)?;
+    Ok(options_of(alloc, arguments.as_slice())?)
 }
 
-/// Whether words are refused as bad.
+/// Whether arguments are refused as bad.
 pub fn are_bad(alloc: Global, texts: &[&str]) -> Result<bool, AllocError> {
-    let words = words_of(alloc, texts)?;
+    let arguments = arguments_of(alloc, texts)?;
     Ok(matches!(
-        &options_of(alloc, words.as_slice()),
+        &options_of(alloc, arguments.as_slice()),
         Err(ArgumentsFault::Bad)
     ))
 }
@@ -38,7 +38,7 @@ pub fn are_bad(alloc: Global, texts: &[&str]) -> Result<bool, AllocError> {
 #[test]
 fn refuses_words(rt: HostRuntime) -> Result<(), Fail> {
     let alloc = rt.alloc();
-    for words in [
+    for arguments in [
         ["--scale", "9"].as_slice(),
         ["--level", "l"].as_slice(),
         ["--level", "Q", "--level", "M"].as_slice(),
@@ -46,12 +46,12 @@ fn refuses_words(rt: HostRuntime) -> Result<(), Fail> {
         ["--mask", "8"].as_slice(),
         ["a", "b"].as_slice(),
     ] {
-        assert!(rt; are_bad(alloc, words)?);
+        assert!(rt; are_bad(alloc, arguments)?);
     }
     Ok(())
 }
 
-/// Whether words choose these options and this file.
+/// Whether arguments choose these options and this file.
 fn chooses(
     alloc: Global,
     texts: &[&str],
@@ -88,7 +88,7 @@ fn names_settings(rt: HostRuntime) -> Result<(), Fail> {
     Ok(())
 }
 
-/// The words of worked labels, and the options that the tests of the filter draw these labels with.
+/// The arguments of worked labels, and the options that the tests of the filter draw these labels with.
 const WORKED: &[(&[&str], Named)] = &[
     (&["--height", "1"], LOW),
     (
@@ -182,8 +182,8 @@ const WORKED: &[(&[&str], Named)] = &[
 #[test]
 fn names_the_options_of_worked_labels(rt: HostRuntime) -> Result<(), Fail> {
     let alloc = rt.alloc();
-    for (words, named) in WORKED {
-        assert!(rt; choice_of(alloc, words)?.options == named.options(&rt));
+    for (arguments, named) in WORKED {
+        assert!(rt; choice_of(alloc, arguments)?.options == named.options(&rt));
     }
     Ok(())
 }
@@ -191,8 +191,8 @@ fn names_the_options_of_worked_labels(rt: HostRuntime) -> Result<(), Fail> {
 #[test]
 fn helps(rt: HostRuntime) -> Result<(), Fail> {
     let alloc = rt.alloc();
-    let words = words_of(alloc, &["--help"])?;
-    match options_of(alloc, words.as_slice()) {
+    let arguments = arguments_of(alloc, &["--help"])?;
+    match options_of(alloc, arguments.as_slice()) {
         Err(ArgumentsFault::Help(text)) => {
             for part in [
                 "\nUsage: labels [OPTIONS] [FILE]\n",
@@ -275,10 +275,10 @@ const NAME: &str = "one-label.txt";
 fn run_of_file<R: Abort + Files>(
     rt: &R,
     alloc: Global,
-    words: &[String],
+    arguments: &[String],
     out: &mut MemSink<91>,
 ) -> Option<Result<Status, RunFault>> {
-    let choice = match options_of(alloc, words) {
+    let choice = match options_of(alloc, arguments) {
         Ok(choice) => choice,
         Err(ArgumentsFault::Memory) => return None,
         Err(_) => panic!(rt; "words refused"),
@@ -298,9 +298,9 @@ fn run_of_file<R: Abort + Files>(
 /// Writes a file of one label and runs over it. Answers whether memory sufficed; if not, it expects no image.
 fn draws_file<R: Abort + Files>(rt: &R, alloc: Global, name: &str) -> Result<bool, Fail> {
     fs::write(rt, name, "ean8 7351353\n")?;
-    let words = words_of(alloc, &["--height", "1", name])?;
+    let arguments = arguments_of(alloc, &["--height", "1", name])?;
     let mut out: MemSink<91> = MemSink::new(91, 91);
-    let answer = run_of_file(rt, alloc, words.as_slice(), &mut out);
+    let answer = run_of_file(rt, alloc, arguments.as_slice(), &mut out);
     let images = if answer.is_some() { EAN8 } else { b"" };
     assert!(rt; out.bytes() == images);
     assert!(rt; matches!(answer, None | Some(Ok(Status::Clean))));

@@ -1,4 +1,4 @@
-//! Names of files, long lists of words, and the help text: what no clause says of them.
+//! Names of files, long lists of arguments, and the help text: what no clause says of them.
 use crate::calls::kinds::KINDS;
 use crate::runs::support::low;
 use command::{ArgumentsFault, OpenFault, open_file, options_of};
@@ -133,22 +133,22 @@ fn a_folder_can_not_be_read(rt: HostRuntime) {
     assert!(rt; answer == Err(RunFault::Read));
 }
 
-/// A word, `count` times.
-fn many(alloc: Global, word: &str, count: usize) -> Result<Vec<String>, AllocError> {
-    let mut words = Vec::new(alloc);
+/// An argument, `count` times.
+fn many(alloc: Global, argument: &str, count: usize) -> Result<Vec<String>, AllocError> {
+    let mut arguments = Vec::new(alloc);
     for _ in 0..count {
-        words.push(String::from_str(alloc, word)?)?;
+        arguments.push(String::from_str(alloc, argument)?)?;
     }
-    Ok(words)
+    Ok(arguments)
 }
 
-/// Whether words are refused as bad, and for no other reason.
-fn are_bad(alloc: Global, words: &[String]) -> bool {
-    matches!(&options_of(alloc, words), Err(ArgumentsFault::Bad))
+/// Whether arguments are refused as bad, and for no other reason.
+fn are_bad(alloc: Global, arguments: &[String]) -> bool {
+    matches!(&options_of(alloc, arguments), Err(ArgumentsFault::Bad))
 }
 
 /// Codewords, and from which number on they are bad.
-const BAD_WORDS: [(&str, usize); 7] = [
+const BAD_ARGUMENTS: [(&str, usize); 7] = [
     ("--no-such-option", 1),
     ("-x", 1),
     ("--scale=9", 1),
@@ -161,19 +161,22 @@ const BAD_WORDS: [(&str, usize); 7] = [
 #[test]
 fn many_words_are_bad_words(rt: HostRuntime) -> Result<(), Fail> {
     let alloc = rt.alloc();
-    for (word, first_bad) in BAD_WORDS {
+    for (argument, first_bad) in BAD_ARGUMENTS {
         for count in [1, 2, 3, 10, 15, 16, 30, 100, 1000] {
             if count >= first_bad {
-                let words = many(alloc, word, count)?;
-                assert!(rt; are_bad(alloc, words.as_slice()), "{word} {count} times");
+                let arguments = many(alloc, argument, count)?;
+                assert!(rt;
+                    are_bad(alloc, arguments.as_slice()),
+                    "{argument} {count} times"
+                );
             }
         }
     }
     Ok(())
 }
 
-/// A command line of as many words as one has.
-const MOST_WORDS: [&str; 15] = [
+/// A command line of as many arguments as one has.
+const MOST_ARGUMENTS: [&str; 15] = [
     "--format",
     "pbm",
     "--scale",
@@ -194,13 +197,13 @@ const MOST_WORDS: [&str; 15] = [
 #[test]
 fn the_longest_command_line_is_taken(rt: HostRuntime) -> Result<(), Fail> {
     let alloc = rt.alloc();
-    let mut words = Vec::new(alloc);
-    for word in MOST_WORDS {
-        words.push(String::from_str(alloc, word)?)?;
+    let mut arguments = Vec::new(alloc);
+    for argument in MOST_ARGUMENTS {
+        arguments.push(String::from_str(alloc, argument)?)?;
     }
-    assert!(rt; matches!(&options_of(alloc, words.as_slice()), Ok(_)));
-    words.push(letters(alloc, 5000)?)?;
-    assert!(rt; are_bad(alloc, words.as_slice()));
+    assert!(rt; matches!(&options_of(alloc, arguments.as_slice()), Ok(_)));
+    arguments.push(letters(alloc, 5000)?)?;
+    assert!(rt; are_bad(alloc, arguments.as_slice()));
     Ok(())
 }
 
@@ -240,11 +243,11 @@ arguments (bad words), 3 reading, writing or opening FILE failed, or memory ran 
 Example: echo 'ean13 400638133393' | labels --scale 4 --height 70 > pencil.pbm
 ";
 
-/// A word asks for the whole help text.
-fn assert_helps(rt: &impl Abort, alloc: Global, word: &str) -> Result<(), AllocError> {
-    let words = many(alloc, word, 1)?;
-    match options_of(alloc, words.as_slice()) {
-        Err(ArgumentsFault::Help(text)) => assert!(rt; text.as_str() == HELP, "{word}"),
+/// An argument asks for the whole help text.
+fn assert_helps(rt: &impl Abort, alloc: Global, argument: &str) -> Result<(), AllocError> {
+    let arguments = many(alloc, argument, 1)?;
+    match options_of(alloc, arguments.as_slice()) {
+        Err(ArgumentsFault::Help(text)) => assert!(rt; text.as_str() == HELP, "{argument}"),
         _ => panic!(rt; "no help"),
     }
     Ok(())
@@ -252,8 +255,8 @@ fn assert_helps(rt: &impl Abort, alloc: Global, word: &str) -> Result<(), AllocE
 
 #[test]
 fn the_help_text_is_whole(rt: HostRuntime) -> Result<(), Fail> {
-    for word in ["--help", "-h"] {
-        assert_helps(&rt, rt.alloc(), word)?;
+    for argument in ["--help", "-h"] {
+        assert_helps(&rt, rt.alloc(), argument)?;
     }
     Ok(())
 }

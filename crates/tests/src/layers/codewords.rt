@@ -29,8 +29,8 @@ fn codewords_of(plan: &Plan) -> Codewords {
     written
 }
 
-fn expect_codewords(rt: &impl Abort, words: &Codewords, from: usize, expected: &[u8]) {
-    let all = words.as_slice();
+fn expect_codewords(rt: &impl Abort, codewords: &Codewords, from: usize, expected: &[u8]) {
+    let all = codewords.as_slice();
     assert!(rt; from <= all.len());
     assert!(rt; all[from..].starts_with(expected));
 }
@@ -184,9 +184,9 @@ fn known_symbols(rt: HostRuntime) {
         let plan = planned(&rt, *level, 1, data);
         expect_version(&rt, &plan, 1, *bits);
         expect_segments(&rt, &plan, segments);
-        let words = codewords_of(&plan);
-        assert!(rt; words.len() == 26);
-        expect_codewords(&rt, &words, 0, front);
+        let codewords = codewords_of(&plan);
+        assert!(rt; codewords.len() == 26);
+        expect_codewords(&rt, &codewords, 0, front);
     }
 }
 
@@ -195,9 +195,9 @@ fn terminator_of_one_bit(rt: HostRuntime) {
     let data = [b'1'; 42];
     let plan = planned(&rt, Level::L, 1, &data[..41]);
     expect_version(&rt, &plan, 1, 151);
-    let words = codewords_of(&plan);
-    expect_codewords(&rt, &words, 0, &[0x10, 0xA4, 0x6F]);
-    expect_codewords(&rt, &words, 18, &[0x16]);
+    let codewords = codewords_of(&plan);
+    expect_codewords(&rt, &codewords, 0, &[0x10, 0xA4, 0x6F]);
+    expect_codewords(&rt, &codewords, 18, &[0x16]);
     let longer = planned(&rt, Level::L, 1, &data);
     assert!(rt; longer.version().number() == 2);
 }
@@ -207,18 +207,18 @@ fn terminator_of_four_bits(rt: HostRuntime) {
     let data = [b'a'; 18];
     let plan = planned(&rt, Level::L, 1, &data[..17]);
     expect_version(&rt, &plan, 1, 148);
-    let words = codewords_of(&plan);
-    expect_codewords(&rt, &words, 0, &[0x41]);
-    expect_codewords(&rt, &words, 1, &[0x16; 17]);
-    expect_codewords(&rt, &words, 18, &[0x10]);
+    let codewords = codewords_of(&plan);
+    expect_codewords(&rt, &codewords, 0, &[0x41]);
+    expect_codewords(&rt, &codewords, 1, &[0x16; 17]);
+    expect_codewords(&rt, &codewords, 18, &[0x10]);
     let longer = planned(&rt, Level::L, 1, &data);
     assert!(rt; longer.version().number() == 2);
-    let words = codewords_of(&longer);
-    expect_codewords(&rt, &words, 0, &[0x41, 0x26]);
-    expect_codewords(&rt, &words, 2, &[0x16; 17]);
+    let codewords = codewords_of(&longer);
+    expect_codewords(&rt, &codewords, 0, &[0x41, 0x26]);
+    expect_codewords(&rt, &codewords, 2, &[0x16; 17]);
     expect_codewords(
         &rt,
-        &words,
+        &codewords,
         19,
         &[
             0x10, 0xEC, 0x11, 0xEC, 0x11, 0xEC, 0x11, 0xEC, 0x11, 0xEC, 0x11, 0xEC, 0x11, 0xEC,
@@ -252,15 +252,15 @@ fn uneven_blocks(rt: HostRuntime) {
     assert!(rt; plan.version().number() == 5);
     assert!(rt; plan.level() == Level::Q);
     assert!(rt; planned(&rt, Level::Q, 1, &data).version().number() == 3);
-    let words = codewords_of(&plan);
-    assert!(rt; words.len() == 62 + 72);
+    let codewords = codewords_of(&plan);
+    assert!(rt; codewords.len() == 62 + 72);
     expect_codewords(
         &rt,
-        &words,
+        &codewords,
         0,
         &[0x41, 0x16, 0x16, 0xEC, 0xE6, 0x16, 0x10, 0x11],
     );
-    expect_codewords(&rt, &words, 56, &[0x16, 0x16, 0xEC, 0xEC, 0x11, 0x11]);
+    expect_codewords(&rt, &codewords, 56, &[0x16, 0x16, 0xEC, 0xEC, 0x11, 0x11]);
 }
 
 /// The data codewords of four blocks of 15, 15, 16 and 16 in turn, where the codeword at each place is the place itself,
@@ -286,9 +286,9 @@ fn interleaving_order(rt: HostRuntime) {
             len: 60,
         }],
     );
-    let words = codewords_of(&plan);
-    assert!(rt; words.len() == 62 + 72);
-    expect_codewords(&rt, &words, 0, &IN_TURN);
+    let codewords = codewords_of(&plan);
+    assert!(rt; codewords.len() == 62 + 72);
+    expect_codewords(&rt, &codewords, 0, &IN_TURN);
 }
 
 /// The bits of a list of segments in versions 1 to 9. The data is cut after each byte whose bit in `cuts` is set, and
@@ -375,14 +375,14 @@ fn values_of_characters(rt: HostRuntime) {
         };
         // The pair of an `A` and the byte, whose values make a number of 11 bits, or two bytes.
         let data = [b'A', byte];
-        let words = codewords_of(&planned(&rt, Level::L, 1, &data));
+        let codewords = codewords_of(&planned(&rt, Level::L, 1, &data));
         if value == 45 {
-            expect_codewords(&rt, &words, 0, &[0x40, 0x24]);
+            expect_codewords(&rt, &codewords, 0, &[0x40, 0x24]);
         } else {
             let pair = 450 + u16::from(value);
             expect_codewords(
                 &rt,
-                &words,
+                &codewords,
                 0,
                 &[0x20, 0x10 + (pair / 256) as u8, (pair % 256) as u8],
             );

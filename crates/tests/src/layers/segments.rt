@@ -32,7 +32,7 @@ fn count_limit(version: Version, mode: Mode) -> usize {
 }
 
 /// The bits of the character count.
-fn count_bits(version: Version, mode: Mode) -> usize {
+fn count_width(version: Version, mode: Mode) -> usize {
     let short = version.number() < 10;
     match mode {
         Mode::Numeric => if short { 10 } else { 12 },
@@ -70,7 +70,7 @@ fn cheaper(
 {
     let bits = payload_bits(mode, len)
         .saturating_add(4)
-        .saturating_add(count_bits(version, mode))
+        .saturating_add(count_width(version, mode))
         .saturating_add(after);
     if len > run || len >= count_limit(version, mode) || bits >= so_far.bits {
         return so_far;

@@ -47,13 +47,13 @@ fn example(mask: Option<u8>) -> Option<Matrix>
     requires { IfSome mask (λ k. k < 8) }
     ensures { IfSome result (λ m. m.side ≡ 21) }
 {
-    let mut words = ArrayVec::new();
-    for word in CODEWORDS {
-        let _ = words.try_push(word);
+    let mut codewords = ArrayVec::new();
+    for codeword in CODEWORDS {
+        let _ = codewords.try_push(codeword);
     }
     let version = Version::new(1)?;
-    if words.len() == version.total_codewords() {
-        Some(Matrix::draw(version, Level::M, mask, &words))
+    if codewords.len() == version.total_codewords() {
+        Some(Matrix::draw(version, Level::M, mask, &codewords))
     } else {
         None
     }
@@ -109,26 +109,26 @@ enum Filling {
 
 impl Filling {
     /// So many codewords.
-    fn words(self, count: usize) -> Codewords {
-        let mut words = ArrayVec::new();
+    fn codewords(self, count: usize) -> Codewords {
+        let mut codewords = ArrayVec::new();
         for i in 0..count {
-            let _ = words.try_push(match self {
+            let _ = codewords.try_push(match self {
                 Filling::Zeros => 0,
                 Filling::Ones => 255,
                 Filling::Places => (i % 256) as u8,
             });
         }
-        words
+        codewords
     }
 }
 
 /// Whether the symbol has the modules, the mask and the penalty of the slow form.
-fn agrees(version: Version, level: Level, mask: Option<u8>, words: &Codewords) -> bool
-    requires count { length words.now.items ≡ total_codewords version }
+fn agrees(version: Version, level: Level, mask: Option<u8>, codewords: &Codewords) -> bool
+    requires count { length codewords.now.items ≡ total_codewords version }
     requires mask { IfSome mask (λ k. k < 8) }
 {
-    let matrix = Matrix::draw(version, level, mask, words);
-    let slow = slow::Symbol::draw(version, level, mask, words);
+    let matrix = Matrix::draw(version, level, mask, codewords);
+    let slow = slow::Symbol::draw(version, level, mask, codewords);
     for y in 0..matrix.side() {
         for x in 0..matrix.side() {
             if matrix.dark(x, y) != slow.dark(x, y) {
@@ -142,12 +142,14 @@ fn agrees(version: Version, level: Level, mask: Option<u8>, words: &Codewords) -
 /// Whether the symbols of a version and a level agree, with no mask given and with each.
 fn all_agree(version: Version, level: Level) -> bool {
     for filling in [Filling::Zeros, Filling::Ones, Filling::Places] {
-        let words = filling.words(version.total_codewords());
-        if words.len() != version.total_codewords() || !agrees(version, level, None, &words) {
+        let codewords = filling.codewords(version.total_codewords());
+        if codewords.len() != version.total_codewords()
+            || !agrees(version, level, None, &codewords)
+        {
             return false;
         }
         for mask in 0..8 {
-            if !agrees(version, level, Some(mask), &words) {
+            if !agrees(version, level, Some(mask), &codewords) {
                 return false;
             }
         }

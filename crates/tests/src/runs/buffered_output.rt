@@ -105,7 +105,7 @@ fn output_goes_out_before_each_read(rt: HostRuntime) {
     assert!(rt; source.seen == 2 * EAN8.len());
 }
 
-/// The images sent on stand in memory, and one more is held, which goes out after them.
+/// The images that were passed on are in memory, and one more is buffered, which goes out after them.
 fn assert_one_is_held<const N: usize>(
     rt: &impl Abort,
     out: &mut Buffered<FailAt<MemSink<N>>>,

@@ -23,17 +23,17 @@ pub struct Symbol {
 
 impl Symbol {
     /// Draws the codewords under the given mask, or else under the first of the least penalty.
-    pub fn draw(version: Version, level: Level, mask: Option<u8>, words: &Codewords) -> Symbol
+    pub fn draw(version: Version, level: Level, mask: Option<u8>, codewords: &Codewords) -> Symbol
         requires { IfSome mask (λ k. k < 8) }
     {
         let mask = match mask {
             Some(mask) => mask,
-            None => least_mask(version, level, words),
+            None => least_mask(version, level, codewords),
         };
         Symbol {
             side: version.side(),
             mask,
-            modules: modules_under(version, level, mask, words),
+            modules: modules_under(version, level, mask, codewords),
         }
     }
 
@@ -57,13 +57,16 @@ impl Symbol {
 }
 
 /// The first mask of the least penalty.
-fn least_mask(version: Version, level: Level, words: &Codewords) -> u8
+fn least_mask(version: Version, level: Level, codewords: &Codewords) -> u8
     ensures { result < 8 }
 {
     let mut best = 0;
     let mut least = u64::MAX;
     for mask in 0..8 {
-        let next = penalty(&modules_under(version, level, mask, words), version.side());
+        let next = penalty(
+            &modules_under(version, level, mask, codewords),
+            version.side(),
+        );
         if next < least {
             least = next;
             best = mask;
@@ -73,7 +76,7 @@ fn least_mask(version: Version, level: Level, words: &Codewords) -> u8
 }
 
 /// The modules of the symbol under a mask.
-fn modules_under(version: Version, level: Level, mask: u8, words: &Codewords) -> Square
+fn modules_under(version: Version, level: Level, mask: u8, codewords: &Codewords) -> Square
     requires { mask < 8 }
 {
     let n = version.side();
@@ -87,7 +90,7 @@ fn modules_under(version: Version, level: Level, mask: u8, words: &Codewords) ->
             }
         }
     }
-    place(n, words, &function, &mut modules);
+    place(n, codewords, &function, &mut modules);
     for y in 0..n {
         for x in 0..n {
             if !function.get(x, y) && is_flipped(mask, y, x) {
@@ -100,7 +103,7 @@ fn modules_under(version: Version, level: Level, mask: u8, words: &Codewords) ->
 }
 
 /// Places the codewords on the free modules: a cursor goes along the strips and counts the free modules.
-fn place(n: usize, words: &Codewords, function: &Square, modules: &mut Square)
+fn place(n: usize, codewords: &Codewords, function: &Square, modules: &mut Square)
     requires least { 21 ≤ n }
     requires most { n ≤ 57 }
 {
@@ -115,7 +118,7 @@ fn place(n: usize, words: &Codewords, function: &Square, modules: &mut Square)
             let y = if strip % 2 == 0 { n - 1 - t } else { t };
             for x in [right, right - 1] {
                 if !function.get(x, y) {
-                    modules.set(x, y, codeword_bit(words, placed));
+                    modules.set(x, y, codeword_bit(codewords, placed));
                     placed = placed.saturating_add(1);
                 }
             }
@@ -124,9 +127,9 @@ fn place(n: usize, words: &Codewords, function: &Square, modules: &mut Square)
 }
 
 /// Bit `i` of the codewords, the high bit of each first, and light past their end.
-fn codeword_bit(words: &Codewords, i: usize) -> bool {
-    match words.get(i / 8) {
-        Some(word) => (*word >> (7 - i % 8)) & 1 == 1,
+fn codeword_bit(codewords: &Codewords, i: usize) -> bool {
+    match codewords.get(i / 8) {
+        Some(codeword) => (*codeword >> (7 - i % 8)) & 1 == 1,
         None => false,
     }
 }

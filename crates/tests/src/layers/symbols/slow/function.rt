@@ -4,8 +4,8 @@ ghost use Rattle.qrdata.specs.Versions.{side_of};
 
 use qrdata::{Level, Version};
 
-/// The format words of the masks 0 to 7 at the levels L, M, Q and H (ISO/IEC 18004, Table C.1).
-const FORMAT_WORDS: [[u32; 8]; 4] = [
+/// The format information of the masks 0 to 7 at the levels L, M, Q and H (ISO/IEC 18004, Table C.1).
+const FORMAT_INFORMATION: [[u32; 8]; 4] = [
     [
         0x77C4, 0x72F3, 0x7DAA, 0x789D, 0x662F, 0x6318, 0x6C41, 0x6976,
     ],
@@ -20,21 +20,21 @@ const FORMAT_WORDS: [[u32; 8]; 4] = [
     ],
 ];
 
-/// The format word of a level and a mask.
-fn format_word(level: Level, mask: u8) -> u32
+/// The format information of a level and a mask.
+fn format_information(level: Level, mask: u8) -> u32
     requires { mask < 8 }
 {
-    let words = match level {
-        Level::L => FORMAT_WORDS[0],
-        Level::M => FORMAT_WORDS[1],
-        Level::Q => FORMAT_WORDS[2],
-        Level::H => FORMAT_WORDS[3],
+    let of_masks = match level {
+        Level::L => FORMAT_INFORMATION[0],
+        Level::M => FORMAT_INFORMATION[1],
+        Level::Q => FORMAT_INFORMATION[2],
+        Level::H => FORMAT_INFORMATION[3],
     };
-    words[usize::from(mask)]
+    of_masks[usize::from(mask)]
 }
 
-/// The version word of a version from 7 on (ISO/IEC 18004, Table D.1).
-fn version_word(version: Version) -> u32 {
+/// The version information of a version from 7 on (ISO/IEC 18004, Table D.1).
+fn version_information(version: Version) -> u32 {
     match version.number() {
         7 => 0x07C94,
         8 => 0x085BC,
@@ -90,7 +90,7 @@ fn timing(x: usize, y: usize) -> Option<bool> {
     }
 }
 
-/// The bit of the format word that stands at the module.
+/// The bit of the format information that stands at the module.
 fn format_bit(n: usize, x: usize, y: usize) -> Option<u8>
     requires side { (21 ≤ n) × (n ≤ 57) }
     requires column { x < n }
@@ -124,7 +124,7 @@ fn format_bit(n: usize, x: usize, y: usize) -> Option<u8>
     }
 }
 
-/// The bit of the version word that stands at the module, in the versions that have one.
+/// The bit of the version information that stands at the module, in the versions that have one.
 fn version_bit(n: usize, x: usize, y: usize) -> Option<u8>
     requires side { (21 ≤ n) × (n ≤ 57) }
     ensures { IfSome result (λ i. i < 18) }
@@ -204,14 +204,14 @@ pub fn fixed(version: Version, level: Level, mask: u8, x: usize, y: usize) -> Op
         return Some(dark);
     }
     if let Some(i) = format_bit(n, x, y) {
-        return Some((format_word(level, mask) >> i) & 1 == 1);
+        return Some((format_information(level, mask) >> i) & 1 == 1);
     }
     if x == 8 && y == n - 8 {
         return Some(true);
     }
     if version.number() >= 7 {
         if let Some(i) = version_bit(n, x, y) {
-            return Some((version_word(version) >> i) & 1 == 1);
+            return Some((version_information(version) >> i) & 1 == 1);
         }
     }
     None
