@@ -1,6 +1,6 @@
 use Rattle.std.proofs.Common.{◌≡◌, [], ◌++◌, length}
-use Rattle.filter.proofs.FilterLemmas.{TookPiece-append}
-use Rattle.filter.proofs.RunLemmas.{at_ok, TookLines-finish}
+use Rattle.filter.proofs.FilterLaws.{TookPiece-append}
+use Rattle.filter.proofs.RunLaws.{at_ok, TookLines-finish}
 use Rattle.filter.specs.Filter.{TookLines, StopsInFinish}
 use Rattle.filter.specs.Output.{status_of}
 use Rattle.device.specs.Lines.{lines, ended_lines, open_line, unless_empty}
