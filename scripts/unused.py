@@ -318,7 +318,7 @@ def is_used_in_code(name, text, traits):
     """Whether an imported name of the code stands in a text without imports, or is that of a trait that is called."""
     if re.search(rf"\b{re.escape(name)}\b", text) or name in TRAITS_OF_STD:
         return True
-    return any(re.search(rf"\.{function}\b", text) for function in traits.get(name) or [])
+    return any(re.search(rf"(?:\.|::){function}\b", text) for function in traits.get(name) or [])
 
 
 def unused_imports(tree):

@@ -1,13 +1,15 @@
-//! Two examples over the libraries: a filter that is fed piece by piece, as by a caller that reads for itself, and one
-//! QR symbol, shown on a dark terminal through a grid of this program's own.
+//! Three examples over the libraries: a run over a text in memory, a filter that is fed piece by piece, as by a caller
+//! that reads for itself, and one QR symbol, shown on a dark terminal through a grid of this program's own.
 #![tactic(auto)]
 
+mod in_memory;
 mod negative;
 mod pieces;
 mod symbol;
 
-use device::{MemSink, StdSink};
+use device::{MemSink, MemSource, StdSink};
 use filter::Status;
+use in_memory::draw_labels;
 use labelcore::{Format, Options};
 use negative::Negative;
 use picture::{Framed, QuietZone, write_ascii};
@@ -18,8 +20,20 @@ use std::io;
 use symbol::matrix_of;
 
 fn main(rt: HostRuntime) -> io::Result<()> {
+    draw_text(&rt)?;
     feed_pieces(&rt)?;
     show_symbol(&rt)
+}
+
+/// Draws the label of a text in memory, and prints how many bytes its picture has.
+fn draw_text(rt: &HostRuntime) -> io::Result<()> {
+    let mut source = MemSource::new(b"ean8 7351353\n", 4096, false);
+    let mut images: MemSink<8192> = MemSink::new(8192, 8192);
+    let mut messages: MemSink<64> = MemSink::new(64, 64);
+    match draw_labels(Options::default(), &mut source, &mut images, &mut messages) {
+        Ok(_) => println!(rt; "{} bytes of pictures from a text", images.bytes().len()),
+        Err(_) => println!(rt; "a sink failed"),
+    }
 }
 
 /// Draws labels from a text in two pieces, and tells what came of it.

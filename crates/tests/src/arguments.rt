@@ -21,13 +21,13 @@ fn words_of(alloc: Global, texts: &[&str]) -> Result<Vec<String>, AllocError> {
 }
 
 /// What words choose.
-fn choice_of(alloc: Global, texts: &[&str]) -> Result<Choice, Fail> {
+pub fn choice_of(alloc: Global, texts: &[&str]) -> Result<Choice, Fail> {
     let words = words_of(alloc, texts)?;
     Ok(options_of(alloc, words.as_slice())?)
 }
 
 /// Whether words are refused as bad.
-fn are_bad(alloc: Global, texts: &[&str]) -> Result<bool, AllocError> {
+pub fn are_bad(alloc: Global, texts: &[&str]) -> Result<bool, AllocError> {
     let words = words_of(alloc, texts)?;
     Ok(matches!(
         &options_of(alloc, words.as_slice()),

@@ -5,6 +5,8 @@
 #![tactic(auto)]
 
 #[cfg(test)]
+mod argument_limits;
+#[cfg(test)]
 mod arguments;
 #[cfg(test)]
 mod calls;

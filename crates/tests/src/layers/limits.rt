@@ -1,7 +1,7 @@
 //! Both ends of each range of a setting, and what lies beside them; the letters and places of messages
 //! (docs/SPECIFICATION.md, Settings, Refusals).
 use device::MemSink;
-use labelcore::{Fault, Format, Item, LineBuf, Options, Scratch, parse, write_fault};
+use labelcore::{Fault, Format, Item, LineBuf, Options, Scratch, Symbology, parse, write_fault};
 use qrdata::Level;
 use std::process::Abort;
 
@@ -165,6 +165,19 @@ fn places_of_bad_escapes(rt: HostRuntime) {
         assert!(rt; asked(&rt, line, true) == Err(Fault::BadEscape(*place)));
     }
     assert!(rt; asked(&rt, b"code128 \\xff\\xFF\\x09\\n", true).is_ok());
+}
+
+#[test]
+fn bytes_of_units(rt: HostRuntime) {
+    let options = Options::new(Format::Pbm, 1, 50, Level::M, 1, None, true);
+    let options = options.expect(&rt, "in range");
+    let mut held = LineBuf::new();
+    for byte in b"qr a\\nb\\\\c\\x41\\xfF" {
+        held.push(*byte);
+    }
+    let mut scratch = Scratch::new();
+    let item = parse(&options, &held, &mut scratch);
+    assert!(rt; item == Item::Drawn(Symbology::Qr, options, b"a\nb\\cA\xFF"));
 }
 
 /// Levels, and the message of data that does not fit.

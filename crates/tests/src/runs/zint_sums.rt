@@ -115,6 +115,17 @@ fn each_mode(rt: HostRuntime) {
     }
 }
 
+/// Data for which the rule of this program and that of Zint both choose mask 7, the last one, at level M, and the sums of
+/// Zint's symbols of version 1.
+const LAST_MASK: &[(&[u8], u32)] = &[(b"qr 1189\n", 0x4615A13C), (b"qr 3200\n", 0x4142A13A)];
+
+#[test]
+fn the_last_mask_is_tried(rt: HostRuntime) {
+    for (line, sum) in LAST_MASK {
+        assert_sum(&rt, rt.alloc(), DEFAULT.options(&rt), line, *sum);
+    }
+}
+
 /// Lines of each linear symbology, and the sums of Zint's modules in 50 rows between the quiet zones of ISO/IEC 15420
 /// and 15417: 11 and 7, 7 and 7, 9 and 9, 10 and 10 modules.
 const LINEAR: &[(&[u8], u32)] = &[
