@@ -137,7 +137,7 @@ fn page_of_command(rt: HostRuntime) -> Result<(), Fail> {
             assert!(rt; choice.file.as_deref() == Some("labels.txt"));
         }
         Err(ArgumentsFault::Memory) => {}
-        Err(_) => panic!(rt; "refused"),
+        Err(_fault) => panic!(rt; "refused"),
     }
     Ok(())
 }
