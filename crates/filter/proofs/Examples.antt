@@ -1,5 +1,5 @@
 -- Worked rows and the limits of a run, computed.
-use Rattle.std.proofs.Common.{◌≡◌, ℕ, ◌+◌, List, [], ◌∷◌, map, refl, None, Err, codes, true, false, replicate}
+use Rattle.std.proofs.Common.{◌≡◌, ℕ, List, [], ◌∷◌, map, refl, None, Err, codes, false}
 use Rattle.labelcore.specs.declared.options.Format.TheVariants.{Pbm}
 use Rattle.labelcore.specs.declared.options.Level.TheVariants.{M}
 use Rattle.labelcore.specs.OptionValues.{OptionValues}

@@ -14,7 +14,8 @@ use Rattle.qrdata.specs.Fewest.{first_segments, best_within, chosen_segments, ch
 use Rattle.qrdata.specs.Reading.{number_at, digits_at, characters_at, bytes_at, segment_at, segments_at, dealt, data_in}
 use Rattle.qrdata.specs.Reading.{is_end}
 use Rattle.qrdata.specs.Segments.{alphanumeric_bits, alphanumeric_characters, alphanumeric_value, byte_bits, cost}
-use Rattle.qrdata.specs.Segments.{count_width, has_character, mode_indicator, modes, numeric_bits, payload_length, segment_of}
+use Rattle.qrdata.specs.Segments.{count_width, has_character, mode_indicator, modes}
+use Rattle.qrdata.specs.Segments.{numeric_bits, payload_length, segment_of}
 use Rattle.qrdata.specs.Segments.{segments_bits}
 use Rattle.qrdata.specs.Versions.{total_codewords, block_count, parity_length, data_codewords, block_lengths}
 use Rattle.qrdata.specs.Versions.{block_table, capacity, groups_of, side_of}

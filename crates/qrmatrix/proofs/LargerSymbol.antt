@@ -1,6 +1,6 @@
 -- A symbol of version 7 at level M under mask 2 with the digits 01234567, as Zint 2.11.1 draws it (`zint -b 58 --vers=7
 -- --secure=2 --mask=2 --verbose --dump`): its modules are read as its codewords.
-use Rattle.std.proofs.Common.{◌≡◌, ℕ, refl, List, [], ◌∷◌, Option, Some}
+use Rattle.std.proofs.Common.{◌≡◌, ℕ, refl, List, [], ◌∷◌, Some}
 use Rattle.std.specs.Prelude.{slice_index}
 use Rattle.gf256.specs.BinaryPolynomial.{binary_remainder}
 use Rattle.labelcore.specs.declared.options.Level.TheVariants.{M}
@@ -11,7 +11,7 @@ use Rattle.qrmatrix.specs.Functions.{fixed, is_free, role}
 use Rattle.qrmatrix.specs.Information.{format_word, version_word}
 use Rattle.qrmatrix.specs.Masks.{is_flipped}
 use Rattle.qrmatrix.specs.Placement.{free_count}
-use Rattle.qrmatrix.specs.Reading.{Reading, read_bits, read_format, read_matrix, shows_functions, shows_version, walk}
+use Rattle.qrmatrix.specs.Reading.{read_bits, read_format, read_matrix, shows_functions, shows_version, walk}
 
 -- bit x of a row is its module at column x
 rows : List ℕ
