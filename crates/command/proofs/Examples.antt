@@ -1,7 +1,7 @@
 -- The definition at command lines that are written out.
 use Rattle.std.proofs.Common.{◌≡◌, refl, codes, [], ◌∷◌, map, Some, None, Ok, Err, true, false}
 use Rattle.clap.proofs.OnLiterals.{clap_on_literals}
-use Rattle.command.specs.CommandLine.{bad, help, invocation_of, run}
+use Rattle.command.specs.CommandLine.{bad, command_line, file_argument, help, invocation_of, is_on, run, text_option}
 use Rattle.command.specs.declared.end.End.TheVariants.{Ran, Helped, BadArguments, NoFile, NoMemory}
 use Rattle.command.specs.End.{exit_status, line_of}
 use Rattle.filter.specs.declared.status.RunFault.TheVariants.{Read, WriteOut, WriteMessages}
@@ -74,3 +74,8 @@ end-lines : map line_of (Ran (Ok Clean) ∷ Ran (Ok Refused) ∷ Helped ∷ BadA
     ∷ codes "labels: cannot open file\n" ∷ codes "labels: no memory\n" ∷ codes "labels: read failed\n"
     ∷ codes "labels: write failed\n" ∷ codes "labels: write failed\n" ∷ []
 end-lines = refl
+
+-- the command's name, one name for each value in the help text, and no switch where none is given
+parts-of-the-command : (command_line.top.name ≡ codes "labels") × ((text_option (codes "scale")).value_names ≡ 1)
+    × (file_argument.value_names ≡ 1) × (is_on (codes "escapes") [] ≡ false)
+parts-of-the-command = (refl, refl, refl, refl)

@@ -11,14 +11,15 @@ use Rattle.qrdata.specs.declared.mode.Mode.TheVariants.{Numeric, Alphanumeric, B
 use Rattle.qrdata.specs.Bits.{bits_of, codewords_of, number_of}
 use Rattle.qrdata.specs.Codewords.{data_codewords_of, data_of, interleaving, pad_codewords, split_by}
 use Rattle.qrdata.specs.Codewords.{with_pad_codewords, with_terminator, with_zeros}
-use Rattle.qrdata.specs.Fewest.{first_segments, best_within, chosen_segments, chosen_version}
+use Rattle.qrdata.specs.Fewest.{first_segments, best_within, chosen_segments, chosen_version, is_first}
 use Rattle.qrdata.specs.Reading.{number_at, digits_at, characters_at, bytes_at, segment_at, segments_at}
 use Rattle.qrdata.specs.Reading.{deinterleaving, data_in, is_end}
 use Rattle.qrdata.specs.Segments.{alphanumeric_bits, alphanumeric_characters, alphanumeric_value, byte_bits, cost}
-use Rattle.qrdata.specs.Segments.{count_width, mode_indicator, modes, numeric_bits, payload_length, segment_of}
+use Rattle.qrdata.specs.Segments.{count_width, has_character, mode_indicator, modes}
+use Rattle.qrdata.specs.Segments.{numeric_bits, payload_length, segment_of}
 use Rattle.qrdata.specs.Segments.{segments_bits}
 use Rattle.qrdata.specs.Versions.{total_codewords, block_count, ec_codewords_per_block, data_codewords, block_lengths}
-use Rattle.qrdata.specs.Versions.{block_table, groups_of, side_of}
+use Rattle.qrdata.specs.Versions.{block_table, capacity, groups_of, side_of}
 
 -- a symbol of version 1-Q that is known from outside is read
 hello_world_reads : data_in 1 Q (32 ∷ 91 ∷ 11 ∷ 120 ∷ 209 ∷ 114 ∷ 220 ∷ 77 ∷ 67 ∷ 64 ∷ 236 ∷ 17 ∷ 236 ∷ 168 ∷ 72 ∷ 22
@@ -248,10 +249,12 @@ versions_asked_for = refl
 -- numbers that no digits, characters or bytes have are not read
 largest_digits : (digits_at 1 (bits_of 4 9) ≡ Some (codes "9", []))
     × (digits_at 2 (bits_of 7 99) ≡ Some (codes "99", []))
+    × (digits_at 2 (bits_of 7 90) ≡ Some (codes "90", []))
     × (digits_at 3 (bits_of 10 999) ≡ Some (codes "999", []))
+    × (digits_at 3 (bits_of 10 900) ≡ Some (codes "900", []))
     × (digits_at 4 (bits_of 14 1984) ≡ Some (codes "1240", []))
 unfolding digits_at number_at number_of bits_of
-largest_digits = (refl, refl, refl, refl)
+largest_digits = (refl, refl, refl, refl, refl, refl)
 
 no_digits : (digits_at 1 (bits_of 4 10) ≡ None) × (digits_at 2 (bits_of 7 100) ≡ None)
     × (digits_at 3 (bits_of 10 1000) ≡ None)
@@ -282,3 +285,34 @@ no_mode : map (segment_at 1) (bits (codes "0011000000000100001") ∷ bits (codes
     None ∷ None ∷ []
 unfolding segment_at number_at number_of bits
 no_mode = refl
+
+-- the data bits of versions 1 and 10 (table 7)
+data_bits : map (λ version. map (capacity version) (L ∷ M ∷ Q ∷ H ∷ [])) (1 ∷ 10 ∷ []) ≡
+    (152 ∷ 128 ∷ 104 ∷ 72 ∷ []) ∷ (2192 ∷ 1728 ∷ 1232 ∷ 976 ∷ []) ∷ []
+unfolding data_codewords block_lengths groups_of block_table
+data_bits = refl
+
+-- `:` is the last alphanumeric character
+last_character : map (has_character Alphanumeric) (codes ":;") ≡ true ∷ false ∷ []
+unfolding alphanumeric_value alphanumeric_characters
+last_character = refl
+
+-- a character count of 10 bits counts to 1023, and one of 8 bits to 255
+counted_lengths : map (λ n. is_first 1 (replicate n 49) (segment_of Numeric n)) (1023 ∷ 1024 ∷ []) ≡ true ∷ false ∷ []
+counted_lengths = refl
+
+counted_bytes : map (λ n. is_first 1 (replicate n 97) (segment_of Byte n)) (255 ∷ 256 ∷ []) ≡ true ∷ false ∷ []
+counted_bytes = refl
+
+-- seven codewords of bits, and a terminator that ends in the eighth or is cut at the end of the second
+filled_words : with_pad_codewords 8 (replicate 56 true) ≡ 255 ∷ 255 ∷ 255 ∷ 255 ∷ 255 ∷ 255 ∷ 255 ∷ 236 ∷ []
+unfolding with_pad_codewords codewords_of number_of
+filled_words = refl
+
+terminator_in_the_eighth : data_codewords_of 8 (replicate 53 true) ≡ 255 ∷ 255 ∷ 255 ∷ 255 ∷ 255 ∷ 255 ∷ 248 ∷ 0 ∷ []
+unfolding data_codewords_of with_terminator with_zeros with_pad_codewords codewords_of number_of
+terminator_in_the_eighth = refl
+
+terminator_cut : data_codewords_of 2 (replicate 15 true) ≡ 255 ∷ 254 ∷ []
+unfolding data_codewords_of with_terminator with_zeros with_pad_codewords codewords_of number_of
+terminator_cut = refl

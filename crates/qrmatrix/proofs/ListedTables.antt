@@ -12,6 +12,7 @@ use Rattle.qrmatrix.specs.Penalty.{balance_penalty, dark_count, finder_before_li
 use Rattle.qrmatrix.specs.Penalty.{square_penalty}
 use Rattle.qrmatrix.specs.Placement.{remainder_bits}
 use Rattle.qrmatrix.specs.Reading.{level_of}
+use Rattle.qrmatrix.specs.Square.{value_at}
 
 -- the centres of alignment of versions 1 to 10; qrencode leaves out the 6 that each list begins with
 centres : map alignment_coordinates (range_with_len 1 10) ≡ [] ∷ map (λ centres. 6 ∷ centres)
@@ -141,3 +142,8 @@ balances = refl
 dark_modules : dark_count 3 (λ x y. x == y) ≡ 3
 unfolding dark_count
 dark_modules = refl
+
+-- light outside of the rows
+outside : (value_at [] 0 0 ≡ false) × (value_at ((true ∷ []) ∷ []) 1 0 ≡ false)
+    × (value_at ((true ∷ []) ∷ []) 0 1 ≡ false) × (value_at ((true ∷ []) ∷ []) 0 0 ≡ true)
+outside = (refl, refl, refl, refl)
