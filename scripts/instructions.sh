@@ -211,7 +211,7 @@ calls_row() {
 end_check() {
     local name
     while IFS=$'\t' read -r name _; do
-        printf '%s\n' "${names[@]}" | grep -qxF -- "$name" ||
+        grep -qxF -- "$name" <<< "$(printf '%s\n' "${names[@]}")" ||
             fail "FAILS $name: a row of the table that is not measured here"
     done < <(rows_of_table)
     echo "${#names[@]} rows, $failures failed"
