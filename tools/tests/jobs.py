@@ -4,13 +4,17 @@ A job that announces more than it sends, or that holds any other byte, raises Jo
 """
 
 import re
+import tempfile
 from io import BytesIO
+from pathlib import Path
 from typing import Callable
 from unittest import TestCase
 
 import support
-from label_pictures import Picture, pieces, plain, raw, stack
+from label_pictures import Picture, pieces, plain, raw, read_pictures, stack, write_raw
 
+LINES = "ean13 400638133393\nean8 7351353\nqr,level=H https://example.com/7\ncode128 SHELF-7\n"
+CODES = ["EAN-13:4006381333931", "EAN-8:73513537", "QR-Code:https://example.com/7", "CODE-128:SHELF-7"]
 ZPL_LABEL = re.compile(rb"\^XA\n(.*?)\^XZ\n", re.DOTALL)
 ZPL_FIELD = re.compile(rb"\^FO0,([0-9]+)\^GFA,([0-9]+),([0-9]+),([0-9]+),([0-9A-F\n]*)\^FS\n")
 ESCPOS_RESET = b"\x1b@"
@@ -83,6 +87,30 @@ def pieces_of(pattern: re.Pattern[bytes], data: bytes) -> list[re.Match[bytes]]:
 def in_whole_bytes(picture: Picture) -> Picture:
     """The picture with white on the right up to a whole byte, as printers take it."""
     return Picture((picture.width + 7) // 8 * 8, picture.height, picture.rows)
+
+
+def try_pixels(test: TestCase, tool: str, pictures_of_job: Callable[[bytes], list[Picture]]) -> None:
+    """Draws labels at two scales: the job has the pixels of their pictures."""
+    for scale in ("1", "3"):
+        drawn = support.draw(LINES, "--scale", scale)[0]
+        done = support.run(tool, input=drawn)
+        test.assertEqual((done.returncode, done.stderr), (0, b""))
+        pictures = list(read_pictures(BytesIO(drawn), "labels"))
+        test.assertEqual(len(pictures), len(CODES))
+        test.assertEqual(pictures_of_job(done.stdout), [in_whole_bytes(one) for one in pictures])
+
+
+def try_reading(test: TestCase, tool: str, pictures_of_job: Callable[[bytes], list[Picture]]) -> None:
+    """Draws labels: zbarimg reads each of them from the pixels of the job."""
+    drawn = support.draw(LINES, "--scale", "3")[0]
+    found = []
+    with tempfile.TemporaryDirectory() as folder:
+        path = Path(folder, "label.pbm")
+        for picture in pictures_of_job(support.run(tool, input=drawn).stdout):
+            with open(path, "wb") as stream:
+                write_raw(picture, stream)
+            found += support.read_codes(path)
+    test.assertEqual(found, CODES)
 
 
 def try_cut_streams(test: TestCase, tool: str, pictures_of_job: Callable[[bytes], list[Picture]]) -> None:

@@ -1,15 +1,10 @@
 """label-escpos: the job turned back into pixels."""
 
-import tempfile
 import unittest
-from io import BytesIO
-from pathlib import Path
 
 import support
 import jobs
-from label_pictures import Picture, plain, raw, read_pictures, write_raw
-
-LINES = "ean8 7351353\nqr,level=H https://example.com/7\ncode128 SHELF-7\n"
+from label_pictures import Picture, plain, raw
 
 
 class Jobs(unittest.TestCase):
@@ -25,23 +20,10 @@ class Jobs(unittest.TestCase):
         self.assertEqual(jobs.pictures_of_escpos(done.stdout), [large])
 
     def test_the_pixels_are_those_of_the_pictures(self) -> None:
-        for scale in ("1", "3"):
-            drawn = support.draw(LINES, "--scale", scale)[0]
-            done = support.run("label-escpos", input=drawn)
-            self.assertEqual((done.returncode, done.stderr), (0, b""))
-            pictures = list(read_pictures(BytesIO(drawn), "labels"))
-            self.assertEqual(jobs.pictures_of_escpos(done.stdout), [jobs.in_whole_bytes(one) for one in pictures])
+        jobs.try_pixels(self, "label-escpos", jobs.pictures_of_escpos)
 
     def test_zbarimg_reads_the_job(self) -> None:
-        drawn = support.draw("ean8 7351353\nqr https://example.com/7\n", "--scale", "3")[0]
-        codes = ("EAN-8:73513537", "QR-Code:https://example.com/7")
-        pictures = jobs.pictures_of_escpos(support.run("label-escpos", input=drawn).stdout)
-        with tempfile.TemporaryDirectory() as folder:
-            for picture, code in zip(pictures, codes):
-                path = Path(folder, "label.pbm")
-                with open(path, "wb") as stream:
-                    write_raw(picture, stream)
-                self.assertEqual(support.read_codes(path), [code])
+        jobs.try_reading(self, "label-escpos", jobs.pictures_of_escpos)
 
     def test_the_largest_height(self) -> None:
         highest = Picture(8, 65535, [b"\x81"] * 65535)

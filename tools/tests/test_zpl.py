@@ -1,15 +1,10 @@
 """label-zpl: the job turned back into pixels."""
 
-import tempfile
 import unittest
-from io import BytesIO
-from pathlib import Path
 
 import support
 import jobs
-from label_pictures import Picture, plain, raw, read_pictures, write_raw
-
-LINES = "ean13 400638133393\nqr,level=H https://example.com/7\ncode128 SHELF-7\n"
+from label_pictures import Picture, plain, raw
 
 
 class Jobs(unittest.TestCase):
@@ -19,23 +14,10 @@ class Jobs(unittest.TestCase):
         self.assertEqual(support.run("label-zpl", input=plain(small) + raw(small)).stdout, expected * 2)
 
     def test_the_pixels_are_those_of_the_pictures(self) -> None:
-        for scale in ("1", "3"):
-            drawn = support.draw(LINES, "--scale", scale)[0]
-            done = support.run("label-zpl", input=drawn)
-            self.assertEqual((done.returncode, done.stderr), (0, b""))
-            pictures = list(read_pictures(BytesIO(drawn), "labels"))
-            self.assertEqual(jobs.pictures_of_zpl(done.stdout), [jobs.in_whole_bytes(one) for one in pictures])
+        jobs.try_pixels(self, "label-zpl", jobs.pictures_of_zpl)
 
     def test_zbarimg_reads_the_job(self) -> None:
-        drawn = support.draw("ean13 400638133393\nqr https://example.com/7\n", "--scale", "3")[0]
-        codes = ("EAN-13:4006381333931", "QR-Code:https://example.com/7")
-        pictures = jobs.pictures_of_zpl(support.run("label-zpl", input=drawn).stdout)
-        with tempfile.TemporaryDirectory() as folder:
-            for picture, code in zip(pictures, codes):
-                path = Path(folder, "label.pbm")
-                with open(path, "wb") as stream:
-                    write_raw(picture, stream)
-                self.assertEqual(support.read_codes(path), [code])
+        jobs.try_reading(self, "label-zpl", jobs.pictures_of_zpl)
 
     def test_a_large_picture_is_several_fields(self) -> None:
         rows = [number.to_bytes(2, "big") * 250 for number in range(450)]
