@@ -107,7 +107,7 @@ pub(crate) trait Named {
 
 
 class Sources(unittest.TestCase):
-    """Items are found by their brackets, whatever stands in comments, texts and characters."""
+    """Items are found by their brackets, whatever is in comments, texts and characters."""
 
     def test_items(self):
         found = [(item.kind, item.name, item.is_public) for item in sources.items_of(CODE)]
