@@ -12,7 +12,7 @@
 #
 # What is not installed is named on standard error, and left out: a tool of the three, or GNU time, by which
 # memory is measured. Status 77: not one of the three tools is installed, so there is nothing to measure beside.
-# Status 2: bad words or no such program.
+# Status 2: bad arguments or no such program.
 # shellcheck disable=SC2016  # a command in single quotes is for the bash of its measurement
 set -euo pipefail
 

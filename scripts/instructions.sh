@@ -16,7 +16,7 @@
 # the table says, or where a table lacks a row, has one that is no number, or one that is not measured here. A
 # row that takes more than 5 % less is no failure: a note says that the table is out of date.
 #
-# Status 2: bad words, no such program, or a count that failed. Status 77: valgrind is not installed, nothing was
+# Status 2: bad arguments, no such program, or a count that failed. Status 77: valgrind is not installed, nothing was
 # counted.
 # shellcheck disable=SC2016  # names of rows have backticks
 set -euo pipefail

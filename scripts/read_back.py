@@ -9,7 +9,7 @@ full data: the digits with their check digit, or all bytes.
 Each picture goes through Netpbm: pnmpad puts white above and below, which a reader wants and a linear label
 lacks, and pnmtopng makes the PNG. The last line is `N of N read back`. Any label that is not read, or is
 read as something else, is printed with its line, and the status is then 1. Where zbarimg or Netpbm is
-missing nothing can be tried: the script says so and ends with status 77. Bad words and a program that is
+missing nothing can be tried: the script says so and ends with status 77. Bad arguments and a program that is
 not there end with status 2.
 """
 

@@ -16,7 +16,7 @@
 # anew for each N; so it makes the stored run alone. Here nothing says whether a run reaches its Nth growth: it
 # stops after four runs in a row that end as if nothing was refused.
 #
-# Status 2: bad words, or no such program. Status 77: no C compiler or, with --try, no `rt`: nothing was tried.
+# Status 2: bad arguments, or no such program. Status 77: no C compiler or, with --try, no `rt`: nothing was tried.
 set -euo pipefail
 
 usage() { sed -n '/^# usage: /,/^#$/s/^# \{0,1\}//p' "$0" | sed '/^$/d'; }

@@ -19,7 +19,7 @@ Besides, the pictures that RECIPES.md makes must be those of docs/pictures, pixe
 the repository to another must lead to a file and a heading; mandoc and groff must find nothing in the man pages; and
 each option of a help text must be in its man page and in the completion, where there is one. The last line is `N of N
 as printed`; where one is not, the status is 1. Where a third-party program of the pages is missing, the script names
-it and ends with status 77. Bad words and a program that is not there end with status 2.
+it and ends with status 77. Bad arguments and a program that is not there end with status 2.
 """
 
 import argparse

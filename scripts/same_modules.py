@@ -7,7 +7,7 @@ one code set; QR data of one mode, with its version, level and mask given. The l
 run.
 
 The last line is `N of N are the same`. Any other label is printed with its line, and the status is then 1.
-Where zint is missing nothing can be compared: the script says so and ends with status 77. Bad words and a
+Where zint is missing nothing can be compared: the script says so and ends with status 77. Bad arguments and a
 program that is not there end with status 2.
 """
 

@@ -15,7 +15,7 @@ class ToolError(Exception):
 
 
 class Parser(argparse.ArgumentParser):
-    """A parser that ends with status 2 for bad words even where standard error takes no message."""
+    """A parser that ends with status 2 for bad arguments even where standard error takes no message."""
 
     def error(self, message: str) -> NoReturn:
         try:
@@ -26,7 +26,7 @@ class Parser(argparse.ArgumentParser):
 
 
 def argument_parser(tool: str, description: str) -> argparse.ArgumentParser:
-    """A parser of a tool's words, without abbreviations; it ends with status 2 and the usage for bad words."""
+    """A parser of a tool's arguments, without abbreviations; for bad ones it prints the usage, and the status is 2."""
     layout = argparse.RawDescriptionHelpFormatter
     return Parser(prog=tool, description=description, formatter_class=layout, allow_abbrev=False)
 
@@ -69,7 +69,7 @@ def main_of(tool: str, function: Callable[[], Optional[int]]) -> NoReturn:
 
 
 def _status_of(function: Callable[[], Optional[int]]) -> int:
-    """The status of a tool, which argparse ends by SystemExit after a help text or bad words."""
+    """The status of a tool, which argparse ends by SystemExit after a help text or bad arguments."""
     try:
         return function() or 0
     except SystemExit as end:

@@ -60,7 +60,7 @@ class TableTest(unittest.TestCase):
         self.check(f"code;name\n{table}", ["--code", "code", *words], lines, problems, status)
 
     def check_usage(self, words: Sequence[str], text: str) -> None:
-        """Bad words: usage, the reason, status 2, and nothing is written."""
+        """Bad arguments: usage, the reason, status 2, and nothing is written."""
         done = support.run_here("label-table", *words, input=b"code\n")
         self.assertEqual((done.returncode, done.stdout), (2, b""), words)
         self.assertEqual(support.messages(done)[0].split(" [")[0], "usage: label-table", words)
