@@ -1,4 +1,4 @@
--- What the private contracts of a line's end say.
+-- The end of a line, as contracts inside this crate see it.
 use Rattle.std.specs.Prelude.{◌≡◌, ℕ, Bool, List, [], Option, None}
 use Rattle.device.specs.Device.{Begins}
 use Rattle.labelcore.specs.declared.symbology.Symbology.{Symbology}
@@ -13,7 +13,7 @@ use Rattle.filter.specs.declared.status.RunFault.TheVariants.{WriteOut, WriteMes
 use Rattle.filter.specs.declared.status.Status.{Status}
 use Rattle.filter.specs.declared.status.Status.TheVariants.{Clean, Refused}
 
--- the status of some lines and of others
+-- the status of all lines, from that of some of them and that of the others
 abbrev pub worst : Status → Status → Status
 worst Clean other = other
 worst Refused other = Refused
@@ -32,7 +32,7 @@ pub record EndsLine (options : OptionValues) (took_out took_err : List ℕ → T
   pub message : took_err (message_of number outcome)
   pub read : ReadsBack outcome
 
--- before a message nothing more was taken, or a beginning of it was
+-- where the images failed, the messages took nothing; where the messages failed, they took a beginning of the text
 abbrev pub FailsInMessage : (took_err : List ℕ → Type 0) (text : List ℕ) → RunFault → Type 0
 FailsInMessage took_err text WriteOut = took_err []
 FailsInMessage took_err text WriteMessages = Begins took_err text
