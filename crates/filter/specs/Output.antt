@@ -74,7 +74,7 @@ messages options lines = messages_after options 0 lines
 unfoldable pub any_refused : OptionValues → List (List ℕ) → Bool
 any_refused options lines = list_any (λ line. is_refusal (outcome options line)) lines
 
--- the status of lines, from whether some of them is refused
+-- the status of lines some of which are refused, or none
 abbrev pub status_if : Bool → Status
 status_if is_refused = if is_refused then Refused else Clean
 

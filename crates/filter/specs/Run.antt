@@ -20,13 +20,13 @@ pub record WritesOutput (options : OptionValues) (took_out took_err : List ℕ �
   pub err : took_err (messages options (lines text))
   pub status_is : status ≡ status_of options (lines text)
 
--- The second half: in the stream there is one image for each line that is drawn, in order, and each reads as the full
+-- The second half: in the stream there is one image for each line that is drawn, in order, and each is read as the full
 -- data of its line.
 abbrev pub ImagesAreRead : OptionValues → (text stream : List ℕ) → Type 0
 ImagesAreRead options text stream =
     AreRead options.format options.scale (cut options.format stream) (drawn_symbols options (lines text))
 
--- A whole run: both halves, for one text that the source gave and one stream that the sink took.
+-- A whole run: both halves, of the one text that the source gave and the one stream that the sink took.
 pub record RunsWhole (options : OptionValues) (gave took_out took_err : List ℕ → Type 0) (status : Status)
     : Type 0 where
   pub text : List ℕ

@@ -100,7 +100,7 @@ fn draw_qr<O: Sink>(
     }
 }
 
-/// Returns the symbol of a plan.
+/// The symbol of a plan.
 #[tactic(auto, unfolding(crate::specs::Symbol::qr_modules, crate::specs::Symbol::qr_codewords))]
 fn matrix_of(options: &Options, plan: &Plan) -> Matrix
     requires chosen { plan.now.segments ≡ chosen_segments plan.now.version plan.now.bytes }

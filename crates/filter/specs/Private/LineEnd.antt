@@ -1,4 +1,4 @@
--- The end of a line, as contracts inside this crate see it.
+-- What the private contracts of a line's end say.
 use Rattle.std.specs.Prelude.{◌≡◌, ℕ, Bool, List, [], Option, None}
 use Rattle.device.specs.Device.{Begins}
 use Rattle.labelcore.specs.declared.symbology.Symbology.{Symbology}
