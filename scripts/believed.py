@@ -12,9 +12,9 @@ the modules whose name begins with Private: only contracts inside a crate cite t
 views of the code.
 
 It reads the text of the files in crates/*/specs and crates/*/src; no tool of the kit is needed. A definition is
-a block of lines between blank ones. It rests on each word in it that is defined in its file or imported by a line
-`use`. A name that is bound in a definition and means something else in its file counts as that word: the list may
-be too long because of that, never too short.
+a block of lines between blank ones. It rests on a name that is in it, where the name is defined in its file
+or brought in by a line `use`. A name that is bound in a definition and means something else in its file counts
+as that name: the list may be too long by that, never too short.
 """
 
 import argparse

@@ -346,7 +346,7 @@ class Function:
     place: str
     crate: str
     is_public: bool
-    own: Counter  # how often each word is in it
+    own: Counter  # how often each name is in it
 
 
 def functions_of(file, text, start, trait=""):
