@@ -6,8 +6,8 @@ use Rattle.qrdata.specs.declared.level.Level.{Level}
 use Rattle.qrdata.specs.Codewords.{split_by}
 use Rattle.qrdata.specs.Versions.{block_count, block_lengths, ec_codewords_per_block}
 
--- the message is cut into blocks, some and few, which have error correction codewords, some and few, and with these
--- fill a symbol
+-- the message is cut into at most 8 blocks, each of which has 1 to 30 error correction codewords; with these they fit
+-- a symbol
 pub record HasBlocks (version : ℕ) (level : Level) (message : List ℕ) : Type 0 where
   pub count : length (block_lengths version level) ≡ block_count version level
   pub whole : sum (block_lengths version level) ≡ length message
