@@ -11,7 +11,7 @@ mask_value mask i j =
 unfoldable pub is_flipped : ℕ → ℕ → ℕ → Bool
 is_flipped mask x y = mask_value mask y x == 0
 
--- the module on the other side of the mask
+-- a module, flipped if the mask says so
 abbrev pub flip_if : Bool → Bool → Bool
 flip_if true b = not b
 flip_if false b = b
