@@ -14,7 +14,7 @@ full_code128 bytes =
     if nat_lt 80 (length bytes) then Err DataTooLong
     else unless_found NotAscii (position (λ byte. nat_le 128 byte) bytes) (Ok bytes)
 
--- the sum of the values, each times its place; the first of them has the given place
+-- the sum of the values, each times its place, of which the first is given
 abbrev pub weighted_from : ℕ → List ℕ → ℕ
 weighted_from place [] = 0
 weighted_from place (value ∷ values) = place * value + weighted_from (place + 1) values

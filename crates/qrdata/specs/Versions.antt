@@ -1,5 +1,5 @@
--- The sizes of versions 1 to 10 (ISO/IEC 18004, tables 1 and 9). In each list place v is for version v; place 0 is not
--- used.
+-- The sizes of versions 1 to 10 (ISO/IEC 18004, tables 1 and 9). In each list place v is of version v, and place 0 of
+-- none.
 use Rattle.std.specs.Prelude.{ℕ, ◌+◌, ◌-◌, ◌*◌, ◌≤◌, List, [], ◌∷◌, length, map, slice_index, slice_index_or, sum}
 use Rattle.std.specs.Prelude.{replicate}
 use Rattle.std.specs.List.{flat_map}
