@@ -1,4 +1,4 @@
--- What more lines add to the images options and the messages.
+-- What more lines add to the images, the messages and the status.
 use Rattle.std.proofs.Common.{◌≡◌, ℕ, ◌+◌, Bool, ◌||◌, true, false, List, [], ◌∷◌, ◌++◌, length, append_assoc, refl, ap}
 use Rattle.std.proofs.Common.{sym, ◌∙◌, arith, add-zero}
 use Rattle.std.specs.List.{list_any}
@@ -57,7 +57,7 @@ module _ (options : OptionValues) where
       ∙ (elim (is_refusal (outcome options line)) as (λ v. (list_any p xs || (v || false)) ≡ (list_any p xs || v))
       [ true ↦ refl | false ↦ refl ])
 
--- the status of some lines and of others
+-- the status of two lists of lines, joined
 pub worst-status_if : (a b : Bool) → worst (status_if a) (status_if b) ≡ status_if (a || b)
 worst-status_if true b = refl
 worst-status_if false b = refl
