@@ -57,7 +57,7 @@ module _ (options : OptionValues) where
       ∙ (elim (is_refusal (outcome options line)) as (λ v. (list_any p xs || (v || false)) ≡ (list_any p xs || v))
       [ true ↦ refl | false ↦ refl ])
 
--- the status of two lists of lines, joined
+-- the status of some lines and of others
 pub worst-status_if : (a b : Bool) → worst (status_if a) (status_if b) ≡ status_if (a || b)
 worst-status_if true b = refl
 worst-status_if false b = refl

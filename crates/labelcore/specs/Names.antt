@@ -1,4 +1,4 @@
--- Names in a list (docs/SPECIFICATION.md, Lines, Options).
+-- Names in a list.
 use Rattle.std.specs.Prelude.{ℕ, List, [], ◌∷◌, Option, Some, None, if◌then◌else◌}
 use Rattle.std.specs.Str.{bytes_eq}
 
