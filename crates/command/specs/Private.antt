@@ -1,3 +1,3 @@
--- What only contracts inside this crate cite: nothing here has to be believed.
+-- Definitions that only the contracts of private functions cite: nothing here has to be believed.
 pub mod Checked
 pub mod Rules

@@ -1,2 +1,2 @@
--- Words that only the contracts of private functions cite: nothing here has to be believed.
+-- Definitions that only the contracts of private functions cite: nothing here has to be believed.
 pub mod LineEnd

@@ -1,3 +1,3 @@
--- Words that only the contracts of private functions cite: nothing here has to be believed.
+-- Definitions that only the contracts of private functions cite: nothing here has to be believed.
 pub mod Data
 pub mod Lists

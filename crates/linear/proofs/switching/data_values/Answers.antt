@@ -13,7 +13,7 @@ use Rattle.linear.proofs.switching.data_values.Goals as goal
 rest_is : (xs : List ℕ) (i : ℕ) → take (length xs - i) (drop i xs) ≡ drop i xs
 rest_is xs i = take_all (length xs - i) (drop i xs) (let e = length-drop i xs in omega arith)
 
--- where a pair is next, in the code's words
+-- where a pair is next, as the code tests it
 pair_in : (set : CodeSet) (xs : List ℕ) (i : ℕ) (b : Bool) → i ≤ length xs
     → b ≡ is_pair_next set (take (length xs - i) (drop i xs)) → b ≡ true → PairAt set xs i
 pair_in set xs i b le is h = pair_at set xs i le (ap (is_pair_next set) (sym (rest_is xs i)) ∙ sym is ∙ h)
