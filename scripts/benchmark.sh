@@ -12,7 +12,7 @@
 #
 # What is not installed is named on standard error, and left out: a tool of the three, or GNU time, by which
 # memory is measured. Status 77: not one of the three tools is installed, so there is nothing to measure beside.
-# Status 2: bad words or no such program.
+# Status 2: bad arguments or no such program.
 # shellcheck disable=SC2016  # a command in single quotes is for the bash of its measurement
 set -euo pipefail
 
@@ -72,7 +72,7 @@ lines_of() {
     esac
 }
 
-# The words of each tool for a label of kind $1.
+# The arguments of each tool for a label of kind $1.
 zint_words() {
     case $1 in
         ean13) echo '-b EANX --notext --quietzones' ;;
@@ -174,7 +174,7 @@ table_one_run() {
     print_rows "$many"
 }
 
-# The most memory that a run of the words $2 .. held, as a row with name $1.
+# The most memory that a run of the arguments $2 .. held, as a row with name $1.
 memory_row() {
     local name=$1
     shift
