@@ -12,9 +12,9 @@ the modules whose name begins with Private: only contracts inside a crate cite t
 views of the code.
 
 It reads the text of the files in crates/*/specs and crates/*/src; no tool of the kit is needed. A definition is
-a block of lines between blank ones. It rests on a name that is in it, where the name is defined in its file
-or brought in by a line `use`. A name that is bound in a definition and means something else in its file counts
-as that name: the list may be too long by that, never too short.
+a block of lines between blank ones. It rests on each name in it that is defined in its file or imported by a line
+`use`. A name that is bound in a definition and means something else in its file counts as that name: the list may
+be too long because of that, never too short.
 """
 
 import argparse
@@ -31,7 +31,7 @@ import declared
 import sources
 
 ROOT = ("filter", "Run", "RunsWhole")
-# The function whose clause it is, and the file of it: what the headline speaks by stands in its head.
+# The function whose clause it is, and its file: the head of the function names what the headline speaks of.
 HEADLINE = ("filter", "whole_run", "run")
 # The crates in the order in which a reader meets them, from the headline down.
 CRATES = ["filter", "labelcore", "device", "picture", "linear", "qrmatrix", "qrdata", "gf256", "command"]
@@ -81,7 +81,7 @@ class File:
         if block[0].startswith("abbrev mutual"):
             block = block[1:]
         if all(line.startswith("  ") for line in block):
-            # One of several definitions that call one another stands indented.
+            # Definitions that call one another are indented.
             block = [line[2:] for line in block]
         comment = [line.removeprefix("--").strip() for line in block if line.startswith("--")]
         code = [line for line in block if not line.startswith("--")]
@@ -181,7 +181,7 @@ def believed(files):
 
 
 def by_file(reached):
-    """The definitions by crate, and in it by file, each in the order in which a reader comes to it."""
+    """The definitions by crate, and in each crate by file, in reading order."""
     groups = {}
     for one in reached:
         groups.setdefault(one.key[0], {}).setdefault(one.key[1], []).append(one)

@@ -86,7 +86,7 @@ calls_of() {
 # The text $1, $2 times, each on a line.
 times() { for ((i = 0; i < $2; i++)); do printf '%s\n' "$1"; done; }
 
-# What a label more costs: the instructions $1 of a run over so many labels $3, less those $2 of one without them.
+# What one label more costs: the instructions $1 of a run over $3 more labels, less those $2 of a run without them.
 each() { awk -v all="$1" -v start="$2" -v n="$3" 'BEGIN { printf "%d", (all - start) / n + 0.5 }'; }
 
 # A number rounded to hundreds.
@@ -151,7 +151,7 @@ print_row() {
     printf '| %s | %s | %s | %s | %s |\n' "$name" "$ours" "$zint" "$barcode" "$qrencode"
 }
 
-# The rows below the heads of both tables, as far as they go: a name, a tab, what stands in the column of `labels`.
+# The rows of both tables: a name, a tab, the number in the column of `labels`.
 rows_of_table() {
     awk -F ' *[|] *' -v OFS='\t' '($2 == "Label" || $2 == "Calls") && $3 == "labels" { inside = 1; next }
         !/^[|]/ { inside = 0 }

@@ -115,7 +115,7 @@ def code128(draw):
 
 
 def qr_by_settings(draw):
-    """QR labels at each level, mask and least version, with some data of each kind."""
+    """QR labels at each level, mask and smallest version, with some data of each kind."""
     for level in "LMQH":
         for number in range(24):
             version, mask = 1 + number % 10, "auto" if number >= 16 else str(number % 8)

@@ -14,7 +14,7 @@
 # loaded before the C library (it needs glibc and a C compiler). N goes up to the first run that makes fewer than
 # N such calls. With --try it takes `rt try --fail-alloc N`, which needs no proof and no C compiler, but builds
 # anew for each N; so it makes the stored run alone. Here nothing says whether a run reaches its Nth growth: it
-# stops after four runs in a row that do as ever.
+# stops after four runs in a row that end as if nothing was refused.
 #
 # Status 2: bad arguments, or no such program. Status 77: no C compiler or, with --try, no `rt`: nothing was tried.
 set -euo pipefail

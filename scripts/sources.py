@@ -130,7 +130,7 @@ def name_of(kind, head):
 
 
 def items_of(text):
-    """The items that stand in a text side by side: those of a file, or of the body of a trait or an `impl`."""
+    """The items of a text, side by side: those of a file, or of the body of a trait or an `impl`."""
     blank, items, place = blanked(text), [], 0
     while match := ITEM.search(blank, place):
         start, kind = match.start(), match.group("kind")

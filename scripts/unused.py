@@ -66,7 +66,7 @@ class Definition:
 
 @dataclass
 class Import:
-    """A name that a line brings in: as it is written there, and what it stands for, if it is one of ours."""
+    """A name that a line imports: as it is written there, and what it names, if it is one of ours."""
 
     name: str
     place: str
@@ -151,7 +151,7 @@ class AnttFile:
 
 
 def imported(path):
-    """The names that an import of the logic brings in, each with what it stands for."""
+    """The names that an import of the logic has, each with what it names."""
     match = re.match(r"([\w.]+?)\.\{(.*)\}$", path, re.S)
     if not match:
         whole, _, other = path.partition(" as ")
@@ -201,7 +201,7 @@ def cited(text, imports, of_name):
 
 
 class RustFile:
-    """A file of code: its text, and its imports, each with the text in which it has to stand."""
+    """A file of code: its text, and its imports, each with the text in which it has to be."""
 
     def __init__(self, top, crate, path):
         self.crate, self.path = crate, os.path.relpath(path, top)
@@ -315,14 +315,14 @@ def functions_of_traits(tree):
 
 
 def is_used_in_code(name, text, traits):
-    """Whether an imported name of the code stands in a text without imports, or is that of a trait that is called."""
+    """Whether an imported name of the code is in a text without imports, or is that of a trait that is called."""
     if re.search(rf"\b{re.escape(name)}\b", text) or name in TRAITS_OF_STD:
         return True
     return any(re.search(rf"(?:\.|::){function}\b", text) for function in traits.get(name) or [])
 
 
 def unused_imports(tree):
-    """The imported names that do not stand where they are imported."""
+    """The imported names that are not used where they are imported."""
     found, traits = [], functions_of_traits(tree)
     for file in tree.antt:
         text = file.own_text()
@@ -367,7 +367,7 @@ def functions_of(file, text, start, trait=""):
 
 
 def unused_functions(tree):
-    """The functions whose names stand nowhere but in themselves, and how many were looked at."""
+    """The functions whose names are nowhere but in themselves, and how many were looked at."""
     names = {}
     for file in tree.rust:
         text = re.sub(r"\bpub use [^;]*;", " ", file.blank)

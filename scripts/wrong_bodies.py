@@ -3,11 +3,11 @@
 
 A wrong body is a file like a must-fail edit, with one line more. `refused: FUNCTION` names the function
 whose proof has to fail, by its path below the crate, as a check prints it. `file: FILE` and pairs of `old:
-TEXT` and `new: TEXT` change the code; each TEXT stands in the file once. `alone: WHY` keeps it apart from
+TEXT` and `new: TEXT` change the code; each TEXT is in the file once. `alone: WHY` keeps it apart from
 others, as where the proofs of several functions read what it changes.
 
 `rt` tries each must-fail edit by a check of the crate. Here one check tries many: a proof reads of other
-functions their contracts alone, so wrong bodies of several functions stand in one copy of the crate, and
+functions their contracts alone, so wrong bodies of several functions are put in one copy of the crate, and
 the check says of each function whether it is refused. What fails only because it calls another is not
 judged, and is tried again without it.
 
@@ -109,7 +109,7 @@ def bodies_of(crate_folder):
 
 
 def changed(texts, body, folder):
-    """Returns the texts with the wrong body in them, or None where a text does not stand there once."""
+    """Returns the texts with the wrong body in them, or None where a text is not there just once."""
     texts = dict(texts)
     for file, old, new in body.changes:
         if file not in texts:

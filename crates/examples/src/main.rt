@@ -36,7 +36,7 @@ fn draw_text(rt: &HostRuntime) -> io::Result<()> {
     }
 }
 
-/// Draws labels from a text in two pieces, and tells what came of it.
+/// Draws labels from a text in two pieces, and prints how the run ended.
 fn feed_pieces(rt: &HostRuntime) -> io::Result<()> {
     let Some(options) = Options::new(Format::Pbm, 1, 1, Level::M, 1, None, false) else {
         return println!(rt; "options out of range");

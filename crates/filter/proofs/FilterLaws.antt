@@ -78,7 +78,7 @@ module _ (options : OptionValues) where
       → n ≡ min (state.line_count + 1) (2 ^ 64 - 1) → n ≡ line_number (length (ended_lines text))
   line_number-counts state text at n e = omega (arith, at.line_count)
 
-  -- one byte: what its line comes to
+  -- one byte: what the sinks take of its line
   module _ (took_out took_err : List ℕ → Type 0) (text : List ℕ) (byte : ℕ) where
     pub TookPiece-other : byte ≢ LF → took_out [] → took_err [] → TookPiece options took_out took_err text (byte ∷ [])
     TookPiece-other other o e = record {
@@ -119,7 +119,7 @@ module _ (options : OptionValues) where
       };
     }
 
-  -- the same failure, where more stands before
+  -- the same failure, where more was written before
   FailsInLine-map : (o o' e e' : List ℕ → Type 0) (number : ℕ) (i : Outcome Symbol) (fault : RunFault)
       → ((bs : List ℕ) → o bs → o' bs) → ((bs : List ℕ) → e bs → e' bs) → FailsInLine options o e number i fault
       → FailsInLine options o' e' number i fault

@@ -26,8 +26,8 @@ abbrev pub CountsFault : {T : Type 0} → (out_old out_new err_old err_new : ℕ
 CountsFault out_old out_new err_old err_new r =
     MatchResult r (λ _. (out_new ≡ out_old) × (err_new ≡ err_old)) (RaisesOneCount out_old out_new err_old err_new)
 
--- where a call stops no sink stands flushed that did not before, but the images where it is the messages that failed:
--- the images are flushed first
+-- where a call stops, no sink is flushed that was not before, but for the images where the messages failed: the images
+-- are flushed first
 abbrev pub FlushedImagesAtMost : (out_old out_new err_old err_new : Bool) → RunFault → Type 0
 FlushedImagesAtMost out_old out_new err_old err_new WriteMessages = Unflushed err_old err_new
 FlushedImagesAtMost out_old out_new err_old err_new other = Unflushed out_old out_new × Unflushed err_old err_new

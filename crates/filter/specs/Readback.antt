@@ -47,7 +47,7 @@ read_modules UpcA rows = read_linear read_upca rows
 read_modules Code128 rows = read_linear read_code128 rows
 read_modules Qr rows = read_qr rows
 
--- the full data of an image, the reader being told the format, the scale and the symbology
+-- the full data of an image; the reader knows the format, the scale and the symbology
 unfoldable pub read_image : Format → ℕ → Symbology → List ℕ → Option (List ℕ)
 read_image format scale symbology text = do
   image ← pixels format text

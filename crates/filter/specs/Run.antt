@@ -1,5 +1,5 @@
--- A run over a whole input: the headline, and what stands where the run stops before the end (docs/SPECIFICATION.md,
--- The filter as a library).
+-- A run over a whole input: the headline, and what was written where the run stops before the end
+-- (docs/SPECIFICATION.md, The filter as a library).
 use Rattle.std.specs.Prelude.{◌≡◌, ℕ, ◌-◌, ◌^◌, ◌≤◌, ◌⊎◌, List, length}
 use Rattle.device.specs.Device.{Rises}
 use Rattle.labelcore.specs.OptionValues.{OptionValues}

@@ -284,7 +284,7 @@ check_digit_nine = refl
 
 -- The values of data before the check value, on both sides of each threshold, where Zint 2.11.1 writes the same ones
 -- (`--verbose`; ISO/IEC 15417, annex on the use of code sets). At the start four digits go to set C, and three do not;
--- at the end four do, and three do not; between others six do; an odd digit stands before the change.
+-- at the end four do, and three do not; between others six do; an odd digit comes before the change.
 values_of_digits : map values_of (codes "1234" ∷ codes "123" ∷ codes "12" ∷ codes "12a" ∷ codes "12345a" ∷ codes "A1234"
     ∷ codes "A123" ∷ codes "A123456B" ∷ codes "A1234567" ∷ codes "A12345678" ∷ []) ≡
     (105 ∷ 12 ∷ 34 ∷ []) ∷ (104 ∷ 17 ∷ 18 ∷ 19 ∷ []) ∷ (105 ∷ 12 ∷ []) ∷ (104 ∷ 17 ∷ 18 ∷ 65 ∷ [])
@@ -316,7 +316,7 @@ values_of_last_bytes : map values_of ((1 ∷ 96 ∷ []) ∷ (97 ∷ 31 ∷ []) �
 unfolding values_of
 values_of_last_bytes = refl
 
--- what the first and the last values of each set stand for (ISO/IEC 15417, symbol characters)
+-- what the first and the last values of each set mean (ISO/IEC 15417, symbol characters)
 meanings_in_a : map (meaning A) (0 ∷ 63 ∷ 64 ∷ 95 ∷ 96 ∷ 98 ∷ 99 ∷ 100 ∷ 101 ∷ []) ≡ text (32 ∷ []) ∷ text (95 ∷ [])
     ∷ text (0 ∷ []) ∷ text (31 ∷ []) ∷ none ∷ shift ∷ change C ∷ change B ∷ none ∷ []
 meanings_in_a = refl

@@ -91,7 +91,7 @@ stands p f size t xs lowest sizes =
     ] in
     go (p t) lowest.passes
 
--- it stands among the segments of the greatest length
+-- it is among the segments of the greatest length
 stands_longest : (p : Segment → Bool) (f : Segment → ℕ) (size n : ℕ) (mode : Mode) → suc n ≤ size
     → IsLeastOf p f size (segment_of mode (suc n))
     → IsFirstLowest f (segment_of mode (suc n)) (filter p (candidates (suc n)))
@@ -115,7 +115,7 @@ stands_longest p f size n Byte fits lowest =
     (λ yes. lowest.strict (segment_of Alphanumeric (suc n)) (omega arith) fits yes (inr (refl, omega arith)))
     (stands p f size t (candidates n) lowest sizes))
 
--- it stands among those of at most so many bytes
+-- it is among those of at most `n` bytes
 pub IsFirstLowest-candidates : (p : Segment → Bool) (f : Segment → ℕ) (size n : ℕ) (mode : Mode) (len : ℕ) → n ≤ size
     → 0 < len → len ≤ n → IsLeastOf p f size (segment_of mode len)
     → IsFirstLowest f (segment_of mode len) (filter p (candidates n))

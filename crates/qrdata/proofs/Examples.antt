@@ -239,7 +239,7 @@ pads = refl
 one_pad : pad_codewords 1 ≡ 236 ∷ []
 one_pad = refl
 
--- versions from the least one allowed to 10
+-- versions from the smallest one allowed to 10
 versions_asked_for : map (λ lowest. chosen_version lowest H (codes "1")) (1 ∷ 2 ∷ 10 ∷ 11 ∷ []) ≡
     Some 1 ∷ Some 2 ∷ Some 10 ∷ None ∷ []
 unfolding chosen_version chosen_segments best_within first_segments alphanumeric_characters alphanumeric_value

@@ -72,7 +72,7 @@ length_below (suc i) blocks =
       later,
     ) (first_below i blocks)
 
--- among the codewords at a place, that of block b stands after those of the blocks before it
+-- among the codewords at a place, that of block b comes after those of the blocks before it
 abbrev place_in_round : Blocks → ℕ → ℕ → ℕ
 place_in_round blocks b i = count_by (nat_lt i) (take b (map length blocks))
 

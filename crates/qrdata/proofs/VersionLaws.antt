@@ -113,7 +113,7 @@ data_codewords-add_ec_codewords version level low high = omega (
   (HasSoundBlocks-of version level low high).room,
 )
 
--- so many blocks, as even as can be, the short ones first: the data codewords of each
+-- the data codewords of each of `blocks` blocks, which are as even as can be, the short ones first
 abbrev pub even_lengths : ℕ → ℕ → List ℕ
 even_lengths blocks codewords = replicate (blocks - codewords % blocks) (codewords / blocks)
     ++ replicate (codewords % blocks) (codewords / blocks + 1)

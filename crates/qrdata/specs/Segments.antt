@@ -25,7 +25,7 @@ digit_value c = c - 48
 abbrev pub modes : List Mode
 modes = Numeric ∷ Alphanumeric ∷ Byte ∷ []
 
--- a segment of so many bytes
+-- a segment of `len` bytes
 abbrev pub segment_of : Mode → ℕ → Segment
 segment_of mode len = record { mode = mode; len = len }
 
@@ -97,7 +97,7 @@ IsSegmentation version [] bytes = bytes ≡ []
 IsSegmentation version (s ∷ segments) bytes =
     IsFirstSegment version bytes s × IsSegmentation version segments (drop s.len bytes)
 
--- the bits of a payload of so many bytes
+-- how many bits the payload of `n` bytes has
 abbrev pub payload_length : Mode → ℕ → ℕ
 payload_length Numeric n = (10 * n + 2) / 3
 payload_length Alphanumeric n = (11 * n + 1) / 2

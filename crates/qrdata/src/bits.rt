@@ -27,7 +27,7 @@ pub(crate) struct Bits {
 /// Bits that do not fill a codeword.
 #[derive(Clone, Copy)]
 struct Rest {
-    /// The number that these bits stand for, the high bit first.
+    /// The number that these bits represent, the high bit first.
     number: u32,
     /// How many bits there are.
     count: usize,

@@ -51,7 +51,7 @@ row_back : (b : Bool) (n t : ℕ) → t < n → cond b (n - 1 - cond b (n - 1 - 
 row_back true n t h = omega arith
 row_back false n t h = refl
 
--- how many columns stand to the right of the cursor
+-- how many columns are to the right of the cursor
 columns_at : (v s c : ℕ) → s < (side_of v - 1) / 2 → c < 2
     → columns_right (side_of v) (right_column (side_of v) s - c) ≡ 2 * s + c
 columns_at v s c ls lc = grind (arith, nat_tests)

@@ -34,7 +34,7 @@ version_copy_2 n = map (λ i. (i / 3, n - 11 + i % 3)) (range_with_len 0 18)
 abbrev pub information_at : (ℕ → ℕ → Bool) → List (ℕ × ℕ) → ℕ
 information_at m places = number_of (reverse (map (λ (p : ℕ × ℕ). m p.0 p.1) places))
 
--- the level that an error correction level indicator stands for
+-- the level that an error correction level indicator names
 abbrev pub level_of : ℕ → Level
 level_of indicator = if indicator == 0 then M else if indicator == 1 then L else if indicator == 2 then H else Q
 

@@ -13,7 +13,7 @@ item_of_held options line =
     else if line.is_too_long then refused LineTooLong
     else outcome_of (request options line.bytes)
 
--- a unit of this size, which names the byte, stands at the front
+-- the text begins with a unit of this size, which names the byte
 pub record IsFirstUnit (text : List ℕ) (byte size : ℕ) : Type 0 where
   pub some : 0 < size
   pub within : size ≤ length text

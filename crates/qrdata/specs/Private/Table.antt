@@ -22,7 +22,7 @@ abbrev pub short_choice : (version : ℕ) → Mode → (after : ℕ) → ChoiceV
 short_choice version mode after =
     record { segment = segment_of mode 1; bits = segment_length version (segment_of mode 1) + after }
 
--- a choice with one byte more, which adds so many bits
+-- a choice with one byte more, which adds `added` bits
 abbrev pub longer_choice : ChoiceView → (added : ℕ) → ChoiceView
 longer_choice c added =
     record { segment = segment_of c.segment.mode (suc c.segment.len); bits = c.bits + added }

@@ -31,7 +31,7 @@ const HEIGHTS: &[(&[u8], u16)] = &[
     (b"code128,height=2 1", 2),
 ];
 
-/// Lines with a least version that is good.
+/// Lines with a smallest version that is good, and that version.
 const VERSIONS: &[(&[u8], u8)] = &[
     (b"qr,min-version=1 1", 1),
     (b"qr,min-version=01 1", 1),

@@ -25,7 +25,7 @@ fn held(bytes: &[u8]) -> LineBuf {
     line
 }
 
-/// A line of so many letters after its first byte.
+/// A line of `letters` letters after its first byte.
 fn long_line(first: u8, letters: usize) -> LineBuf {
     let mut line = LineBuf::new();
     line.push(first);

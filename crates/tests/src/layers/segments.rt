@@ -41,7 +41,7 @@ fn count_width(version: Version, mode: Mode) -> usize {
     }
 }
 
-/// The bits of so many characters, group by group (ISO/IEC 18004, data encodation).
+/// How many bits `len` characters have, group by group (ISO/IEC 18004, data encodation).
 fn payload_bits(mode: Mode, len: usize) -> usize
     requires { len ≤ 652 }
 {
@@ -135,7 +135,7 @@ fn slow_table(version: Version, data: &[u8]) -> [SlowChoice; 653]
     table
 }
 
-/// The least version from a lowest one on in which the bits of its table fit.
+/// The smallest version from `lowest` on in which the bits of its table fit.
 fn slow_version(
     lowest: u8,
     level: Level,
@@ -211,7 +211,7 @@ impl Numbers {
         (self.state / 65_536 % u32::from(limit)) as u8
     }
 
-    /// Writes stretches of digits, of capital letters and of small letters. A stretch has so many characters on
+    /// Writes stretches of digits, of capital letters and of small letters. A stretch has `stretch` characters on
     /// average.
     fn write_text(&mut self, stretch: u8, text: &mut [u8])
         requires { 0 < stretch }

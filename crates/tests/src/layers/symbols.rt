@@ -108,7 +108,7 @@ enum Filling {
 }
 
 impl Filling {
-    /// So many codewords.
+    /// `count` codewords with this filling.
     fn codewords(self, count: usize) -> Codewords {
         let mut codewords = ArrayVec::new();
         for i in 0..count {

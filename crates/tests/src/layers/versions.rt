@@ -53,7 +53,7 @@ fn version_of(rt: &impl Abort, level: Level, text: &[u8]) -> usize {
     }
 }
 
-/// Expects that so many of the characters fit in the version after this one, and one more in the next alone.
+/// Checks that `most` of the characters fit in version `before + 1`, and that one more fits only in the next version.
 fn expect_limit(rt: &impl Abort, level: Level, text: &[u8; 653], most: usize, before: usize) {
     assert!(rt; most < 653);
     let version = version_of(rt, level, &text[..most]);
@@ -65,7 +65,7 @@ fn expect_limit(rt: &impl Abort, level: Level, text: &[u8; 653], most: usize, be
 /// The levels in the order of the tables.
 const LEVELS: &[Level] = &[Level::L, Level::M, Level::Q, Level::H];
 
-/// Expects that so many of one character fit in a version, and one more in the next alone.
+/// Checks how many of one character fit in a version; one more fits only in the next.
 fn expect_most(rt: &impl Abort, character: u8, rows: &[[usize; 4]; 10]) {
     let text = [character; 653];
     for (place, row) in rows.iter().enumerate() {

@@ -22,7 +22,7 @@ pub struct Symbol {
 }
 
 impl Symbol {
-    /// Draws the codewords under the given mask, or else under the first of the least penalty.
+    /// Draws the codewords under the given mask, or else under the first with the lowest penalty.
     pub fn draw(version: Version, level: Level, mask: Option<u8>, codewords: &Codewords) -> Symbol
         requires { IfSome mask (λ k. k < 8) }
     {
@@ -56,7 +56,7 @@ impl Symbol {
     }
 }
 
-/// The first mask of the least penalty.
+/// The first mask with the lowest penalty.
 fn least_mask(version: Version, level: Level, codewords: &Codewords) -> u8
     ensures { result < 8 }
 {
