@@ -66,10 +66,6 @@ messages_after options before [] = []
 messages_after options before (line ∷ lines) = message_of (line_number before) (outcome options line)
     ++ messages_after options (before + 1) lines
 
--- the messages of a text's lines, or of its first lines, joined
-abbrev pub messages : OptionValues → List (List ℕ) → List ℕ
-messages options lines = messages_after options 0 lines
-
 -- whether some line is refused
 unfoldable pub any_refused : OptionValues → List (List ℕ) → Bool
 any_refused options lines = list_any (λ line. is_refusal (outcome options line)) lines
