@@ -56,8 +56,9 @@ module _ (options : OptionValues) where
   unfolding status_of
   status_of-nil = refl
 
-  pub status_of-push : (xs : List (List ℕ)) (line : List ℕ) → worst (status_of options xs) (status_of_line (outcome options line))
-      ≡ status_of options (xs ++ line ∷ [])
+  pub status_of-push : (xs : List (List ℕ)) (line : List ℕ)
+      → worst (status_of options xs) (status_of_line (outcome options line)) ≡ status_of options (xs ++ line ∷ [])
   unfolding status_of
   status_of-push xs line = let p : List ℕ → Bool = λ l. is_refusal (outcome options l) in
-      worst_of_two (list_any p xs) (p line) ∙ ap (λ (b : Bool). if b then Refused else Clean) (sym (list_any-append p xs (line ∷ [])))
+      worst_of_two (list_any p xs) (p line)
+      ∙ ap (λ (b : Bool). if b then Refused else Clean) (sym (list_any-append p xs (line ∷ [])))

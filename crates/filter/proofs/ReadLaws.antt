@@ -131,7 +131,8 @@ module _ (laws : ReadingLaws) (options : OptionValues) (low : 1 ≤ options.scal
 
   image_more : (o : Outcome Symbol) (more : List ℕ) (symbols : List Symbol)
       → more ≡ flat_map (text_of options.format) (map (picture_of options) symbols)
-      → image_of options o ++ more ≡ flat_map (text_of options.format) (map (picture_of options) (cons_option (symbol_in o) symbols))
+      → image_of options o ++ more
+      ≡ flat_map (text_of options.format) (map (picture_of options) (cons_option (symbol_in o) symbols))
   image_more skipped more symbols e = e
   image_more (refused fault) more symbols e = e
   image_more (drawn symbol) more symbols e = ap (λ (bytes : List ℕ). text_of options.format (picture_of options symbol)

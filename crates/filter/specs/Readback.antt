@@ -28,7 +28,7 @@ abbrev pub pixels : Format → List ℕ → Option Raster
 pixels Pbm text = pbm_pixels text
 pixels Ascii text = ascii_pixels text
 
--- the full data of a symbol's modules, row by row: those of a linear symbol are equal rows, those of a QR symbol a square
+-- the full data of a symbol's modules, row by row: the rows of a linear symbol are equal, a QR symbol is a square
 abbrev pub read_modules : Symbology → List (List Bool) → Option (List ℕ)
 read_modules Ean13 rows = common_row rows >>= read_ean13
 read_modules Ean8 rows = common_row rows >>= read_ean8

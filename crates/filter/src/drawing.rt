@@ -9,7 +9,7 @@ ghost use Rattle.filter.specs.Drawing.{DrawsOutcome};
 ghost use Rattle.filter.specs.Output.{text_of};
 ghost use Rattle.filter.specs.Private.LineEnd.{IsLinear};
 ghost use Rattle.filter.specs.Readback.{IsReadable};
-ghost use Rattle.filter.specs.Symbol.{linear_symbol, qr_codewords, qr_modules, symbol_of};
+ghost use Rattle.filter.specs.Symbol.{linear_symbol, qr_modules, symbol_of};
 
 use device::{IoFault, Sink};
 use labelcore::{Fault, Format, Options, Symbology};
@@ -101,12 +101,11 @@ fn draw_qr<O: Sink>(
 }
 
 /// The symbol of a plan.
-#[tactic(auto, unfolding(crate::specs::Symbol::qr_modules, crate::specs::Symbol::qr_codewords))]
+#[tactic(auto, unfolding(crate::specs::Symbol::qr_modules))]
 fn matrix_of(options: &Options, plan: &Plan) -> Matrix
     requires chosen { plan.now.segments ≡ chosen_segments plan.now.version plan.now.bytes }
     requires level { plan.now.level ≡ options.now.level }
-    ensures modules { symbol_picture result ≡ qr_modules options.now plan.now.version
-        (qr_codewords options.now plan.now.bytes plan.now.version) }
+    ensures modules { symbol_picture result ≡ qr_modules options.now plan.now.bytes plan.now.version }
     ensures side { result.side ≤ 57 }
     ensures read { IsReadable (record {
       symbology = Qr;
