@@ -15,7 +15,7 @@ use qrmatrix::Matrix;
 /// the bytes.
 ///
 /// Bytes that fit no version are refused by `DoesNotFit`.
-#[tactic(auto, unfolding(filter::specs::Symbol::symbol_of, filter::specs::Symbol::qr_modules, filter::specs::Symbol::qr_codewords))]
+#[tactic(auto, unfolding(filter::specs::Symbol::symbol_of, filter::specs::Symbol::qr_modules))]
 pub fn matrix_of(options: &Options, bytes: &[u8]) -> Result<Matrix, Fault>
     // It is the symbol that the filter draws of these bytes, and refused where the filter refuses them.
     ensures symbol { IfOk result (λ matrix. symbol_of options.now Qr bytes.now
