@@ -1,6 +1,11 @@
--- Names in a list.
-use Rattle.std.specs.Prelude.{ℕ, List, [], ◌∷◌, Option, Some, None, if◌then◌else◌}
-use Rattle.std.specs.Str.{bytes_eq}
+-- Single characters, and names in a list.
+use Rattle.std.specs.Prelude.{ℕ, Bool, ◌==◌, List, [], ◌∷◌, Option, Some, None, if◌then◌else◌}
+use Prim.Native.String.{String}
+use Rattle.std.specs.Str.{byte, bytes_eq}
+
+-- whether a byte is this character
+abbrev pub is : String → ℕ → Bool
+is character b = b == byte character
 
 -- what a list has beside the name, where it stands first
 abbrev pub listed : {X : Type 0} → List ℕ → List (List ℕ × X) → Option X
