@@ -1,6 +1,7 @@
 -- Single characters, and names in a list.
-use Rattle.std.specs.Prelude.{ℕ, Bool, ◌==◌, List, [], ◌∷◌, Option, Some, None, if◌then◌else◌}
+use Rattle.std.specs.Prelude.{ℕ, Bool, ◌==◌, List, Option, option_map}
 use Prim.Native.String.{String}
+use Rattle.std.specs.List.{find}
 use Rattle.std.specs.Str.{byte, bytes_eq}
 
 -- whether a byte is this character
@@ -9,5 +10,4 @@ is character b = b == byte character
 
 -- what a list has beside the name, where it stands first
 abbrev pub listed : {X : Type 0} → List ℕ → List (List ℕ × X) → Option X
-listed name [] = None
-listed name (entry ∷ more) = if bytes_eq name entry.0 then Some entry.1 else listed name more
+listed name entries = option_map (λ entry. entry.1) (find (λ entry. bytes_eq name entry.0) entries)
