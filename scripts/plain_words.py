@@ -30,7 +30,11 @@ WORDS = (
     (r"\b(?:beside it )?(?:stands?|stood|standing)\b(?!-)", "is"),
     (r"\b(?:comes?|came) to\b", "produces, gives"),
     (r"\b(?:tells?|told|telling)\b", "reports, says"),
-    (rf"\b(?!(?:{NOUN}) answers)[\w-]+[`'\"]? answers\b|\banswer(?:ed|ing)\b|\banswers? (?:with )?`", "returns"),
+    (
+        rf"\b(?!(?:{NOUN}) answers)[\w-]+[`'\"]? answers\b|\banswer(?:ed|ing)\b"
+        r"|\banswers? (?:with )?(?:`|(?:if|what|whether)\b)",
+        "returns",
+    ),
     (r"\bso many\b", "n, this many"),
     (r"\bthe least\b|(?<!at\s)\bleast (?:penalty|penalties|versions?|masks?)\b", "the lowest, the smallest"),
     (r"\bmend(?:s|ed|ing)?\b", "fix"),

@@ -4,7 +4,7 @@
 A wrong body is a file like a must-fail edit, with one line more. `refused: FUNCTION` names the function
 whose proof has to fail, by its path below the crate, as a check prints it. `file: FILE` and pairs of `old:
 TEXT` and `new: TEXT` change the code; each TEXT is in the file once. `alone: WHY` keeps it apart from
-others, as where the proofs of several functions read what it changes.
+others, for example where the proofs of several functions read what it changes.
 
 `rt` tries each must-fail edit by a check of the crate. Here one check tries many: a proof reads of other
 functions their contracts alone, so wrong bodies of several functions are put in one copy of the crate, and

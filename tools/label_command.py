@@ -26,7 +26,7 @@ class Parser(argparse.ArgumentParser):
 
 
 def argument_parser(tool: str, description: str) -> argparse.ArgumentParser:
-    """A parser of a tool's arguments, without abbreviations; for bad ones it prints the usage, and the status is 2."""
+    """A parser of a tool's arguments, without abbreviations; it ends with status 2 and the usage for bad arguments."""
     layout = argparse.RawDescriptionHelpFormatter
     return Parser(prog=tool, description=description, formatter_class=layout, allow_abbrev=False)
 

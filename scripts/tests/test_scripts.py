@@ -650,6 +650,7 @@ class PlainWords(InFolder):
         for text, status in (
             ("Some answers are in files.\n", 0),
             ("It is what a run answers.\n", 1),
+            ("It runs. Answers whether it did.\n", 1),
             ("Status 2: `labels: bad words`.\n", 0),
             ("Status 2: bad words.\n", 1),
             ("At least version 2.\n", 0),

@@ -69,7 +69,7 @@ second_message : messages_after settings 9 (codes "#" ∷ codes "pdf x" ∷ []) 
 unfolding messages_after outcome symbol_of request head_read symbology_named line_limit digits
 second_message = refl
 
--- the status is that of refused lines alone
+-- the status is `Refused` where a line is refused, and else `Clean`
 statuses : map (status_of settings) ([] ∷ (codes "#" ∷ []) ∷ (codes "pdf x" ∷ []) ∷ (codes "#" ∷ codes "pdf x" ∷ [])
     ∷ []) ≡ Clean ∷ Clean ∷ Refused ∷ Refused ∷ []
 unfolding status_of outcome symbol_of request head_read symbology_named line_limit

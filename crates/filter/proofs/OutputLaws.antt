@@ -1,4 +1,4 @@
--- What more lines add to the images options and the messages.
+-- What more lines add to the images, the messages and the status.
 use Rattle.std.proofs.Common.{◌≡◌, ℕ, ◌+◌, Bool, ◌||◌, true, false, List, [], ◌∷◌, ◌++◌, length, append_assoc, refl, ap}
 use Rattle.std.proofs.Common.{sym, ◌∙◌, arith, add-zero, if◌then◌else◌}
 use Rattle.filter.specs.declared.status.Status.TheVariants.{Clean, Refused}

@@ -35,8 +35,8 @@ pub record TookLines (options : OptionValues) (took_out took_err : List ℕ → 
   pub err : took_err (messages_after options before lines)
   pub read : AllByRecursion (λ line. ReadsBack (outcome options line)) lines
 
--- of these lines the earlier ones' images and messages are whole, and the sink that failed took a beginning of one
--- line's
+-- a sink failed in one of these lines: the images and messages of the lines before that one are whole, and of its own
+-- the sink took a beginning
 pub record StopsInLine (options : OptionValues) (took_out took_err : List ℕ → Type 0) (before : ℕ)
     (lines : List (List ℕ)) (fault : RunFault) : Type 0 where
   pub earlier : List (List ℕ)

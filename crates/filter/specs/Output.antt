@@ -32,12 +32,12 @@ abbrev pub text_of : Format → Picture → List ℕ
 text_of Pbm p = pbm_text p
 text_of Ascii p = ascii_text p
 
--- the image that is drawn, or none
+-- the image of what is drawn, or nothing
 abbrev pub image_of : OptionValues → Outcome Symbol → List ℕ
 image_of options (drawn symbol) = text_of options.format (picture_of options symbol)
 image_of options other = []
 
--- the message of a refusal, or none
+-- the message of a refusal, or nothing
 abbrev pub message_of : ℕ → Outcome Symbol → List ℕ
 message_of number (refused fault) = message number fault
 message_of number other = []
@@ -47,7 +47,7 @@ abbrev pub is_refusal : Outcome Symbol → Bool
 is_refusal (refused fault) = true
 is_refusal other = false
 
--- the number of a line after this many lines; it stops at the greatest `u64`
+-- the number of the line after `before` lines; it stops at the greatest `u64`
 abbrev pub line_number : ℕ → ℕ
 line_number before = min (before + 1) (2 ^ 64 - 1)
 
@@ -55,7 +55,7 @@ line_number before = min (before + 1) (2 ^ 64 - 1)
 unfoldable pub images : OptionValues → List (List ℕ) → List ℕ
 images options lines = flat_map (λ line. image_of options (outcome options line)) lines
 
--- the messages of lines after this many lines, joined
+-- the messages of lines that come after `before` lines, joined
 unfoldable pub messages_after : OptionValues → ℕ → List (List ℕ) → List ℕ
 messages_after options before [] = []
 messages_after options before (line ∷ lines) = message_of (line_number before) (outcome options line)

@@ -18,7 +18,7 @@ use Rattle.labelcore.specs.LineItem.{Outcome, skipped, refused, drawn}
 use Rattle.filter.specs.Symbol.{Symbol, quiet_zone}
 use Rattle.filter.specs.Output.{outcome}
 
--- a stream of images, cut into them
+-- a stream of images, cut into its images
 abbrev pub cut : Format → List ℕ → List (List ℕ)
 cut Pbm stream = pbm_files stream
 cut Ascii stream = ascii_files stream
@@ -55,14 +55,14 @@ symbol_in other = None
 unfoldable pub drawn_symbols : OptionValues → List (List ℕ) → List Symbol
 drawn_symbols options lines = filter_map (λ line. symbol_in (outcome options line)) lines
 
--- there is one image for each symbol, in order, and it is read as the symbol's full data
+-- there is one image for each symbol, in order, and it reads as the symbol's full data
 unfoldable pub AreRead : Format → ℕ → List (List ℕ) → List Symbol → Type 0
 AreRead format scale [] [] = ⊤
 AreRead format scale (image ∷ images) (symbol ∷ symbols) =
     (read_image format scale symbol.symbology image ≡ Some symbol.full) × AreRead format scale images symbols
 AreRead format scale images symbols = ⊥
 
--- modules of some size that are read as the full data
+-- a symbol of 1 to 1,795 columns and 1 to 500 rows, whose modules read as its full data
 pub record IsReadable (symbol : Symbol) : Type 0 where
   pub some_columns : 0 < symbol.modules.width
   pub columns : symbol.modules.width ≤ 1795

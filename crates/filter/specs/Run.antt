@@ -29,18 +29,18 @@ abbrev pub StopsInText : OptionValues → (took_out took_err : List ℕ → Type
 StopsInText options took_out took_err text fault = StopsInLine options took_out took_err 0 (lines text)
     fault ⊎ TookLines options took_out took_err 0 (lines text)
 
--- what the sinks took of the text that the source gave
+-- what the sinks took where the run stopped, of the text that the source gave
 abbrev pub RunStops : OptionValues → (took_out took_err : List ℕ → Type 0) (text : List ℕ) → RunFault → Type 0
 RunStops options took_out took_err text Read = TookLines options took_out took_err 0 (ended_lines text)
 RunStops options took_out took_err text WriteOut = StopsInText options took_out took_err text WriteOut
 RunStops options took_out took_err text WriteMessages = StopsInText options took_out took_err text WriteMessages
 RunStops options took_out took_err text Spent = ⊥
 
--- as many reads gave bytes as a run makes
+-- the source gave 2^64 - 1 bytes or more, as it does where 2^64 - 1 reads gave bytes
 abbrev pub GaveTooMuch : (List ℕ → Type 0) → Type 0
 GaveTooMuch gave = (text : List ℕ) × gave text × (2 ^ 64 - 1 ≤ length text)
 
--- the count of the device that failed rises, and no other; at the bound on reads none does
+-- the count of failures of the device that failed rises, and no other; where the run made 2^64 - 1 reads, none does
 abbrev pub RunRaises : (too_much : Type 0) (source_old source_new out_old out_new err_old err_new : ℕ) → RunFault
     → Type 0
 RunRaises too_much source_old source_new out_old out_new err_old err_new Read =

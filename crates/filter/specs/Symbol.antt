@@ -20,7 +20,7 @@ use Rattle.qrmatrix.specs.Modules.{module_at}
 use Rattle.picture.specs.declared.quiet_zone.QuietZone.{QuietZone}
 use Rattle.picture.specs.Picture.{Picture, bars}
 
--- a symbol: its symbology, its full data, which has the check digit, and its modules
+-- a symbol: its symbology, its full data (for EAN and UPC with the check digit), and its modules
 pub record Symbol : Type 0 where
   pub symbology : Symbology
   pub full : List ℕ

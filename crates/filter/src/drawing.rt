@@ -18,14 +18,14 @@ use picture::{Bars, Framed, Grid, QuietZone, Scaled, reading_laws, write_ascii, 
 use qrdata::{Codewords, Plan, Version, choose, codewords};
 use qrmatrix::{Matrix, QUIET_ZONE};
 
-/// Draws one symbol: writes the image of data in a symbology, under these options, and flushes nothing. No line of text
-/// is needed. The inner result says whether the data is refused; nothing is written then.
+/// Draws one symbol: writes the image of `bytes` in a symbology, under these options, and flushes nothing. `bytes` is
+/// not empty. The inner result is the fault where the data is refused; nothing is written then.
 ///
-/// The image reads back as the full data of the symbol: the data, for EAN and UPC with the check digit.
+/// The image reads back as the full data of the symbol: the data and, for EAN and UPC, the check digit.
 ///
 /// # Errors
 ///
-/// `IoFault` where a write fails: the sink took a beginning of the image.
+/// [`IoFault`] where a write fails: the sink took a beginning of the image.
 #[tactic(auto, unfolding(crate::specs::Symbol::symbol_of))]
 pub fn draw<O: Sink>(
     options: &Options,
@@ -119,7 +119,7 @@ fn matrix_of(options: &Options, plan: &Plan) -> Matrix
     Matrix::draw(plan.version(), plan.level(), options.mask(), &all)
 }
 
-/// Writes the text of a picture, each of its modules a square of pixels.
+/// Writes the text of a picture, enlarged by the scale of the options.
 fn write_picture<G: Grid + Drop, O: Sink>(
     options: &Options,
     grid: G,
@@ -134,7 +134,7 @@ fn write_picture<G: Grid + Drop, O: Sink>(
     write_text(options.format(), &picture, out)
 }
 
-/// Writes the text of a picture.
+/// Writes the text of a picture in a format.
 fn write_text<G: Grid, O: Sink>(format: Format, picture: &G, out: &mut O) -> Result<(), IoFault>
     ensures { WritesText O.Sink out.old out.new (text_of format (G.picture picture.now)) result }
 {

@@ -29,7 +29,7 @@ picked_set-has byte rest h =
       ]
     ]
 
--- set C has no byte that is special
+-- set C has none of the bytes that only one of sets A and B has
 never_in_c : (found : Option ℕ) → option_map_or (λ byte. false) found false ≡ false
 never_in_c None = refl
 never_in_c (Some byte) = refl

@@ -190,7 +190,7 @@ read_mixed : read_code128 (code128_row (1 ∷ 97 ∷ 2 ∷ 98 ∷ 97 ∷ 3 ∷ [
 unfolding character_widths
 read_mixed = refl
 
--- no modules are no symbol, whatever the tables
+-- a row without modules is not read, whatever the tables
 nothing_ean8 : read_ean8 [] ≡ None
 nothing_ean8 = refl
 
@@ -294,7 +294,7 @@ values_of_digits : map values_of (codes "1234" ∷ codes "123" ∷ codes "12" �
 unfolding values_of
 values_of_digits = refl
 
--- between others fewer than six digits stay in the set that holds, which Zint does from four digits on not
+-- between others fewer than six digits stay in the set that holds; Zint changes to set C from four digits on
 values_of_few_digits : map values_of (codes "A1234B" ∷ codes "A12345B" ∷ []) ≡
     (104 ∷ 33 ∷ 17 ∷ 18 ∷ 19 ∷ 20 ∷ 34 ∷ []) ∷ (104 ∷ 33 ∷ 17 ∷ 18 ∷ 19 ∷ 20 ∷ 21 ∷ 34 ∷ []) ∷ []
 unfolding values_of

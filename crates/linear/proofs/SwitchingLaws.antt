@@ -1,4 +1,4 @@
--- The steps of the switching rule write what `written` says.
+-- The steps of the switching rule write the values of `data_values`.
 use Rattle.std.proofs.Common.{◌≡◌, ℕ, ◌<◌, Bool, true, false, cond, List, [], ◌∷◌, ◌++◌, drop, leb, eqb, refl, sym, ap}
 use Rattle.std.proofs.Common.{subst, ◌∙◌, arith, lt-ltb, le-leb, append-nil, inl, inr, ◌%◌}
 use Rattle.std.specs.Prelude.{◌&&◌, ◌||◌, slice_index}
@@ -126,7 +126,7 @@ is_pair_next-single A byte = one_at_most (is_ascii_digit byte)
 is_pair_next-single B byte = one_at_most (is_ascii_digit byte)
 is_pair_next-single C byte = never_two (is_ascii_digit byte)
 
--- the steps of the switching rule write what `written` says
+-- the steps of the switching rule write the values of `data_values`
 Writes-data_values : (set : CodeSet) (bytes : List ℕ) → AllByRecursion (λ byte. byte < 128) bytes
     → Writes set bytes (data_values set bytes)
 Writes-data_values set [] d = done

@@ -19,7 +19,7 @@ weighted_sum (byte ∷ rest) = (if length rest % 2 == 0 then 3 else 1) * digit_v
 abbrev pub check_digit : List ℕ → ℕ
 check_digit digits = (10 - weighted_sum digits % 10) % 10
 
--- digits and a last one, which has to be their check digit
+-- these digits and the last one, or a refusal where the last one is not their check digit
 abbrev pub checked_digits : List ℕ → ℕ → Result (List ℕ) Refusal
 checked_digits digits last =
     if digit_value last == check_digit digits then Ok (digits ++ last ∷ [])

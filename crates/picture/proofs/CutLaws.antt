@@ -156,7 +156,7 @@ pub record IsFile (text : List ℕ) : Type 0 where
   whole : IsWhole text
   plain : has_no_P rest ≡ true
 
--- the first line of a file comes off
+-- the first line of a file is cut off
 whole_lines-magic : (rest : List ℕ) → whole_lines (80 ∷ 49 ∷ 10 ∷ rest) ≡ (80 ∷ 49 ∷ 10 ∷ []) ∷ whole_lines rest
 whole_lines-magic rest = cut_after-at is_line_feed (80 ∷ 49 ∷ []) 10 rest refl
 

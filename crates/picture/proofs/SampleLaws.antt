@@ -92,7 +92,7 @@ is_module-with_quiet_zone p zone column row = rw (
       (zone.top + p.height) zone.bottom,
 ) refl
 
--- a module of a with_quiet_zone picture
+-- a module of a picture in its quiet zone
 pub dark-with_quiet_zone : (p : Picture) (zone : QuietZone) (column row : ℕ) → column < p.width → row < p.height
     → (with_quiet_zone p zone).dark (zone.left + column) (zone.top + row) ≡ p.dark column row
 dark-with_quiet_zone p zone column row wide high =

@@ -57,7 +57,7 @@ mode_place Byte = 2
 abbrev pub IsBefore : Segment → Segment → Type 0
 IsBefore s t = (t.len < s.len) ⊎ ((s.len ≡ t.len) × (mode_place s.mode < mode_place t.mode))
 
--- t passes, its number is no more than that of any that passes, and less than that of those before it
+-- t passes; f is no more at t than at any segment that passes, and less than at those that are tried before it
 pub record IsLeastOf (p : Segment → Bool) (f : Segment → ℕ) (size : ℕ) (t : Segment) : Type 0 where
   pub passes : p t ≡ true
   pub low : (s : Segment) → 0 < s.len → s.len ≤ size → p s ≡ true → f t ≤ f s

@@ -31,7 +31,8 @@ use Rattle.qrdata.proofs.PayloadLaws.{AreBytes}
 use Rattle.qrdata.proofs.VersionLaws.{HasSoundBlocks-of, data_codewords-add_ec_codewords}
 use Rattle.qrdata.proofs.SegmentReadingLaws.{AreBytes-take, AreBytes-drop, segments_at-segments_bits}
 
--- the error correction codewords of a block: as many as they should be, and with them the block is a codeword
+-- the error correction codewords of a block: they have the right number, and with them the block is a multiple of its
+-- generator
 pub record HasEcCodewords (k : ℕ) : Type 0 where
   pub count : (block : List ℕ) → AreBytes block → length (ec_codewords_of k block) ≡ k
   pub roots : (block : List ℕ) → AreBytes block → has_roots k (block, ec_codewords_of k block) ≡ true

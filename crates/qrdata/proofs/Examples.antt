@@ -55,8 +55,8 @@ short_digits = refl
 three_segments_cost : cost 1 (segment_of Byte 1 ∷ segment_of Numeric 2 ∷ segment_of Byte 1 ∷ []) ≡ 61
 three_segments_cost = refl
 
--- beside the listing of the standard (ISO/IEC 18004, table 9): of each version the error correction codewords of a
--- block, and the data codewords of each block
+-- the listing of the standard (ISO/IEC 18004, table 9): for each version the error correction codewords of a block, and
+-- the data codewords of each block
 abbrev blocks_of_versions : Level → List (ℕ × List ℕ)
 blocks_of_versions level =
     map (λ version. (ec_codewords_per_block version level, block_lengths version level)) (range_with_len 1 10)

@@ -39,7 +39,7 @@ IsIn-lengths_down k zero low high = absurd (omega arith)
 IsIn-lengths_down k (suc n) low high = rw (lengths_down-more n) (elim (cases_lt n k)
     [ inl last ↦ inl (omega arith) | inr less ↦ inr (IsIn-lengths_down k n low less) ])
 
--- the one of two with the lower number, the second of equals
+-- the one of two with the lower number; the second where the numbers are equal
 lower_of-both : {A : Type 0} (f : A → ℕ) (b a : A) → (f (cond (nat_lt (f b) (f a)) b a) ≤ f a)
     × (f (cond (nat_lt (f b) (f a)) b a) ≤ f b)
 lower_of-both f b a = elim (cases_lt (f b) (f a)) [
@@ -65,7 +65,7 @@ cond_one : {A : Type 0} (P : A → Type 0) (t : Bool) (x y : A) → P x → P y 
 cond_one P true x y h k = h
 cond_one P false x y h k = k
 
--- whatever holds of all holds of the cheapest
+-- what is true of all is true of the cheapest
 lowest_of-one : {A : Type 0} (P : A → Type 0) (f : A → ℕ) (a : A) (xs : List A) → P a → AllByRecursion P xs
     → P (lowest_of f a xs)
 lowest_of-one P f a [] h w = h

@@ -1,4 +1,4 @@
--- Dealing codewords to blocks undoes their interleaving.
+-- Deinterleaving undoes interleaving.
 use Rattle.std.proofs.Common.{◌≡◌, ℕ, zero, suc, ◌+◌, ◌-◌, ◌<◌, ◌≤◌, List, [], ◌∷◌, map, take, drop, length, get_or}
 use Rattle.std.proofs.Common.{min, refl, ap, sym, ◌∙◌, length-append, arith, inl, inr, cond}
 use Rattle.std.specs.Prelude.{fold, max, slice_get, slice_index, nat_lt}
@@ -113,7 +113,7 @@ take_range n a zero h = refl
 take_range zero a (suc i) h = absurd (omega arith)
 take_range (suc n) a (suc i) h = ap (λ ns. a ∷ ns) (take_range n (a + 1) i (omega arith))
 
--- each codeword of a block is found where it was dealt from
+-- each codeword of a block is at its place among the interleaved codewords
 placed : (blocks : Blocks) (b i : ℕ) → b < length blocks → i < length (get_or blocks b [])
     → slice_index (interleaving blocks) (interleaving_place (map length blocks) b i) ≡ get_or (get_or blocks b []) i 0
 unfolding interleaving
@@ -127,7 +127,7 @@ placed blocks b i block codeword =
     let same = rw (place, take_range n 0 i (omega arith), length_below i blocks) at found in
     same ∙ here.1
 
--- codewords that are interleaved are dealt back to their blocks
+-- interleaved codewords are deinterleaved to their blocks
 pub deinterleaving-interleaving : (blocks : Blocks) → deinterleaving (map length blocks) (interleaving blocks) ≡ blocks
 unfolding deinterleaving
 deinterleaving-interleaving blocks =

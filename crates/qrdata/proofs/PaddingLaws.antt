@@ -81,8 +81,8 @@ length-byte_bits [] = rw byte_bits-nil refl
 length-byte_bits (b ∷ bytes) = rw byte_bits-one
     (omega (arith, length-append (bits_of 8 b) (byte_bits bytes), length-bits_of 8 b, length-byte_bits bytes))
 
--- The terminator and the zeros after it are bits of their own, in whole codewords and no more than there are: four
--- zeros come first, or all is full.
+-- With the terminator and the zeros after it the bits fill whole codewords, no more than there are. Four zeros come
+-- after the bits, or no codeword is left.
 pub with_zeros-whole : (size : ℕ) (bits : List Bool) → length bits ≤ 8 * size
     → (n : ℕ) × (zeros : List Bool) × (with_zeros (with_terminator (8 * size) bits) ≡ bits ++ zeros)
     × (length bits + length zeros ≡ 8 * n) × (n ≤ size)

@@ -1,4 +1,4 @@
--- The choices of so few bytes leave room for one byte more.
+-- The choices of at most 652 bytes leave room for one byte more.
 use Rattle.std.proofs.Common.{ℕ, suc, ◌+◌, ◌*◌, ◌≤◌, List, [], ◌∷◌, length, arith, true, false, cond}
 use Rattle.std.specs.Char.{is_ascii_digit}
 use Rattle.std.specs.Prelude.{nat_lt}

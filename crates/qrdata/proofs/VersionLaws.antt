@@ -14,7 +14,7 @@ use Rattle.qrdata.specs.declared.version.TheConstants.{TOTAL, BLOCKS_L, BLOCKS_M
 use Rattle.qrdata.specs.declared.version.TheConstants.{EC_CODEWORDS_M, EC_CODEWORDS_Q, EC_CODEWORDS_H}
 use Rattle.gf256.proofs.GeneratorTableLaws.{same_numbers, same_numbers-is}
 
--- the blocks of a version: some and few, each with some error correction codewords and few, which leave room for data
+-- the blocks of a version: 1 to 8, each with 1 to 30 error correction codewords, which leave room for data codewords
 pub record HasSoundBlocks (version : ℕ) (level : Level) : Type 0 where
   pub some_blocks : 0 < block_count version level
   pub few_blocks : block_count version level ≤ 8

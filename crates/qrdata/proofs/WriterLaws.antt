@@ -127,7 +127,7 @@ pub split_by-none_left : (lengths codewords : List ℕ) (i : ℕ) → length len
 unfolding split_by
 split_by-none_left lengths codewords i h = rw (drop_all i lengths h) refl
 
--- what is made of each block in the same length is cut apart again
+-- what is computed for each block, in equal lengths, is cut apart again
 pub split_by-flat_map : (f : List ℕ → List ℕ) (k : ℕ) (P : List ℕ → Type 0) (blocks : Blocks)
     → ((block : List ℕ) → P block → length (f block) ≡ k) → AllByRecursion P blocks
     → split_by (replicate (length blocks) k) (flat_map f blocks) ≡ map f blocks

@@ -21,11 +21,11 @@ with_zeros bits = bits ++ replicate ((8 - length bits % 8) % 8) false
 abbrev pub pad_codewords : ℕ → List ℕ
 pad_codewords n = map (λ i. if i % 2 == 0 then 0xEC else 0x11) (range_with_len 0 n)
 
--- as many codewords as the size: those of the bits, and the padding
+-- `size` codewords: those of the bits, and then pad codewords
 unfoldable pub with_pad_codewords : ℕ → List Bool → List ℕ
 with_pad_codewords size bits = codewords_of (length bits / 8) bits ++ pad_codewords (size - length bits / 8)
 
--- as many data codewords as the size: the bits, the terminator, zeros to the end of a codeword, and the padding
+-- `size` data codewords: the bits, the terminator, zeros to the end of a codeword, and then pad codewords
 unfoldable pub data_codewords_of : ℕ → List Bool → List ℕ
 data_codewords_of size bits = with_pad_codewords size (with_zeros (with_terminator (8 * size) bits))
 

@@ -1,4 +1,4 @@
--- The segments that data gets, and its version (ISO/IEC 18004, 7.4.1 and annex J; the choice is left to the encoder).
+-- The choice of segments and of a version for data (ISO/IEC 18004, 7.4.1 and annex J leave it to the encoder).
 use Rattle.std.specs.Prelude.{ℕ, zero, suc, ◌-◌, ◌^◌, ◌<◌, List, [], ◌∷◌, map, length, take, drop, nat_lt, nat_le}
 use Rattle.std.specs.Prelude.{◌&&◌, Bool, Option, filter, reverse}
 use Rattle.std.specs.List.{best_of, find, flat_map, list_all, range_with_len}
@@ -32,7 +32,7 @@ best_within version zero bytes = []
 best_within version (suc n) bytes =
     cheapest version (map (λ s. s ∷ best_within version n (drop s.len bytes)) (first_segments version bytes))
 
--- the segments that the bytes get in a version
+-- the segments that are chosen for the bytes in a version
 unfoldable pub chosen_segments : ℕ → List ℕ → List Segment
 chosen_segments version bytes = best_within version (length bytes) bytes
 

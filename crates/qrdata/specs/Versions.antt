@@ -10,7 +10,7 @@ use Rattle.qrdata.specs.declared.level.Level.TheVariants.{L, M, Q, H}
 abbrev pub IsVersion : ℕ → Type 0
 IsVersion version = (1 ≤ version) × (version ≤ 10)
 
--- the modules of a side
+-- how many modules a side has
 abbrev pub side_of : ℕ → ℕ
 side_of version = 17 + 4 * version
 
@@ -51,11 +51,11 @@ block_lengths version level = flat_map (λ (group : ℕ × ℕ × ℕ). replicat
 unfoldable pub data_codewords : ℕ → Level → ℕ
 data_codewords version level = sum (block_lengths version level)
 
--- how many error correction codewords each block has, the first as many as the others
+-- how many error correction codewords each block has: all blocks have as many as the first
 unfoldable pub ec_codewords_per_block : ℕ → Level → ℕ
 ec_codewords_per_block version level =
     slice_index (map (λ (group : ℕ × ℕ × ℕ). group.1 - group.2) (groups_of version level)) 0
 
--- the data bits of a symbol
+-- how many data bits a symbol has
 abbrev pub capacity : ℕ → Level → ℕ
 capacity version level = 8 * data_codewords version level

@@ -61,7 +61,7 @@ fn push_data(version: Version, level: Level, segments: &[Segment], bytes: &[u8],
     push_padding(size - message.codewords.len(), &mut message.codewords);
 }
 
-/// A message with all data codewords is cut into blocks that fill a symbol. It does nothing when it runs.
+/// Proves that a message with all data codewords is cut into blocks that fill a symbol. It does nothing when it runs.
 fn have_blocks(version: Version, level: Level, message: &[u8])
     requires whole { length message.now ≡ data_codewords version level }
     ensures { HasBlocks version level message.now }

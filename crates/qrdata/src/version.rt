@@ -74,7 +74,7 @@ impl Version {
         Version { number }
     }
 
-    /// States that a version is one of 1 to 10. It does nothing when it runs.
+    /// Proves that a version is one of 1 to 10. It does nothing when it runs.
     pub fn known(self)
         ensures { IsVersion self }
     {

@@ -73,7 +73,7 @@ column_without v x y h =
     ap (λ (ps : List Bool). slice_get ps 0)
     (no_columns (side_of v) x y (alignment_coordinates v) (alignment_coordinates v) h)
 
--- the role with and without a look for alignment patterns
+-- the role of a module; where the test is false, alignment patterns are left out
 unfoldable pub role_by : Bool → ℕ → ℕ → ℕ → Role
 unfolding role
 role_by true v x y = role v x y

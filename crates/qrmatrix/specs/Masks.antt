@@ -7,7 +7,7 @@ is_flipped mask j i =
     slice_index (((i + j) % 2) ∷ (i % 2) ∷ (j % 3) ∷ ((i + j) % 3) ∷ ((i / 2 + j / 3) % 2) ∷ ((i * j) % 2 + (i * j) % 3)
     ∷ (((i * j) % 2 + (i * j) % 3) % 2) ∷ (((i + j) % 2 + (i * j) % 3) % 2) ∷ []) mask == 0
 
--- the module on the other side of the mask
+-- a module, flipped if the mask says so
 abbrev pub flip_if : Bool → Bool → Bool
 flip_if true b = not b
 flip_if false b = b

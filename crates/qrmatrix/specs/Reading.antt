@@ -82,13 +82,13 @@ unfoldable pub read_bits : ℕ → ℕ → (ℕ → ℕ → Bool) → List Bool
 read_bits v mask m = map (λ (p : ℕ × ℕ). flip_if (is_flipped mask p.0 p.1) (m p.0 p.1))
     (filter (λ (p : ℕ × ℕ). is_free v p.0 p.1) (walk (side_of v)))
 
--- what the modules say
+-- what the modules of a symbol are read as
 pub record Reading : Type 0 where
   pub version : ℕ
   pub level : Level
   pub codewords : List ℕ
 
--- the reading by the level and the mask that were read
+-- the reading, from the level and the mask that the format information gives
 abbrev pub read_with : ℕ → (ℕ → ℕ → Bool) → Level × ℕ → Option Reading
 read_with v m format =
     let codewords = codewords_of (total_codewords v) (read_bits v format.1 m) in

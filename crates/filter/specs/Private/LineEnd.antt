@@ -15,7 +15,7 @@ use Rattle.filter.specs.declared.status.RunFault.TheVariants.{WriteOut, WriteMes
 use Rattle.filter.specs.declared.status.Status.{Status}
 use Rattle.filter.specs.declared.status.Status.TheVariants.{Clean, Refused}
 
--- the status of some lines and of others
+-- the status of all lines, from that of some of them and that of the others
 abbrev pub worst : Status → Status → Status
 worst Clean other = other
 worst Refused other = Refused
@@ -38,7 +38,7 @@ pub record EndsLine (options : OptionValues) (took_out took_err : List ℕ → T
   pub message : took_err (message_of number outcome)
   pub read : ReadsBack outcome
 
--- before a message nothing more was taken, or a beginning of it was
+-- where the images failed, the messages took nothing; where the messages failed, they took a beginning of the text
 abbrev pub FailsInMessage : (took_err : List ℕ → Type 0) (text : List ℕ) → RunFault → Type 0
 FailsInMessage took_err text WriteOut = took_err []
 FailsInMessage took_err text WriteMessages = Begins took_err text

@@ -40,7 +40,7 @@ fn counts(sink: &Buffered<MemSink<66000>>, below: usize, buffered: usize) -> boo
     sink.sink().bytes().len() == below && sink.buffered().len() == buffered
 }
 
-/// Bytes that are written, and how many of them go on before the flush and are buffered.
+/// How many bytes are written, and how many of them are passed on before the flush and are buffered.
 const ROOMS: &[(usize, usize, usize)] = &[
     (32_767, 0, 32_767),
     (32_768, 0, 32_768),

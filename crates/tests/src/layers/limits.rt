@@ -1,4 +1,4 @@
-//! Both ends of each range of a setting, and what lies beside them; the letters and places of messages
+//! Both ends of each range of a setting, and the values just outside; the letters and places of messages
 //! (docs/SPECIFICATION.md, Settings, Refusals).
 use device::MemSink;
 use labelcore::{Fault, Format, Item, LineBuf, Options, Scratch, Symbology, parse, write_fault};

@@ -183,7 +183,7 @@ fn assert_message(rt: &impl Abort, number: u64, fault: &Fault, want: &[u8]) {
     assert!(rt; sink.bytes() == want);
 }
 
-/// A sink of ten bytes gets the first ten of this text.
+/// A sink of ten bytes takes the first ten of this text.
 fn assert_cut_message(rt: &impl Abort, number: u64, fault: &Fault, want: &[u8]) {
     let mut sink = MemSink::<128>::new(7, 10);
     assert!(rt; write_fault(number, fault, &mut sink).is_err());

@@ -46,7 +46,7 @@ fn modules_of(text: &[u8; 67]) -> [bool; 67] {
     modules
 }
 
-/// Whether a grid is so wide and so high.
+/// Whether a grid has this width and this height.
 fn is_sized(grid: &impl Grid, width: usize, height: usize) -> bool {
     grid.width() == width && grid.height() == height
 }

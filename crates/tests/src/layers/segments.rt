@@ -1,5 +1,5 @@
-//! The choice beside its slow form: a table in which each place tries every length, with the limits of the character
-//! counts.
+//! The choice of segments against its slow form: a table that tries every length at each place, with the limits of the
+//! character counts.
 ghost use Rattle.std.specs.Prelude.{length, ◌≤◌, ◌<◌};
 
 use crate::layers::support::version;
@@ -170,7 +170,7 @@ fn expect_same_segments(rt: &impl Abort, plan: &Plan, data: &[u8], table: &[Slow
     assert!(rt; place == data.len());
 }
 
-/// Chooses for the data at each level from each of some versions on, and expects what the slow tables say.
+/// Checks the choice for the data at each level, from each of some versions on, against the slow tables.
 fn expect_same(rt: &impl Abort, data: &[u8]) {
     assert!(rt; data.len() <= 652);
     let (Some(nine), Some(ten)) = (Version::new(9), Version::new(10)) else {

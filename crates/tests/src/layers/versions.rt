@@ -1,4 +1,4 @@
-//! How much data each version holds, beside the listing of the standard (ISO/IEC 18004, table 7).
+//! How much data each version holds, against the listing of the standard (ISO/IEC 18004, table 7).
 use crate::layers::support::version;
 use qrdata::{Level, choose};
 use std::process::Abort;
@@ -45,7 +45,7 @@ const BYTES: [[usize; 4]; 10] = [
     [271, 213, 151, 119],
 ];
 
-/// The number of the version that data gets, and 11 where it is refused.
+/// The number of the version that is chosen for data, and 11 where the data is refused.
 fn version_of(rt: &impl Abort, level: Level, text: &[u8]) -> usize {
     match choose(version(rt, 1), level, text) {
         Ok(plan) => usize::from(plan.version().number()),

@@ -105,7 +105,7 @@ fn output_goes_out_before_each_read(rt: HostRuntime) {
     assert!(rt; source.seen == 2 * EAN8.len());
 }
 
-/// The images that were passed on are in memory, and one more is buffered, which goes out after them.
+/// The images that were passed on are in memory, and one more is buffered, which is passed on after them.
 fn assert_one_is_held<const N: usize>(
     rt: &impl Abort,
     out: &mut Buffered<FailAt<MemSink<N>>>,
@@ -147,8 +147,8 @@ fn assert_sending_fails(rt: &impl Abort, piece: usize, sent: usize, images: &[u8
     assert_one_is_held(rt, &mut out, images);
 }
 
-/// A byte a read: each label goes out before the read after its line. All lines in one read: a label goes out before
-/// the message after it, the last one before the next read.
+/// With one byte a read, each label is passed on before the read after its line. With all lines in one read, a label is
+/// passed on before the message after it, and the last one before the next read.
 #[test]
 fn each_sending_fails(rt: HostRuntime) -> Result<(), Fail> {
     for piece in [1, 4096] {

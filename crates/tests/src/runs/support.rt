@@ -31,7 +31,7 @@ pub struct RunResult {
     pub err: Vec<u8>,
 }
 
-/// The options of a row, each at its default where the row names no other.
+/// The options of a worked row, with the defaults for those that it does not name.
 #[derive(Clone, Copy, Drop)]
 pub struct Named {
     pub format: Format,
@@ -253,7 +253,7 @@ pub fn line_ends(text: &[u8]) -> usize {
     count
 }
 
-/// Whether each line of a text is so long, or empty.
+/// Whether each line of a text has `len` bytes, or none.
 pub fn has_lines_of(text: &[u8], len: usize) -> bool {
     let mut so_far: usize = 0;
     for byte in text {

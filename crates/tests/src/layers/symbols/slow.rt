@@ -1,5 +1,4 @@
-//! The slow form of a symbol: 57 by 57 truth values, drawn and counted module by module, each mask in a drawing of
-//! its own.
+//! The slow form of a symbol: 57 by 57 truth values, drawn and counted module by module, and drawn anew for each mask.
 
 mod function;
 mod penalty;

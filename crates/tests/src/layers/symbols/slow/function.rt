@@ -1,4 +1,4 @@
-//! The function patterns, the format information and the version information, each module asked what it is there for.
+//! The function patterns, the format information and the version information, by the role of each module.
 ghost use Rattle.std.specs.Prelude.{◌<◌, ◌≤◌, IfSome};
 ghost use Rattle.qrdata.specs.Versions.{side_of};
 
