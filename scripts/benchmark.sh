@@ -222,15 +222,16 @@ print_head() {
     echo '|---|---|---|---|---|---|---|'
 }
 
+# What was measured where, as a list of three lines.
 print_machine() {
-    echo "- Date: $(date -u +%Y-%m-%d)"
-    echo "- Machine: $(awk -F': ' '/^model name/ { print $2; exit }' /proc/cpuinfo), $(nproc) processors"
-    has qrencode && echo "- $(qrencode --version 2>&1 | head -n 1)"
-    has zint && echo "- $(zint --version | head -n 1)"
-    has barcode && echo "- GNU barcode $(barcode --version 2>&1 | awk '{ print $3; exit }')"
-    echo "- System: $(sed -n 's/^PRETTY_NAME="\(.*\)"$/\1/p' /etc/os-release)," \
-        "files on $(df --output=fstype . | tail -n 1)"
-    echo "- Load of the machine before: $(cut -d' ' -f1-3 /proc/loadavg)"
+    local tools=()
+    has qrencode && tools+=("$(qrencode --version 2>&1 | head -n 1), ")
+    has zint && tools+=("$(zint --version | head -n 1), ")
+    has barcode && tools+=("GNU barcode $(barcode --version 2>&1 | awk '{ print $3; exit }'), ")
+    echo "- Tools, $(date -u +%Y-%m-%d): $(printf '%s' "${tools[@]}" | sed 's/, $//')"
+    echo "- Machine: $(awk -F': ' '/^model name/ { print $2; exit }' /proc/cpuinfo), $(nproc) processors," \
+        "$(sed -n 's/^PRETTY_NAME="\(.*\)"$/\1/p' /etc/os-release), files on $(df --output=fstype . | tail -n 1)," \
+        "load before $(cut -d' ' -f1-3 /proc/loadavg)"
     echo "- Labels: $one_by_one with a process each, $many in one run; the lowest of $rounds rounds"
 }
 
