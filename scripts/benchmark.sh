@@ -117,8 +117,8 @@ seconds_of() {
     awk '{ print $1 + $2 }' measured.txt
 }
 
-# Runs the commands in rounds, and prints a row of name $1: of each the lowest time for each of $2 labels, and behind it
-# the ratio to the time of labels.
+# Runs the commands in rounds, and prints a row of name $1: the lowest time of each command for each of $2 labels, and
+# after it the ratio to the time of labels.
 time_row() {
     local name=$1 count=$2 round column seconds
     local -A best=()
@@ -209,7 +209,8 @@ table_memory() {
             if has barcode; then commands[barcode]="barcode $(barcode_arguments ean13) -i data -o /dev/null"; fi
         fi
         if [ "$count" != "$huge" ] && has zint; then
-            commands[zint]="zint $(zint_arguments ean13) --scale=0.5 --batch -i data -o 'pictures/~~~~~~.bmp' --filetype=bmp"
+            commands[zint]="zint $(zint_arguments ean13) --scale=0.5 --batch -i data --filetype=bmp"
+            commands[zint]+=" -o 'pictures/~~~~~~.bmp'"
         fi
         memory_row "$count labels"
     done

@@ -4,8 +4,16 @@ use Rattle.std.specs.Prelude.{ℕ, ◌+◌, ◌*◌, ◌/◌, ◌%◌, Bool, tru
 -- whether a mask flips a free module at column j and row i: where the value of its formula is 0
 unfoldable pub is_flipped : ℕ → ℕ → ℕ → Bool
 is_flipped mask j i =
-    slice_index (((i + j) % 2) ∷ (i % 2) ∷ (j % 3) ∷ ((i + j) % 3) ∷ ((i / 2 + j / 3) % 2) ∷ ((i * j) % 2 + (i * j) % 3)
-    ∷ (((i * j) % 2 + (i * j) % 3) % 2) ∷ (((i + j) % 2 + (i * j) % 3) % 2) ∷ []) mask == 0
+    slice_index (
+    ((i + j) % 2)
+    ∷ (i % 2)
+    ∷ (j % 3)
+    ∷ ((i + j) % 3)
+    ∷ ((i / 2 + j / 3) % 2)
+    ∷ ((i * j) % 2 + (i * j) % 3)
+    ∷ (((i * j) % 2 + (i * j) % 3) % 2)
+    ∷ (((i + j) % 2 + (i * j) % 3) % 2)
+    ∷ []) mask == 0
 
 -- a module, flipped if the mask says so
 abbrev pub flip_if : Bool → Bool → Bool
