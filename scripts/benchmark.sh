@@ -3,7 +3,10 @@
 #
 # usage: scripts/benchmark.sh [PROGRAM] > rows.md
 #
-# PROGRAM is crates/labels/out/labels where none is given. It prints Markdown tables, those of docs/BENCHMARKS.md.
+# PROGRAM is crates/labels/out/labels where none is given. It prints what docs/BENCHMARKS.md has under Results: the
+# machine, a table of times and a table of memory, both with a column for each tool and one for a process that does
+# nothing. A `-`: the tool does not draw that, or is not measured there.
+#
 # All tools draw the same labels. A time is processor time, user and system together, of all processes of a
 # measurement: on a machine that does other work too it says more than the time on the clock. It is the lowest of
 # ROUNDS rounds (5), in which the tools take turns. ONE_BY_ONE (300) labels are drawn with a process for each,
@@ -15,6 +18,7 @@
 # Status 2: bad arguments or no such program.
 # shellcheck disable=SC2016  # a command in single quotes is for the bash of its measurement
 set -euo pipefail
+shopt -s inherit_errexit
 
 usage() { sed -n '/^# usage: /,/^#$/s/^# \{0,1\}//p' "$0" | sed '/^$/d'; }
 
@@ -72,8 +76,8 @@ lines_of() {
     esac
 }
 
-# The words of each tool for a label of kind $1.
-zint_words() {
+# The arguments of each tool for a label of kind $1.
+zint_arguments() {
     case $1 in
         ean13) echo '-b EANX --notext --quietzones' ;;
         code128) echo '-b CODE128 --notext --quietzones' ;;
@@ -83,153 +87,163 @@ zint_words() {
     esac
 }
 
-qrencode_words() {
+qrencode_arguments() {
     case $1 in
         qr) echo '-l M -s 1 -t ASCII' ;;
         qr10) echo '-l M -s 1 -t ASCII -v 10' ;;
     esac
 }
 
-barcode_words() {
+barcode_arguments() {
     case $1 in
         ean13) echo '-e ean13 -n' ;;
         code128) echo '-e 128 -n' ;;
     esac
 }
 
-# A measurement: name $1, command $2 for bash.
-names=()
-commands=()
-measure() {
-    names+=("$1")
-    commands+=("$2")
+# The columns of the tables. A row has a command for bash in each column that it measures, and `-` in the others.
+columns=(labels csplit qrencode zint barcode nothing)
+names='labels | labels and csplit | qrencode | zint | GNU barcode | nothing'
+declare -A commands
+
+# Prints the cell $1 of a row.
+print_cell() { printf ' %s |' "$1"; }
+
+# The processor time of a command for bash, in seconds.
+seconds_of() {
+    local TIMEFORMAT='%3U %3S'
+    rm -rf pictures && mkdir pictures
+    { time bash -c "$1" 2> /dev/null; } 2> measured.txt
+    awk '{ print $1 + $2 }' measured.txt
 }
 
-# Runs the measurements in rounds, and prints a row for each: its lowest time for each of $1 labels, and the ratio to
-# the first.
-print_rows() {
-    local count=$1 round i seconds first
-    local best=() TIMEFORMAT='%3U %3S'
+# Runs the commands in rounds, and prints a row of name $1: the lowest time of each command for each of $2 labels, and
+# after it the ratio to the time of labels.
+time_row() {
+    local name=$1 count=$2 round column seconds
+    local -A best=()
     for ((round = 0; round < rounds; round++)); do
-        for i in "${!names[@]}"; do
-            rm -rf pictures && mkdir pictures
-            { time bash -c "${commands[$i]}" 2> /dev/null; } 2> measured.txt
-            seconds=$(awk '{ print $1 + $2 }' measured.txt)
-            best[i]=$(awk -v a="${best[i]:-9e9}" -v b="$seconds" 'BEGIN { print a < b ? a : b }')
+        for column in "${columns[@]}"; do
+            [ -n "${commands[$column]-}" ] || continue
+            seconds=$(seconds_of "${commands[$column]}")
+            best[$column]=$(awk -v a="${best[$column]:-9e9}" -v b="$seconds" 'BEGIN { print a < b ? a : b }')
         done
     done
-    first=${best[0]}
-    for i in "${!names[@]}"; do
-        awk -v name="${names[$i]}" -v time="${best[$i]}" -v first="$first" -v count="$count" \
-            'BEGIN { printf "| %s | %.3f | %.2f |\n", name, 1000 * time / count, time / (first > 0 ? first : 1) }'
+    printf '| %s |' "$name"
+    for column in "${columns[@]}"; do
+        print_cell "$(awk -v time="${best[$column]:--}" -v first="${best[labels]}" -v count="$count" 'BEGIN {
+            if (time == "-") print time
+            else printf "%.3f (%.2f)", 1000 * time / count, time / (first > 0 ? first : 1) }')"
     done
-    names=()
+    echo
     commands=()
 }
 
-print_head() {
-    echo
-    echo "**$1**"
-    echo
-    echo '| Tool | Milliseconds a label | Ratio |'
-    echo '|---|---|---|'
-}
-
 # A process for each label of kind $1.
-table_one_by_one() {
+row_one_by_one() {
     data_of "$1" "$one_by_one" > data
     lines_of "$1" < data > lines
-    measure 'labels' 'while read -r line; do "$labels" <<< "$line" > /dev/null; done < lines'
-    if has qrencode && [ -n "$(qrencode_words "$1")" ]; then
-        measure 'qrencode (text)' "while read -r data; do
-            qrencode $(qrencode_words "$1") -o /dev/null \"\$data\"; done < data"
+    commands[labels]='while read -r line; do "$labels" <<< "$line" > /dev/null; done < lines'
+    if has qrencode && [ -n "$(qrencode_arguments "$1")" ]; then
+        commands[qrencode]="while read -r data; do
+            qrencode $(qrencode_arguments "$1") -o /dev/null \"\$data\"; done < data"
     fi
     if has zint; then
-        measure 'zint (BMP)' "while read -r data; do
-            zint $(zint_words "$1") --scale=0.5 --direct --filetype=bmp -d \"\$data\" > /dev/null; done < data"
+        commands[zint]="while read -r data; do
+            zint $(zint_arguments "$1") --scale=0.5 --direct --filetype=bmp -d \"\$data\" > /dev/null; done < data"
     fi
-    if has barcode && [ -n "$(barcode_words "$1")" ]; then
-        measure 'GNU barcode (EPS)' "while read -r data; do
-            barcode $(barcode_words "$1") -E -b \"\$data\" -o /dev/null; done < data"
+    if has barcode && [ -n "$(barcode_arguments "$1")" ]; then
+        commands[barcode]="while read -r data; do
+            barcode $(barcode_arguments "$1") -E -b \"\$data\" -o /dev/null; done < data"
     fi
-    measure '(a process that does nothing)' 'while read -r line; do /bin/true <<< "$line" > /dev/null; done < lines'
-    print_head "$2, $one_by_one labels, a process for each"
-    print_rows "$one_by_one"
+    commands[nothing]='while read -r line; do /bin/true <<< "$line" > /dev/null; done < lines'
+    time_row "$2, a process each" "$one_by_one"
 }
 
 # All labels of kind $1 in one run.
-table_one_run() {
+row_one_run() {
     data_of "$1" "$many" > data
     lines_of "$1" < data > lines
-    measure 'labels, one stream' '"$labels" lines > /dev/null'
-    measure 'labels and csplit, one file a label' '"$labels" lines | csplit -sz -n 6 -f pictures/ - "/^P1$/" "{*}"'
+    commands[labels]='"$labels" lines > /dev/null'
+    commands[csplit]='"$labels" lines | csplit -sz -n 6 -f pictures/ - "/^P1$/" "{*}"'
     if has zint; then
-        measure 'zint --batch (BMP), one file a label' "cd pictures &&
-            zint $(zint_words "$1") --scale=0.5 --batch -i ../data -o '~~~~~~.bmp' --filetype=bmp"
+        commands[zint]="cd pictures &&
+            zint $(zint_arguments "$1") --scale=0.5 --batch -i ../data -o '~~~~~~.bmp' --filetype=bmp"
     fi
-    if has barcode && [ -n "$(barcode_words "$1")" ]; then
-        measure 'GNU barcode, one PostScript file' "barcode $(barcode_words "$1") -i data -o /dev/null"
+    if has barcode && [ -n "$(barcode_arguments "$1")" ]; then
+        commands[barcode]="barcode $(barcode_arguments "$1") -i data -o /dev/null"
     fi
-    print_head "$2, $many labels in one run"
-    print_rows "$many"
+    time_row "$2, one run" "$many"
 }
 
-# The most memory that a run of the words $2 .. held, as a row with name $1.
+# Runs the commands, and prints a row of name $1: the most memory that each held, and behind it its processor time.
+# The commands run without a bash of their own, whose memory would count.
 memory_row() {
-    local name=$1
-    shift
-    /usr/bin/time -v -o measured.txt "$@" > /dev/null
-    awk -v name="$name" '/Maximum resident/ { kib = $NF } /User time|System time/ { time += $NF }
-        END { printf "| %s | %.1f | %.1f |\n", name, kib / 1024, time }' measured.txt
+    local column
+    printf '| %s |' "$1"
+    for column in "${columns[@]}"; do
+        if [ -z "${commands[$column]-}" ]; then
+            print_cell -
+            continue
+        fi
+        rm -rf pictures && mkdir pictures
+        eval "/usr/bin/time -v -o measured.txt ${commands[$column]} > /dev/null"
+        print_cell "$(awk '/Maximum resident/ { kib = $NF } /User time|System time/ { time += $NF }
+            END { printf "%.1f (%.1f)", kib / 1024, time }' measured.txt)"
+    done
+    echo
+    commands=()
 }
 
+# The memory of runs over EAN-13 lines, and of qrencode for one QR symbol.
 table_memory() {
-    local count zint_ean13 barcode_ean13 qrencode_qr
-    read -ra zint_ean13 <<< "$(zint_words ean13)"
-    read -ra barcode_ean13 <<< "$(barcode_words ean13)"
-    read -ra qrencode_qr <<< "$(qrencode_words qr)"
-    echo
-    echo '**Memory, EAN-13 in one run**'
-    echo
-    echo '| Tool and lines | Most memory held, MiB | Processor seconds |'
-    echo '|---|---|---|'
-    for count in "$many" "$huge"; do
+    local count
+    commands[nothing]=/bin/true
+    if has qrencode; then commands[qrencode]="qrencode $(qrencode_arguments qr) -o /dev/null https://example.com/"; fi
+    memory_row '1 label'
+    for count in "$many" 10000 "$huge"; do
         data_of ean13 "$count" > data
         lines_of ean13 < data > lines
-        memory_row "labels, $count lines" "$labels" lines
-        if has barcode; then
-            memory_row "GNU barcode, $count lines" barcode "${barcode_ean13[@]}" -i data -o /dev/null
+        if [ "$count" != 10000 ]; then
+            commands[labels]='"$labels" lines'
+            if has barcode; then commands[barcode]="barcode $(barcode_arguments ean13) -i data -o /dev/null"; fi
         fi
+        if [ "$count" != "$huge" ] && has zint; then
+            commands[zint]="zint $(zint_arguments ean13) --scale=0.5 --batch -i data --filetype=bmp"
+            commands[zint]+=" -o 'pictures/~~~~~~.bmp'"
+        fi
+        memory_row "$count labels"
     done
-    if has zint; then
-        for count in "$many" 10000; do
-            data_of ean13 "$count" > data
-            rm -rf pictures && mkdir pictures
-            memory_row "zint --batch, $count lines" \
-                zint "${zint_ean13[@]}" --scale=0.5 --batch -i data -o 'pictures/~~~~~~.bmp' --filetype=bmp
-        done
-    fi
-    if has qrencode; then
-        memory_row 'qrencode, 1 label' qrencode "${qrencode_qr[@]}" -o /dev/null https://example.com/
-    fi
-    memory_row '(a process that does nothing)' /bin/true
 }
 
+# The head of a table of $1.
+print_head() {
+    echo
+    echo "| $1 | $names |"
+    echo '|---|---|---|---|---|---|---|'
+}
+
+# What was measured where, as a list of three lines.
 print_machine() {
-    echo "- Date: $(date -u +%Y-%m-%d)"
-    echo "- Machine: $(awk -F': ' '/^model name/ { print $2; exit }' /proc/cpuinfo), $(nproc) processors"
-    has qrencode && echo "- $(qrencode --version 2>&1 | head -n 1)"
-    has zint && echo "- $(zint --version | head -n 1)"
-    has barcode && echo "- GNU barcode $(barcode --version 2>&1 | awk '{ print $3; exit }')"
-    echo "- System: $(sed -n 's/^PRETTY_NAME="\(.*\)"$/\1/p' /etc/os-release)," \
-        "files on $(df --output=fstype . | tail -n 1)"
-    echo "- Load of the machine before: $(cut -d' ' -f1-3 /proc/loadavg)"
+    local tools=()
+    has qrencode && tools+=("$(qrencode --version 2>&1 | head -n 1), ")
+    has zint && tools+=("$(zint --version | head -n 1), ")
+    has barcode && tools+=("GNU barcode $(barcode --version 2>&1 | awk '{ print $3; exit }'), ")
+    echo "- Tools, $(date -u +%Y-%m-%d): $(printf '%s' "${tools[@]}" | sed 's/, $//')"
+    echo "- Machine: $(awk -F': ' '/^model name/ { print $2; exit }' /proc/cpuinfo), $(nproc) processors," \
+        "$(sed -n 's/^PRETTY_NAME="\(.*\)"$/\1/p' /etc/os-release), files on $(df --output=fstype . | tail -n 1)," \
+        "load before $(cut -d' ' -f1-3 /proc/loadavg)"
+    echo "- Labels: $one_by_one with a process each, $many in one run; the lowest of $rounds rounds"
 }
 
 print_machine
-for kind in 'ean13 EAN-13' 'code128 Code 128, 19 characters' 'qr QR, version 3, level M, no mask given' \
-    'qr10 QR, version 10, level M, no mask given' 'qr10_mask QR, version 10, level M, mask 3 given'; do
-    table_one_by_one "${kind%% *}" "${kind#* }"
-    table_one_run "${kind%% *}" "${kind#* }"
+print_head 'Milliseconds a label (ratio)'
+for kind in 'ean13 EAN-13' 'code128 Code 128' 'qr QR, version 3' 'qr10 QR, version 10' \
+    'qr10_mask QR, version 10, mask given'; do
+    row_one_by_one "${kind%% *}" "${kind#* }"
+    row_one_run "${kind%% *}" "${kind#* }"
 done
-[ ! -x /usr/bin/time ] || table_memory
+if [ -x /usr/bin/time ]; then
+    print_head 'Most memory in MiB (seconds)'
+    table_memory
+fi

@@ -51,7 +51,7 @@ files_for() {
     done
 }
 
-# lint PROGRAM WORD..: one lint, which passes where the program ends with status 0 and writes nothing that it found
+# lint PROGRAM ARGUMENT..: one lint, which passes where the program ends with status 0 and writes nothing that it found
 lint() {
     if ! command -v "$1" > /dev/null; then
         echo "skipped: $1: not installed"

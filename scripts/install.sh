@@ -31,7 +31,7 @@ case ${1-} in
         echo 'Installs labels, its tools, man pages and bash completion; PREFIX is ~/.local where it is not given.'
         exit 0
         ;;
-    -*) set -- bad words ;;
+    -*) set -- bad arguments ;;
 esac
 if [ $# -gt 1 ]; then
     echo "$usage" >&2

@@ -163,8 +163,8 @@ def qr_of_bytes(draw):
 
 def pictures_of(program, labels, scale, escapes):
     """The pictures of a run over these labels: its output, cut before each line `P1`."""
-    words = [program, "--scale", str(scale)] + (["--escapes"] if escapes else [])
-    ran = subprocess.run(words, input=b"".join(label.line() for label in labels), capture_output=True)
+    command = [program, "--scale", str(scale)] + (["--escapes"] if escapes else [])
+    ran = subprocess.run(command, input=b"".join(label.line() for label in labels), capture_output=True)
     if ran.returncode != 0:
         sys.exit(f"labels ended with status {ran.returncode}:\n{ran.stderr.decode()}")
     pictures = [b"P1\n" + rest for rest in ran.stdout.split(b"P1\n")[1:]]
@@ -185,8 +185,8 @@ def write_png(picture, scale, path):
 
 def reading_of(path, symbology):
     """The bytes that zbarimg reads in a file, as the reader of this symbology alone; none where it reads nothing."""
-    words = ["zbarimg", "--nodbus", "--quiet", "-Sdisable", f"-S{READERS[symbology]}.enable", "-Sbinary", path]
-    ran = subprocess.run(words, capture_output=True)
+    command = ["zbarimg", "--nodbus", "--quiet", "-Sdisable", f"-S{READERS[symbology]}.enable", "-Sbinary", path]
+    ran = subprocess.run(command, capture_output=True)
     # It ends with status 4 where it read nothing.
     if ran.returncode not in (0, 4):
         sys.exit(f"zbarimg ended with status {ran.returncode}:\n{ran.stderr.decode()}")

@@ -1,4 +1,4 @@
-"""How the tools start and end: their words, standard output, messages and statuses."""
+"""How the tools start and end: their arguments, standard output, messages and statuses."""
 
 import argparse
 import os
@@ -6,7 +6,7 @@ import sys
 from io import RawIOBase, TextIOWrapper
 from typing import BinaryIO, Callable, NoReturn, Optional, TextIO
 
-BAD_WORDS = 2
+BAD_ARGUMENTS = 2
 INTERRUPTED = 130
 
 
@@ -22,7 +22,7 @@ class Parser(argparse.ArgumentParser):
             super().error(message)
         except OSError:
             _drop(sys.stderr)
-            sys.exit(BAD_WORDS)
+            sys.exit(BAD_ARGUMENTS)
 
 
 def argument_parser(tool: str, description: str) -> argparse.ArgumentParser:

@@ -22,12 +22,12 @@ sources = importlib.import_module("sources")
 OF_THE_SYSTEM = "bash env dirname realpath mktemp rm sed awk cat grep head cut true".split()
 
 
-def run(script, *words, **environment):
+def run(script, *arguments, **environment):
     """A script's status and all that it prints."""
     path = os.path.join(SCRIPTS, script)
     command = [sys.executable, path] if script.endswith(".py") else [shutil.which("bash"), path]
     how = {"stdin": subprocess.DEVNULL, "stdout": subprocess.PIPE, "stderr": subprocess.STDOUT, "text": True}
-    ran = subprocess.run([*command, *words], env={**os.environ, **environment}, **how)
+    ran = subprocess.run([*command, *arguments], env={**os.environ, **environment}, **how)
     return ran.returncode, ran.stdout
 
 
@@ -62,8 +62,8 @@ class InFolder(unittest.TestCase):
         return self.path("bin")
 
 
-class Words(unittest.TestCase):
-    """Help ends with status 0 and an unknown word with usage and status 2, in each script."""
+class Arguments(unittest.TestCase):
+    """Help ends with status 0 and an unknown argument with usage and status 2, in each script."""
 
     def names(self):
         own = ["believed.py", "wrong_bodies.py", "read_back.py", "same_modules.py", "unused.py", "contracts.py"]
@@ -251,8 +251,8 @@ class WrongBodies(InFolder):
 class Skipped(InFolder):
     """A script that can try nothing, for want of a tool, says which one and ends with 77."""
 
-    def assert_skipped(self, tool, script, *words):
-        status, said = run(script, *words, PATH=self.bare_path())
+    def assert_skipped(self, tool, script, *arguments):
+        status, said = run(script, *arguments, PATH=self.bare_path())
         self.assertEqual((script, status), (script, 77), said)
         self.assertRegex(said, rf"skipped, nothing was .*: not installed: .*{tool}")
 
@@ -276,7 +276,7 @@ class Skipped(InFolder):
 
 
 VALGRIND = """#!/usr/bin/env bash
-# Stands in for valgrind: each line of the last word takes EACH instructions, and the run one write for a line.
+# Stands in for valgrind: each line of the last argument takes EACH instructions, and the run one write for a line.
 for last in "$@"; do :; done
 lines=$(grep -c . "$last")
 if [[ $* == *--trace-syscalls* ]]; then
@@ -309,8 +309,8 @@ class Instructions(InFolder):
         return self.table
 
     def check(self, **more):
-        words = ("--check", "--table", self.path("table.md"), self.program)
-        return run("instructions.sh", *words, **self.environment, **more)
+        arguments = ("--check", "--table", self.path("table.md"), self.program)
+        return run("instructions.sh", *arguments, **self.environment, **more)
 
     def test_as_in_the_table(self):
         status, said = self.check()

@@ -15,7 +15,7 @@ use qrmatrix::Matrix;
 /// back as the bytes.
 ///
 /// Bytes that fit no version are refused by `DoesNotFit`.
-#[tactic(auto, unfolding(filter::specs::Symbol::symbol_of, filter::specs::Symbol::qr_modules, filter::specs::Symbol::qr_codewords))]
+#[tactic(auto, unfolding(filter::specs::Symbol::symbol_of, filter::specs::Symbol::qr_modules))]
 pub fn matrix_of(options: &Options, bytes: &[u8]) -> Result<Matrix, Fault>
     // The filter draws the same symbol of these bytes, and refuses the same bytes.
     ensures symbol { IfOk result (λ matrix. symbol_of options.now Qr bytes.now

@@ -3,7 +3,6 @@ use Rattle.std.specs.Prelude.{ℕ, ◌+◌, ◌-◌, ◌^◌, min, Bool, true, f
 use Rattle.std.specs.List.{flat_map, list_any}
 use Rattle.labelcore.specs.declared.options.Format.{Format}
 use Rattle.labelcore.specs.declared.options.Format.TheVariants.{Pbm, Ascii}
-use Rattle.labelcore.specs.declared.symbology.Symbology.{Symbology}
 use Rattle.labelcore.specs.OptionValues.{OptionValues}
 use Rattle.labelcore.specs.LineItem.{Outcome, Request, skipped, refused, drawn, item, outcome_of}
 use Rattle.labelcore.specs.Message.{message}
@@ -13,15 +12,11 @@ use Rattle.filter.specs.Symbol.{Symbol, symbol_of, quiet_zone}
 use Rattle.filter.specs.declared.status.Status.{Status}
 use Rattle.filter.specs.declared.status.Status.TheVariants.{Clean, Refused}
 
--- what is drawn of data under the options of its line
-abbrev pub outcome_of_data : OptionValues → Symbology → List ℕ → Outcome Symbol
-outcome_of_data own symbology bytes = outcome_of (symbol_of own symbology bytes)
-
 -- what is drawn of an item
 abbrev pub outcome_of_item : Outcome Request → Outcome Symbol
 outcome_of_item skipped = skipped
 outcome_of_item (refused fault) = refused fault
-outcome_of_item (drawn asked) = outcome_of_data asked.options asked.symbology asked.bytes
+outcome_of_item (drawn asked) = outcome_of (symbol_of asked.options asked.symbology asked.bytes)
 
 -- what is drawn of a line
 unfoldable pub outcome : OptionValues → List ℕ → Outcome Symbol
@@ -66,18 +61,6 @@ messages_after options before [] = []
 messages_after options before (line ∷ lines) = message_of (line_number before) (outcome options line)
     ++ messages_after options (before + 1) lines
 
--- the messages of a text's lines, or of its first lines, joined
-abbrev pub messages : OptionValues → List (List ℕ) → List ℕ
-messages options lines = messages_after options 0 lines
-
--- whether some line is refused
-unfoldable pub any_refused : OptionValues → List (List ℕ) → Bool
-any_refused options lines = list_any (λ line. is_refusal (outcome options line)) lines
-
--- the status of lines some of which are refused, or none
-abbrev pub status_if : Bool → Status
-status_if is_refused = if is_refused then Refused else Clean
-
--- the status of a run over these lines
-abbrev pub status_of : OptionValues → List (List ℕ) → Status
-status_of options lines = status_if (any_refused options lines)
+-- the status of a run over these lines: whether some line is refused
+unfoldable pub status_of : OptionValues → List (List ℕ) → Status
+status_of options lines = if list_any (λ line. is_refusal (outcome options line)) lines then Refused else Clean

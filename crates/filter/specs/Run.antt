@@ -4,36 +4,25 @@ use Rattle.std.specs.Prelude.{◌≡◌, ℕ, ◌-◌, ◌^◌, ◌≤◌, ◌�
 use Rattle.device.specs.Device.{Rises}
 use Rattle.labelcore.specs.OptionValues.{OptionValues}
 use Rattle.device.specs.Lines.{lines, ended_lines}
-use Rattle.filter.specs.Output.{images, messages, status_of}
+use Rattle.filter.specs.Output.{images, messages_after, status_of}
 use Rattle.filter.specs.Readback.{AreRead, drawn_symbols, cut}
 use Rattle.filter.specs.declared.status.Status.{Status}
 use Rattle.filter.specs.Filter.{TookLines, StopsInLine}
 use Rattle.filter.specs.declared.status.RunFault.{RunFault}
 use Rattle.filter.specs.declared.status.RunFault.TheVariants.{Read, WriteOut, WriteMessages, Spent}
 
--- The first half of the headline: the sinks took the stream and the messages of the text's lines, and the status is
--- theirs.
-pub record WritesOutput (options : OptionValues) (took_out took_err : List ℕ → Type 0) (status : Status)
-    (text stream : List ℕ) : Type 0 where
-  pub images_are : stream ≡ images options (lines text)
-  pub out : took_out stream
-  pub err : took_err (messages options (lines text))
-  pub status_is : status ≡ status_of options (lines text)
-
--- The second half: in the stream there is one image for each line that is drawn, in order, and each is read as the full
--- data of its line.
-abbrev pub ImagesAreRead : OptionValues → (text stream : List ℕ) → Type 0
-ImagesAreRead options text stream =
-    AreRead options.format options.scale (cut options.format stream) (drawn_symbols options (lines text))
-
--- A whole run: both halves, of the one text that the source gave and the one stream that the sink took.
+-- A whole run. The sinks took the images and the messages of the lines of the one text that the source gave, and the
+-- status is theirs. In the stream of the images there is one for each line that is drawn, in order, and each is read as
+-- the full data of its line.
 pub record RunsWhole (options : OptionValues) (gave took_out took_err : List ℕ → Type 0) (status : Status)
     : Type 0 where
   pub text : List ℕ
-  pub stream : List ℕ
   pub given : gave text
-  pub written : WritesOutput options took_out took_err status text stream
-  pub read : ImagesAreRead options text stream
+  pub out : took_out (images options (lines text))
+  pub err : took_err (messages_after options 0 (lines text))
+  pub status_is : status ≡ status_of options (lines text)
+  pub read : AreRead options.format options.scale (cut options.format (images options (lines text)))
+      (drawn_symbols options (lines text))
 
 -- a sink failed in one of the text's lines, or in a flush after them
 abbrev pub StopsInText : OptionValues → (took_out took_err : List ℕ → Type 0) (text : List ℕ) → RunFault → Type 0

@@ -6,10 +6,10 @@ ghost use Rattle.labelcore.specs.declared.symbology.Symbology.TheVariants.{Qr};
 ghost use Rattle.picture.specs.Picture.{enlargement, symbol_picture};
 ghost use Rattle.qrdata.specs.Fewest.{chosen_segments};
 ghost use Rattle.filter.specs.Drawing.{DrawsOutcome};
-ghost use Rattle.filter.specs.Output.{outcome_of_data, text_of};
+ghost use Rattle.filter.specs.Output.{text_of};
 ghost use Rattle.filter.specs.Private.LineEnd.{IsLinear};
 ghost use Rattle.filter.specs.Readback.{IsReadable};
-ghost use Rattle.filter.specs.Symbol.{linear_symbol, qr_codewords, qr_modules};
+ghost use Rattle.filter.specs.Symbol.{linear_symbol, qr_modules, symbol_of};
 
 use device::{IoFault, Sink};
 use labelcore::{Fault, Format, Options, Symbology};
@@ -35,7 +35,7 @@ pub fn draw<O: Sink>(
 ) -> Result<Result<(), Fault>, IoFault>
     requires { bytes.now ≢ [] }
     ensures { DrawsOutcome O.Sink out.old out.new options.now
-        (outcome_of_data options.now symbology bytes.now) result }
+        (outcome_of (symbol_of options.now symbology bytes.now)) result }
 {
     match symbology {
         Symbology::Ean13 => draw_linear::<Ean13, O>(options, bytes, out),
@@ -82,7 +82,7 @@ fn draw_qr<O: Sink>(
     out: &mut O,
 ) -> Result<Result<(), Fault>, IoFault>
     ensures { DrawsOutcome O.Sink out.old out.new options.now
-        (outcome_of_data options.now Qr bytes.now) result }
+        (outcome_of (symbol_of options.now Qr bytes.now)) result }
 {
     let min_version = Version::of(options.min_version());
     match choose(min_version, options.level(), bytes) {
@@ -101,12 +101,11 @@ fn draw_qr<O: Sink>(
 }
 
 /// The symbol of a plan.
-#[tactic(auto, unfolding(crate::specs::Symbol::qr_modules, crate::specs::Symbol::qr_codewords))]
+#[tactic(auto, unfolding(crate::specs::Symbol::qr_modules))]
 fn matrix_of(options: &Options, plan: &Plan) -> Matrix
     requires chosen { plan.now.segments ≡ chosen_segments plan.now.version plan.now.bytes }
     requires level { plan.now.level ≡ options.now.level }
-    ensures modules { symbol_picture result ≡ qr_modules options.now plan.now.version
-        (qr_codewords options.now plan.now.bytes plan.now.version) }
+    ensures modules { symbol_picture result ≡ qr_modules options.now plan.now.bytes plan.now.version }
     ensures side { result.side ≤ 57 }
     ensures read { IsReadable (record {
       symbology = Qr;

@@ -7,7 +7,8 @@ use Rattle.std.proofs.lemmas.List.FromFn.{get_or-range_with_len, length-range_wi
 use Rattle.std.proofs.lemmas.List.Sums.{AllPass-from_list_all}
 use Rattle.qrdata.specs.declared.level.Level.{Level}
 use Rattle.qrdata.specs.declared.level.Level.TheVariants.{L, M, Q, H}
-use Rattle.qrdata.specs.Versions.{block_count, block_lengths, block_table, capacity, data_codewords, groups_of}
+use Rattle.qrdata.specs.Private.Blocks.{block_count}
+use Rattle.qrdata.specs.Versions.{block_lengths, block_table, capacity, data_codewords, groups_of}
 use Rattle.qrdata.specs.Versions.{ec_codewords_per_block, total_codewords}
 use Rattle.qrdata.specs.declared.version.TheConstants.{TOTAL, BLOCKS_L, BLOCKS_M, BLOCKS_Q, BLOCKS_H, EC_CODEWORDS_L}
 use Rattle.qrdata.specs.declared.version.TheConstants.{EC_CODEWORDS_M, EC_CODEWORDS_Q, EC_CODEWORDS_H}

@@ -2,7 +2,7 @@
 use Rattle.std.specs.Prelude.{◌≡◌, ℕ, ◌+◌, ◌-◌, ◌*◌, ◌/◌, ◌<◌, ◌≤◌, ◌^◌, List, [], ◌∷◌, ◌++◌, length, take, drop}
 use Rattle.std.specs.Prelude.{nat_lt, if◌then◌else◌, IsTrue, Bool, true, codes}
 use Rattle.std.specs.Char.{is_ascii_digit}
-use Rattle.std.specs.List.{list_all, position_or_len, sum_by}
+use Rattle.std.specs.List.{flat_map, list_all, position_or_len, sum_by}
 use Rattle.std.specs.Prelude.{◌==◌}
 use Rattle.qrdata.specs.declared.mode.Mode.{Mode}
 use Rattle.qrdata.specs.declared.mode.Mode.TheVariants.{Numeric, Alphanumeric, Byte}
@@ -64,8 +64,7 @@ alphanumeric_bits (a ∷ b ∷ rest) =
 
 -- each byte in eight bits
 unfoldable pub byte_bits : List ℕ → List Bool
-byte_bits [] = []
-byte_bits (byte ∷ bytes) = bits_of 8 byte ++ byte_bits bytes
+byte_bits bytes = flat_map (bits_of 8) bytes
 
 -- the payload of a segment of these bytes
 abbrev pub payload_bits : Mode → List ℕ → List Bool

@@ -1,6 +1,6 @@
 -- The sizes of versions 1 to 10 (ISO/IEC 18004, tables 1 and 9). In each list place v is of version v, and place 0 of
 -- none.
-use Rattle.std.specs.Prelude.{ℕ, ◌+◌, ◌-◌, ◌*◌, ◌≤◌, List, [], ◌∷◌, length, map, slice_index, slice_index_or, sum}
+use Rattle.std.specs.Prelude.{ℕ, ◌+◌, ◌-◌, ◌*◌, ◌≤◌, List, [], ◌∷◌, map, slice_index, slice_index_or, sum}
 use Rattle.std.specs.Prelude.{replicate}
 use Rattle.std.specs.List.{flat_map}
 use Rattle.qrdata.specs.declared.level.Level.{Level}
@@ -46,10 +46,6 @@ groups_of version level = slice_index_or (block_table level) version []
 -- the data codewords of each block
 unfoldable pub block_lengths : ℕ → Level → List ℕ
 block_lengths version level = flat_map (λ (group : ℕ × ℕ × ℕ). replicate group.0 group.2) (groups_of version level)
-
--- how many blocks a symbol has
-unfoldable pub block_count : ℕ → Level → ℕ
-block_count version level = length (block_lengths version level)
 
 -- how many data codewords a symbol has
 unfoldable pub data_codewords : ℕ → Level → ℕ

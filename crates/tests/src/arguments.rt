@@ -36,7 +36,7 @@ pub fn are_bad(alloc: Global, texts: &[&str]) -> Result<bool, AllocError> {
 }
 
 #[test]
-fn refuses_words(rt: HostRuntime) -> Result<(), Fail> {
+fn refuses_bad_arguments(rt: HostRuntime) -> Result<(), Fail> {
     let alloc = rt.alloc();
     for arguments in [
         ["--scale", "9"].as_slice(),

@@ -27,7 +27,7 @@ impl Symbol {
     {
         let mask = match mask {
             Some(mask) => mask,
-            None => least_mask(version, level, codewords),
+            None => mask_of_lowest_penalty(version, level, codewords),
         };
         Symbol {
             side: version.side(),
@@ -56,18 +56,18 @@ impl Symbol {
 }
 
 /// The first mask with the lowest penalty.
-fn least_mask(version: Version, level: Level, codewords: &Codewords) -> u8
+fn mask_of_lowest_penalty(version: Version, level: Level, codewords: &Codewords) -> u8
     ensures { result < 8 }
 {
     let mut best = 0;
-    let mut least = u64::MAX;
+    let mut lowest = u64::MAX;
     for mask in 0..8 {
         let next = penalty(
             &modules_under(version, level, mask, codewords),
             version.side(),
         );
-        if next < least {
-            least = next;
+        if next < lowest {
+            lowest = next;
             best = mask;
         }
     }
