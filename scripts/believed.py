@@ -7,9 +7,12 @@ makes the lists of docs/DEFINITIONS.md anew. --check makes them anew, and compar
 one that the files give. It compares the number of lines that README.md gives too.
 
 The first list of the page has the definitions of the headline, the second the other definitions of specs/, but for
-the modules whose name begins with Private: only contracts inside a crate cite these. What the page says after
-`Why: ` of a file is kept. The third list has what contracts speak by and is no definition: traits, types and
-views of the code.
+the modules whose name begins with Private: only contracts inside a crate cite these. The third list has what
+contracts speak by and is no definition: traits, types and views of the code.
+
+The first comment of a file says what the file is about. Lines `-- Why: ` after it say what its definitions follow,
+a clause of a standard or a page: names between backticks, a colon, and the clause. The page has each `Why: ` in the
+list with the definitions that it names.
 
 It reads the text of the files in crates/*/specs and crates/*/src; no tool of the kit is needed. A definition is
 a block of lines between blank ones. It rests on each name in it that is defined in its file or imported by a line
@@ -43,6 +46,8 @@ README_NUMBER = re.compile(r"([\d,]+)\s+lines\s+of\s+\[definitions\]")
 SHOWN = 60
 
 NAME = r"[^\W\d][\w']*(?:-[\w']+)*"
+# The names of a `Why: `, before its first colon.
+WHY = re.compile(r"Why: ((?:`[^`]+`,? )*`[^`]+`): ")
 NO_WORDS = {"infixl", "infixr", "unfolding", "module", "mod"}
 HEAD = re.compile(rf"^(?:(?:abbrev|unfoldable)\s+)?(?:pub\s+)?(?:record\s+|data\s+)?(◌\S+◌|{NAME})(?=[\s:(])")
 PATH = re.compile(rf"{NAME}(?:\.{NAME})*")
@@ -59,7 +64,7 @@ class Definition:
 
 
 class File:
-    """A file of specs: its head comment, what it brings in, its definitions by every name that they give."""
+    """A file of specs: what it is about and why, what it brings in, its definitions by every name that they give."""
 
     def __init__(self, crate, module, text):
         self.crate, self.module = crate, module
@@ -67,7 +72,7 @@ class File:
         self.of_name, self.order = {}, []
         lines = text.split("\n")
         head = list(itertools.takewhile(lambda line: line.startswith("--"), lines))
-        self.about = " ".join(line.removeprefix("--").strip() for line in head)
+        self.about, *self.whys = paragraphs(head) or [""]
         block = []
         for line in lines[len(head) :] + [""]:
             if line.strip():
@@ -111,6 +116,18 @@ class File:
                 self.names[(other or name).strip()] = (imported.group(1), imported.group(2), name.strip())
         elif whole:
             self.modules[whole.group(3) or whole.group(2).split(".")[-1]] = (whole.group(1), whole.group(2))
+
+
+def paragraphs(comment):
+    """The texts of a head comment: what the file is about, and each `Why: `."""
+    texts = []
+    for line in comment:
+        text = line.removeprefix("--").strip()
+        if not texts or text.startswith("Why: "):
+            texts.append(text)
+        else:
+            texts[-1] += " " + text
+    return texts
 
 
 def read_files(top):
@@ -208,7 +225,24 @@ def others(files, reached):
     ]
 
 
-def part(files, definitions, whys):
+def names_in(file, why):
+    """The names of a `Why: ` of a file. Stops where it has none, or the file does not define one."""
+    match = WHY.match(why)
+    names = set(re.findall(r"`([^`]+)`", match.group(1))) if match else set()
+    gone = sorted(names - {*file.of_name})
+    if gone or not names:
+        path = f"crates/{file.crate}/specs/{file.module.replace('.', '/')}.antt"
+        sys.exit(f"{path}: '{why[:60]}' names {', '.join(gone) or 'nothing'}: write definitions of this file")
+    return names
+
+
+def whys_of(file, definitions):
+    """Each `Why: ` of a file that names one of these definitions."""
+    here = {one.key[2] for one in definitions}
+    return [why for why in file.whys if names_in(file, why) & here]
+
+
+def part(files, definitions):
     """A list as the page has it, file by file."""
     out = []
     for crate, modules in by_file(definitions):
@@ -216,8 +250,8 @@ def part(files, definitions, whys):
         for module, inside in modules.items():
             about = f"**`{module}`**: {files[crate, module].about}"
             out += ["", *textwrap.wrap(about, 118, break_long_words=False, break_on_hyphens=False), ""]
-            if (crate, module) in whys:
-                out += [whys[crate, module], ""]
+            for why in whys_of(files[crate, module], inside):
+                out += [*textwrap.wrap(why, 118, break_long_words=False, break_on_hyphens=False), ""]
             out += ["| Definition | What it says |", "|---|---|"]
             out += [f"| `{one.key[2]}` | {cell(one.comment)} |" for one in inside]
     return "\n".join(out) + "\n"
@@ -284,30 +318,14 @@ def code_part(heading, items):
     return "\n".join(out) + "\n"
 
 
-def whys_of(text):
-    """What a list of the page says of its files after `Why: `, each by crate and file."""
-    whys, crate, module, is_open = {}, None, None, False
-    for line in text.split("\n"):
-        if head := re.match(r"### `(\w+)`", line):
-            crate = head.group(1)
-        elif head := re.match(r"\*\*`([\w.]+)`\*\*", line):
-            module = head.group(1)
-        elif line.startswith("Why: "):
-            whys[crate, module] = line
-        elif is_open and line:
-            whys[crate, module] += "\n" + line
-        is_open = line != "" and (is_open or line.startswith("Why: "))
-    return whys
-
-
 def list_texts(lists):
-    """The name of each list of the page, and a function that makes its text of the old one."""
+    """The text of each list of the page, by its name."""
     code = code_part("Of the headline", lists.code_of_headline)
     code += code_part("Of other public contracts", lists.other_code)
     return {
-        "believed": lambda old: part(lists.files, lists.reached, whys_of(old)),
-        "other": lambda old: part(lists.files, lists.others, whys_of(old)),
-        "code": lambda old: code,
+        "believed": part(lists.files, lists.reached),
+        "other": part(lists.files, lists.others),
+        "code": code,
     }
 
 
@@ -316,10 +334,10 @@ def page_anew(page, lists):
     for name, made in list_texts(lists).items():
         begin, end = f"<!-- {name}: begin -->", f"<!-- {name}: end -->"
         before, found_begin, rest = page.partition(begin)
-        old, found_end, after = rest.partition(end)
+        _, found_end, after = rest.partition(end)
         if not found_begin or not found_end:
             sys.exit(f"{PAGE} lacks the line '{begin}' or, after it, the line '{end}'")
-        page = before + begin + "\n" + made(old) + "\n" + end + after
+        page = before + begin + "\n" + made + "\n" + end + after
     return page
 
 

@@ -172,6 +172,20 @@ class Believed(unittest.TestCase):
         self.change("crates/device/specs/Lines.antt", "-- the line feed", "-- the carriage return")
         self.assertEqual(self.check()[0], 1)
 
+    def test_nonsense_for_a_reason(self):
+        self.change("docs/DEFINITIONS.md", "Why: `penalty`: in the manner of 7.8.3.", "Why: `penalty`: elephants.")
+        status, said = self.check()
+        self.assertEqual(status, 1)
+        self.assertIn("+Why: `penalty`: in the manner of 7.8.3.", said)
+
+    def test_a_reason_for_what_is_not_there(self):
+        for old, new in (("`penalty`: in the", "`fine`: in the"), ("`penalty`: in the", "in the")):
+            with self.subTest(new):
+                self.change("crates/qrmatrix/specs/Penalty.antt", old, new)
+                status, said = self.check()
+                self.assertEqual((status, "crates/qrmatrix/specs/Penalty.antt: 'Why: " in said), (1, True), said)
+                self.doCleanups()
+
     def test_another_clause_in_a_trait(self):
         clause = "        requires { 0 < length bytes.now }\n"
         self.change("crates/device/src/sink.rt", clause, "")

@@ -1,5 +1,6 @@
 -- The command line `labels [options] [FILE]`: which arguments it takes, and what they ask for
 -- (docs/SPECIFICATION.md, Options).
+-- Why: `command_line`, `invocation_of`: what `clap`'s contracts say of such a command.
 use Rattle.std.specs.Prelude.{◌++◌, ℕ, Bool, true, false, List, [], ◌∷◌, Option, Some, pos, codes}
 use Rattle.std.specs.Prelude.{option_map, option_and_then, unwrap_or}
 use Rattle.std.specs.Option.{option_map_or}

@@ -1,4 +1,5 @@
 -- How the program ends: its status, and its line on standard error (docs/SPECIFICATION.md, Statuses).
+-- Why: `exit_status`, `line_of`: SPECIFICATION, Statuses.
 use Rattle.std.specs.Prelude.{ℕ, List, [], ◌∷◌, ◌++◌, Ok, Err, codes}
 use Rattle.command.specs.declared.end.End.{End}
 use Rattle.command.specs.declared.end.End.TheVariants.{Ran, Helped, BadArguments, NoFile, NoMemory}

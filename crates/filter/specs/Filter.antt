@@ -1,4 +1,6 @@
 -- The state of a filter in its input, and what it does to its sinks (docs/SPECIFICATION.md, The filter as a library).
+-- Why: `FilterState`: what a `Filter` keeps, as a contract sees it; `StandsAt`, `TookPiece`, `StopsInPiece`,
+-- `StopsInFinish`: the contracts of `Filter`; `TookLines`, `StopsInLine`: parts of the last three and of `RunStops`.
 use Rattle.std.specs.Prelude.{◌≡◌, ℕ, ◌+◌, ◌-◌, ◌^◌, min, Bool, false, ◌⊎◌, List, ◌∷◌, ◌++◌, length, Result}
 use Rattle.std.specs.Prelude.{MatchResult}
 use Rattle.labelcore.specs.HeldLine.{HeldLine, held_line}

@@ -1,4 +1,5 @@
 -- The images, the messages and the status of a text, line by line (docs/SPECIFICATION.md, Lines, Statuses).
+-- Why: `outcome`, `images`, `messages_after`, `status_of`: "depend on nothing but options and input, as specified".
 use Rattle.std.specs.Prelude.{ℕ, ◌+◌, ◌-◌, ◌^◌, min, Bool, true, false, if◌then◌else◌, List, [], ◌∷◌, ◌++◌}
 use Rattle.std.specs.List.{flat_map, list_any}
 use Rattle.labelcore.specs.declared.options.Format.{Format}

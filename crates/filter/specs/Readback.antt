@@ -1,4 +1,6 @@
 -- Images read back: pbm(5), and the readings of ISO/IEC 15420, 15417 and 18004 with no correction.
+-- Why: `read_image`, `drawn_symbols`, `AreRead`: "read back by the standards' reading rules".
+-- Why: `IsReadable`: "read back by the standards' reading rules".
 use Rattle.std.specs.Prelude.{◌≡◌, ℕ, ◌<◌, ◌≤◌, ◌==◌, Bool, List, [], ◌∷◌, length, Option, Some, None, ⊤}
 use Rattle.std.specs.List.{list_all, filter_map}
 use Rattle.std.specs.Bool.{then_some}

@@ -1,4 +1,5 @@
 -- The data and the rows of Code 128 symbols (ISO/IEC 15417, symbol structure and check character).
+-- Why: `check_value`, `characters`, `code128_row`, `full_code128`: 15417, check character and symbol structure.
 use Rattle.std.specs.Prelude.{ℕ, ◌+◌, ◌*◌, ◌%◌, nat_lt, nat_le, if◌then◌else◌, Bool, true, not, Result, Ok, Err, List}
 use Rattle.std.specs.Prelude.{[], ◌∷◌, ◌++◌, length, map, replicate, position, flat_map, slice_index_or, sum_by}
 use Rattle.std.specs.List.{enumerate_from}

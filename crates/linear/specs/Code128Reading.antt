@@ -1,4 +1,5 @@
 -- Reading of Code 128 symbols (ISO/IEC 15417, symbol characters, code sets and check character).
+-- Why: `meaning`, `read_values`, `read_code128`: 15417; a symbol with a value that means nothing is not read.
 use Rattle.std.specs.Prelude.{ℕ, ◌+◌, ◌-◌, ◌*◌, ◌/◌, ◌%◌, ◌==◌, nat_lt, if◌then◌else◌, Bool, true, false, ◌&&◌, Option}
 use Rattle.std.specs.Prelude.{Some, None, List, [], ◌∷◌, ◌++◌, length, drop, position, find, option_map}
 use Rattle.std.specs.Prelude.{option_and_then, slice_range}

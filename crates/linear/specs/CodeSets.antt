@@ -1,5 +1,6 @@
 -- Code sets A, B and C of Code 128, and the values that data is written in (ISO/IEC 15417, code sets and symbol
 -- characters).
+-- Why: `set_has`, `data_values`, `start_set`: 15417, code sets; the choice of sets is this project's own.
 use Rattle.std.specs.Prelude.{ℕ, ◌+◌, ◌-◌, ◌*◌, ◌%◌, ◌==◌, nat_lt, nat_le, if◌then◌else◌, Bool, true, false, ◌&&◌, ◌||◌}
 use Rattle.std.specs.Prelude.{List, [], ◌∷◌, ◌++◌, length, find}
 use Rattle.std.specs.List.{prefix_len}

@@ -1,4 +1,5 @@
 -- The digits of EAN and UPC as bytes, and their check digit (ISO/IEC 15420, check digit).
+-- Why: `check_digit`, `full_digits`: 15420, check digit.
 use Rattle.std.specs.Prelude.{ℕ, ◌+◌, ◌-◌, ◌*◌, ◌%◌, ◌==◌, if◌then◌else◌, not, Option, Result, Ok, Err, List, []}
 use Rattle.std.specs.Prelude.{◌∷◌, ◌++◌, length, take, position, slice_index}
 use Rattle.std.specs.Char.{is_ascii_digit}

@@ -1,4 +1,5 @@
 -- The rows of EAN and UPC symbols (ISO/IEC 15420, symbol characters, guard patterns and symbol formats).
+-- Why: `pattern`, `symbol`, `ean13_row`, `ean8_row`, `upca_row`: 15420, symbol characters, guard patterns and formats.
 use Rattle.std.specs.Prelude.{ℕ, Bool, List, [], ◌∷◌, ◌++◌, map, reverse, not, take, drop, replicate, slice_index_or}
 use Rattle.std.specs.Prelude.{flat_map, zip, codes, ◌==◌, if◌then◌else◌}
 use Rattle.linear.specs.declared.ean.NumberSet.{NumberSet}

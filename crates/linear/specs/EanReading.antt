@@ -1,4 +1,6 @@
 -- Reading of EAN and UPC symbols (ISO/IEC 15420, symbol characters, guard patterns and symbol formats).
+-- Why: `read_ean13`, `read_ean8`, `read_upca`: 15420; reading and drawing use the same patterns, guards and check
+-- digit.
 use Rattle.std.specs.Prelude.{ℕ, ◌+◌, ◌*◌, if◌then◌else◌, Bool, ◌&&◌, Option, None, List, ◌∷◌, ◌++◌}
 use Rattle.std.specs.Prelude.{map, take, drop, find, position, option_map, option_and_then, codes}
 use Rattle.std.specs.Bool.{then_some}

@@ -1,5 +1,7 @@
 -- Pictures, by coordinates: x counts columns from the left and y rows from the top, both from 0 (ISO/IEC 15420, 15417
 -- and 18004, quiet zones).
+-- Why: `Picture`, `bars`, `with_quiet_zone`, `enlargement`: quiet zones of each standard.
+-- Why: `symbol_picture`: quiet zones of each standard.
 use Rattle.std.specs.Prelude.{◌≡◌, ℕ, ◌+◌, ◌-◌, ◌*◌, ◌/◌, ◌<◌, ◌≤◌, Bool, false, ◌&&◌, List, length, slice_index_or}
 use Rattle.std.specs.Prelude.{nat_lt}
 use Rattle.std.specs.Prelude.{nat_le}

@@ -1,4 +1,5 @@
 -- Pictures as text: plain PBM files (pbm(5), the plain format), and text pictures.
+-- Why: `pbm_text`, `ascii_text`: pbm(5), the plain format.
 use Rattle.std.specs.Prelude.{ℕ, ◌*◌, Bool, List, [], ◌∷◌, ◌++◌, map, flat_map, take, drop, codes, decimal}
 use Rattle.std.specs.Prelude.{if◌then◌else◌}
 use Rattle.std.specs.Int.{div_ceil}

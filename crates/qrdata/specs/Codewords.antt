@@ -1,4 +1,5 @@
 -- From segments to the codewords of a symbol (ISO/IEC 18004, 7.4.9, 7.4.10, 7.5 and 7.6).
+-- Why: `with_pad_codewords`, `interleaving`, `symbol_codewords`: 7.4.9, 7.4.10, 7.5, 7.6.
 use Rattle.std.specs.Prelude.{ℕ, ◌-◌, ◌*◌, ◌/◌, ◌%◌, ◌==◌, List, [], ◌∷◌, ◌++◌, map, length, take, drop, replicate}
 use Rattle.std.specs.Prelude.{slice_get, Bool, false, if◌then◌else◌, fold, max, min}
 use Rattle.std.specs.List.{filter_map, flat_map, range_with_len}

@@ -1,4 +1,6 @@
 -- The choice of segments and of a version for data (ISO/IEC 18004, 7.4.1 and annex J leave it to the encoder).
+-- Why: `chosen_segments`, `chosen_version`: 7.4.1 and annex J leave the choice to the encoder.
+-- Why: `NoneFits`: 7.4.1 and annex J leave the choice to the encoder.
 use Rattle.std.specs.Prelude.{ℕ, zero, suc, ◌-◌, ◌^◌, ◌<◌, List, [], ◌∷◌, map, length, take, drop, nat_lt, nat_le}
 use Rattle.std.specs.Prelude.{◌&&◌, Bool, Option, filter, reverse}
 use Rattle.std.specs.List.{best_of, find, flat_map, list_all, range_with_len}

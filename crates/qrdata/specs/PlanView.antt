@@ -1,4 +1,5 @@
 -- A plan as clauses see it: what is chosen for a symbol (ISO/IEC 18004, 7.4.1).
+-- Why: `PlanView`: what `choose` returns and `codewords` takes.
 use Rattle.std.specs.Prelude.{◌≡◌, ◌≤◌, ◌<◌, ℕ, List, Some, None, length}
 use Rattle.qrdata.specs.declared.level.Level.{Level}
 use Rattle.qrdata.specs.declared.mode.Segment.{Segment}

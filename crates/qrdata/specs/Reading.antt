@@ -1,4 +1,5 @@
 -- Reading the codewords of a symbol, with no correction (ISO/IEC 18004, 12).
+-- Why: `deinterleaving`, `has_roots`, `segments_at`, `data_in`: clause 12, with no correction.
 use Rattle.std.specs.Prelude.{ℕ, zero, suc, ◌+◌, ◌*◌, ◌/◌, ◌%◌, ◌^◌, List, [], ◌∷◌, ◌++◌, map, length, take, drop}
 use Rattle.std.specs.Prelude.{replicate, slice_index, min, nat_lt, nat_le, ◌==◌, if◌then◌else◌, ◌&&◌, ◌||◌, Bool}
 use Rattle.std.specs.Prelude.{Option, Some, None}

@@ -1,4 +1,6 @@
 -- Segments of data (ISO/IEC 18004, 7.4.1 to 7.4.5). A segment is a mode and a number of bytes.
+-- Why: `segment_bits`, `segments_bits`, `count_width`, `cost`: 7.4.1 to 7.4.5.
+-- Why: `IsSegmentation`: among these lists none has fewer bits than the one that is chosen.
 use Rattle.std.specs.Prelude.{◌≡◌, ℕ, ◌+◌, ◌-◌, ◌*◌, ◌/◌, ◌<◌, ◌≤◌, ◌^◌, List, [], ◌∷◌, ◌++◌, length, take, drop}
 use Rattle.std.specs.Prelude.{nat_lt, if◌then◌else◌, IsTrue, Bool, true, codes}
 use Rattle.std.specs.Char.{is_ascii_digit}

@@ -1,5 +1,7 @@
 -- The sizes of versions 1 to 10 (ISO/IEC 18004, tables 1 and 9). In each list place v is of version v, and place 0 of
 -- none.
+-- Why: `side_of`, `total_codewords`, `ec_codewords_per_block`, `data_codewords`, `capacity`, `block_lengths`:
+-- tables 1, 7 and 9; the split of blocks follows from total, count and error correction codewords.
 use Rattle.std.specs.Prelude.{ℕ, ◌+◌, ◌-◌, ◌*◌, ◌≤◌, List, [], ◌∷◌, map, slice_index, slice_index_or, sum}
 use Rattle.std.specs.Prelude.{replicate}
 use Rattle.std.specs.List.{flat_map}

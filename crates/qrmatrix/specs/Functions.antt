@@ -1,6 +1,7 @@
 -- What each module of a QR symbol is there for (ISO/IEC 18004, 6.3, 7.9, 7.10 and Annex E).
 -- A pattern is `Some true` where it has a dark module, `Some false` where it has a light one, and `None` where it has
 -- none.
+-- Why: `finder`, `alignment`, `timing`, `role`, `fixed_module`: 6.3, annex E.
 use Rattle.std.specs.Prelude.{ℕ, ◌+◌, ◌-◌, ◌*◌, ◌%◌, max, Bool, true, false, not, ◌&&◌, ◌==◌, nat_lt, nat_le}
 use Rattle.std.specs.Prelude.{if◌then◌else◌, List, [], ◌∷◌, Option, None, Some, is_none, slice_get, slice_index_or}
 use Rattle.std.specs.Int.{abs_diff}

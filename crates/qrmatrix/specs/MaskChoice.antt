@@ -1,4 +1,5 @@
 -- Which mask a symbol gets (ISO/IEC 18004, 7.8.1).
+-- Why: `chosen_mask`: 7.8.1.
 use Rattle.std.specs.Prelude.{ℕ, List, Option, map, nat_le, unwrap_or}
 use Rattle.std.specs.List.{range_with_len, list_all, position_or_len}
 use Rattle.qrdata.specs.declared.level.Level.{Level}

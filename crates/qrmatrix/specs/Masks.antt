@@ -1,4 +1,5 @@
 -- The eight mask patterns (ISO/IEC 18004, 7.8.2 and Table 10).
+-- Why: `is_flipped`: 7.8.2, table 10.
 use Rattle.std.specs.Prelude.{ℕ, ◌+◌, ◌*◌, ◌/◌, ◌%◌, Bool, true, false, not, ◌==◌, [], ◌∷◌, slice_index}
 
 -- whether a mask flips a free module at column j and row i: where the value of its formula is 0

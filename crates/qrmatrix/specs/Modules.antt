@@ -1,4 +1,5 @@
 -- The modules of a symbol by their coordinates (ISO/IEC 18004, 7.7 to 7.10).
+-- Why: `module_at`, `is_inside`: 7.7 to 7.10 together.
 use Rattle.std.specs.Prelude.{ℕ, Bool, ◌&&◌, nat_lt, List, unwrap_or}
 use Rattle.qrdata.specs.declared.level.Level.{Level}
 use Rattle.qrdata.specs.Versions.{side_of}

@@ -1,4 +1,6 @@
 -- The order in which the codewords are placed on the free modules (ISO/IEC 18004, 7.7.3 and Table 1).
+-- Why: `key`, `rank`: 7.7.3, as an order of the modules; only the code has a cursor.
+-- Why: `free_count`: 7.7.3; `remainder_bits`: table 1; it is proved that no other modules are free.
 use Rattle.std.specs.Prelude.{◌≡◌, ◌≤◌, ℕ, ◌+◌, ◌-◌, ◌*◌, ◌/◌, ◌%◌, Bool, ◌&&◌, ◌==◌, nat_lt, List}
 use Rattle.std.specs.Prelude.{if◌then◌else◌, [], ◌∷◌, slice_index}
 use Rattle.qrdata.specs.Versions.{side_of, total_codewords}
