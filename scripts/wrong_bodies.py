@@ -185,7 +185,7 @@ def try_all(rtlib, crate, shows):
         while left:
             chosen, texts = together(left, crate.folder)
             if not chosen:
-                return refused, lines + [f"{it.name}: an old: text does not stand in its file once" for it in left]
+                return refused, lines + [f"{it.name}: an old: text is not in its file just once" for it in left]
             said = check(rtlib, crate, texts, [name for it in chosen for name in it.functions], kept)
             checks += 1
             answers = [(body, judged(crate, body, said)) for body in chosen]

@@ -8,6 +8,10 @@ use filter::{RunFault, Status, run};
 use labelcore::Options;
 
 /// Draws the labels of the text that a source has left. The contract is that of [`run`], stated for memory.
+///
+/// # Errors
+///
+/// Those of [`run`].
 pub fn draw_labels<const N: usize, const M: usize>(
     options: Options,
     source: &mut MemSource<'_>,

@@ -14,7 +14,9 @@ use qrmatrix::Matrix;
 /// Returns the QR symbol of the bytes, in the smallest version that holds them at the options' level. Its modules read
 /// back as the bytes.
 ///
-/// Bytes that fit no version are refused by `DoesNotFit`.
+/// # Errors
+///
+/// `DoesNotFit` where the bytes fit no version.
 #[tactic(auto, unfolding(filter::specs::Symbol::symbol_of, filter::specs::Symbol::qr_modules))]
 pub fn matrix_of(options: &Options, bytes: &[u8]) -> Result<Matrix, Fault>
     // The filter draws the same symbol of these bytes, and refuses the same bytes.

@@ -26,18 +26,25 @@ pub trait PixelText {
     ghost row_end: { List ℕ };
 
     /// Writes a piece: the first `len` of these 70 pixels. The work is the same for each length.
+    ///
+    /// # Errors
+    ///
+    /// The sink's error. A beginning of the piece is written then.
     fn write_piece<S: Sink>(pixels: &[bool], len: usize, sink: &mut S) -> Result<(), IoFault>
         requires whole { length pixels.now ≡ 70 }
         requires short { len ≤ 70 }
         ensures { WritesText S.Sink sink.old sink.new (text (take len pixels.now)) result };
 
-    /// The text after a row's pieces.
+    /// Returns the text after a row's pieces.
     fn row_end() -> &'static [u8]
         ensures { result.now ≡ row_end };
 }
 
-/// Writes the rows of the grid, and holds the text of at most one piece. An error is the sink's, and leaves a beginning
-/// of the rows written.
+/// Writes the rows of the grid, with the text of at most one piece in memory at a time.
+///
+/// # Errors
+///
+/// The sink's error. A beginning of the rows is written then.
 pub fn write_rows<T: PixelText, G: Grid, S: Sink>(grid: &G, sink: &mut S) -> Result<(), IoFault>
     ensures { WritesText S.Sink sink.old sink.new
         (rows_text T.text T.row_end (G.picture grid.now)) result }
