@@ -605,6 +605,17 @@ class Glossary(InFolder):
         self.assertEqual(self.glossary(""), (1, "0 terms, 0 missing\n"))
 
 
+AVOIDED = [
+    *("it stands", "it comes to", "what a line comes to", "it is told", "it tells", "it answers `Err`", "so many"),
+    *("the least penalty", "the least version", "the mend", "it mends", "dear", "wrong bodies that tell most"),
+    *("tools of other hands", "doors", "rooms", "no count of failures rose", "refused growths of memory end well"),
+    *("a stated function of the input", "beside it stand", "what could not be had", "46 as ever", "none otherwise"),
+    *("labels that stand below one another", "a check digit that is not given is added", "says it in short"),
+    *("parity", "parity codeword", "data words", "format word", "version words", "is_codeword", "IsCodeword"),
+    *("bad words", "held back", "`Held`", "send_on", "engine.rt", "words.rt", "count_bits", "data_words", "RoundTrip"),
+]
+
+
 class PlainWords(InFolder):
     """Words that prose avoids are found in documents and comments, and not in code."""
 
@@ -659,6 +670,11 @@ class PlainWords(InFolder):
         ):
             with self.subTest(name):
                 self.assertEqual(self.check(name, text, name)[0], 0)
+
+    def test_each_word(self):
+        status, said = self.check("docs/A.md", "".join(f"At the front, {text} of it.\n\n" for text in AVOIDED))
+        found = {int(number) for number in re.findall(r"^docs/A\.md:(\d+): ", said, re.M)}
+        self.assertEqual((status, found), (1, {2 * place + 1 for place in range(len(AVOIDED))}))
 
     def test_words_with_a_right_meaning(self):
         for text, status in (
