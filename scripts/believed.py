@@ -3,18 +3,18 @@
 
 With no option it prints the list in reading order, and how many lines each crate and each kind has. --write
 makes the lists of docs/DEFINITIONS.md anew. --check makes them anew, and compares the whole page with what
---write would leave: status 1, and the differences, where a word, a description or a number of lines is not the
+--write would leave: status 1, and the differences, where a name, a description or a number of lines is not the
 one that the files give. It compares the number of lines that README.md gives too.
 
-The first list of the page has the definitions of the headline, the second the other words of specs/, but for
+The first list of the page has the definitions of the headline, the second the other definitions of specs/, but for
 the modules whose name begins with Private: only contracts inside a crate cite these. What the page says after
 `Why: ` of a file is kept. The third list has what contracts speak by and is no definition: traits, types and
 views of the code.
 
 It reads the text of the files in crates/*/specs and crates/*/src; no tool of the kit is needed. A definition is
-a block of lines between blank ones. It rests on a word that stands in it, where the word is defined in its file
-or brought in by a line `use`. A name that is bound in a definition and means something else in its file counts
-as that word: the list may be too long by that, never too short.
+a block of lines between blank ones. It rests on each name in it that is defined in its file or imported by a line
+`use`. A name that is bound in a definition and means something else in its file counts as that name: the list may
+be too long because of that, never too short.
 """
 
 import argparse
@@ -31,7 +31,7 @@ import declared
 import sources
 
 ROOT = ("filter", "Run", "RunsWhole")
-# The function whose clause it is, and the file of it: what the headline speaks by stands in its head.
+# The function whose clause it is, and its file: the head of the function names what the headline speaks of.
 HEADLINE = ("filter", "whole_run", "run")
 # The crates in the order in which a reader meets them, from the headline down.
 CRATES = ["filter", "labelcore", "device", "picture", "linear", "qrmatrix", "qrdata", "gf256", "command"]
@@ -45,11 +45,11 @@ SHOWN = 60
 NAME = r"[^\W\d][\w']*(?:-[\w']+)*"
 NO_WORDS = {"infixl", "infixr", "unfolding", "module", "mod"}
 HEAD = re.compile(rf"^(?:(?:abbrev|unfoldable)\s+)?(?:pub\s+)?(?:record\s+|data\s+)?(◌\S+◌|{NAME})(?=[\s:(])")
-WORD = re.compile(rf"{NAME}(?:\.{NAME})*")
+PATH = re.compile(rf"{NAME}(?:\.{NAME})*")
 
 
 class Definition:
-    """A block of a file: the word that it defines, the lines, the comment before them."""
+    """A block of a file: the name that it defines, the lines, the comment before them."""
 
     def __init__(self, key, comment, lines):
         self.key, self.comment, self.lines = key, comment, lines
@@ -81,7 +81,7 @@ class File:
         if block[0].startswith("abbrev mutual"):
             block = block[1:]
         if all(line.startswith("  ") for line in block):
-            # One of several definitions that call one another stands indented.
+            # Definitions that call one another are indented.
             block = [line[2:] for line in block]
         comment = [line.removeprefix("--").strip() for line in block if line.startswith("--")]
         code = [line for line in block if not line.startswith("--")]
@@ -91,10 +91,10 @@ class File:
         head = next((match for match in map(HEAD.match, code) if match and match.group(1) not in NO_WORDS), None)
         if not head:
             return
-        word = head.group(1)
-        definition = Definition((self.crate, self.module, word), " ".join(comment), code)
+        name = head.group(1)
+        definition = Definition((self.crate, self.module, name), " ".join(comment), code)
         self.order.append(definition)
-        self.of_name[word] = definition
+        self.of_name[name] = definition
         if re.match(r"^(?:pub\s+)?data\s", head.string):
             for line in code[1:]:
                 constructor = re.match(rf"^\s+({NAME})\s*:", line)
@@ -102,13 +102,13 @@ class File:
                     self.of_name[constructor.group(1)] = definition
 
     def bring_in(self, path):
-        """A line `use`: words of another file of specs, or the file as a whole."""
-        words = re.match(r"Rattle\.(\w+)\.specs\.([\w.]+?)\.\{(.*)\}$", path)
+        """A line `use`: names of another file of specs, or the file as a whole."""
+        imported = re.match(r"Rattle\.(\w+)\.specs\.([\w.]+?)\.\{(.*)\}$", path)
         whole = re.match(rf"Rattle\.(\w+)\.specs\.([\w.]+?)(?:\s+as\s+({NAME}))?$", path)
-        if words:
-            for item in words.group(3).split(","):
+        if imported:
+            for item in imported.group(3).split(","):
                 name, _, other = item.strip().partition(" as ")
-                self.names[(other or name).strip()] = (words.group(1), words.group(2), name.strip())
+                self.names[(other or name).strip()] = (imported.group(1), imported.group(2), name.strip())
         elif whole:
             self.modules[whole.group(3) or whole.group(2).split(".")[-1]] = (whole.group(1), whole.group(2))
 
@@ -128,7 +128,7 @@ def read_files(top):
 
 
 def find(files, crate, module, name):
-    """The definition of a name in a file, or the code's own type of that name, or nothing (a word of std)."""
+    """The definition of a name in a file, or the code's own type of that name, or nothing (a name of std)."""
     if module.startswith("declared"):
         return (crate, module, name)
     file = files.get((crate, module))
@@ -141,8 +141,8 @@ def find(files, crate, module, name):
 def rests_on(files, file, definition):
     """What a definition rests on, in the order of its text."""
     found = []
-    for word in WORD.findall(definition.text()):
-        first, _, rest = word.partition(".")
+    for path in PATH.findall(definition.text()):
+        first, _, rest = path.partition(".")
         if first in file.of_name:
             found.append(file.of_name[first])
         elif first in file.names:
@@ -161,10 +161,10 @@ def rests_on(files, file, definition):
 
 def believed(files):
     """The definitions that the headline rests on, and the code's own types, each in reading order."""
-    crate, module, word = ROOT
-    if (crate, module) not in files or word not in files[crate, module].of_name:
-        sys.exit(f"no definition {word} in crates/{crate}/specs/{module}.antt")
-    reached, types, waiting = [], [], [files[crate, module].of_name[word]]
+    crate, module, name = ROOT
+    if (crate, module) not in files or name not in files[crate, module].of_name:
+        sys.exit(f"no definition {name} in crates/{crate}/specs/{module}.antt")
+    reached, types, waiting = [], [], [files[crate, module].of_name[name]]
     seen = set()
     while waiting:
         one = waiting.pop(0)
@@ -181,7 +181,7 @@ def believed(files):
 
 
 def by_file(reached):
-    """The definitions by crate, and in it by file, each in the order in which a reader comes to it."""
+    """The definitions by crate, and in each crate by file, in reading order."""
     groups = {}
     for one in reached:
         groups.setdefault(one.key[0], {}).setdefault(one.key[1], []).append(one)
@@ -197,7 +197,7 @@ def cell(text):
 
 
 def others(files, reached):
-    """The words of specs/ that the headline does not rest on, but for those of private contracts."""
+    """The definitions of specs/ that the headline does not rest on, but for those of private contracts."""
     keys = {one.key for one in reached}
     return [
         one
@@ -218,7 +218,7 @@ def part(files, definitions, whys):
             out += ["", *textwrap.wrap(about, 118, break_long_words=False, break_on_hyphens=False), ""]
             if (crate, module) in whys:
                 out += [whys[crate, module], ""]
-            out += ["| Word | What it says |", "|---|---|"]
+            out += ["| Definition | What it says |", "|---|---|"]
             out += [f"| `{one.key[2]}` | {cell(one.comment)} |" for one in inside]
     return "\n".join(out) + "\n"
 
@@ -248,13 +248,13 @@ def read_lists(top):
     rest = others(files, reached)
     in_headline = declared.named_in(types)
     items = declared.code_items(top, CRATES, in_headline | declared.named_in(types_named(files, rest)))
-    words = declared.words_of_head(top, *HEADLINE)
-    if words is None:
+    names = declared.names_in_head(top, *HEADLINE)
+    if names is None:
         sys.exit(f"no function {HEADLINE[2]} in crates/{HEADLINE[0]}/src/{HEADLINE[1]}.rt")
 
     def is_of_headline(item):
         if item.kind in ("trait", "view"):
-            return item.name in words
+            return item.name in names
         return (item.crate, item.file, item.name) in in_headline
 
     other_items = [one for one in items if not is_of_headline(one)]
@@ -374,7 +374,7 @@ def print_counts(lists):
     rest = lists.others
     print(f"    what other public contracts speak of: {len(rest)} definitions, {lines_of(rest)} lines")
     print(f"        of the code: {counts_of_code(lists.other_code)}")
-    print(f"    words of private contracts: {private} lines")
+    print(f"    definitions of private contracts: {private} lines")
 
 
 def arguments():

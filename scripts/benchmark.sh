@@ -15,7 +15,7 @@
 #
 # What is not installed is named on standard error, and left out: a tool of the three, or GNU time, by which
 # memory is measured. Status 77: not one of the three tools is installed, so there is nothing to measure beside.
-# Status 2: bad words or no such program.
+# Status 2: bad arguments or no such program.
 # shellcheck disable=SC2016  # a command in single quotes is for the bash of its measurement
 set -euo pipefail
 shopt -s inherit_errexit
@@ -76,8 +76,8 @@ lines_of() {
     esac
 }
 
-# The words of each tool for a label of kind $1.
-zint_words() {
+# The arguments of each tool for a label of kind $1.
+zint_arguments() {
     case $1 in
         ean13) echo '-b EANX --notext --quietzones' ;;
         code128) echo '-b CODE128 --notext --quietzones' ;;
@@ -87,14 +87,14 @@ zint_words() {
     esac
 }
 
-qrencode_words() {
+qrencode_arguments() {
     case $1 in
         qr) echo '-l M -s 1 -t ASCII' ;;
         qr10) echo '-l M -s 1 -t ASCII -v 10' ;;
     esac
 }
 
-barcode_words() {
+barcode_arguments() {
     case $1 in
         ean13) echo '-e ean13 -n' ;;
         code128) echo '-e 128 -n' ;;
@@ -117,8 +117,8 @@ seconds_of() {
     awk '{ print $1 + $2 }' measured.txt
 }
 
-# Runs the commands in rounds, and prints a row of name $1: of each the lowest time for each of $2 labels, and behind it
-# the ratio to the time of labels.
+# Runs the commands in rounds, and prints a row of name $1: the lowest time of each command for each of $2 labels, and
+# after it the ratio to the time of labels.
 time_row() {
     local name=$1 count=$2 round column seconds
     local -A best=()
@@ -144,17 +144,17 @@ row_one_by_one() {
     data_of "$1" "$one_by_one" > data
     lines_of "$1" < data > lines
     commands[labels]='while read -r line; do "$labels" <<< "$line" > /dev/null; done < lines'
-    if has qrencode && [ -n "$(qrencode_words "$1")" ]; then
+    if has qrencode && [ -n "$(qrencode_arguments "$1")" ]; then
         commands[qrencode]="while read -r data; do
-            qrencode $(qrencode_words "$1") -o /dev/null \"\$data\"; done < data"
+            qrencode $(qrencode_arguments "$1") -o /dev/null \"\$data\"; done < data"
     fi
     if has zint; then
         commands[zint]="while read -r data; do
-            zint $(zint_words "$1") --scale=0.5 --direct --filetype=bmp -d \"\$data\" > /dev/null; done < data"
+            zint $(zint_arguments "$1") --scale=0.5 --direct --filetype=bmp -d \"\$data\" > /dev/null; done < data"
     fi
-    if has barcode && [ -n "$(barcode_words "$1")" ]; then
+    if has barcode && [ -n "$(barcode_arguments "$1")" ]; then
         commands[barcode]="while read -r data; do
-            barcode $(barcode_words "$1") -E -b \"\$data\" -o /dev/null; done < data"
+            barcode $(barcode_arguments "$1") -E -b \"\$data\" -o /dev/null; done < data"
     fi
     commands[nothing]='while read -r line; do /bin/true <<< "$line" > /dev/null; done < lines'
     time_row "$2, a process each" "$one_by_one"
@@ -168,10 +168,10 @@ row_one_run() {
     commands[csplit]='"$labels" lines | csplit -sz -n 6 -f pictures/ - "/^P1$/" "{*}"'
     if has zint; then
         commands[zint]="cd pictures &&
-            zint $(zint_words "$1") --scale=0.5 --batch -i ../data -o '~~~~~~.bmp' --filetype=bmp"
+            zint $(zint_arguments "$1") --scale=0.5 --batch -i ../data -o '~~~~~~.bmp' --filetype=bmp"
     fi
-    if has barcode && [ -n "$(barcode_words "$1")" ]; then
-        commands[barcode]="barcode $(barcode_words "$1") -i data -o /dev/null"
+    if has barcode && [ -n "$(barcode_arguments "$1")" ]; then
+        commands[barcode]="barcode $(barcode_arguments "$1") -i data -o /dev/null"
     fi
     time_row "$2, one run" "$many"
 }
@@ -199,17 +199,18 @@ memory_row() {
 table_memory() {
     local count
     commands[nothing]=/bin/true
-    if has qrencode; then commands[qrencode]="qrencode $(qrencode_words qr) -o /dev/null https://example.com/"; fi
+    if has qrencode; then commands[qrencode]="qrencode $(qrencode_arguments qr) -o /dev/null https://example.com/"; fi
     memory_row '1 label'
     for count in "$many" 10000 "$huge"; do
         data_of ean13 "$count" > data
         lines_of ean13 < data > lines
         if [ "$count" != 10000 ]; then
             commands[labels]='"$labels" lines'
-            if has barcode; then commands[barcode]="barcode $(barcode_words ean13) -i data -o /dev/null"; fi
+            if has barcode; then commands[barcode]="barcode $(barcode_arguments ean13) -i data -o /dev/null"; fi
         fi
         if [ "$count" != "$huge" ] && has zint; then
-            commands[zint]="zint $(zint_words ean13) --scale=0.5 --batch -i data -o 'pictures/~~~~~~.bmp' --filetype=bmp"
+            commands[zint]="zint $(zint_arguments ean13) --scale=0.5 --batch -i data --filetype=bmp"
+            commands[zint]+=" -o 'pictures/~~~~~~.bmp'"
         fi
         memory_row "$count labels"
     done

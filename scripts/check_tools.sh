@@ -5,8 +5,8 @@
 #
 # It runs the tests of tools/tests and, where that folder exists, of scripts/tests. Then it runs, each where it is
 # installed, shellcheck over the scripts for sh and bash, black and flake8 over all Python, and mandoc over the man
-# pages. A line that begins with "skipped:" names what was not done and for want of what. Where something failed, what
-# it wrote is printed and the status is 1. The last line is "N passed, M failed", of tests and lints together.
+# pages. A line that begins with "skipped:" names what was not done, and the tool that is missing. Where something
+# failed, what it wrote is printed and the status is 1. The last line is "N passed, M failed", of tests and lints.
 set -eu
 
 if [ $# -gt 0 ]; then
@@ -51,7 +51,7 @@ files_for() {
     done
 }
 
-# lint PROGRAM WORD..: one lint, which passes where the program ends with status 0 and writes nothing that it found
+# lint PROGRAM ARGUMENT..: one lint, which passes where the program ends with status 0 and writes nothing that it found
 lint() {
     if ! command -v "$1" > /dev/null; then
         echo "skipped: $1: not installed"

@@ -3,7 +3,7 @@
 - A trait: its members and the clauses of its functions, without the bodies that it gives.
 - A type: an enum or a struct whose variants or fields definitions name.
 - A view: what contracts see of a type with private fields, its `impl Model`.
-- Members: what the words of a trait mean for a type, the ghost members of its `impl`.
+- Members: what the names of a trait mean for a type, the ghost members of its `impl`.
 - A constant that definitions name.
 
 A trait, a view or members count where the crate's lib.rt names the trait and the type for callers.
@@ -62,7 +62,7 @@ def member_names(item):
 def from_other_crates(items, all_public):
     """The names for callers that a file takes from other crates, by its lines `use`."""
     lines = [item.text for item in items if item.kind == "use" and re.match(r"use (?!crate|super)", item.text)]
-    return {word for line in lines for word in re.findall(r"\w+", line)} & all_public
+    return {name for line in lines for name in re.findall(r"\w+", line)} & all_public
 
 
 def of_impl(crate, file, item, types, traits):
@@ -97,12 +97,12 @@ def of_file(crate, file, text, public, all_public, named):
 
 
 def named_in(declared):
-    """The types and constants that words of `declared` belong to: (crate, file, name) of (crate, module, word)."""
+    """The types and constants that names of `declared` belong to: (crate, file, name) of (crate, module, name)."""
     found = set()
-    for crate, module, word in declared:
+    for crate, module, name in declared:
         parts = module.split(".")[1:]
         if parts[-1] == "TheConstants":
-            found.add((crate, "/".join(parts[:-1]), word))
+            found.add((crate, "/".join(parts[:-1]), name))
         else:
             parts = [part for part in parts if part != "TheVariants"]
             found.add((crate, "/".join(parts[:-1]), parts[-1]))
@@ -122,8 +122,8 @@ def code_items(top, crates, named):
     return items
 
 
-def words_of_head(top, crate, file, function):
-    """The words in the head of a function: its bounds, what it takes and returns. None where it is gone."""
+def names_in_head(top, crate, file, function):
+    """The names in the head of a function: its bounds, what it takes and returns. None where it is gone."""
     path = os.path.join(top, "crates", crate, "src", f"{file}.rt")
     for item in sources.items_of(sources.read(path)) if os.path.exists(path) else []:
         if item.kind == "fn" and item.name == function:

@@ -4,7 +4,7 @@
 # usage: scripts/install.sh [PREFIX]
 #
 # PREFIX is ~/.local where it is not given. The program is crates/labels/out/labels, which `rt run` in crates/labels
-# builds; the environment's variable LABELS may name another file. These files come about, and no others:
+# builds; the environment variable LABELS may name another file. It installs these files, and no others:
 #
 #   PREFIX/bin/labels                      the program
 #   PREFIX/bin/label-*                     links to the tools
@@ -31,7 +31,7 @@ case ${1-} in
         echo 'Installs labels, its tools, man pages and bash completion; PREFIX is ~/.local where it is not given.'
         exit 0
         ;;
-    -*) set -- bad words ;;
+    -*) set -- bad arguments ;;
 esac
 if [ $# -gt 1 ]; then
     echo "$usage" >&2

@@ -16,7 +16,7 @@
 # the table says, or where a table lacks a row, has one that is no number, or one that is not measured here. A
 # row that takes more than 5 % less is no failure: a note says that the table is out of date.
 #
-# Status 2: bad words, no such program, or a count that failed. Status 77: valgrind is not installed, nothing was
+# Status 2: bad arguments, no such program, or a count that failed. Status 77: valgrind is not installed, nothing was
 # counted.
 # shellcheck disable=SC2016  # names of rows have backticks
 set -euo pipefail
@@ -86,7 +86,7 @@ calls_of() {
 # The text $1, $2 times, each on a line.
 times() { for ((i = 0; i < $2; i++)); do printf '%s\n' "$1"; done; }
 
-# What a label more costs: the instructions $1 of a run over so many labels $3, less those $2 of one without them.
+# What one label more costs: the instructions $1 of a run over $3 more labels, less those $2 of a run without them.
 each() { awk -v all="$1" -v start="$2" -v n="$3" 'BEGIN { printf "%d", (all - start) / n + 0.5 }'; }
 
 # A number rounded to hundreds.
@@ -95,7 +95,7 @@ rounded() { awk '{ printf "%d", 100 * int($1 / 100 + 0.5) }'; }
 # A number with a comma after its thousands.
 shown() { sed -E ':a; s/^([0-9]+)([0-9]{3})/\1,\2/; ta'; }
 
-# The line $1 under the words after it, by labels.
+# The line $1 under the arguments after it, by labels.
 by_labels() {
     local line=$1 all start
     shift
@@ -117,13 +117,13 @@ by_file() {
     each "$all" "$start" "$count"
 }
 
-# The data $1 under the words after it, by zint; its own text of a picture, letters of hexadecimal digits.
+# The data $1 under the arguments after it, by zint; its own text of a picture, letters of hexadecimal digits.
 by_zint() { by_file "$1" zint "${@:2}" --batch --dump -i; }
 
-# The data $1 under the words after it, by GNU barcode, as PostScript.
+# The data $1 under the arguments after it, by GNU barcode, as PostScript.
 by_barcode() { by_file "$1" barcode "${@:2}" -o /dev/null -i; }
 
-# The data $1 under the words after it, by qrencode, as text.
+# The data $1 under the arguments after it, by qrencode, as text.
 by_qrencode() {
     local data=$1 all start
     shift
@@ -132,18 +132,18 @@ by_qrencode() {
     each "$all" "$start" 1
 }
 
-# A cell: the count by tool $1, if it is installed and has words for it.
+# A cell: the count by tool $1, if it is installed and has arguments for it.
 cell() {
     if [ $# -gt 2 ] && has "$1"; then "by_$1" "${@:2}" | rounded | shown; else printf -- '-'; fi
 }
 
-# A row of the table: name $1, the line $2 of `labels` and its words $3, the data $4, and each tool's words.
+# A row of the table: name $1, the line $2 of `labels` and its arguments $3, the data $4, and each tool's arguments.
 print_row() {
-    local name=$1 line=$2 words=$3 data=$4 zint=$5 barcode=$6 qrencode=$7
+    local name=$1 line=$2 arguments=$3 data=$4 zint=$5 barcode=$6 qrencode=$7
     local ours
-    # shellcheck disable=SC2086  # words are several words
+    # shellcheck disable=SC2086  # these are several arguments
     {
-        ours=$(by_labels "$line" $words | rounded | shown)
+        ours=$(by_labels "$line" $arguments | rounded | shown)
         zint=$(cell zint "$data" $zint)
         barcode=$(cell barcode "$data" $barcode)
         qrencode=$(cell qrencode "$data" $qrencode)
@@ -151,7 +151,7 @@ print_row() {
     printf '| %s | %s | %s | %s | %s |\n' "$name" "$ours" "$zint" "$barcode" "$qrencode"
 }
 
-# The rows below the heads of both tables, as far as they go: a name, a tab, what stands in the column of `labels`.
+# The rows of both tables: a name, a tab, the number in the column of `labels`.
 rows_of_table() {
     awk -F ' *[|] *' -v OFS='\t' '($2 == "Label" || $2 == "Calls") && $3 == "labels" { inside = 1; next }
         !/^[|]/ { inside = 0 }
@@ -187,13 +187,13 @@ compare() {
     fi
 }
 
-# A row of name $1 for the line $2 of `labels` and the words $3; for the table also the data and each tool's words.
+# A row of name $1 for the line $2 of `labels` and the arguments $3; for the table the data, the tools' arguments too.
 row() {
     local found
     if [ "$mode" = table ]; then
         print_row "$@"
     else
-        # shellcheck disable=SC2086  # words are several words
+        # shellcheck disable=SC2086  # these are several arguments
         found=$(by_labels "$2" $3)
         compare "$1" "$found"
     fi

@@ -1,13 +1,13 @@
 #!/usr/bin/env python3
 """Finds words that prose and comments of this repository avoid, and names what to write in their place.
 
-It reads the documents (docs/*.md but for the generated DEFINITIONS.md, README.md, crates/*/README.md, man/), the
-comments of crates/*/src, specs and proofs, and the comments and docstrings of scripts/ and tools/. Code is not read:
-blocks between ``` in a page, and all that is no comment in a file.
+It reads the documents (README.md, crates/*/README.md, docs/*.md, man/), the comments and doc comments of crates/, and
+the comments and docstrings of scripts/, tools/, completions/ and .ci/. Code is not read: blocks between ``` in a page,
+and all that is no comment in a file. So the program's own messages are read only where a page quotes them.
 
-With no option it prints a line for each find, and then how often each word was found: the status is 0. --check
-FOLDER.. reads what is below these folders or files alone, and ends with 1 where it finds something, or where there
-is no such text to read. The last line is `N files, M found`.
+It prints a line for each find, and then how often each word was found. The status is 0. With --check it is 1 where
+something is found, or where there is nothing to read. --check FOLDER.. reads what is below these folders or files
+alone. The last line is `N files, M found`.
 """
 
 import argparse
@@ -21,27 +21,40 @@ from collections import Counter
 
 import sources
 
-GENERATED = os.path.join("docs", "DEFINITIONS.md")
-# What to avoid, and what to write. A space matches any white space, so a line end too.
+# What is before the plural of the noun `answer`.
+NOUN = "the|an|some|no|these|those|all|both|two|its|their|of|right|wrong|such|as|and|or"
+# What to avoid, and what to write. A space matches any white space, so a line end too. Where a word has a right
+# meaning too, the pattern leaves that alone: the noun "answers", and the words of the program's message and help text
+# for arguments that it does not take.
 WORDS = (
     (r"\b(?:beside it )?(?:stands?|stood|standing)\b(?!-)", "is"),
     (r"\b(?:comes?|came) to\b", "produces, gives"),
     (r"\b(?:tells?|told|telling)\b", "reports, says"),
-    (r"\banswer(?:s|ed)? (?:with )?`", "returns"),
+    (
+        rf"\b(?!(?:{NOUN}) answers)[\w-]+[`'\"]? answers\b|\banswer(?:ed|ing)\b"
+        r"|\banswers? (?:with )?(?:`|(?:if|what|whether)\b)",
+        "returns",
+    ),
     (r"\bso many\b", "n, this many"),
-    (r"\bthe least\b|(?<!at\s)\bleast (?:penalty|version|mask)\b", "the lowest, the smallest"),
+    (r"\bthe least\b|(?<!at\s)\bleast (?:penalty|penalties|versions?|masks?)\b", "the lowest, the smallest"),
     (r"\bmend(?:s|ed|ing)?\b", "fix"),
     (r"\bdear(?:er|est)?\b", "slow, expensive"),
     (r"\b(?:other|another|foreign) hands?\b", "third-party"),
     (r"\bdoors?\b", "public functions"),
     (r"\brooms\b|\broom is a crate\b", "crates"),
     (r"\bno count of failures rose\b", "no device reported a failure"),
+    (r"\bend(?:s|ed)? well\b", "was handled"),
     (r"\bcould not be had\b", "choices, and why"),
     (r"\bas ever\b|\bnone otherwise\b", "unaffected, none wrong"),
     (r"\bin short\b", "a summary"),
     (r"\bstated function of\b", "depends on nothing but"),
+    (r"\bthat is not given is added\b", "leave it off and `labels` adds it"),
+    (r"(?<!labels:\s)(?<!\()\bbad words?\b", "bad arguments"),
     (r"\bparity\b", "error correction codewords"),
-    (r"\bdata words?\b", "data codewords"),
+    (r"\bdata[ _]words?\b", "data codewords"),
+    (r"\bcount_bits\b", "count_width"),
+    (r"\bis_?codeword\b", "IsMultipleOf, HasRoots"),
+    (r"\bRoundTrip\b", "Readback"),
     (r"\b(?:format|version) words?\b", "format information, version information"),
     (r"\bs(?:end(?:s|ing)?|ent) on\b|\bsend_on\b", "pass on"),
     (r"\b(?:held|holds?|holding) back\b", "buffered"),
@@ -106,16 +119,17 @@ def finds_in(path):
 
 
 def is_prose(top, path):
-    """Whether a file is one that this script reads: not generated, and a document, a comment's home or a tool."""
+    """Whether a file is one that this script reads: a document, or one with comments."""
     inside = os.path.relpath(path, top)
     parts = inside.split(os.sep)
-    if inside == GENERATED or {"out", "pictures", ".git", "__pycache__"} & set(parts):
+    if {"out", "pictures", "__pycache__"} & set(parts):
         return False
     if parts[0] in ("docs", "man") or inside == "README.md":
         return bool(re.search(r"\.(?:md|[1-8])$", path))
     if parts[0] == "crates":
         return path.endswith((".rt", ".antt")) or parts[-1] == "README.md"
-    return parts[0] in ("scripts", "tools") and (path.endswith((".py", ".sh")) or "." not in parts[-1])
+    is_script = path.endswith((".py", ".sh", ".bash", ".txt")) or "." not in parts[-1]
+    return parts[0] in ("scripts", "tools", "completions", ".ci") and is_script
 
 
 def files_of(top, places):
@@ -132,9 +146,9 @@ def main():
     parser.add_argument("--top", default=sources.TOP, help="the top of the repository (this one)")
     parser.add_argument(
         "--check",
-        nargs="+",
+        nargs="*",
         metavar="FOLDER",
-        help="read these folders or files alone, and fail where something is found",
+        help="fail where something is found; read these folders or files alone, or all of the repository",
     )
     given = parser.parse_args()
     top = os.path.abspath(given.top)
@@ -148,11 +162,10 @@ def main():
         for line, text, instead in finds_in(path):
             counts[instead] += 1
             print(f"{os.path.relpath(path, top)}:{line}: `{text.strip('`')}`, write: {instead}")
-    if not given.check:
-        for instead, count in counts.most_common():
-            print(f"{count:5} to write: {instead}")
+    for instead, count in counts.most_common():
+        print(f"{count:5} to write: {instead}")
     print(f"{len(files)} files, {counts.total()} found")
-    return 1 if given.check and (counts or not files) else 0
+    return 1 if given.check is not None and (counts or not files) else 0
 
 
 if __name__ == "__main__":

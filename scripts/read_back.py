@@ -9,7 +9,7 @@ full data: the digits with their check digit, or all bytes.
 Each picture goes through Netpbm: pnmpad puts white above and below, which a reader wants and a linear label
 lacks, and pnmtopng makes the PNG. The last line is `N of N read back`. Any label that is not read, or is
 read as something else, is printed with its line, and the status is then 1. Where zbarimg or Netpbm is
-missing nothing can be tried: the script says so and ends with status 77. Bad words and a program that is
+missing nothing can be tried: the script says so and ends with status 77. Bad arguments and a program that is
 not there end with status 2.
 """
 
@@ -115,7 +115,7 @@ def code128(draw):
 
 
 def qr_by_settings(draw):
-    """QR labels at each level, mask and least version, with some data of each kind."""
+    """QR labels at each level, mask and smallest version, with some data of each kind."""
     for level in "LMQH":
         for number in range(24):
             version, mask = 1 + number % 10, "auto" if number >= 16 else str(number % 8)
@@ -163,8 +163,8 @@ def qr_of_bytes(draw):
 
 def pictures_of(program, labels, scale, escapes):
     """The pictures of a run over these labels: its output, cut before each line `P1`."""
-    words = [program, "--scale", str(scale)] + (["--escapes"] if escapes else [])
-    ran = subprocess.run(words, input=b"".join(label.line() for label in labels), capture_output=True)
+    command = [program, "--scale", str(scale)] + (["--escapes"] if escapes else [])
+    ran = subprocess.run(command, input=b"".join(label.line() for label in labels), capture_output=True)
     if ran.returncode != 0:
         sys.exit(f"labels ended with status {ran.returncode}:\n{ran.stderr.decode()}")
     pictures = [b"P1\n" + rest for rest in ran.stdout.split(b"P1\n")[1:]]
@@ -185,8 +185,8 @@ def write_png(picture, scale, path):
 
 def reading_of(path, symbology):
     """The bytes that zbarimg reads in a file, as the reader of this symbology alone; none where it reads nothing."""
-    words = ["zbarimg", "--nodbus", "--quiet", "-Sdisable", f"-S{READERS[symbology]}.enable", "-Sbinary", path]
-    ran = subprocess.run(words, capture_output=True)
+    command = ["zbarimg", "--nodbus", "--quiet", "-Sdisable", f"-S{READERS[symbology]}.enable", "-Sbinary", path]
+    ran = subprocess.run(command, capture_output=True)
     # It ends with status 4 where it read nothing.
     if ran.returncode not in (0, 4):
         sys.exit(f"zbarimg ended with status {ran.returncode}:\n{ran.stderr.decode()}")

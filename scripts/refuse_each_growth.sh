@@ -3,20 +3,20 @@
 #
 # usage: scripts/refuse_each_growth.sh [--try]
 #
-# The words and the input are those of the stored run (crates/labels/args and stdin), from standard input and from
-# a FILE; then some other words. In run N the Nth growth of memory is refused. A run is good where it either
+# The arguments and the input are those of the stored run (crates/labels/args and stdin), from standard input and from
+# a FILE; then other arguments. In run N the Nth growth of memory is refused. A run is good where it either
 #   - does what it does when no growth is refused: the same output, messages and status, or
 #   - writes nothing on standard output and `labels: no memory` on standard error, and ends with status 3.
 # Any other run is reported, and makes the status of this script 1.
 #
-# Without a word it takes the proved program, crates/labels/out/labels, which `rt run` in crates/labels leaves
+# Without an argument it takes the proved program, crates/labels/out/labels, which `rt run` in crates/labels leaves
 # there (another program: LABELS=PATH), and refuses the Nth call of malloc or realloc by a small library that is
 # loaded before the C library (it needs glibc and a C compiler). N goes up to the first run that makes fewer than
 # N such calls. With --try it takes `rt try --fail-alloc N`, which needs no proof and no C compiler, but builds
 # anew for each N; so it makes the stored run alone. Here nothing says whether a run reaches its Nth growth: it
-# stops after four runs in a row that do as ever.
+# stops after four runs in a row that end as if nothing was refused.
 #
-# Status 2: bad words, or no such program. Status 77: no C compiler or, with --try, no `rt`: nothing was tried.
+# Status 2: bad arguments, or no such program. Status 77: no C compiler or, with --try, no `rt`: nothing was tried.
 set -euo pipefail
 
 usage() { sed -n '/^# usage: /,/^#$/s/^# \{0,1\}//p' "$0" | sed '/^$/d'; }
@@ -49,7 +49,7 @@ else
     fi
 fi
 stored=()
-while IFS= read -r word; do stored+=("$word"); done < "$crate/args"
+while IFS= read -r argument; do stored+=("$argument"); done < "$crate/args"
 scratch=$(mktemp -d)
 trap 'rm -rf "$scratch"' EXIT
 
@@ -90,8 +90,8 @@ C
     "$compiler" -O2 -fPIC -shared -o "$scratch/refuse.so" "$scratch/refuse.c"
 }
 
-# Runs the program by the words $2 .. with growth $1 refused (none, where $1 is 0), into the files out and err and the
-# variable status.
+# Runs the program by the arguments $2 .. with growth $1 refused (none, where $1 is 0), into the files out and err, and
+# sets status.
 run_refused() {
     local growth=$1
     shift
@@ -123,7 +123,7 @@ judge() {
     fi
 }
 
-# Refuses each growth of the run by the words $1 .., and prints the counts.
+# Refuses each growth of the run by the arguments $1 .., and prints the counts.
 refuse_each() {
     local growth=0 refused=0 whole=0 bad=0 in_a_row=0 verdict
     echo "labels $*:"
@@ -155,7 +155,7 @@ refuse_each() {
     if [ "$bad" -gt 0 ] || [ "$refused" -eq 0 ]; then good=1; fi
 }
 
-# Sees that the last words, with no growth refused, did the stored run.
+# Sees that the last arguments, with no growth refused, did the stored run.
 see_stored() {
     if [ "$whole_status" != 0 ] || ! cmp "$scratch/whole_out" "$crate/stdout"; then
         echo "  not the stored run"
@@ -173,7 +173,7 @@ if [ "$way" = built ]; then
     refuse_each --format ascii --scale 2 --height 3 --level Q --min-version 3 --mask 5 --escapes stdin
     refuse_each --help
     refuse_each --scale 9
-    refuse_each --no-such-word
+    refuse_each --no-such-argument
     refuse_each no-such-file
 fi
 exit "$good"

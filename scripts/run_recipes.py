@@ -19,7 +19,7 @@ Besides, the pictures that RECIPES.md makes must be those of docs/pictures, pixe
 the repository to another must lead to a file and a heading; mandoc and groff must find nothing in the man pages; and
 each option of a help text must be in its man page and in the completion, where there is one. The last line is `N of N
 as printed`; where one is not, the status is 1. Where a third-party program of the pages is missing, the script names
-it and ends with status 77. Bad words and a program that is not there end with status 2.
+it and ends with status 77. Bad arguments and a program that is not there end with status 2.
 """
 
 import argparse
@@ -202,13 +202,13 @@ class Run:
     def try_man_pages(self) -> None:
         """Lets mandoc and groff read each man page, and runs its examples."""
         for page in sorted((TOP / "man").glob("*.1")):
-            for words in (
+            for arguments in (
                 ["mandoc", "-Tlint", "-W", "warning"],
                 ["groff", "-ww", "-man", "-z"],
                 ["groff", "-ww", "-man", "-Tascii", "-z"],
             ):
-                ran = subprocess.run([*words, page], capture_output=True, text=True)
-                self.judge(not ran.stdout + ran.stderr, f"{' '.join(words)} {page}:\n{ran.stdout}{ran.stderr}")
+                ran = subprocess.run([*arguments, page], capture_output=True, text=True)
+                self.judge(not ran.stdout + ran.stderr, f"{' '.join(arguments)} {page}:\n{ran.stdout}{ran.stderr}")
             blocks = examples_of(page)
             if page.name != MAN_PAGES["labels"]:
                 blocks = [block for block in blocks if block.printed is not None]
@@ -236,32 +236,32 @@ class Run:
             yield tool.name, tool
 
 
-def parse_words() -> argparse.Namespace:
-    """The words of the command; ends with status 2 for bad ones."""
+def parse_arguments() -> argparse.Namespace:
+    """The arguments of the command; ends with status 2 for bad ones."""
     parser = argparse.ArgumentParser(description=__doc__, formatter_class=argparse.RawDescriptionHelpFormatter)
     parser.allow_abbrev = False
     parser.add_argument("--kit", action="store_true", help="run the blocks that call the kit too, in a fresh clone")
     parser.add_argument("--times", action="store_true", help="print the seconds of each block")
     parser.add_argument("program", metavar="PROGRAM", nargs="?", type=Path, help=f"the program ({PROGRAM})")
-    words = parser.parse_args()
-    if words.program is None and not words.kit:
-        words.program = TOP / PROGRAM
-    if words.program is not None:
-        words.program = words.program.resolve()
-        if not os.access(words.program, os.X_OK) or words.program.is_dir():
-            parser.error(f"{words.program} is no program: run (cd crates/labels && rt run < /dev/null)")
-    return words
+    arguments = parser.parse_args()
+    if arguments.program is None and not arguments.kit:
+        arguments.program = TOP / PROGRAM
+    if arguments.program is not None:
+        arguments.program = arguments.program.resolve()
+        if not os.access(arguments.program, os.X_OK) or arguments.program.is_dir():
+            parser.error(f"{arguments.program} is no program: run (cd crates/labels && rt run < /dev/null)")
+    return arguments
 
 
 def main() -> int:
-    words = parse_words()
+    arguments = parse_arguments()
     missing = [program for program in THIRD_PARTY if shutil.which(program) is None]
     if missing:
         print(f"skipped: not installed: {', '.join(missing)}")
         return SKIPPED
-    run = Run(words.program, words.kit, words.times)
+    run = Run(arguments.program, arguments.kit, arguments.times)
     for page in PAGES:
-        run.try_page(page, blocks_of(page, words.kit))
+        run.try_page(page, blocks_of(page, arguments.kit))
     run.try_man_pages()
     run.try_links()
     run.try_options()

@@ -7,7 +7,7 @@ one code set; QR data of one mode, with its version, level and mask given. The l
 run.
 
 The last line is `N of N are the same`. Any other label is printed with its line, and the status is then 1.
-Where zint is missing nothing can be compared: the script says so and ends with status 77. Bad words and a
+Where zint is missing nothing can be compared: the script says so and ends with status 77. Bad arguments and a
 program that is not there end with status 2.
 """
 
@@ -28,11 +28,11 @@ MOST = {
 
 
 def linear_labels(draw):
-    """Heads, data and zint's words of linear labels."""
-    for name, length, word in (("ean13", 12, "EANX"), ("ean8", 7, "EANX"), ("upca", 11, "UPCA")):
+    """Heads, data and zint's arguments of linear labels."""
+    for name, length, kind in (("ean13", 12, "EANX"), ("ean8", 7, "EANX"), ("upca", 11, "UPCA")):
         for number in range(50):
             data = str(number % 10) + "".join(draw.choices("0123456789", k=length - 1))
-            yield name, data, ["-b", word]
+            yield name, data, ["-b", kind]
     for number in range(60):
         length = 1 + number
         letters = "ABCDEFGHIJKLMNOPQRSTUVWXYZ !#$%&()*+,-./:;<=>?@"
@@ -45,7 +45,7 @@ def linear_labels(draw):
 
 
 def qr_labels(draw):
-    """Heads, data and zint's words of QR labels: each version with each level and each mask."""
+    """Heads, data and zint's arguments of QR labels: each version with each level and each mask."""
     alphabets = {
         "digits": "0123456789",
         "characters": "ABCDEFGHIJKLMNOPQRSTUVWXYZ $%*+-./:",
@@ -58,8 +58,8 @@ def qr_labels(draw):
                 length = 1 + draw.randrange(MOST[kind][version - 1])
                 data = "".join(draw.choices(alphabets[kind], k=length))
                 head = f"qr,level={level},min-version={version},mask={mask}"
-                words = [f"--secure={level_number + 1}", f"--vers={version}", f"--mask={mask}"]
-                yield head, data, ["-b", "QRCODE", *words]
+                arguments = [f"--secure={level_number + 1}", f"--vers={version}", f"--mask={mask}"]
+                yield head, data, ["-b", "QRCODE", *arguments]
 
 
 def rows_of_ours(picture):
@@ -75,9 +75,9 @@ def rows_of_ours(picture):
     return [row[left : right + 1] for row in inner]
 
 
-def rows_of_zint(words, data, width):
+def rows_of_zint(arguments, data, width):
     """The rows of modules of zint's symbol, of this width, as texts of 0 and 1."""
-    ran = subprocess.run(["zint", *words, "--dump", "-d", data], capture_output=True, text=True, check=True)
+    ran = subprocess.run(["zint", *arguments, "--dump", "-d", data], capture_output=True, text=True, check=True)
     rows = [bin(int("1" + line.replace(" ", ""), 16))[3:] for line in ran.stdout.splitlines()]
     return [row[:width] for row in rows]
 
@@ -95,9 +95,9 @@ def pictures_of(program, labels):
 
 def is_same(label, picture):
     """Whether the picture has the modules of zint's symbol. Prints the label where it has not."""
-    head, data, words = label
+    head, data, arguments = label
     ours = rows_of_ours(picture)
-    zints = rows_of_zint(words, data, len(ours[0]))
+    zints = rows_of_zint(arguments, data, len(ours[0]))
     if ours != zints:
         wrong = sum(a != b for row, other in zip(ours, zints) for a, b in zip(row, other))
         sizes = f"{len(ours[0])} by {len(ours)} and {len(zints[0])} by {len(zints)} modules"

@@ -20,7 +20,7 @@ FUNCTION_WORD = re.compile(r"\b(requires|ensures)\b(?:\s+(\w+))?\s*(?=\{)|[\[({;
 
 
 def program_given(description):
-    """The program `labels` that the words name, the proved one where they name none. Stops where it is not there."""
+    """The program `labels` that an argument names, the proved one where none does. Stops where it is not there."""
     parser = argparse.ArgumentParser(description=description, formatter_class=argparse.RawDescriptionHelpFormatter)
     default = os.path.join(TOP, "crates", "labels", "out", "labels")
     parser.add_argument(
@@ -130,7 +130,7 @@ def name_of(kind, head):
 
 
 def items_of(text):
-    """The items that stand in a text side by side: those of a file, or of the body of a trait or an `impl`."""
+    """The items of a text, side by side: those of a file, or of the body of a trait or an `impl`."""
     blank, items, place = blanked(text), [], 0
     while match := ITEM.search(blank, place):
         start, kind = match.start(), match.group("kind")

@@ -28,7 +28,7 @@ from dataclasses import dataclass, field
 import sources
 
 NAME = r"[^\W\d][\w'⁻¹]*(?:-[\w'⁻¹]+)*"
-WORD = re.compile(rf"{NAME}(?:\.(?:{NAME}|\d+))*")
+PATH = re.compile(rf"{NAME}(?:\.(?:{NAME}|\d+))*")
 OPAQUE = re.compile(r'--[^\n]*|"(?:\\.|[^"\\])*"')
 OPERATOR = r"[^\s:(){}]*◌[^\s:(){}]*"
 HEAD = re.compile(rf"^((?:(?:abbrev|unfoldable|pub|record|data)\s+)*)({OPERATOR}|{NAME})(?=[\s:({{]|$)")
@@ -66,7 +66,7 @@ class Definition:
 
 @dataclass
 class Import:
-    """A name that a line brings in: as it is written there, and what it stands for, if it is one of ours."""
+    """A name that a line imports: as it is written there, and what it names, if it is one of ours."""
 
     name: str
     place: str
@@ -145,13 +145,13 @@ class AnttFile:
         for name, target in imported(path):
             self.imports.append(Import(name, place, target))
 
-    def words(self):
+    def own_text(self):
         """All text outside of imports."""
         return "\n".join([*self.rest, *(one.text() for one in self.definitions)])
 
 
 def imported(path):
-    """The names that an import of the logic brings in, each with what it stands for."""
+    """The names that an import of the logic has, each with what it names."""
     match = re.match(r"([\w.]+?)\.\{(.*)\}$", path, re.S)
     if not match:
         whole, _, other = path.partition(" as ")
@@ -168,19 +168,19 @@ def target_of(path, name):
     return (*match.groups(), name) if match else ()
 
 
-def stands_in(name, words, text):
-    """Whether a name stands in a text, whose words are known: of an operator each of its parts has to."""
+def is_named_in(name, names, text):
+    """Whether a text has a name; the names in it are given. Of an operator it has to have each part."""
     if "◌" not in name:
-        return name in words if re.fullmatch(NAME, name) else name in text
+        return name in names if re.fullmatch(NAME, name) else name in text
     if name in text or name == "◌>>=◌" and (re.search(r"\bdo\b", text) or "←" in text):
         return True
-    return all(f" {part}" in text or f"{part} " in text or part in words for part in name.split("◌") if part)
+    return all(f" {part}" in text or f"{part} " in text or part in names for part in name.split("◌") if part)
 
 
-def words_of(text):
-    """The words of a text: of a path its first word, and its first two joined."""
+def names_in(text):
+    """The names in a text: of a path its first part, and its first two joined."""
     found = set()
-    for path in WORD.findall(text):
+    for path in PATH.findall(text):
         parts = path.split(".")
         found.add(parts[0])
         found.add(".".join(parts[:2]))
@@ -189,19 +189,19 @@ def words_of(text):
 
 def cited(text, imports, of_name):
     """What a text cites: definitions of its own file, and keys of imported ones."""
-    words, found = words_of(text), []
-    found += [one.key for name, one in of_name.items() if stands_in(name, words, text)]
+    names, found = names_in(text), []
+    found += [one.key for name, one in of_name.items() if is_named_in(name, names, text)]
     for one in imports:
-        if one.target and one.target[3] and stands_in(one.name, words, text):
+        if one.target and one.target[3] and is_named_in(one.name, names, text):
             found.append(one.target)
         elif one.target:
-            inner = {word.split(".")[1] for word in words if word.startswith(one.name + ".") and "." in word}
+            inner = {it.split(".")[1] for it in names if it.startswith(one.name + ".") and "." in it}
             found += [(*one.target[:3], name) for name in inner]
     return found
 
 
 class RustFile:
-    """A file of code: its text, and its imports, each with the text in which it has to stand."""
+    """A file of code: its text, and its imports, each with the text in which it has to be."""
 
     def __init__(self, top, crate, path):
         self.crate, self.path = crate, os.path.relpath(path, top)
@@ -315,24 +315,24 @@ def functions_of_traits(tree):
 
 
 def is_used_in_code(name, text, traits):
-    """Whether an imported name of the code stands in a text without imports, or is that of a trait that is called."""
+    """Whether an imported name of the code is in a text without imports, or is that of a trait that is called."""
     if re.search(rf"\b{re.escape(name)}\b", text) or name in TRAITS_OF_STD:
         return True
     return any(re.search(rf"(?:\.|::){function}\b", text) for function in traits.get(name) or [])
 
 
 def unused_imports(tree):
-    """The imported names that do not stand where they are imported."""
+    """The imported names that are not used where they are imported."""
     found, traits = [], functions_of_traits(tree)
     for file in tree.antt:
-        text = file.words()
-        words = words_of(text)
-        found += [one for one in file.imports if not stands_in(one.name, words, text)]
+        text = file.own_text()
+        names = names_in(text)
+        found += [one for one in file.imports if not is_named_in(one.name, names, text)]
     for file in tree.rust:
         for one, is_ghost, scope in file.imports:
             if is_ghost:
                 text = ghost_text(scope)
-                is_used = stands_in(one.name, words_of(text), text)
+                is_used = is_named_in(one.name, names_in(text), text)
             else:
                 is_used = is_used_in_code(one.name, without_uses(scope), traits)
             if not is_used:
@@ -346,7 +346,7 @@ class Function:
     place: str
     crate: str
     is_public: bool
-    own: Counter  # how often each word stands in it
+    own: Counter  # how often each name is in it
 
 
 def functions_of(file, text, start, trait=""):
@@ -360,23 +360,23 @@ def functions_of(file, text, start, trait=""):
             before = file.text[:place].rstrip().split("\n")
             attributes = [line for line in before[-6:] if line.strip().startswith("#[")]
             if not any("test" in line for line in attributes):
-                words = Counter(re.findall(r"\w+", sources.blanked(item.text)))
+                names = Counter(re.findall(r"\w+", sources.blanked(item.text)))
                 is_public = item.is_public or bool(trait)
                 number = file.text[:place].count("\n") + 1
-                yield Function(item.name, f"{file.path}:{number}", file.crate, is_public, words)
+                yield Function(item.name, f"{file.path}:{number}", file.crate, is_public, names)
 
 
 def unused_functions(tree):
-    """The functions whose names stand nowhere but in themselves, and how many were looked at."""
-    words = {}
+    """The functions whose names are nowhere but in themselves, and how many were looked at."""
+    names = {}
     for file in tree.rust:
         text = re.sub(r"\bpub use [^;]*;", " ", file.blank)
-        words.setdefault(file.crate, Counter()).update(re.findall(r"\w+", text))
-    everywhere = sum(words.values(), Counter())
+        names.setdefault(file.crate, Counter()).update(re.findall(r"\w+", text))
+    everywhere = sum(names.values(), Counter())
     functions = [one for file in tree.rust for one in functions_of(file, file.text, 0)]
     found = []
     for one in functions:
-        seen = everywhere if one.is_public else words[one.crate]
+        seen = everywhere if one.is_public else names[one.crate]
         others = sum(1 for it in functions if it.name == one.name and (one.is_public or it.crate == one.crate)) - 1
         if seen[one.name] - one.own[one.name] - others <= 0:
             found.append(one)

@@ -3,16 +3,16 @@
 
 A wrong body is a file like a must-fail edit, with one line more. `refused: FUNCTION` names the function
 whose proof has to fail, by its path below the crate, as a check prints it. `file: FILE` and pairs of `old:
-TEXT` and `new: TEXT` change the code; each TEXT stands in the file once. `alone: WHY` keeps it apart from
-others, as where the proofs of several functions read what it changes.
+TEXT` and `new: TEXT` change the code; each TEXT is in the file once. `alone: WHY` keeps it apart from
+others, for example where the proofs of several functions read what it changes.
 
 `rt` tries each must-fail edit by a check of the crate. Here one check tries many: a proof reads of other
-functions their contracts alone, so wrong bodies of several functions stand in one copy of the crate, and
+functions their contracts alone, so wrong bodies of several functions are put in one copy of the crate, and
 the check says of each function whether it is refused. What fails only because it calls another is not
 judged, and is tried again without it.
 
-The status is 0 where each wrong body is refused, 1 where one is not or there is none, and 2 where the words
-name no crate or the kit is not the one that this script was written for. The last line is `N passed, M
+The status is 0 where each wrong body is refused, 1 where one is not or there is none, and 2 where an argument
+names no crate or the kit is not the one that this script was written for. The last line is `N passed, M
 failed`, as of `rt ci`.
 """
 
@@ -31,7 +31,7 @@ import tempfile
 import sources
 
 # What `rt version` prints of the kit that this script was written for: it calls functions of that kit, and reads the
-# words that its check prints for people.
+# lines that its check prints for people.
 KIT_ID = "rattle-kit-13b logic dac8208d650f15bf"
 KIT_NAMES = ("PARTS", "RATTLE", "guarded", "crates_below", "Crate.words", "Crate.below", "Crate.build_rlib")
 # The line of a function that was not proved for what is written in it, and not for what it calls.
@@ -109,7 +109,7 @@ def bodies_of(crate_folder):
 
 
 def changed(texts, body, folder):
-    """Returns the texts with the wrong body in them, or None where a text does not stand there once."""
+    """Returns the texts with the wrong body in them, or None where a text is not there just once."""
     texts = dict(texts)
     for file, old, new in body.changes:
         if file not in texts:
@@ -145,10 +145,10 @@ def check(rtlib, crate, texts, functions, kept):
         for file, text in texts.items():
             with open(f"{room}/{file}", "w", encoding="utf-8") as it:
                 it.write(text)
-        words = [rtlib.RATTLE, "check", *crate.words(["--jobs", "1"], keeps=False), "--incremental", kept]
-        words += [word for function in functions for word in ("--only", function)]
+        command = [rtlib.RATTLE, "check", *crate.words(["--jobs", "1"], keeps=False), "--incremental", kept]
+        command += [it for function in functions for it in ("--only", function)]
         how = {"cwd": room, "stdin": subprocess.DEVNULL, "stdout": subprocess.PIPE, "stderr": subprocess.STDOUT}
-        return subprocess.run([*rtlib.guarded(), *words], errors="replace", **how).stdout
+        return subprocess.run([*rtlib.guarded(), *command], errors="replace", **how).stdout
 
 
 def verdict(crate, said, function):
@@ -172,9 +172,9 @@ def judged(crate, body, said):
     """Returns whether each function of a wrong body is refused, or None where one fails only by what it calls."""
     answers = []
     for function in body.functions:
-        words = verdict(crate, said, function)
-        is_proved = not words or words.startswith("proved")
-        answers.append(False if is_proved else bool(REFUSED.match(words)) or None)
+        line = verdict(crate, said, function)
+        is_proved = not line or line.startswith("proved")
+        answers.append(False if is_proved else bool(REFUSED.match(line)) or None)
     return False if False in answers else None if None in answers else True
 
 

@@ -1,4 +1,4 @@
-"""How the tools start and end: their words, standard output, messages and statuses."""
+"""How the tools start and end: their arguments, standard output, messages and statuses."""
 
 import argparse
 import os
@@ -6,7 +6,7 @@ import sys
 from io import RawIOBase, TextIOWrapper
 from typing import BinaryIO, Callable, NoReturn, Optional, TextIO
 
-BAD_WORDS = 2
+BAD_ARGUMENTS = 2
 INTERRUPTED = 130
 
 
@@ -15,18 +15,18 @@ class ToolError(Exception):
 
 
 class Parser(argparse.ArgumentParser):
-    """A parser that ends with status 2 for bad words even where standard error takes no message."""
+    """A parser that ends with status 2 for bad arguments even where standard error takes no message."""
 
     def error(self, message: str) -> NoReturn:
         try:
             super().error(message)
         except OSError:
             _drop(sys.stderr)
-            sys.exit(BAD_WORDS)
+            sys.exit(BAD_ARGUMENTS)
 
 
 def argument_parser(tool: str, description: str) -> argparse.ArgumentParser:
-    """A parser of a tool's words, without abbreviations; it ends with status 2 and the usage for bad words."""
+    """A parser of a tool's arguments, without abbreviations; it ends with status 2 and the usage for bad arguments."""
     layout = argparse.RawDescriptionHelpFormatter
     return Parser(prog=tool, description=description, formatter_class=layout, allow_abbrev=False)
 
@@ -69,7 +69,7 @@ def main_of(tool: str, function: Callable[[], Optional[int]]) -> NoReturn:
 
 
 def _status_of(function: Callable[[], Optional[int]]) -> int:
-    """The status of a tool, which argparse ends by SystemExit after a help text or bad words."""
+    """The status of a tool, which argparse ends by SystemExit after a help text or bad arguments."""
     try:
         return function() or 0
     except SystemExit as end:

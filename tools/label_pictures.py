@@ -363,13 +363,13 @@ def _line_with_euros(line: str) -> Picture:
     return beside(parts, centred=False)
 
 
-def _by_pbmtext(text: str, *words: str) -> Picture:
+def _by_pbmtext(text: str, *arguments: str) -> Picture:
     """A text as pbmtext draws it."""
     try:
         data = text.encode("utf-8")
     except UnicodeEncodeError as error:
         raise PictureError(f"the text is not UTF-8: byte 0x{ord(text[error.start]) & 0xFF:02x}") from error
-    command = ["pbmtext", "-nomargins", "-wchar", *words]
+    command = ["pbmtext", "-nomargins", "-wchar", *arguments]
     try:
         ran = subprocess.run(command, input=data, capture_output=True, env={**os.environ, "LC_ALL": "C.UTF-8"})
     except FileNotFoundError as error:
@@ -404,7 +404,7 @@ def pictures_of(path: Optional[str]) -> Iterator[Picture]:
 
 
 def numbered_pictures_of(path: Optional[str]) -> Iterator[tuple[str, Picture]]:
-    """The same, each picture with the words that name it in a message: "FILE: label 3"."""
+    """The same, each picture with the name that messages give it in a message: "FILE: label 3"."""
     name = STANDARD_INPUT if path is None or path == "-" else path
     for number, picture in enumerate(pictures_of(path), 1):
         yield f"{name}: label {number}", picture

@@ -22,12 +22,12 @@ sources = importlib.import_module("sources")
 OF_THE_SYSTEM = "bash env dirname realpath mktemp rm sed awk cat grep head cut true".split()
 
 
-def run(script, *words, **environment):
+def run(script, *arguments, **environment):
     """A script's status and all that it prints."""
     path = os.path.join(SCRIPTS, script)
     command = [sys.executable, path] if script.endswith(".py") else [shutil.which("bash"), path]
     how = {"stdin": subprocess.DEVNULL, "stdout": subprocess.PIPE, "stderr": subprocess.STDOUT, "text": True}
-    ran = subprocess.run([*command, *words], env={**os.environ, **environment}, **how)
+    ran = subprocess.run([*command, *arguments], env={**os.environ, **environment}, **how)
     return ran.returncode, ran.stdout
 
 
@@ -62,8 +62,8 @@ class InFolder(unittest.TestCase):
         return self.path("bin")
 
 
-class Words(unittest.TestCase):
-    """Help ends with status 0 and an unknown word with usage and status 2, in each script."""
+class Arguments(unittest.TestCase):
+    """Help ends with status 0 and an unknown argument with usage and status 2, in each script."""
 
     def names(self):
         own = ["believed.py", "wrong_bodies.py", "read_back.py", "same_modules.py", "unused.py", "contracts.py"]
@@ -107,7 +107,7 @@ pub(crate) trait Named {
 
 
 class Sources(unittest.TestCase):
-    """Items are found by their brackets, whatever stands in comments, texts and characters."""
+    """Items are found by their brackets, whatever is in comments, texts and characters."""
 
     def test_items(self):
         found = [(item.kind, item.name, item.is_public) for item in sources.items_of(CODE)]
@@ -251,8 +251,8 @@ class WrongBodies(InFolder):
 class Skipped(InFolder):
     """A script that can try nothing, for want of a tool, says which one and ends with 77."""
 
-    def assert_skipped(self, tool, script, *words):
-        status, said = run(script, *words, PATH=self.bare_path())
+    def assert_skipped(self, tool, script, *arguments):
+        status, said = run(script, *arguments, PATH=self.bare_path())
         self.assertEqual((script, status), (script, 77), said)
         self.assertRegex(said, rf"skipped, nothing was .*: not installed: .*{tool}")
 
@@ -276,7 +276,7 @@ class Skipped(InFolder):
 
 
 VALGRIND = """#!/usr/bin/env bash
-# Stands in for valgrind: each line of the last word takes EACH instructions, and the run one write for a line.
+# Stands in for valgrind: each line of the last argument takes EACH instructions, and the run one write for a line.
 for last in "$@"; do :; done
 lines=$(grep -c . "$last")
 if [[ $* == *--trace-syscalls* ]]; then
@@ -309,8 +309,8 @@ class Instructions(InFolder):
         return self.table
 
     def check(self, **more):
-        words = ("--check", "--table", self.path("table.md"), self.program)
-        return run("instructions.sh", *words, **self.environment, **more)
+        arguments = ("--check", "--table", self.path("table.md"), self.program)
+        return run("instructions.sh", *arguments, **self.environment, **more)
 
     def test_as_in_the_table(self):
         status, said = self.check()
@@ -592,19 +592,21 @@ class Glossary(InFolder):
 
 
 class PlainWords(InFolder):
-    """Words that prose avoids are found in pages and comments, and not in code."""
+    """Words that prose avoids are found in documents and comments, and not in code."""
 
-    def check(self, name, text, folder="."):
+    def check(self, name, text, *folders):
         write(self.path(*name.split("/")), text)
-        return run("plain_words.py", "--top", self.folder, "--check", folder)
+        return run("plain_words.py", "--top", self.folder, "--check", *folders)
 
     def test_plain(self):
         self.assertEqual(self.check("docs/A.md", "At least one line is drawn.\n"), (0, "1 files, 0 found\n"))
 
-    def test_in_a_page(self):
-        status, said = self.check("docs/A.md", "One.\nThe rule stands here.\n")
-        self.assertEqual((status, said.split("\n")[-2]), (1, "1 files, 1 found"))
-        self.assertIn("docs/A.md:2: `stands`, write: is", said)
+    def test_in_documents(self):
+        for name in ("docs/A.md", "docs/DEFINITIONS.md", "README.md", "crates/a/README.md", "man/a.1"):
+            with self.subTest(name):
+                status, said = self.check(name, "One.\nThe rule stands here.\n", name)
+                self.assertEqual((status, said.split("\n")[-2]), (1, "1 files, 1 found"))
+                self.assertIn(f"{name}:2: `stands`, write: is", said)
 
     def test_over_a_line_end(self):
         self.assertIn("docs/A.md:1: `the least`", self.check("docs/A.md", "Under the\nleast penalty.\n")[1])
@@ -615,13 +617,25 @@ class PlainWords(InFolder):
     def test_in_comments(self):
         for name, text in (
             ("crates/a/src/a.rt", "fn a() {} // it answers `Err`\n"),
+            ("crates/a/src/b.rt", "/// What it comes to.\npub fn b() {}\n"),
+            ("crates/a/src/lib.rt", "//! The least penalty.\n"),
             ("crates/a/specs/A.antt", "-- the parity of it\nx : Type 0\n"),
             ("scripts/a.py", "x = 1  # so many\n"),
             ("scripts/b.py", 'def f():\n    """What it tells."""\n'),
+            ("scripts/c.sh", "ls # it is told\n"),
+            ("scripts/d.txt", "# What stands here.\n"),
             ("tools/a", "#!/bin/sh\n# it comes to this\n"),
+            ("tools/b", "#!/usr/bin/env python3\n# the mend\n"),
+            ("completions/a.bash", "# What it tells.\n"),
+            (".ci/run", "#!/usr/bin/env bash\n# the merge gate stands\n"),
         ):
             with self.subTest(name):
-                self.assertEqual(self.check(name, text, name)[0], 1)
+                status, said = self.check(name, text, name)
+                self.assertEqual((status, said.split("\n")[-2]), (1, "1 files, 1 found"))
+                self.assertIn(f"{name}:", said)
+        self.assertEqual(
+            run("plain_words.py", "--top", self.folder, "--check")[1].split("\n")[-2], "12 files, 12 found"
+        )
 
     def test_in_code(self):
         for name, text in (
@@ -632,13 +646,26 @@ class PlainWords(InFolder):
             with self.subTest(name):
                 self.assertEqual(self.check(name, text, name)[0], 0)
 
+    def test_words_with_a_right_meaning(self):
+        for text, status in (
+            ("Some answers are in files.\n", 0),
+            ("It is what a run answers.\n", 1),
+            ("It runs. Answers whether it did.\n", 1),
+            ("Status 2: `labels: bad words`.\n", 0),
+            ("Status 2: bad words.\n", 1),
+            ("At least version 2.\n", 0),
+            ("The room for a row.\n", 0),
+        ):
+            with self.subTest(text):
+                self.assertEqual(self.check("docs/A.md", text)[0], status)
+
     def test_without_check_it_only_lists(self):
         write(self.path("README.md"), "It stands here.\n")
         status, said = run("plain_words.py", "--top", self.folder)
         self.assertEqual((status, "1 files, 1 found" in said), (0, True))
 
     def test_nothing_to_read(self):
-        self.assertEqual(self.check("data.txt", "")[0], 1)
+        self.assertEqual(self.check("data.txt", "It stands.\n"), (1, "0 files, 0 found\n"))
 
     def test_folder_that_is_not_there(self):
         self.assertEqual(run("plain_words.py", "--check", "no/such/folder")[0], 2)

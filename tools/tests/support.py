@@ -30,7 +30,7 @@ Finished = subprocess.CompletedProcess
 
 def run(
     tool: Union[str, Path],
-    *words: Union[str, bytes, Path],
+    *arguments: Union[str, bytes, Path],
     input: bytes = b"",
     locale: str = "C.UTF-8",
     cwd: Union[str, Path, None] = None,
@@ -38,7 +38,7 @@ def run(
     """Runs a tool of tools/ (or a program by its whole path) and returns its status, standard output and error."""
     program = TOOLS / tool
     return subprocess.run(
-        [*([sys.executable] if program.parent == TOOLS else []), str(program), *words],
+        [*([sys.executable] if program.parent == TOOLS else []), str(program), *arguments],
         input=input,
         capture_output=True,
         cwd=cwd,
@@ -47,19 +47,19 @@ def run(
     )
 
 
-def run_here(tool: str, *words: str, input: bytes = b"") -> "Finished[bytes]":
+def run_here(tool: str, *arguments: str, input: bytes = b"") -> "Finished[bytes]":
     """Runs a tool of tools/ in this process: the same result as of `run`, for tests of hundreds of runs."""
     source = io.TextIOWrapper(io.BytesIO(input))
     out, err = io.TextIOWrapper(io.BytesIO()), io.TextIOWrapper(io.BytesIO(), "utf-8", "backslashreplace")
     status = 0
-    with mock.patch.multiple(sys, argv=[tool, *words], stdin=source, stdout=out, stderr=err):
+    with mock.patch.multiple(sys, argv=[tool, *arguments], stdin=source, stdout=out, stderr=err):
         try:
             runpy.run_path(str(TOOLS / tool), run_name="__main__")
         except SystemExit as end:
             status = int(end.code or 0)
         out.flush()
         err.flush()
-    return Finished([tool, *words], status, out.buffer.getvalue(), err.buffer.getvalue())
+    return Finished([tool, *arguments], status, out.buffer.getvalue(), err.buffer.getvalue())
 
 
 def environment(locale: str = "C.UTF-8") -> dict:

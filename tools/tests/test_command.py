@@ -14,7 +14,7 @@ SMALL = Picture(3, 2, [b"\xa0", b"\x40"])
 PLAIN, RAW = plain(SMALL), raw(SMALL)
 FULL = "standard output: No space left on device"
 
-# words and an input with which each tool writes a message and ends with status 1
+# arguments and an input with which each tool writes a message and ends with status 1
 COMPLAINING = {
     "label-caption": (("text",), b"no picture"),
     "label-escpos": ((), b"no picture"),
@@ -35,14 +35,14 @@ sys.path.insert(0, {tools!r})
 from label_command import argument_parser, main_of, standard_output
 from label_pictures import PictureError, pictures_of, write_raw
 def function():
-    words = argument_parser("small-tool", "A tool for this test.").parse_args()
+    arguments = argument_parser("small-tool", "A tool for this test.").parse_args()
     {body}
 main_of("small-tool", function)
 """
 
-    def small_tool(self, body: str, *words: str, shell: str = '"$@"', data: bytes = b"") -> tuple[int, bytes, str]:
+    def small_tool(self, body: str, *arguments: str, shell: str = '"$@"', data: bytes = b"") -> tuple[int, bytes, str]:
         script = self.SCRIPT.format(tools=str(support.TOOLS), body=body)
-        command = ["bash", "-c", shell, "sh", shutil.which("python3") or "", "-c", script, *words]
+        command = ["bash", "-c", shell, "sh", shutil.which("python3") or "", "-c", script, *arguments]
         done = subprocess.run(command, input=data, capture_output=True, env=support.environment("C"))
         return done.returncode, done.stdout, done.stderr.decode()
 
@@ -57,12 +57,12 @@ main_of("small-tool", function)
         folder = "small-tool: /tmp: Is a directory\n"
         self.assertEqual(self.small_tool("next(pictures_of('/tmp'))"), (1, b"", folder))
 
-    def test_words(self) -> None:
+    def test_arguments(self) -> None:
         status, out, message = self.small_tool("pass", "--help")
         self.assertEqual((status, message), (0, ""))
         self.assertIn(b"A tool for this test.", out)
-        for word in ("--wrong", "--hel"):
-            status, out, message = self.small_tool("pass", word)
+        for argument in ("--wrong", "--hel"):
+            status, out, message = self.small_tool("pass", argument)
             self.assertEqual((status, out), (2, b""))
             self.assertIn("usage: small-tool", message)
 
@@ -122,10 +122,10 @@ main_of("small-tool", function)
 
 
 class EveryTool(unittest.TestCase):
-    def ended(self, tool: str, words: tuple, redirection: str, data: bytes = b"") -> tuple[int, bytes, list[str]]:
+    def ended(self, tool: str, arguments: tuple, redirection: str, data: bytes = b"") -> tuple[int, bytes, list[str]]:
         """The status, standard output and messages of a tool, run by a shell with a redirection."""
         done = subprocess.run(
-            ["sh", "-c", f'"$@" {redirection}', "sh", tool, *words],
+            ["sh", "-c", f'"$@" {redirection}', "sh", tool, *arguments],
             input=data,
             capture_output=True,
             env=support.environment(),
@@ -137,15 +137,15 @@ class EveryTool(unittest.TestCase):
         self.assertEqual(sorted(COMPLAINING), sorted(path.name for path in support.TOOLS.glob("label-*")))
 
     def test_a_message(self) -> None:
-        for tool, (words, data) in COMPLAINING.items():
-            status, out, messages = self.ended(tool, words, "", data)
+        for tool, (arguments, data) in COMPLAINING.items():
+            status, out, messages = self.ended(tool, arguments, "", data)
             self.assertEqual((status, out), (1, b""), tool)
             self.assertTrue(messages and messages[0].startswith(f"{tool}: "), messages)
 
     def test_messages_that_nobody_takes(self) -> None:
         for redirection in ("2> /dev/full", "2>&-"):
-            for tool, (words, data) in COMPLAINING.items():
-                self.assertEqual(self.ended(tool, words, redirection, data), (1, b"", []), (tool, redirection))
+            for tool, (arguments, data) in COMPLAINING.items():
+                self.assertEqual(self.ended(tool, arguments, redirection, data), (1, b"", []), (tool, redirection))
                 self.assertEqual(self.ended(tool, ("--wrong",), redirection), (2, b"", []), (tool, redirection))
 
     def test_a_help_text_that_nobody_takes(self) -> None:

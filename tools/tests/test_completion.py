@@ -1,4 +1,4 @@
-"""The completion for bash: what it proposes for the words so far."""
+"""The completion for bash: what it proposes for the arguments so far."""
 
 import re
 import shlex
@@ -11,13 +11,13 @@ COMPLETION = support.TOP / "completions/labels.bash"
 
 
 class Completion(unittest.TestCase):
-    def proposed(self, *words: str) -> list[str]:
-        """What bash proposes for the last of these words."""
+    def proposed(self, *arguments: str) -> list[str]:
+        """What bash proposes for the last of these arguments."""
         script = f"""
             complete() {{ :; }}; compopt() {{ :; }}
             source {shlex.quote(str(COMPLETION))}
-            COMP_WORDS=({shlex.join(words)}) COMP_CWORD={len(words) - 1} COMPREPLY=()
-            {'_labels' if words[0] == 'labels' else '_label_tool'} {words[0]}
+            COMP_WORDS=({shlex.join(arguments)}) COMP_CWORD={len(arguments) - 1} COMPREPLY=()
+            {'_labels' if arguments[0] == 'labels' else '_label_tool'} {arguments[0]}
             printf '%s\\n' "${{COMPREPLY[@]}}"
         """
         done = subprocess.run(["bash", "-c", script], capture_output=True, text=True, env=support.environment())
@@ -31,8 +31,8 @@ class Completion(unittest.TestCase):
         self.assertEqual(self.proposed("labels", "--m"), ["--mask", "--min-version"])
 
     def test_values_of_labels(self) -> None:
-        for words in (("--level", ""), ("--level", "="), ("--level", "=", "")):
-            self.assertEqual(self.proposed("labels", *words), ["H", "L", "M", "Q"])
+        for arguments in (("--level", ""), ("--level", "="), ("--level", "=", "")):
+            self.assertEqual(self.proposed("labels", *arguments), ["H", "L", "M", "Q"])
         self.assertEqual(self.proposed("labels", "--format", "a"), ["ascii"])
         self.assertEqual(self.proposed("labels", "--scale", ""), list("12345678"))
         self.assertEqual(self.proposed("labels", "--mask", ""), list("01234567"))

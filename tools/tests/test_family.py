@@ -1,4 +1,4 @@
-"""What label-zpl, label-escpos, label-fits and label-caption have in common: words, files, whole pictures, endings."""
+"""What label-zpl, label-escpos, label-fits and label-caption have in common: arguments, files, pictures, endings."""
 
 import select
 import subprocess
@@ -28,29 +28,29 @@ def labels_in(tool: str, output: bytes) -> int:
     return len(list(read_pictures(BytesIO(output), tool))) if output else 0
 
 
-class Words(unittest.TestCase):
+class Arguments(unittest.TestCase):
     def test_help(self) -> None:
         for tool in EVERY_TOOL:
-            for word in ("--help", "-h"):
-                done = support.run_here(tool, word)
+            for argument in ("--help", "-h"):
+                done = support.run_here(tool, argument)
                 self.assertEqual((done.returncode, done.stderr), (0, b""), tool)
                 self.assertTrue(done.stdout.startswith(f"usage: {tool} ".encode()), done.stdout)
 
-    def test_bad_words(self) -> None:
-        for tool, words in TOOLS.items():
-            for bad in ((*words, "--wrong"), (*words, "one.pbm", "two.pbm")):
+    def test_bad_arguments(self) -> None:
+        for tool, arguments in TOOLS.items():
+            for bad in ((*arguments, "--wrong"), (*arguments, "one.pbm", "two.pbm")):
                 self.refused(tool, *bad)
-        for words in ((), ("300",), ("300", "60"), ("x", "60", "40"), ("300", "-1", "40"), ("300", "60", "0")):
-            self.refused("label-fits", *words)
-        for words in (("1e3", "60", "40"), ("300", "60", ""), ("inf", "60", "40"), ("300", "nan", "40")):
-            self.refused("label-fits", *words)
+        for arguments in ((), ("300",), ("300", "60"), ("x", "60", "40"), ("300", "-1", "40"), ("300", "60", "0")):
+            self.refused("label-fits", *arguments)
+        for arguments in (("1e3", "60", "40"), ("300", "60", ""), ("inf", "60", "40"), ("300", "nan", "40")):
+            self.refused("label-fits", *arguments)
         self.refused("label-caption")
-        for words in ((), ("one",), ("one", "two", "three")):
-            self.refused("label-lines", *words)
+        for arguments in ((), ("one",), ("one", "two", "three")):
+            self.refused("label-lines", *arguments)
 
-    def refused(self, tool: str, *words: str) -> None:
-        done = support.run_here(tool, *words, input=TWO)
-        self.assertEqual((done.returncode, done.stdout), (2, b""), (tool, words))
+    def refused(self, tool: str, *arguments: str) -> None:
+        done = support.run_here(tool, *arguments, input=TWO)
+        self.assertEqual((done.returncode, done.stdout), (2, b""), (tool, arguments))
         self.assertIn(f"usage: {tool} ".encode(), done.stderr)
 
 
@@ -59,9 +59,9 @@ class Pictures(unittest.TestCase):
         support.needs("pbmtext")
 
     def test_plain_and_raw_give_the_same(self) -> None:
-        for tool, words in TOOLS.items():
+        for tool, arguments in TOOLS.items():
             outputs = {
-                support.run(tool, *words, input=data).stdout
+                support.run(tool, *arguments, input=data).stdout
                 for data in (
                     TWO,
                     raw(BARS) + raw(SQUARE),
@@ -77,37 +77,37 @@ class Pictures(unittest.TestCase):
         with tempfile.TemporaryDirectory() as folder:
             path = Path(folder, "zwei Käse.pbm")
             path.write_bytes(TWO)
-            for tool, words in TOOLS.items():
+            for tool, arguments in TOOLS.items():
                 for locale in support.LOCALES:
-                    from_file = support.run(tool, *words, path, locale=locale)
-                    from_input = support.run(tool, *words, input=TWO, locale=locale)
+                    from_file = support.run(tool, *arguments, path, locale=locale)
+                    from_input = support.run(tool, *arguments, input=TWO, locale=locale)
                     self.assertEqual((from_file.returncode, from_file.stderr), (0, b""), tool)
                     self.assertEqual(from_file.stdout, from_input.stdout, tool)
 
     def test_a_missing_file(self) -> None:
-        for tool, words in TOOLS.items():
-            self.ends_with(tool, words, ("nothing.pbm",), b"", "nothing.pbm: No such file or directory")
+        for tool, arguments in TOOLS.items():
+            self.ends_with(tool, arguments, ("nothing.pbm",), b"", "nothing.pbm: No such file or directory")
 
     def test_an_empty_input(self) -> None:
-        for tool, words in TOOLS.items():
-            self.ends_with(tool, words, (), b"", "standard input: no picture")
-            self.ends_with(tool, words, ("/dev/null",), b"", "/dev/null: no picture")
+        for tool, arguments in TOOLS.items():
+            self.ends_with(tool, arguments, (), b"", "standard input: no picture")
+            self.ends_with(tool, arguments, ("/dev/null",), b"", "/dev/null: no picture")
 
     def test_garbage(self) -> None:
-        for tool, words in TOOLS.items():
+        for tool, arguments in TOOLS.items():
             said = "label 1 is no PBM picture: it starts with 'ga', not with P1 or P4"
-            self.ends_with(tool, words, (), b"garbage\n", f"standard input: {said}")
+            self.ends_with(tool, arguments, (), b"garbage\n", f"standard input: {said}")
             said = "label 1 is no PBM picture: it starts with '##', not with P1 or P4"
-            self.ends_with(tool, words, (), b"  ##  ##\n", f"standard input: {said}")
+            self.ends_with(tool, arguments, (), b"  ##  ##\n", f"standard input: {said}")
 
-    def ends_with(self, tool: str, words: tuple, files: tuple, data: bytes, message: str) -> None:
-        done = support.run_here(tool, *words, *files, input=data)
+    def ends_with(self, tool: str, arguments: tuple, files: tuple, data: bytes, message: str) -> None:
+        done = support.run_here(tool, *arguments, *files, input=data)
         self.assertEqual((done.returncode, done.stdout), (1, b""), tool)
         self.assertEqual(support.messages(done), [f"{tool}: {message}"])
 
     def test_garbage_after_a_whole_picture(self) -> None:
-        for tool, words in TOOLS.items():
-            done = support.run(tool, *words, input=plain(BARS) + b"garbage")
+        for tool, arguments in TOOLS.items():
+            done = support.run(tool, *arguments, input=plain(BARS) + b"garbage")
             said = f"{tool}: standard input: label 2 is no PBM picture: it starts with 'ga', not with P1 or P4"
             self.assertEqual((done.returncode, support.messages(done)), (1, [said]))
             self.assertEqual(labels_in(tool, done.stdout), tool != "label-fits")
@@ -116,17 +116,17 @@ class Pictures(unittest.TestCase):
         with tempfile.TemporaryDirectory() as folder:
             path = Path(folder, "cut.pbm")
             path.write_bytes(TWO[:-4])
-            for tool, words in TOOLS.items():
-                done = support.run(tool, *words, path)
+            for tool, arguments in TOOLS.items():
+                done = support.run(tool, *arguments, path)
                 said = f"{tool}: {path}: label 2: row 3 of 3 is cut off"
                 self.assertEqual((done.returncode, support.messages(done)), (1, [said]))
                 self.assertEqual(labels_in(tool, done.stdout), tool != "label-fits")
 
 
 class Endings(unittest.TestCase):
-    def ended(self, tool: str, words: tuple, shell: str) -> tuple[int, str]:
+    def ended(self, tool: str, arguments: tuple, shell: str) -> tuple[int, str]:
         """The status and messages of a tool whose output goes elsewhere."""
-        command = ["bash", "-c", shell, "sh", tool, *words]
+        command = ["bash", "-c", shell, "sh", tool, *arguments]
         done = subprocess.run(command, input=TWO * 2000, capture_output=True, env=support.environment())
         return done.returncode, done.stderr.decode()
 
@@ -163,8 +163,8 @@ class OneByOne(unittest.TestCase):
     def test_a_long_stream_is_not_held(self) -> None:
         limit = "ulimit -v 120000 && exec " + '"$@"'
         for tool in ("label-zpl", "label-escpos", "label-fits"):
-            words = ("2540", "99", "99") if tool == "label-fits" else ()
-            command = ["bash", "-c", limit, "sh", str(support.TOOLS / tool), *words]
+            arguments = ("2540", "99", "99") if tool == "label-fits" else ()
+            command = ["bash", "-c", limit, "sh", str(support.TOOLS / tool), *arguments]
             large = raw(Picture(4000, 4000, [b"\xf0" * 500] * 4000))
             with subprocess.Popen(command, stdin=subprocess.PIPE, stdout=subprocess.DEVNULL) as process:
                 for _ in range(70):

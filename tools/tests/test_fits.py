@@ -11,11 +11,11 @@ def said(number: int, size: str, paper: str) -> str:
 
 
 class Sizes(unittest.TestCase):
-    def fits(self, words: tuple[str, str, str], *pictures: Picture) -> tuple[int, list[str]]:
+    def fits(self, arguments: tuple[str, str, str], *pictures: Picture) -> tuple[int, list[str]]:
         """The status and the messages, the same for plain and raw pictures."""
         ends = []
         for write in (plain, raw):
-            done = support.run_here("label-fits", *words, input=b"".join(map(write, pictures)))
+            done = support.run_here("label-fits", *arguments, input=b"".join(map(write, pictures)))
             self.assertEqual(done.stdout, b"")
             ends.append((done.returncode, support.messages(done)))
         self.assertEqual(ends[0], ends[1])
@@ -29,10 +29,10 @@ class Sizes(unittest.TestCase):
 
     def test_a_label_as_large_as_the_paper(self) -> None:
         # 25.4 millimetres an inch, exactly: 300 dots at 300 dots an inch, and 8 dots a millimetre at 203.2
-        for words in (("300", "25.4", "50.8"), ("150", "50.8", "101.6"), ("203.2", "37.5", "75.000")):
+        for arguments in (("300", "25.4", "50.8"), ("150", "50.8", "101.6"), ("203.2", "37.5", "75.000")):
             fits, wide, high = blank(300, 600), blank(301, 600), blank(300, 601)
-            self.assertEqual(self.fits(words, fits), (0, []))
-            self.assertEqual([self.fits(words, one)[0] for one in (wide, high)], [1, 1])
+            self.assertEqual(self.fits(arguments, fits), (0, []))
+            self.assertEqual([self.fits(arguments, one)[0] for one in (wide, high)], [1, 1])
 
     def test_the_message_does_not_round_what_is_too_large(self) -> None:
         one = self.fits(("25400", "1", "1"), blank(1001, 1))

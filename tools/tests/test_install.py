@@ -19,10 +19,10 @@ class Installing(unittest.TestCase):
         self.addCleanup(folder.cleanup)
         self.folder = Path(folder.name)
 
-    def install(self, *words: Union[str, Path], program: Path, **more: str) -> "support.Finished[str]":
+    def install(self, *arguments: Union[str, Path], program: Path, **more: str) -> "support.Finished[str]":
         """Runs the installer, for which the program `labels` is this one, and the home a new folder."""
         environment = {**os.environ, "HOME": str(self.folder / "home"), "LABELS": str(program), **more}
-        return subprocess.run([str(INSTALLER), *words], capture_output=True, text=True, env=environment)
+        return subprocess.run([str(INSTALLER), *arguments], capture_output=True, text=True, env=environment)
 
     def test_what_is_installed_runs(self) -> None:
         prefix = self.folder / "a place"
@@ -87,12 +87,12 @@ class Installing(unittest.TestCase):
         self.assertEqual((done.returncode, done.stdout), (1, ""))
         self.assertIn(str(place), done.stderr)
 
-    def test_words(self) -> None:
+    def test_arguments(self) -> None:
         done = self.install("--help", program=Path("/bin/true"))
         self.assertEqual((done.returncode, done.stderr), (0, ""))
         self.assertTrue(done.stdout.startswith("usage: scripts/install.sh [PREFIX]\n"))
-        for words in (("--prefix",), ("one", "two")):
-            done = self.install(*words, program=Path("/bin/true"))
+        for arguments in (("--prefix",), ("one", "two")):
+            done = self.install(*arguments, program=Path("/bin/true"))
             said = "usage: scripts/install.sh [PREFIX]\n"
             self.assertEqual((done.returncode, done.stdout, done.stderr), (2, "", said))
 
@@ -102,8 +102,8 @@ class ShellScripts(unittest.TestCase):
         support.needs("shellcheck")
         scripts = [support.TOP / ".ci/run", *(support.TOP / "scripts").glob("*.sh")]
         scripts += [tool for tool in support.TOOLS.glob("label-*") if b"/bin/sh" in tool.read_bytes()[:20]]
-        for words in ([*scripts], ["--shell=bash", *(support.TOP / "completions").glob("*.bash")]):
-            done = subprocess.run(["shellcheck", *words], capture_output=True, text=True)
+        for arguments in ([*scripts], ["--shell=bash", *(support.TOP / "completions").glob("*.bash")]):
+            done = subprocess.run(["shellcheck", *arguments], capture_output=True, text=True)
             self.assertEqual((done.returncode, done.stdout), (0, ""))
 
 

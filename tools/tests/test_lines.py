@@ -78,8 +78,8 @@ class Files(unittest.TestCase):
 
     def test_missing_files(self) -> None:
         self.lines.write_bytes(b"")
-        for words in (("nothing.txt", str(self.lines)), (str(self.lines), "nothing.txt")):
-            done = support.run("label-lines", *words)
+        for arguments in (("nothing.txt", str(self.lines)), (str(self.lines), "nothing.txt")):
+            done = support.run("label-lines", *arguments)
             self.assertEqual((done.returncode, done.stdout), (1, b""))
             self.assertEqual(support.messages(done), ["label-lines: nothing.txt: No such file or directory"])
 

@@ -25,8 +25,8 @@ class Pages(unittest.TestCase):
     def test_mandoc_and_groff_find_nothing(self) -> None:
         support.needs("mandoc", "groff")
         for page in PAGES:
-            for words in (["mandoc", "-Tlint", "-W", "warning"], ["groff", "-ww", "-man", "-z"]):
-                done = subprocess.run([*words, str(page)], capture_output=True, text=True)
+            for arguments in (["mandoc", "-Tlint", "-W", "warning"], ["groff", "-ww", "-man", "-z"]):
+                done = subprocess.run([*arguments, str(page)], capture_output=True, text=True)
                 self.assertEqual(done.stdout + done.stderr, "", page)
 
     def test_each_tool_is_named_and_each_option_described(self) -> None:

@@ -80,7 +80,7 @@ def cropped(rows: Sequence[str]) -> List[str]:
 
 
 def program() -> int:
-    """Runs label-sheet in this process, with the words of sys.argv."""
+    """Runs label-sheet in this process, with the arguments of sys.argv."""
     loader = SourceFileLoader("label_sheet", str(support.TOOLS / "label-sheet"))
     module = types.ModuleType(loader.name)
     sys.modules[loader.name] = module
@@ -112,23 +112,23 @@ class SheetTest(unittest.TestCase):
         path.write_bytes(text.encode("utf-8", "surrogateescape"))
         return str(path)
 
-    def sheet(self, *words: str, lines: str = "", locale: str = "C.UTF-8", status: int = 0):
+    def sheet(self, *arguments: str, lines: str = "", locale: str = "C.UTF-8", status: int = 0):
         """Runs label-sheet and checks its status."""
-        done = run("label-sheet", *words, input=lines.encode(), locale=locale, cwd=self.folder)
+        done = run("label-sheet", *arguments, input=lines.encode(), locale=locale, cwd=self.folder)
         self.assertEqual(done.returncode, status, done.stderr.decode())
         return done
 
-    def pages(self, *words: str, lines: str, status: int = 0, locale: str = "C.UTF-8") -> List[List[str]]:
+    def pages(self, *arguments: str, lines: str, status: int = 0, locale: str = "C.UTF-8") -> List[List[str]]:
         """The pages that label-sheet writes, as rows of digits."""
-        done = self.sheet(*words, lines=lines, status=status, locale=locale)
+        done = self.sheet(*arguments, lines=lines, status=status, locale=locale)
         path = self.folder / "pages.pbm"
         path.write_bytes(done.stdout)
         with open(path, "rb") as stream:
             return [bits(page) for page in read_pictures(stream, "pages")]
 
-    def refused(self, *words: str, lines: str, status: int = 1) -> List[str]:
+    def refused(self, *arguments: str, lines: str, status: int = 1) -> List[str]:
         """The messages of a run that writes no page."""
-        done = self.sheet(*words, lines=lines, status=status)
+        done = self.sheet(*arguments, lines=lines, status=status)
         self.assertEqual(done.stdout, b"")
         return messages(done)
 
@@ -197,9 +197,17 @@ class Pages(SheetTest):
         self.assertFalse(any("1" in row for place in range(1, 24) for row in self.cell(page, place)))
 
     def test_labels_are_in_the_middle_of_their_cells(self) -> None:
-        words = ("--dpi", "203", "--columns", "2", "--rows", "2", "--cell", "30.5x20.25", "--page", "80x55")
+        arguments = ("--dpi", "203", "--columns", "2", "--rows", "2", "--cell", "30.5x20.25", "--page", "80x55")
         [page] = self.pages(
-            *words, "--margin", "5.5x4.75", "--gap", "2.5x3", "--", "--scale", "2", lines="qr A\nqr B\nqr C\nqr D\n"
+            *arguments,
+            "--margin",
+            "5.5x4.75",
+            "--gap",
+            "2.5x3",
+            "--",
+            "--scale",
+            "2",
+            lines="qr A\nqr B\nqr C\nqr D\n",
         )
         self.assertEqual((len(page[0]), len(page)), (639, 440))
         side = 21 * 2
@@ -222,13 +230,13 @@ class Refusals(SheetTest):
     def test_a_refused_line_leaves_its_cell_empty_and_the_captions_in_place(self) -> None:
         lines = f"ean13 {NUMBERS[0]}\n# a remark\nean13 4006381333932\n\nean13 {NUMBERS[2]}\nean13 {NUMBERS[3]}\n"
         captions = self.file("captions.txt", "pencil\nwrong\neraser\nruler\n")
-        for words, texts in (
+        for arguments, texts in (
             (("--captions", captions), ("pencil", "eraser", "ruler")),
             ((), NUMBERS[0:1] + NUMBERS[2:4]),
         ):
-            done = self.sheet(*A4, *words, *DRAW, lines=lines, status=1)
+            done = self.sheet(*A4, *arguments, *DRAW, lines=lines, status=1)
             self.assertEqual(messages(done), ["line 3: check digit is 2, should be 1"])
-            [page] = self.pages(*A4, *words, *DRAW, lines=lines, status=1)
+            [page] = self.pages(*A4, *arguments, *DRAW, lines=lines, status=1)
             for place, digits, text in zip((0, 2, 3), (NUMBERS[0], NUMBERS[2], NUMBERS[3]), texts):
                 self.assertEqual(self.codes([self.cell(page, place)]), [f"EAN-13:{digits}"])
                 self.assertEqual(self.caption(self.cell(page, place)), letters(text))
@@ -250,19 +258,19 @@ class Refusals(SheetTest):
         )
 
     def test_a_label_that_is_too_high_with_its_caption(self) -> None:
-        words = (*SMALL[:6], "--cell", "50x27", "--page", "100x35")
-        self.pages(*words, *DRAW, lines="qr A\n")
-        self.pages(*words, "--captions", self.file("empty.txt", "\n"), *DRAW, lines=f"ean13 {NUMBERS[0]}\n")
-        [first, last] = self.refused(*words, *DRAW, lines=f"ean13 {NUMBERS[0]}\n")
+        arguments = (*SMALL[:6], "--cell", "50x27", "--page", "100x35")
+        self.pages(*arguments, *DRAW, lines="qr A\n")
+        self.pages(*arguments, "--captions", self.file("empty.txt", "\n"), *DRAW, lines=f"ean13 {NUMBERS[0]}\n")
+        [first, last] = self.refused(*arguments, *DRAW, lines=f"ean13 {NUMBERS[0]}\n")
         self.assertIn("line 1: 40.30 by 29.29 mm", first)
         self.assertEqual(last, "label-sheet: no page is written")
 
     def test_one_millimetre_stays_free_inside_the_cell(self) -> None:
-        words = ("--dpi", "254", "--columns", "1", "--rows", "1", "--page", "90x90")
+        arguments = ("--dpi", "254", "--columns", "1", "--rows", "1", "--page", "90x90")
         # 145 modules of bars and 20 of quiet zones (ISO/IEC 15417), two pixels each, are 33 mm at 254 dots an inch
         for cell, status in (("35.1x7", 0), ("35.0x7", 0), ("34.9x7", 1), ("35x6.9", 1)):
             self.sheet(
-                *words,
+                *arguments,
                 "--cell",
                 cell,
                 "--",
@@ -320,15 +328,15 @@ class Refusals(SheetTest):
         )
 
     def test_files_that_are_not_there(self) -> None:
-        for words in ((*SMALL, "no-such-lines"), (*SMALL, "--captions", "no-such-captions")):
-            [message] = self.refused(*words, lines="qr A\n")
-            self.assertEqual(message, f"label-sheet: {words[-1]}: No such file or directory")
+        for arguments in ((*SMALL, "no-such-lines"), (*SMALL, "--captions", "no-such-captions")):
+            [message] = self.refused(*arguments, lines="qr A\n")
+            self.assertEqual(message, f"label-sheet: {arguments[-1]}: No such file or directory")
 
     def test_an_output_that_takes_nothing(self) -> None:
-        for words, unbuffered in (((), ""), ((), "1"), (("--pdf",), ""), (("--pdf",), "1")):
+        for arguments, unbuffered in (((), ""), ((), "1"), (("--pdf",), ""), (("--pdf",), "1")):
             environment = {**support.environment(), "PYTHONUNBUFFERED": unbuffered}
             with open("/dev/full", "wb") as full:
-                command = [str(support.TOOLS / "label-sheet"), *SMALL, *words]
+                command = [str(support.TOOLS / "label-sheet"), *SMALL, *arguments]
                 done = subprocess.run(command, input=b"qr A\n", stdout=full, stderr=subprocess.PIPE, env=environment)
             self.assertEqual(done.returncode, 1)
             self.assertEqual(messages(done)[:1], ["label-sheet: standard output: No space left on device"])
@@ -399,10 +407,10 @@ class Captions(SheetTest):
 
 
 class Pdf(SheetTest):
-    def pdf(self, count: int, *words: str) -> Path:
+    def pdf(self, count: int, *arguments: str) -> Path:
         lines = "".join(f"ean13 {number(place)}\n" for place in range(count))
         path = self.folder / "sheet.pdf"
-        path.write_bytes(self.sheet(*A4, "--pdf", *words, *DRAW, lines=lines).stdout)
+        path.write_bytes(self.sheet(*A4, "--pdf", *arguments, *DRAW, lines=lines).stdout)
         return path
 
     def test_pages_and_size(self) -> None:
@@ -462,7 +470,7 @@ class LabelsFails(SheetTest):
         os.environ["LABELS"] = str(path)
         self.addCleanup(os.environ.__setitem__, "LABELS", before)
 
-    def test_bad_words_for_labels(self) -> None:
+    def test_bad_arguments_for_labels(self) -> None:
         for options in (("--scale", "9"), ("--no-such-option",), ("--level",), ("--mask", "-1")):
             lines = self.refused(*SMALL, "--", *options, lines="qr A\n", status=2)
             self.assertEqual(lines[-1], "label-sheet: labels ended with status 2: no page is written")
@@ -507,11 +515,11 @@ class Recipes(SheetTest):
         rows = self.ROW.findall((support.TOP / "docs/RECIPES.md").read_text(encoding="utf-8"))
         self.assertGreater(len(rows), 4)
         for count, width, height, options, left, top, is_ean8, bars in rows:
-            words = dict(zip(options.split()[::2], options.split()[1::2]))
-            columns, lines = int(words["--columns"]), int(words["--rows"])
-            page = [float(side) for side in words.get("--page", "210x297").split("x")]
-            gap = float(words.get("--gap", "0x0").split("x")[0])
-            self.assertEqual((columns * lines, words["--cell"]), (int(count), f"{width}x{height}"))
+            arguments = dict(zip(options.split()[::2], options.split()[1::2]))
+            columns, lines = int(arguments["--columns"]), int(arguments["--rows"])
+            page = [float(side) for side in arguments.get("--page", "210x297").split("x")]
+            gap = float(arguments.get("--gap", "0x0").split("x")[0])
+            self.assertEqual((columns * lines, arguments["--cell"]), (int(count), f"{width}x{height}"))
             self.assertAlmostEqual((page[0] - columns * float(width) - (columns - 1) * gap) / 2, float(left), 3)
             self.assertAlmostEqual((page[1] - lines * float(height)) / 2, float(top), 3)
             line = "ean8 73513537" if is_ean8 else "ean13 4006381333931"
@@ -520,8 +528,8 @@ class Recipes(SheetTest):
                 self.sheet("--dpi", "300", *options.split(), *draw, lines=line, status=status)
 
 
-class Words(SheetTest):
-    def test_bad_words(self) -> None:
+class Arguments(SheetTest):
+    def test_bad_arguments(self) -> None:
         good = dict(zip(SMALL[::2], SMALL[1::2]))
         for name, value in (
             ("--dpi", "x"),
@@ -546,15 +554,15 @@ class Words(SheetTest):
             ("--gap", "0.1x0"),
             ("--page", "99999x99999"),
         ):
-            words = [word for pair in {**good, name: value}.items() for word in pair]
-            self.assert_usage(*words)
+            arguments = [argument for pair in {**good, name: value}.items() for argument in pair]
+            self.assert_usage(*arguments)
 
-    def test_words_that_are_missing_or_unknown(self) -> None:
+    def test_arguments_that_are_missing_or_unknown(self) -> None:
         self.assert_usage()
         self.assert_usage("x")
         self.assert_usage(*SMALL[2:])
         self.assert_usage(*SMALL[:6])
-        self.assert_usage(*SMALL, "--no-such-word")
+        self.assert_usage(*SMALL, "--no-such-argument")
         self.assert_usage(*SMALL, "--cap", "x")
         self.assert_usage(*SMALL, "one", "two")
         self.assert_usage(*SMALL, "one", "--", "two")
@@ -563,10 +571,10 @@ class Words(SheetTest):
         self.assert_usage(*SMALL, "--", "--help")
         self.assert_usage(*SMALL, "--", "-height", "20")
 
-    def assert_usage(self, *words: str) -> None:
-        """These words are refused with the usage and status 2; runs the program here, since there are many."""
+    def assert_usage(self, *arguments: str) -> None:
+        """These arguments are refused with the usage and status 2; runs the program here, since there are many."""
         said, written = io.StringIO(), io.StringIO()
-        with self.subTest(words=words), mock.patch.object(sys, "argv", ["label-sheet", *words]):
+        with self.subTest(arguments=arguments), mock.patch.object(sys, "argv", ["label-sheet", *arguments]):
             with contextlib.redirect_stderr(said), contextlib.redirect_stdout(written):
                 with self.assertRaises(SystemExit) as ended:
                     program()
@@ -575,17 +583,17 @@ class Words(SheetTest):
             self.assertTrue(first.startswith("usage: label-sheet --dpi N"), first)
             self.assertTrue(last.startswith("label-sheet: error: "), last)
 
-    def test_bad_words_end_with_status_2(self) -> None:
-        for words in (("x",), (*SMALL[:-1], "0x5"), (*SMALL, "--columns", "0")):
-            self.assertEqual(self.refused(*words, lines="qr A\n", status=2)[0][:26], "usage: label-sheet --dpi N")
+    def test_bad_arguments_end_with_status_2(self) -> None:
+        for arguments in (("x",), (*SMALL[:-1], "0x5"), (*SMALL, "--columns", "0")):
+            self.assertEqual(self.refused(*arguments, lines="qr A\n", status=2)[0][:26], "usage: label-sheet --dpi N")
 
     def test_the_grid_is_larger_than_the_page(self) -> None:
         *_, last = self.refused(*SMALL, "--margin", "0.1x0", lines="qr A\n", status=2)
         self.assertIn("margin, cells and gaps are 100.1 by 35 mm, and the page is 100 by 35 mm", last)
 
     def test_help(self) -> None:
-        for word in ("--help", "-h"):
-            done = self.sheet(word)
+        for argument in ("--help", "-h"):
+            done = self.sheet(argument)
             self.assertIn(b"--captions FILE", done.stdout)
             self.assertEqual(done.stderr, b"")
 

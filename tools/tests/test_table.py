@@ -34,7 +34,7 @@ class TableTest(unittest.TestCase):
     def check(
         self,
         table: Union[str, bytes],
-        words: Sequence[str],
+        arguments: Sequence[str],
         lines: Sequence[str] = (),
         problems: Sequence[str] = (),
         status: int = 0,
@@ -44,38 +44,38 @@ class TableTest(unittest.TestCase):
         data = table.encode() if isinstance(table, str) else table
         runs = [functools.partial(support.run, locale=locale) for locale in locales] or [support.run_here]
         for run in runs:
-            with self.subTest(run=run, table=data[:60], words=words):
-                done = run("label-table", *words, input=data)
+            with self.subTest(run=run, table=data[:60], arguments=arguments):
+                done = run("label-table", *arguments, input=data)
                 self.assertEqual(support.messages(done), [f"label-table: {problem}" for problem in problems])
                 self.assertEqual(done.stdout.decode().splitlines(), list(lines))
                 self.assertEqual(done.returncode, status)
 
-    def check_cells(self, words: Sequence[str], wanted: Dict[str, str]) -> None:
+    def check_cells(self, arguments: Sequence[str], wanted: Dict[str, str]) -> None:
         """A column of cells, each in quotes, and the line that each gives, or REFUSED and the message for its row."""
         table = "".join(f'"{cell}";x\n' for cell in wanted)
         results = list(enumerate(wanted.values(), 2))
         lines = [result for _, result in results if not result.startswith(REFUSED)]
         problems = [f"row {row}: {result[len(REFUSED):]}" for row, result in results if result.startswith(REFUSED)]
         status = 1 if problems else 0
-        self.check(f"code;name\n{table}", ["--code", "code", *words], lines, problems, status)
+        self.check(f"code;name\n{table}", ["--code", "code", *arguments], lines, problems, status)
 
-    def check_usage(self, words: Sequence[str], text: str) -> None:
-        """Bad words: usage, the reason, status 2, and nothing is written."""
-        done = support.run_here("label-table", *words, input=b"code\n")
-        self.assertEqual((done.returncode, done.stdout), (2, b""), words)
-        self.assertEqual(support.messages(done)[0].split(" [")[0], "usage: label-table", words)
-        self.assertEqual(support.messages(done)[-1], f"label-table: error: {text}", words)
+    def check_usage(self, arguments: Sequence[str], text: str) -> None:
+        """Bad arguments: usage, the reason, status 2, and nothing is written."""
+        done = support.run_here("label-table", *arguments, input=b"code\n")
+        self.assertEqual((done.returncode, done.stdout), (2, b""), arguments)
+        self.assertEqual(support.messages(done)[0].split(" [")[0], "usage: label-table", arguments)
+        self.assertEqual(support.messages(done)[-1], f"label-table: error: {text}", arguments)
 
 
 class Encodings(TableTest):
     TEXT = f"Nummer;Größe;Name\r\n{PENCIL};ß;Käse\r\n{SMALL};ü;Öl €\r\n"
-    WORDS = ("--code", "Nummer", "--caption", "Größe", "--caption", "Name")
+    ARGUMENTS = ("--code", "Nummer", "--caption", "Größe", "--caption", "Name")
 
-    def check_captions(self, data: bytes, *words: str) -> None:
+    def check_captions(self, data: bytes, *arguments: str) -> None:
         for locale in support.LOCALES:
-            with self.subTest(locale=locale, words=words):
+            with self.subTest(locale=locale, arguments=arguments):
                 captions = self.folder / "captions.txt"
-                wanted = [*self.WORDS, "--captions", str(captions), *words]
+                wanted = [*self.ARGUMENTS, "--captions", str(captions), *arguments]
                 done = support.run("label-table", *wanted, input=data, locale=locale)
                 self.assertEqual(support.messages(done), [])
                 self.assertEqual(done.stdout, f"ean13 {PENCIL}\nean8 {SMALL}\n".encode())
@@ -124,10 +124,10 @@ class Encodings(TableTest):
     def test_encoding_told_that_the_file_contradicts(self) -> None:
         for encoding in ("latin-1", "cp1252"):
             problem = f"standard input is UTF-8: leave --encoding {encoding} away"
-            words = ["--code", "code", "--symbology", "qr", "--encoding", encoding]
-            self.check("code\nKäse\n", words, [], [problem], 2)
+            arguments = ["--code", "code", "--symbology", "qr", "--encoding", encoding]
+            self.check("code\nKäse\n", arguments, [], [problem], 2)
             problem = f"standard input begins with the mark of UTF-8: leave --encoding {encoding} away"
-            self.check("\ufeffcode\nabc\n", words, [], [problem], 2)
+            self.check("\ufeffcode\nabc\n", arguments, [], [problem], 2)
         problem = (
             "standard input has bytes from 0x80 to 0x9f, which Latin-1 has no letters for: give --encoding cp1252"
         )
@@ -178,8 +178,8 @@ class Cells(TableTest):
     def test_quotes(self) -> None:
         captions = self.folder / "captions.txt"
         table = f'"name","code"\r\n"soap, ""soft""","{PENCIL}"\r\n5" nail,{SMALL}\r\n'
-        words = ["--code", "code", "--caption", "name", "--captions", str(captions)]
-        self.check(table, words, [f"ean13 {PENCIL}", f"ean8 {SMALL}"])
+        arguments = ["--code", "code", "--caption", "name", "--captions", str(captions)]
+        self.check(table, arguments, [f"ean13 {PENCIL}", f"ean8 {SMALL}"])
         self.assertEqual(captions.read_bytes(), b'soap, "soft"\n5" nail\n')
 
     def test_row_numbers_are_those_of_the_spreadsheet(self) -> None:
@@ -225,8 +225,8 @@ class Cells(TableTest):
             "K\ufffdse": title + "the sign of a lost letter (U+FFFD) in the cell: export the table again",
             **{cell: f'{title}"{cell}", {error}' for cell in ("#REF!", "#N/A", "#WERT!", "#DIV/0!", "####")},
         }
-        for words in ([], ["--symbology", "qr"], ["--symbology", "code128"]):
-            self.check_cells(words, wanted)
+        for arguments in ([], ["--symbology", "qr"], ["--symbology", "code128"]):
+            self.check_cells(arguments, wanted)
 
 
 class Columns(TableTest):
@@ -244,8 +244,8 @@ class Columns(TableTest):
         listed = 'row 1 has 2 columns: 1 "code", 2 "name"'
         for column in ("Code", "0", "3", "-1", ""):
             self.check(table, [f"--code={column}"], [], [f'no column "{column}"; {listed}'], 2)
-        words = ["--code", "1", "--caption", "size", "--captions", str(self.folder / "captions.txt")]
-        self.check(table, words, [], [f'no column "size"; {listed}'], 2)
+        arguments = ["--code", "1", "--caption", "size", "--captions", str(self.folder / "captions.txt")]
+        self.check(table, arguments, [], [f'no column "size"; {listed}'], 2)
         self.assertFalse((self.folder / "captions.txt").exists())
 
     def test_column_that_is_there_twice(self) -> None:
@@ -285,36 +285,38 @@ class Captions(TableTest):
             'row 5: column 2 ("name") has a line end in the cell',
             'row 6: column 2 ("name") has a tab in the cell "c<U+0009>d", which nobody sees',
         ]
-        words = ["--code", "code", "--caption", "name", "--caption", "price", "--captions", str(captions)]
-        words += ["--delimiter", ";"]
-        self.check(table, words, [f"ean13 {PENCIL}", f"ean8 {SMALL}", f"ean8 {SMALL}"], problems, 1)
+        arguments = ["--code", "code", "--caption", "name", "--caption", "price", "--captions", str(captions)]
+        arguments += ["--delimiter", ";"]
+        self.check(table, arguments, [f"ean13 {PENCIL}", f"ean8 {SMALL}", f"ean8 {SMALL}"], problems, 1)
         self.assertEqual(captions.read_text("utf-8"), "Käse\t1,20\n\t\nz\t5\n")
 
     def test_the_column_of_the_codes_as_caption(self) -> None:
         captions = self.folder / "captions.txt"
-        words = ["--code", "code", "--caption", "name", "--caption", "1", "--captions", str(captions)]
+        arguments = ["--code", "code", "--caption", "name", "--caption", "1", "--captions", str(captions)]
         self.check(
-            f"code;name\n {SOAP[1:]} ;a\n{SMALL};b\n", [*words, "--fill-zeros"], [f"ean13 0{SOAP}", f"ean8 {SMALL}"]
+            f"code;name\n {SOAP[1:]} ;a\n{SMALL};b\n",
+            [*arguments, "--fill-zeros"],
+            [f"ean13 0{SOAP}", f"ean8 {SMALL}"],
         )
         self.assertEqual(captions.read_text("utf-8"), f"a\t0{SOAP}\nb\t{SMALL}\n")
-        self.check(f"code;name\n{BOOK[:-1]};a\n", [*words, "--without-check-digit"], [f"ean13 {BOOK[:-1]}"])
+        self.check(f"code;name\n{BOOK[:-1]};a\n", [*arguments, "--without-check-digit"], [f"ean13 {BOOK[:-1]}"])
         self.assertEqual(captions.read_text("utf-8"), f"a\t{BOOK}\n")
-        self.check("code;name\nLOT 7;a\n", [*words, "--symbology", "code128"], ["code128 LOT 7"])
+        self.check("code;name\nLOT 7;a\n", [*arguments, "--symbology", "code128"], ["code128 LOT 7"])
         self.assertEqual(captions.read_text("utf-8"), "a\tLOT 7\n")
 
     def test_file_that_is_in_use(self) -> None:
         table = self.folder / "table.csv"
         table.write_text(f"code;name\n{SMALL};a\n")
-        words = ["--code", "code", "--caption", "name", "--captions", str(table)]
+        arguments = ["--code", "code", "--caption", "name", "--captions", str(table)]
         problem = f"label-table: --captions {table} is a file that is read or written already: name another"
-        done = support.run("label-table", *words, str(table))
+        done = support.run("label-table", *arguments, str(table))
         self.assertEqual((done.returncode, done.stdout, support.messages(done)), (2, b"", [problem]))
         self.assertEqual(table.read_text(), f"code;name\n{SMALL};a\n")
 
     def test_file_that_cannot_be_written(self) -> None:
         for name, reason in (("/dev/full", "No space left on device"), (str(self.folder), "Is a directory")):
-            words = ["--code", "code", "--caption", "code", "--captions", name]
-            self.check(f"code\n{SMALL}\n", words, [], [f"cannot write {name}: {reason}"], 1)
+            arguments = ["--code", "code", "--caption", "code", "--captions", name]
+            self.check(f"code\n{SMALL}\n", arguments, [], [f"cannot write {name}: {reason}"], 1)
 
 
 class Numbers(TableTest):
@@ -329,8 +331,8 @@ class Numbers(TableTest):
     def test_each_symbology(self) -> None:
         for symbology, number in (("ean13", PENCIL), ("ean8", SMALL), ("upca", SOAP)):
             line = f"{symbology},height=030 {number}"
-            words = ["--symbology", symbology, "--settings", "height=030"]
-            self.check_cells(words, {number: line, f" {number} ": line, f"\u00a0{number}\u202f": line})
+            arguments = ["--symbology", symbology, "--settings", "height=030"]
+            self.check_cells(arguments, {number: line, f" {number} ": line, f"\u00a0{number}\u202f": line})
 
     def test_wrong_check_digit(self) -> None:
         wanted = {
@@ -440,8 +442,8 @@ class Data(TableTest):
         for symbology in ("code128", "qr"):
             wanted = {cell: f"{symbology} {cell}".replace('""', '"') for cell in cells}
             self.check_cells(["--symbology", symbology], wanted)
-        words = ["--symbology", "qr", "--settings", "level=Q,mask=auto"]
-        self.check_cells(words, {"Käse 日本": "qr,level=Q,mask=auto Käse 日本"})
+        arguments = ["--symbology", "qr", "--settings", "level=Q,mask=auto"]
+        self.check_cells(arguments, {"Käse 日本": "qr,level=Q,mask=auto Käse 日本"})
 
     def test_drawn_though_unmeant(self) -> None:
         space = "has a space before or after the data, which would be drawn: take it away"
@@ -484,15 +486,15 @@ class Data(TableTest):
                 self.check_cells(["--symbology", "qr"], {**{data: f"qr {data}" for data in fitting}, **refused})
 
 
-class Words(TableTest):
+class Arguments(TableTest):
     def test_help(self) -> None:
-        for word in ("--help", "-h"):
-            done = support.run("label-table", word)
+        for argument in ("--help", "-h"):
+            done = support.run("label-table", argument)
             self.assertEqual((done.returncode, done.stderr), (0, b""))
             for option in ("--code", "--caption ", "--captions", "--symbology", "--settings", "--fill-zeros"):
                 self.assertIn(option, done.stdout.decode())
 
-    def test_bad_words(self) -> None:
+    def test_bad_arguments(self) -> None:
         done = support.run("label-table", input=b"code\n")
         self.assertEqual((done.returncode, done.stdout), (2, b""))
         self.assertEqual(support.messages(done)[0].split(" [")[0], "usage: label-table")
@@ -514,38 +516,39 @@ class Words(TableTest):
             ["--code", "1", "--encoding", "rot13"],
             'argument --encoding: "rot13" is no name of an encoding, as latin-1 or cp1252',
         )
-        for word in (";;", "", '"', " ", "ä"):
-            text = f'argument --delimiter: "{word}" is not one character of ASCII that may cut cells, nor tab'
-            self.check_usage(["--code", "1", "--delimiter", word], text)
+        for argument in (";;", "", '"', " ", "ä"):
+            text = f'argument --delimiter: "{argument}" is not one character of ASCII that may cut cells, nor tab'
+            self.check_usage(["--code", "1", "--delimiter", argument], text)
 
-    def test_words_that_do_not_go_together(self) -> None:
+    def test_arguments_that_do_not_go_together(self) -> None:
         for symbology in ("code128", "qr"):
-            for word in ("--fill-zeros", "--without-check-digit"):
+            for argument in ("--fill-zeros", "--without-check-digit"):
                 text = "--fill-zeros and --without-check-digit are for EAN and UPC"
-                self.check_usage(["--code", "1", "--symbology", symbology, word], text)
+                self.check_usage(["--code", "1", "--symbology", symbology, argument], text)
         text = "--fill-zeros needs the check digit, which shows whether the zeros are right"
         self.check_usage(["--code", "1", "--fill-zeros", "--without-check-digit"], text)
 
     def test_bad_settings(self) -> None:
         for symbology in ("auto", "ean13", "ean8", "upca", "code128"):
-            words = ["--code", "1", "--symbology", symbology, "--settings"]
+            arguments = ["--code", "1", "--symbology", symbology, "--settings"]
             for setting in ("level=H", "scale=3", "height", "", "height 30", "Height=3"):
                 text = f'--settings: setting 1 is "{setting}"; {symbology} knows height, as key=value'
-                self.check_usage([*words, setting], text)
+                self.check_usage([*arguments, setting], text)
             for value in ("0", "501", "0050", "+5", "", "5 "):
                 text = f'--settings: setting 2, height, is 1 to 500, and not "{value}"'
-                self.check_usage([*words, f"height=1,height={value}"], text)
-        words = ["--code", "1", "--symbology", "qr", "--settings"]
+                self.check_usage([*arguments, f"height=1,height={value}"], text)
+        arguments = ["--code", "1", "--symbology", "qr", "--settings"]
         text = '--settings: setting 1 is "height=3"; qr knows level, min-version, mask, as key=value'
-        self.check_usage([*words, "height=3"], text)
-        self.check_usage([*words, "level=h"], '--settings: setting 1, level, is L, M, Q or H, and not "h"')
+        self.check_usage([*arguments, "height=3"], text)
+        self.check_usage([*arguments, "level=h"], '--settings: setting 1, level, is L, M, Q or H, and not "h"')
         for value in ("0", "11", "001"):
             self.check_usage(
-                [*words, f"min-version={value}"], f'--settings: setting 1, min-version, is 1 to 10, and not "{value}"'
+                [*arguments, f"min-version={value}"],
+                f'--settings: setting 1, min-version, is 1 to 10, and not "{value}"',
             )
         for value in ("8", "07"):
             self.check_usage(
-                [*words, f"mask={value}"], f'--settings: setting 1, mask, is 0 to 7, or auto, and not "{value}"'
+                [*arguments, f"mask={value}"], f'--settings: setting 1, mask, is 0 to 7, or auto, and not "{value}"'
             )
 
     def test_files(self) -> None:
@@ -602,8 +605,8 @@ class WithLabels(TableTest):
                 f"code\nKäse\n{'ß' * 59}\n{'7' * 288}\n",
             ),
         )
-        for words, table in tables:
-            done = support.run("label-table", "--code", "code", *words, input=table.encode())
+        for arguments, table in tables:
+            done = support.run("label-table", "--code", "code", *arguments, input=table.encode())
             self.assertEqual((done.returncode, done.stderr), (0, b""))
             picture, problems, status = support.draw(done.stdout)
             self.assertEqual((status, problems), (0, b""))

@@ -1,4 +1,4 @@
--- The definition at command lines that are written out.
+-- Worked command lines, computed from the definition.
 use Rattle.std.proofs.Common.{◌≡◌, refl, codes, [], ◌∷◌, map, Some, None, Ok, Err, true, false}
 use Rattle.clap.proofs.OnLiterals.{clap_on_literals}
 use Rattle.command.specs.CommandLine.{bad, command_line, file_argument, help, invocation_of, is_on, run, text_option}

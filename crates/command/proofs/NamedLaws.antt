@@ -1,4 +1,4 @@
--- What the getters of the matches read, by the rows.
+-- What the getters of the matches return, from the rows.
 use Rattle.std.proofs.Common.{◌≡◌, ◌∙◌, ◌≤◌, ◌⊎◌, ◌↔◌, ap, refl, codes, ℕ, Bool, true, false, List, Option, Some, None}
 use Rattle.std.proofs.Common.{arith, inl, inr, sym}
 use Rattle.std.specs.Prelude.{IfSome, IsSome, option_map, unwrap_or}
@@ -14,7 +14,7 @@ use Rattle.command.specs.CommandLine.{format_in, is_on, level_in, number_named, 
 use Rattle.command.specs.CommandLine.{run, run_of}
 use Rattle.command.specs.Private.Checked.{HoldsNumber, IsNumberIn}
 
--- what is read of the text that is given for an option
+-- what a getter returns for an option that is given
 pub read_given : {X : Type 0} (f : Found) (id : Text) (read : Text → Option X) (default : Option X) (text : Text)
     → Some text ≡ first_value f id → read text ≡ option_map_or read (first_of id (rows_of f)) default
 read_given f id read default text is = ap (λ o. option_map_or read o default) (is ∙ first_value-rows f id)
@@ -126,7 +126,7 @@ made : {P : Type 0} (r : Option OptionValues) (s : OptionValues) → (IsSome r �
 made None s valid value p = let some : false ≡ true = valid.1 p in cc
 made (Some o) s valid value p = ap Some value
 
--- the options that are made of what the getters read are those that the rows name
+-- the options made of what the getters return are those that the rows name
 pub made-options_named : (rows : List Row) (options : OptionValues) (r : Option OptionValues)
     → (IsSome r ↔ IsInRange options.scale options.height options.min_version options.mask)
     → IfSome r (λ o. o ≡ options) → AreOptionsOf rows options → r ≡ options_named rows

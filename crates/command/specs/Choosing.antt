@@ -5,7 +5,7 @@ use Rattle.command.specs.declared.arguments.Choice.{Choice}
 use Rattle.command.specs.declared.arguments.ArgumentsFault.{ArgumentsFault}
 use Rattle.command.specs.declared.arguments.ArgumentsFault.TheVariants.{Help, Bad, Memory}
 
--- the fault is the one that the arguments ask for, or memory ran out
+-- the fault is `Help` where the arguments ask for help, `Bad` where the command does not take them, or `Memory`
 abbrev pub Refuses : Invocation → ArgumentsFault → Type 0
 Refuses help (Help text) = Unit {0}
 Refuses bad Bad = Unit {0}

@@ -62,7 +62,7 @@ command_line = record {
 
 -- ---- what the matches name
 
--- the whole number that a text writes in decimal digits, after a plus or not
+-- the whole number that a text writes in decimal digits, with or without a plus before them
 abbrev pub number_of : Text → ℕ
 number_of text = digits_value 10 (without_leading_plus text)
 
@@ -86,7 +86,7 @@ format_in rows = option_map_or format_of (first_of (codes "format") rows) (Some 
 abbrev pub level_in : List Row → Option Level
 level_in rows = option_map_or level_named (first_of (codes "level") rows) (Some default_options.level)
 
--- the options given, each other at its default
+-- the options given, with the defaults for the others
 abbrev pub options_with : List Row → Format → Level → OptionValues
 options_with rows format level = record {
   format = format;
@@ -98,20 +98,21 @@ options_with rows format level = record {
   escapes = is_on (codes "escapes") rows;
 }
 
--- the options that the matches name, each other at its default; none if the format or the level is not listed
+-- the options that the matches name, with the defaults for the others; none if the format or the level is not listed
 abbrev pub options_named : List Row → Option OptionValues
 options_named rows = option_and_then (λ format.
     option_map (λ level. options_with rows format level) (level_in rows)) (format_in rows)
 
 -- ---- what the arguments ask for
 
--- a run with these options over a file or standard input, the help text, or nothing that the command takes
+-- what arguments ask for: a run with these options over the named file or standard input, or the help text; or they are
+-- bad, and the command does not take them
 pub data Invocation : Type 0 where
   run : OptionValues → Option Text → Invocation
   help : Invocation
   bad : Invocation
 
--- what a refused parse asks for
+-- what arguments with a fault of this kind ask for
 abbrev pub invocation_refused : ErrorKind → Invocation
 invocation_refused kind.DisplayHelp = help
 invocation_refused _ = bad
@@ -120,7 +121,7 @@ invocation_refused _ = bad
 abbrev pub run_of : List Row → Invocation
 run_of rows = option_map_or (λ options. run options (first_of (codes "file") rows)) (options_named rows) bad
 
--- the first fault decides
+-- what arguments ask for: their first fault decides, and without a fault what the matches name
 abbrev pub invocation_by : Kinds → List Row → Invocation
 invocation_by [] rows = run_of rows
 invocation_by (k ∷ ks) rows = invocation_refused k

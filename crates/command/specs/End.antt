@@ -1,4 +1,4 @@
--- How the program ends: its status, and its line on the standard error (docs/SPECIFICATION.md, Statuses).
+-- How the program ends: its status, and its line on standard error (docs/SPECIFICATION.md, Statuses).
 use Rattle.std.specs.Prelude.{ℕ, List, [], ◌∷◌, ◌++◌, Ok, Err, codes}
 use Rattle.command.specs.declared.end.End.{End}
 use Rattle.command.specs.declared.end.End.TheVariants.{Ran, Helped, BadArguments, NoFile, NoMemory}
@@ -13,11 +13,11 @@ exit_status Helped = 0
 exit_status BadArguments = 2
 exit_status other = 3
 
--- a line of the program's own; 10 is the line feed
+-- a line on standard error that the program itself writes; 10 is the line feed
 abbrev pub program_line : List ℕ → List ℕ
 program_line text = codes "labels: " ++ text ++ 10 ∷ []
 
--- the line, or nothing
+-- the line for standard error, or nothing
 abbrev pub line_of : End → List ℕ
 line_of (Ran (Err Read)) = program_line (codes "read failed")
 line_of (Ran (Err other)) = program_line (codes "write failed")

@@ -1,4 +1,4 @@
-//! What the arguments of the command line ask for.
+//! The arguments of the command line.
 ghost use Rattle.std.specs.Prelude.{◌≡◌, IfOk, map, string_bytes};
 ghost use Rattle.clap.specs.Words.{app_of, found_of, kind_of, one_text, rows_of};
 ghost use Rattle.command.specs.CommandLine.{command_line, file_argument, format_in, format_of, invocation_of};
@@ -17,7 +17,7 @@ use labelcore::{Format, Options, level_of};
 use qrdata::Level;
 use std::alloc::{AllocError, Global};
 
-/// What the arguments of a run choose.
+/// What the arguments ask for where they ask for a run.
 #[derive(Debug, Drop)]
 pub struct Choice {
     /// The options of the run.
@@ -26,12 +26,12 @@ pub struct Choice {
     pub file: Option<String>,
 }
 
-/// Why the arguments choose no run.
+/// Why the arguments ask for no run.
 #[derive(Debug, Drop)]
 pub enum ArgumentsFault {
-    /// They ask for help, and this is its text.
+    /// The arguments ask for help, and this is its text.
     Help(String),
-    /// The command does not take them.
+    /// The command does not take the arguments.
     Bad,
     /// Memory ran out.
     Memory,
@@ -40,11 +40,11 @@ pub enum ArgumentsFault {
 /// The program and its version: the first line of the help text.
 pub const VERSION: &str = "labels 1.0.0";
 
-/// What the help text says before the usage.
+/// The help text before the usage.
 const ABOUT: &str =
     "Draws EAN, UPC, Code 128 and QR Code labels: one picture for each line of the input.";
 
-/// What the help text says after the options.
+/// The help text after the options.
 const AFTER_HELP: &str = "\
 Lines: NAME[,KEY=VALUE].. DATA, where NAME and DATA are
   ean13 400638133393       12 digits, or 13 with the check digit
@@ -60,7 +60,7 @@ arguments (bad words), 3 reading, writing or opening FILE failed, or memory ran 
 
 Example: echo 'ean13 400638133393' | labels --scale 4 --height 70 > pencil.pbm";
 
-/// `--name VALUE`
+/// Returns the option `--name VALUE`.
 fn text_option<'a>(alloc: Global, name: &'a str, value: &'a str, help: &'a str) -> Arg<'a>
     ensures rule { rule_of result ≡ text_option name.entry.now }
     ensures local { result.global ≡ false }
@@ -71,7 +71,7 @@ fn text_option<'a>(alloc: Global, name: &'a str, value: &'a str, help: &'a str) 
         .help(help)
 }
 
-/// `--name NUMBER`
+/// Returns the option `--name NUMBER`.
 fn number_option<'a>(
     alloc: Global,
     name: &'a str,
@@ -86,7 +86,7 @@ fn number_option<'a>(
     text_option(alloc, name, value, help).value_parser(parser)
 }
 
-/// `--name`
+/// Returns the option `--name`, which has no value.
 fn switch<'a>(alloc: Global, name: &'a str, help: &'a str) -> Arg<'a>
     ensures rule { rule_of result ≡ switch name.entry.now }
     ensures local { result.global ≡ false }
@@ -97,7 +97,7 @@ fn switch<'a>(alloc: Global, name: &'a str, help: &'a str) -> Arg<'a>
         .action(ArgAction::SetTrue)
 }
 
-/// The file that the arguments may name.
+/// Returns the argument that names the file to read.
 fn file_argument<'a>(alloc: Global) -> Arg<'a>
     ensures rule { rule_of result ≡ file_argument }
     ensures local { result.global ≡ false }
@@ -107,7 +107,7 @@ fn file_argument<'a>(alloc: Global) -> Arg<'a>
         .help("The file to read; standard input if there is none")
 }
 
-/// The command line, built.
+/// Returns the command line, ready to parse arguments.
 fn built_command<'a>(alloc: Global) -> Result<Command<'a>, AllocError>
     ensures { IfOk result (λ c. app_of c ≡ built command_line) }
 {
@@ -116,7 +116,7 @@ fn built_command<'a>(alloc: Global) -> Result<Command<'a>, AllocError>
     Ok(command)
 }
 
-/// The command line.
+/// Returns the command line: its options, its argument and its help text.
 fn command<'a>(alloc: Global) -> Result<Command<'a>, AllocError>
     ensures { IfOk result (λ c. app_of c ≡ command_line) }
 {
@@ -189,7 +189,7 @@ fn with_symbols<'a>(alloc: Global, command: Command<'a>) -> Result<Command<'a>, 
         ))
 }
 
-/// The format of this name.
+/// Returns the format of this name.
 fn format_of(text: &str) -> Option<Format>
     ensures { result ≡ format_of text.now }
 {
@@ -200,7 +200,7 @@ fn format_of(text: &str) -> Option<Format>
     }
 }
 
-/// The format that the matches name, or the default.
+/// Returns the format that the matches name, or the default. It is `None` for a name that is not listed.
 fn format_in(matches: &ArgMatches<'_>) -> Option<Format>
     ensures { result ≡ format_in (rows_of (found_of matches.now)) }
 {
@@ -210,7 +210,7 @@ fn format_in(matches: &ArgMatches<'_>) -> Option<Format>
     }
 }
 
-/// The level that the matches name, or the default.
+/// Returns the level that the matches name, or the default. It is `None` for a name that is not listed.
 fn level_in(matches: &ArgMatches<'_>) -> Option<Level>
     ensures { result ≡ level_in (rows_of (found_of matches.now)) }
 {
@@ -220,7 +220,7 @@ fn level_in(matches: &ArgMatches<'_>) -> Option<Level>
     }
 }
 
-/// The number that the matches name for an option, 0 to 65,535.
+/// Returns the number that the matches name for an option, 0 to 65,535.
 fn number(matches: &ArgMatches<'_>, id: &str) -> Option<u16>
     requires { HoldsNumber 0 65535 id.now (found_of matches.now) }
     ensures { result ≡ option_map number_of (one_text (found_of matches.now) id.now) }
@@ -228,7 +228,7 @@ fn number(matches: &ArgMatches<'_>, id: &str) -> Option<u16>
     matches.get_one(id)
 }
 
-/// The number that the matches name for an option, 0 to 255.
+/// Returns the number that the matches name for an option, 0 to 255.
 fn small_number(matches: &ArgMatches<'_>, id: &str) -> Option<u8>
     requires { HoldsNumber 0 255 id.now (found_of matches.now) }
     ensures { result ≡ option_map number_of (one_text (found_of matches.now) id.now) }
@@ -236,7 +236,8 @@ fn small_number(matches: &ArgMatches<'_>, id: &str) -> Option<u8>
     matches.get_one(id)
 }
 
-/// The options that the matches name, each other at its default; none if the format or the level is not listed.
+/// Returns the options that the matches name, with the defaults for the others, or `None` if the format or the level is
+/// not listed.
 fn options_named(matches: &ArgMatches<'_>) -> Option<Options>
     requires { HoldsValues (found_of matches.now) }
     ensures { result ≡ options_named (rows_of (found_of matches.now)) }
@@ -252,7 +253,7 @@ fn options_named(matches: &ArgMatches<'_>) -> Option<Options>
     Options::new(format, scale, height, level, min_version, mask, escapes)
 }
 
-/// The run that the matches ask for.
+/// Returns the run that the matches ask for.
 fn choice_of(alloc: Global, matches: &ArgMatches<'_>) -> Result<Choice, ArgumentsFault>
     requires { HoldsValues (found_of matches.now) }
     ensures { Chooses (run_of (rows_of (found_of matches.now))) result }
@@ -270,7 +271,7 @@ fn choice_of(alloc: Global, matches: &ArgMatches<'_>) -> Result<Choice, Argument
     Ok(Choice { options, file })
 }
 
-/// Why a refused parse chooses no run.
+/// Returns why the arguments ask for no run, from the error of the parser.
 fn fault_of(alloc: Global, error: &clap::Error) -> ArgumentsFault
     ensures memory { kind_of error.now ≡ ErrorKind.OutOfMemory → result ≡ ArgumentsFault.Memory }
     ensures other { Refuses (invocation_refused (kind_of error.now)) result }
@@ -285,7 +286,7 @@ fn fault_of(alloc: Global, error: &clap::Error) -> ArgumentsFault
     }
 }
 
-/// What the arguments after the program's name ask for.
+/// Returns what the arguments after the program's name ask for.
 ///
 /// # Errors
 ///

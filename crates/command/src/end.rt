@@ -20,7 +20,7 @@ pub enum End {
 }
 
 impl End {
-    /// The exit status of the process: 0 to 3.
+    /// Returns the exit status of the process, 0 to 3.
     pub fn status(&self) -> u8
         ensures { result ≡ exit_status self.now }
     {
@@ -32,7 +32,7 @@ impl End {
         }
     }
 
-    /// The line for standard error, with its line feed, or the empty text.
+    /// Returns the line for standard error, with its line feed, or the empty text.
     pub fn line(&self) -> &'static str
         ensures { result.now ≡ line_of self.now }
     {

@@ -1,7 +1,7 @@
 //! The command `labels` around the filter: what its arguments ask for ([`options_of`]), the file that they name
 //! ([`open_file`]), and how it ends ([`End`]).
 //!
-//! The program's `main` makes these calls. They are a library of their own, so that they are proved and tested as one.
+//! The program's `main` makes these calls. They are a library, so that they can be proved and tested without it.
 #![tactic(auto)]
 
 mod arguments;

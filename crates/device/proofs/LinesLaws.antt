@@ -1,4 +1,4 @@
--- A text is cut into lines in one way, and how the lines change as a byte is added at its end.
+-- A text is cut into lines in one way alone. How the lines change where a byte is added at the text's end.
 use Rattle.std.proofs.Common.{◌≡◌, ◌≢◌, ℕ, Bool, true, false, eqb, ne_eqb, List, [], ◌∷◌, ◌++◌, refl, ap, subst, sym}
 use Rattle.std.proofs.Common.{◌∙◌, ◌-◌, append_assoc, arith, length, length-append, take}
 use Rattle.std.proofs.Math.Seq.{take-append_seam}
@@ -12,7 +12,7 @@ use Rattle.std.proofs.lemmas.List.Splits.{slice_split_none, slice_split_at}
 use Rattle.device.specs.Lines.{LF, parts, ended_lines, open_line, with_ends, ended_text}
 use Rattle.device.specs.Lines.{HasNoLF, IsCut, unless_empty, lines}
 
--- where a list with one part more ends
+-- the last part of a list to which one is added, and the parts before it
 length-push : (ps : List (List ℕ)) (p : List ℕ) → length (ps ++ p ∷ []) - 1 ≡ length ps
 length-push ps p = omega (arith, length-append ps (p ∷ []))
 
@@ -31,7 +31,7 @@ slice_index_or-push ps p =
 no_lf : (bytes : List ℕ) → HasNoLF bytes → All (λ byte. eqb byte LF ≡ false) bytes
 no_lf bytes h = All-weaker (λ byte. byte ≢ LF) (λ byte. eqb byte LF ≡ false) (λ byte n. ne_eqb byte LF n) bytes h
 
--- a text that is cut so has these parts
+-- a text that is cut into these lines and this rest has these parts
 parts-cut : (ended : List (List ℕ)) (rest : List ℕ) → All HasNoLF ended → HasNoLF rest
     → parts (with_ends ended ++ rest) ≡ ended ++ rest ∷ []
 parts-cut [] rest each last = slice_split_none (λ byte. eqb byte LF) rest (no_lf rest last)
@@ -147,7 +147,7 @@ pub open_line-push_other : (text : List ℕ) (byte : ℕ) → byte ≢ LF
     → open_line (text ++ byte ∷ []) ≡ open_line text ++ byte ∷ []
 open_line-push_other text byte other = open_line-cut (cut_push_other text byte other)
 
--- the ended text is cut into the ended lines, with no rest
+-- the ended text is cut into the ended lines, and its rest is empty
 cut_ended_text : (text : List ℕ) → IsCut (ended_text text) (ended_lines text) []
 unfolding ended_text
 cut_ended_text text = record {

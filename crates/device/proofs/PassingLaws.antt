@@ -8,7 +8,7 @@ use Rattle.std.proofs.lemmas.Slice.{between_is, take-put_mid}
 use Rattle.std.proofs.lemmas.List.{take_all, take-append-drop, drop-drop, drop-append-le, append-nil}
 use Rattle.device.specs.Passing.{PassesOn}
 
--- what a test of a list's length says
+-- a list whose length is tested as 0 is empty
 pub is_nil : (xs : List ℕ) (b : Bool) → b ≡ (length xs == 0) → b ≡ true → length xs ≡ 0
 is_nil xs b e t = grind (arith, nat_tests)
 

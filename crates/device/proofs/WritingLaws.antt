@@ -13,7 +13,7 @@ pub record HasWritten {S : Type 0} (sink : Ghosts S) (old new : S) (text : List 
   pub uncounted : sink.failures new ≡ sink.failures old
   pub unflushed : Unflushed (sink.is_flushed old) (sink.is_flushed new)
 
--- what is known when it took nothing
+-- the same of a sink that took nothing
 pub HasWritten-none : {S : Type 0} (sink : Ghosts S) (s : S) → sink.took s s [] → HasWritten sink s s []
 HasWritten-none sink s none = record { taken = none; uncounted = refl; unflushed = λ e. e }
 

@@ -1,4 +1,4 @@
--- What the clauses of a sink that buffers bytes see of it (docs/SPECIFICATION.md, The filter as a library).
+-- A sink that buffers bytes, as its clauses see it (docs/SPECIFICATION.md, The filter as a library).
 use Rattle.std.specs.Prelude.{ℕ, List, slice_range}
 use Rattle.device.specs.declared.sink.Sink.{Ghosts}
 use Rattle.device.specs.declared.buffered.Buffered.{Buffered}

@@ -1,4 +1,4 @@
--- What the clauses of a device that fails at one call see of it (docs/SPECIFICATION.md, The filter as a library).
+-- A device that fails at one call, as its clauses see it (docs/SPECIFICATION.md, The filter as a library).
 use Rattle.std.specs.Prelude.{◌≡◌, ℕ, ◌+◌, ◌-◌, ◌^◌, ◌<◌, min, Result, IsErr}
 use Rattle.device.specs.Device.{CountsFailure}
 use Rattle.device.specs.declared.fail_at.FailAt.{FailAt}
@@ -34,8 +34,8 @@ pub record FailsAlone {D T E : Type 0} (old new : FailAt D) (r : Result T E) : T
   pub count : own_failures new ≡ min (own_failures old + 1) (2 ^ 64 - 1)
   pub answer : IsErr r
 
--- what a call says that is counted, where `failures` counts those of the device below: the call that fails does not
--- reach the device, and any other fails as the device does
+-- what a counted call does, where `failures` counts the failures of the device below: the call that is to fail does not
+-- reach the device; any other call fails only where the device does
 pub record FailsInTurn {D T E : Type 0} (failures : D → ℕ) (old new : FailAt D) (r : Result T E) : Type 0 where
   pub call : CountsCall old new
   pub fails : FailsNext old → FailsAlone old new r

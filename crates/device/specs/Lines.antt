@@ -6,7 +6,7 @@ use Rattle.std.specs.List.{slice_split, slice_index_or, flat_map}
 abbrev pub LF : ℕ
 LF = 10
 
--- the byte strings between the LFs, with the one after the last LF
+-- the byte strings before, between and after the LFs
 abbrev pub parts : List ℕ → List (List ℕ)
 parts text = slice_split (λ byte. byte == LF) text
 
@@ -23,7 +23,7 @@ abbrev pub unless_empty : List ℕ → List (List ℕ)
 unless_empty [] = []
 unless_empty (byte ∷ bytes) = (byte ∷ bytes) ∷ []
 
--- the lines of a text: the ended ones, and a rest that is not empty
+-- the lines of a text: those that an LF ends, and the bytes after the last LF unless there are none
 unfoldable pub lines : List ℕ → List (List ℕ)
 lines text = ended_lines text ++ unless_empty (open_line text)
 
@@ -35,11 +35,11 @@ with_ends lines = flat_map (λ line. line ++ LF ∷ []) lines
 unfoldable pub ended_text : List ℕ → List ℕ
 ended_text text = with_ends (ended_lines text)
 
--- a text of one line
+-- no byte is an LF
 abbrev pub HasNoLF : List ℕ → Type 0
 HasNoLF bytes = All (λ byte. byte ≢ LF) bytes
 
--- the text is these lines, each with its LF, and then a rest; neither they nor the rest have another LF
+-- the text is these lines, each with its LF, and then the rest; there is no other LF
 pub record IsCut (text : List ℕ) (ended : List (List ℕ)) (rest : List ℕ) : Type 0 where
   pub whole : text ≡ with_ends ended ++ rest
   pub each : All HasNoLF ended

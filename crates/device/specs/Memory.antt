@@ -1,4 +1,4 @@
--- What the clauses of the devices in memory see of them (docs/SPECIFICATION.md, The filter as a library).
+-- The devices in memory, as their clauses see them (docs/SPECIFICATION.md, The filter as a library).
 use Rattle.std.specs.Prelude.{◌≡◌, ℕ, Bool, List}
 use Rattle.device.specs.declared.memory.MemSource.{MemSource}
 use Rattle.device.specs.declared.memory.MemSink.{MemSink}
@@ -7,7 +7,7 @@ use Rattle.device.specs.declared.memory.MemSink.{MemSink}
 abbrev pub left_in : MemSource → List ℕ
 left_in source = source.rest.now
 
--- whether its reads fail after them
+-- whether its reads fail after the last byte
 abbrev pub fails_after : MemSource → Bool
 fails_after source = source.fails
 
@@ -15,7 +15,7 @@ fails_after source = source.fails
 abbrev pub read_limit : MemSource → ℕ
 read_limit source = source.piece
 
--- two states of a source that gives its bytes in one way
+-- two states of a source with the same limit, whose reads fail alike after the last byte
 pub record GivesAlike (old new : MemSource) : Type 0 where
   pub limit : read_limit new ≡ read_limit old
   pub fails : fails_after new ≡ fails_after old

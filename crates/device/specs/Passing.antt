@@ -1,4 +1,4 @@
--- Bytes that go to a sink through others that are buffered (docs/SPECIFICATION.md, The filter as a library).
+-- Bytes that a sink buffers and passes on (docs/SPECIFICATION.md, The filter as a library).
 use Rattle.std.specs.Prelude.{◌≡◌, ℕ, List, ◌++◌}
 
 -- the sink took a front of what was buffered and what was added, and what is buffered now is the rest

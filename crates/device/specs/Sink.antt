@@ -2,7 +2,7 @@
 use Rattle.std.specs.Prelude.{◌≡◌, ℕ, ◌<◌, ◌≤◌, Bool, true, false, List, [], length, take, Result, IfOk, MatchResult}
 use Rattle.device.specs.Device.{CountsFailure}
 
--- a write of a text takes at least one byte off its front, and says how many; one that fails takes none
+-- a write of a text takes at least one byte from its front and returns how many; one that fails takes none
 pub record WritesSome {S E : Type 0} (failures : S → ℕ) (is_flushed : S → Bool) (took : S → S → List ℕ → Type 0)
     (old new : S) (text : List ℕ) (r : Result ℕ E) : Type 0 where
   pub some : IfOk r (λ n. 0 < n)
@@ -18,7 +18,7 @@ pub record Flushes {S T E : Type 0} (failures : S → ℕ) (is_flushed : S → B
   pub count : CountsFailure (failures old) (failures new) r
   pub flushed : MatchResult r (λ _. is_flushed new ≡ true) (λ _. is_flushed new ≡ is_flushed old)
 
--- to pass on what is buffered takes no byte, and flushes nothing
+-- passing on what is buffered takes no byte, and flushes nothing
 pub record PassesBuffered {S T E : Type 0} (failures : S → ℕ) (is_flushed : S → Bool)
     (took : S → S → List ℕ → Type 0) (old new : S) (r : Result T E) : Type 0 where
   pub bytes : took old new []

@@ -2,7 +2,7 @@
 use Rattle.std.specs.Prelude.{◌≡◌, ℕ, ◌≤◌, ◌==◌, Bool, List, [], length, take, Result, IfOk, MatchResult}
 use Rattle.device.specs.Device.{CountsFailure}
 
--- a read puts what it gives at the front of the buffer, and says how many bytes; 0 is the end. One that fails gives none
+-- a read puts bytes at the front of the buffer and returns how many: 0 at the end; one that fails gives none
 pub record ReadsSome {S E : Type 0} (failures : S → ℕ) (at_end : S → Bool) (gave : S → S → List ℕ → Type 0)
     (ends : S → Type 0) (old new : S) (buffer : List ℕ) (r : Result ℕ E) : Type 0 where
   pub bound : IfOk r (λ n. n ≤ length buffer)

@@ -1,4 +1,4 @@
--- What the clauses of the devices over std see of them (docs/SPECIFICATION.md, The filter as a library).
+-- The devices over std, as their clauses see them (docs/SPECIFICATION.md, The filter as a library).
 use Rattle.device.specs.declared.streams.StdSource.{StdSource}
 use Rattle.device.specs.declared.streams.StdSink.{StdSink}
 

@@ -8,16 +8,16 @@ ghost use Rattle.device.specs.Private.Passed.{PassesOn_none, PassesOn_joined};
 
 use crate::{IoFault, Sink};
 
-/// The most bytes that are buffered. A larger buffer saves writes and needs as much more stack.
+/// The most bytes that are buffered. A larger buffer saves writes and takes more stack.
 const ROOM: usize = 32768;
 
-/// Buffers bytes before another sink, which then takes them in large pieces: when there is no room for more, when
-/// they are passed on, and at a flush.
+/// A sink that buffers up to 32,768 bytes before another sink. It passes them on in large pieces: where there is no
+/// room for more, where [`Sink::pass_on`] asks for it, and at a flush.
 #[derive(Drop)]
 pub struct Buffered<S: Sink> {
     sink: S,
-    // The buffered bytes are those from `start` to `end`; `start` is above 0 after a call that failed when the sink below
-    // had taken some. A vector would write over all of its bytes when it is cleared.
+    // The buffered bytes are those from `start` to `end`. After a call that failed when the sink below had taken some,
+    // `start` is above 0. A vector would overwrite all of its bytes when it is cleared.
     bytes: [u8; ROOM],
     start: usize,
     end: usize,
@@ -31,7 +31,7 @@ pub struct Buffered<S: Sink> {
 impl<S: Sink> Buffered<S> {
     ghost use Rattle.device.specs.Buffered.{sink_of, buffered_bytes};
 
-    /// A buffer before `sink`, empty and not flushed.
+    /// Returns an empty buffer before `sink`, not flushed.
     pub fn new(sink: S) -> Self
         ensures sink { sink_of result ≡ sink }
         ensures buffered { buffered_bytes result ≡ [] }
@@ -46,14 +46,14 @@ impl<S: Sink> Buffered<S> {
         }
     }
 
-    /// The sink below.
+    /// Returns the sink below.
     pub fn sink(&self) -> &S
         ensures { result.now ≡ sink_of self.now }
     {
         &self.sink
     }
 
-    /// The bytes that are buffered.
+    /// Returns the bytes that are buffered.
     pub fn buffered(&self) -> &[u8]
         ensures { result.now ≡ buffered_bytes self.now }
     {
@@ -61,8 +61,8 @@ impl<S: Sink> Buffered<S> {
         &all[self.start..self.end]
     }
 
-    /// A flushed sink buffers nothing, and the sink below is flushed: that one took all that this one took, after what
-    /// was buffered before. A fact for a caller's proof, no work.
+    /// Proves that a flushed sink buffers nothing, and that the sink below is flushed: it took all that this one took,
+    /// after what was buffered before. It does nothing when it runs.
     pub fn reaches(&self)
         ensures buffered { ⟦<Buffered<S> as Sink>⟧.is_flushed self.now ≡ true → buffered_bytes self.now ≡ [] }
         ensures below { ⟦<Buffered<S> as Sink>⟧.is_flushed self.now ≡ true
@@ -100,7 +100,7 @@ impl<S: Sink> Buffered<S> {
         self.drain()
     }
 
-    /// Buffers bytes for which there is room.
+    /// Buffers bytes. There is room for them.
     fn buffer(&mut self, bytes: &[u8])
         requires { self.old.end + length bytes.now ≤ ROOM }
         ensures sink { sink_of self.new ≡ sink_of self.old }

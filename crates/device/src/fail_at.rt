@@ -9,8 +9,8 @@ ghost use Rattle.device.specs.Source.{ReadsSome};
 
 use crate::{IoFault, Sink, Source};
 
-/// Fails at the call with the number `failing`, which does not reach the device; every other read, write and flush does.
-/// Calls are counted from 1, so with 0 none fails.
+/// A device that fails at the call with the number `failing`, for tests. That call does not reach the device below;
+/// every other read, write and flush does. Calls are counted from 1, so with 0 none fails.
 #[derive(Drop)]
 pub struct FailAt<D> {
     device: D,
@@ -20,7 +20,7 @@ pub struct FailAt<D> {
 }
 
 impl<D> FailAt<D> {
-    /// A device that fails at one call, before its first call.
+    /// Returns a device that fails at one call, before its first call.
     pub fn new(device: D, failing: u64) -> Self
         ensures device { device_of result ≡ device }
         ensures calls { calls_of result ≡ 0 }
@@ -35,14 +35,14 @@ impl<D> FailAt<D> {
         }
     }
 
-    /// The device below.
+    /// Returns the device below.
     pub fn device(&self) -> &D
         ensures { result.now ≡ device_of self.now }
     {
         &self.device
     }
 
-    /// How many reads, writes and flushes were made so far.
+    /// Returns how many reads, writes and flushes were made so far.
     pub fn calls(&self) -> u64
         ensures { result ≡ calls_of self.now }
     {

@@ -1,5 +1,5 @@
 //! How a device fails.
 
-/// A read, a write or a flush failed. Nothing more is known of it.
+/// The error of a device: a read, a write or a flush failed. It does not say why.
 #[derive(Clone, Copy, Debug, PartialEq, Eq)]
 pub struct IoFault;

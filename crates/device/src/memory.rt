@@ -10,7 +10,8 @@ ghost use Rattle.device.specs.Source.{ReadsSome};
 use crate::{IoFault, Sink, Source};
 use arrayvec::ArrayVec;
 
-/// Gives its bytes, at most `piece` a read. After them each read returns 0, or fails if `fails` says so.
+/// A source of bytes in memory: it gives at most `piece` bytes a read. After them each read returns 0 or, with `fails`,
+/// fails.
 #[derive(Drop)]
 pub struct MemSource<'a> {
     rest: &'a [u8],
@@ -25,7 +26,7 @@ pub struct MemSource<'a> {
 impl<'a> MemSource<'a> {
     ghost use Rattle.device.specs.Memory.{left_in, fails_after, read_limit};
 
-    /// A source of these bytes that counts no failure and is not at its end.
+    /// Returns a source of these bytes that counts no failure and is not at its end. `piece` is above 0.
     pub fn new(bytes: &'a [u8], piece: usize, fails: bool) -> Self
         requires { 0 < piece }
         ensures bytes { left_in result ≡ bytes.now }
@@ -81,7 +82,8 @@ impl<'a> Source for MemSource<'a> {
     ghost gave_joined = { λ s t u xs ys. cut_joined s.rest.now t.rest.now u.rest.now xs ys };
 }
 
-/// Keeps the bytes that it takes: at most `piece` a write, and `limit` in all. A write to a full one fails.
+/// A sink in memory: it takes at most `piece` bytes a write and keeps at most `limit` in all. A write to a full sink
+/// fails.
 #[derive(Drop)]
 pub struct MemSink<const N: usize> {
     held: ArrayVec<u8, N>,
@@ -96,7 +98,7 @@ pub struct MemSink<const N: usize> {
 impl<const N: usize> MemSink<N> {
     ghost use Rattle.device.specs.Memory.{held_by, write_limit, room_of};
 
-    /// An empty sink that counts no failure and is not flushed.
+    /// Returns an empty sink that counts no failure and is not flushed. `piece` is above 0, `limit` at most `N`.
     pub fn new(piece: usize, limit: usize) -> Self
         requires piece_positive { 0 < piece }
         requires limit_in_range { limit ≤ N }
@@ -115,14 +117,14 @@ impl<const N: usize> MemSink<N> {
         }
     }
 
-    /// The bytes that it took.
+    /// Returns the bytes that it took.
     pub fn bytes(&self) -> &[u8]
         ensures { result.now ≡ held_by self.now }
     {
         self.held.as_slice()
     }
 
-    /// How often a write failed.
+    /// Returns how many writes failed. The count stops at the greatest `u64`.
     pub fn failures(&self) -> u64
         ensures { result ≡ ⟦<MemSink<N> as Sink>⟧.failures self.now }
     {

@@ -7,7 +7,7 @@ ghost use Rattle.device.specs.Private.Joined.{Appends_none, Appends_joined, Cons
 use crate::{IoFault, Sink, Source};
 use std::io::{Read, Write};
 
-/// A reader of std. An error of any kind is a failure.
+/// A reader of std as a source. An error of any kind is a failure.
 #[derive(Drop)]
 pub struct StdSource<R> {
     reader: R,
@@ -16,7 +16,7 @@ pub struct StdSource<R> {
 }
 
 impl<R: Read> StdSource<R> {
-    /// A source that counts no failure and is not at its end.
+    /// Returns a source over this reader that counts no failure and is not at its end.
     pub fn new(reader: R) -> Self
         ensures reader { reader_of result ≡ reader }
         ensures failures { ⟦<StdSource<R> as Source>⟧.failures result ≡ 0 }
@@ -58,7 +58,7 @@ impl<R: Read> Source for StdSource<R> {
         (R.remaining t.reader) (R.remaining u.reader) xs ys };
 }
 
-/// A writer of std. An error of any kind is a failure, and so is a write that takes no bytes.
+/// A writer of std as a sink. An error of any kind is a failure, and so is a write that takes no byte.
 #[derive(Drop)]
 pub struct StdSink<W> {
     writer: W,
@@ -67,7 +67,7 @@ pub struct StdSink<W> {
 }
 
 impl<W: Write> StdSink<W> {
-    /// A sink that counts no failure and is not flushed.
+    /// Returns a sink over this writer that counts no failure and is not flushed.
     pub fn new(writer: W) -> Self
         ensures writer { writer_of result ≡ writer }
         ensures failures { ⟦<StdSink<W> as Sink>⟧.failures result ≡ 0 }

@@ -3,8 +3,11 @@ ghost use Rattle.device.specs.Writing.{WritesText};
 
 use crate::{IoFault, Sink};
 
-/// Writes all of `bytes`, in as many writes as the sink needs, and flushes nothing. After an `Err` the sink took a
-/// beginning of them.
+/// Writes all of `bytes`, in as many writes as the sink needs, and flushes nothing.
+///
+/// # Errors
+///
+/// [`IoFault`] where a write fails: the sink took a beginning of `bytes`.
 pub fn write_whole<S: Sink>(bytes: &[u8], sink: &mut S) -> Result<(), IoFault>
     ensures { WritesText S.Sink sink.old sink.new bytes.now result }
 {

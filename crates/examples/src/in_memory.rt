@@ -7,7 +7,7 @@ use device::{MemSink, MemSource, Sink};
 use filter::{RunFault, Status, run};
 use labelcore::Options;
 
-/// Draws the labels of the text that a source has left. Its contract carries the guarantee, with no proof of its own.
+/// Draws the labels of the text that a source has left. The contract is that of [`run`], stated for memory.
 pub fn draw_labels<const N: usize, const M: usize>(
     options: Options,
     source: &mut MemSource<'_>,

@@ -1,5 +1,5 @@
-//! Three examples over the libraries: a run over a text in memory, a filter that is fed piece by piece, as by a caller
-//! that reads for itself, and one QR symbol, shown on a dark terminal through a grid of this program's own.
+//! Three examples over the libraries: a run over a text in memory; a filter that is fed piece by piece, as by a caller
+//! who does the reading; and one QR symbol, shown on a dark terminal through a grid that this program defines.
 #![tactic(auto)]
 
 mod in_memory;
@@ -36,14 +36,14 @@ fn draw_text(rt: &HostRuntime) -> io::Result<()> {
     }
 }
 
-/// Draws labels from a text in two pieces, and tells what came of it.
+/// Draws labels from a text in two pieces, and prints how the run ended.
 fn feed_pieces(rt: &HostRuntime) -> io::Result<()> {
     let Some(options) = Options::new(Format::Pbm, 1, 1, Level::M, 1, None, false) else {
         return println!(rt; "options out of range");
     };
     let mut images: MemSink<4096> = MemSink::new(4096, 4096);
     let mut messages: MemSink<1024> = MemSink::new(1024, 1024);
-    // The cut goes through the first line, as a cut between two reads may.
+    // The text is cut inside the first line, as it may be between two reads.
     let answer = draw_in_two(
         options,
         b"ean8 7351",
@@ -64,7 +64,7 @@ fn feed_pieces(rt: &HostRuntime) -> io::Result<()> {
     )
 }
 
-/// Draws one QR symbol with the libraries alone, light on dark.
+/// Draws one QR symbol, light on dark, without the filter.
 fn show_symbol(rt: &HostRuntime) -> io::Result<()> {
     let Some(options) = Options::new(Format::Ascii, 1, 1, Level::M, 1, Some(2), false) else {
         return println!(rt; "options out of range");

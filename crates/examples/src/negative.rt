@@ -1,17 +1,17 @@
-//! A grid of this program's own.
+//! A grid that this program defines.
 ghost use Rattle.std.specs.Prelude.{◌≡◌};
 ghost use Rattle.examples.specs.Negative.{negative};
 
 use picture::Grid;
 
-/// A grid with dark and light exchanged: letters are light on a dark terminal.
+/// A grid with dark and light exchanged, for a terminal that shows light letters on a dark ground.
 #[derive(Drop)]
 pub struct Negative<G: Grid> {
     grid: G,
 }
 
 impl<G: Grid> Negative<G> {
-    /// The negative of a grid.
+    /// Returns the negative of a grid.
     pub fn new(grid: G) -> Self
         ensures { ⟦<Negative<G> as Grid>⟧.picture result ≡ negative (G.picture grid) }
     {
@@ -19,7 +19,7 @@ impl<G: Grid> Negative<G> {
     }
 }
 
-/// Width, height and `dark` are all that a grid needs.
+/// A grid has to give its width, its height and its pixels; the other calls have bodies in the trait.
 impl<G: Grid> Grid for Negative<G> {
     ghost picture = { λ s. negative (G.picture s.grid) };
 

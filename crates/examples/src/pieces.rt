@@ -10,7 +10,7 @@ use filter::{Filter, RunFault, Status};
 use labelcore::Options;
 
 /// Draws the labels of a text that comes in two pieces, wherever it is cut: the sinks take the images and the messages
-/// of the whole text, and the answer is its status. It fails only where a call of a sink does.
+/// of the whole text. Returns its status, or `Err` where a call of a sink failed.
 pub fn draw_in_two<O: Sink, E: Sink>(
     options: Options,
     first: &[u8],

@@ -11,13 +11,13 @@ use labelcore::{Fault, Options};
 use qrdata::{Codewords, Version, choose, codewords};
 use qrmatrix::Matrix;
 
-/// The QR symbol of the bytes, in the smallest version that holds them at the options' level. Its modules read back as
-/// the bytes.
+/// Returns the QR symbol of the bytes, in the smallest version that holds them at the options' level. Its modules read
+/// back as the bytes.
 ///
 /// Bytes that fit no version are refused by `DoesNotFit`.
-#[tactic(auto, unfolding(filter::specs::Symbol::symbol_of, filter::specs::Symbol::qr_modules, filter::specs::Symbol::qr_codewords))]
+#[tactic(auto, unfolding(filter::specs::Symbol::symbol_of, filter::specs::Symbol::qr_modules))]
 pub fn matrix_of(options: &Options, bytes: &[u8]) -> Result<Matrix, Fault>
-    // It is the symbol that the filter draws of these bytes, and refused where the filter refuses them.
+    // The filter draws the same symbol of these bytes, and refuses the same bytes.
     ensures symbol { IfOk result (λ matrix. symbol_of options.now Qr bytes.now
         ≡ Ok (record { symbology = Qr; full = bytes.now; modules = symbol_picture matrix })) }
     ensures refusal { IfErr result (λ fault. symbol_of options.now Qr bytes.now ≡ Err fault) }

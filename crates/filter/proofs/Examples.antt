@@ -12,7 +12,7 @@ use Rattle.labelcore.specs.declared.symbology.Symbology.TheVariants.{Ean13, Ean8
 use Rattle.picture.specs.declared.quiet_zone.QuietZone.{QuietZone}
 use Rattle.filter.specs.declared.status.Status.TheVariants.{Clean, Refused}
 use Rattle.filter.specs.Symbol.{Symbol, symbol_of, quiet_zone}
-use Rattle.filter.specs.Output.{any_refused, outcome, images, line_number, messages, messages_after, status_of}
+use Rattle.filter.specs.Output.{outcome, images, line_number, messages_after, status_of}
 use Rattle.filter.specs.Readback.{drawn_symbols}
 
 abbrev settings : OptionValues
@@ -30,7 +30,7 @@ images_of_input : images settings input
 unfolding images outcome symbol_of request head_read symbology_named line_limit digits number_set_a
 images_of_input = refl
 
-messages_of_input : messages settings input ≡ codes "line 2: unknown symbology\nline 4: check digit is 0, should be 7\n"
+messages_of_input : messages_after settings 0 input ≡ codes "line 2: unknown symbology\nline 4: check digit is 0, should be 7\n"
 unfolding messages_after outcome symbol_of request head_read symbology_named line_limit digits
 messages_of_input = refl
 
@@ -69,8 +69,8 @@ second_message : messages_after settings 9 (codes "#" ∷ codes "pdf x" ∷ []) 
 unfolding messages_after outcome symbol_of request head_read symbology_named line_limit digits
 second_message = refl
 
--- the status is that of refused lines alone
+-- the status is `Refused` where a line is refused, and else `Clean`
 statuses : map (status_of settings) ([] ∷ (codes "#" ∷ []) ∷ (codes "pdf x" ∷ []) ∷ (codes "#" ∷ codes "pdf x" ∷ [])
     ∷ []) ≡ Clean ∷ Clean ∷ Refused ∷ Refused ∷ []
-unfolding any_refused outcome symbol_of request head_read symbology_named line_limit
+unfolding status_of outcome symbol_of request head_read symbology_named line_limit
 statuses = refl

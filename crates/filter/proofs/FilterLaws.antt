@@ -7,9 +7,9 @@ use Rattle.device.specs.Lines.{LF, lines, ended_lines, open_line, unless_empty}
 use Rattle.device.proofs.LinesLaws.{ended_lines-nil, open_line-nil, ended_lines-push_lf, ended_lines-push_other}
 use Rattle.device.proofs.LinesLaws.{open_line-push_lf, open_line-push_other, some_added}
 use Rattle.labelcore.specs.LineItem.{Outcome}
-use Rattle.filter.specs.Output.{outcome, image_of, message_of, is_refusal, line_number, images, messages_after}
-use Rattle.filter.specs.Output.{any_refused, status_if, status_of}
-use Rattle.filter.specs.Private.LineEnd.{worst}
+use Rattle.filter.specs.Output.{outcome, image_of, message_of, line_number, images, messages_after}
+use Rattle.filter.specs.Output.{status_of}
+use Rattle.filter.specs.Private.LineEnd.{worst, status_of_line}
 use Rattle.filter.specs.declared.status.Status.{Status}
 use Rattle.filter.specs.declared.status.Status.TheVariants.{Clean}
 use Rattle.filter.specs.Symbol.{Symbol}
@@ -20,7 +20,7 @@ use Rattle.filter.specs.Filter.{FilterState, StandsAt, TookLines, StopsInLine, T
 use Rattle.filter.specs.declared.status.RunFault.{RunFault}
 use Rattle.filter.specs.declared.status.RunFault.TheVariants.{Read, WriteOut, WriteMessages, Spent}
 use Rattle.filter.proofs.OutputLaws.{images-nil, images-append, images_one, messages_after-nil, messages_after-append}
-use Rattle.filter.proofs.OutputLaws.{messages_after_one, any_refused-nil, any_refused-push, worst-status_if}
+use Rattle.filter.proofs.OutputLaws.{messages_after_one, status_of-nil, status_of-push}
 use Rattle.labelcore.specs.OptionValues.{OptionValues}
 
 module _ (options : OptionValues) where
@@ -31,7 +31,7 @@ module _ (options : OptionValues) where
     options_are = o;
     line = l ∙ ap held_line (sym open_line-nil);
     line_count = n ∙ ap (λ (ls : List (List ℕ)). min (length ls) (2 ^ 64 - 1)) (sym ended_lines-nil);
-    status_is = r ∙ (sym (ap status_if (any_refused-nil options)) ∙ ap (status_of options) (sym ended_lines-nil));
+    status_is = r ∙ (sym (status_of-nil options) ∙ ap (status_of options) (sym ended_lines-nil));
     is_spent = s;
   }
 
@@ -53,7 +53,7 @@ module _ (options : OptionValues) where
     -- the end of the line
     pub StandsAt-lf : byte ≡ LF → new.options ≡ old.options → new.line ≡ held_line []
         → new.line_count ≡ line_number (length (ended_lines text))
-        → new.status ≡ worst old.status (status_if (is_refusal (outcome options (open_line text))))
+        → new.status ≡ worst old.status (status_of_line (outcome options (open_line text)))
         → new.is_spent ≡ old.is_spent → StandsAt options new (text ++ byte ∷ [])
     StandsAt-lf lf o l n r s =
         let text' : text ++ byte ∷ [] ≡ text ++ LF ∷ [] = ap (λ (b : ℕ). text ++ b ∷ []) lf in
@@ -65,11 +65,8 @@ module _ (options : OptionValues) where
           line_count = n ∙ (ap (λ (k : ℕ). min k (2 ^ 64 - 1))
               (sym (length-append (ended_lines text) (open_line text ∷ [])))
               ∙ ap (λ (ls : List (List ℕ)). min (length ls) (2 ^ 64 - 1)) (sym ended));
-          status_is = r ∙ (ap (λ (s : Status). worst s (status_if (is_refusal (outcome options (open_line text)))))
-              at.status_is
-              ∙ (worst-status_if (any_refused options (ended_lines text)) (is_refusal (outcome options (open_line text)))
-              ∙ (ap status_if (sym (any_refused-push options (ended_lines text) (open_line text)))
-              ∙ ap (status_of options) (sym ended))));
+          status_is = r ∙ (ap (λ (s : Status). worst s (status_of_line (outcome options (open_line text)))) at.status_is
+              ∙ (status_of-push options (ended_lines text) (open_line text) ∙ ap (status_of options) (sym ended)));
           is_spent = s ∙ at.is_spent;
         }
 
@@ -78,7 +75,7 @@ module _ (options : OptionValues) where
       → n ≡ min (state.line_count + 1) (2 ^ 64 - 1) → n ≡ line_number (length (ended_lines text))
   line_number-counts state text at n e = omega (arith, at.line_count)
 
-  -- one byte: what its line comes to
+  -- one byte: what the sinks take of its line
   module _ (took_out took_err : List ℕ → Type 0) (text : List ℕ) (byte : ℕ) where
     pub TookPiece-other : byte ≢ LF → took_out [] → took_err [] → TookPiece options took_out took_err text (byte ∷ [])
     TookPiece-other other o e = record {
@@ -119,7 +116,7 @@ module _ (options : OptionValues) where
       };
     }
 
-  -- the same failure, where more stands before
+  -- the same failure, where more was written before
   FailsInLine-map : (o o' e e' : List ℕ → Type 0) (number : ℕ) (i : Outcome Symbol) (fault : RunFault)
       → ((bs : List ℕ) → o bs → o' bs) → ((bs : List ℕ) → e bs → e' bs) → FailsInLine options o e number i fault
       → FailsInLine options o' e' number i fault
@@ -272,13 +269,12 @@ module _ (options : OptionValues) where
         ∙ append-nil (ended_lines text))))
 
     pub status_of-rest : (state.line.bytes ≡ [] → ⊥)
-        → worst state.status (status_if (is_refusal (outcome options (open_line text)))) ≡ status_of options (lines text)
+        → worst state.status (status_of_line (outcome options (open_line text))) ≡ status_of options (lines text)
     status_of-rest n =
-        ap (λ (s : Status). worst s (status_if (is_refusal (outcome options (open_line text))))) at.status_is
-        ∙ (worst-status_if (any_refused options (ended_lines text)) (is_refusal (outcome options (open_line text)))
-        ∙ (ap status_if (sym (any_refused-push options (ended_lines text) (open_line text)))
+        ap (λ (s : Status). worst s (status_of_line (outcome options (open_line text)))) at.status_is
+        ∙ (status_of-push options (ended_lines text) (open_line text)
         ∙ ap (status_of options) (sym (lines-split text
-        ∙ ap (λ (ls : List (List ℕ)). ended_lines text ++ ls) (a_rest n)))))
+        ∙ ap (λ (ls : List (List ℕ)). ended_lines text ++ ls) (a_rest n))))
 
   -- no line, and one line
   module _ (took_out took_err : List ℕ → Type 0) (before : ℕ) where

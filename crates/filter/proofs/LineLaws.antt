@@ -1,4 +1,4 @@
--- What a line comes to, from what its symbol or its refusal comes to.
+-- What is written for a line, from what is written for its symbol or its refusal.
 use Rattle.std.proofs.Common.{◌≡◌, ℕ, List, [], Result, Ok, Err, refl, subst}
 use Rattle.std.specs.Prelude.{IfErr, IfOk, OnOk}
 use Rattle.labelcore.specs.OptionValues.{OptionValues}

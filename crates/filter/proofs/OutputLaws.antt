@@ -1,14 +1,22 @@
--- What more lines add to the images options and the messages.
+-- What more lines add to the images, the messages and the status.
 use Rattle.std.proofs.Common.{◌≡◌, ℕ, ◌+◌, Bool, ◌||◌, true, false, List, [], ◌∷◌, ◌++◌, length, append_assoc, refl, ap}
-use Rattle.std.proofs.Common.{sym, ◌∙◌, arith, add-zero}
+use Rattle.std.proofs.Common.{sym, ◌∙◌, arith, add-zero, if◌then◌else◌}
+use Rattle.filter.specs.declared.status.Status.TheVariants.{Clean, Refused}
 use Rattle.std.specs.List.{list_any}
 use Rattle.std.proofs.lemmas.Grind.{flat_map-append}
 use Rattle.std.proofs.lemmas.List.{append-nil}
 use Rattle.std.proofs.lemmas.List.Folds.{list_any-append}
 use Rattle.filter.specs.Output.{outcome, image_of, message_of, is_refusal, line_number, images, messages_after}
-use Rattle.filter.specs.Output.{any_refused, status_if}
-use Rattle.filter.specs.Private.LineEnd.{worst}
+use Rattle.filter.specs.Output.{status_of}
+use Rattle.filter.specs.Private.LineEnd.{worst, status_of_line}
 use Rattle.labelcore.specs.OptionValues.{OptionValues}
+
+-- the status of some lines and of one line more
+worst_of_two : (a b : Bool) → worst (if a then Refused else Clean) (if b then Refused else Clean)
+    ≡ (if a || (b || false) then Refused else Clean)
+worst_of_two true b = refl
+worst_of_two false true = refl
+worst_of_two false false = refl
 
 module _ (options : OptionValues) where
   pub images-nil : images options [] ≡ []
@@ -44,20 +52,13 @@ module _ (options : OptionValues) where
   unfolding messages_after
   messages_after_one n line = append-nil (message_of (line_number n) (outcome options line))
 
-  pub any_refused-nil : any_refused options [] ≡ false
-  unfolding any_refused
-  any_refused-nil = refl
+  pub status_of-nil : status_of options [] ≡ Clean
+  unfolding status_of
+  status_of-nil = refl
 
-  pub any_refused-push : (xs : List (List ℕ)) (line : List ℕ)
-      → any_refused options (xs ++ line ∷ []) ≡ (any_refused options xs || is_refusal (outcome options line))
-  unfolding any_refused
-  any_refused-push xs line =
-      let p : List ℕ → Bool = λ l. is_refusal (outcome options l) in
-      list_any-append p xs (line ∷ [])
-      ∙ (elim (is_refusal (outcome options line)) as (λ v. (list_any p xs || (v || false)) ≡ (list_any p xs || v))
-      [ true ↦ refl | false ↦ refl ])
-
--- the status of some lines and of others
-pub worst-status_if : (a b : Bool) → worst (status_if a) (status_if b) ≡ status_if (a || b)
-worst-status_if true b = refl
-worst-status_if false b = refl
+  pub status_of-push : (xs : List (List ℕ)) (line : List ℕ)
+      → worst (status_of options xs) (status_of_line (outcome options line)) ≡ status_of options (xs ++ line ∷ [])
+  unfolding status_of
+  status_of-push xs line = let p : List ℕ → Bool = λ l. is_refusal (outcome options l) in
+      worst_of_two (list_any p xs) (p line)
+      ∙ ap (λ (b : Bool). if b then Refused else Clean) (sym (list_any-append p xs (line ∷ [])))

@@ -4,7 +4,7 @@ use Rattle.std.proofs.Common.{Some, refl, sym, ap, ◌∙◌, arith, get_or, inl
 use Rattle.std.proofs.Common.{◌==◌, eq-eqb}
 use mathlib.Core.Path.{fun_ext}
 use Rattle.std.specs.Prelude.{nat_lt}
-use Rattle.std.specs.List.{AllByRecursion, flat_map, list_all}
+use Rattle.std.specs.List.{AllByRecursion, cons_option, flat_map, list_all}
 use Rattle.std.proofs.Math.Nat.{mul-pos, mul-le-mul_right}
 use Rattle.std.proofs.lemmas.Bool.{cases_lt, le-ltb}
 use Rattle.std.proofs.lemmas.List.{get_or_past}
@@ -28,7 +28,7 @@ use Rattle.filter.specs.Symbol.{Symbol, quiet_zone}
 use Rattle.labelcore.specs.LineItem.{Outcome, skipped, refused, drawn}
 use Rattle.filter.specs.Output.{outcome, image_of, images}
 use Rattle.filter.specs.Output.{picture_of, text_of}
-use Rattle.filter.specs.Readback.{cut, pixels, read_image, drawn_symbols, with_symbol, AreRead}
+use Rattle.filter.specs.Readback.{cut, pixels, read_image, drawn_symbols, symbol_in, AreRead}
 use Rattle.filter.specs.Readback.{IsReadable, ReadsBack}
 
 -- the quiet zones are narrow
@@ -117,7 +117,7 @@ module _ (laws : ReadingLaws) (options : OptionValues) (low : 1 ≤ options.scal
   all_read (symbol ∷ symbols) all = (image_read options.format symbol all.0, all_read symbols all.1)
 
   with_readable : (o : Outcome Symbol) → ReadsBack o → (symbols : List Symbol) → AllByRecursion IsReadable symbols
-      → AllByRecursion IsReadable (with_symbol o symbols)
+      → AllByRecursion IsReadable (cons_option (symbol_in o) symbols)
   with_readable skipped r symbols all = all
   with_readable (refused fault) r symbols all = all
   with_readable (drawn symbol) r symbols all = (r, all)
@@ -131,7 +131,8 @@ module _ (laws : ReadingLaws) (options : OptionValues) (low : 1 ≤ options.scal
 
   image_more : (o : Outcome Symbol) (more : List ℕ) (symbols : List Symbol)
       → more ≡ flat_map (text_of options.format) (map (picture_of options) symbols)
-      → image_of options o ++ more ≡ flat_map (text_of options.format) (map (picture_of options) (with_symbol o symbols))
+      → image_of options o ++ more
+      ≡ flat_map (text_of options.format) (map (picture_of options) (cons_option (symbol_in o) symbols))
   image_more skipped more symbols e = e
   image_more (refused fault) more symbols e = e
   image_more (drawn symbol) more symbols e = ap (λ (bytes : List ℕ). text_of options.format (picture_of options symbol)

@@ -16,7 +16,7 @@ use Rattle.filter.proofs.FilterLaws.{TookLines-flushed, StopsInLine-one, StopsIn
 use Rattle.labelcore.specs.OptionValues.{OptionValues}
 
 module _ (options : OptionValues) where
-  -- what two clauses say of one fault, and of one answer
+  -- what follows from two clauses where a result is `Err`, and where it is `Ok`
   pub at_err : {T E : Type 0} (r : Result T E) (A C : T → Type 0) (P B Q : E → Type 0) → MatchResult r A P
       → MatchResult r C B → ((fault : E) → P fault → B fault → Q fault) → IfErr r Q
   at_err (Ok x) A C P B Q p b f = tt
@@ -114,7 +114,7 @@ module _ (options : OptionValues) where
         RunStops-at_end (took_out out out'') (took_err err err'') text o o' e e' fault r
         (elim s [ inl line ↦ inl (StopsInLine-finish fault line) | inr whole ↦ inr (TookLines-finish whole) ])
 
-    -- what is buffered goes on
+    -- what is buffered is passed on
     pub TookPiece-sent : took_out out' out'' [] → took_err err' err'' []
         → TookPiece options (took_out out out'') (took_err err err'') [] text
     TookPiece-sent none_out none_err = record {
@@ -124,7 +124,7 @@ module _ (options : OptionValues) where
           (length (ended_lines [])) took.added took.took none_out none_err;
     }
 
-    -- what is buffered does not go on: of the open line's image nothing was taken
+    -- what is buffered is not passed on: of the open line's image nothing was taken
     pub RunStops-between : took_out out' out'' [] → took_err err' err'' []
         → RunStops options (took_out out out'') (took_err err err'') text WriteOut
     RunStops-between none_out none_err =

@@ -1,4 +1,4 @@
--- Where a filter stands in its input, and what it does to its sinks (docs/SPECIFICATION.md, The filter as a library).
+-- The state of a filter in its input, and what it does to its sinks (docs/SPECIFICATION.md, The filter as a library).
 use Rattle.std.specs.Prelude.{◌≡◌, ℕ, ◌+◌, ◌-◌, ◌^◌, min, Bool, false, ◌⊎◌, List, ◌∷◌, ◌++◌, length, Result}
 use Rattle.std.specs.Prelude.{MatchResult}
 use Rattle.labelcore.specs.HeldLine.{HeldLine, held_line}
@@ -27,16 +27,16 @@ pub record StandsAt (options : OptionValues) (state : FilterState) (text : List 
   pub status_is : state.status ≡ status_of options (ended_lines text)
   pub is_spent : state.is_spent ≡ false
 
--- the sinks took the images and the messages of these lines, which so many lines stand before, and their symbols read
--- back
+-- the sinks took the images and the messages of these lines, whose symbols read back; `before` lines come before
+-- these
 pub record TookLines (options : OptionValues) (took_out took_err : List ℕ → Type 0) (before : ℕ) (lines : List (List ℕ))
     : Type 0 where
   pub out : took_out (images options lines)
   pub err : took_err (messages_after options before lines)
   pub read : AllByRecursion (λ line. ReadsBack (outcome options line)) lines
 
--- of these lines the earlier ones' images and messages are whole, and the sink that failed took a beginning of one
--- line's
+-- a sink failed in one of these lines: the images and messages of the lines before that one are whole, and of its own
+-- the sink took a beginning
 pub record StopsInLine (options : OptionValues) (took_out took_err : List ℕ → Type 0) (before : ℕ)
     (lines : List (List ℕ)) (fault : RunFault) : Type 0 where
   pub earlier : List (List ℕ)
@@ -47,7 +47,7 @@ pub record StopsInLine (options : OptionValues) (took_out took_err : List ℕ �
       (λ bytes. took_err (messages_after options before earlier ++ bytes))
       (line_number (before + length earlier)) (outcome options line) fault
 
--- the sinks took what the lines come to that the piece ends
+-- the sinks took the images and the messages of the lines that the piece ends
 pub record TookPiece (options : OptionValues) (took_out took_err : List ℕ → Type 0) (text piece : List ℕ) : Type 0 where
   pub added : List (List ℕ)
   pub grown : ended_lines (text ++ piece) ≡ ended_lines text ++ added
@@ -66,17 +66,17 @@ StopsInFinish options took_out took_err text fault =
     StopsInLine options took_out took_err (length (ended_lines text)) (unless_empty (open_line text)) fault
     ⊎ TookLines options took_out took_err (length (ended_lines text)) (unless_empty (open_line text))
 
--- a piece after this text: at `Ok` the filter stands after both and the sinks took what the lines come to that the
--- piece ends, at
--- `Err` a sink failed in one of these
+-- a piece after this text: at `Ok` the filter has been fed both,
+-- and the sinks took the images and the messages of the lines that the piece ends;
+-- at `Err` a sink failed in one of these lines
 abbrev pub FeedsPiece : {T : Type 0} → OptionValues → FilterState
     → (took_out took_err : List ℕ → Type 0) (text piece : List ℕ) → Result T RunFault → Type 0
 FeedsPiece options new took_out took_err text piece r =
     MatchResult r (λ _. StandsAt options new (text ++ piece) × TookPiece options took_out took_err text piece)
     (StopsInPiece options took_out took_err text piece)
 
--- the end of this text: at `Ok` the status is that of the text's lines and the sinks took what the last one comes to,
--- at `Err` a sink failed in it or in a flush
+-- the end of this text: at `Ok` the status is that of the text's lines, and the sinks took the image and the message
+-- of the line that no LF ends, if there is one; at `Err` a sink failed in that line or in a flush
 abbrev pub EndsInput : OptionValues → (took_out took_err : List ℕ → Type 0) (text : List ℕ) → Result Status RunFault
     → Type 0
 EndsInput options took_out took_err text r =

@@ -1,4 +1,4 @@
--- What a line's end does to the sinks (docs/SPECIFICATION.md, Lines).
+-- What the sinks take at the end of a line (docs/SPECIFICATION.md, Lines).
 use Rattle.std.specs.Prelude.{◌≡◌, ℕ, Bool, List, [], Result, MatchResult}
 use Rattle.device.specs.Device.{Begins, Rises, Unflushed}
 use Rattle.labelcore.specs.OptionValues.{OptionValues}
@@ -15,19 +15,19 @@ FailsInLine options took_out took_err number outcome WriteMessages =
     took_out [] × Begins took_err (message_of number outcome)
 FailsInLine options took_out took_err number outcome other = ⊥
 
--- the count of the sink that failed rises, and no other
+-- the count of failures of the sink that failed rises, and no other
 abbrev pub RaisesOneCount : (out_old out_new err_old err_new : ℕ) → RunFault → Type 0
 RaisesOneCount out_old out_new err_old err_new WriteOut = Rises out_old out_new × (err_new ≡ err_old)
 RaisesOneCount out_old out_new err_old err_new WriteMessages = (out_new ≡ out_old) × Rises err_old err_new
 RaisesOneCount out_old out_new err_old err_new other = ⊥
 
--- no count rises at `Ok`, and one at `Err`
+-- at `Ok` no count of failures rises; at `Err` that of one sink does
 abbrev pub CountsFault : {T : Type 0} → (out_old out_new err_old err_new : ℕ) → Result T RunFault → Type 0
 CountsFault out_old out_new err_old err_new r =
     MatchResult r (λ _. (out_new ≡ out_old) × (err_new ≡ err_old)) (RaisesOneCount out_old out_new err_old err_new)
 
--- where a call stops no sink stands flushed that did not before, but the images where it is the messages that failed:
--- the images are flushed first
+-- where a call stops, no sink is flushed that was not before, but for the images where the messages failed: the images
+-- are flushed first
 abbrev pub FlushedImagesAtMost : (out_old out_new err_old err_new : Bool) → RunFault → Type 0
 FlushedImagesAtMost out_old out_new err_old err_new WriteMessages = Unflushed err_old err_new
 FlushedImagesAtMost out_old out_new err_old err_new other = Unflushed out_old out_new × Unflushed err_old err_new

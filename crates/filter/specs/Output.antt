@@ -3,7 +3,6 @@ use Rattle.std.specs.Prelude.{ℕ, ◌+◌, ◌-◌, ◌^◌, min, Bool, true, f
 use Rattle.std.specs.List.{flat_map, list_any}
 use Rattle.labelcore.specs.declared.options.Format.{Format}
 use Rattle.labelcore.specs.declared.options.Format.TheVariants.{Pbm, Ascii}
-use Rattle.labelcore.specs.declared.symbology.Symbology.{Symbology}
 use Rattle.labelcore.specs.OptionValues.{OptionValues}
 use Rattle.labelcore.specs.LineItem.{Outcome, Request, skipped, refused, drawn, item, outcome_of}
 use Rattle.labelcore.specs.Message.{message}
@@ -13,15 +12,11 @@ use Rattle.filter.specs.Symbol.{Symbol, symbol_of, quiet_zone}
 use Rattle.filter.specs.declared.status.Status.{Status}
 use Rattle.filter.specs.declared.status.Status.TheVariants.{Clean, Refused}
 
--- what is drawn of data under the options of its line
-abbrev pub outcome_of_data : OptionValues → Symbology → List ℕ → Outcome Symbol
-outcome_of_data own symbology bytes = outcome_of (symbol_of own symbology bytes)
-
 -- what is drawn of an item
 abbrev pub outcome_of_item : Outcome Request → Outcome Symbol
 outcome_of_item skipped = skipped
 outcome_of_item (refused fault) = refused fault
-outcome_of_item (drawn asked) = outcome_of_data asked.options asked.symbology asked.bytes
+outcome_of_item (drawn asked) = outcome_of (symbol_of asked.options asked.symbology asked.bytes)
 
 -- what is drawn of a line
 unfoldable pub outcome : OptionValues → List ℕ → Outcome Symbol
@@ -37,12 +32,12 @@ abbrev pub text_of : Format → Picture → List ℕ
 text_of Pbm p = pbm_text p
 text_of Ascii p = ascii_text p
 
--- the image that is drawn, or none
+-- the image of what is drawn, or nothing
 abbrev pub image_of : OptionValues → Outcome Symbol → List ℕ
 image_of options (drawn symbol) = text_of options.format (picture_of options symbol)
 image_of options other = []
 
--- the message of a refusal, or none
+-- the message of a refusal, or nothing
 abbrev pub message_of : ℕ → Outcome Symbol → List ℕ
 message_of number (refused fault) = message number fault
 message_of number other = []
@@ -52,7 +47,7 @@ abbrev pub is_refusal : Outcome Symbol → Bool
 is_refusal (refused fault) = true
 is_refusal other = false
 
--- the number of a line after this many lines; it stops at the greatest `u64`
+-- the number of the line after `before` lines; it stops at the greatest `u64`
 abbrev pub line_number : ℕ → ℕ
 line_number before = min (before + 1) (2 ^ 64 - 1)
 
@@ -60,24 +55,12 @@ line_number before = min (before + 1) (2 ^ 64 - 1)
 unfoldable pub images : OptionValues → List (List ℕ) → List ℕ
 images options lines = flat_map (λ line. image_of options (outcome options line)) lines
 
--- the messages of lines after this many lines, joined
+-- the messages of lines that come after `before` lines, joined
 unfoldable pub messages_after : OptionValues → ℕ → List (List ℕ) → List ℕ
 messages_after options before [] = []
 messages_after options before (line ∷ lines) = message_of (line_number before) (outcome options line)
     ++ messages_after options (before + 1) lines
 
--- the messages of a text's lines, or of its first lines, joined
-abbrev pub messages : OptionValues → List (List ℕ) → List ℕ
-messages options lines = messages_after options 0 lines
-
--- whether some line is refused
-unfoldable pub any_refused : OptionValues → List (List ℕ) → Bool
-any_refused options lines = list_any (λ line. is_refusal (outcome options line)) lines
-
--- the status of lines some of which are refused, or none
-abbrev pub status_if : Bool → Status
-status_if is_refused = if is_refused then Refused else Clean
-
--- the status of a run over these lines
-abbrev pub status_of : OptionValues → List (List ℕ) → Status
-status_of options lines = status_if (any_refused options lines)
+-- the status of a run over these lines: whether some line is refused
+unfoldable pub status_of : OptionValues → List (List ℕ) → Status
+status_of options lines = if list_any (λ line. is_refusal (outcome options line)) lines then Refused else Clean

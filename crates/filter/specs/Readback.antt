@@ -1,6 +1,6 @@
 -- Images read back: pbm(5), and the readings of ISO/IEC 15420, 15417 and 18004 with no correction.
-use Rattle.std.specs.Prelude.{◌≡◌, ℕ, ◌<◌, ◌≤◌, ◌==◌, Bool, List, [], ◌∷◌, length, Option, Some, ⊤}
-use Rattle.std.specs.List.{list_all}
+use Rattle.std.specs.Prelude.{◌≡◌, ℕ, ◌<◌, ◌≤◌, ◌==◌, Bool, List, [], ◌∷◌, length, Option, Some, None, ⊤}
+use Rattle.std.specs.List.{list_all, filter_map}
 use Rattle.std.specs.Bool.{then_some}
 use Rattle.labelcore.specs.declared.options.Format.{Format}
 use Rattle.labelcore.specs.declared.options.Format.TheVariants.{Pbm, Ascii}
@@ -18,7 +18,7 @@ use Rattle.labelcore.specs.LineItem.{Outcome, skipped, refused, drawn}
 use Rattle.filter.specs.Symbol.{Symbol, quiet_zone}
 use Rattle.filter.specs.Output.{outcome}
 
--- a stream of images, cut into them
+-- a stream of images, cut into its images
 abbrev pub cut : Format → List ℕ → List (List ℕ)
 cut Pbm stream = pbm_files stream
 cut Ascii stream = ascii_files stream
@@ -28,50 +28,41 @@ abbrev pub pixels : Format → List ℕ → Option Raster
 pixels Pbm text = pbm_pixels text
 pixels Ascii text = ascii_pixels text
 
--- the data of a QR symbol's modules, row by row
-abbrev pub read_qr : List (List Bool) → Option (List ℕ)
-read_qr rows = do
+-- the full data of a symbol's modules, row by row: the rows of a linear symbol are equal, a QR symbol is a square
+abbrev pub read_modules : Symbology → List (List Bool) → Option (List ℕ)
+read_modules Ean13 rows = common_row rows >>= read_ean13
+read_modules Ean8 rows = common_row rows >>= read_ean8
+read_modules UpcA rows = common_row rows >>= read_upca
+read_modules Code128 rows = common_row rows >>= read_code128
+read_modules Qr rows = do
   side ← then_some (list_all (λ row. length row == length rows) rows) (length rows)
   symbol ← read_matrix side (value_at rows)
   data_in symbol.version symbol.level symbol.codewords
 
--- the data of a linear symbol's modules, whose rows are equal
-abbrev pub read_linear : (List Bool → Option (List ℕ)) → List (List Bool) → Option (List ℕ)
-read_linear reading rows = common_row rows >>= reading
-
--- the full data of a symbol's modules, row by row
-abbrev pub read_modules : Symbology → List (List Bool) → Option (List ℕ)
-read_modules Ean13 rows = read_linear read_ean13 rows
-read_modules Ean8 rows = read_linear read_ean8 rows
-read_modules UpcA rows = read_linear read_upca rows
-read_modules Code128 rows = read_linear read_code128 rows
-read_modules Qr rows = read_qr rows
-
--- the full data of an image, the reader being told the format, the scale and the symbology
+-- the full data of an image; the reader knows the format, the scale and the symbology
 unfoldable pub read_image : Format → ℕ → Symbology → List ℕ → Option (List ℕ)
 read_image format scale symbology text = do
   image ← pixels format text
   modules ← sample image scale (quiet_zone symbology)
   read_modules symbology modules
 
--- with the symbol of a line that is drawn
-abbrev pub with_symbol : Outcome Symbol → List Symbol → List Symbol
-with_symbol (drawn symbol) symbols = symbol ∷ symbols
-with_symbol other symbols = symbols
+-- the symbol that is drawn, or none
+abbrev pub symbol_in : Outcome Symbol → Option Symbol
+symbol_in (drawn symbol) = Some symbol
+symbol_in other = None
 
 -- the symbols of the lines that are drawn, in order
 unfoldable pub drawn_symbols : OptionValues → List (List ℕ) → List Symbol
-drawn_symbols options [] = []
-drawn_symbols options (line ∷ lines) = with_symbol (outcome options line) (drawn_symbols options lines)
+drawn_symbols options lines = filter_map (λ line. symbol_in (outcome options line)) lines
 
--- there is one image for each symbol, in order, and it is read as the symbol's full data
+-- there is one image for each symbol, in order, and it reads as the symbol's full data
 unfoldable pub AreRead : Format → ℕ → List (List ℕ) → List Symbol → Type 0
 AreRead format scale [] [] = ⊤
 AreRead format scale (image ∷ images) (symbol ∷ symbols) =
     (read_image format scale symbol.symbology image ≡ Some symbol.full) × AreRead format scale images symbols
 AreRead format scale images symbols = ⊥
 
--- modules of some size that are read as the full data
+-- a symbol of 1 to 1,795 columns and 1 to 500 rows, whose modules read as its full data
 pub record IsReadable (symbol : Symbol) : Type 0 where
   pub some_columns : 0 < symbol.modules.width
   pub columns : symbol.modules.width ≤ 1795

@@ -1,57 +1,46 @@
--- A run over a whole input: the headline, and what stands where the run stops before the end (docs/SPECIFICATION.md,
--- The filter as a library).
+-- A run over a whole input: the headline, and what was written where the run stops before the end
+-- (docs/SPECIFICATION.md, The filter as a library).
 use Rattle.std.specs.Prelude.{◌≡◌, ℕ, ◌-◌, ◌^◌, ◌≤◌, ◌⊎◌, List, length}
 use Rattle.device.specs.Device.{Rises}
 use Rattle.labelcore.specs.OptionValues.{OptionValues}
 use Rattle.device.specs.Lines.{lines, ended_lines}
-use Rattle.filter.specs.Output.{images, messages, status_of}
+use Rattle.filter.specs.Output.{images, messages_after, status_of}
 use Rattle.filter.specs.Readback.{AreRead, drawn_symbols, cut}
 use Rattle.filter.specs.declared.status.Status.{Status}
 use Rattle.filter.specs.Filter.{TookLines, StopsInLine}
 use Rattle.filter.specs.declared.status.RunFault.{RunFault}
 use Rattle.filter.specs.declared.status.RunFault.TheVariants.{Read, WriteOut, WriteMessages, Spent}
 
--- The first half of the headline: the sinks took the stream and the messages of the text's lines, and the status is
--- theirs.
-pub record WritesOutput (options : OptionValues) (took_out took_err : List ℕ → Type 0) (status : Status)
-    (text stream : List ℕ) : Type 0 where
-  pub images_are : stream ≡ images options (lines text)
-  pub out : took_out stream
-  pub err : took_err (messages options (lines text))
-  pub status_is : status ≡ status_of options (lines text)
-
--- The second half: in the stream there is one image for each line that is drawn, in order, and each is read as the full
--- data of its line.
-abbrev pub ImagesAreRead : OptionValues → (text stream : List ℕ) → Type 0
-ImagesAreRead options text stream =
-    AreRead options.format options.scale (cut options.format stream) (drawn_symbols options (lines text))
-
--- A whole run: both halves, of the one text that the source gave and the one stream that the sink took.
+-- A whole run. The sinks took the images and the messages of the lines of the one text that the source gave, and the
+-- status is theirs. In the stream of the images there is one for each line that is drawn, in order, and each is read as
+-- the full data of its line.
 pub record RunsWhole (options : OptionValues) (gave took_out took_err : List ℕ → Type 0) (status : Status)
     : Type 0 where
   pub text : List ℕ
-  pub stream : List ℕ
   pub given : gave text
-  pub written : WritesOutput options took_out took_err status text stream
-  pub read : ImagesAreRead options text stream
+  pub out : took_out (images options (lines text))
+  pub err : took_err (messages_after options 0 (lines text))
+  pub status_is : status ≡ status_of options (lines text)
+  pub read : AreRead options.format options.scale (cut options.format (images options (lines text)))
+      (drawn_symbols options (lines text))
 
 -- a sink failed in one of the text's lines, or in a flush after them
 abbrev pub StopsInText : OptionValues → (took_out took_err : List ℕ → Type 0) (text : List ℕ) → RunFault → Type 0
 StopsInText options took_out took_err text fault = StopsInLine options took_out took_err 0 (lines text)
     fault ⊎ TookLines options took_out took_err 0 (lines text)
 
--- what the sinks took of the text that the source gave
+-- what the sinks took where the run stopped, of the text that the source gave
 abbrev pub RunStops : OptionValues → (took_out took_err : List ℕ → Type 0) (text : List ℕ) → RunFault → Type 0
 RunStops options took_out took_err text Read = TookLines options took_out took_err 0 (ended_lines text)
 RunStops options took_out took_err text WriteOut = StopsInText options took_out took_err text WriteOut
 RunStops options took_out took_err text WriteMessages = StopsInText options took_out took_err text WriteMessages
 RunStops options took_out took_err text Spent = ⊥
 
--- as many reads gave bytes as a run makes
+-- the source gave 2^64 - 1 bytes or more, as it does where 2^64 - 1 reads gave bytes
 abbrev pub GaveTooMuch : (List ℕ → Type 0) → Type 0
 GaveTooMuch gave = (text : List ℕ) × gave text × (2 ^ 64 - 1 ≤ length text)
 
--- the count of the device that failed rises, and no other; at the bound on reads none does
+-- the count of failures of the device that failed rises, and no other; where the run made 2^64 - 1 reads, none does
 abbrev pub RunRaises : (too_much : Type 0) (source_old source_new out_old out_new err_old err_new : ℕ) → RunFault
     → Type 0
 RunRaises too_much source_old source_new out_old out_new err_old err_new Read =

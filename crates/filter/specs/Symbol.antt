@@ -1,5 +1,5 @@
 -- What is drawn of a line's data: ISO/IEC 15420, 15417 and 18004.
-use Rattle.std.specs.Prelude.{ℕ, Bool, List, Result, ok_or, option_map}
+use Rattle.std.specs.Prelude.{ℕ, Bool, List, Result, Ok, ok_or}
 use Rattle.std.specs.Result.{result_map_both}
 use Rattle.labelcore.specs.declared.symbology.Symbology.{Symbology}
 use Rattle.labelcore.specs.declared.symbology.Symbology.TheVariants.{Ean13, Ean8, UpcA, Code128, Qr}
@@ -7,6 +7,7 @@ use Rattle.labelcore.specs.declared.fault.Fault.{Fault}
 use Rattle.labelcore.specs.declared.fault.Fault.TheVariants.{DoesNotFit}
 use Rattle.labelcore.specs.Faults.{fault_of}
 use Rattle.labelcore.specs.OptionValues.{OptionValues}
+use Rattle.labelcore.specs.Settings.{◌>>=◌}
 use Rattle.linear.specs.declared.refusal.Refusal.{Refusal}
 use Rattle.linear.specs.Digits.{full_digits}
 use Rattle.linear.specs.Ean.{ean13_row, ean8_row, upca_row}
@@ -19,7 +20,7 @@ use Rattle.qrmatrix.specs.Modules.{module_at}
 use Rattle.picture.specs.declared.quiet_zone.QuietZone.{QuietZone}
 use Rattle.picture.specs.Picture.{Picture, bars}
 
--- a symbol: its symbology, its full data, which has the check digit, and its modules
+-- a symbol: its symbology, its full data (for EAN and UPC with the check digit), and its modules
 pub record Symbol : Type 0 where
   pub symbology : Symbology
   pub full : List ℕ
@@ -40,25 +41,13 @@ linear_symbol symbology row options found =
     result_map_both (λ full. record { symbology = symbology; full = full; modules = bars (row full) options.height })
     fault_of found
 
--- the codewords of the data in a version
-unfoldable pub qr_codewords : OptionValues → List ℕ → ℕ → List ℕ
-qr_codewords options bytes version = symbol_codewords version options.level (chosen_segments version bytes) bytes
-
--- the modules of codewords, under the mask of the options, or else the first with the lowest penalty
-unfoldable pub qr_modules : OptionValues → ℕ → List ℕ → Picture
-qr_modules options version codewords = record {
-  width = side_of version;
-  height = side_of version;
-  dark = module_at version options.level (chosen_mask version options.level options.mask codewords) codewords;
-}
-
--- the QR symbol of the data in a version
-abbrev pub qr_symbol : OptionValues → List ℕ → ℕ → Symbol
-qr_symbol options bytes version = record {
-  symbology = Qr;
-  full = bytes;
-  modules = qr_modules options version (qr_codewords options bytes version);
-}
+-- the modules of the data in a version, under the mask of the options, or else the first with the lowest penalty
+unfoldable pub qr_modules : OptionValues → List ℕ → ℕ → Picture
+qr_modules options bytes version =
+    let codewords = symbol_codewords version options.level (chosen_segments version bytes) bytes in
+    let mask = chosen_mask version options.level options.mask codewords in
+    let side = side_of version in
+    record { width = side; height = side; dark = module_at version options.level mask codewords }
 
 -- the symbol of the data, or why there is none
 unfoldable pub symbol_of : OptionValues → Symbology → List ℕ → Result Symbol Fault
@@ -66,6 +55,6 @@ symbol_of options Ean13 bytes = linear_symbol Ean13 ean13_row options (full_digi
 symbol_of options Ean8 bytes = linear_symbol Ean8 ean8_row options (full_digits 7 bytes)
 symbol_of options UpcA bytes = linear_symbol UpcA upca_row options (full_digits 11 bytes)
 symbol_of options Code128 bytes = linear_symbol Code128 code128_row options (full_code128 bytes)
-symbol_of options Qr bytes =
-    ok_or (option_map (qr_symbol options bytes) (chosen_version options.min_version options.level bytes))
-    (DoesNotFit options.level)
+symbol_of options Qr bytes = do
+  version ← ok_or (chosen_version options.min_version options.level bytes) (DoesNotFit options.level)
+  Ok (record { symbology = Qr; full = bytes; modules = qr_modules options bytes version })

@@ -6,10 +6,10 @@ ghost use Rattle.labelcore.specs.declared.symbology.Symbology.TheVariants.{Qr};
 ghost use Rattle.picture.specs.Picture.{enlargement, symbol_picture};
 ghost use Rattle.qrdata.specs.Fewest.{chosen_segments};
 ghost use Rattle.filter.specs.Drawing.{DrawsOutcome};
-ghost use Rattle.filter.specs.Output.{outcome_of_data, text_of};
+ghost use Rattle.filter.specs.Output.{text_of};
 ghost use Rattle.filter.specs.Private.LineEnd.{IsLinear};
 ghost use Rattle.filter.specs.Readback.{IsReadable};
-ghost use Rattle.filter.specs.Symbol.{linear_symbol, qr_codewords, qr_modules};
+ghost use Rattle.filter.specs.Symbol.{linear_symbol, qr_modules, symbol_of};
 
 use device::{IoFault, Sink};
 use labelcore::{Fault, Format, Options, Symbology};
@@ -18,14 +18,14 @@ use picture::{Bars, Framed, Grid, QuietZone, Scaled, reading_laws, write_ascii, 
 use qrdata::{Codewords, Plan, Version, choose, codewords};
 use qrmatrix::{Matrix, QUIET_ZONE};
 
-/// Draws one symbol: writes the image of data in a symbology, under these options, and flushes nothing. No line of text
-/// is needed. The inner result says whether the data is refused; nothing is written then.
+/// Draws one symbol: writes the image of `bytes` in a symbology, under these options, and flushes nothing. `bytes` is
+/// not empty. The inner result is the fault where the data is refused; nothing is written then.
 ///
-/// The image reads back as the full data of the symbol: the data, for EAN and UPC with the check digit.
+/// The image reads back as the full data of the symbol: the data and, for EAN and UPC, the check digit.
 ///
 /// # Errors
 ///
-/// `IoFault` where a write fails: the sink took a beginning of the image.
+/// [`IoFault`] where a write fails: the sink took a beginning of the image.
 #[tactic(auto, unfolding(crate::specs::Symbol::symbol_of))]
 pub fn draw<O: Sink>(
     options: &Options,
@@ -35,7 +35,7 @@ pub fn draw<O: Sink>(
 ) -> Result<Result<(), Fault>, IoFault>
     requires { bytes.now ≢ [] }
     ensures { DrawsOutcome O.Sink out.old out.new options.now
-        (outcome_of_data options.now symbology bytes.now) result }
+        (outcome_of (symbol_of options.now symbology bytes.now)) result }
 {
     match symbology {
         Symbology::Ean13 => draw_linear::<Ean13, O>(options, bytes, out),
@@ -82,7 +82,7 @@ fn draw_qr<O: Sink>(
     out: &mut O,
 ) -> Result<Result<(), Fault>, IoFault>
     ensures { DrawsOutcome O.Sink out.old out.new options.now
-        (outcome_of_data options.now Qr bytes.now) result }
+        (outcome_of (symbol_of options.now Qr bytes.now)) result }
 {
     let min_version = Version::of(options.min_version());
     match choose(min_version, options.level(), bytes) {
@@ -101,12 +101,11 @@ fn draw_qr<O: Sink>(
 }
 
 /// The symbol of a plan.
-#[tactic(auto, unfolding(crate::specs::Symbol::qr_modules, crate::specs::Symbol::qr_codewords))]
+#[tactic(auto, unfolding(crate::specs::Symbol::qr_modules))]
 fn matrix_of(options: &Options, plan: &Plan) -> Matrix
     requires chosen { plan.now.segments ≡ chosen_segments plan.now.version plan.now.bytes }
     requires level { plan.now.level ≡ options.now.level }
-    ensures modules { symbol_picture result ≡ qr_modules options.now plan.now.version
-        (qr_codewords options.now plan.now.bytes plan.now.version) }
+    ensures modules { symbol_picture result ≡ qr_modules options.now plan.now.bytes plan.now.version }
     ensures side { result.side ≤ 57 }
     ensures read { IsReadable (record {
       symbology = Qr;
@@ -120,7 +119,7 @@ fn matrix_of(options: &Options, plan: &Plan) -> Matrix
     Matrix::draw(plan.version(), plan.level(), options.mask(), &all)
 }
 
-/// Writes the text of a picture, each of its modules a square of pixels.
+/// Writes the text of a picture, enlarged by the scale of the options.
 fn write_picture<G: Grid + Drop, O: Sink>(
     options: &Options,
     grid: G,
@@ -135,7 +134,7 @@ fn write_picture<G: Grid + Drop, O: Sink>(
     write_text(options.format(), &picture, out)
 }
 
-/// Writes the text of a picture.
+/// Writes the text of a picture in a format.
 fn write_text<G: Grid, O: Sink>(format: Format, picture: &G, out: &mut O) -> Result<(), IoFault>
     ensures { WritesText O.Sink out.old out.new (text_of format (G.picture picture.now)) result }
 {

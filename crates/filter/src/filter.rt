@@ -14,7 +14,8 @@ use device::Sink;
 use labelcore::{LineBuf, Options};
 use std::marker::Model;
 
-/// What is held of the open line, and the number and the status of the lines before it.
+/// A filter that is fed its input piece by piece. Between pieces it keeps at most 1,100 bytes of the line that is not
+/// ended yet, the number of the lines before it, and their status.
 #[derive(Drop)]
 pub struct Filter {
     options: Options,
@@ -39,7 +40,7 @@ impl Model for Filter {
 }
 
 impl Filter {
-    /// A filter of these options that was fed nothing.
+    /// Returns a filter with these options that was fed nothing.
     pub fn new(options: Options) -> Self
         ensures { StandsAt options result [] }
     {
@@ -86,13 +87,13 @@ impl Filter {
         }
     }
 
-    /// Takes the next piece of the input: writes the images and messages of the lines that it ends, flushes nothing, and
-    /// holds the rest, at most 1,100 bytes.
+    /// Takes the next piece of the input: writes the images and messages of the lines that it ends. It flushes nothing.
     ///
     /// # Errors
     ///
-    /// `WriteOut` and `WriteMessages` say which sink failed, in one of these lines: earlier lines' texts are whole, and
-    /// its own is a beginning. From then on the filter is spent: every call returns `Spent` and calls no sink.
+    /// `WriteOut` where a call of `out` failed, `WriteMessages` where one of `err` did. The images and messages of the
+    /// lines before are whole; of this line's the sink took a beginning. From then on the filter is spent: every call
+    /// returns `Spent` and calls no sink.
     pub fn feed<O: Sink, E: Sink>(
         &mut self,
         piece: &[u8],
@@ -126,8 +127,8 @@ impl Filter {
     ///
     /// # Errors
     ///
-    /// `WriteOut` and `WriteMessages` say which sink failed, in that line or in its flush. A filter that was spent
-    /// returns `Spent` and calls no sink.
+    /// `WriteOut` where a call of `out` failed, `WriteMessages` where one of `err` did, in that line or in a flush. A
+    /// filter that was spent returns `Spent` and calls no sink.
     pub fn finish<O: Sink, E: Sink>(self, out: &mut O, err: &mut E) -> Result<Status, RunFault>
         ensures ends { (options : OptionValues) (text : List ℕ) → StandsAt options self text
             → EndsInput options (O.took out.old out.new) (E.took err.old err.new) text result }
@@ -150,7 +151,7 @@ impl Filter {
         Ok(status)
     }
 
-    /// Writes the image or the message of the last line, if no LF ends it. The status is that of all lines.
+    /// Writes the image or the message of the last line, if no LF ends it. Returns the status of all lines.
     fn finish_open_line<O: Sink, E: Sink>(
         &self,
         out: &mut O,

@@ -1,4 +1,4 @@
-//! What the end of a line does.
+//! What is done at the end of a line.
 ghost use Rattle.std.specs.Prelude.{◌≡◌, ℕ, List, [], IfOk, IfErr, OnOk};
 ghost use Rattle.device.specs.Device.{Unflushed};
 ghost use Rattle.labelcore.specs.HeldLine.{held_line};
@@ -17,7 +17,11 @@ use crate::status::{RunFault, Status};
 use device::{IoFault, Sink};
 use labelcore::{Fault, Item, LineBuf, Options, Scratch, parse, write_fault};
 
-/// Writes the line's image or its message. The status says whether the line is refused.
+/// Writes the image or the message of the line with this number, and flushes nothing. Returns the status of this line.
+///
+/// # Errors
+///
+/// `WriteOut` where a call of `out` failed, `WriteMessages` where one of `err` did.
 pub fn finish_line<O: Sink, E: Sink>(
     options: &Options,
     line: &LineBuf,
@@ -45,7 +49,7 @@ pub fn finish_line<O: Sink, E: Sink>(
     }
 }
 
-/// Draws what a line asks for, or returns why the line is refused.
+/// Draws what a line asks for. The inner result is the fault where the line is refused.
 fn draw_item<O: Sink>(item: Item, out: &mut O) -> Result<Result<(), Fault>, IoFault>
     requires { HasData (item_seen item) }
     ensures { (options : OptionValues) → KeepsRun options (item_seen item.entry)
@@ -59,7 +63,7 @@ fn draw_item<O: Sink>(item: Item, out: &mut O) -> Result<Result<(), Fault>, IoFa
     }
 }
 
-/// Writes the message of a refused line, after the images of earlier lines.
+/// Writes the message of a refused line. Before it, passes on the images of earlier lines.
 fn refuse<O: Sink, E: Sink>(
     number: u64,
     fault: &Fault,

@@ -11,14 +11,14 @@ use device::{Buffered, Sink, StdSink, StdSource};
 use labelcore::Options;
 use std::io::{Read, Write};
 
-/// Runs over a reader of std, as [`run`] does, with the images going to a writer of std through a buffer.
+/// Runs over a reader of std, as [`run`] does, and writes the images to a writer of std through a buffer.
 ///
-/// At `Ok` the writer itself got every image: nothing is left in the buffer, which is flushed, and nothing in the
-/// reader. Where the bytes of the reader are known, the images and messages are those of exactly these bytes.
+/// At `Ok` the writer itself took every image, nothing is left in the buffer, both sinks are flushed, and the reader is
+/// at its end. Where the bytes of the reader are known, the images and messages are those of exactly these bytes.
 ///
 /// # Errors
 ///
-/// Those of [`run`]. What earlier lines produced is still passed on to the writer, as far as that takes it.
+/// Those of [`run`]. The images of earlier lines are passed on to the writer, as far as it takes them.
 pub fn run_streams<R: Read, W: Write, E: Sink>(
     options: Options,
     source: &mut StdSource<R>,
@@ -45,7 +45,7 @@ pub fn run_streams<R: Read, W: Write, E: Sink>(
             Ok(status)
         }
         Err(fault) => {
-            // Another failure changes nothing: the run has failed already.
+            // Its result does not matter: the run has failed already.
             let _ = out.pass_on();
             Err(fault)
         }

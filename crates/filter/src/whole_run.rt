@@ -10,14 +10,13 @@ use labelcore::Options;
 use picture::reading_laws;
 
 /// Reads the source to its end, at most 4,096 bytes a read, and writes the images of its lines to `out`, their messages
-/// to `err`. Before each read and each message, `out` passes on what it has buffered. The status says whether a line was
-/// refused.
+/// to `err`. Before each read and each message, `out` passes on what it buffers. Returns whether a line was refused.
 ///
 /// # Errors
 ///
-/// `Read`, `WriteOut` and `WriteMessages` say which device failed; `Spent` is never returned. After `Read` every ended
-/// line's text is whole, the open line is not drawn and nothing is flushed. `Read` also comes after 2^64 - 1 reads that
-/// gave bytes.
+/// `Read` where a read failed: the images and messages of the ended lines are whole, the open line is not drawn, and
+/// nothing is flushed. `Read` also after 2^64 - 1 reads that gave bytes. `WriteOut` where a call of `out` failed,
+/// `WriteMessages` where one of `err` did. `Spent` is never returned.
 pub fn run<S: Source, O: Sink, E: Sink>(
     options: Options,
     source: &mut S,
@@ -44,7 +43,7 @@ pub fn run<S: Source, O: Sink, E: Sink>(
     let mut filter = Filter::new(options);
     let mut buffer = [0u8; 4096];
     for _turn in 0..u64::MAX {
-        // A read may wait: the texts of earlier lines go out before it.
+        // A read may wait for input, so the images of earlier lines are passed on first.
         if out.pass_on().is_err() {
             return Err(RunFault::WriteOut);
         }

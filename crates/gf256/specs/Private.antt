@@ -10,7 +10,7 @@ zeros n = replicate n 0
 abbrev pub field_modulus : ℕ
 field_modulus = 0x11D
 
--- a register has a place for each coefficient of a divisor, and there are some
+-- a register has a place for each coefficient of a divisor, and there is at least one
 abbrev pub HasPlaces : List ℕ → List ℕ → Type 0
 HasPlaces coefficients register = (0 < length coefficients) × (length register ≡ length coefficients)
 

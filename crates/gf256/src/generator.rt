@@ -35,8 +35,8 @@ impl Generator {
     }
 
     /// Writes the error correction codewords of a block into `out`, which has room for exactly these. They are the
-    /// remainder of the block times x^k by the generator polynomial, the highest coefficient first. What `out` held
-    /// before plays no part.
+    /// remainder of the block times x^k by the generator polynomial, the highest coefficient first. The old content of
+    /// `out` is dropped.
     pub fn ec_codewords(&self, block: &[u8], out: &mut [u8])
         requires { length out.old ≡ self.now }
         ensures { AreEcCodewords self.now block.now out.new }
@@ -110,8 +110,8 @@ fn move_up_and_add(logarithm: u8, logarithms: &[u8], register: &mut [u8])
     register[last] = product_of_powers(logarithm, logarithms[last]);
 }
 
-/// For crates above: whatever the block, the error correction codewords of the definition are a remainder by the
-/// generator polynomial, and a block followed by a remainder is a multiple of it. It does nothing when it runs.
+/// Proves, for crates above, that the error correction codewords of the definition are a remainder by the generator
+/// polynomial, and that a block followed by a remainder is a multiple of it. It does nothing when it runs.
 pub fn ec_codewords_are_sound()
     ensures remainder { EcCodewordsAreRemainder }
     ensures roots { RemaindersHaveRoots }

@@ -1,4 +1,4 @@
--- The first bad setting from the left decides.
+-- The first bad setting from the left is the one that is reported.
 use Rattle.std.proofs.Common.{◌≡◌, ℕ, Bool, true, false, ◌+◌, List, [], ◌∷◌, ◌++◌, length, Result, Ok, Err, refl, ap}
 use Rattle.std.proofs.Common.{sym, ◌∙◌, arith, add-zero, length-append, append_assoc, subst}
 use Rattle.std.proofs.lemmas.Bool.{false≢true}

@@ -4,7 +4,7 @@ use Rattle.labelcore.specs.OptionValues.{OptionValues}
 use Rattle.labelcore.specs.declared.options.Format.TheVariants.{Pbm}
 use Rattle.qrdata.specs.declared.level.Level.TheVariants.{M}
 
--- plain PBM, one pixel a module, 50 modules high, level M, any version, the mask of the least penalty, no escapes
+-- plain PBM, one pixel a module, 50 modules high, level M, any version, the mask with the lowest penalty, no escapes
 abbrev pub default_options : OptionValues
 default_options =
     record { format = Pbm; scale = 1; height = 50; level = M; min_version = 1; mask = None; escapes = false }

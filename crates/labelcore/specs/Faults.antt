@@ -7,7 +7,7 @@ use Rattle.labelcore.specs.declared.fault.Fault.{Fault}
 use Rattle.labelcore.specs.declared.fault.Fault.TheVariants.{NotADigit, WrongNumberOfDigits, WrongCheckDigit}
 use Rattle.labelcore.specs.declared.fault.Fault.TheVariants.{DataTooLong, NotAscii}
 
--- the fault of the same name
+-- the fault of a line for a refusal of its data
 abbrev pub fault_of : Refusal → Fault
 fault_of (NoDigit place) = NotADigit place
 fault_of (WrongNumber count) = WrongNumberOfDigits count

@@ -10,6 +10,6 @@ pub record HeldLine : Type 0 where
   pub bytes : List ℕ
   pub is_too_long : Bool
 
--- what is held of a line: no more than the limit, and whether there is more
+-- this line as it is held: at most its first 1,100 bytes, and whether it is longer
 abbrev pub held_line : List ℕ → HeldLine
 held_line line = record { bytes = take line_limit line; is_too_long = nat_lt line_limit (length line) }

@@ -1,8 +1,13 @@
--- Names in a list.
-use Rattle.std.specs.Prelude.{ℕ, List, [], ◌∷◌, Option, Some, None, if◌then◌else◌}
-use Rattle.std.specs.Str.{bytes_eq}
+-- Single characters, and names in a list.
+use Rattle.std.specs.Prelude.{ℕ, Bool, ◌==◌, List, Option, option_map}
+use Prim.Native.String.{String}
+use Rattle.std.specs.List.{find}
+use Rattle.std.specs.Str.{byte, bytes_eq}
 
--- what a list has beside the name, where it stands first
+-- whether a byte is this character
+abbrev pub is : String → ℕ → Bool
+is character b = b == byte character
+
+-- what a list has beside this name, where the name is first found
 abbrev pub listed : {X : Type 0} → List ℕ → List (List ℕ × X) → Option X
-listed name [] = None
-listed name (entry ∷ more) = if bytes_eq name entry.0 then Some entry.1 else listed name more
+listed name entries = option_map (λ entry. entry.1) (find (λ entry. bytes_eq name entry.0) entries)

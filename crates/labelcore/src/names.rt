@@ -4,7 +4,7 @@ ghost use Rattle.labelcore.specs.OptionValues.{level_named};
 
 use qrdata::Level;
 
-/// The level of this letter, `L`, `M`, `Q` or `H`. None for any other text.
+/// Returns the level of this letter, `L`, `M`, `Q` or `H`, or `None` for any other text.
 #[tactic(auto, unfolding(crate::specs::OptionValues::level_named))]
 pub fn level_of(letter: &[u8]) -> Option<Level>
     ensures { result ≡ level_named letter.now }

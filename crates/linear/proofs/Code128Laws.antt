@@ -2,7 +2,7 @@
 use Rattle.std.proofs.Common.{ℕ, ◌≡◌, ◌+◌, ◌-◌, ◌<◌, true, false, Ok, Some, None, List, [], ◌∷◌, ◌++◌, length, take}
 use Rattle.std.proofs.Common.{ltb}
 use Rattle.std.proofs.Common.{leb, refl, ap, subst, ◌∙◌, arith, length-append, inl, inr, lit<}
-use Rattle.std.specs.Prelude.{option_and_then, get_or, position, find, All, IfOk}
+use Rattle.std.specs.Prelude.{option_and_then, get_or, position, find, slice_range, All, IfOk}
 use Rattle.std.specs.Str.{bytes_eq}
 use Rattle.std.specs.List.{AllByRecursion}
 use Rattle.std.proofs.lemmas.Slice.Eq.{bytes_eq-Decides}
@@ -13,7 +13,7 @@ use Rattle.linear.specs.declared.switching.CodeSet.{CodeSet}
 use Rattle.linear.specs.declared.switching.CodeSet.TheVariants.{A, B, C}
 use Rattle.linear.specs.CodeSets.{data_values, start_set, start_value}
 use Rattle.linear.specs.Code128.{check_value, with_check, full_code128, code128_row}
-use Rattle.linear.specs.Code128Reading.{read_values, inner, symbol_data, read_code128}
+use Rattle.linear.specs.Code128Reading.{read_values, symbol_data, read_code128}
 use Rattle.linear.proofs.DigitLaws.{IfOk-from_each, chosen, fails_from_None, not_refused}
 use Rattle.linear.proofs.GroupLaws.{take-append}
 use Rattle.linear.proofs.CharacterRowLaws.{read_code128-characters}
@@ -21,10 +21,11 @@ use Rattle.linear.proofs.ValueRangeLaws.{AreCharacters, AreCharacters-append, Ar
 use Rattle.linear.proofs.ValueReadingLaws.{read_values-data_values}
 
 -- the values between the start and the check value
-inner-with_check : (start check : ℕ) (values : List ℕ) → inner (start ∷ (values ++ check ∷ [])) ≡ values
-inner-with_check start check values =
+between_first_and_last : (start check : ℕ) (values : List ℕ)
+    → slice_range (start ∷ (values ++ check ∷ [])) 1 (length (start ∷ (values ++ check ∷ [])) - 1) ≡ values
+between_first_and_last start check values =
     let long : length (values ++ check ∷ []) ≡ length values + 1 = length-append values (check ∷ []) in
-    let count : length (start ∷ (values ++ check ∷ [])) - 2 ≡ length values = omega arith in
+    let count : length (start ∷ (values ++ check ∷ [])) - 1 - 1 ≡ length values = omega arith in
     ap (λ k. take k (values ++ check ∷ [])) count ∙ take-append (length values) values (check ∷ []) refl
 
 same_values : (values : List ℕ) → bytes_eq values values ≡ true
@@ -43,7 +44,7 @@ symbol_data-with_check : (set : CodeSet) (values : List ℕ)
 symbol_data-with_check set values =
     ap (λ xs. option_and_then (λ one. read_values one false xs)
     (find (λ one. bytes_eq (with_check one xs) (with_check set values)) (A ∷ B ∷ C ∷ [])))
-    (inner-with_check (start_value set) (check_value (start_value set) values) values)
+    (between_first_and_last (start_value set) (check_value (start_value set) values) values)
     ∙ ap (option_and_then (λ one. read_values one false values)) (find-with_check set values)
 
 start_below : (set : CodeSet) → start_value set < 106

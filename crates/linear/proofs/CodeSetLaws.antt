@@ -3,13 +3,14 @@ use Rattle.std.proofs.Common.{ℕ, ◌≡◌, ◌+◌, ◌<◌, ◌≤◌, ◌�
 use Rattle.std.proofs.Common.{ltb, leb, refl, arith, lt-ltb, le-ltb, le-leb, inl, inr}
 use Rattle.std.specs.Option.{option_map_or}
 use Rattle.std.specs.Char.{IsAsciiDigit, is_ascii_digit}
+use Rattle.std.specs.Prelude.{◌||◌, find}
 use Rattle.std.specs.List.{prefix_len}
 use Rattle.std.proofs.lemmas.Bool.{cases_lt}
 use Rattle.std.proofs.lemmas.Bool.Decides.{nat_tests}
 use Rattle.linear.specs.declared.switching.CodeSet.{CodeSet}
 use Rattle.linear.specs.declared.switching.CodeSet.TheVariants.{A, B, C}
-use Rattle.linear.specs.CodeSets.{character_value, change_value, shift_value, leading_digits, next_special_byte}
-use Rattle.linear.specs.CodeSets.{is_next, picked_set, is_even_run, is_pair_next}
+use Rattle.linear.specs.CodeSets.{character_value, change_value, shift_value, leading_digits, is_next}
+use Rattle.linear.specs.CodeSets.{picked_set, is_pair_next}
 
 -- the set that is picked has the first byte
 a_or_b : (b : Bool) → (cond b A B ≡ A) ⊎ (cond b A B ≡ B)
@@ -28,13 +29,13 @@ picked_set-has byte rest h =
       ]
     ]
 
--- set C has no byte that is special
+-- set C has none of the bytes that only one of sets A and B has
 never_in_c : (found : Option ℕ) → option_map_or (λ byte. false) found false ≡ false
 never_in_c None = refl
 never_in_c (Some byte) = refl
 
 pub is_next-C : (rest : List ℕ) → is_next C rest ≡ false
-is_next-C rest = never_in_c (next_special_byte rest)
+is_next-C rest = never_in_c (find (λ byte. ltb byte 32 || leb 96 byte) rest)
 
 -- what is written of a byte, by whether the set has it, whether the next special byte is of the set, and the set to
 -- change to
@@ -77,7 +78,7 @@ two_digits first second rest h =
     ] in
     on_first (is_ascii_digit first) refl h
 
-pub even_run : (bytes : List ℕ) → is_even_run bytes ≡ true → 2 ≤ leading_digits bytes
+pub even_run : (bytes : List ℕ) → is_pair_next A bytes ≡ true → 2 ≤ leading_digits bytes
 even_run bytes h = grind (arith, nat_tests)
 
 pub pair_digits : (set : CodeSet) (first second : ℕ) (rest : List ℕ) → is_pair_next set (first ∷ second ∷ rest) ≡ true

@@ -1,7 +1,7 @@
 -- Worked symbols, computed from the definitions: EAN and UPC (ISO/IEC 15420), then Code 128 (ISO/IEC 15417).
 use Rattle.std.specs.Prelude.{◌≡◌, refl, true, false, Some, None, Ok, Err, codes, length, map, replicate, ◌+◌, ◌++◌, ℕ}
-use Rattle.std.specs.Prelude.{List, [], ◌∷◌}
-use Rattle.std.specs.List.{range_with_len}
+use Rattle.std.specs.Prelude.{List, [], ◌∷◌, ◌*◌, sum_by}
+use Rattle.std.specs.List.{enumerate_from, range_with_len}
 use Rattle.linear.specs.declared.refusal.Refusal.TheVariants.{NotADigit, WrongNumberOfDigits, WrongCheckDigit}
 use Rattle.linear.specs.declared.refusal.Refusal.TheVariants.{DataTooLong, NotAscii}
 use Rattle.linear.specs.declared.ean.NumberSet.TheVariants as number_set
@@ -13,7 +13,7 @@ use Rattle.linear.specs.Tables.{rows, number_set_a, left_half_sets, character_wi
 use Rattle.linear.specs.Ean.{pattern, normal_guard, centre_guard, ean8_row, ean13_row, upca_row}
 use Rattle.linear.specs.EanReading.{read_ean8, read_ean13, read_upca}
 use Rattle.linear.specs.CodeSets.{start_value, start_set, data_values}
-use Rattle.linear.specs.Code128.{bars_and_spaces, characters, full_code128, check_value, code128_row, weighted_from}
+use Rattle.linear.specs.Code128.{bars_and_spaces, characters, full_code128, check_value, code128_row}
 use Rattle.linear.specs.Code128Reading.{meaning, text, change, shift, none, read_code128}
 
 -- `ean8 7351353`
@@ -95,7 +95,7 @@ values_letters : values_of (codes "PJJ123C") ≡ 104 ∷ 48 ∷ 42 ∷ 42 ∷ 17
 unfolding values_of
 values_letters = refl
 
-sum_letters : 104 + weighted_from 1 (48 ∷ 42 ∷ 42 ∷ 17 ∷ 18 ∷ 19 ∷ 35 ∷ []) ≡ 879
+sum_letters : 104 + sum_by (λ item. item.0 * item.1) (enumerate_from 1 (48 ∷ 42 ∷ 42 ∷ 17 ∷ 18 ∷ 19 ∷ 35 ∷ [])) ≡ 879
 sum_letters = refl
 
 check_letters : check_value 104 (48 ∷ 42 ∷ 42 ∷ 17 ∷ 18 ∷ 19 ∷ 35 ∷ []) ≡ 55
@@ -126,7 +126,7 @@ values_five_digits : values_of (codes "12345") ≡ 105 ∷ 12 ∷ 34 ∷ 100 ∷
 unfolding values_of
 values_five_digits = refl
 
-sum_five_digits : 105 + weighted_from 1 (12 ∷ 34 ∷ 100 ∷ 21 ∷ []) ≡ 569
+sum_five_digits : 105 + sum_by (λ item. item.0 * item.1) (enumerate_from 1 (12 ∷ 34 ∷ 100 ∷ 21 ∷ [])) ≡ 569
 sum_five_digits = refl
 
 check_five_digits : check_value 105 (12 ∷ 34 ∷ 100 ∷ 21 ∷ []) ≡ 54
@@ -137,7 +137,7 @@ values_six_digits : values_of (codes "A123456") ≡ 104 ∷ 33 ∷ 99 ∷ 12 ∷
 unfolding values_of
 values_six_digits = refl
 
-sum_six_digits : 104 + weighted_from 1 (33 ∷ 99 ∷ 12 ∷ 34 ∷ 56 ∷ []) ≡ 787
+sum_six_digits : 104 + sum_by (λ item. item.0 * item.1) (enumerate_from 1 (33 ∷ 99 ∷ 12 ∷ 34 ∷ 56 ∷ [])) ≡ 787
 sum_six_digits = refl
 
 check_six_digits : check_value 104 (33 ∷ 99 ∷ 12 ∷ 34 ∷ 56 ∷ []) ≡ 66
@@ -152,7 +152,7 @@ values_shift : values_of (97 ∷ 1 ∷ 98 ∷ []) ≡ 104 ∷ 65 ∷ 98 ∷ 65 �
 unfolding values_of
 values_shift = refl
 
-sum_shift : 104 + weighted_from 1 (65 ∷ 98 ∷ 65 ∷ 66 ∷ []) ≡ 824
+sum_shift : 104 + sum_by (λ item. item.0 * item.1) (enumerate_from 1 (65 ∷ 98 ∷ 65 ∷ 66 ∷ [])) ≡ 824
 sum_shift = refl
 
 check_shift : check_value 104 (65 ∷ 98 ∷ 65 ∷ 66 ∷ []) ≡ 0
@@ -167,7 +167,7 @@ values_backslash : values_of (codes "a\\x01b") ≡ 104 ∷ 65 ∷ 60 ∷ 88 ∷ 
 unfolding values_of
 values_backslash = refl
 
-sum_backslash : 104 + weighted_from 1 (65 ∷ 60 ∷ 88 ∷ 16 ∷ 17 ∷ 66 ∷ []) ≡ 1098
+sum_backslash : 104 + sum_by (λ item. item.0 * item.1) (enumerate_from 1 (65 ∷ 60 ∷ 88 ∷ 16 ∷ 17 ∷ 66 ∷ [])) ≡ 1098
 sum_backslash = refl
 
 check_backslash : check_value 104 (65 ∷ 60 ∷ 88 ∷ 16 ∷ 17 ∷ 66 ∷ []) ≡ 68
@@ -190,7 +190,7 @@ read_mixed : read_code128 (code128_row (1 ∷ 97 ∷ 2 ∷ 98 ∷ 97 ∷ 3 ∷ [
 unfolding character_widths
 read_mixed = refl
 
--- no modules are no symbol, whatever the tables
+-- a row without modules is not read, whatever the tables
 nothing_ean8 : read_ean8 [] ≡ None
 nothing_ean8 = refl
 
@@ -284,7 +284,7 @@ check_digit_nine = refl
 
 -- The values of data before the check value, on both sides of each threshold, where Zint 2.11.1 writes the same ones
 -- (`--verbose`; ISO/IEC 15417, annex on the use of code sets). At the start four digits go to set C, and three do not;
--- at the end four do, and three do not; between others six do; an odd digit stands before the change.
+-- at the end four do, and three do not; between others six do; an odd digit comes before the change.
 values_of_digits : map values_of (codes "1234" ∷ codes "123" ∷ codes "12" ∷ codes "12a" ∷ codes "12345a" ∷ codes "A1234"
     ∷ codes "A123" ∷ codes "A123456B" ∷ codes "A1234567" ∷ codes "A12345678" ∷ []) ≡
     (105 ∷ 12 ∷ 34 ∷ []) ∷ (104 ∷ 17 ∷ 18 ∷ 19 ∷ []) ∷ (105 ∷ 12 ∷ []) ∷ (104 ∷ 17 ∷ 18 ∷ 65 ∷ [])
@@ -294,7 +294,7 @@ values_of_digits : map values_of (codes "1234" ∷ codes "123" ∷ codes "12" �
 unfolding values_of
 values_of_digits = refl
 
--- between others fewer than six digits stay in the set that holds, which Zint does from four digits on not
+-- between others fewer than six digits stay in the set that holds; Zint changes to set C from four digits on
 values_of_few_digits : map values_of (codes "A1234B" ∷ codes "A12345B" ∷ []) ≡
     (104 ∷ 33 ∷ 17 ∷ 18 ∷ 19 ∷ 20 ∷ 34 ∷ []) ∷ (104 ∷ 33 ∷ 17 ∷ 18 ∷ 19 ∷ 20 ∷ 21 ∷ 34 ∷ []) ∷ []
 unfolding values_of
@@ -316,7 +316,7 @@ values_of_last_bytes : map values_of ((1 ∷ 96 ∷ []) ∷ (97 ∷ 31 ∷ []) �
 unfolding values_of
 values_of_last_bytes = refl
 
--- what the first and the last values of each set stand for (ISO/IEC 15417, symbol characters)
+-- what the first and the last values of each set mean (ISO/IEC 15417, symbol characters)
 meanings_in_a : map (meaning A) (0 ∷ 63 ∷ 64 ∷ 95 ∷ 96 ∷ 98 ∷ 99 ∷ 100 ∷ 101 ∷ []) ≡ text (32 ∷ []) ∷ text (95 ∷ [])
     ∷ text (0 ∷ []) ∷ text (31 ∷ []) ∷ none ∷ shift ∷ change C ∷ change B ∷ none ∷ []
 meanings_in_a = refl

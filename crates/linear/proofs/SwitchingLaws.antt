@@ -1,4 +1,4 @@
--- The steps of the switching rule write what `written` says.
+-- The steps of the switching rule write the values of `data_values`.
 use Rattle.std.proofs.Common.{◌≡◌, ℕ, ◌<◌, Bool, true, false, cond, List, [], ◌∷◌, ◌++◌, drop, leb, eqb, refl, sym, ap}
 use Rattle.std.proofs.Common.{subst, ◌∙◌, arith, lt-ltb, le-leb, append-nil, inl, inr, ◌%◌}
 use Rattle.std.specs.Prelude.{◌&&◌, ◌||◌, slice_index}
@@ -9,7 +9,7 @@ use Rattle.std.proofs.lemmas.List.Elements.{recursion_from_All}
 use Rattle.linear.specs.declared.switching.CodeSet.{CodeSet}
 use Rattle.linear.specs.declared.switching.CodeSet.TheVariants.{A, B, C}
 use Rattle.linear.specs.CodeSets.{set_has, character_value, pair_value, shift_value, leading_digits, is_next}
-use Rattle.linear.specs.CodeSets.{picked_set, is_even_run, is_pair_next, pair_values, byte_values, data_values}
+use Rattle.linear.specs.CodeSets.{picked_set, is_pair_next, pair_values, byte_values, data_values}
 use Rattle.linear.specs.Switching.{Step, to_set, character_step, step, Writes, done, stepped, ValuesAreWrittenBySteps}
 use Rattle.linear.proofs.CodeSetLaws.{even_run, picked_set-has, PickedHas, byte_values_by}
 
@@ -57,15 +57,15 @@ plain set byte rest values odd has w =
     by_step set byte rest values _ (record { values = character_value byte ∷ []; set = set; rest = rest })
     (step_is set byte rest true (is_next set rest) odd has refl) w refl
 
--- where no pair is next, no even run of digits is
-not_even : (set : CodeSet) (bytes : List ℕ) → is_pair_next set bytes ≡ false → is_even_run bytes ≡ false
+-- where no pair is next in a set, none is in A
+not_even : (set : CodeSet) (bytes : List ℕ) → is_pair_next set bytes ≡ false → is_pair_next A bytes ≡ false
 not_even A bytes odd = odd
 not_even B bytes odd = odd
 not_even C bytes few = (let k : leb 2 (leading_digits bytes) ≡ false = few in grind (arith, nat_tests))
 
 -- the picked set has the byte
 plain_picked : (picked : CodeSet) (byte : ℕ) (rest values : List ℕ) → PickedHas picked byte
-    → is_even_run (byte ∷ rest) ≡ false → Writes picked rest values
+    → is_pair_next A (byte ∷ rest) ≡ false → Writes picked rest values
     → Writes picked (byte ∷ rest) (character_value byte ∷ values)
 plain_picked picked byte rest values (inl p) odd =
     let P : CodeSet → Type 0 = λ s. Writes s rest values → Writes s (byte ∷ rest) (character_value byte ∷ values) in
@@ -126,7 +126,7 @@ is_pair_next-single A byte = one_at_most (is_ascii_digit byte)
 is_pair_next-single B byte = one_at_most (is_ascii_digit byte)
 is_pair_next-single C byte = never_two (is_ascii_digit byte)
 
--- the steps of the switching rule write what `written` says
+-- the steps of the switching rule write the values of `data_values`
 Writes-data_values : (set : CodeSet) (bytes : List ℕ) → AllByRecursion (λ byte. byte < 128) bytes
     → Writes set bytes (data_values set bytes)
 Writes-data_values set [] d = done

@@ -1,6 +1,7 @@
 -- The data and the rows of Code 128 symbols (ISO/IEC 15417, symbol structure and check character).
 use Rattle.std.specs.Prelude.{ℕ, ◌+◌, ◌*◌, ◌%◌, nat_lt, nat_le, if◌then◌else◌, Bool, true, not, Result, Ok, Err, List}
-use Rattle.std.specs.Prelude.{[], ◌∷◌, ◌++◌, length, map, replicate, position, flat_map, slice_index_or}
+use Rattle.std.specs.Prelude.{[], ◌∷◌, ◌++◌, length, map, replicate, position, flat_map, slice_index_or, sum_by}
+use Rattle.std.specs.List.{enumerate_from}
 use Rattle.linear.specs.declared.refusal.Refusal.{Refusal}
 use Rattle.linear.specs.declared.refusal.Refusal.TheVariants.{DataTooLong, NotAscii}
 use Rattle.linear.specs.declared.switching.CodeSet.{CodeSet}
@@ -14,14 +15,9 @@ full_code128 bytes =
     if nat_lt 80 (length bytes) then Err DataTooLong
     else unless_found NotAscii (position (λ byte. nat_le 128 byte) bytes) (Ok bytes)
 
--- the sum of the values, each times its place, of which the first is given
-abbrev pub weighted_from : ℕ → List ℕ → ℕ
-weighted_from place [] = 0
-weighted_from place (value ∷ values) = place * value + weighted_from (place + 1) values
-
--- the check value of a start value and the values after it
+-- the check value of a start value and the values after it: the sum of all, each of these times its place from 1 on
 abbrev pub check_value : ℕ → List ℕ → ℕ
-check_value start values = (start + weighted_from 1 values) % 103
+check_value start values = (start + sum_by (λ item. item.0 * item.1) (enumerate_from 1 values)) % 103
 
 -- bars and spaces of these widths in turn
 abbrev pub bars_and_spaces : Bool → List ℕ → List Bool
@@ -44,5 +40,5 @@ with_check set values = start_value set ∷ (values ++ check_value (start_value 
 -- the row of data: its values, the check value and the stop character
 abbrev pub code128_row : List ℕ → List Bool
 code128_row bytes =
-    flat_map character_modules (with_check (start_set bytes) (data_values
-    (start_set bytes) bytes)) ++ character_modules 106
+    let set = start_set bytes in
+    flat_map character_modules (with_check set (data_values set bytes)) ++ character_modules 106

@@ -1,7 +1,7 @@
 -- Reading of Code 128 symbols (ISO/IEC 15417, symbol characters, code sets and check character).
 use Rattle.std.specs.Prelude.{ℕ, ◌+◌, ◌-◌, ◌*◌, ◌/◌, ◌%◌, ◌==◌, nat_lt, if◌then◌else◌, Bool, true, false, ◌&&◌, Option}
-use Rattle.std.specs.Prelude.{Some, None, List, [], ◌∷◌, ◌++◌, length, take, drop, position, find, option_map}
-use Rattle.std.specs.Prelude.{option_and_then}
+use Rattle.std.specs.Prelude.{Some, None, List, [], ◌∷◌, ◌++◌, length, drop, position, find, option_map}
+use Rattle.std.specs.Prelude.{option_and_then, slice_range}
 use Rattle.std.specs.Option.{option_map_or}
 use Rattle.std.specs.Str.{bytes_eq}
 use Rattle.linear.specs.declared.switching.CodeSet.{CodeSet}
@@ -51,16 +51,13 @@ read_values set is_shifted (value ∷ values) =
       | none ↦ None
     ]
 
--- the values between the first and the last
-abbrev pub inner : List ℕ → List ℕ
-inner values = take (length values - 2) (drop 1 values)
-
--- the data of the values before the stop character, in the set whose start value and check value are the first and
--- the last of them
+-- the data of the values before the stop character: the set is the one whose start value and check value are the first
+-- and the last of them, and those between are read
 abbrev pub symbol_data : List ℕ → Option (List ℕ)
 symbol_data values =
-    option_and_then (λ set. read_values set false (inner values))
-    (find (λ set. bytes_eq (with_check set (inner values)) values) (A ∷ B ∷ C ∷ []))
+    let inner = slice_range values 1 (length values - 1) in
+    option_and_then (λ set. read_values set false inner)
+    (find (λ set. bytes_eq (with_check set inner) values) (A ∷ B ∷ C ∷ []))
 
 -- the data of a row of modules: groups of eleven, each the character of a value, before the thirteen of the stop
 -- character

@@ -1,7 +1,7 @@
 -- Code sets A, B and C of Code 128, and the values that data is written in (ISO/IEC 15417, code sets and symbol
 -- characters).
 use Rattle.std.specs.Prelude.{ℕ, ◌+◌, ◌-◌, ◌*◌, ◌%◌, ◌==◌, nat_lt, nat_le, if◌then◌else◌, Bool, true, false, ◌&&◌, ◌||◌}
-use Rattle.std.specs.Prelude.{Option, List, [], ◌∷◌, ◌++◌, length, find}
+use Rattle.std.specs.Prelude.{List, [], ◌∷◌, ◌++◌, length, find}
 use Rattle.std.specs.List.{prefix_len}
 use Rattle.std.specs.Char.{is_ascii_digit}
 use Rattle.std.specs.Option.{option_map_or}
@@ -43,28 +43,21 @@ shift_value = 98
 abbrev pub leading_digits : List ℕ → ℕ
 leading_digits bytes = prefix_len is_ascii_digit bytes
 
--- the first byte that only one of sets A and B has
-abbrev pub next_special_byte : List ℕ → Option ℕ
-next_special_byte bytes = find (λ byte. nat_lt byte 32 || nat_le 96 byte) bytes
-
--- whether that byte is of a set
+-- whether the first special byte, which only one of sets A and B has, is of a set
 abbrev pub is_next : CodeSet → List ℕ → Bool
-is_next set bytes = option_map_or (set_has set) (next_special_byte bytes) false
+is_next set bytes = option_map_or (set_has set) (find (λ byte. nat_lt byte 32 || nat_le 96 byte) bytes) false
 
 -- the one of A and B to go to: the one that has the first special byte, and B where there is none
 abbrev pub picked_set : List ℕ → CodeSet
 picked_set bytes = if is_next A bytes then A else B
 
--- whether the bytes begin with an even number of digits, at least 6, or at least 4 with nothing after them
-abbrev pub is_even_run : List ℕ → Bool
-is_even_run bytes =
-    leading_digits bytes % 2 == 0
-    && (nat_le 6 (leading_digits bytes) || (nat_le 4 (leading_digits bytes) && (leading_digits bytes == length bytes)))
-
--- whether the next two digits are to be one value of set C
+-- whether the next two digits are to be one value of set C: in C any two are, and else the bytes have to begin with an
+-- even number of digits, at least 6, or at least 4 with nothing after them
 abbrev pub is_pair_next : CodeSet → List ℕ → Bool
 is_pair_next C bytes = nat_le 2 (leading_digits bytes)
-is_pair_next _ bytes = is_even_run bytes
+is_pair_next _ bytes =
+    leading_digits bytes % 2 == 0
+    && (nat_le 6 (leading_digits bytes) || (nat_le 4 (leading_digits bytes) && (leading_digits bytes == length bytes)))
 
 -- two digits, after a change to set C where another one holds
 abbrev pub pair_values : CodeSet → ℕ → ℕ → List ℕ
@@ -93,5 +86,4 @@ data_values set (first ∷ second ∷ rest) =
 abbrev pub start_set : List ℕ → CodeSet
 start_set bytes =
     if nat_le 4 (leading_digits bytes) || (leading_digits bytes == 2 && (length bytes == 2))
-    then C
-    else picked_set bytes
+    then C else picked_set bytes

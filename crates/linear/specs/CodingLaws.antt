@@ -21,7 +21,7 @@ CharactersDiffer =
 abbrev pub CharactersHaveElevenModules : Type 0
 CharactersHaveElevenModules = (value : ℕ) → value < 106 → length (character_modules value) ≡ 11
 
--- the bars of a character are an even number of modules
+-- a character has an even number of dark modules
 abbrev pub WidthsAreEven : Type 0
 WidthsAreEven = (value : ℕ) → value < 106 → count_by (λ dark. dark) (character_modules value) % 2 ≡ 0
 

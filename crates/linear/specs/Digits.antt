@@ -10,20 +10,16 @@ use Rattle.linear.specs.declared.refusal.Refusal.TheVariants.{NotADigit, WrongNu
 abbrev pub digit_value : ℕ → ℕ
 digit_value byte = byte - 48
 
--- the weight of a digit that has this many digits to its right: from the right the weights are 3, 1, 3, 1 and so on
-abbrev pub weight : ℕ → ℕ
-weight following = if following % 2 == 0 then 3 else 1
-
--- the sum of the digits, each times its weight
+-- the sum of the digits, each times its weight: from the right the weights are 3, 1, 3, 1 and so on
 abbrev pub weighted_sum : List ℕ → ℕ
 weighted_sum [] = 0
-weighted_sum (byte ∷ rest) = weight (length rest) * digit_value byte + weighted_sum rest
+weighted_sum (byte ∷ rest) = (if length rest % 2 == 0 then 3 else 1) * digit_value byte + weighted_sum rest
 
 -- the check digit of the digits before it
 abbrev pub check_digit : List ℕ → ℕ
 check_digit digits = (10 - weighted_sum digits % 10) % 10
 
--- digits and a last one, which has to be their check digit
+-- these digits and the last one, or a refusal where the last one is not their check digit
 abbrev pub checked_digits : List ℕ → ℕ → Result (List ℕ) Refusal
 checked_digits digits last =
     if digit_value last == check_digit digits then Ok (digits ++ last ∷ [])

@@ -1,5 +1,4 @@
--- The switching rule of Code 128 as it is said, step by step (in the manner of ISO/IEC 15417's annex on the use of code
--- sets).
+-- The switching rule of Code 128, step by step (in the manner of ISO/IEC 15417's annex on the use of code sets).
 use Rattle.std.specs.Prelude.{ℕ, ◌<◌, if◌then◌else◌, List, [], ◌∷◌, ◌++◌, drop, slice_index, All}
 use Rattle.linear.specs.declared.switching.CodeSet.{CodeSet}
 use Rattle.linear.specs.declared.switching.CodeSet.TheVariants.{C}
@@ -25,7 +24,7 @@ character_step set byte rest =
     else to_set (picked_set (byte ∷ rest)) (byte ∷ rest)
 
 -- one step for a byte and the rest after it: in C two digits are a pair, and an even run of digits that is long enough
--- changes to C, so that an odd one has its first digit as a character before the change
+-- changes to C. So the first digit of an odd run is a character before the change.
 abbrev pub step : CodeSet → ℕ → List ℕ → Step
 step C byte rest =
     if is_pair_next C (byte ∷ rest)

@@ -1,10 +1,10 @@
 //! Code sets, and the rule by which data changes between them (ISO/IEC 15417).
-ghost use Rattle.std.specs.Prelude.{◌≡◌, [], ◌∷◌, ◌+◌, ◌≤◌, ◌<◌, All};
+ghost use Rattle.std.specs.Prelude.{◌≡◌, [], ◌∷◌, ◌+◌, ◌≤◌, ◌<◌, ◌||◌, All, find, nat_le, nat_lt};
 ghost use Rattle.std.specs.Char.{IsAsciiDigit};
 ghost use Rattle.arrayvec.specs.ArrayVec.{array_vec_len};
 ghost use Rattle.linear.specs.declared.limits.TheConstants.{MAX_VALUES};
 ghost use Rattle.linear.specs.CodeSets.{set_has, character_value, start_value, change_value, leading_digits};
-ghost use Rattle.linear.specs.CodeSets.{is_next, next_special_byte, picked_set, is_pair_next, pair_values};
+ghost use Rattle.linear.specs.CodeSets.{is_next, picked_set, is_pair_next, pair_values};
 ghost use Rattle.linear.specs.CodeSets.{byte_values, data_values, start_set};
 ghost use Rattle.linear.specs.Private.Data.{IsCode128Data};
 ghost use Rattle.linear.specs.Private.Lists.{Appends};
@@ -38,7 +38,7 @@ fn leading_digits(bytes: &[u8]) -> usize
 
 /// Returns the first byte that only one of sets A and B has.
 fn next_special_byte(bytes: &[u8]) -> Option<u8>
-    ensures { result ≡ next_special_byte bytes.now }
+    ensures { result ≡ find (λ byte. nat_lt byte 32 || nat_le 96 byte) bytes.now }
 {
     bytes.iter().copied().find(|byte| *byte < 32 || *byte >= 96)
 }

@@ -12,9 +12,9 @@ use Rattle.std.proofs.lemmas.List.Elements.{recursion_from_All}
 use Rattle.picture.specs.Picture.{Picture}
 use Rattle.picture.specs.ReadingLaws.{FilesAreTexts, TextsAreRead}
 use Rattle.picture.specs.Text.{below, ascii_pixel, ascii_row, ascii_text, pixel_row}
-use Rattle.picture.specs.Reading.{raster, line_pixels, lines_pixels, ascii_pixels, whole_lines, ascii_files}
+use Rattle.picture.specs.Reading.{raster, line_pixels, lines_pixels, ascii_pixels, ascii_files}
 use Rattle.picture.proofs.LineLaws.{is_line_feed, has_no_line_feed, lines-line, lines-nil}
-use Rattle.picture.proofs.CutLaws.{cut_after, cut_after-at, cut_after-part}
+use Rattle.picture.proofs.CutLaws.{whole_lines, cut_after, cut_after-at, cut_after-part}
 
 -- the letters of a row
 abbrev pub letters : Picture → ℕ → List ℕ

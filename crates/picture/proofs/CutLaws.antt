@@ -1,8 +1,10 @@
 -- Streams of files, cut again.
 use Rattle.std.proofs.Common.{◌≡◌, ℕ, suc, zero, ◌+◌, ◌-◌, ◌%◌, ◌^◌, ◌<◌, Bool, true, false, not, ◌||◌, ◌==◌, ◌⊎◌, inl}
 use Rattle.std.proofs.Common.{inr, List, [], ◌∷◌, ◌++◌, map, refl, ap, sym, subst, ◌∙◌, arith, flat_map, decimal}
-use Rattle.std.proofs.Common.{append_assoc, if◌then◌else◌}
-use Rattle.std.specs.List.{list_all, concat, range_with_len, AllByRecursion}
+use Rattle.std.proofs.Common.{append_assoc, if◌then◌else◌, codes}
+use Rattle.std.specs.Str.{bytes_eq}
+use Rattle.device.specs.Lines.{LF}
+use Rattle.std.specs.List.{list_all, onto_first, concat, range_with_len, AllByRecursion}
 use Rattle.std.specs.Str.Parse.{AllDigits}
 use Rattle.std.proofs.lemmas.List.{append-nil}
 use Rattle.std.proofs.lemmas.List.Folds.{list_all-append}
@@ -16,7 +18,19 @@ use Rattle.picture.specs.Text.{below, pbm_digit, pbm_header, pbm_text}
 use Rattle.picture.proofs.ColumnLaws.{pbm_line_end, pbm_pixel, pbm_columns, columns_text, texts_by_columns}
 use Rattle.picture.proofs.ColumnLaws.{map_by_columns}
 use Rattle.picture.proofs.LineLaws.{is_line_feed}
-use Rattle.picture.specs.Reading.{parts, onto_parts, is_magic, whole_lines, pbm_files}
+use Rattle.picture.specs.Reading.{parts, pbm_files}
+
+-- parts with an element before them: it is a part of its own, or the front of the first
+abbrev onto_parts : {X : Type 0} → Bool → X → List (List X) → List (List X)
+onto_parts is_cut x parts = if is_cut then (x ∷ []) ∷ parts else onto_first x parts
+
+-- the lines of a stream, each with its line feed
+abbrev pub whole_lines : List ℕ → List (List ℕ)
+whole_lines stream = parts (λ b next. b == LF) stream
+
+-- the line that a plain PBM file begins with
+abbrev is_magic : List ℕ → Bool
+is_magic line = bytes_eq line (codes "P1\n") || bytes_eq line (codes "P1")
 
 -- the parts of a list, each but the last ended by an element that passes
 abbrev pub cut_after : {X : Type 0} → (X → Bool) → List X → List (List X)
@@ -142,7 +156,7 @@ pub record IsFile (text : List ℕ) : Type 0 where
   whole : IsWhole text
   plain : has_no_P rest ≡ true
 
--- the first line of a file comes off
+-- the first line of a file is cut off
 whole_lines-magic : (rest : List ℕ) → whole_lines (80 ∷ 49 ∷ 10 ∷ rest) ≡ (80 ∷ 49 ∷ 10 ∷ []) ∷ whole_lines rest
 whole_lines-magic rest = cut_after-at is_line_feed (80 ∷ 49 ∷ []) 10 rest refl
 

@@ -98,7 +98,7 @@ nine_wide : pbm_pixels (codes "P1\n9 1\n111111110\n") ≡ Some (record {
 unfolding pbm_pixels lines ended_lines open_line
 nine_wide = refl
 
--- neither a letter as a digit, nor 71 characters in a line, nor a text where one white byte has to stand
+-- neither a letter as a digit, nor 71 characters in a line, nor a text in the place of the one white byte
 no_pixels : map pbm_pixels (codes "P1\na 1\n1111111111\n"
     ∷ codes "P1\n71 1\n11111111111111111111111111111111111111111111111111111111111111111111111\n"
     ∷ codes "P1\n1 1" ∷ []) ≡ None ∷ None ∷ None ∷ []

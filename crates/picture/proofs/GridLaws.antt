@@ -195,7 +195,7 @@ put_mid-pixel_row p zone y light row w e width low high same =
     ∙ (ap (λ (t : List Bool). replicate zone.left false ++ (t ++ replicate zone.right false)) same
     ∙ sym (pixel_row-with_quiet_zone p zone y low high)))))
 
--- a row of the picture, and what stood after it
+-- a row of the picture, and what was after it
 pub spread-pixel_row : (p : Picture) (s y : ℕ) (row before : List Bool) (w : ℕ) → 0 < s → w ≡ p.width
     → length before ≡ p.width * s → row ≡ pixel_row p (y / s) →
     map (λ x. get_or (row ++ drop w before) (x / s) false) (below (length (row ++ drop w before)))

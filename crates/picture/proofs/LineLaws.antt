@@ -35,7 +35,7 @@ line_cut line rest none = let after = IsCut-ended_lines rest in record {
   rest_open = after.rest_open;
 }
 
--- a line and its line feed come off the front
+-- a line and its line feed are cut off the front
 pub lines-line : (line rest : List ℕ) → has_no_line_feed line ≡ true → lines (line ++ LF ∷ rest) ≡ line ∷ lines rest
 unfolding lines
 lines-line line rest none =

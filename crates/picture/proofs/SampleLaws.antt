@@ -1,5 +1,5 @@
 -- The modules of a drawn symbol, sampled again.
-use Rattle.std.proofs.Common.{◌≡◌, ℕ, suc, zero, ◌+◌, ◌-◌, ◌*◌, ◌/◌, ◌%◌, ◌<◌, ◌≤◌, Bool, true, false, not, ◌&&◌, ◌||◌}
+use Rattle.std.proofs.Common.{◌≡◌, ℕ, suc, zero, ◌+◌, ◌-◌, ◌*◌, ◌/◌, ◌%◌, ◌<◌, ◌≤◌, Bool, true, false, ◌&&◌}
 use Rattle.std.proofs.Common.{List, [], ◌∷◌, length, map, refl, ap, sym, subst, ◌∙◌, arith, Some, get_or, nat_le}
 use Rattle.std.proofs.Common.{nat_lt, inl, inr}
 use Rattle.std.specs.Bool.{beq}
@@ -7,14 +7,14 @@ use Rattle.std.specs.Cmp.Lexicographic.{pointwise}
 use Rattle.std.specs.List.{list_all, range_with_len}
 use Rattle.std.proofs.lemmas.List.FromFn.{get_or-map-range_with_len, fill_by_all}
 use Rattle.std.proofs.lemmas.Nat.{div-mul-add, mul-add-lt}
-use Rattle.std.proofs.lemmas.Bool.{le-leb, lt-ltb, le-ltb, and_from, cases_lt}
-use Rattle.std.proofs.Math.Nat.{mul-mod_left}
+use Rattle.std.proofs.lemmas.Bool.{le-leb, lt-ltb, le-ltb, cases_lt}
+use Rattle.std.proofs.Math.Nat.{div-lt_iff_lt-mul, mul-mod_left}
 use Rattle.picture.specs.Picture.{Picture, bars, with_quiet_zone, enlargement}
 use Rattle.picture.specs.declared.quiet_zone.QuietZone.{QuietZone}
 use Rattle.picture.specs.ReadingLaws.{PixelsAreThePicture, ModulesAreSampled, BarsAreOneRow}
 use Rattle.picture.specs.Text.{below, pixel_row}
 use Rattle.qrmatrix.specs.Square.{value_at}
-use Rattle.picture.specs.Reading.{raster, cell, is_plain, is_module, are_cells, sample, common_row}
+use Rattle.picture.specs.Reading.{raster, cell, is_module, are_cells, sample, common_row}
 
 -- the pixels of a raster are those of its picture
 pub value_at-raster : PixelsAreThePicture
@@ -70,16 +70,6 @@ cell-enlargement p scale column row wide high some =
     ∙ (ap (λ (k : ℕ). value_at (raster (enlargement p scale)).rows (column * scale + 0) k) y
     ∙ value_at-enlargement p scale column row 0 0 wide high some some)
 
-is_plain-enlargement : (p : Picture) (scale column row : ℕ) → column < p.width → row < p.height → 0 < scale →
-    is_plain (raster (enlargement p scale)) scale column row ≡ true
-is_plain-enlargement p scale column row wide high some =
-    list_all-below _ scale (λ y within. list_all-below _ scale (λ x inside.
-    rw (
-      cell-enlargement p scale column row wide high some,
-      value_at-enlargement p scale column row x y wide high inside within,
-    )
-    (beq-same (p.dark column row))))
-
 -- a test of a picture in its quiet zone, by the picture within
 nat_lt-add : (a b c : ℕ) → nat_lt (a + c) (b + c) ≡ nat_lt a b
 nat_lt-add a b c = elim (cases_lt a b) [
@@ -88,9 +78,9 @@ nat_lt-add a b c = elim (cases_lt a b) [
   | inr h ↦ le-ltb (a + c) (b + c) (omega arith) ∙ sym (le-ltb a b h)
 ]
 
-inside_or_light : (inside other dark : Bool) → other ≡ inside → (other || not (inside && dark)) ≡ true
-inside_or_light true other dark e = rw e refl
-inside_or_light false other dark e = rw e refl
+inside_twice : (inside other dark : Bool) → other ≡ inside → beq (inside && dark) (other && (inside && dark)) ≡ true
+inside_twice true other dark e = rw e (beq-same dark)
+inside_twice false other dark e = rw e refl
 
 is_module-with_quiet_zone : (p : Picture) (zone : QuietZone) (column row : ℕ) →
     is_module zone (with_quiet_zone p zone).width (with_quiet_zone p zone).height column row
@@ -102,7 +92,7 @@ is_module-with_quiet_zone p zone column row = rw (
       (zone.top + p.height) zone.bottom,
 ) refl
 
--- a module of a with_quiet_zone picture
+-- a module of a picture in its quiet zone
 pub dark-with_quiet_zone : (p : Picture) (zone : QuietZone) (column row : ℕ) → column < p.width → row < p.height
     → (with_quiet_zone p zone).dark (zone.left + column) (zone.top + row) ≡ p.dark column row
 dark-with_quiet_zone p zone column row wide high =
@@ -123,14 +113,16 @@ are_cells-enlargement : (p : Picture) (zone : QuietZone) (scale : ℕ) → 0 < s
     → are_cells (raster (enlargement (with_quiet_zone p zone) scale)) scale zone (with_quiet_zone p zone).width
     (with_quiet_zone p zone).height ≡ true
 are_cells-enlargement p zone scale some =
-    list_all-below _ (with_quiet_zone p zone).height (λ row high. list_all-below _ (with_quiet_zone p zone).width
-    (λ column wide.
-    and_from _ _ (is_plain-enlargement (with_quiet_zone p zone) scale column row wide high some)
-    (rw (cell-enlargement (with_quiet_zone p zone) scale column row wide high some)
-    (inside_or_light (nat_le zone.left column && nat_lt column (zone.left + p.width)
-    && nat_le zone.top row && nat_lt row (zone.top + p.height))
-    (is_module zone (with_quiet_zone p zone).width (with_quiet_zone p zone).height column row)
-    (p.dark (column - zone.left) (row - zone.top)) (is_module-with_quiet_zone p zone column row)))))
+    let q = with_quiet_zone p zone in
+    list_all-below _ (q.height * scale) (λ y high. list_all-below _ (q.width * scale) (λ x wide.
+    let column = x / scale in
+    let row = y / scale in
+    let in_column : column < q.width = (div-lt_iff_lt-mul some).1 wide in
+    let in_row : row < q.height = (div-lt_iff_lt-mul some).1 high in
+    rw (value_at-raster (enlargement q scale) x y wide high, cell-enlargement q scale column row in_column in_row some)
+    (inside_twice (nat_le zone.left column && nat_lt column (zone.left + p.width) && nat_le zone.top row
+    && nat_lt row (zone.top + p.height)) (is_module zone q.width q.height column row)
+    (p.dark (column - zone.left) (row - zone.top)) (is_module-with_quiet_zone p zone column row))))
 
 div_whole : (size scale : ℕ) → 0 < scale → (size * scale) / scale ≡ size
 div_whole size scale some = ap (λ (n : ℕ). n / scale) (let e : size * scale ≡ size * scale + 0 = omega arith in e)

@@ -21,7 +21,7 @@ range_with_len-add a (suc n) m =
     let next : (a + 1) + n ≡ a + suc n = omega arith in
     rw (more, ← next, range_with_len-add (a + 1) n m) refl
 
--- what is made of one number more
+-- the text of one number more
 pub flat_map-below_more : (f : ℕ → List ℕ) (n : ℕ) → flat_map f (below (n + 1)) ≡ flat_map f (below n) ++ f n
 flat_map-below_more f n =
     ap (flat_map f) (range_with_len-add 0 n 1)
@@ -29,7 +29,7 @@ flat_map-below_more f n =
     ∙ (ap (λ (xs : List ℕ). flat_map f (below n) ++ xs) (append-nil (f (0 + n)))
     ∙ ap (λ (k : ℕ). flat_map f (below n) ++ f k) (zero-add n)))
 
--- what is made of the numbers up to k is a front of the whole
+-- the text of the numbers up to k is a front of the whole
 pub flat_map-below_front : (f : ℕ → List ℕ) (k n : ℕ) → k < n
     → (rest : List ℕ) × (flat_map f (below n) ≡ (flat_map f (below k) ++ f k) ++ rest)
 flat_map-below_front f k n h =
@@ -64,7 +64,7 @@ take_piece row k = let place : 70 * (k + 1) ≡ 70 * k + 70 = omega arith in ap 
 all_pieces : (row : List Bool) → take (70 * div_ceil (length row) 70) row ≡ row
 all_pieces row = take_all (70 * div_ceil (length row) 70) row (omega arith)
 
--- a piece of a row at the front of a room
+-- a piece of a row at the front of a longer list
 pub piece_held : (room : List Bool) (width k n : ℕ) → 70 * k < width → width ≤ length room → n ≡ min 70 (width - 70 * k)
     → take n (slice_range room (70 * k) (70 * k + 70)) ≡ piece (take width room) k
 piece_held room width k n some fits size =
@@ -82,7 +82,7 @@ piece_held room width k n some fits size =
       | inr more ↦ (let same : n ≡ 70 = omega arith in ap (λ (w : ℕ). take w d) same ∙ sym (take-take 70 m d more))
     ] ∙ sym right)
 
--- a piece of a row that is asked
+-- a piece of a row that the grid is asked for
 pub piece_asked : (dark : ℕ → Bool) (width k n : ℕ) → 70 * k < width → n ≡ min 70 (width - 70 * k)
     → map dark (range_with_len (70 * k) n) ≡ piece (map dark (below width)) k
 piece_asked dark width k n some size =

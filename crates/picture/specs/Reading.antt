@@ -1,5 +1,5 @@
 -- Pictures read back from text: plain PBM files (pbm(5), the plain format), and text pictures.
-use Rattle.std.specs.Prelude.{ℕ, ◌+◌, ◌-◌, ◌*◌, ◌/◌, ◌%◌, Bool, true, false, not, ◌&&◌, ◌||◌, List, [], ◌∷◌, map}
+use Rattle.std.specs.Prelude.{ℕ, ◌+◌, ◌-◌, ◌*◌, ◌/◌, ◌%◌, Bool, not, ◌&&◌, ◌||◌, List, [], ◌∷◌, map}
 use Rattle.std.specs.Prelude.{filter}
 use Rattle.std.specs.Prelude.{take, drop, length, codes, Option, Some, None, option_map, nat_le, nat_lt, ◌==◌}
 use Rattle.std.specs.Prelude.{if◌then◌else◌, slice_index_or}
@@ -81,43 +81,28 @@ ascii_pixels text = do
   let width = length (slice_index_or rows 0 [])
   then_some (list_all (λ row. length row == width) rows) (record { width = width; height = length rows; rows = rows })
 
--- parts with an element before them: it is a part of its own, or the front of the first
-abbrev pub onto_parts : {X : Type 0} → Bool → X → List (List X) → List (List X)
-onto_parts true x parts = (x ∷ []) ∷ parts
-onto_parts false x parts = onto_first x parts
-
 -- the parts of a list, which is cut between two neighbours where they pass the test
 abbrev pub parts : {X : Type 0} → (X → X → Bool) → List X → List (List X)
 parts is_cut [] = []
 parts is_cut (x ∷ []) = (x ∷ []) ∷ []
-parts is_cut (x ∷ y ∷ xs) = onto_parts (is_cut x y) x (parts is_cut (y ∷ xs))
+parts is_cut (x ∷ y ∷ xs) =
+    let more = parts is_cut (y ∷ xs) in if is_cut x y then (x ∷ []) ∷ more else onto_first x more
 
--- the lines of a stream, each with its line feed
-abbrev pub whole_lines : List ℕ → List (List ℕ)
-whole_lines stream = parts (λ b next. b == LF) stream
+-- the files of a stream, which is cut between two neighbouring lines where they pass the test; a line has its line feed
+abbrev pub files : (List ℕ → List ℕ → Bool) → List ℕ → List (List ℕ)
+files is_cut stream = map concat (parts is_cut (parts (λ b next. b == LF) stream))
 
--- the line `P1`, with its line feed or, at a stream's end, without one
-abbrev pub is_magic : List ℕ → Bool
-is_magic line = bytes_eq line (codes "P1\n") || bytes_eq line (codes "P1")
-
--- the files of a stream: each begins with a line `P1`
+-- the plain PBM files of a stream: each begins with a line `P1`, which may have no line feed at the stream's end
 abbrev pub pbm_files : List ℕ → List (List ℕ)
-pbm_files stream = map concat (parts (λ line next. is_magic next) (whole_lines stream))
+pbm_files stream = files (λ line next. bytes_eq next (codes "P1\n") || bytes_eq next (codes "P1")) stream
 
 -- the text pictures of a stream: each ends with an empty line
 abbrev pub ascii_files : List ℕ → List (List ℕ)
-ascii_files stream = map concat (parts (λ line next. bytes_eq line (codes "\n")) (whole_lines stream))
+ascii_files stream = files (λ line next. bytes_eq line (codes "\n")) stream
 
 -- the colour of the cell in a column and a row, each cell a square of pixels, by its first pixel
 abbrev pub cell : Raster → ℕ → ℕ → ℕ → Bool
 cell r scale column row = value_at r.rows (column * scale) (row * scale)
-
--- whether all pixels of a cell have its colour
-abbrev pub is_plain : Raster → ℕ → ℕ → ℕ → Bool
-is_plain r scale column row =
-    list_all (λ y. list_all (λ x. beq (value_at r.rows (column * scale + x) (row * scale + y))
-    (cell r scale column row))
-    (below scale)) (below scale)
 
 -- whether the cell in a column and a row is a module, and not of the quiet zone
 abbrev pub is_module : QuietZone → ℕ → ℕ → ℕ → ℕ → Bool
@@ -125,11 +110,12 @@ is_module zone columns rows column row =
     nat_le zone.left column && nat_lt (column + zone.right) columns
     && nat_le zone.top row && nat_lt (row + zone.bottom) rows
 
--- whether each cell is of one colour, which is light in the quiet zone
+-- whether each pixel has the colour of its cell, which is light in the quiet zone
 abbrev pub are_cells : Raster → ℕ → QuietZone → ℕ → ℕ → Bool
 are_cells r scale zone columns rows =
-    list_all (λ row. list_all (λ column. is_plain r scale column row
-    && (is_module zone columns rows column row || not (cell r scale column row))) (below columns)) (below rows)
+    list_all (λ y. list_all (λ x. beq (value_at r.rows x y)
+    (is_module zone columns rows (x / scale) (y / scale) && cell r scale (x / scale) (y / scale)))
+    (below r.width)) (below r.height)
 
 -- the modules inside the quiet zone, row by row, where all cells are of one colour and the zone is light
 unfoldable pub sample : Raster → ℕ → QuietZone → Option (List (List Bool))

@@ -6,7 +6,7 @@ use Rattle.picture.specs.Picture.{Picture, bars, with_quiet_zone, enlargement}
 use Rattle.picture.specs.Reading.{Raster, raster, pbm_files, pbm_pixels, ascii_files, ascii_pixels, sample, common_row}
 use Rattle.picture.specs.Text.{pbm_text, ascii_text}
 
--- a picture with a column, whose sizes are numbers of 64 bits
+-- a picture of at least one column, whose width and height are below 2^64
 pub record IsDrawable (p : Picture) : Type 0 where
   pub some : 0 < p.width
   pub wide : p.width < 2 ^ 64
@@ -20,13 +20,13 @@ TextsAreRead text pixels IsSuch = (p : Picture) → IsSuch p → pixels (text p)
 abbrev pub FilesAreTexts : (Picture → List ℕ) → (List ℕ → List (List ℕ)) → (Picture → Type 0) → Type 0
 FilesAreTexts text files IsSuch = (ps : List Picture) → All IsSuch ps → files (flat_map text ps) ≡ map text ps
 
--- the pixels of modules in their quiet zone, each a square, are sampled as these modules
+-- modules in their quiet zone, each drawn as a square of pixels, are sampled as these modules
 abbrev pub ModulesAreSampled : Type 0
 ModulesAreSampled =
     (p : Picture) (zone : QuietZone) (scale : ℕ) → 0 < scale
     → sample (raster (enlargement (with_quiet_zone p zone) scale)) scale zone ≡ Some (raster p).rows
 
--- the pixels of a picture are dark where it is
+-- a pixel that is read is dark where the picture is, and light where it is light
 abbrev pub PixelsAreThePicture : Type 0
 PixelsAreThePicture =
     (p : Picture) (x y : ℕ) → x < p.width → y < p.height → value_at (raster p).rows x y ≡ p.dark x y

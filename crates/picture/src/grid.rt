@@ -8,15 +8,15 @@ pub trait Grid {
     /// The picture.
     ghost picture: { Self → Picture };
 
-    /// The number of its columns.
+    /// Returns the number of columns.
     fn width(&self) -> usize
         ensures { result ≡ (picture self.now).width };
 
-    /// The number of its rows.
+    /// Returns the number of rows.
     fn height(&self) -> usize
         ensures { result ≡ (picture self.now).height };
 
-    /// Whether the pixel is dark.
+    /// Returns whether the pixel in column `x` and row `y` is dark.
     fn dark(&self, x: usize, y: usize) -> bool
         requires in_width { x < (picture self.now).width }
         requires in_height { y < (picture self.now).height }

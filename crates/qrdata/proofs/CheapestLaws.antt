@@ -9,7 +9,7 @@ use Rattle.qrdata.specs.declared.mode.Mode.TheVariants.{Numeric, Alphanumeric, B
 use Rattle.qrdata.specs.declared.mode.Segment.{Segment}
 use Rattle.qrdata.specs.Fewest.{candidates, cheapest}
 use Rattle.qrdata.specs.Segments.{cost, segment_of}
-use Rattle.qrdata.proofs.FewestBitsLaws.{All-filter, tried_lengths}
+use Rattle.qrdata.proofs.FewestBitsLaws.{All-filter, candidates-more, tried_lengths}
 
 -- t is the first of the list whose number is lowest
 abbrev pub IsFirstLowest : {A : Type 0} → (A → ℕ) → A → List A → Type 0
@@ -57,7 +57,7 @@ mode_place Byte = 2
 abbrev pub IsBefore : Segment → Segment → Type 0
 IsBefore s t = (t.len < s.len) ⊎ ((s.len ≡ t.len) × (mode_place s.mode < mode_place t.mode))
 
--- t passes, its number is no more than that of any that passes, and less than that of those before it
+-- t passes; f is no more at t than at any segment that passes, and less than at those that are tried before it
 pub record IsLeastOf (p : Segment → Bool) (f : Segment → ℕ) (size : ℕ) (t : Segment) : Type 0 where
   pub passes : p t ≡ true
   pub low : (s : Segment) → 0 < s.len → s.len ≤ size → p s ≡ true → f t ≤ f s
@@ -91,38 +91,38 @@ stands p f size t xs lowest sizes =
     ] in
     go (p t) lowest.passes
 
--- it stands among the segments of the greatest length
+-- it is among the segments of the greatest length
 stands_longest : (p : Segment → Bool) (f : Segment → ℕ) (size n : ℕ) (mode : Mode) → suc n ≤ size
     → IsLeastOf p f size (segment_of mode (suc n))
     → IsFirstLowest f (segment_of mode (suc n)) (filter p (candidates (suc n)))
-stands_longest p f size n Numeric fits lowest =
-    let sizes = tried_lengths n size (omega arith) in
+stands_longest p f size n Numeric fits lowest = rw (candidates-more n)
+    (let sizes = tried_lengths n size (omega arith) in
     stands p f size (segment_of Numeric (suc n))
     (segment_of Alphanumeric (suc n) ∷ segment_of Byte (suc n) ∷ candidates n) lowest
-    ((omega arith, fits), ((omega arith, fits), sizes))
-stands_longest p f size n Alphanumeric fits lowest =
-    let sizes = tried_lengths n size (omega arith) in
+    ((omega arith, fits), ((omega arith, fits), sizes)))
+stands_longest p f size n Alphanumeric fits lowest = rw (candidates-more n)
+    (let sizes = tried_lengths n size (omega arith) in
     let t = segment_of Alphanumeric (suc n) in
     skips p f t (segment_of Numeric (suc n)) (t ∷ segment_of Byte (suc n) ∷ candidates n)
     (λ yes. lowest.strict (segment_of Numeric (suc n)) (omega arith) fits yes (inr (refl, omega arith)))
-    (stands p f size t (segment_of Byte (suc n) ∷ candidates n) lowest ((omega arith, fits), sizes))
-stands_longest p f size n Byte fits lowest =
-    let sizes = tried_lengths n size (omega arith) in
+    (stands p f size t (segment_of Byte (suc n) ∷ candidates n) lowest ((omega arith, fits), sizes)))
+stands_longest p f size n Byte fits lowest = rw (candidates-more n)
+    (let sizes = tried_lengths n size (omega arith) in
     let t = segment_of Byte (suc n) in
     skips p f t (segment_of Numeric (suc n)) (segment_of Alphanumeric (suc n) ∷ t ∷ candidates n)
     (λ yes. lowest.strict (segment_of Numeric (suc n)) (omega arith) fits yes (inr (refl, omega arith)))
     (skips p f t (segment_of Alphanumeric (suc n)) (t ∷ candidates n)
     (λ yes. lowest.strict (segment_of Alphanumeric (suc n)) (omega arith) fits yes (inr (refl, omega arith)))
-    (stands p f size t (candidates n) lowest sizes))
+    (stands p f size t (candidates n) lowest sizes)))
 
--- it stands among those of at most so many bytes
+-- it is among those of at most `n` bytes
 pub IsFirstLowest-candidates : (p : Segment → Bool) (f : Segment → ℕ) (size n : ℕ) (mode : Mode) (len : ℕ) → n ≤ size
     → 0 < len → len ≤ n → IsLeastOf p f size (segment_of mode len)
     → IsFirstLowest f (segment_of mode len) (filter p (candidates n))
 IsFirstLowest-candidates p f size zero mode len fits some inside lowest = absurd (omega arith)
 IsFirstLowest-candidates p f size (suc n) mode len fits some inside lowest = elim (cases_lt len (suc n)) [
-  | inl less ↦
-      let t = segment_of mode len in
+  | inl less ↦ rw (candidates-more n)
+      (let t = segment_of mode len in
       skips p f t (segment_of Numeric (suc n))
       (segment_of Alphanumeric (suc n) ∷ segment_of Byte (suc n) ∷ candidates n)
       (λ yes. lowest.strict (segment_of Numeric (suc n)) (omega arith) fits yes (inl less))
@@ -130,7 +130,7 @@ IsFirstLowest-candidates p f size (suc n) mode len fits some inside lowest = eli
       (λ yes. lowest.strict (segment_of Alphanumeric (suc n)) (omega arith) fits yes (inl less))
       (skips p f t (segment_of Byte (suc n)) (candidates n)
       (λ yes. lowest.strict (segment_of Byte (suc n)) (omega arith) fits yes (inl less))
-      (IsFirstLowest-candidates p f size n mode len (omega arith) some (omega arith) lowest)))
+      (IsFirstLowest-candidates p f size n mode len (omega arith) some (omega arith) lowest))))
   | inr last ↦
       let same : suc n ≡ len = omega arith in
       subst (λ m. IsLeastOf p f size (segment_of mode m)

@@ -34,11 +34,11 @@ pub record IsReal (version : ℕ) (bytes : List ℕ) (mode : Mode) (class : ℕ)
   pub same_class : class_of mode c.segment.len ≡ class
   pub sum : c.bits ≡ total version bytes mode c.segment.len
 
--- there is no such choice, or it is one
+-- the choice is absent, or it is one of a segment of the bytes
 abbrev pub IsNoneOrReal : (version : ℕ) (bytes : List ℕ) (mode : Mode) (class : ℕ) (c : ChoiceView) → Type 0
 IsNoneOrReal version bytes mode class c = (ABSENT ≤ c.bits) ⊎ IsReal version bytes mode class c
 
--- a best choice of a mode and a class of lengths, if none of at most `from` bytes count
+-- the best choice of a mode and a class of lengths, among those of more than `from` bytes
 pub record IsClass (version : ℕ) (bytes : List ℕ) (mode : Mode) (class from : ℕ) (c : ChoiceView) : Type 0 where
   pub real : IsNoneOrReal version bytes mode class c
   pub lowest : (n : ℕ) → from < n → n ≤ run_length (has_character mode) bytes → class_of mode n ≡ class
@@ -99,7 +99,7 @@ IsClass-whole version bytes mode class c other old = record {
   ];
 }
 
--- where one is
+-- where a segment of one byte is of the class
 IsClass-short : (version b : ℕ) (bytes : List ℕ) (mode : Mode) (class : ℕ) (c : ChoiceView)
     → has_character mode b ≡ true → class_of mode 1 ≡ class → IsClass version (b ∷ bytes) mode class 1 c
     → IsClass version (b ∷ bytes) mode class 0 (better_choice c (short_choice version mode (fewest_bits version bytes)))

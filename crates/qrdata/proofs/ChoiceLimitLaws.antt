@@ -1,5 +1,5 @@
--- Where the fewest bits fit, the best choices begin the best lists. There the limits of the character counts bind
--- nothing.
+-- Where the fewest bits fit, the best choices begin the best lists, and no segment reaches the limit of its character
+-- count.
 use Rattle.std.proofs.Common.{◌≡◌, ℕ, zero, suc, ◌+◌, ◌*◌, ◌/◌, ◌^◌, ◌<◌, ◌≤◌, List, [], ◌∷◌, drop, length, refl, sym}
 use Rattle.std.proofs.Common.{ap, ◌∙◌, arith, true, false, inl, inr, cond}
 use Rattle.std.specs.Prelude.{nat_lt}

@@ -7,7 +7,7 @@ use Rattle.qrdata.specs.declared.mode.Mode.{Mode}
 use Rattle.qrdata.specs.Segments.{segment_of}
 use Rattle.qrdata.specs.Private.Table.{better_choice}
 
--- a choice comes no later than one of so many bits and this length
+-- a choice comes no later than one of `bits` bits and this length
 abbrev pub Beats : ChoiceView → (bits len : ℕ) → Type 0
 Beats c bits len = (c.bits ≤ bits) × (c.segment.len < len → c.bits < bits)
 

@@ -1,5 +1,5 @@
 -- What is read of the codewords of a symbol is its data.
-use Rattle.std.proofs.Common.{◌≡◌, ℕ, zero, suc, ◌+◌, ◌-◌, ◌*◌, ◌/◌, ◌<◌, ◌≤◌, List, [], ◌∷◌, ◌++◌, map, take, drop}
+use Rattle.std.proofs.Common.{◌≡◌, ℕ, zero, suc, ◌+◌, ◌-◌, ◌*◌, ◌/◌, ◌%◌, ◌<◌, ◌≤◌, List, [], ◌∷◌, ◌++◌, map, take, drop}
 use Rattle.std.proofs.Common.{length, replicate, refl, sym, ap, ◌∙◌, length-append, arith, Bool, true, false, sum}
 use Rattle.std.specs.Prelude.{if◌then◌else◌, None, Some, Option, ◌&&◌, ◌==◌}
 use Rattle.std.specs.List.{AllByRecursion, concat, list_all, range_with_len, zip}
@@ -15,12 +15,13 @@ use Rattle.gf256.specs.ErrorCorrection.{RemaindersHaveRoots}
 use Rattle.qrdata.specs.declared.level.Level.{Level}
 use Rattle.qrdata.specs.declared.mode.Segment.{Segment}
 use Rattle.qrdata.specs.Bits.{number_of, codewords_of}
-use Rattle.qrdata.specs.Codewords.{with_zeros, data_of, with_pad_codewords, final_message, interleaving}
+use Rattle.qrdata.specs.Codewords.{with_zeros, with_pad_codewords, final_message, interleaving}
 use Rattle.qrdata.specs.Codewords.{pad_codewords, data_codewords_of}
 use Rattle.qrdata.specs.Codewords.{split_by, symbol_codewords, with_terminator}
 use Rattle.qrdata.specs.Reading.{data_in, deinterleaving, has_roots, segments_at}
 use Rattle.qrdata.specs.Segments.{IsSegmentation, cost, segments_bits}
-use Rattle.qrdata.specs.Versions.{block_count, block_lengths, data_codewords, ec_codewords_per_block, total_codewords}
+use Rattle.qrdata.specs.Private.Blocks.{block_count}
+use Rattle.qrdata.specs.Versions.{block_lengths, data_codewords, ec_codewords_per_block, total_codewords}
 use Rattle.qrdata.proofs.BitStringLaws.{drop_front, number_of-lt, take_front}
 use Rattle.qrdata.proofs.BlockLaws.{length-interleaving, length-split_by, ec_lengths, split_joined, split_lengths}
 use Rattle.qrdata.proofs.InterleavingLaws.{Blocks, deinterleaving-interleaving}
@@ -30,7 +31,8 @@ use Rattle.qrdata.proofs.PayloadLaws.{AreBytes}
 use Rattle.qrdata.proofs.VersionLaws.{HasSoundBlocks-of, data_codewords-add_ec_codewords}
 use Rattle.qrdata.proofs.SegmentReadingLaws.{AreBytes-take, AreBytes-drop, segments_at-segments_bits}
 
--- the error correction codewords of a block: as many as they should be, and with them the block is a codeword
+-- the error correction codewords of a block: they have the right number, and with them the block is a multiple of its
+-- generator
 pub record HasEcCodewords (k : ℕ) : Type 0 where
   pub count : (block : List ℕ) → AreBytes block → length (ec_codewords_of k block) ≡ k
   pub roots : (block : List ℕ) → AreBytes block → has_roots k (block, ec_codewords_of k block) ≡ true
@@ -67,17 +69,20 @@ unfolding codewords_of
 AreBytes-codewords_of zero bits = tt
 AreBytes-codewords_of (suc n) bits = (eight_below bits, AreBytes-codewords_of n (drop 8 bits))
 
-AreBytes-pad : (n : ℕ) → AreBytes (pad_codewords n)
-AreBytes-pad zero = tt
-AreBytes-pad (suc zero) = (omega arith, tt)
-AreBytes-pad (suc (suc n)) = (omega arith, (omega arith, AreBytes-pad n))
+pad_below : (is_first : Bool) → (if is_first then 0xEC else 0x11) < 256
+pad_below true = omega arith
+pad_below false = omega arith
+
+AreBytes-pads_from : (a n : ℕ) → AreBytes (map (λ i. if i % 2 == 0 then 0xEC else 0x11) (range_with_len a n))
+AreBytes-pads_from a zero = tt
+AreBytes-pads_from a (suc n) = (pad_below (a % 2 == 0), AreBytes-pads_from (a + 1) n)
 
 pub AreBytes-data_codewords_of : (size : ℕ) (bits : List Bool) → AreBytes (data_codewords_of size bits)
 unfolding data_codewords_of with_pad_codewords
 AreBytes-data_codewords_of size bits =
     let whole = with_zeros (with_terminator (8 * size) bits) in
     AreBytes-append (codewords_of (length whole / 8) whole) (pad_codewords (size - length whole / 8))
-    (AreBytes-codewords_of (length whole / 8) whole) (AreBytes-pad (size - length whole / 8))
+    (AreBytes-codewords_of (length whole / 8) whole) (AreBytes-pads_from 0 (size - length whole / 8))
 
 pub AreBytes-split : (lengths codewords : List ℕ) → AreBytes codewords
     → AllByRecursion AreBytes (split_by lengths codewords)
@@ -105,7 +110,7 @@ pub data_in-symbol_codewords : (version : ℕ) (level : Level) (segments : List 
     → cost version segments ≤ 8 * data_codewords version level
     → EcCodewordsAreRemainder → RemaindersHaveRoots
     → data_in version level (symbol_codewords version level segments bytes) ≡ Some bytes
-unfolding data_in symbol_codewords final_message data_of
+unfolding data_in symbol_codewords final_message
 data_in-symbol_codewords version level segments bytes low high w cut fits remainder codeword =
     let size = data_codewords version level in
     let k = ec_codewords_per_block version level in
@@ -153,7 +158,7 @@ data_in-symbol_codewords version level segments bytes low high w cut fits remain
     (omega (arith, count_below_cost version segments, fits)) ends.2 in
     let same : (total_codewords version == total_codewords version) ≡ true =
     eq-eqb (total_codewords version) (total_codewords version) refl in
-    rw (front, back, total, read_blocks, read_ec_blocks, valid, same, joined, ends.1) read
+    rw (shapes.1, front, back, total, read_blocks, read_ec_blocks, valid, same, joined, ends.1) read
 
 both_pass : {A : Type 0} (a b : Bool) (x : Option A) (y : A) → (if a && b then x else None) ≡ Some y → a ≡ true
 both_pass true b x y h = refl

@@ -9,7 +9,7 @@ use Rattle.gf256.specs.Field.{field_product, field_power}
 use Rattle.gf256.specs.Polynomial.{evaluate}
 use Rattle.qrdata.specs.declared.mode.Mode.TheVariants.{Numeric, Alphanumeric, Byte}
 use Rattle.qrdata.specs.Bits.{bits_of, codewords_of, number_of}
-use Rattle.qrdata.specs.Codewords.{data_codewords_of, data_of, interleaving, pad_codewords, split_by}
+use Rattle.qrdata.specs.Codewords.{data_codewords_of, interleaving, pad_codewords, split_by}
 use Rattle.qrdata.specs.Codewords.{with_pad_codewords, with_terminator, with_zeros}
 use Rattle.qrdata.specs.Fewest.{first_segments, best_within, chosen_segments, chosen_version, is_first}
 use Rattle.qrdata.specs.Reading.{number_at, digits_at, characters_at, bytes_at, segment_at, segments_at}
@@ -18,13 +18,13 @@ use Rattle.qrdata.specs.Segments.{alphanumeric_bits, alphanumeric_characters, al
 use Rattle.qrdata.specs.Segments.{count_width, has_character, mode_indicator, modes}
 use Rattle.qrdata.specs.Segments.{numeric_bits, payload_length, segment_of}
 use Rattle.qrdata.specs.Segments.{segments_bits}
-use Rattle.qrdata.specs.Versions.{total_codewords, block_count, ec_codewords_per_block, data_codewords, block_lengths}
+use Rattle.qrdata.specs.Versions.{total_codewords, ec_codewords_per_block, data_codewords, block_lengths}
 use Rattle.qrdata.specs.Versions.{block_table, capacity, groups_of, side_of}
 
 -- a symbol of version 1-Q that is known from outside is read
 hello_world_reads : data_in 1 Q (32 ∷ 91 ∷ 11 ∷ 120 ∷ 209 ∷ 114 ∷ 220 ∷ 77 ∷ 67 ∷ 64 ∷ 236 ∷ 17 ∷ 236 ∷ 168 ∷ 72 ∷ 22
     ∷ 82 ∷ 217 ∷ 54 ∷ 156 ∷ 0 ∷ 46 ∷ 15 ∷ 180 ∷ 122 ∷ 16 ∷ []) ≡ Some (codes "HELLO WORLD")
-unfolding alphanumeric_characters bits_of number_of byte_bits total_codewords block_count ec_codewords_per_block
+unfolding alphanumeric_characters bits_of number_of byte_bits total_codewords ec_codewords_per_block
     data_codewords
     block_lengths groups_of block_table evaluate field_power field_product binary_product binary_remainder number_at
     digits_at characters_at bytes_at segment_at segments_at deinterleaving data_in
@@ -55,8 +55,8 @@ short_digits = refl
 three_segments_cost : cost 1 (segment_of Byte 1 ∷ segment_of Numeric 2 ∷ segment_of Byte 1 ∷ []) ≡ 61
 three_segments_cost = refl
 
--- beside the listing of the standard (ISO/IEC 18004, table 9): of each version the error correction codewords of a
--- block, and the data codewords of each block
+-- the listing of the standard (ISO/IEC 18004, table 9): for each version the error correction codewords of a block, and
+-- the data codewords of each block
 abbrev blocks_of_versions : Level → List (ℕ × List ℕ)
 blocks_of_versions level =
     map (λ version. (ec_codewords_per_block version level, block_lengths version level)) (range_with_len 1 10)
@@ -102,14 +102,14 @@ codewords = refl
 -- of each level the error correction codewords of the versions
 ec_codewords : Level → List ℕ
 ec_codewords level =
-    map (λ version. block_count version level * ec_codewords_per_block version level) (range_with_len 1 10)
+    map (λ version. length (block_lengths version level) * ec_codewords_per_block version level) (range_with_len 1 10)
 
 ec_codewords_of_levels : map ec_codewords (L ∷ M ∷ Q ∷ H ∷ []) ≡
     (7 ∷ 10 ∷ 15 ∷ 20 ∷ 26 ∷ 36 ∷ 40 ∷ 48 ∷ 60 ∷ 72 ∷ [])
     ∷ (10 ∷ 16 ∷ 26 ∷ 36 ∷ 48 ∷ 64 ∷ 72 ∷ 88 ∷ 110 ∷ 130 ∷ [])
     ∷ (13 ∷ 22 ∷ 36 ∷ 52 ∷ 72 ∷ 96 ∷ 108 ∷ 132 ∷ 160 ∷ 192 ∷ [])
     ∷ (17 ∷ 28 ∷ 44 ∷ 64 ∷ 88 ∷ 112 ∷ 130 ∷ 156 ∷ 192 ∷ 224 ∷ []) ∷ []
-unfolding ec_codewords block_count ec_codewords_per_block block_lengths groups_of block_table
+unfolding ec_codewords ec_codewords_per_block block_lengths groups_of block_table
 ec_codewords_of_levels = refl
 
 -- the blocks of a symbol, those of one length together
@@ -207,9 +207,9 @@ lengths_of_payloads : (map (payload_length Numeric) (1 ∷ 2 ∷ 3 ∷ 8 ∷ 16 
 lengths_of_payloads = (refl, refl, refl)
 
 -- the data codewords of the standard's annex I
-annex_i : data_of 1 M (segment_of Numeric 8 ∷ []) (codes "01234567") ≡
+annex_i : data_codewords_of (data_codewords 1 M) (segments_bits 1 (segment_of Numeric 8 ∷ []) (codes "01234567")) ≡
     0x10 ∷ 0x20 ∷ 0x0C ∷ 0x56 ∷ 0x61 ∷ 0x80 ∷ 0xEC ∷ 0x11 ∷ 0xEC ∷ 0x11 ∷ 0xEC ∷ 0x11 ∷ 0xEC ∷ 0x11 ∷ 0xEC ∷ 0x11 ∷ []
-unfolding data_of data_codewords_of with_pad_codewords with_terminator with_zeros codewords_of segments_bits numeric_bits
+unfolding data_codewords_of with_pad_codewords with_terminator with_zeros codewords_of segments_bits numeric_bits
     bits_of number_of
     data_codewords block_lengths groups_of block_table
 annex_i = refl
@@ -239,7 +239,7 @@ pads = refl
 one_pad : pad_codewords 1 ≡ 236 ∷ []
 one_pad = refl
 
--- versions from the least one allowed to 10
+-- versions from the smallest one allowed to 10
 versions_asked_for : map (λ lowest. chosen_version lowest H (codes "1")) (1 ∷ 2 ∷ 10 ∷ 11 ∷ []) ≡
     Some 1 ∷ Some 2 ∷ Some 10 ∷ None ∷ []
 unfolding chosen_version chosen_segments best_within first_segments alphanumeric_characters alphanumeric_value

@@ -1,24 +1,45 @@
 -- The best list of segments is one, and no list costs less.
-use Rattle.std.proofs.Common.{◌≡◌, ℕ, zero, suc, ◌+◌, ◌^◌, ◌<◌, ◌≤◌, List, [], ◌∷◌, map, drop, length, refl, arith}
+use Rattle.std.proofs.Common.{◌≡◌, ℕ, zero, suc, ◌+◌, ◌^◌, ◌<◌, ◌≤◌, List, [], ◌∷◌, map, drop, length, refl, ap, ◌∙◌, arith}
 use Rattle.std.proofs.Common.{Bool, true, false, inl, inr, cond}
-use Rattle.std.specs.Prelude.{nat_lt, ◌&&◌, filter}
-use Rattle.std.specs.List.{AllByRecursion, best_of}
+use Rattle.std.specs.Prelude.{nat_lt, ◌&&◌, ◌++◌, filter, flat_map, reverse}
+use Rattle.std.specs.List.{AllByRecursion, best_of, range_with_len}
 use Rattle.std.proofs.lemmas.Bool.{and_parts, cases_lt, le-ltb, lt-ltb, ltb-true}
-use Rattle.std.proofs.lemmas.List.{length-drop}
+use Rattle.std.proofs.lemmas.List.{length-drop, reverse-append}
 use Rattle.std.proofs.lemmas.List.Sums.{sum_by-cons}
 use Rattle.qrdata.specs.declared.mode.Mode.{Mode}
 use Rattle.qrdata.specs.declared.mode.Mode.TheVariants.{Numeric, Alphanumeric, Byte}
 use Rattle.qrdata.specs.declared.mode.Segment.{Segment}
 use Rattle.qrdata.specs.Segments.{IsSegmentation, cost, count_width, modes, segment_length, segment_of}
 use Rattle.qrdata.proofs.MembershipLaws.{IsIn, IsIn-filter, IsIn-flat_map, IsIn-map}
-use Rattle.qrdata.specs.Fewest.{chosen_segments, best_within, candidates, cheapest, down_from, first_segments, is_first}
+use Rattle.qrdata.specs.Fewest.{chosen_segments, best_within, candidates, cheapest, first_segments, is_first}
 
-IsIn-down_from : (k n : ℕ) → 0 < k → k ≤ n → IsIn k (down_from n)
-IsIn-down_from k zero low high = absurd (omega arith)
-IsIn-down_from k (suc n) low high = elim (cases_lt n k)
-    [ inl last ↦ inl (omega arith) | inr less ↦ inr (IsIn-down_from k n low less) ]
+-- the lengths from the greatest down
+abbrev lengths_down : ℕ → List ℕ
+lengths_down n = reverse (range_with_len 1 n)
 
--- the one of two with the lower number, the second of equals
+range_with_len_more : (a n : ℕ) → range_with_len a (suc n) ≡ range_with_len a n ++ (a + n) ∷ []
+range_with_len_more a zero = ap (λ k. k ∷ []) (omega arith)
+range_with_len_more a (suc n) =
+    let last : a + 1 + n ≡ a + suc n = omega arith in
+    ap (λ ns. a ∷ ns) (range_with_len_more (a + 1) n ∙ ap (λ k. range_with_len (a + 1) n ++ k ∷ []) last)
+
+lengths_down-more : (n : ℕ) → lengths_down (suc n) ≡ suc n ∷ lengths_down n
+lengths_down-more n =
+    let last : 1 + n ≡ suc n = omega arith in
+    ap reverse (range_with_len_more 1 n) ∙ (reverse-append (range_with_len 1 n) ((1 + n) ∷ [])
+    ∙ ap (λ k. k ∷ lengths_down n) last)
+
+-- the candidates of a length are tried before the shorter ones
+pub candidates-more : (n : ℕ) → candidates (suc n)
+    ≡ segment_of Numeric (suc n) ∷ segment_of Alphanumeric (suc n) ∷ segment_of Byte (suc n) ∷ candidates n
+candidates-more n = ap (flat_map (λ len. map (λ mode. segment_of mode len) modes)) (lengths_down-more n)
+
+IsIn-lengths_down : (k n : ℕ) → 0 < k → k ≤ n → IsIn k (lengths_down n)
+IsIn-lengths_down k zero low high = absurd (omega arith)
+IsIn-lengths_down k (suc n) low high = rw (lengths_down-more n) (elim (cases_lt n k)
+    [ inl last ↦ inl (omega arith) | inr less ↦ inr (IsIn-lengths_down k n low less) ])
+
+-- the one of two with the lower number; the second where the numbers are equal
 lower_of-both : {A : Type 0} (f : A → ℕ) (b a : A) → (f (cond (nat_lt (f b) (f a)) b a) ≤ f a)
     × (f (cond (nat_lt (f b) (f a)) b a) ≤ f b)
 lower_of-both f b a = elim (cases_lt (f b) (f a)) [
@@ -44,7 +65,7 @@ cond_one : {A : Type 0} (P : A → Type 0) (t : Bool) (x y : A) → P x → P y 
 cond_one P true x y h k = h
 cond_one P false x y h k = k
 
--- whatever holds of all holds of the cheapest
+-- what is true of all is true of the cheapest
 lowest_of-one : {A : Type 0} (P : A → Type 0) (f : A → ℕ) (a : A) (xs : List A) → P a → AllByRecursion P xs
     → P (lowest_of f a xs)
 lowest_of-one P f a [] h w = h
@@ -68,8 +89,8 @@ pub first_is_tried : (version : ℕ) (bytes : List ℕ) (s : Segment) → 0 < s.
 unfolding first_segments
 first_is_tried version bytes s low high h =
     IsIn-filter (is_first version bytes) s (candidates (length bytes)) h
-    (IsIn-flat_map (λ n. map (λ m. segment_of m n) modes) s.len s (down_from (length bytes))
-    (IsIn-down_from s.len (length bytes) low high)
+    (IsIn-flat_map (λ n. map (λ m. segment_of m n) modes) s.len s (lengths_down (length bytes))
+    (IsIn-lengths_down s.len (length bytes) low high)
     (IsIn-map (λ m. segment_of m s.len) s.mode modes (any_mode s.mode)))
 
 cost-cons : (version : ℕ) (s : Segment) (segments : List Segment)
@@ -138,7 +159,7 @@ All-map P R f each (x ∷ xs) w = (each x w.0, All-map P R f each xs w.1)
 pub tried_lengths : (n size : ℕ) → n ≤ size
     → AllByRecursion (λ (s : Segment). (0 < s.len) × (s.len ≤ size)) (candidates n)
 tried_lengths zero size h = tt
-tried_lengths (suc n) size h =
+tried_lengths (suc n) size h = rw (candidates-more n)
     ((omega arith, h), ((omega arith, h), ((omega arith, h), tried_lengths n size (omega arith))))
 
 pub all_tried : (version : ℕ) (bytes : List ℕ)

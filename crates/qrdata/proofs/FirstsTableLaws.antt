@@ -1,4 +1,4 @@
--- What a table of best first segments says, filled from its end, in the versions whose character counts are as wide.
+-- A table of best first segments, filled from its end, is right in all versions whose character counts are as wide.
 use Rattle.std.proofs.Common.{◌≡◌, ◌≢◌, ℕ, ◌+◌, ◌-◌, ◌<◌, ◌≤◌, List, ◌∷◌, drop, length, get_or, refl, sym, subst, ap}
 use Rattle.std.proofs.Common.{◌∙◌, arith, inl, inr, cond}
 use Rattle.std.specs.Prelude.{slice_get, Some, nat_lt}
@@ -88,7 +88,7 @@ fewest_bits-below v w same bytes =
       fewest_bits-le_cost w (chosen_segments w bytes) bytes (chosen_segments-is w bytes),
     )
 
--- and as many where they fit
+-- and they are as many where they fit
 pub fewest_bits-is : (v w : ℕ) → SameWidths v w → (bytes : List ℕ) → length bytes ≤ 652 → fewest_bits w bytes ≤ widest w
     → fewest_bits w bytes ≡ cost v (chosen_segments v bytes)
 fewest_bits-is v w same bytes few fits = (Agrees-if_fits w bytes few fits).bits ∙ sym (cost-chosen_same v w same bytes)

@@ -1,15 +1,15 @@
--- Dealing codewords to blocks undoes their interleaving.
+-- Deinterleaving undoes interleaving.
 use Rattle.std.proofs.Common.{◌≡◌, ℕ, zero, suc, ◌+◌, ◌-◌, ◌<◌, ◌≤◌, List, [], ◌∷◌, map, take, drop, length, get_or}
 use Rattle.std.proofs.Common.{min, refl, ap, sym, ◌∙◌, length-append, arith, inl, inr, cond}
-use Rattle.std.specs.Prelude.{slice_get, slice_index, nat_lt}
+use Rattle.std.specs.Prelude.{fold, max, slice_get, slice_index, nat_lt}
 use Rattle.std.specs.List.{count_by, flat_map, range_with_len, cons_option, sum_by}
 use Rattle.std.proofs.lemmas.Bool.{cases_lt, lt-ltb, le-ltb}
-use Rattle.std.proofs.lemmas.List.{get_or-map, length-map}
+use Rattle.std.proofs.lemmas.List.{get_or-map, length-drop, length-map}
 use Rattle.std.proofs.lemmas.List.Concat.{get_or-flat_map}
 use Rattle.std.proofs.lemmas.List.FromFn.{fill_by_all, get_or-range_with_len, length-range_with_len}
 use Rattle.std.proofs.lemmas.List.Sums.{sum_by-cons}
 use Rattle.std.proofs.lemmas.Option.{slice_get-get_or, slice_get_past}
-use Rattle.qrdata.specs.Codewords.{interleaving, largest, codewords_at}
+use Rattle.qrdata.specs.Codewords.{interleaving, codewords_at}
 use Rattle.qrdata.specs.Reading.{deinterleaving, interleaving_place}
 
 abbrev pub Blocks : Type 0
@@ -32,17 +32,29 @@ places_from blocks (suc n) a =
 
 -- the length of the longest block
 abbrev pub longest : Blocks → ℕ
-longest blocks = largest (map length blocks)
+longest blocks = fold max 0 (map length blocks)
+
+pub fold-max : (n : ℕ) (ns : List ℕ) → fold max n ns ≡ max n (fold max 0 ns)
+fold-max n [] = omega arith
+fold-max n (m ∷ ns) = omega (arith, fold-max (max n m) ns, fold-max (max 0 m) ns)
+
+pub longest-cons : (block : List ℕ) (blocks : Blocks) → longest (block ∷ blocks) ≡ max (length block) (longest blocks)
+longest-cons block blocks = omega (arith, fold-max (max 0 (length block)) (map length blocks))
 
 pub longest-tails : (blocks : Blocks) → longest (map (drop 1) blocks) ≡ longest blocks - 1
 longest-tails [] = refl
-longest-tails ([] ∷ blocks) = omega (arith, longest-tails blocks)
-longest-tails ((w ∷ codewords) ∷ blocks) = omega (arith, longest-tails blocks)
+longest-tails (block ∷ blocks) = omega (
+  arith,
+  longest-cons block blocks,
+  longest-cons (drop 1 block) (map (drop 1) blocks),
+  length-drop 1 block,
+  longest-tails blocks,
+)
 
 le-longest : (blocks : Blocks) (b : ℕ) → length (get_or blocks b []) ≤ longest blocks
 le-longest [] b = omega arith
-le-longest (x ∷ xs) zero = omega arith
-le-longest (x ∷ xs) (suc b) = omega (arith, le-longest xs b)
+le-longest (x ∷ xs) zero = omega (arith, longest-cons x xs)
+le-longest (x ∷ xs) (suc b) = omega (arith, longest-cons x xs, le-longest xs b)
 
 -- the codewords of a place, and of each block those of the places below i but the first
 first_below : (i : ℕ) (blocks : Blocks)
@@ -72,7 +84,7 @@ length_below (suc i) blocks =
       later,
     ) (first_below i blocks)
 
--- among the codewords at a place, that of block b stands after those of the blocks before it
+-- among the codewords at a place, that of block b comes after those of the blocks before it
 abbrev place_in_round : Blocks → ℕ → ℕ → ℕ
 place_in_round blocks b i = count_by (nat_lt i) (take b (map length blocks))
 
@@ -101,7 +113,7 @@ take_range n a zero h = refl
 take_range zero a (suc i) h = absurd (omega arith)
 take_range (suc n) a (suc i) h = ap (λ ns. a ∷ ns) (take_range n (a + 1) i (omega arith))
 
--- each codeword of a block is found where it was dealt from
+-- each codeword of a block is at its place among the interleaved codewords
 placed : (blocks : Blocks) (b i : ℕ) → b < length blocks → i < length (get_or blocks b [])
     → slice_index (interleaving blocks) (interleaving_place (map length blocks) b i) ≡ get_or (get_or blocks b []) i 0
 unfolding interleaving
@@ -115,7 +127,7 @@ placed blocks b i block codeword =
     let same = rw (place, take_range n 0 i (omega arith), length_below i blocks) at found in
     same ∙ here.1
 
--- codewords that are interleaved are dealt back to their blocks
+-- interleaved codewords are deinterleaved to their blocks
 pub deinterleaving-interleaving : (blocks : Blocks) → deinterleaving (map length blocks) (interleaving blocks) ≡ blocks
 unfolding deinterleaving
 deinterleaving-interleaving blocks =

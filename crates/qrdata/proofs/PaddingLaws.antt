@@ -2,7 +2,9 @@
 use Rattle.std.proofs.Common.{◌≡◌, ℕ, zero, suc, ◌+◌, ◌-◌, ◌*◌, ◌/◌, ◌%◌, ◌<◌, ◌≤◌, List, [], ◌∷◌, ◌++◌, take, drop}
 use Rattle.std.proofs.Common.{length, replicate, refl, ap, append_assoc, append-nil, length-append, arith, Bool, true}
 use Rattle.std.proofs.Common.{false, min}
-use Rattle.std.specs.Prelude.{◌⊎◌}
+use Rattle.std.specs.Prelude.{◌⊎◌, ◌==◌, if◌then◌else◌, map}
+use Rattle.std.specs.List.{range_with_len}
+use Rattle.std.proofs.lemmas.List.FromFn.{length-map-range_with_len}
 use Rattle.std.proofs.lemmas.List.{length-replicate, length-take-le, length-drop, take-append-drop}
 use Rattle.std.proofs.Common.{inl, inr}
 use Rattle.std.proofs.lemmas.Bool.{cases_lt}
@@ -48,9 +50,23 @@ length-codewords_of zero bits = refl
 length-codewords_of (suc n) bits = ap suc (length-codewords_of n (drop 8 bits))
 
 pub length-pad_codewords : (n : ℕ) → length (pad_codewords n) ≡ n
-length-pad_codewords zero = refl
-length-pad_codewords (suc zero) = refl
-length-pad_codewords (suc (suc n)) = ap (λ k. suc (suc k)) (length-pad_codewords n)
+length-pad_codewords n = length-map-range_with_len (λ i. if i % 2 == 0 then 0xEC else 0x11) 0 n
+
+-- the pad codewords two places on are the same
+two_places_on : (a n : ℕ) → map {B = ℕ} (λ i. if i % 2 == 0 then 0xEC else 0x11) (range_with_len (a + 2) n)
+    ≡ map (λ i. if i % 2 == 0 then 0xEC else 0x11) (range_with_len a n)
+two_places_on a zero = refl
+two_places_on a (suc n) =
+    let same : (a + 2) % 2 ≡ a % 2 = omega arith in
+    let next : a + 2 + 1 ≡ a + 1 + 2 = omega arith in
+    rw (same, next, two_places_on (a + 1) n) refl
+
+pub pad_codewords-two_more : (n : ℕ) → 2 ≤ n → pad_codewords n ≡ 0xEC ∷ 0x11 ∷ pad_codewords (n - 2)
+pad_codewords-two_more zero h = absurd (omega arith)
+pad_codewords-two_more (suc zero) h = absurd (omega arith)
+pad_codewords-two_more (suc (suc n)) h =
+    let rest : suc (suc n) - 2 ≡ n = omega arith in
+    rw rest (ap (λ codewords. 0xEC ∷ 0x11 ∷ codewords) (two_places_on 0 n))
 
 -- four zeros, or fewer than four bits, end the segments
 pub is_end-zeros : (rest : List Bool) → is_end (replicate 4 false ++ rest) ≡ true
@@ -65,8 +81,8 @@ length-byte_bits [] = rw byte_bits-nil refl
 length-byte_bits (b ∷ bytes) = rw byte_bits-one
     (omega (arith, length-append (bits_of 8 b) (byte_bits bytes), length-bits_of 8 b, length-byte_bits bytes))
 
--- The terminator and the zeros after it are bits of their own, in whole codewords and no more than there are: four
--- zeros come first, or all is full.
+-- With the terminator and the zeros after it the bits fill whole codewords, no more than there are. Four zeros come
+-- after the bits, or no codeword is left.
 pub with_zeros-whole : (size : ℕ) (bits : List Bool) → length bits ≤ 8 * size
     → (n : ℕ) × (zeros : List Bool) × (with_zeros (with_terminator (8 * size) bits) ≡ bits ++ zeros)
     × (length bits + length zeros ≡ 8 * n) × (n ≤ size)

@@ -1,4 +1,4 @@
--- The choices of so few bytes leave room for one byte more.
+-- The choices of at most 652 bytes leave room for one byte more.
 use Rattle.std.proofs.Common.{ℕ, suc, ◌+◌, ◌*◌, ◌≤◌, List, [], ◌∷◌, length, arith, true, false, cond}
 use Rattle.std.specs.Char.{is_ascii_digit}
 use Rattle.std.specs.Prelude.{nat_lt}
@@ -14,7 +14,7 @@ use Rattle.qrdata.specs.Private.Table.{AreSmall, absent_choice, best_choice, bet
 use Rattle.qrdata.specs.Private.Table.{next_characters, next_choices, next_digits, short_choice}
 use Rattle.qrdata.proofs.ChoiceOrderLaws.{better-one}
 
--- what a choice of at most so many bytes is below
+-- what a choice of at most `n` bytes is below
 abbrev IsWithin : ℕ → ChoiceView → Type 0
 IsWithin n c = (c.segment.len ≤ n) × (c.bits ≤ ABSENT + 28 * n)
 

@@ -7,13 +7,14 @@ use Rattle.std.proofs.lemmas.List.FromFn.{get_or-range_with_len, length-range_wi
 use Rattle.std.proofs.lemmas.List.Sums.{AllPass-from_list_all}
 use Rattle.qrdata.specs.declared.level.Level.{Level}
 use Rattle.qrdata.specs.declared.level.Level.TheVariants.{L, M, Q, H}
-use Rattle.qrdata.specs.Versions.{block_count, block_lengths, block_table, capacity, data_codewords, groups_of}
+use Rattle.qrdata.specs.Private.Blocks.{block_count}
+use Rattle.qrdata.specs.Versions.{block_lengths, block_table, capacity, data_codewords, groups_of}
 use Rattle.qrdata.specs.Versions.{ec_codewords_per_block, total_codewords}
 use Rattle.qrdata.specs.declared.version.TheConstants.{TOTAL, BLOCKS_L, BLOCKS_M, BLOCKS_Q, BLOCKS_H, EC_CODEWORDS_L}
 use Rattle.qrdata.specs.declared.version.TheConstants.{EC_CODEWORDS_M, EC_CODEWORDS_Q, EC_CODEWORDS_H}
 use Rattle.gf256.proofs.GeneratorTableLaws.{same_numbers, same_numbers-is}
 
--- the blocks of a version: some and few, each with some error correction codewords and few, which leave room for data
+-- the blocks of a version: 1 to 8, each with 1 to 30 error correction codewords, which leave room for data codewords
 pub record HasSoundBlocks (version : ℕ) (level : Level) : Type 0 where
   pub some_blocks : 0 < block_count version level
   pub few_blocks : block_count version level ≤ 8
@@ -113,7 +114,7 @@ data_codewords-add_ec_codewords version level low high = omega (
   (HasSoundBlocks-of version level low high).room,
 )
 
--- so many blocks, as even as can be, the short ones first: the data codewords of each
+-- the data codewords of each of `blocks` blocks, which are as even as can be, the short ones first
 abbrev pub even_lengths : ℕ → ℕ → List ℕ
 even_lengths blocks codewords = replicate (blocks - codewords % blocks) (codewords / blocks)
     ++ replicate (codewords % blocks) (codewords / blocks + 1)

@@ -2,7 +2,7 @@
 use Rattle.std.proofs.Common.{◌≡◌, ℕ, zero, suc, ◌+◌, ◌-◌, ◌*◌, ◌/◌, ◌%◌, ◌^◌, ◌<◌, ◌≤◌, List, [], ◌∷◌, ◌++◌, map, take}
 use Rattle.std.proofs.Common.{drop, length, replicate, get_or, refl, sym, ap, ◌∙◌, append-nil, length-append, arith}
 use Rattle.std.proofs.Common.{Bool, false, sum}
-use Rattle.std.specs.Prelude.{◌==◌}
+use Rattle.std.specs.Prelude.{◌==◌, fold, max}
 use Rattle.std.specs.List.{AllByRecursion, flat_map}
 use Rattle.std.proofs.lemmas.List.{drop_more, drop_all, drop-drop, length-take-le}
 use Rattle.std.proofs.lemmas.List.Elements.{All-from_get_or, recursion_from_All}
@@ -16,7 +16,6 @@ use Rattle.qrdata.specs.declared.mode.Segment.{Segment}
 use Rattle.qrdata.specs.declared.bits.Bits.{Bits}
 use Rattle.qrdata.specs.Private.BitsInCodewords.{bits_in}
 use Rattle.qrdata.specs.Bits.{bits_of, codewords_of, number_of}
-use Rattle.qrdata.specs.Codewords.{largest, split_by}
 use Rattle.qrdata.specs.Segments.{IsSegmentation, alphanumeric_bits, alphanumeric_value, byte_bits, cost, count_width}
 use Rattle.qrdata.specs.Segments.{segment_bits, segment_length, segment_of, segments_bits}
 use Rattle.qrdata.specs.Private.Blocks.{HasBlocks}
@@ -27,7 +26,7 @@ use Rattle.qrdata.proofs.InterleavingLaws.{Blocks, longest}
 use Rattle.qrdata.proofs.PayloadStepLaws.{drop_next, drop_none}
 use Rattle.qrdata.proofs.PayloadLaws.{AreBytes}
 use Rattle.gf256.specs.ErrorCorrection.{ec_codewords_of, EcCodewordsAreRemainder, RemaindersHaveRoots}
-use Rattle.qrdata.specs.Codewords.{with_zeros, data_of, with_terminator}
+use Rattle.qrdata.specs.Codewords.{data_codewords_of, split_by, with_zeros, with_terminator}
 use Rattle.qrdata.specs.Versions.{capacity}
 use Rattle.qrdata.specs.Segments.{payload_length}
 use Rattle.qrdata.proofs.LengthLaws.{length-segment_bits, length-segments_bits}
@@ -109,8 +108,8 @@ bits_of-zero (suc width) = rw (bit_zero width, bits_of-zero width) refl
 
 -- the longest of the blocks that the codewords are cut into has the greatest of the lengths
 pub longest-split_by : (lengths codewords : List ℕ) → sum lengths ≡ length codewords
-    → longest (split_by lengths codewords) ≡ largest lengths
-longest-split_by lengths codewords whole = ap largest (split_lengths lengths codewords (omega arith))
+    → longest (split_by lengths codewords) ≡ fold max 0 lengths
+longest-split_by lengths codewords whole = ap (fold max 0) (split_lengths lengths codewords (omega arith))
 
 -- the blocks that are left are the next one and the others
 pub split_by-next : (lengths codewords : List ℕ) (i start : ℕ) → i < length lengths
@@ -128,7 +127,7 @@ pub split_by-none_left : (lengths codewords : List ℕ) (i : ℕ) → length len
 unfolding split_by
 split_by-none_left lengths codewords i h = rw (drop_all i lengths h) refl
 
--- what is made of each block in the same length is cut apart again
+-- what is computed for each block, in equal lengths, is cut apart again
 pub split_by-flat_map : (f : List ℕ → List ℕ) (k : ℕ) (P : List ℕ → Type 0) (blocks : Blocks)
     → ((block : List ℕ) → P block → length (f block) ≡ k) → AllByRecursion P blocks
     → split_by (replicate (length blocks) k) (flat_map f blocks) ≡ map f blocks
@@ -190,11 +189,11 @@ with_zeros-fits size bits h =
     let a = with_zeros-whole size bits h in
     omega (arith, ap length a.2, length-append bits a.1, a.3, a.4)
 
-pub length-data_of : (version : ℕ) (level : Level) (segments : List Segment) (bytes : List ℕ)
+pub length-data : (version : ℕ) (level : Level) (segments : List Segment) (bytes : List ℕ)
     → IsSegmentation version segments bytes → cost version segments ≤ capacity version level
-    → length (data_of version level segments bytes) ≡ data_codewords version level
-unfolding data_of
-length-data_of version level segments bytes held fits =
+    → length (data_codewords_of (data_codewords version level) (segments_bits version segments bytes))
+    ≡ data_codewords version level
+length-data version level segments bytes held fits =
     length-data_codewords_of (data_codewords version level) (segments_bits version segments bytes)
     (omega (arith, length-segments_bits version segments bytes held))
 

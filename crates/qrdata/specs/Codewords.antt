@@ -1,6 +1,6 @@
 -- From segments to the codewords of a symbol (ISO/IEC 18004, 7.4.9, 7.4.10, 7.5 and 7.6).
-use Rattle.std.specs.Prelude.{ℕ, zero, suc, ◌-◌, ◌*◌, ◌/◌, ◌%◌, List, [], ◌∷◌, ◌++◌, map, length, take, drop, replicate}
-use Rattle.std.specs.Prelude.{slice_get, Bool, false, max, min}
+use Rattle.std.specs.Prelude.{ℕ, ◌-◌, ◌*◌, ◌/◌, ◌%◌, ◌==◌, List, [], ◌∷◌, ◌++◌, map, length, take, drop, replicate}
+use Rattle.std.specs.Prelude.{slice_get, Bool, false, if◌then◌else◌, fold, max, min}
 use Rattle.std.specs.List.{filter_map, flat_map, range_with_len}
 use Rattle.gf256.specs.ErrorCorrection.{ec_codewords_of}
 use Rattle.qrdata.specs.declared.level.Level.{Level}
@@ -19,22 +19,15 @@ with_zeros bits = bits ++ replicate ((8 - length bits % 8) % 8) false
 
 -- n pad codewords: 11101100 and 00010001 in turn
 abbrev pub pad_codewords : ℕ → List ℕ
-pad_codewords zero = []
-pad_codewords (suc zero) = 0xEC ∷ []
-pad_codewords (suc (suc n)) = 0xEC ∷ 0x11 ∷ pad_codewords n
+pad_codewords n = map (λ i. if i % 2 == 0 then 0xEC else 0x11) (range_with_len 0 n)
 
--- as many codewords as the size: those of the bits, and the padding
+-- `size` codewords: those of the bits, and then pad codewords
 unfoldable pub with_pad_codewords : ℕ → List Bool → List ℕ
 with_pad_codewords size bits = codewords_of (length bits / 8) bits ++ pad_codewords (size - length bits / 8)
 
--- as many data codewords as the size: the bits, the terminator, zeros to the end of a codeword, and the padding
+-- `size` data codewords: the bits, the terminator, zeros to the end of a codeword, and then pad codewords
 unfoldable pub data_codewords_of : ℕ → List Bool → List ℕ
 data_codewords_of size bits = with_pad_codewords size (with_zeros (with_terminator (8 * size) bits))
-
--- the data codewords of the segments
-unfoldable pub data_of : ℕ → Level → List Segment → List ℕ → List ℕ
-data_of version level segments bytes = data_codewords_of (data_codewords version level)
-    (segments_bits version segments bytes)
 
 -- codewords cut into blocks of these lengths
 unfoldable pub split_by : List ℕ → List ℕ → List (List ℕ)
@@ -45,14 +38,9 @@ split_by (n ∷ lengths) codewords = take n codewords ∷ split_by lengths (drop
 abbrev pub codewords_at : List (List ℕ) → ℕ → List ℕ
 codewords_at blocks place = filter_map (λ block. slice_get block place) blocks
 
--- the greatest of some numbers, 0 if there is none
-abbrev pub largest : List ℕ → ℕ
-largest [] = 0
-largest (n ∷ ns) = max n (largest ns)
-
 -- the codewords of the blocks in the order of their places, and at one place in the order of the blocks
 unfoldable pub interleaving : List (List ℕ) → List ℕ
-interleaving blocks = flat_map (codewords_at blocks) (range_with_len 0 (largest (map length blocks)))
+interleaving blocks = flat_map (codewords_at blocks) (range_with_len 0 (fold max 0 (map length blocks)))
 
 -- the codewords of a symbol: the blocks of its data codewords interleaved, then their error correction codewords
 -- interleaved
@@ -61,6 +49,7 @@ final_message version level codewords =
     let blocks = split_by (block_lengths version level) codewords in
     interleaving blocks ++ interleaving (map (ec_codewords_of (ec_codewords_per_block version level)) blocks)
 
--- the codewords of the symbol of segments of the data
+-- the codewords of the symbol of segments of the data: the final message of the data codewords of their bits
 unfoldable pub symbol_codewords : ℕ → Level → List Segment → List ℕ → List ℕ
-symbol_codewords version level segments bytes = final_message version level (data_of version level segments bytes)
+symbol_codewords version level segments bytes =
+    final_message version level (data_codewords_of (data_codewords version level) (segments_bits version segments bytes))

@@ -1,20 +1,15 @@
--- The segments that data gets, and its version (ISO/IEC 18004, 7.4.1 and annex J; the choice is left to the encoder).
+-- The choice of segments and of a version for data (ISO/IEC 18004, 7.4.1 and annex J leave it to the encoder).
 use Rattle.std.specs.Prelude.{ℕ, zero, suc, ◌-◌, ◌^◌, ◌<◌, List, [], ◌∷◌, map, length, take, drop, nat_lt, nat_le}
-use Rattle.std.specs.Prelude.{◌&&◌, Bool, Option, filter}
+use Rattle.std.specs.Prelude.{◌&&◌, Bool, Option, filter, reverse}
 use Rattle.std.specs.List.{best_of, find, flat_map, list_all, range_with_len}
 use Rattle.qrdata.specs.declared.level.Level.{Level}
 use Rattle.qrdata.specs.declared.mode.Segment.{Segment}
 use Rattle.qrdata.specs.Segments.{IsSegmentation, cost, count_width, has_character, modes, segment_of}
 use Rattle.qrdata.specs.Versions.{capacity}
 
--- n, n - 1 and so on down to 1
-abbrev pub down_from : ℕ → List ℕ
-down_from zero = []
-down_from (suc n) = suc n ∷ down_from n
-
 -- a segment of each mode of each length, the longest first
 abbrev pub candidates : ℕ → List Segment
-candidates longest = flat_map (λ len. map (λ mode. segment_of mode len) modes) (down_from longest)
+candidates longest = flat_map (λ len. map (λ mode. segment_of mode len) modes) (reverse (range_with_len 1 longest))
 
 -- whether a segment's mode has its bytes, and its character count holds its length
 abbrev pub is_first : ℕ → List ℕ → Segment → Bool
@@ -37,7 +32,7 @@ best_within version zero bytes = []
 best_within version (suc n) bytes =
     cheapest version (map (λ s. s ∷ best_within version n (drop s.len bytes)) (first_segments version bytes))
 
--- the segments that the bytes get in a version
+-- the segments that are chosen for the bytes in a version
 unfoldable pub chosen_segments : ℕ → List ℕ → List Segment
 chosen_segments version bytes = best_within version (length bytes) bytes
 

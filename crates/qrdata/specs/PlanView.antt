@@ -15,12 +15,12 @@ pub record PlanView : Type 0 where
   pub segments : List Segment
   pub bytes : List ℕ
 
--- a plan of these four
+-- the plan with these four parts
 abbrev pub plan_view : ℕ → Level → List Segment → List ℕ → PlanView
 plan_view version level segments bytes =
     record { version = version; level = level; segments = segments; bytes = bytes }
 
--- the segments are segments of the data, and fit the data codewords
+-- the segments cut the data, and fit the data codewords
 pub record HasFittingSegments (plan : PlanView) : Type 0 where
   pub cut : IsSegmentation plan.version plan.segments plan.bytes
   pub fits : cost plan.version plan.segments ≤ capacity plan.version plan.level

@@ -11,7 +11,7 @@ use Rattle.qrdata.specs.declared.mode.Mode.{Mode}
 use Rattle.qrdata.specs.declared.mode.Mode.TheVariants.{Numeric, Alphanumeric, Byte}
 use Rattle.qrdata.specs.Bits.{number_of}
 use Rattle.qrdata.specs.Segments.{alphanumeric_characters, byte_bits, count_width, mode_indicator, modes}
-use Rattle.qrdata.specs.Versions.{block_count, block_lengths, data_codewords, ec_codewords_per_block, total_codewords}
+use Rattle.qrdata.specs.Versions.{block_lengths, data_codewords, ec_codewords_per_block, total_codewords}
 
 -- the number in the first bits, if it is below a limit, and the bits after it
 unfoldable pub number_at : ℕ → ℕ → List Bool → Option (ℕ × List Bool)
@@ -91,7 +91,8 @@ unfoldable pub data_in : ℕ → Level → List ℕ → Option (List ℕ)
 data_in version level codewords =
     let size = data_codewords version level in
     let ec_codewords = ec_codewords_per_block version level in
-    let blocks = deinterleaving (block_lengths version level) (take size codewords) in
-    let ec_blocks = deinterleaving (replicate (block_count version level) ec_codewords) (drop size codewords) in
+    let lengths = block_lengths version level in
+    let blocks = deinterleaving lengths (take size codewords) in
+    let ec_blocks = deinterleaving (replicate (length lengths) ec_codewords) (drop size codewords) in
     if length codewords == total_codewords version && list_all (has_roots ec_codewords) (zip blocks ec_blocks)
     then segments_at version (8 * size) (byte_bits (concat blocks)) else None

@@ -2,7 +2,7 @@
 use Rattle.std.specs.Prelude.{◌≡◌, ℕ, ◌+◌, ◌-◌, ◌*◌, ◌/◌, ◌<◌, ◌≤◌, ◌^◌, List, [], ◌∷◌, ◌++◌, length, take, drop}
 use Rattle.std.specs.Prelude.{nat_lt, if◌then◌else◌, IsTrue, Bool, true, codes}
 use Rattle.std.specs.Char.{is_ascii_digit}
-use Rattle.std.specs.List.{list_all, position_or_len, sum_by}
+use Rattle.std.specs.List.{flat_map, list_all, position_or_len, sum_by}
 use Rattle.std.specs.Prelude.{◌==◌}
 use Rattle.qrdata.specs.declared.mode.Mode.{Mode}
 use Rattle.qrdata.specs.declared.mode.Mode.TheVariants.{Numeric, Alphanumeric, Byte}
@@ -25,7 +25,7 @@ digit_value c = c - 48
 abbrev pub modes : List Mode
 modes = Numeric ∷ Alphanumeric ∷ Byte ∷ []
 
--- a segment of so many bytes
+-- a segment of `len` bytes
 abbrev pub segment_of : Mode → ℕ → Segment
 segment_of mode len = record { mode = mode; len = len }
 
@@ -41,13 +41,13 @@ mode_indicator Numeric = 1
 mode_indicator Alphanumeric = 2
 mode_indicator Byte = 4
 
--- the bits of a character count
+-- how many bits a character count has
 abbrev pub count_width : ℕ → Mode → ℕ
 count_width version Numeric = if nat_lt version 10 then 10 else 12
 count_width version Alphanumeric = if nat_lt version 10 then 9 else 11
 count_width version Byte = if nat_lt version 10 then 8 else 16
 
--- three digits in ten bits, two that are left in seven, one in four
+-- digits: three in ten bits, two that are left in seven, one in four
 unfoldable pub numeric_bits : List ℕ → List Bool
 numeric_bits [] = []
 numeric_bits (a ∷ []) = bits_of 4 (digit_value a)
@@ -55,7 +55,7 @@ numeric_bits (a ∷ b ∷ []) = bits_of 7 (10 * digit_value a + digit_value b)
 numeric_bits (a ∷ b ∷ c ∷ rest) =
     bits_of 10 (100 * digit_value a + 10 * digit_value b + digit_value c) ++ numeric_bits rest
 
--- two characters in eleven bits, one that is left in six
+-- alphanumeric characters: two in eleven bits, one that is left in six
 unfoldable pub alphanumeric_bits : List ℕ → List Bool
 alphanumeric_bits [] = []
 alphanumeric_bits (a ∷ []) = bits_of 6 (alphanumeric_value a)
@@ -64,8 +64,7 @@ alphanumeric_bits (a ∷ b ∷ rest) =
 
 -- each byte in eight bits
 unfoldable pub byte_bits : List ℕ → List Bool
-byte_bits [] = []
-byte_bits (byte ∷ bytes) = bits_of 8 byte ++ byte_bits bytes
+byte_bits bytes = flat_map (bits_of 8) bytes
 
 -- the payload of a segment of these bytes
 abbrev pub payload_bits : Mode → List ℕ → List Bool
@@ -73,7 +72,7 @@ payload_bits Numeric bytes = numeric_bits bytes
 payload_bits Alphanumeric bytes = alphanumeric_bits bytes
 payload_bits Byte bytes = byte_bits bytes
 
--- mode, character count and payload
+-- a segment: its mode indicator, its character count and its payload
 abbrev pub segment_bits : ℕ → Mode → List ℕ → List Bool
 segment_bits version mode bytes =
     bits_of 4 (mode_indicator mode) ++ bits_of (count_width version mode) (length bytes) ++ payload_bits mode bytes
@@ -97,16 +96,16 @@ IsSegmentation version [] bytes = bytes ≡ []
 IsSegmentation version (s ∷ segments) bytes =
     IsFirstSegment version bytes s × IsSegmentation version segments (drop s.len bytes)
 
--- the bits of a payload of so many bytes
+-- how many bits the payload of `n` bytes has
 abbrev pub payload_length : Mode → ℕ → ℕ
 payload_length Numeric n = (10 * n + 2) / 3
 payload_length Alphanumeric n = (11 * n + 1) / 2
 payload_length Byte n = 8 * n
 
--- the bits of a segment
+-- how many bits a segment has
 abbrev pub segment_length : ℕ → Segment → ℕ
 segment_length version s = 4 + count_width version s.mode + payload_length s.mode s.len
 
--- the bits of a list of segments
+-- how many bits a list of segments has
 abbrev pub cost : ℕ → List Segment → ℕ
 cost version segments = sum_by (segment_length version) segments

@@ -2,6 +2,6 @@
 use Rattle.std.specs.Prelude.{Option, option_and_then}
 
 infixl 10 ◌>>=◌
--- where there is a value, what is made of it
+-- the next step, on what this one found; nothing where this one found nothing
 abbrev pub ◌>>=◌ : {A B : Type 0} → Option A → (A → Option B) → Option B
 o >>= f = option_and_then f o

@@ -1,6 +1,6 @@
 -- The sizes of versions 1 to 10 (ISO/IEC 18004, tables 1 and 9). In each list place v is of version v, and place 0 of
 -- none.
-use Rattle.std.specs.Prelude.{ℕ, ◌+◌, ◌-◌, ◌*◌, ◌≤◌, List, [], ◌∷◌, length, map, slice_index, slice_index_or, sum}
+use Rattle.std.specs.Prelude.{ℕ, ◌+◌, ◌-◌, ◌*◌, ◌≤◌, List, [], ◌∷◌, map, slice_index, slice_index_or, sum}
 use Rattle.std.specs.Prelude.{replicate}
 use Rattle.std.specs.List.{flat_map}
 use Rattle.qrdata.specs.declared.level.Level.{Level}
@@ -10,7 +10,7 @@ use Rattle.qrdata.specs.declared.level.Level.TheVariants.{L, M, Q, H}
 abbrev pub IsVersion : ℕ → Type 0
 IsVersion version = (1 ≤ version) × (version ≤ 10)
 
--- the modules of a side
+-- how many modules a side has
 abbrev pub side_of : ℕ → ℕ
 side_of version = 17 + 4 * version
 
@@ -47,19 +47,15 @@ groups_of version level = slice_index_or (block_table level) version []
 unfoldable pub block_lengths : ℕ → Level → List ℕ
 block_lengths version level = flat_map (λ (group : ℕ × ℕ × ℕ). replicate group.0 group.2) (groups_of version level)
 
--- how many blocks a symbol has
-unfoldable pub block_count : ℕ → Level → ℕ
-block_count version level = length (block_lengths version level)
-
 -- how many data codewords a symbol has
 unfoldable pub data_codewords : ℕ → Level → ℕ
 data_codewords version level = sum (block_lengths version level)
 
--- how many error correction codewords each block has, the first as many as the others
+-- how many error correction codewords each block has: all blocks have as many as the first
 unfoldable pub ec_codewords_per_block : ℕ → Level → ℕ
 ec_codewords_per_block version level =
     slice_index (map (λ (group : ℕ × ℕ × ℕ). group.1 - group.2) (groups_of version level)) 0
 
--- the data bits of a symbol
+-- how many data bits a symbol has
 abbrev pub capacity : ℕ → Level → ℕ
 capacity version level = 8 * data_codewords version level

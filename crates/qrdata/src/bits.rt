@@ -27,7 +27,7 @@ pub(crate) struct Bits {
 /// Bits that do not fill a codeword.
 #[derive(Clone, Copy)]
 struct Rest {
-    /// The number that these bits stand for, the high bit first.
+    /// The number that these bits represent, the high bit first.
     number: u32,
     /// How many bits there are.
     count: usize,
@@ -204,8 +204,8 @@ impl Bits {
     }
 }
 
-/// The numbers of a slice of bytes are below 256, which the type of an `ArrayVec` does not say to a proof. It does
-/// nothing when it runs.
+/// Proves that the numbers of a slice of bytes are below 256, which the type of an `ArrayVec` does not say to a proof.
+/// It does nothing when it runs.
 fn are_bytes(bytes: &[u8])
     ensures { All (λ b. b < 256) bytes.now }
 {}

@@ -1,9 +1,9 @@
 //! Blocks, their error correction codewords and interleaving (ISO/IEC 18004, 7.5 and 7.6).
 ghost use Rattle.arrayvec.specs.ArrayVec.{array_vec_len};
 ghost use Rattle.gf256.specs.ErrorCorrection.{IsEcCodewordCount, ec_codewords_of};
-ghost use Rattle.qrdata.specs.Codewords.{interleaving, largest, split_by, codewords_at};
+ghost use Rattle.qrdata.specs.Codewords.{interleaving, split_by, codewords_at};
 ghost use Rattle.std.specs.List.{flat_map};
-ghost use Rattle.std.specs.Prelude.{length, ◌≡◌, ◌+◌, ◌≤◌, ◌++◌, sum, replicate};
+ghost use Rattle.std.specs.Prelude.{length, ◌≡◌, ◌+◌, ◌≤◌, ◌++◌, fold, max, sum, replicate};
 
 use arrayvec::ArrayVec;
 use gf256::Generator;
@@ -33,7 +33,7 @@ fn push_place(lengths: &[usize], codewords: &[u8], place: usize, out: &mut Codew
 
 /// Returns the greatest of some lengths, 0 if there is none.
 fn greatest(lengths: &[usize]) -> usize
-    ensures { result ≡ largest lengths.now }
+    ensures { result ≡ fold max 0 lengths.now }
 {
     let mut most = 0;
     for size in lengths {

@@ -1,8 +1,9 @@
 //! The codewords of a symbol (ISO/IEC 18004, 7.4 to 7.6).
 ghost use Rattle.qrdata.specs.Private.BitsInCodewords.{bits_in};
 ghost use Rattle.qrdata.specs.Private.Blocks.{HasBlocks};
-ghost use Rattle.qrdata.specs.Codewords.{data_of, final_message};
+ghost use Rattle.qrdata.specs.Codewords.{data_codewords_of, final_message};
 ghost use Rattle.qrdata.specs.PlanView.{AreSymbolCodewords, HasFittingSegments, plan_view};
+ghost use Rattle.qrdata.specs.Segments.{segments_bits};
 ghost use Rattle.qrdata.specs.Versions.{data_codewords};
 ghost use Rattle.std.specs.Prelude.{length, ◌≡◌, []};
 
@@ -50,7 +51,8 @@ fn write_codewords(
 fn push_data(version: Version, level: Level, segments: &[Segment], bytes: &[u8], message: &mut Bits)
     requires empty { bits_in message.old ≡ [] }
     requires plan { HasFittingSegments (plan_view version level segments.now bytes.now) }
-    ensures { message.new.codewords.items ≡ data_of version level segments.now bytes.now }
+    ensures { message.new.codewords.items
+        ≡ data_codewords_of (data_codewords version level) (segments_bits version segments.now bytes.now) }
 {
     version.known();
     let size = version.data_codewords(level);
@@ -59,7 +61,7 @@ fn push_data(version: Version, level: Level, segments: &[Segment], bytes: &[u8],
     push_padding(size - message.codewords.len(), &mut message.codewords);
 }
 
-/// A message with all data codewords is cut into blocks that fill a symbol. It does nothing when it runs.
+/// Proves that a message with all data codewords is cut into blocks that fill a symbol. It does nothing when it runs.
 fn have_blocks(version: Version, level: Level, message: &[u8])
     requires whole { length message.now ≡ data_codewords version level }
     ensures { HasBlocks version level message.now }

@@ -17,7 +17,7 @@ use std::marker::Model;
 /// Fewer segments fit the other versions.
 const MAX_SEGMENTS: usize = 109;
 
-/// What is chosen for a symbol: its version, its level and the segments of its data, which it borrows.
+/// A plan of a symbol: its version, its level, its data, which it borrows, and the segments of that data.
 #[derive(Drop)]
 pub struct Plan<'a> {
     version: Version,
@@ -99,9 +99,9 @@ pub struct DoesNotFit {
 }
 
 /// Chooses the smallest version, from `min_version` to 10, in which some segments of the data fit the data codewords of
-/// the level, and in it the segments of the fewest bits (ISO/IEC 18004, 7.4.1). Of lists of equally few bits it is that
-/// of the longest first segment, then of the mode numeric before alphanumeric before byte, and likewise for the
-/// segments after it. Empty data has no segments.
+/// the level, and in it the segments with the fewest bits (ISO/IEC 18004, 7.4.1). Of several such lists it chooses the
+/// one with the longest first segment, then numeric mode before alphanumeric before byte mode, and the later segments
+/// in the same way. Empty data has no segments.
 ///
 /// # Errors
 ///

@@ -1,5 +1,6 @@
 //! The sizes of versions 1 to 10 (ISO/IEC 18004, tables 1, 7 and 9).
-ghost use Rattle.qrdata.specs.Versions.{IsVersion, block_count, block_lengths, data_codewords, ec_codewords_per_block};
+ghost use Rattle.qrdata.specs.Versions.{IsVersion, block_lengths, data_codewords, ec_codewords_per_block};
+ghost use Rattle.qrdata.specs.Private.Blocks.{block_count};
 ghost use Rattle.qrdata.specs.Versions.{side_of};
 ghost use Rattle.qrdata.specs.Versions.{total_codewords};
 ghost use Rattle.std.specs.Prelude.{◌≡◌, ◌<◌, ◌↔◌, ◌⊎◌, IfSome, IsNone, ℕ};
@@ -73,7 +74,7 @@ impl Version {
         Version { number }
     }
 
-    /// States that a version is one of 1 to 10. It does nothing when it runs.
+    /// Proves that a version is one of 1 to 10. It does nothing when it runs.
     pub fn known(self)
         ensures { IsVersion self }
     {

@@ -2,28 +2,29 @@
 use Rattle.std.proofs.Common.{◌≡◌, ℕ, ◌<◌, refl, sym, ap, arith, Bool, true, false, ◌&&◌, List, [], ◌∷◌}
 use Rattle.std.proofs.Common.{Option, None}
 use Rattle.std.specs.Prelude.{nat_le, is_none, if◌then◌else◌, slice_get}
+use Rattle.std.specs.Int.{abs_diff}
 use Rattle.std.specs.List.{filter_map, flat_map, list_any}
 use Rattle.std.specs.Option.{option_map_or}
 use Rattle.std.proofs.lemmas.Bool.{lt-leb, leb-false, or_parts}
 use Rattle.qrdata.specs.Versions.{side_of}
 use Rattle.qrmatrix.specs.Functions.{Role, Function, Format, Version, Free, alignment, alignment_at}
 use Rattle.qrmatrix.specs.Functions.{alignment_coordinates}
-use Rattle.qrmatrix.specs.Functions.{distance, finder, format_bit, is_dark_module, ring, role, timing, version_bit}
+use Rattle.qrmatrix.specs.Functions.{finder, format_bit, is_dark_module, ring, role, timing, version_bit}
 
 -- whether a coordinate is near one of these
 unfoldable pub is_near : List ℕ → ℕ → Bool
-is_near lines c = list_any (λ b. nat_le (distance b c) 2) lines
+is_near lines c = list_any (λ b. nat_le (abs_diff b c) 2) lines
 
 -- a pattern that is too far has no module
-far : (a b x y : ℕ) → nat_le (distance b y) 2 ≡ false → alignment_at a b x y ≡ None
+far : (a b x y : ℕ) → nat_le (abs_diff b y) 2 ≡ false → alignment_at a b x y ≡ None
 far a b x y h =
-    let l = leb-false (distance b y) 2 h in
+    let l = leb-false (abs_diff b y) 2 h in
     let m : 2 < ring a b x y = omega arith in
     rw (lt-leb (ring a b x y) 2 m) refl
 
-beside : (a b x y : ℕ) → nat_le (distance a x) 2 ≡ false → alignment_at a b x y ≡ None
+beside : (a b x y : ℕ) → nat_le (abs_diff a x) 2 ≡ false → alignment_at a b x y ≡ None
 beside a b x y h =
-    let l = leb-false (distance a x) 2 h in
+    let l = leb-false (abs_diff a x) 2 h in
     let m : 2 < ring a b x y = omega arith in
     rw (lt-leb (ring a b x y) 2 m) refl
 
@@ -37,7 +38,7 @@ no_row : (n a x y : ℕ) (bs : List ℕ) → is_near bs y ≡ false
 unfolding is_near
 no_row n a x y [] h = refl
 no_row n a x y (b ∷ bs) h =
-    let parts = or_parts (nat_le (distance b y) 2) (is_near bs y) h in
+    let parts = or_parts (nat_le (abs_diff b y) 2) (is_near bs y) h in
     rw (if_none (is_none (finder n a b)) (alignment_at a b x y) (far a b x y parts.0)) (no_row n a x y bs parts.1)
 
 no_rows : (n x y : ℕ) (lines rest : List ℕ) → is_near lines y ≡ false
@@ -46,7 +47,7 @@ no_rows n x y lines [] h = refl
 no_rows n x y lines (a ∷ rest) h = rw (no_row n a x y lines h) (no_rows n x y lines rest h)
 
 -- a line of patterns that are too far left or right
-no_column : (n a x y : ℕ) (bs : List ℕ) → nat_le (distance a x) 2 ≡ false
+no_column : (n a x y : ℕ) (bs : List ℕ) → nat_le (abs_diff a x) 2 ≡ false
     → filter_map (λ b. if is_none (finder n a b) then alignment_at a b x y else None) bs ≡ []
 no_column n a x y [] h = refl
 no_column n a x y (b ∷ bs) h =
@@ -57,7 +58,7 @@ no_columns : (n x y : ℕ) (lines rest : List ℕ) → is_near rest x ≡ false
 unfolding is_near
 no_columns n x y lines [] h = refl
 no_columns n x y lines (a ∷ rest) h =
-    let parts = or_parts (nat_le (distance a x) 2) (is_near rest x) h in
+    let parts = or_parts (nat_le (abs_diff a x) 2) (is_near rest x) h in
     rw (no_column n a x y lines parts.0) (no_columns n x y lines rest parts.1)
 
 row_without : (v x y : ℕ) → is_near (alignment_coordinates v) y ≡ false → alignment v x y ≡ None
@@ -72,7 +73,7 @@ column_without v x y h =
     ap (λ (ps : List Bool). slice_get ps 0)
     (no_columns (side_of v) x y (alignment_coordinates v) (alignment_coordinates v) h)
 
--- the role with and without a look for alignment patterns
+-- the role of a module; where the test is false, alignment patterns are left out
 unfoldable pub role_by : Bool → ℕ → ℕ → ℕ → Role
 unfolding role
 role_by true v x y = role v x y

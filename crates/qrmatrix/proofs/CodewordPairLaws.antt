@@ -144,7 +144,7 @@ moved two x a h l =
           ]
         ]
 
--- two values come to stand on light modules
+-- two values are written on light modules
 pub two_written : (old new : List (List Bool)) (two x y : ℕ) → two < 4 → x + 1 < 57 → (value_at old x y ≡ false)
     × (value_at old (x + 1) y ≡ false)
     → ((a b : ℕ) → value_at new a b ≡ flip_if ((b == y) && bit (two * 2 ^ x % 2 ^ 64) a) (value_at old a b))
@@ -173,7 +173,7 @@ two_written old new two x y h l light flipped a b =
 
 -- ---- the pairs are made
 
--- before place i the pairs stand, and from its last number on there is nothing
+-- before place i the pairs are there, and from its last number on there is nothing
 pub record PairsBelow (codewords pairs : List ℕ) (i : ℕ) : Type 0 where
   pub made : (j : ℕ) → j + 1 < i → slice_index pairs j ≡ slice_index codewords j * 256 + slice_index codewords (j + 1)
   pub none : (j : ℕ) → i ≤ j + 1 → slice_index pairs j ≡ 0

@@ -6,7 +6,7 @@ use Rattle.std.proofs.lemmas.Bool.{cases_eq, cases_Bool, eq-eqb, ne_eqb}
 use Rattle.std.proofs.lemmas.Bool.Decides.{nat_tests}
 use Rattle.qrdata.specs.Versions.{side_of}
 use Rattle.qrmatrix.specs.Functions.{is_free}
-use Rattle.qrmatrix.specs.Placement.{key, free_below, rank, codeword_bit, columns_right}
+use Rattle.qrmatrix.specs.Placement.{key, free_below, rank, codeword_bit}
 use Rattle.qrmatrix.specs.Bits.{bit}
 use Rattle.qrmatrix.specs.Square.{value_at}
 use Rattle.qrmatrix.specs.Private.Squares.{WritesAt, WritesTwo}
@@ -51,7 +51,11 @@ row_back : (b : Bool) (n t : ℕ) → t < n → cond b (n - 1 - cond b (n - 1 - 
 row_back true n t h = omega arith
 row_back false n t h = refl
 
--- how many columns stand to the right of the cursor
+-- how many columns are to the right of column x, the timing column 6 not counted
+abbrev columns_right : ℕ → ℕ → ℕ
+columns_right n x = if nat_lt 6 x then n - 1 - x else n - 2 - x
+
+-- how many columns are to the right of the cursor
 columns_at : (v s c : ℕ) → s < (side_of v - 1) / 2 → c < 2
     → columns_right (side_of v) (right_column (side_of v) s - c) ≡ 2 * s + c
 columns_at v s c ls lc = grind (arith, nat_tests)

@@ -20,7 +20,8 @@ use Rattle.qrmatrix.specs.Counting.{all_below}
 use Rattle.qrmatrix.specs.Functions.{fixed_module, is_free, role}
 use Rattle.qrmatrix.specs.Information.{format_information, version_information}
 use Rattle.qrmatrix.specs.Masks.{is_flipped}
-use Rattle.qrmatrix.specs.MaskChoice.{chosen_mask, penalties}
+use Rattle.qrdata.specs.Versions.{side_of}
+use Rattle.qrmatrix.specs.MaskChoice.{chosen_mask}
 use Rattle.qrmatrix.specs.Modules.{module_at}
 use Rattle.qrmatrix.specs.Penalty.{balance_penalty, dark_count, finder_penalty, penalty, run_penalty, square_penalty}
 use Rattle.qrmatrix.specs.Placement.{free_below, key, rank}
@@ -120,6 +121,10 @@ same_map f g a (suc n) h =
     let rest = same_map f g (a + 1) n (λ k l. h k (omega arith)) in
     cc
 
+-- the penalties under the masks 0 to 7
+penalties : ℕ → Level → List ℕ → List ℕ
+penalties v level codewords = map (λ mask. penalty (side_of v) (module_at v level mask codewords)) (range_with_len 0 8)
+
 penalties_under_all_masks : penalties 1 M codewords ≡ 297 ∷ 533 ∷ 397 ∷ 452 ∷ 570 ∷ 637 ∷ 419 ∷ 406 ∷ []
 unfolding penalties
 penalties_under_all_masks =
@@ -146,7 +151,7 @@ place_of_lowest numbers = position_or_len (λ p. list_all (nat_le p) numbers) nu
 
 mask_of_lowest : (v : ℕ) (level : Level) (codewords : List ℕ)
     → chosen_mask v level None codewords ≡ place_of_lowest (penalties v level codewords)
-unfolding chosen_mask place_of_lowest
+unfolding chosen_mask place_of_lowest penalties
 mask_of_lowest v level codewords = refl
 
 -- of equal penalties the first counts

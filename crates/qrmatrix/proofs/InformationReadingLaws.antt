@@ -1,6 +1,6 @@
 -- What is computed of the format and version information.
 use Rattle.std.proofs.Common.{◌≡◌, ℕ, zero, suc, ◌<◌, ◌≤◌, List, refl, arith, Bool, true, Some}
-use Rattle.std.specs.Prelude.{map, nat_le, reverse}
+use Rattle.std.specs.Prelude.{◌/◌, ◌%◌, ◌^◌, ◌==◌, bit_xor, if◌then◌else◌, map, nat_le, reverse, Option, None}
 use Rattle.std.specs.List.{range_with_len, list_all}
 use Rattle.gf256.specs.BinaryPolynomial.{binary_remainder}
 use Rattle.qrdata.specs.declared.level.Level.{Level}
@@ -12,7 +12,7 @@ use Rattle.qrmatrix.specs.Bits.{bit}
 use Rattle.qrmatrix.specs.Information.{format_information, version_information}
 use Rattle.qrmatrix.specs.Modules.{is_inside}
 use Rattle.qrmatrix.specs.Reading.{format_copy_1, format_copy_2, version_copy_1, version_copy_2, information_at}
-use Rattle.qrmatrix.specs.Reading.{read_format_information, shows_version}
+use Rattle.qrmatrix.specs.Reading.{level_of, shows_version}
 use Rattle.qrmatrix.proofs.ByVersionLaws.{by_version}
 
 -- a fact on each mask
@@ -30,9 +30,12 @@ by_mask P p0 p1 p2 p3 p4 p5 p6 p7 (suc (suc (suc (suc (suc (suc (suc (suc n)))))
 -- the format information of a level and a mask is the number of its bits, and is read as that level and mask
 abbrev pub FormatRead : Level → ℕ → Type 0
 FormatRead level mask =
-    (number_of (reverse (map (bit (format_information level mask)) (range_with_len 0 15)))
-    ≡ format_information level mask)
-    × (read_format_information (format_information level mask) ≡ Some (level, mask))
+    let information = format_information level mask in
+    let unmasked = bit_xor information 0x5412 in
+    let read : Option (Level × ℕ) =
+    if binary_remainder 10 0x537 5 unmasked == 0
+    then Some (level_of (unmasked / 2 ^ 13), unmasked / 2 ^ 10 % 8) else None in
+    (number_of (reverse (map (bit information) (range_with_len 0 15))) ≡ information) × (read ≡ Some (level, mask))
 
 pub format_read : (level : Level) (mask : ℕ) → mask < 8 → FormatRead level mask
 unfolding format_information binary_remainder number_of

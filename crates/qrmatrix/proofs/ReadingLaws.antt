@@ -1,10 +1,10 @@
 -- Reading inverts drawing.
-use Rattle.std.proofs.Common.{◌≡◌, ℕ, ◌+◌, ◌-◌, ◌*◌, ◌/◌, ◌<◌, ◌≤◌, refl, ap, ◌∙◌, arith, Bool, true, false, cond, List}
+use Rattle.std.proofs.Common.{◌≡◌, ℕ, ◌+◌, ◌*◌, ◌<◌, ◌≤◌, refl, ap, ◌∙◌, Bool, true, false, cond, List}
 use Rattle.std.proofs.Common.{[], ◌∷◌, length, Option, Some, None, eq-eqb}
 use Rattle.std.specs.Bool.{beq}
-use Rattle.std.specs.Prelude.{unwrap_or, map, nat_lt, reverse, All}
+use Rattle.std.specs.Prelude.{◌==◌, find, unwrap_or, map, nat_lt, reverse, All}
 use Rattle.std.specs.List.{range_with_len, filter, list_all}
-use Rattle.std.proofs.lemmas.Bool.{and_from, and_parts, lt-ltb, le-leb}
+use Rattle.std.proofs.lemmas.Bool.{and_from, and_parts, lt-ltb}
 use Rattle.qrdata.specs.declared.level.Level.{Level}
 use Rattle.qrmatrix.specs.Functions.{Role, Function, Format, Version, Free, is_free, is_free_role, role, fixed_module}
 use Rattle.qrmatrix.specs.Functions.{module_of_role}
@@ -18,6 +18,7 @@ use Rattle.qrmatrix.specs.Masks.{flip_if, is_flipped}
 use Rattle.qrmatrix.specs.Placement.{codeword_bit, rank, remainder_bits}
 use Rattle.qrmatrix.specs.Reading.{walk, read_bits, read_matrix, format_copy_1, format_copy_2, version_copy_1}
 use Rattle.qrmatrix.specs.Reading.{version_copy_2, information_at, read_format, shows_version, shows_functions}
+use Rattle.qrmatrix.proofs.ByVersionLaws.{by_version}
 use Rattle.qrmatrix.proofs.SumLaws.{all_below_from}
 use Rattle.qrmatrix.proofs.VersionLaws.{Computed, computed}
 use Rattle.qrmatrix.proofs.WalkLaws.{walk_ranks}
@@ -58,6 +59,12 @@ free_is_data v level mask (Version i) d h = cc
 
 pub inside_from : (n x y : ℕ) → x < n → y < n → is_inside n x y ≡ true
 inside_from n x y lx ly = and_from (nat_lt x n) (nat_lt y n) (lt-ltb x n lx) (lt-ltb y n ly)
+
+-- the version of a side
+version_by_side : (v : ℕ) → 1 ≤ v → v ≤ 10 → find (λ w. side_of w == side_of v) (range_with_len 1 10) ≡ Some v
+version_by_side =
+    by_version (λ v. find (λ w. side_of w == side_of v) (range_with_len 1 10) ≡ Some v) refl refl refl refl refl refl
+    refl refl refl refl
 
 module _ (v : ℕ) (level : Level) (mask : ℕ) (codewords : List ℕ) where
   -- a module in the square
@@ -179,12 +186,8 @@ module _ (v : ℕ) (level : Level) (mask : ℕ) (codewords : List ℕ) where
         ≡ Some (record { version = v; level = level; codewords = codewords })
     unfolding read_matrix
     reads_back n h =
-        let same : (17 + 4 * v - 17) / 4 ≡ v = omega arith in
         rw (
-          same,
-          eq-eqb (side_of v) (side_of v) refl,
-          le-leb 1 v at_least,
-          le-leb v 10 at_most,
+          version_by_side v at_least at_most,
           format_shown,
           version_is_shown,
           functions_shown,

@@ -51,7 +51,7 @@ pub sum_scaled : (n k : ℕ) (f : ℕ → ℕ) → sum_below n (λ i. k * f i) �
 sum_scaled zero k f = omega arith
 sum_scaled (suc n) k f = let a = sum_scaled n k f in omega arith
 
--- the order of two sums is free
+-- two sums may change places
 pub sum_exchanged : (n m : ℕ) (f : ℕ → ℕ → ℕ)
     → sum_below n (λ x. sum_below m (f x)) ≡ sum_below m (λ y. sum_below n (λ x. f x y))
 sum_exchanged zero m f = sym (sum_below_zero m (λ y. 0) (λ k l. refl))

@@ -76,7 +76,7 @@ left_is v l h x y lx ly =
     (get_or-map-range_with_len (λ y. (function_row v y).taken) 0 (side_of v) y y 0 ly (omega arith))
     ∙ ap not ((function_row_is v l h y ly).taken x lx) ∙ not_not (is_free v x y)
 
--- what is computed of keys and places
+-- what is computed for keys and places
 abbrev Places : ℕ → Type 0
 Places v =
     (map (λ (p : ℕ × ℕ). key (side_of v) p.0 p.1) (walk (side_of v)) ≡ range_with_len 0 (side_of v * (side_of v - 1)))
@@ -94,7 +94,7 @@ places =
     (refl, refl, refl, refl, refl) (refl, refl, refl, refl, refl) (refl, refl, refl, refl, refl)
     (refl, refl, refl, refl, refl)
 
--- what is computed of such rows
+-- what is computed for such rows
 abbrev Left : ℕ → List ℕ → Type 0
 Left v rows =
     (all_below (side_of v) (λ y. not (is_left rows 6 y)) ≡ true)

@@ -3,6 +3,7 @@
 -- none.
 use Rattle.std.specs.Prelude.{ℕ, ◌+◌, ◌-◌, ◌*◌, ◌%◌, max, Bool, true, false, not, ◌&&◌, ◌==◌, nat_lt, nat_le}
 use Rattle.std.specs.Prelude.{if◌then◌else◌, List, [], ◌∷◌, Option, None, Some, is_none, slice_get, slice_index_or}
+use Rattle.std.specs.Int.{abs_diff}
 use Rattle.std.specs.List.{filter_map, flat_map}
 use Rattle.std.specs.Option.{option_or, option_map_or}
 use Rattle.qrdata.specs.declared.level.Level.{Level}
@@ -18,13 +19,9 @@ pub data Role : Type 0 where
   Version : (i : ℕ) → Role
   Free : Role
 
--- how far two coordinates are from one another
-abbrev pub distance : ℕ → ℕ → ℕ
-distance a b = (a - b) + (b - a)
-
 -- the square ring round the centre (a, b) on which the place (x, y) lies; ring 0 is the centre itself
 abbrev pub ring : ℕ → ℕ → ℕ → ℕ → ℕ
-ring a b x y = max (distance a x) (distance b y)
+ring a b x y = max (abs_diff a x) (abs_diff b y)
 
 -- a finder pattern of 7x7 modules with its separator, dark but for the rings 2 and 4
 abbrev pub finder_at : ℕ → ℕ → ℕ → ℕ → Option Bool

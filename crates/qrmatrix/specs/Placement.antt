@@ -6,15 +6,11 @@ use Rattle.qrmatrix.specs.Bits.{bit}
 use Rattle.qrmatrix.specs.Counting.{sum_below, count_below}
 use Rattle.qrmatrix.specs.Functions.{is_free}
 
--- how many columns are to the right of column x, the timing column 6 not counted
-abbrev pub columns_right : ℕ → ℕ → ℕ
-columns_right n x = if nat_lt 6 x then n - 1 - x else n - 2 - x
-
 -- the place of a module in the order of placement: strips of two columns from the right, upwards and downwards in turn,
--- in each row the right module first
+-- in each row the right module first. To its right are d columns, the timing column 6 not counted.
 unfoldable pub key : ℕ → ℕ → ℕ → ℕ
 key n x y =
-    let d = columns_right n x in
+    let d = if nat_lt 6 x then n - 1 - x else n - 2 - x in
     let row = if (d / 2) % 2 == 0 then n - 1 - y else y in
     2 * n * (d / 2) + 2 * row + d % 2
 

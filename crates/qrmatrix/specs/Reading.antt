@@ -2,7 +2,7 @@
 use Rattle.std.specs.Prelude.{ℕ, ◌+◌, ◌-◌, ◌*◌, ◌/◌, ◌%◌, ◌^◌, Bool, not, ◌&&◌, ◌||◌, ◌==◌, nat_le, if◌then◌else◌}
 use Rattle.std.specs.Prelude.{List, [], ◌∷◌, ◌++◌, map, reverse, Option, None, Some, bit_xor, unwrap_or}
 use Rattle.std.specs.Bool.{beq}
-use Rattle.std.specs.List.{range_with_len, filter}
+use Rattle.std.specs.List.{range_with_len, filter, find}
 use Rattle.gf256.specs.BinaryPolynomial.{binary_remainder}
 use Rattle.qrdata.specs.declared.level.Level.{Level}
 use Rattle.qrdata.specs.declared.level.Level.TheVariants.{L, M, Q, H}
@@ -34,22 +34,17 @@ version_copy_2 n = map (λ i. (i / 3, n - 11 + i % 3)) (range_with_len 0 18)
 abbrev pub information_at : (ℕ → ℕ → Bool) → List (ℕ × ℕ) → ℕ
 information_at m places = number_of (reverse (map (λ (p : ℕ × ℕ). m p.0 p.1) places))
 
--- the level that an error correction level indicator stands for
+-- the level that an error correction level indicator names
 abbrev pub level_of : ℕ → Level
 level_of indicator = if indicator == 0 then M else if indicator == 1 then L else if indicator == 2 then H else Q
 
--- the level and the mask of format information that is a multiple of its generator
-abbrev pub read_format_information : ℕ → Option (Level × ℕ)
-read_format_information information =
-    let unmasked = bit_xor information 0x5412 in
-    if binary_remainder 10 0x537 5 unmasked == 0
-    then Some (level_of (unmasked / 2 ^ 13), unmasked / 2 ^ 10 % 8) else None
-
--- the level and the mask, where both copies of the format information agree
+-- the level and the mask, where both copies of the format information agree, and are a multiple of the generator
 unfoldable pub read_format : ℕ → (ℕ → ℕ → Bool) → Option (Level × ℕ)
 read_format n m =
-    if information_at m format_copy_1 == information_at m (format_copy_2 n) then read_format_information
-    (information_at m format_copy_1) else None
+    let first = information_at m format_copy_1 in
+    let unmasked = bit_xor first 0x5412 in
+    if (first == information_at m (format_copy_2 n)) && (binary_remainder 10 0x537 5 unmasked == 0)
+    then Some (level_of (unmasked / 2 ^ 13), unmasked / 2 ^ 10 % 8) else None
 
 -- whether both copies of the version information are that of the version, where the version has it
 unfoldable pub shows_version : ℕ → ℕ → (ℕ → ℕ → Bool) → Bool
@@ -87,13 +82,13 @@ unfoldable pub read_bits : ℕ → ℕ → (ℕ → ℕ → Bool) → List Bool
 read_bits v mask m = map (λ (p : ℕ × ℕ). flip_if (is_flipped mask p.0 p.1) (m p.0 p.1))
     (filter (λ (p : ℕ × ℕ). is_free v p.0 p.1) (walk (side_of v)))
 
--- what the modules say
+-- what the modules of a symbol are read as
 pub record Reading : Type 0 where
   pub version : ℕ
   pub level : Level
   pub codewords : List ℕ
 
--- the reading by the level and the mask that were read
+-- the reading, from the level and the mask that the format information gives
 abbrev pub read_with : ℕ → (ℕ → ℕ → Bool) → Level × ℕ → Option Reading
 read_with v m format =
     let codewords = codewords_of (total_codewords v) (read_bits v format.1 m) in
@@ -102,6 +97,4 @@ read_with v m format =
 
 -- the version, the level and the codewords of a symbol; there is no reading where any check fails
 unfoldable pub read_matrix : ℕ → (ℕ → ℕ → Bool) → Option Reading
-read_matrix n m =
-    let v = (n - 17) / 4 in
-    if (n == side_of v) && (nat_le 1 v && nat_le v 10) then read_format n m >>= read_with v m else None
+read_matrix n m = find (λ v. side_of v == n) (range_with_len 1 10) >>= λ v. read_format n m >>= read_with v m

@@ -57,7 +57,7 @@ pub fn version_information(version: Version) -> u32
     message + remainder(12, 0x1F25, 6, message)
 }
 
-/// What the standard lists is what the definitions compute: the format information of all levels and masks (ISO/IEC
+/// Proves that the definitions compute what the standard lists: the format information of all levels and masks (ISO/IEC
 /// 18004, Annex C), the version information of versions 7 to 10 (Annex D), and the remainder bits (Table 1). It does
 /// nothing when it runs.
 pub fn symbol_laws()

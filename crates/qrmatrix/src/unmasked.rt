@@ -78,7 +78,7 @@ impl Unmasked {
         Masked { mask, modules }
     }
 
-    /// The penalty of the symbol under a mask.
+    /// Returns the penalty of the symbol under a mask.
     fn penalty_of(&self, masked: &Masked) -> u32
         ensures { (codewords : List ℕ) → ShowsSymbol self.now codewords masked.now → result
             ≡ Penalty.penalty (side_of self.now.version)

@@ -36,7 +36,7 @@ pub fn are_bad(alloc: Global, texts: &[&str]) -> Result<bool, AllocError> {
 }
 
 #[test]
-fn refuses_words(rt: HostRuntime) -> Result<(), Fail> {
+fn refuses_bad_arguments(rt: HostRuntime) -> Result<(), Fail> {
     let alloc = rt.alloc();
     for arguments in [
         ["--scale", "9"].as_slice(),
@@ -51,7 +51,7 @@ fn refuses_words(rt: HostRuntime) -> Result<(), Fail> {
     Ok(())
 }
 
-/// Whether arguments choose these options and this file.
+/// Whether arguments ask for a run with these options over this file.
 fn chooses(
     alloc: Global,
     texts: &[&str],
@@ -62,7 +62,7 @@ fn chooses(
     Ok(Some(choice.options) == options && choice.file.as_deref() == file)
 }
 
-/// Codewords that name each setting and the standard input.
+/// Arguments that name each option, and `-` as the file.
 const ALL_SETTINGS: &[&str] = &[
     "--format",
     "ascii",
@@ -295,7 +295,7 @@ fn run_of_file<R: Abort + Files>(
     Some(run(choice.options, &mut source, out, &mut err))
 }
 
-/// Writes a file of one label and runs over it. Answers whether memory sufficed; if not, it expects no image.
+/// Writes a file of one label and runs over it. Returns whether memory sufficed; if not, there is no image.
 fn draws_file<R: Abort + Files>(rt: &R, alloc: Global, name: &str) -> Result<bool, Fail> {
     fs::write(rt, name, "ean8 7351353\n")?;
     let arguments = arguments_of(alloc, &["--height", "1", name])?;

@@ -1,7 +1,7 @@
 //! All tests, by public calls alone: of the layers below the filter (`layers`), of runs (`runs`), of the calls that
 //! reach devices (`calls`), of the command's arguments (`arguments`), of the names of files (`names`), of the crates'
-//! pages (`pages`) and by facts of other projects (`vectors`). They are in a crate of their own, so that a crate is
-//! proved without reading what tests read.
+//! pages (`pages`) and by facts of other projects (`vectors`). They are a crate, so that the other crates are proved
+//! without reading what tests read.
 #![tactic(auto)]
 
 #[cfg(test)]

@@ -1,4 +1,4 @@
-//! Names of files, long lists of arguments, and the help text: what no clause says of them.
+//! Names of files, long lists of arguments, and the help text, as far as no clause speaks of them.
 use crate::calls::kinds::KINDS;
 use crate::runs::support::low;
 use command::{ArgumentsFault, OpenFault, open_file, options_of};
@@ -96,7 +96,7 @@ fn letters(alloc: Global, count: usize) -> Result<String, AllocError> {
     Ok(text)
 }
 
-/// Names of no file: with no byte, with a NUL, below a file's name, and of nothing that there is.
+/// Names that no file has: the empty name, names with a NUL, and names in a folder that there is not.
 const NO_FILES: [&str; 5] = [
     "",
     "a\0b",
@@ -147,7 +147,7 @@ fn are_bad(alloc: Global, arguments: &[String]) -> bool {
     matches!(&options_of(alloc, arguments), Err(ArgumentsFault::Bad))
 }
 
-/// Codewords, and from which number on they are bad.
+/// Arguments, and how often each has to be there for the command line to be bad.
 const BAD_ARGUMENTS: [(&str, usize); 7] = [
     ("--no-such-option", 1),
     ("-x", 1),
@@ -175,7 +175,7 @@ fn many_words_are_bad_words(rt: HostRuntime) -> Result<(), Fail> {
     Ok(())
 }
 
-/// A command line of as many arguments as one has.
+/// The command line with the most arguments: each option and a file.
 const MOST_ARGUMENTS: [&str; 15] = [
     "--format",
     "pbm",

@@ -1,5 +1,5 @@
-//! Facts of other projects: what data gives which row or which modules. They come from the tests of these projects, or
-//! from what these programs draw; no code was taken:
+//! Facts of other projects: data, and its row or its modules. They come from the tests of these projects, or from what
+//! these programs draw; no code was taken:
 //!
 //! - zint 2.11.1 (the library and its tests: BSD-3-Clause), <https://www.zint.org.uk>
 //! - barcode 1.0.1 of Florian Sundermann, in Go (MIT), <https://github.com/boombuler/barcode>

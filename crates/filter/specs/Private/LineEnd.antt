@@ -1,38 +1,44 @@
 -- What the private contracts of a line's end say.
-use Rattle.std.specs.Prelude.{◌≡◌, ℕ, Bool, List, [], Option, None}
+use Rattle.std.specs.Prelude.{◌≡◌, ℕ, Bool, List, [], Option, None, if◌then◌else◌}
 use Rattle.device.specs.Device.{Begins}
 use Rattle.labelcore.specs.declared.symbology.Symbology.{Symbology}
 use Rattle.labelcore.specs.LineItem.{Outcome}
 use Rattle.labelcore.specs.OptionValues.{OptionValues}
 use Rattle.linear.specs.declared.linear.QuietZones.{QuietZones}
-use Rattle.filter.specs.Output.{image_of, message_of, is_refusal, status_if}
-use Rattle.filter.specs.Readback.{ReadsBack, read_linear, read_modules}
+use Rattle.filter.specs.Output.{image_of, message_of, is_refusal}
+use Rattle.filter.specs.Readback.{ReadsBack, read_modules}
 use Rattle.filter.specs.Symbol.{Symbol, quiet_zone}
+use Rattle.picture.specs.Reading.{common_row}
+use Rattle.qrdata.specs.Steps.{◌>>=◌}
 use Rattle.filter.specs.declared.status.RunFault.{RunFault}
 use Rattle.filter.specs.declared.status.RunFault.TheVariants.{WriteOut, WriteMessages}
 use Rattle.filter.specs.declared.status.Status.{Status}
 use Rattle.filter.specs.declared.status.Status.TheVariants.{Clean, Refused}
 
--- the status of some lines and of others
+-- the status of all lines, from that of some of them and that of the others
 abbrev pub worst : Status → Status → Status
 worst Clean other = other
 worst Refused other = Refused
 
+-- the status of one line
+abbrev pub status_of_line : Outcome Symbol → Status
+status_of_line outcome = if is_refusal outcome then Refused else Clean
+
 -- a symbology of one row, with these quiet zones before and after it, read by this rule
 pub record IsLinear (symbology : Symbology) (zones : QuietZones) (reading : List Bool → Option (List ℕ)) : Type 0 where
   pub zone : quiet_zone symbology ≡ record { left = zones.left; right = zones.right; top = 0; bottom = 0 }
-  pub rule : (rows : List (List Bool)) → read_modules symbology rows ≡ read_linear reading rows
+  pub rule : (rows : List (List Bool)) → read_modules symbology rows ≡ common_row rows >>= reading
   pub none : reading [] ≡ None
 
 -- the sinks took the image and the message of a line, and its symbol reads back
 pub record EndsLine (options : OptionValues) (took_out took_err : List ℕ → Type 0) (number : ℕ)
     (outcome : Outcome Symbol) (status : Status) : Type 0 where
-  pub status_is : status ≡ status_if (is_refusal outcome)
+  pub status_is : status ≡ status_of_line outcome
   pub image : took_out (image_of options outcome)
   pub message : took_err (message_of number outcome)
   pub read : ReadsBack outcome
 
--- before a message nothing more was taken, or a beginning of it was
+-- where the images failed, the messages took nothing; where the messages failed, they took a beginning of the text
 abbrev pub FailsInMessage : (took_err : List ℕ → Type 0) (text : List ℕ) → RunFault → Type 0
 FailsInMessage took_err text WriteOut = took_err []
 FailsInMessage took_err text WriteMessages = Begins took_err text

@@ -1,5 +1,9 @@
 -- What the private contracts of reading a line say: no public clause cites these words.
-use Rattle.std.specs.Prelude.{ℕ, ◌+◌, ◌<◌, ◌≤◌, ◌≡◌, List, length, drop, Err, if◌then◌else◌}
+use Rattle.std.specs.Prelude.{ℕ, ◌+◌, ◌<◌, ◌≤◌, ◌≡◌, List, length, drop, Err, Option, if◌then◌else◌}
+use Rattle.std.specs.Bool.{then_some}
+use Rattle.std.specs.Char.{is_digit}
+use Rattle.std.specs.List.{list_all}
+use Rattle.std.specs.Str.Parse.{digits_value}
 use Rattle.labelcore.specs.declared.fault.Fault.TheVariants.{LineTooLong}
 use Rattle.labelcore.specs.OptionValues.{OptionValues}
 use Rattle.labelcore.specs.HeldLine.{HeldLine}
@@ -13,7 +17,11 @@ item_of_held options line =
     else if line.is_too_long then refused LineTooLong
     else outcome_of (request options line.bytes)
 
--- a unit of this size, which names the byte, stands at the front
+-- the number that digits write
+abbrev pub digits_read : List ℕ → Option ℕ
+digits_read value = then_some (list_all (λ b. is_digit b 10) value) (digits_value 10 value)
+
+-- the text begins with a unit of this size, which names the byte
 pub record IsFirstUnit (text : List ℕ) (byte size : ℕ) : Type 0 where
   pub some : 0 < size
   pub within : size ≤ length text

@@ -1,4 +1,4 @@
--- What the private contracts say of data and its digits.
+-- Data and its digits, as contracts inside this crate see them.
 use Rattle.std.specs.Prelude.{◌≡◌, ◌≤◌, ◌<◌, ℕ, List, All, length}
 use Rattle.std.specs.Char.{IsAsciiDigit}
 use Rattle.linear.specs.declared.limits.TheConstants.{MAX_BYTES}

@@ -1,4 +1,4 @@
--- What the private contracts of the writers say of rows, for both kinds of text.
+-- The rows of a picture as text, for both kinds of text: private contracts of the writers cite these.
 use Rattle.std.specs.Prelude.{◌≡◌, ◌≤◌, ◌<◌, ℕ, ◌*◌, Bool, List, ◌++◌, length, flat_map, take, drop}
 use Rattle.std.specs.Int.{div_ceil}
 use Rattle.picture.specs.Picture.{Picture}
@@ -8,15 +8,15 @@ use Rattle.picture.specs.Text.{below, pixel_row}
 abbrev pub piece : List Bool → ℕ → List Bool
 piece row k = take 70 (drop (70 * k) row)
 
--- the pieces of a row, each with its text, and the row's end
+-- the text of a row: that of each of its pieces, and then the row's end
 abbrev pub row_text : (List Bool → List ℕ) → List ℕ → List Bool → List ℕ
 row_text piece_text row_end row = flat_map (λ k. piece_text (piece row k)) (below (div_ceil (length row) 70)) ++ row_end
 
--- the rows from y up to the next have the pixels at the front of a list, which holds a row
+-- each row from y to before `next` has the pixels at the front of `kept`, which has space for a row
 pub record KeepsRows (p : Picture) (y next : ℕ) (kept : List Bool) : Type 0 where
   pub fits : p.width ≤ length kept
   pub rows : (k : ℕ) → y ≤ k → k < next → take p.width kept ≡ pixel_row p k
 
--- the rows of a picture
+-- the text of the rows of a picture
 abbrev pub rows_text : (List Bool → List ℕ) → List ℕ → Picture → List ℕ
 rows_text piece_text row_end p = flat_map (λ y. row_text piece_text row_end (pixel_row p y)) (below p.height)

@@ -4,10 +4,14 @@ use Rattle.std.specs.List.{flat_map}
 use Rattle.gf256.specs.ErrorCorrection.{ec_codewords_of}
 use Rattle.qrdata.specs.declared.level.Level.{Level}
 use Rattle.qrdata.specs.Codewords.{split_by}
-use Rattle.qrdata.specs.Versions.{block_count, block_lengths, ec_codewords_per_block}
+use Rattle.qrdata.specs.Versions.{block_lengths, ec_codewords_per_block}
 
--- the message is cut into blocks, some and few, which have error correction codewords, some and few, and with these
--- fill a symbol
+-- how many blocks a symbol has
+unfoldable pub block_count : ℕ → Level → ℕ
+block_count version level = length (block_lengths version level)
+
+-- the message is cut into at most 8 blocks, each of which has 1 to 30 error correction codewords; with these they fit
+-- a symbol
 pub record HasBlocks (version : ℕ) (level : Level) (message : List ℕ) : Type 0 where
   pub count : length (block_lengths version level) ≡ block_count version level
   pub whole : sum (block_lengths version level) ≡ length message

@@ -32,7 +32,7 @@ pub record IsSmallestPlan (lowest highest : ℕ) (level : Level) (bytes : List �
 abbrev pub NoPlan : (lowest highest : ℕ) → Level → List ℕ → Type 0
 NoPlan lowest highest level bytes = (v : ℕ) → lowest ≤ v → v ≤ highest → DoNotFit v level bytes
 
--- where the best segments of a rest have at most so many bits, the table names the first of them
+-- where the best segments of a rest have at most `limit` bits, the table names the first of them
 abbrev pub NamesBest : (version : ℕ) (bytes : List ℕ) (limit : ℕ) → List Segment → Type 0
 NamesBest version bytes limit firsts =
     (k : ℕ) → k < length bytes → cost version (chosen_segments version (drop k bytes)) ≤ limit
@@ -45,7 +45,7 @@ pub record IsTable (version : ℕ) (bytes : List ℕ) (limit : ℕ) (firsts : Li
   pub size : length firsts ≡ MAX_BYTES
   pub named : NamesBest version bytes limit firsts
 
--- the segments have so many bits, these fit the version, and there is room for the segments in a plan
+-- the segments have `bits` bits, these fit the version, and there is room for the segments in a plan
 pub record FitsBits (version : ℕ) (level : Level) (bits : ℕ) (segments : List Segment) : Type 0 where
   pub value : bits ≡ cost version segments
   pub fits : bits ≤ capacity version level

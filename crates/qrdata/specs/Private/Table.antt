@@ -13,7 +13,7 @@ use Rattle.qrdata.specs.declared.mode.Mode.TheVariants.{Numeric, Alphanumeric, B
 use Rattle.qrdata.specs.declared.mode.Segment.{Segment}
 use Rattle.qrdata.specs.Segments.{has_character, segment_length, segment_of}
 
--- no choice of a mode
+-- the absent choice of a mode
 abbrev pub absent_choice : Mode → ChoiceView
 absent_choice mode = record { segment = segment_of mode 0; bits = ABSENT }
 
@@ -22,7 +22,7 @@ abbrev pub short_choice : (version : ℕ) → Mode → (after : ℕ) → ChoiceV
 short_choice version mode after =
     record { segment = segment_of mode 1; bits = segment_length version (segment_of mode 1) + after }
 
--- a choice with one byte more, which adds so many bits
+-- a choice with one byte more, which adds `added` bits
 abbrev pub longer_choice : ChoiceView → (added : ℕ) → ChoiceView
 longer_choice c added =
     record { segment = segment_of c.segment.mode (suc c.segment.len); bits = c.bits + added }
@@ -102,7 +102,7 @@ choices_of version (b ∷ bytes) = next_choices version b (choices_of version by
 abbrev pub fewest_bits : (version : ℕ) → List ℕ → ℕ
 fewest_bits version bytes = (choices_of version bytes).best.bits
 
--- from a place on the table holds the best first segment of each rest
+-- from the place `from` on, the table has the best first segment of each rest
 abbrev pub HasFirsts : (version : ℕ) (bytes : List ℕ) (from : ℕ) → List Segment → Type 0
 HasFirsts version bytes from firsts =
     (k : ℕ) → from ≤ k → k < length bytes → (first : Segment) → slice_get firsts k ≡ Some first

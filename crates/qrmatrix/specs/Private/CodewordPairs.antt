@@ -1,4 +1,4 @@
--- How the codewords lie ready for placement, two bits at a time (ISO/IEC 18004, 7.7.3).
+-- The codewords in the form from which two bits are placed at a time (ISO/IEC 18004, 7.7.3).
 use Rattle.std.specs.Prelude.{◌≡◌, ℕ, ◌+◌, ◌*◌, ◌<◌, Bool, List, slice_index}
 use Rattle.qrmatrix.specs.Bits.{bit}
 use Rattle.qrmatrix.specs.declared.placement.TheConstants.{PAIRS}

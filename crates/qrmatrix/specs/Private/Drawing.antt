@@ -1,4 +1,4 @@
--- What the passes over a square of modules make of it, on the way to a symbol (ISO/IEC 18004, 7.7 to 7.9).
+-- The square of modules after each step of drawing a symbol (ISO/IEC 18004, 7.7 to 7.9).
 use Rattle.std.specs.Prelude.{◌≡◌, ℕ, ◌<◌, ◌≤◌, ◌^◌, Bool, true, false, not, List, if◌then◌else◌}
 use Rattle.qrdata.specs.declared.level.Level.{Level}
 use Rattle.qrdata.specs.Versions.{side_of}

@@ -8,7 +8,7 @@ use Rattle.qrmatrix.specs.Information.{version_information}
 use Rattle.qrmatrix.specs.declared.function.PatternRow.{PatternRow}
 use Rattle.qrmatrix.specs.declared.function.TheConstants.{CENTRES, EVERY_OTHER, FINDER}
 
--- their modules, and those of them that are dark
+-- a row of patterns: their modules, and those of them that are dark
 abbrev pub pattern_row : ℕ → ℕ → PatternRow
 pattern_row taken dark = record { taken = taken; dark = dark }
 

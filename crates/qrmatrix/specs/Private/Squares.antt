@@ -28,6 +28,6 @@ pub record SameOutside (n : ℕ) (old new : List (List Bool)) : Type 0 where
 abbrev pub IsBlank : List (List Bool) → Type 0
 IsBlank rows = (x y : ℕ) → value_at rows x y ≡ false
 
--- a side has room for a finder pattern with four light modules, and is one of a symbol
+-- a side has at least the eleven modules of a finder pattern with four light ones, and at most those of version 10
 abbrev pub IsSide : ℕ → Type 0
 IsSide n = (11 ≤ n) × (n ≤ SIDE)

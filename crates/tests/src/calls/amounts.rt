@@ -1,4 +1,4 @@
-//! How many bytes a call moves. With less a run would take more time, which no clause speaks of.
+//! How many bytes a call moves. If it moved fewer, a run would take more time, which no clause speaks of.
 use crate::layers::support::{MOST_BUFFERED, flushes, gives, passes_on, takes, takes_some};
 use device::{Buffered, FailAt, MemSink, StdSink, StdSource};
 use std::io::{self, Read, Write};
@@ -68,7 +68,7 @@ fn has_passed(sink: &Buffered<FailAt<MemSink<65536>>>, calls: u64, buffered: usi
     sink.sink().calls() == calls && sink.buffered().len() == buffered
 }
 
-/// Nothing is passed on before the buffer is full and one more byte comes; then all of its bytes go on at once.
+/// Nothing is passed on before the buffer is full and one more byte comes; then all of its bytes are passed on at once.
 #[test]
 fn buffered_bytes_go_on_in_one_write(rt: HostRuntime) {
     let text = [b'a'; MOST_BUFFERED];

@@ -95,8 +95,8 @@ impl<S: Sink + Drop> Sink for Recorded<'_, S> {
     ghost took_joined = { λ s t u xs ys. S.took_joined s.device t.device u.device xs ys };
 }
 
-/// Lines: the front, how many letters `a` follow it, in how many writes the picture goes out (its header, and each row
-/// in lines of 70 pixels), and why the line is refused. What is neither drawn nor refused is skipped.
+/// Lines: the front, how many letters `a` follow it, how many writes the picture takes (its header, and each row in
+/// pieces of 70 pixels), and why the line is refused. A line that is neither drawn nor refused is skipped.
 const LINES: &[(&[u8], usize, usize, &[u8])] = &[
     (b"ean8 7351353", 0, 3, b""),
     (b"", 1101, 0, b"line is longer than 1100 bytes"),

@@ -5,7 +5,7 @@ mod thresholds;
 use linear::{Code128, Ean8, Ean13, Linear, QuietZones, Refusal, Row, UpcA, coding_laws};
 use std::process::Abort;
 
-/// What a symbology answers to data that it is to draw over an old row, and the row.
+/// Draws data over an old row. Returns what the symbology returned, and the row.
 fn encoded<L: Linear>(rt: &impl Abort, data: &[u8]) -> (Result<(), Refusal>, Row) {
     assert!(rt; !data.is_empty());
     let mut row = Row::new();
@@ -32,7 +32,7 @@ fn assert_drawn<L: Linear>(rt: &impl Abort, rows: &[(&[u8], &[u8])]) {
     }
 }
 
-/// Modules of these widths after those of the row, bar first; spaces stand between characters.
+/// Adds modules of these widths to a row, a bar first. Spaces separate the characters.
 fn push_widths(row: &mut Row, widths: &[u8]) {
     let mut dark = true;
     for width in widths {

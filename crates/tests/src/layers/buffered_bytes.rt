@@ -26,7 +26,7 @@ fn bytes_are_buffered(rt: HostRuntime) {
     assert!(rt; sink.sink().failures() == 1);
 }
 
-/// Writes of 1,000 bytes and a last one, so many bytes in all.
+/// Writes `count` bytes in all: 1,000 a write, and the rest in a last one.
 fn write_letters(rt: &impl Abort, count: usize, sink: &mut impl Sink) {
     let letters = [b'a'; 1000];
     for _ in 0..count / 1000 {
@@ -35,12 +35,12 @@ fn write_letters(rt: &impl Abort, count: usize, sink: &mut impl Sink) {
     assert!(rt; takes(sink, &letters[..count % 1000]));
 }
 
-/// Whether so many bytes went on to the memory below, and so many are buffered.
+/// Whether `below` bytes were passed on to the memory below, and `buffered` bytes are buffered.
 fn counts(sink: &Buffered<MemSink<66000>>, below: usize, buffered: usize) -> bool {
     sink.sink().bytes().len() == below && sink.buffered().len() == buffered
 }
 
-/// Bytes that are written, and how many of them go on before the flush and are buffered.
+/// How many bytes are written, and how many of them are passed on before the flush and are buffered.
 const ROOMS: &[(usize, usize, usize)] = &[
     (32_767, 0, 32_767),
     (32_768, 0, 32_768),

@@ -1,4 +1,4 @@
-//! Both ends of each range of a setting, and what lies beside them; the letters and places of messages
+//! Both ends of each range of a setting, and the values just outside; the letters and places of messages
 //! (docs/SPECIFICATION.md, Settings, Refusals).
 use device::MemSink;
 use labelcore::{Fault, Format, Item, LineBuf, Options, Scratch, Symbology, parse, write_fault};
@@ -31,7 +31,7 @@ const HEIGHTS: &[(&[u8], u16)] = &[
     (b"code128,height=2 1", 2),
 ];
 
-/// Lines with a least version that is good.
+/// Lines with a smallest version that is good, and that version.
 const VERSIONS: &[(&[u8], u8)] = &[
     (b"qr,min-version=1 1", 1),
     (b"qr,min-version=01 1", 1),

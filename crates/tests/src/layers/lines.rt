@@ -25,7 +25,7 @@ fn held(bytes: &[u8]) -> LineBuf {
     line
 }
 
-/// A line of so many letters after its first byte.
+/// A line of `letters` letters after its first byte.
 fn long_line(first: u8, letters: usize) -> LineBuf {
     let mut line = LineBuf::new();
     line.push(first);
@@ -183,7 +183,7 @@ fn assert_message(rt: &impl Abort, number: u64, fault: &Fault, want: &[u8]) {
     assert!(rt; sink.bytes() == want);
 }
 
-/// A sink of ten bytes gets the first ten of this text.
+/// A sink of ten bytes takes the first ten of this text.
 fn assert_cut_message(rt: &impl Abort, number: u64, fault: &Fault, want: &[u8]) {
     let mut sink = MemSink::<128>::new(7, 10);
     assert!(rt; write_fault(number, fault, &mut sink).is_err());

@@ -46,7 +46,7 @@ fn modules_of(text: &[u8; 67]) -> [bool; 67] {
     modules
 }
 
-/// Whether a grid is so wide and so high.
+/// Whether a grid has this width and this height.
 fn is_sized(grid: &impl Grid, width: usize, height: usize) -> bool {
     grid.width() == width && grid.height() == height
 }
@@ -56,7 +56,7 @@ fn has_pixel(grid: &impl Grid, x: usize, y: usize, dark: bool) -> bool {
     x < grid.width() && y < grid.height() && grid.dark(x, y) == dark
 }
 
-/// Whether so many rows from this one on are known to be equal.
+/// Whether `rows` rows from row `y` on are known to be equal.
 fn has_equal_rows(grid: &impl Grid, y: usize, rows: usize) -> bool {
     y < grid.height() && grid.equal_rows(y) == rows
 }
@@ -190,7 +190,7 @@ fn ascii_of_a_row(rt: HostRuntime) {
     assert!(rt; sink.bytes().ends_with(b"##              \n\n"));
 }
 
-/// Whether a line feed ends the line, and stands nowhere else in it.
+/// Whether a line feed ends the line, and there is none elsewhere in it.
 fn is_line(line: &[u8]) -> bool {
     let mut line_ends: usize = 0;
     for byte in line {

@@ -1,5 +1,5 @@
-//! The choice beside its slow form: a table in which each place tries every length, with the limits of the character
-//! counts.
+//! The choice of segments against its slow form: a table that tries every length at each place, with the limits of the
+//! character counts.
 ghost use Rattle.std.specs.Prelude.{length, ◌≤◌, ◌<◌};
 
 use crate::layers::support::version;
@@ -41,7 +41,7 @@ fn count_width(version: Version, mode: Mode) -> usize {
     }
 }
 
-/// The bits of so many characters, group by group (ISO/IEC 18004, data encodation).
+/// How many bits `len` characters have, group by group (ISO/IEC 18004, data encodation).
 fn payload_bits(mode: Mode, len: usize) -> usize
     requires { len ≤ 652 }
 {
@@ -135,7 +135,7 @@ fn slow_table(version: Version, data: &[u8]) -> [SlowChoice; 653]
     table
 }
 
-/// The least version from a lowest one on in which the bits of its table fit.
+/// The smallest version from `lowest` on in which the bits of its table fit.
 fn slow_version(
     lowest: u8,
     level: Level,
@@ -170,7 +170,7 @@ fn expect_same_segments(rt: &impl Abort, plan: &Plan, data: &[u8], table: &[Slow
     assert!(rt; place == data.len());
 }
 
-/// Chooses for the data at each level from each of some versions on, and expects what the slow tables say.
+/// Checks the choice for the data at each level, from each of some versions on, against the slow tables.
 fn expect_same(rt: &impl Abort, data: &[u8]) {
     assert!(rt; data.len() <= 652);
     let (Some(nine), Some(ten)) = (Version::new(9), Version::new(10)) else {
@@ -211,7 +211,7 @@ impl Numbers {
         (self.state / 65_536 % u32::from(limit)) as u8
     }
 
-    /// Writes stretches of digits, of capital letters and of small letters. A stretch has so many characters on
+    /// Writes stretches of digits, of capital letters and of small letters. A stretch has `stretch` characters on
     /// average.
     fn write_text(&mut self, stretch: u8, text: &mut [u8])
         requires { 0 < stretch }

@@ -1,4 +1,4 @@
-//! What no clause says of the devices over std: which calls reach the reader and the writer.
+//! Which calls of the devices over std reach the reader and the writer: no clause says it.
 use crate::layers::support::{flushes, gives, passes_on, takes, takes_some};
 use device::{StdSink, StdSource};
 use std::cell::Cell;

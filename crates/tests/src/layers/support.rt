@@ -1,4 +1,4 @@
-//! What the tests share: versions of QR symbols, and one call of a device each, with whether it answers as it should.
+//! What the tests share: versions of QR symbols, and functions that make one call of a device and check its result.
 use device::{Sink, Source, write_whole};
 use qrdata::Version;
 use std::process::Abort;
@@ -19,7 +19,7 @@ pub fn takes(sink: &mut impl Sink, bytes: &[u8]) -> bool {
     write_whole(bytes, sink).is_ok()
 }
 
-/// Whether one write takes so many of the bytes.
+/// Whether one write takes `count` of the bytes.
 pub fn takes_some(sink: &mut impl Sink, bytes: &[u8], count: usize) -> bool {
     if bytes.is_empty() {
         return false;
@@ -45,7 +45,7 @@ pub fn passes_on(sink: &mut impl Sink) -> bool {
     sink.pass_on().is_ok()
 }
 
-/// Whether one read gives so many bytes.
+/// Whether one read gives `count` bytes.
 pub fn gives(source: &mut impl Source, buf: &mut [u8], count: usize) -> bool {
     if buf.is_empty() {
         return false;

@@ -1,4 +1,4 @@
-//! How much data each version holds, beside the listing of the standard (ISO/IEC 18004, table 7).
+//! How much data each version holds, against the listing of the standard (ISO/IEC 18004, table 7).
 use crate::layers::support::version;
 use qrdata::{Level, choose};
 use std::process::Abort;
@@ -45,7 +45,7 @@ const BYTES: [[usize; 4]; 10] = [
     [271, 213, 151, 119],
 ];
 
-/// The number of the version that data gets, and 11 where it is refused.
+/// The number of the version that is chosen for data, and 11 where the data is refused.
 fn version_of(rt: &impl Abort, level: Level, text: &[u8]) -> usize {
     match choose(version(rt, 1), level, text) {
         Ok(plan) => usize::from(plan.version().number()),
@@ -53,7 +53,7 @@ fn version_of(rt: &impl Abort, level: Level, text: &[u8]) -> usize {
     }
 }
 
-/// Expects that so many of the characters fit in the version after this one, and one more in the next alone.
+/// Checks that `most` of the characters fit in version `before + 1`, and that one more fits only in the next version.
 fn expect_limit(rt: &impl Abort, level: Level, text: &[u8; 653], most: usize, before: usize) {
     assert!(rt; most < 653);
     let version = version_of(rt, level, &text[..most]);
@@ -65,7 +65,7 @@ fn expect_limit(rt: &impl Abort, level: Level, text: &[u8; 653], most: usize, be
 /// The levels in the order of the tables.
 const LEVELS: &[Level] = &[Level::L, Level::M, Level::Q, Level::H];
 
-/// Expects that so many of one character fit in a version, and one more in the next alone.
+/// Checks how many of one character fit in a version; one more fits only in the next.
 fn expect_most(rt: &impl Abort, character: u8, rows: &[[usize; 4]; 10]) {
     let text = [character; 653];
     for (place, row) in rows.iter().enumerate() {

@@ -58,7 +58,7 @@ fn no_message_stands_after_output_that_failed_to_go_out(rt: HostRuntime) {
     assert!(rt; text.into_inner().as_slice().is_empty());
 }
 
-/// A source that tells how long a text was at its last read.
+/// A source that records how long a text was at its last read.
 #[derive(Drop)]
 struct WatchingSource<'a, S: Drop> {
     source: S,
@@ -105,7 +105,7 @@ fn output_goes_out_before_each_read(rt: HostRuntime) {
     assert!(rt; source.seen == 2 * EAN8.len());
 }
 
-/// The images that were passed on are in memory, and one more is buffered, which goes out after them.
+/// The images that were passed on are in memory, and one more is buffered, which is passed on after them.
 fn assert_one_is_held<const N: usize>(
     rt: &impl Abort,
     out: &mut Buffered<FailAt<MemSink<N>>>,
@@ -132,8 +132,8 @@ const IN_TURN: &[u8] = b"ean8 7351353\npdf x\nean8 7351353\npdf x\nean8 7351353\
 /// The messages of the refused lines.
 const REFUSED_IN_TURN: &[u8] = b"line 2: unknown symbology\nline 4: unknown symbology\n";
 
-/// A run over the lines, `piece` bytes a read, whose held output fails to go out after so many labels and messages went
-/// out. What was held goes out after it.
+/// Runs over the lines, `piece` bytes a read. Passing on the buffered output fails after `sent` labels and messages
+/// were written. What is buffered is passed on after the run.
 fn assert_sending_fails(rt: &impl Abort, piece: usize, sent: usize, images: &[u8]) {
     assert!(rt; piece > 0);
     let call = (sent as u64).saturating_add(1);
@@ -147,8 +147,8 @@ fn assert_sending_fails(rt: &impl Abort, piece: usize, sent: usize, images: &[u8
     assert_one_is_held(rt, &mut out, images);
 }
 
-/// A byte a read: each label goes out before the read after its line. All lines in one read: a label goes out before
-/// the message after it, the last one before the next read.
+/// With one byte a read, each label is passed on before the read after its line. With all lines in one read, a label is
+/// passed on before the message after it, and the last one before the next read.
 #[test]
 fn each_sending_fails(rt: HostRuntime) -> Result<(), Fail> {
     for piece in [1, 4096] {

@@ -72,7 +72,8 @@ impl<'a> FailedRun<'a> {
         }
     }
 
-    /// It answered this, after so many calls of each device, and the sinks hold so many bytes of their texts.
+    /// The run returned this error after this many calls of each device, and the sinks have this many bytes of their
+    /// texts.
     fn assert(
         &self,
         rt: &impl Abort,
@@ -163,7 +164,7 @@ fn lines_of_each_byte(alloc: Global) -> Result<Vec<u8>, AllocError> {
     Ok(lines)
 }
 
-/// What these lines are told.
+/// The messages of these lines.
 fn messages_of_each_byte(alloc: Global) -> Result<Vec<u8>, AllocError> {
     let mut messages = joined(alloc, &[b"line 11: no data\n"])?;
     for line in 130..258 {

@@ -59,7 +59,7 @@ fn assert_header(rt: &impl Abort, alloc: Global, named: Named, line: &[u8], head
     assert_row(rt, alloc, options, line, came.out.as_slice(), b"");
 }
 
-/// A line of this front and so many equal bytes.
+/// A line of this front and `times` equal bytes.
 fn long_line(
     alloc: Global,
     front: &[u8],
@@ -173,7 +173,7 @@ fn known_symbols(rt: HostRuntime) -> Result<(), Fail> {
     Ok(())
 }
 
-/// Options, the front of a line, the byte that follows it so many times, and the header of the picture.
+/// Options, the front of a line, the byte that follows it and how many times, and the header of the picture.
 const LEAST_VERSIONS: &[(Named, &[u8], &[u8], usize, &[u8])] = &[
     (LEVEL_L, b"qr ", b"1", 41, b"P1\n29 29\n"),
     (LEVEL_L, b"qr ", b"1", 42, b"P1\n33 33\n"),
@@ -203,7 +203,7 @@ fn least_versions(rt: HostRuntime) -> Result<(), Fail> {
     Ok(())
 }
 
-/// Fronts of lines, and the byte that follows each so many times that the data does not fit.
+/// Fronts of lines, the byte that follows each and how many times: the data does not fit.
 const TOO_MUCH_DATA: &[(&[u8], &[u8], usize)] = &[
     (b"qr ", b"a", 272),
     (b"qr ", b"1", 653),

@@ -99,7 +99,7 @@ fn writer_of(alloc: Global, oddity: Oddity) -> ByteWriter {
     }
 }
 
-/// Over devices of one byte a call, a run comes to these images and messages.
+/// Over devices of one byte a call, a run writes these images and messages.
 fn assert_by_bytes(
     rt: &impl Abort,
     alloc: Global,

@@ -17,13 +17,13 @@ pub const EAN13_ROW: &[u8] =
     b"0000000000010100011010100111010111101111010001001011001101010100001010\n\
       0001010000101110100100001011001101010000000\n";
 
-/// What lines of each refusal that no setting makes are told, with `--escapes`.
+/// The messages of one line for each refusal that no setting causes, with `--escapes`.
 pub const REFUSALS: &[u8] =
     b"line 1: not a digit at byte 3\nline 2: wrong number of digits: 3\nline 3: no data\nline 4: no data\n\
       line 5: unknown symbology\nline 6: bad escape at byte 2\nline 7: byte 1 is not ASCII\n\
       line 8: data is longer than 80 bytes\n";
 
-/// What a run came to.
+/// How a run ended, and what it wrote.
 #[derive(Drop)]
 pub struct RunResult {
     pub answer: Result<Status, RunFault>,
@@ -31,7 +31,7 @@ pub struct RunResult {
     pub err: Vec<u8>,
 }
 
-/// The options of a row, each at its default where the row names no other.
+/// The options of a worked row, with the defaults for those that it does not name.
 #[derive(Clone, Copy, Drop)]
 pub struct Named {
     pub format: Format,
@@ -89,7 +89,7 @@ pub fn low(rt: &impl Abort, escapes: bool) -> Options {
     Named { escapes, ..LOW }.options(rt)
 }
 
-/// What a run answers.
+/// Calls `run`, and returns its result.
 pub fn answer_of(
     options: Options,
     source: &mut impl Source,
@@ -99,7 +99,7 @@ pub fn answer_of(
     run(options, source, out, err)
 }
 
-/// What a run over the input answers, 4,096 bytes a read, for pictures one module high without escapes.
+/// Runs over the input, 4,096 bytes a read, for pictures one module high without escapes, and returns the result.
 pub fn answer_to(
     rt: &impl Abort,
     input: &[u8],
@@ -114,7 +114,7 @@ pub fn answer_to(
     )
 }
 
-/// What a filter answers to a piece.
+/// Feeds a filter a piece, and returns its result.
 pub fn feed_piece(
     filter: &mut Filter,
     piece: &[u8],
@@ -124,7 +124,7 @@ pub fn feed_piece(
     filter.feed(piece, out, err)
 }
 
-/// What a filter answers at the end of its input.
+/// Ends a filter's input, and returns its result.
 pub fn finish(
     filter: Filter,
     out: &mut impl Sink,
@@ -177,7 +177,7 @@ fn fed_into(
     finish(filter, out, err)
 }
 
-/// Text that stands so many times.
+/// The text, `times` times.
 pub fn repeated(alloc: Global, text: &[u8], times: usize) -> Result<Vec<u8>, AllocError> {
     let mut all = Vec::new(alloc);
     for _ in 0..times {
@@ -195,7 +195,7 @@ pub fn joined(alloc: Global, texts: &[&[u8]]) -> Result<Vec<u8>, AllocError> {
     Ok(all)
 }
 
-/// The lines that `REFUSALS` tells of.
+/// The lines whose messages `REFUSALS` has.
 pub fn refused_lines(alloc: Global) -> Result<Vec<u8>, AllocError> {
     let mut lines = Vec::new(alloc);
     lines.extend_from_slice(
@@ -253,7 +253,7 @@ pub fn line_ends(text: &[u8]) -> usize {
     count
 }
 
-/// Whether each line of a text is so long, or empty.
+/// Whether each line of a text has `len` bytes, or none.
 pub fn has_lines_of(text: &[u8], len: usize) -> bool {
     let mut so_far: usize = 0;
     for byte in text {
@@ -268,7 +268,7 @@ pub fn has_lines_of(text: &[u8], len: usize) -> bool {
     so_far == 0 || so_far == len
 }
 
-/// So many lines from the front of a text, or all of it.
+/// The first `count` lines of a text, or all of it.
 pub fn first_lines(text: &[u8], count: usize) -> &[u8] {
     let mut ended: usize = 0;
     for place in 0..text.len() {
@@ -282,7 +282,7 @@ pub fn first_lines(text: &[u8], count: usize) -> &[u8] {
     text
 }
 
-/// The run came to these images and messages, and nothing failed.
+/// The run wrote these images and messages, and nothing failed.
 pub fn assert_came_to(rt: &impl Abort, came: &RunResult, out: &[u8], err: &[u8]) {
     let status = if err.is_empty() {
         Status::Clean
@@ -294,7 +294,7 @@ pub fn assert_came_to(rt: &impl Abort, came: &RunResult, out: &[u8], err: &[u8])
     assert!(rt; came.answer == Ok(status));
 }
 
-/// Over the input, read in pieces of several sizes and fed in two at each cut, a run comes to these images and
+/// A run over the input, read in pieces of several sizes and fed in two at each cut, writes these images and
 /// messages.
 pub fn assert_row(
     rt: &impl Abort,

@@ -7,7 +7,7 @@ use Rattle.filter.proofs.FilterLaws.{StopsInLine-lines}
 use Rattle.device.specs.Lines.{lines, ended_lines, open_line, unless_empty}
 use Rattle.filter.specs.Line.{RaisesOneCount}
 use Rattle.filter.specs.Filter.{TookLines, StopsInFinish}
-use Rattle.filter.specs.Output.{images, status_of}
+use Rattle.filter.specs.Output.{status_of}
 use Rattle.filter.specs.Run.{RunsWhole, RunStops}
 use Rattle.filter.proofs.ReadLaws.{images_read}
 use Rattle.filter.proofs.RunLaws.{at_err, at_ok, RunStops-in_line, RunStops-between, TookPiece-sent, TookLines-finish}
@@ -77,10 +77,12 @@ returns-then-count-eq0-clause-whole g c =
     c.finish.new.err h.given sent t in
     record {
       text = h.given;
-      stream = images c.args.options (lines h.given);
       given = subst (g.S.Source.gave c.args.source.now c.read.new.self) (append-nil h.given) gave;
-      written = record { images_are = refl; out = took.out; err = took.err; status_is = s };
-      read = images_read c.reading_laws.ensures c.args.options c.ranges-2.ensures.scale_low c.ranges-2.ensures.scale_high (lines h.given) took.read;
+      out = took.out;
+      err = took.err;
+      status_is = s;
+      read = images_read c.reading_laws.ensures c.args.options c.ranges-2.ensures.scale_low
+          c.ranges-2.ensures.scale_high (lines h.given) took.read;
     })
 
 pub returns-then-count-eq0-clause-stops : goal.returns-then-count-eq0-clause-stops

@@ -1,7 +1,7 @@
 use Rattle.std.proofs.Common.{◌≡◌, ◌*◌, ◌/◌, length, arith, ap, refl, ◌∙◌}
 use Rattle.qrdata.specs.Bits.{codewords_of}
 use Rattle.qrdata.specs.Private.BitsInCodewords.{bits_in}
-use Rattle.qrdata.specs.Codewords.{with_zeros, with_terminator, with_pad_codewords, data_codewords_of, data_of}
+use Rattle.qrdata.specs.Codewords.{with_zeros, with_terminator, with_pad_codewords, data_codewords_of}
 use Rattle.qrdata.specs.Segments.{segments_bits}
 use Rattle.qrdata.specs.Versions.{data_codewords}
 use Rattle.qrdata.proofs.VersionLaws.{capacity-le}
@@ -38,7 +38,7 @@ end-requires c =
     }
 
 pub returns : goal.returns
-unfolding data_of data_codewords_of with_pad_codewords
+unfolding data_codewords_of with_pad_codewords
 returns c =
     let bits = segments_bits c.args.version c.args.segments.now c.args.bytes.now in
     let size = data_codewords c.args.version c.args.level in

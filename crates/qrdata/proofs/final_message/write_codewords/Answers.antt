@@ -2,13 +2,13 @@ use Rattle.std.proofs.Common.{◌≡◌, arith, refl, Some}
 use Rattle.qrdata.specs.Codewords.{symbol_codewords}
 use Rattle.qrdata.specs.Reading.{data_in}
 use Rattle.qrdata.proofs.DataReadingLaws.{data_in-symbol_codewords, length-read}
-use Rattle.qrdata.proofs.WriterLaws.{AreBytes-slice, length-data_of}
+use Rattle.qrdata.proofs.WriterLaws.{AreBytes-slice, length-data}
 use Rattle.qrdata.proofs.final_message.write_codewords.Goals as goal
 
 pub write_symbol-requires : goal.write_symbol-requires
 write_symbol-requires c = record {
   whole = rw (c.as_slice.ensures.value, c.push_data.ensures)
-      (length-data_of c.args.version c.args.level c.args.segments.now c.args.bytes.now c.requires.cut c.requires.fits);
+      (length-data c.args.version c.args.level c.args.segments.now c.args.bytes.now c.requires.cut c.requires.fits);
 }
 
 pub returns : goal.returns

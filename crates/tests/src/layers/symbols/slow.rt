@@ -1,5 +1,4 @@
-//! The slow form of a symbol: 57 by 57 truth values, drawn and counted module by module, each mask in a drawing of
-//! its own.
+//! The slow form of a symbol: 57 by 57 truth values, drawn and counted module by module, and drawn anew for each mask.
 
 mod function;
 mod penalty;
@@ -22,13 +21,13 @@ pub struct Symbol {
 }
 
 impl Symbol {
-    /// Draws the codewords under the given mask, or else under the first of the least penalty.
+    /// Draws the codewords under the given mask, or else under the first with the lowest penalty.
     pub fn draw(version: Version, level: Level, mask: Option<u8>, codewords: &Codewords) -> Symbol
         requires { IfSome mask (λ k. k < 8) }
     {
         let mask = match mask {
             Some(mask) => mask,
-            None => least_mask(version, level, codewords),
+            None => mask_of_lowest_penalty(version, level, codewords),
         };
         Symbol {
             side: version.side(),
@@ -56,19 +55,19 @@ impl Symbol {
     }
 }
 
-/// The first mask of the least penalty.
-fn least_mask(version: Version, level: Level, codewords: &Codewords) -> u8
+/// The first mask with the lowest penalty.
+fn mask_of_lowest_penalty(version: Version, level: Level, codewords: &Codewords) -> u8
     ensures { result < 8 }
 {
     let mut best = 0;
-    let mut least = u64::MAX;
+    let mut lowest = u64::MAX;
     for mask in 0..8 {
         let next = penalty(
             &modules_under(version, level, mask, codewords),
             version.side(),
         );
-        if next < least {
-            least = next;
+        if next < lowest {
+            lowest = next;
             best = mask;
         }
     }

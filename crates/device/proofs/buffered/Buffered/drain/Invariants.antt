@@ -2,7 +2,7 @@ use Rattle.std.proofs.Common.{◌≡◌, ◌-◌, ◌++◌, List, ℕ}
 use Rattle.std.specs.Prelude.{slice_range}
 use Rattle.device.proofs.buffered.Buffered.drain.Given as goal
 
--- what was buffered is what went on and the rest
+-- what was buffered is what was passed on, and the rest
 abbrev pub invariant-loop-self : goal.invariant-loop-self
 invariant-loop-self g l = record {
   front : List ℕ;

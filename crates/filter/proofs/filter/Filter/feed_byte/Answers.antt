@@ -1,8 +1,8 @@
 use Rattle.std.proofs.Common.{◌≡◌, ◌∙◌, ap, refl, sym, subst, length}
 use Rattle.device.specs.Lines.{open_line, ended_lines}
 use Rattle.filter.specs.Filter.{FilterState, StandsAt}
-use Rattle.filter.specs.Output.{outcome, is_refusal, line_number, status_if}
-use Rattle.filter.specs.Private.LineEnd.{worst}
+use Rattle.filter.specs.Output.{outcome, line_number}
+use Rattle.filter.specs.Private.LineEnd.{worst, status_of_line}
 use Rattle.filter.proofs.FilterLaws.{StandsAt-other, StandsAt-lf, line_number-counts, TookPiece-other, TookPiece-lf}
 use Rattle.filter.proofs.FilterLaws.{StopsInPiece-lf}
 use Rattle.filter.proofs.filter.Filter.feed_byte.Goals as goal
@@ -24,7 +24,8 @@ returns-in-Ok-clause-feeds g c options text at =
     line_number-counts options _ text at' c.saturating_add-self-inside.result
     c.saturating_add-self-inside.ensures in
     let ends = rw (o, n) at (c.in-Ok.ensures.ends (open_line text) at'.line) in
-    let status : c.worst-self-inside.result ≡ worst c.self.inside.status (status_if (is_refusal (outcome options (open_line text)))) =
+    let status : c.worst-self-inside.result
+    ≡ worst c.self.inside.status (status_of_line (outcome options (open_line text))) =
     c.worst-self-inside.ensures ∙ ap (worst c.self.inside.status) ends.status_is in (
       StandsAt-lf options _ _ text c.args.byte at' c.if-byte-ne10.false refl c.clear.ensures n status refl,
       TookPiece-lf options _ _ text c.args.byte c.if-byte-ne10.false ends.image ends.message ends.read,

@@ -1,4 +1,4 @@
-//! The function patterns, the format information and the version information, each module asked what it is there for.
+//! The function patterns, the format information and the version information, by the role of each module.
 ghost use Rattle.std.specs.Prelude.{◌<◌, ◌≤◌, IfSome};
 ghost use Rattle.qrdata.specs.Versions.{side_of};
 
@@ -90,7 +90,7 @@ fn timing(x: usize, y: usize) -> Option<bool> {
     }
 }
 
-/// The bit of the format information that stands at the module.
+/// The bit of the format information at this module.
 fn format_bit(n: usize, x: usize, y: usize) -> Option<u8>
     requires side { (21 ≤ n) × (n ≤ 57) }
     requires column { x < n }
@@ -124,7 +124,7 @@ fn format_bit(n: usize, x: usize, y: usize) -> Option<u8>
     }
 }
 
-/// The bit of the version information that stands at the module, in the versions that have one.
+/// The bit of the version information at this module, in the versions that have one.
 fn version_bit(n: usize, x: usize, y: usize) -> Option<u8>
     requires side { (21 ≤ n) × (n ≤ 57) }
     ensures { IfSome result (λ i. i < 18) }
