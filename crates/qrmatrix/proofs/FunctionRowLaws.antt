@@ -14,7 +14,6 @@ use Rattle.qrdata.specs.declared.level.Level.{Level}
 use Rattle.qrdata.specs.declared.level.Level.TheVariants.{L, M, Q, H}
 use Rattle.qrdata.specs.Versions.{side_of}
 use Rattle.qrmatrix.specs.Bits.{bit}
-use Rattle.qrmatrix.specs.Counting.{all_below}
 use Rattle.qrmatrix.specs.Private.Drawing.{unmasked_module, format_module, HasFunctions}
 use Rattle.qrmatrix.specs.Private.FunctionRows.{alignments, finders, format_row, formats, function_row, or_else, timing}
 use Rattle.qrmatrix.specs.Private.FunctionRows.{up, versions}
@@ -26,7 +25,7 @@ use Rattle.qrmatrix.proofs.AlignmentLaws.{near_role, near_role_is}
 use Rattle.qrmatrix.proofs.ByVersionLaws.{by_version}
 use Rattle.qrmatrix.proofs.MaskChoiceLaws.{mapped_all}
 use Rattle.qrmatrix.proofs.RowBitsLaws.{above_bit, one_bit, same_beq}
-use Rattle.qrmatrix.proofs.SumLaws.{all_below_at}
+use Rattle.qrmatrix.proofs.SumLaws.{all_below, all_below_at}
 
 -- ---- the function patterns
 

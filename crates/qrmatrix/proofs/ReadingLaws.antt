@@ -1,6 +1,6 @@
 -- Reading inverts drawing.
 use Rattle.std.proofs.Common.{◌≡◌, ℕ, ◌+◌, ◌*◌, ◌<◌, ◌≤◌, refl, ap, ◌∙◌, Bool, true, false, cond, List}
-use Rattle.std.proofs.Common.{[], ◌∷◌, length, Option, Some, None, eq-eqb}
+use Rattle.std.proofs.Common.{[], ◌∷◌, length, Option, Some, None, eq-eqb, arith}
 use Rattle.std.specs.Bool.{beq}
 use Rattle.std.specs.Prelude.{◌==◌, find, unwrap_or, map, nat_lt, reverse, All}
 use Rattle.std.specs.List.{range_with_len, filter, list_all}
@@ -8,7 +8,6 @@ use Rattle.std.proofs.lemmas.Bool.{and_from, and_parts, lt-ltb}
 use Rattle.qrdata.specs.declared.level.Level.{Level}
 use Rattle.qrmatrix.specs.Functions.{Role, Function, Format, Version, Free, is_free, is_free_role, role, fixed_module}
 use Rattle.qrmatrix.specs.Functions.{module_of_role}
-use Rattle.qrmatrix.specs.Counting.{all_below}
 use Rattle.qrdata.specs.Bits.{number_of, codewords_of}
 use Rattle.qrdata.specs.Versions.{side_of, total_codewords}
 use Rattle.qrmatrix.specs.Bits.{bit}
@@ -19,7 +18,7 @@ use Rattle.qrmatrix.specs.Placement.{codeword_bit, rank, remainder_bits}
 use Rattle.qrmatrix.specs.Reading.{walk, read_bits, read_matrix, format_copy_1, format_copy_2, version_copy_1}
 use Rattle.qrmatrix.specs.Reading.{version_copy_2, information_at, read_format, shows_version, shows_functions}
 use Rattle.qrmatrix.proofs.ByVersionLaws.{by_version}
-use Rattle.qrmatrix.proofs.SumLaws.{all_below_from}
+use Rattle.qrmatrix.proofs.SumLaws.{list_all-range}
 use Rattle.qrmatrix.proofs.VersionLaws.{Computed, computed}
 use Rattle.qrmatrix.proofs.WalkLaws.{walk_ranks}
 use Rattle.qrmatrix.proofs.CodewordBitLaws.{codewords_of-codeword_bits}
@@ -118,12 +117,11 @@ module _ (v : ℕ) (level : Level) (mask : ℕ) (codewords : List ℕ) where
   pub functions_shown : shows_functions v level mask (module_at v level mask codewords) ≡ true
   unfolding shows_functions
   functions_shown =
-      all_below_from (side_of v) (λ y. all_below (side_of v)
-      (λ x. beq (unwrap_or (fixed_module v level mask x y)
-      (module_at v level mask codewords x y)) (module_at v level mask codewords x y)))
-      (λ y ly. all_below_from (side_of v) (λ x. beq (unwrap_or (fixed_module v level mask x y)
+      list_all-range 0 (side_of v) (λ y. list_all (λ x. beq (unwrap_or (fixed_module v level mask x y)
+      (module_at v level mask codewords x y)) (module_at v level mask codewords x y)) (range_with_len 0 (side_of v)))
+      (λ y ly. list_all-range 0 (side_of v) (λ x. beq (unwrap_or (fixed_module v level mask x y)
       (module_at v level mask codewords x y)) (module_at v level mask codewords x y))
-      (λ x lx. rw (module_inside x y (inside_from (side_of v) x y lx ly))
+      (λ x lx. rw (module_inside x y (inside_from (side_of v) x y (omega arith) (omega arith)))
       (agrees_itself (fixed_module v level mask x y) (flip_if (is_flipped mask x y) (codeword_bit codewords
       (rank v x y))))))
 
