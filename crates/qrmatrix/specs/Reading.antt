@@ -3,14 +3,13 @@
 use Rattle.std.specs.Prelude.{ℕ, ◌+◌, ◌-◌, ◌*◌, ◌/◌, ◌%◌, ◌^◌, Bool, not, ◌&&◌, ◌||◌, ◌==◌, nat_le, if◌then◌else◌}
 use Rattle.std.specs.Prelude.{List, [], ◌∷◌, ◌++◌, map, reverse, Option, None, Some, bit_xor, unwrap_or}
 use Rattle.std.specs.Bool.{beq}
-use Rattle.std.specs.List.{range_with_len, filter, find}
+use Rattle.std.specs.List.{range_with_len, filter, find, list_all}
 use Rattle.gf256.specs.BinaryPolynomial.{binary_remainder}
 use Rattle.qrdata.specs.declared.level.Level.{Level}
 use Rattle.qrdata.specs.declared.level.Level.TheVariants.{L, M, Q, H}
 use Rattle.qrdata.specs.Steps.{◌>>=◌}
 use Rattle.qrdata.specs.Bits.{number_of, codewords_of}
 use Rattle.qrdata.specs.Versions.{total_codewords, side_of}
-use Rattle.qrmatrix.specs.Counting.{all_below}
 use Rattle.qrmatrix.specs.Functions.{fixed_module, is_free}
 use Rattle.qrmatrix.specs.Masks.{is_flipped, flip_if}
 
@@ -57,8 +56,8 @@ shows_version v n m =
 -- whether every module that the codewords do not choose is right
 unfoldable pub shows_functions : ℕ → Level → ℕ → (ℕ → ℕ → Bool) → Bool
 shows_functions v level mask m =
-    all_below (side_of v) (λ y. all_below (side_of v) (λ x.
-    beq (unwrap_or (fixed_module v level mask x y) (m x y)) (m x y)))
+    let places = range_with_len 0 (side_of v) in
+    list_all (λ y. list_all (λ x. beq (unwrap_or (fixed_module v level mask x y) (m x y)) (m x y)) places) places
 
 -- a strip of two columns: in each of its rows the right module, then the left one
 abbrev pub strip : ℕ → List ℕ → List (ℕ × ℕ)
