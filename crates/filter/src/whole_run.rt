@@ -38,7 +38,6 @@ pub fn run<S: Source, O: Sink, E: Sink>(
     ensures order { IfErr result (FlushedImagesAtMost (O.is_flushed out.old) (O.is_flushed out.new)
         (E.is_flushed err.old) (E.is_flushed err.new)) }
 {
-    options.ranges();
     reading_laws();
     let mut filter = Filter::new(options);
     let mut buffer = [0u8; 4096];

@@ -83,8 +83,7 @@ returns-then-count-eq0-clause-whole g c =
       out = took.out;
       err = took.err;
       status_is = s;
-      read = images_read c.reading_laws.ensures c.args.options c.ranges-2.ensures.scale_low
-          c.ranges-2.ensures.scale_high (lines h.given) took.read;
+      read = images_read c.reading_laws.ensures c.args.options (lines h.given) took.read;
     })
 
 pub returns-then-count-eq0-clause-stops : goal.returns-then-count-eq0-clause-stops
