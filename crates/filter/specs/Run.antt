@@ -1,7 +1,7 @@
 -- A run over a whole input: the headline, and what was written where the run stops before the end
 -- (docs/SPECIFICATION.md, The filter as a library).
 -- Why: `RunsWhole`: the contract of `run`.
--- Why: `RunStops`, `RunRaises`, `GaveTooMuch`: the contract of `run`.
+-- Why: `RunStops`, `RunRaises`: the contract of `run`.
 use Rattle.std.specs.Prelude.{◌≡◌, ℕ, ◌-◌, ◌^◌, ◌≤◌, ◌⊎◌, List, length}
 use Rattle.device.specs.Device.{Rises}
 use Rattle.labelcore.specs.OptionValues.{OptionValues}
