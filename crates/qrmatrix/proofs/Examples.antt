@@ -11,6 +11,7 @@ use Rattle.std.proofs.lemmas.List.{get_or_past}
 use Rattle.std.proofs.lemmas.List.FromFn.{get_or-map-range_with_len, length-map-range_with_len}
 use Rattle.std.specs.List.{list_all, position_or_len, range_with_len}
 use Rattle.gf256.specs.BinaryPolynomial.{binary_remainder}
+use mathlib.Core.Bool.{xor}
 use Rattle.qrdata.specs.declared.level.Level.{Level}
 use Rattle.qrdata.specs.declared.level.Level.TheVariants.{M}
 use Rattle.qrdata.specs.Bits.{codewords_of, number_of}
@@ -43,7 +44,7 @@ rows =
     ∷ 0x078210 ∷ 0x0129F8 ∷ 0x067D00 ∷ 0x00D67F ∷ 0x147D41 ∷ 0x06915D ∷ 0x00935D ∷ 0x052D5D ∷ 0x0D8041 ∷ 0x052F7F ∷ []
 
 row : ℕ → ℕ → ℕ
-unfolding codewords number_of module_at fixed_module role rank is_free key is_flipped format_information
+unfolding codewords number_of module_at xor fixed_module role rank is_free key is_flipped format_information
     version_information
     binary_remainder
 row mask y = number_of (reverse (map (λ x. module_at 1 M mask codewords x y) (range_with_len 0 21)))
@@ -131,7 +132,7 @@ penalties_under_all_masks =
     (λ mask l. penalty_of mask (omega arith)) ∙ computed.1
 
 read_rows : ℕ → List ℕ → Option Reading
-unfolding read_matrix total_codewords read_format shows_version shows_functions read_bits walk codewords_of number_of
+unfolding read_matrix xor total_codewords read_format shows_version shows_functions read_bits walk codewords_of number_of
     fixed_module role is_free is_flipped format_information version_information binary_remainder
 read_rows n rows = read_matrix n (λ x y. bit (slice_index rows y) x)
 

@@ -6,7 +6,8 @@ use Rattle.std.specs.Bool.{beq}
 use Rattle.std.specs.Int.{bit_not, w64}
 use Rattle.qrmatrix.specs.declared.mask.TheConstants.{PATTERNS, EVERY_SIXTH}
 use Rattle.qrmatrix.specs.Bits.{bit}
-use Rattle.qrmatrix.specs.Masks.{is_flipped, flip_if}
+use Rattle.qrmatrix.specs.Masks.{is_flipped}
+use Rattle.qrmatrix.specs.Private.Squares.{flip_if}
 use Rattle.qrmatrix.specs.Square.{value_at}
 use Rattle.qrmatrix.specs.Private.Drawing.{module_under_mask}
 use Rattle.qrmatrix.proofs.PassLaws.{Mapped, row_turned}

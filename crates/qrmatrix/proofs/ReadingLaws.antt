@@ -1,6 +1,7 @@
 -- Reading inverts drawing.
 use Rattle.std.proofs.Common.{◌≡◌, ℕ, ◌+◌, ◌*◌, ◌<◌, ◌≤◌, refl, ap, ◌∙◌, Bool, true, false, cond, List}
 use Rattle.std.proofs.Common.{[], ◌∷◌, length, Option, Some, None, eq-eqb, arith}
+use mathlib.Core.Bool.{xor}
 use Rattle.std.specs.Bool.{beq}
 use Rattle.std.specs.Prelude.{◌==◌, find, is_none, option_map, unwrap_or, map, nat_lt, reverse, All}
 use Rattle.std.specs.List.{range_with_len, filter, list_all}
@@ -13,7 +14,7 @@ use Rattle.qrdata.specs.Versions.{side_of, total_codewords}
 use Rattle.qrmatrix.specs.Bits.{bit}
 use Rattle.qrmatrix.specs.Information.{format_information, version_information}
 use Rattle.qrmatrix.specs.Modules.{module_at, is_inside}
-use Rattle.qrmatrix.specs.Masks.{flip_if, is_flipped}
+use Rattle.qrmatrix.specs.Masks.{is_flipped}
 use Rattle.qrmatrix.specs.Placement.{codeword_bit, rank, remainder_bits}
 use Rattle.qrmatrix.specs.Reading.{walk, read_bits, read_matrix, format_copy_1, format_copy_2, version_copy_1}
 use Rattle.qrmatrix.specs.Reading.{version_copy_2, information_at, read_format, shows_version, shows_functions}
@@ -44,10 +45,12 @@ map_map : {X Y Z : Type 0} (f : Y → Z) (g : X → Y) (xs : List X) → map (λ
 map_map f g [] = refl
 map_map f g (x ∷ xs) = ap (λ ys. f (g x) ∷ ys) (map_map f g xs)
 
-flip_twice : (b d : Bool) → flip_if b (flip_if b d) ≡ d
+flip_twice : (b d : Bool) → xor b (xor b d) ≡ d
+unfolding xor
 flip_twice true true = refl
 flip_twice true false = refl
-flip_twice false d = refl
+flip_twice false true = refl
+flip_twice false false = refl
 
 pub free_is_data : (v : ℕ) (level : Level) (mask : ℕ) (r : Option Role) (d : Bool) → is_none r ≡ true
     → unwrap_or (option_map (module_of_role v level mask) r) d ≡ d
@@ -67,7 +70,7 @@ module _ (v : ℕ) (level : Level) (mask : ℕ) (codewords : List ℕ) where
   -- a module in the square
   pub module_inside : (x y : ℕ) → is_inside (side_of v) x y ≡ true
       → module_at v level mask codewords x y
-      ≡ unwrap_or (fixed_module v level mask x y) (flip_if (is_flipped mask x y) (codeword_bit codewords (rank v x y)))
+      ≡ unwrap_or (fixed_module v level mask x y) (xor (is_flipped mask x y) (codeword_bit codewords (rank v x y)))
   unfolding module_at
   module_inside x y h = rw h
 
@@ -77,14 +80,14 @@ module _ (v : ℕ) (level : Level) (mask : ℕ) (codewords : List ℕ) where
   module_outside x y h = rw h
 
   unmasked : (p : ℕ × ℕ) → is_inside (side_of v) p.0 p.1 ≡ true → is_free v p.0 p.1 ≡ true
-      → flip_if (is_flipped mask p.0 p.1) (module_at v level mask codewords p.0 p.1)
+      → xor (is_flipped mask p.0 p.1) (module_at v level mask codewords p.0 p.1)
       ≡ codeword_bit codewords (rank v p.0 p.1)
   unfolding is_free fixed_module
   unmasked p i h =
       rw (
         module_inside p.0 p.1 i,
         free_is_data v level mask (role v p.0 p.1)
-            (flip_if (is_flipped mask p.0 p.1) (codeword_bit codewords (rank v p.0 p.1))) h,
+            (xor (is_flipped mask p.0 p.1) (codeword_bit codewords (rank v p.0 p.1))) h,
       )
       (flip_twice (is_flipped mask p.0 p.1) (codeword_bit codewords (rank v p.0 p.1)))
 
@@ -93,7 +96,7 @@ module _ (v : ℕ) (level : Level) (mask : ℕ) (codewords : List ℕ) where
   unfolding read_bits
   bits_read c =
       map_filter (λ (p : ℕ × ℕ). is_free v p.0 p.1) (λ (p : ℕ × ℕ). is_inside (side_of v) p.0 p.1)
-      (λ (p : ℕ × ℕ). flip_if (is_flipped mask p.0 p.1) (module_at v level mask codewords p.0 p.1))
+      (λ (p : ℕ × ℕ). xor (is_flipped mask p.0 p.1) (module_at v level mask codewords p.0 p.1))
       (λ (p : ℕ × ℕ). codeword_bit codewords (rank v p.0 p.1)) unmasked (walk (side_of v)) c.inside
       ∙ map_map (codeword_bit codewords) (λ (p : ℕ × ℕ). rank v p.0 p.1)
       (filter (λ (p : ℕ × ℕ). is_free v p.0 p.1) (walk (side_of v)))
@@ -120,7 +123,7 @@ module _ (v : ℕ) (level : Level) (mask : ℕ) (codewords : List ℕ) where
       (λ y ly. list_all-range 0 (side_of v) (λ x. beq (unwrap_or (fixed_module v level mask x y)
       (module_at v level mask codewords x y)) (module_at v level mask codewords x y))
       (λ x lx. rw (module_inside x y (inside_from (side_of v) x y (omega arith) (omega arith)))
-      (agrees_itself (fixed_module v level mask x y) (flip_if (is_flipped mask x y) (codeword_bit codewords
+      (agrees_itself (fixed_module v level mask x y) (xor (is_flipped mask x y) (codeword_bit codewords
       (rank v x y))))))
 
   -- the modules at the places of the bits of a number
@@ -138,7 +141,7 @@ module _ (v : ℕ) (level : Level) (mask : ℕ) (codewords : List ℕ) where
       let there : map (λ (p : ℕ × ℕ). role v p.0 p.1) ps ≡ map (λ i. Some (kind i)) is_ = cc in
       let parts = and_parts (is_inside (side_of v) p.0 p.1) (list_all (λ (p : ℕ × ℕ). is_inside (side_of v) p.0 p.1) ps)
       z in
-      let chosen = flip_if (is_flipped mask p.0 p.1) (codeword_bit codewords (rank v p.0 p.1)) in
+      let chosen = xor (is_flipped mask p.0 p.1) (codeword_bit codewords (rank v p.0 p.1)) in
       let m : unwrap_or (option_map (module_of_role v level mask) (role v p.0 p.1)) chosen ≡ bit information i =
       rw (here, h i) refl in
       let at = module_inside p.0 p.1 parts.0 ∙ m in

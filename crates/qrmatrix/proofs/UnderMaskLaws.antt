@@ -3,11 +3,13 @@ use Rattle.std.proofs.Common.{◌≡◌, ℕ, ◌<◌, refl, ap, Bool, true, fal
 use Rattle.std.specs.Prelude.{unwrap_or, if◌then◌else◌, Option, Some, None, is_none, option_map}
 use Rattle.std.proofs.lemmas.Bool.{both_ways}
 use Rattle.qrdata.specs.declared.level.Level.{Level}
+use mathlib.Core.Bool.{xor}
 use Rattle.qrdata.specs.Versions.{side_of}
 use Rattle.qrmatrix.specs.Private.Drawing.{module_under_mask, unmasked_module, format_module, IsUnmasked, ShowsFormat}
 use Rattle.qrmatrix.specs.Functions.{Role, Function, Format, Version, fixed_module, module_of_role, role, is_free}
 use Rattle.qrmatrix.specs.Information.{format_information}
-use Rattle.qrmatrix.specs.Masks.{flip_if, is_flipped}
+use Rattle.qrmatrix.specs.Masks.{is_flipped}
+use Rattle.qrmatrix.specs.Private.Squares.{flip_if}
 use Rattle.qrmatrix.specs.Placement.{codeword_bit, rank}
 use Rattle.qrmatrix.specs.Square.{value_at}
 
@@ -15,6 +17,13 @@ use Rattle.qrmatrix.specs.Square.{value_at}
 pub flip_light : (b : Bool) → flip_if b false ≡ b
 flip_light true = refl
 flip_light false = refl
+
+xor-flip_if : (b d : Bool) → xor b d ≡ flip_if b d
+unfolding xor
+xor-flip_if true true = refl
+xor-flip_if true false = refl
+xor-flip_if false true = refl
+xor-flip_if false false = refl
 
 -- nothing is drawn where the codewords go
 pub free_is_light : (v : ℕ) (r : Option Role) → is_none r ≡ true → unmasked_module v r ≡ false
@@ -26,17 +35,17 @@ shown : (v : ℕ) (level : Level) (mask : ℕ) (r : Option Role) (f t chosen old
     → (is_none r ≡ true → old ≡ chosen) → (is_none r ≡ false → old ≡ unmasked_module v r)
     → (if f then flip_if (format_module (format_information level mask) r) old else
     flip_if t (flip_if (format_module (format_information level mask) r) old))
-    ≡ unwrap_or (option_map (module_of_role v level mask) r) (flip_if t chosen)
+    ≡ unwrap_or (option_map (module_of_role v level mask) r) (xor t chosen)
 shown v level mask (Some (Function b)) f t chosen old e free taken = rw e (taken refl)
 shown v level mask (Some (Format i)) f t chosen old e free taken = rw (e, taken refl) (flip_light _)
 shown v level mask (Some (Version i)) f t chosen old e free taken = rw e (taken refl)
-shown v level mask None f t chosen old e free taken = rw e (ap (flip_if t) (free refl))
+shown v level mask None f t chosen old e free taken = rw (e, xor-flip_if t chosen) (ap (flip_if t) (free refl))
 
 pub under : (v : ℕ) (level : Level) (mask : ℕ) (codewords : List ℕ) (function old m : List (List Bool))
     → IsUnmasked v codewords function old
     → ShowsFormat v level mask old m → (x y : ℕ) → x < side_of v → y < side_of v
     → module_under_mask mask function m x y ≡ unwrap_or (fixed_module v level mask x y)
-    (flip_if (is_flipped mask x y) (codeword_bit codewords (rank v x y)))
+    (xor (is_flipped mask x y) (codeword_bit codewords (rank v x y)))
 unfolding fixed_module is_free
 under v level mask codewords function old m u s x y lx ly =
     rw (s.inside x y lx ly) (shown v level mask (role v x y) (value_at function x y) (is_flipped mask x y)

@@ -5,7 +5,8 @@ use Rattle.qrdata.specs.Versions.{side_of}
 use Rattle.qrmatrix.specs.Bits.{bit}
 use Rattle.qrmatrix.specs.Functions.{Role, Function, Format, Version, role, is_free}
 use Rattle.qrmatrix.specs.Information.{format_information, version_information}
-use Rattle.qrmatrix.specs.Masks.{is_flipped, flip_if}
+use Rattle.qrmatrix.specs.Masks.{is_flipped}
+use Rattle.qrmatrix.specs.Private.Squares.{flip_if}
 use Rattle.qrmatrix.specs.Modules.{module_at}
 use Rattle.qrmatrix.specs.Placement.{codeword_bit, rank}
 use Rattle.qrmatrix.specs.Square.{value_at}
