@@ -152,7 +152,7 @@ place_of_lowest numbers = position_or_len (λ p. list_all (nat_le p) numbers) nu
 mask_of_lowest : (v : ℕ) (level : Level) (codewords : List ℕ)
     → chosen_mask v level None codewords ≡ place_of_lowest (penalties v level codewords)
 unfolding chosen_mask place_of_lowest penalties
-mask_of_lowest v level codewords = refl
+mask_of_lowest v level _ = refl
 
 -- of equal penalties the first counts
 lowest : map place_of_lowest ((3 ∷ 1 ∷ 2 ∷ 1 ∷ []) ∷ (5 ∷ []) ∷ (2 ∷ 2 ∷ []) ∷ []) ≡ 1 ∷ 0 ∷ 0 ∷ []
