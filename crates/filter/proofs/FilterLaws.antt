@@ -90,7 +90,7 @@ module _ (options : OptionValues) where
 
     pub TookPiece-lf : byte ≡ LF → took_out (image_of options (outcome options (open_line text)))
         → took_err (message_of (line_number (length (ended_lines text))) (outcome options (open_line text)))
-        → ReadsBack (outcome options (open_line text)) → TookPiece options took_out took_err text (byte ∷ [])
+        → ReadsBack options (outcome options (open_line text)) → TookPiece options took_out took_err text (byte ∷ [])
     TookPiece-lf lf o e r = record {
       added = open_line text ∷ [];
       grown = ap (λ (b : ℕ). ended_lines (text ++ b ∷ [])) lf ∙ ended_lines-push_lf text;
@@ -112,6 +112,7 @@ module _ (options : OptionValues) where
         line = open_line text;
         later = [];
         cut = refl;
+        read = tt;
         wrote = rw ((images-nil options), (messages_after-nil options), add-zero) f;
       };
     }
@@ -125,9 +126,9 @@ module _ (options : OptionValues) where
   FailsInLine-map o o' e e' number i WriteMessages f g h = (f [] h.0, (h.1.0, h.1.1, g h.1.0 h.1.2))
   FailsInLine-map o o' e e' number i Spent f g h = h
 
-  read-append : (xs ys : List (List ℕ)) → AllByRecursion (λ line. ReadsBack (outcome options line)) xs
-      → AllByRecursion (λ line. ReadsBack (outcome options line)) ys
-      → AllByRecursion (λ line. ReadsBack (outcome options line)) (xs ++ ys)
+  read-append : (xs ys : List (List ℕ)) → AllByRecursion (λ line. ReadsBack options (outcome options line)) xs
+      → AllByRecursion (λ line. ReadsBack options (outcome options line)) ys
+      → AllByRecursion (λ line. ReadsBack options (outcome options line)) (xs ++ ys)
   read-append [] ys a b = b
   read-append (x ∷ xs) ys a b = (a.0, read-append xs ys a.1 b)
 
@@ -159,6 +160,7 @@ module _ (options : OptionValues) where
           line = b.line;
           later = b.later;
           cut = ap (λ (ls : List (List ℕ)). xs ++ ls) b.cut ∙ sym (append_assoc xs b.earlier (b.line ∷ b.later));
+          read = read-append xs b.earlier a.read b.read;
           wrote = rw (← number) (FailsInLine-map
               (λ bytes. took_out out' out'' (images options b.earlier ++ bytes))
               (λ bytes. took_out out out'' (images options (xs ++ b.earlier) ++ bytes))
@@ -203,6 +205,7 @@ module _ (options : OptionValues) where
           later = p.stops.later ++ s.added;
           cut = ap (λ (ls : List (List ℕ)). ls ++ s.added) p.stops.cut
               ∙ append_assoc p.stops.earlier (p.stops.line ∷ p.stops.later) s.added;
+          read = p.stops.read;
           wrote = p.stops.wrote;
         };
       }
@@ -286,7 +289,7 @@ module _ (options : OptionValues) where
     }
 
     pub TookLines-one : (line : List ℕ) → took_out (image_of options (outcome options line))
-        → took_err (message_of (line_number before) (outcome options line)) → ReadsBack (outcome options line)
+        → took_err (message_of (line_number before) (outcome options line)) → ReadsBack options (outcome options line)
         → TookLines options took_out took_err before (line ∷ [])
     TookLines-one line o e r = record {
       out = subst took_out (sym (images_one options line)) o;
@@ -302,6 +305,7 @@ module _ (options : OptionValues) where
       line = line;
       later = [];
       cut = refl;
+      read = tt;
       wrote = rw ((images-nil options), (messages_after-nil options), add-zero) f;
     }
 
@@ -344,5 +348,6 @@ module _ (options : OptionValues) where
           cut = lines-split text ∙ (ap (λ (ls : List (List ℕ)). ls ++ unless_empty (open_line text))
               (ended_from_nil p.added p.grown ∙ s.cut)
               ∙ append_assoc s.earlier (s.line ∷ s.later) (unless_empty (open_line text)));
+          read = s.read;
           wrote = s.wrote;
         }

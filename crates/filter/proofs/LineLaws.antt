@@ -47,7 +47,7 @@ refused_fails options took_out took_err number (refused why) fault (Err f) e ima
 -- the message of a refusal was written whole
 pub refused_ends : (options : OptionValues) (took_out took_err : List ℕ → Type 0) (number : ℕ) (o : Outcome Symbol)
     (fault : Fault) (r : Result Status RunFault) → refusal_of o ≡ Err fault → took_out (image_of options o)
-    → ReadsBack o → IfOk r (λ status. status ≡ Refused) → OnOk r (took_err (message number fault))
+    → ReadsBack options o → IfOk r (λ status. status ≡ Refused) → OnOk r (took_err (message number fault))
     → IfOk r (EndsLine options took_out took_err number o)
 refused_ends options took_out took_err number skipped fault r e image read is written = cc
 refused_ends options took_out took_err number (drawn symbol) fault r e image read is written = cc
@@ -63,7 +63,7 @@ refused_ends options took_out took_err number (refused why) fault (Ok x) e image
 
 -- a line without a refusal has no message
 pub drawn_ends : (options : OptionValues) (took_out took_err : List ℕ → Type 0) (number : ℕ) (o : Outcome Symbol)
-    → refusal_of o ≡ Ok tt → took_out (image_of options o) → took_err [] → ReadsBack o
+    → refusal_of o ≡ Ok tt → took_out (image_of options o) → took_err [] → ReadsBack options o
     → EndsLine options took_out took_err number o Clean
 drawn_ends options took_out took_err number skipped e image none read =
     record { status_is = refl; image = image; message = none; read = read }

@@ -1,6 +1,6 @@
 -- Images that are read back, one and many.
 use Rattle.std.proofs.Common.{◌≡◌, ℕ, ◌+◌, ◌*◌, ◌^◌, ◌<◌, ◌≤◌, Bool, true, false, List, [], ◌∷◌, ◌++◌, map, length}
-use Rattle.std.proofs.Common.{Some, refl, sym, ap, ◌∙◌, arith, get_or, inl, inr, ◌&&◌}
+use Rattle.std.proofs.Common.{Some, Result, refl, sym, ap, ◌∙◌, arith, get_or, inl, inr, ◌&&◌}
 use Rattle.std.proofs.Common.{◌==◌, eq-eqb}
 use mathlib.Core.Path.{fun_ext}
 use Rattle.std.specs.Prelude.{nat_lt}
@@ -28,8 +28,11 @@ use Rattle.filter.specs.Symbol.{Symbol, quiet_zone}
 use Rattle.labelcore.specs.LineItem.{Outcome, skipped, refused, drawn}
 use Rattle.filter.specs.Output.{outcome, image_of, images}
 use Rattle.filter.specs.Output.{picture_of, text_of}
-use Rattle.filter.specs.Readback.{cut, pixels, read_image, drawn_symbols, symbol_in, AreRead}
-use Rattle.filter.specs.Readback.{IsReadable, ReadsBack}
+use Rattle.filter.specs.Readback.{cut, pixels, read_image, drawn_symbols, symbol_in, AreRead, ImageIsRead, ReadsBack}
+use Rattle.filter.specs.Private.LineEnd.{IsReadable, HasReadable, DrawsModules}
+use Rattle.filter.specs.Drawing.{DrawsOutcome}
+use Rattle.labelcore.specs.declared.fault.Fault.{Fault}
+use Rattle.device.specs.declared.sink.Sink.{Ghosts}
 
 -- the quiet zones are narrow
 zone_columns : (symbology : Symbology) → (quiet_zone symbology).left + (quiet_zone symbology).right ≤ 20
@@ -91,18 +94,31 @@ module _ (laws : ReadingLaws) (options : OptionValues) (low : 1 ≤ options.scal
         options.scale low,
   ) h.read
 
-  are_drawable : (symbols : List Symbol) → AllByRecursion IsReadable symbols
+  -- modules that are read, drawn
+  image_is_read : (outcome : Outcome Symbol) → HasReadable outcome → ReadsBack options outcome
+  image_is_read skipped h = tt
+  image_is_read (refused fault) h = tt
+  image_is_read (drawn symbol) h = record { drawable = drawable symbol h; read = image_read options.format symbol h }
+
+  pub DrawsOutcome-modules : {S E : Type 0} (sink : Ghosts S) (old new : S) (outcome : Outcome Symbol)
+      (r : Result (Result (Unit {0}) Fault) E) → DrawsModules sink old new options outcome r
+      → DrawsOutcome sink old new options outcome r
+  DrawsOutcome-modules sink old new outcome r h =
+      record { writes = h.writes; refusal = h.refusal; read = image_is_read outcome h.readable }
+
+module _ (laws : ReadingLaws) (options : OptionValues) where
+  are_drawable : (symbols : List Symbol) → AllByRecursion (ImageIsRead options) symbols
       → AllByRecursion IsDrawable (map (picture_of options) symbols)
   are_drawable [] all = tt
-  are_drawable (symbol ∷ symbols) all = (drawable symbol all.0, are_drawable symbols all.1)
+  are_drawable (symbol ∷ symbols) all = (all.0.drawable, are_drawable symbols all.1)
 
-  have_columns : (symbols : List Symbol) → AllByRecursion IsReadable symbols
+  have_columns : (symbols : List Symbol) → AllByRecursion (ImageIsRead options) symbols
       → AllByRecursion (λ (p : Picture). 0 < p.width) (map (picture_of options) symbols)
   have_columns [] all = tt
-  have_columns (symbol ∷ symbols) all = ((drawable symbol all.0).some, have_columns symbols all.1)
+  have_columns (symbol ∷ symbols) all = (all.0.drawable.some, have_columns symbols all.1)
 
   -- a stream of images
-  stream_cut : (format : Format) (symbols : List Symbol) → AllByRecursion IsReadable symbols
+  stream_cut : (format : Format) (symbols : List Symbol) → AllByRecursion (ImageIsRead options) symbols
       → cut format (flat_map (text_of format) (map (picture_of options) symbols))
       ≡ map (text_of format) (map (picture_of options) symbols)
   stream_cut Pbm symbols all = let ps = map (picture_of options) symbols in
@@ -110,20 +126,22 @@ module _ (laws : ReadingLaws) (options : OptionValues) (low : 1 ≤ options.scal
   stream_cut Ascii symbols all = let ps = map (picture_of options) symbols in
       laws.ascii_files ps (All-from_recursion (λ (p : Picture). 0 < p.width) ps (have_columns symbols all))
 
-  all_read : (symbols : List Symbol) → AllByRecursion IsReadable symbols
+  all_read : (symbols : List Symbol) → AllByRecursion (ImageIsRead options) symbols
       → AreRead options.format options.scale (map (text_of options.format) (map (picture_of options) symbols)) symbols
   unfolding AreRead
   all_read [] all = tt
-  all_read (symbol ∷ symbols) all = (image_read options.format symbol all.0, all_read symbols all.1)
+  all_read (symbol ∷ symbols) all = (all.0.read, all_read symbols all.1)
 
-  with_readable : (o : Outcome Symbol) → ReadsBack o → (symbols : List Symbol) → AllByRecursion IsReadable symbols
-      → AllByRecursion IsReadable (cons_option (symbol_in o) symbols)
+  with_readable : (o : Outcome Symbol) → ReadsBack options o → (symbols : List Symbol)
+      → AllByRecursion (ImageIsRead options) symbols
+      → AllByRecursion (ImageIsRead options) (cons_option (symbol_in o) symbols)
   with_readable skipped r symbols all = all
   with_readable (refused fault) r symbols all = all
   with_readable (drawn symbol) r symbols all = (r, all)
 
-  drawn_symbols_readable : (lines : List (List ℕ)) → AllByRecursion (λ line. ReadsBack (outcome options line)) lines
-      → AllByRecursion IsReadable (drawn_symbols options lines)
+  drawn_symbols_readable : (lines : List (List ℕ))
+      → AllByRecursion (λ line. ReadsBack options (outcome options line)) lines
+      → AllByRecursion (ImageIsRead options) (drawn_symbols options lines)
   unfolding drawn_symbols
   drawn_symbols_readable [] all = tt
   drawn_symbols_readable (line ∷ lines) all = with_readable (outcome options line) all.0 (drawn_symbols options lines)
@@ -146,7 +164,7 @@ module _ (laws : ReadingLaws) (options : OptionValues) (low : 1 ≤ options.scal
       (images_are lines)
 
   -- the images of lines, cut, are read as the full data of the symbols that are drawn
-  pub images_read : (lines : List (List ℕ)) → AllByRecursion (λ line. ReadsBack (outcome options line)) lines
+  pub images_read : (lines : List (List ℕ)) → AllByRecursion (λ line. ReadsBack options (outcome options line)) lines
       → AreRead options.format options.scale (cut options.format (images options lines)) (drawn_symbols options lines)
   images_read lines all =
       let readable = drawn_symbols_readable lines all in

@@ -66,6 +66,7 @@ module _ (options : OptionValues) where
       line = s.line;
       later = s.later;
       cut = s.cut;
+      read = s.read;
       wrote = FailsInLine-by (λ bytes. err (messages_after options 0 s.earlier ++ bytes))
           (line_number (0 + length s.earlier)) (outcome options s.line) (images options s.earlier) fault s.wrote;
     })

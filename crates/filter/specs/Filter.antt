@@ -29,22 +29,22 @@ pub record StandsAt (options : OptionValues) (state : FilterState) (text : List 
   pub status_is : state.status ≡ status_of options (ended_lines text)
   pub is_spent : state.is_spent ≡ false
 
--- the sinks took the images and the messages of these lines, whose symbols read back; `before` lines come before
--- these
+-- the sinks took the images and the messages of these lines, and the images are read; `before` lines come before these
 pub record TookLines (options : OptionValues) (took_out took_err : List ℕ → Type 0) (before : ℕ) (lines : List (List ℕ))
     : Type 0 where
   pub out : took_out (images options lines)
   pub err : took_err (messages_after options before lines)
-  pub read : AllByRecursion (λ line. ReadsBack (outcome options line)) lines
+  pub read : AllByRecursion (λ line. ReadsBack options (outcome options line)) lines
 
--- a sink failed in one of these lines: the images and messages of the lines before that one are whole, and of its own
--- the sink took a beginning
+-- a sink failed in one of these lines: the images and messages of the lines before that one are whole, and the images
+-- are read; of its own the sink took a beginning
 pub record StopsInLine (options : OptionValues) (took_out took_err : List ℕ → Type 0) (before : ℕ)
     (lines : List (List ℕ)) (fault : RunFault) : Type 0 where
   pub earlier : List (List ℕ)
   pub line : List ℕ
   pub later : List (List ℕ)
   pub cut : lines ≡ earlier ++ line ∷ later
+  pub read : AllByRecursion (λ line. ReadsBack options (outcome options line)) earlier
   pub wrote : FailsInLine options (λ bytes. took_out (images options earlier ++ bytes))
       (λ bytes. took_err (messages_after options before earlier ++ bytes))
       (line_number (before + length earlier)) (outcome options line) fault

@@ -1,8 +1,7 @@
 -- Images read back: pbm(5), and the readings of ISO/IEC 15420, 15417 and 18004 with no correction.
--- Why: `read_image`, `drawn_symbols`, `AreRead`: "read back by the standards' reading rules".
--- Why: `IsReadable`: "read back by the standards' reading rules".
-use Rattle.std.specs.Prelude.{◌≡◌, ℕ, ◌<◌, ◌≤◌, ◌==◌, Bool, List, [], ◌∷◌, length, Option, Some, None, ⊤}
-use Rattle.std.specs.List.{list_all, filter_map}
+-- Why: `read_image`, `drawn_symbols`, `AreRead`, `ImageIsRead`: "read back by the standards' reading rules".
+use Rattle.std.specs.Prelude.{◌≡◌, ℕ, ◌==◌, Bool, List, length, Option, Some, None, ⊤}
+use Rattle.std.specs.List.{AllZip, list_all, filter_map}
 use Rattle.std.specs.Bool.{then_some}
 use Rattle.labelcore.specs.declared.options.Format.{Format}
 use Rattle.labelcore.specs.declared.options.Format.TheVariants.{Pbm, Ascii}
@@ -15,10 +14,11 @@ use Rattle.linear.specs.Code128Reading.{read_code128}
 use Rattle.qrdata.specs.Reading.{data_in}
 use Rattle.qrmatrix.specs.Reading.{read_matrix}
 use Rattle.qrmatrix.specs.Square.{value_at}
-use Rattle.picture.specs.Reading.{Raster, raster, pbm_files, ascii_files, pbm_pixels, ascii_pixels, sample, common_row}
-use Rattle.labelcore.specs.LineItem.{Outcome, skipped, refused, drawn}
+use Rattle.picture.specs.Reading.{Raster, pbm_files, ascii_files, pbm_pixels, ascii_pixels, sample, common_row}
+use Rattle.labelcore.specs.LineItem.{Outcome, drawn}
+use Rattle.picture.specs.ReadingLaws.{IsDrawable}
 use Rattle.filter.specs.Symbol.{Symbol, quiet_zone}
-use Rattle.filter.specs.Output.{outcome}
+use Rattle.filter.specs.Output.{outcome, image_of, picture_of}
 
 -- a stream of images, cut into its images
 abbrev pub cut : Format → List ℕ → List (List ℕ)
@@ -57,23 +57,20 @@ symbol_in other = None
 unfoldable pub drawn_symbols : OptionValues → List (List ℕ) → List Symbol
 drawn_symbols options lines = filter_map (λ line. symbol_in (outcome options line)) lines
 
+-- the image reads as the symbol's full data
+abbrev pub IsRead : Format → ℕ → List ℕ → Symbol → Type 0
+IsRead format scale image symbol = read_image format scale symbol.symbology image ≡ Some symbol.full
+
 -- there is one image for each symbol, in order, and it reads as the symbol's full data
 unfoldable pub AreRead : Format → ℕ → List (List ℕ) → List Symbol → Type 0
-AreRead format scale [] [] = ⊤
-AreRead format scale (image ∷ images) (symbol ∷ symbols) =
-    (read_image format scale symbol.symbology image ≡ Some symbol.full) × AreRead format scale images symbols
-AreRead format scale images symbols = ⊥
+AreRead format scale images symbols = AllZip (IsRead format scale) images symbols
 
--- a symbol of 1 to 1,795 columns and 1 to 500 rows, whose modules read as its full data
-pub record IsReadable (symbol : Symbol) : Type 0 where
-  pub some_columns : 0 < symbol.modules.width
-  pub columns : symbol.modules.width ≤ 1795
-  pub some_rows : 0 < symbol.modules.height
-  pub rows : symbol.modules.height ≤ 500
-  pub read : read_modules symbol.symbology (raster symbol.modules).rows ≡ Some symbol.full
+-- the image of a symbol reads as its full data, and its picture is such that a stream of images is cut into its images
+pub record ImageIsRead (options : OptionValues) (symbol : Symbol) : Type 0 where
+  pub drawable : IsDrawable (picture_of options symbol)
+  pub read : IsRead options.format options.scale (image_of options (drawn symbol)) symbol
 
--- what is drawn is readable; of other lines nothing is said
-abbrev pub ReadsBack : Outcome Symbol → Type 0
-ReadsBack skipped = ⊤
-ReadsBack (refused fault) = ⊤
-ReadsBack (drawn symbol) = IsReadable symbol
+-- the image of what is drawn is read; of other lines nothing is said
+abbrev pub ReadsBack : OptionValues → Outcome Symbol → Type 0
+ReadsBack options (drawn symbol) = ImageIsRead options symbol
+ReadsBack options other = ⊤

@@ -1,7 +1,7 @@
 -- A run over a whole input: the headline, and what was written where the run stops before the end
 -- (docs/SPECIFICATION.md, The filter as a library).
 -- Why: `RunsWhole`: the contract of `run`.
--- Why: `RunStops`, `RunRaises`, `GaveTooMuch`: the contract of `run`.
+-- Why: `RunStops`, `RunRaises`: the contract of `run`.
 use Rattle.std.specs.Prelude.{◌≡◌, ℕ, ◌-◌, ◌^◌, ◌≤◌, ◌⊎◌, List, length}
 use Rattle.device.specs.Device.{Rises}
 use Rattle.labelcore.specs.OptionValues.{OptionValues}
@@ -38,17 +38,14 @@ RunStops options took_out took_err text WriteOut = StopsInText options took_out 
 RunStops options took_out took_err text WriteMessages = StopsInText options took_out took_err text WriteMessages
 RunStops options took_out took_err text Spent = ⊥
 
--- the source gave 2^64 - 1 bytes or more, as it does where 2^64 - 1 reads gave bytes
-abbrev pub GaveTooMuch : (List ℕ → Type 0) → Type 0
-GaveTooMuch gave = (text : List ℕ) × gave text × (2 ^ 64 - 1 ≤ length text)
-
--- the count of failures of the device that failed rises, and no other; where the run made 2^64 - 1 reads, none does
-abbrev pub RunRaises : (too_much : Type 0) (source_old source_new out_old out_new err_old err_new : ℕ) → RunFault
-    → Type 0
-RunRaises too_much source_old source_new out_old out_new err_old err_new Read =
-    (Rises source_old source_new ⊎ ((source_new ≡ source_old) × too_much)) × (out_new ≡ out_old) × (err_new ≡ err_old)
-RunRaises too_much source_old source_new out_old out_new err_old err_new WriteOut =
+-- the count of failures of the device that failed rises, and no other; none does where the run made 2^64 - 1 reads, and
+-- so the text has at least that many bytes
+abbrev pub RunRaises : (text : List ℕ) (source_old source_new out_old out_new err_old err_new : ℕ) → RunFault → Type 0
+RunRaises text source_old source_new out_old out_new err_old err_new Read =
+    (Rises source_old source_new ⊎ ((source_new ≡ source_old) × (2 ^ 64 - 1 ≤ length text)))
+    × (out_new ≡ out_old) × (err_new ≡ err_old)
+RunRaises text source_old source_new out_old out_new err_old err_new WriteOut =
     (source_new ≡ source_old) × Rises out_old out_new × (err_new ≡ err_old)
-RunRaises too_much source_old source_new out_old out_new err_old err_new WriteMessages =
+RunRaises text source_old source_new out_old out_new err_old err_new WriteMessages =
     (source_new ≡ source_old) × (out_new ≡ out_old) × Rises err_old err_new
-RunRaises too_much source_old source_new out_old out_new err_old err_new Spent = ⊥
+RunRaises text source_old source_new out_old out_new err_old err_new Spent = ⊥

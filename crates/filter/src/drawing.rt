@@ -7,8 +7,7 @@ ghost use Rattle.picture.specs.Picture.{enlargement, symbol_picture};
 ghost use Rattle.qrdata.specs.Fewest.{chosen_segments};
 ghost use Rattle.filter.specs.Drawing.{DrawsOutcome};
 ghost use Rattle.filter.specs.Output.{text_of};
-ghost use Rattle.filter.specs.Private.LineEnd.{IsLinear};
-ghost use Rattle.filter.specs.Readback.{IsReadable};
+ghost use Rattle.filter.specs.Private.LineEnd.{DrawsModules, IsLinear, IsReadable};
 ghost use Rattle.filter.specs.Symbol.{linear_symbol, qr_modules, symbol_of};
 
 use device::{IoFault, Sink};
@@ -37,6 +36,8 @@ pub fn draw<O: Sink>(
     ensures { DrawsOutcome O.Sink out.old out.new options.now
         (outcome_of (symbol_of options.now symbology bytes.now)) result }
 {
+    options.ranges();
+    reading_laws();
     match symbology {
         Symbology::Ean13 => draw_linear::<Ean13, O>(options, bytes, out),
         Symbology::Ean8 => draw_linear::<Ean8, O>(options, bytes, out),
@@ -55,7 +56,7 @@ fn draw_linear<L: Linear, O: Sink>(
     requires some { bytes.now ≢ [] }
     requires narrow { L.QUIET_ZONES.left + L.QUIET_ZONES.right ≤ 20 }
     ensures { (symbology : Symbology) → IsLinear symbology L.QUIET_ZONES L.reading
-        → DrawsOutcome O.Sink out.old out.new options.now
+        → DrawsModules O.Sink out.old out.new options.now
         (outcome_of (linear_symbol symbology L.row_of options.now (L.full_data bytes.now))) result }
 {
     reading_laws();
@@ -81,7 +82,7 @@ fn draw_qr<O: Sink>(
     bytes: &[u8],
     out: &mut O,
 ) -> Result<Result<(), Fault>, IoFault>
-    ensures { DrawsOutcome O.Sink out.old out.new options.now
+    ensures { DrawsModules O.Sink out.old out.new options.now
         (outcome_of (symbol_of options.now Qr bytes.now)) result }
 {
     let min_version = Version::of(options.min_version());

@@ -1,7 +1,7 @@
 //! A run over a whole input.
 ghost use Rattle.std.specs.Prelude.{◌≡◌, ℕ, true, List, OnOk, IfOk, IfErr};
 ghost use Rattle.filter.specs.Line.{FlushedImagesAtMost};
-ghost use Rattle.filter.specs.Run.{RunsWhole, RunStops, RunRaises, GaveTooMuch};
+ghost use Rattle.filter.specs.Run.{RunsWhole, RunStops, RunRaises};
 
 use crate::filter::Filter;
 use crate::status::{RunFault, Status};
@@ -31,14 +31,12 @@ pub fn run<S: Source, O: Sink, E: Sink>(
     ensures no_failure { OnOk result ((S.failures source.new ≡ S.failures source.old)
         × (O.failures out.new ≡ O.failures out.old) × (E.failures err.new ≡ E.failures err.old)) }
     ensures stops { IfErr result (λ fault. (text : List ℕ) × S.gave source.old source.new text
-        × RunStops options (O.took out.old out.new) (E.took err.old err.new) text fault) }
+        × RunStops options (O.took out.old out.new) (E.took err.old err.new) text fault
+        × RunRaises text (S.failures source.old) (S.failures source.new) (O.failures out.old)
+        (O.failures out.new) (E.failures err.old) (E.failures err.new) fault) }
     ensures order { IfErr result (FlushedImagesAtMost (O.is_flushed out.old) (O.is_flushed out.new)
         (E.is_flushed err.old) (E.is_flushed err.new)) }
-    ensures failure { IfErr result (RunRaises (GaveTooMuch (S.gave source.old source.new))
-        (S.failures source.old) (S.failures source.new) (O.failures out.old) (O.failures out.new)
-        (E.failures err.old) (E.failures err.new)) }
 {
-    options.ranges();
     reading_laws();
     let mut filter = Filter::new(options);
     let mut buffer = [0u8; 4096];

@@ -1,13 +1,13 @@
 -- Where no alignment pattern is.
 use Rattle.std.proofs.Common.{◌≡◌, ℕ, ◌<◌, refl, sym, ap, arith, Bool, true, false, ◌&&◌, List, [], ◌∷◌}
-use Rattle.std.proofs.Common.{Option, None}
+use Rattle.std.proofs.Common.{Option, None, Some}
 use Rattle.std.specs.Prelude.{nat_le, is_none, if◌then◌else◌, slice_get}
 use Rattle.std.specs.Int.{abs_diff}
 use Rattle.std.specs.List.{filter_map, flat_map, list_any}
-use Rattle.std.specs.Option.{option_map_or}
+use Rattle.std.specs.Option.{option_map, option_or}
 use Rattle.std.proofs.lemmas.Bool.{lt-leb, leb-false, or_parts}
 use Rattle.qrdata.specs.Versions.{side_of}
-use Rattle.qrmatrix.specs.Functions.{Role, Function, Format, Version, Free, alignment, alignment_at}
+use Rattle.qrmatrix.specs.Functions.{Role, Function, Format, Version, alignment, alignment_at}
 use Rattle.qrmatrix.specs.Functions.{alignment_coordinates}
 use Rattle.qrmatrix.specs.Functions.{finder, format_bit, is_dark_module, ring, role, timing, version_bit}
 
@@ -74,15 +74,16 @@ column_without v x y h =
     (no_columns (side_of v) x y (alignment_coordinates v) (alignment_coordinates v) h)
 
 -- the role of a module; where the test is false, alignment patterns are left out
-unfoldable pub role_by : Bool → ℕ → ℕ → ℕ → Role
+unfoldable pub role_by : Bool → ℕ → ℕ → ℕ → Option Role
 unfolding role
 role_by true v x y = role v x y
 role_by false v x y =
-    option_map_or Function (finder (side_of v) x y) (option_map_or Function (timing x y)
-    (option_map_or Format (format_bit (side_of v) x y) (if is_dark_module (side_of v) x y then Function true
-    else if nat_le 7 v then option_map_or Version (version_bit (side_of v) x y) Free else Free)))
+    option_or (option_map Function (option_or (finder (side_of v) x y) (timing x y)))
+    (option_or (option_map Format (format_bit (side_of v) x y))
+    (if is_dark_module (side_of v) x y then Some (Function true)
+    else if nat_le 7 v then option_map Version (version_bit (side_of v) x y) else None))
 
-unfoldable pub near_role : ℕ → ℕ → ℕ → Role
+unfoldable pub near_role : ℕ → ℕ → ℕ → Option Role
 unfolding role_by is_near alignment_coordinates
 near_role v x y =
     let lines = alignment_coordinates v in
@@ -91,10 +92,11 @@ near_role v x y =
 plain : (v x y : ℕ) → alignment v x y ≡ None → role v x y ≡ role_by false v x y
 unfolding role role_by
 plain v x y h =
-    ap (λ (o : Option Bool). option_map_or Function (finder (side_of v) x y)
-    (option_map_or Function o (option_map_or Function (timing x y)
-    (option_map_or Format (format_bit (side_of v) x y) (if is_dark_module (side_of v) x y then Function true
-    else if nat_le 7 v then option_map_or Version (version_bit (side_of v) x y) Free else Free))))) h
+    ap (λ (o : Option Bool).
+    option_or (option_map Function (option_or (finder (side_of v) x y) (option_or o (timing x y))))
+    (option_or (option_map Format (format_bit (side_of v) x y))
+    (if is_dark_module (side_of v) x y then Some (Function true)
+    else if nat_le 7 v then option_map Version (version_bit (side_of v) x y) else None))) h
 
 by_near : (v x y : ℕ) (a b : Bool) → is_near (alignment_coordinates v) y ≡ a → is_near (alignment_coordinates v) x ≡ b
     → role_by (a && b) v x y ≡ role v x y

@@ -5,11 +5,10 @@ use Rattle.std.specs.Prelude.{map, ◌==◌, All}
 use Rattle.std.specs.List.{range_with_len}
 use Rattle.std.proofs.lemmas.Bool.{eqb-true}
 use Rattle.std.proofs.lemmas.List.Elements.{All-head, All-tail}
-use Rattle.qrmatrix.specs.Counting.{all_below}
 use Rattle.qrmatrix.specs.Bits.{bit}
 use Rattle.qrmatrix.specs.Placement.{codeword_bit}
 use Rattle.qrdata.specs.Bits.{number_of, codewords_of}
-use Rattle.qrmatrix.proofs.SumLaws.{all_below_at}
+use Rattle.qrmatrix.proofs.SumLaws.{all_below, all_below_at}
 
 spelled : ℕ → ℕ
 unfolding number_of

@@ -11,7 +11,7 @@ use Rattle.std.proofs.lemmas.Nat.{pow_pos, mul-le}
 use Rattle.std.proofs.Math.Pow.{pow_mono}
 use Rattle.std.proofs.lemmas.Nat.Bits.{bit_at_cat_high, bit_at_cat_low, bit_at-zero}
 use Rattle.qrmatrix.specs.Bits.{bit}
-use Rattle.qrmatrix.specs.Masks.{flip_if}
+use Rattle.qrmatrix.specs.Private.Squares.{flip_if}
 use Rattle.qrmatrix.specs.Placement.{codeword_bit}
 use Rattle.qrmatrix.specs.Square.{value_at}
 use Rattle.qrmatrix.specs.Private.Squares.{WritesTwo}

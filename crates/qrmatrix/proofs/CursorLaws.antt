@@ -6,14 +6,14 @@ use Rattle.std.proofs.lemmas.Bool.{cases_eq, cases_Bool, eq-eqb, ne_eqb}
 use Rattle.std.proofs.lemmas.Bool.Decides.{nat_tests}
 use Rattle.qrdata.specs.Versions.{side_of}
 use Rattle.qrmatrix.specs.Functions.{is_free}
-use Rattle.qrmatrix.specs.Placement.{key, free_below, rank, codeword_bit}
+use Rattle.qrmatrix.specs.Placement.{key, rank, codeword_bit}
 use Rattle.qrmatrix.specs.Bits.{bit}
 use Rattle.qrmatrix.specs.Square.{value_at}
 use Rattle.qrmatrix.specs.Private.Squares.{WritesAt, WritesTwo}
 use Rattle.qrmatrix.specs.Private.CodewordPairs.{ShowsTwo}
 use Rattle.qrmatrix.specs.Private.Drawing.{MarksFunctions}
 use Rattle.qrmatrix.proofs.VersionLaws.{Computed}
-use Rattle.qrmatrix.proofs.RankLaws.{free_below_more, free_below_none, unique}
+use Rattle.qrmatrix.proofs.RankLaws.{free_below, free_below_more, free_below_none, rank-free_below, unique}
 
 -- the right column of a strip
 abbrev pub right_column : ℕ → ℕ → ℕ
@@ -92,7 +92,6 @@ module _ (v : ℕ) (c : Computed v) (codewords : List ℕ) (old m : ℕ → ℕ 
   -- a bit is placed on a free module
   step_free : (n : ℕ → ℕ → Bool) → is_free v a b ≡ true → Writes m n a b (codeword_bit codewords i)
       → Placed v codewords old n (i + 1) (k + 1)
-  unfolding rank
   step_free n f w =
       let more = free_below_more v c a b k la lb ne e in
       let next : k + 1 ≡ suc k = omega arith in
@@ -104,7 +103,7 @@ module _ (v : ℕ) (c : Computed v) (codewords : List ℕ) (old m : ℕ → ℕ 
           | inl same ↦
               let at = unique v c x y a b lx ly free la lb ne (same ∙ sym e) in
               written m n a b (codeword_bit codewords i) w x y at.0 at.1
-              ∙ ap (codeword_bit codewords) (p.counted ∙ ap (free_below v) (sym same))
+              ∙ ap (codeword_bit codewords) (p.counted ∙ ap (free_below v) (sym same) ∙ sym (rank-free_below v x y))
           | inr other ↦
               unwritten m n a b (codeword_bit codewords i) w x y
               (λ ex ey. other (ap (λ z. key (side_of v) z y) ex ∙ ap (λ z. key (side_of v) a z) ey ∙ e))

@@ -11,12 +11,12 @@ use Rattle.std.proofs.lemmas.List.{get_or_past}
 use Rattle.std.proofs.lemmas.List.FromFn.{get_or-map-range_with_len, length-map-range_with_len}
 use Rattle.std.specs.List.{list_all, position_or_len, range_with_len}
 use Rattle.gf256.specs.BinaryPolynomial.{binary_remainder}
+use mathlib.Core.Bool.{xor}
 use Rattle.qrdata.specs.declared.level.Level.{Level}
 use Rattle.qrdata.specs.declared.level.Level.TheVariants.{M}
 use Rattle.qrdata.specs.Bits.{codewords_of, number_of}
 use Rattle.qrdata.specs.Versions.{total_codewords}
 use Rattle.qrmatrix.specs.Bits.{bit}
-use Rattle.qrmatrix.specs.Counting.{all_below}
 use Rattle.qrmatrix.specs.Functions.{fixed_module, is_free, role}
 use Rattle.qrmatrix.specs.Information.{format_information, version_information}
 use Rattle.qrmatrix.specs.Masks.{is_flipped}
@@ -24,11 +24,11 @@ use Rattle.qrdata.specs.Versions.{side_of}
 use Rattle.qrmatrix.specs.MaskChoice.{chosen_mask}
 use Rattle.qrmatrix.specs.Modules.{module_at}
 use Rattle.qrmatrix.specs.Penalty.{balance_penalty, dark_count, finder_penalty, penalty, run_penalty, square_penalty}
-use Rattle.qrmatrix.specs.Placement.{free_below, key, rank}
+use Rattle.qrmatrix.specs.Placement.{key, rank}
 use Rattle.qrmatrix.specs.Reading.{Reading, read_bits, read_format, read_matrix, shows_functions, shows_version, walk}
 use Rattle.qrmatrix.proofs.ReadingLaws.{module_outside}
 use Rattle.qrmatrix.proofs.RowBitsLaws.{above_bit, same_beq}
-use Rattle.qrmatrix.proofs.SumLaws.{all_below_at}
+use Rattle.qrmatrix.proofs.SumLaws.{all_below, all_below_at}
 
 codewords : List ℕ
 codewords =
@@ -44,7 +44,7 @@ rows =
     ∷ 0x078210 ∷ 0x0129F8 ∷ 0x067D00 ∷ 0x00D67F ∷ 0x147D41 ∷ 0x06915D ∷ 0x00935D ∷ 0x052D5D ∷ 0x0D8041 ∷ 0x052F7F ∷ []
 
 row : ℕ → ℕ → ℕ
-unfolding codewords number_of module_at fixed_module role rank free_below is_free key is_flipped format_information
+unfolding codewords number_of module_at xor fixed_module role rank is_free key is_flipped format_information
     version_information
     binary_remainder
 row mask y = number_of (reverse (map (λ x. module_at 1 M mask codewords x y) (range_with_len 0 21)))
@@ -132,7 +132,7 @@ penalties_under_all_masks =
     (λ mask l. penalty_of mask (omega arith)) ∙ computed.1
 
 read_rows : ℕ → List ℕ → Option Reading
-unfolding read_matrix total_codewords read_format shows_version shows_functions read_bits walk codewords_of number_of
+unfolding read_matrix xor total_codewords read_format shows_version shows_functions read_bits walk codewords_of number_of
     fixed_module role is_free is_flipped format_information version_information binary_remainder
 read_rows n rows = read_matrix n (λ x y. bit (slice_index rows y) x)
 

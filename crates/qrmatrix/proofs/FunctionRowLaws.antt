@@ -2,7 +2,7 @@
 use Rattle.std.proofs.Common.{◌≡◌, ◌≢◌, ℕ, zero, suc, ◌<◌, ◌≤◌, ◌^◌, ◌+◌, ◌-◌, ◌*◌, ◌/◌, ◌%◌, refl, sym, ap, subst, ◌∙◌}
 use Rattle.std.proofs.Common.{arith, Bool, true, false, not, ◌&&◌, List, Option, None, Some, inl, inr}
 use Rattle.std.proofs.Math.Bool.{and-false, and-true}
-use Rattle.std.specs.Prelude.{map, nat_le, nat_lt, ◌==◌, bit_and, if◌then◌else◌}
+use Rattle.std.specs.Prelude.{map, nat_le, nat_lt, ◌==◌, bit_and, if◌then◌else◌, is_none}
 use Rattle.std.specs.Bool.{beq}
 use Rattle.std.specs.Int.{bit_at, reverse_bits_onto}
 use Rattle.std.specs.List.{range_with_len, list_all}
@@ -14,40 +14,38 @@ use Rattle.qrdata.specs.declared.level.Level.{Level}
 use Rattle.qrdata.specs.declared.level.Level.TheVariants.{L, M, Q, H}
 use Rattle.qrdata.specs.Versions.{side_of}
 use Rattle.qrmatrix.specs.Bits.{bit}
-use Rattle.qrmatrix.specs.Counting.{all_below}
 use Rattle.qrmatrix.specs.Private.Drawing.{unmasked_module, format_module, HasFunctions}
 use Rattle.qrmatrix.specs.Private.FunctionRows.{alignments, finders, format_row, formats, function_row, or_else, timing}
 use Rattle.qrmatrix.specs.Private.FunctionRows.{up, versions}
-use Rattle.qrmatrix.specs.Functions.{Role, Function, Format, Version, Free, format_bit, role, is_free}
-use Rattle.qrmatrix.specs.Functions.{is_free_role}
+use Rattle.qrmatrix.specs.Functions.{Role, Function, Format, Version, format_bit, role, is_free}
 use Rattle.qrmatrix.specs.Information.{format_information, version_information}
 use Rattle.qrmatrix.specs.declared.function.PatternRow.{PatternRow}
 use Rattle.qrmatrix.proofs.AlignmentLaws.{near_role, near_role_is}
 use Rattle.qrmatrix.proofs.ByVersionLaws.{by_version}
 use Rattle.qrmatrix.proofs.MaskChoiceLaws.{mapped_all}
 use Rattle.qrmatrix.proofs.RowBitsLaws.{above_bit, one_bit, same_beq}
-use Rattle.qrmatrix.proofs.SumLaws.{all_below_at}
+use Rattle.qrmatrix.proofs.SumLaws.{all_below, all_below_at}
 
 -- ---- the function patterns
 
 -- the bit of the format information that a role shows
-index_of : Role → Option ℕ
-index_of (Function b) = None
-index_of (Format i) = Some i
-index_of (Version i) = None
-index_of Free = None
+index_of : Option Role → Option ℕ
+index_of (Some (Function b)) = None
+index_of (Some (Format i)) = Some i
+index_of (Some (Version i)) = None
+index_of None = None
 
 -- the bit of a number, where one is shown
 bit_if : ℕ → Option ℕ → Bool
 bit_if information None = false
 bit_if information (Some i) = bit information i
 
-format_by_index : (information : ℕ) (r : Role) → format_module information r ≡ bit_if information (index_of r)
+format_by_index : (information : ℕ) (r : Option Role) → format_module information r ≡ bit_if information (index_of r)
 unfolding bit_if index_of
-format_by_index information (Function b) = refl
-format_by_index information (Format i) = refl
-format_by_index information (Version i) = refl
-format_by_index information Free = refl
+format_by_index information (Some (Function b)) = refl
+format_by_index information (Some (Format i)) = refl
+format_by_index information (Some (Version i)) = refl
+format_by_index information None = refl
 
 same_index : Option ℕ → Option ℕ → Bool
 same_index None None = true
@@ -62,9 +60,9 @@ same_index_is None (Some j) h = cc
 same_index_is (Some i) None h = cc
 same_index_is (Some i) (Some j) h = ap Some (eqb-true i j h)
 
-right_place : ℕ → PatternRow → ℕ → Role → Option ℕ → Bool
+right_place : ℕ → PatternRow → ℕ → Option Role → Option ℕ → Bool
 right_place v row x r index =
-    beq (bit row.taken x) (not (is_free_role r))
+    beq (bit row.taken x) (not (is_none r))
     && (beq (bit row.dark x) (unmasked_module v r) && same_index (index_of r) index)
 
 right_row : ℕ → ℕ → PatternRow → Bool
@@ -104,16 +102,16 @@ row_is_right v l h y ly =
     }
 
 -- what is right of a place
-record HasRole (v : ℕ) (row : PatternRow) (x : ℕ) (r : Role) (index : Option ℕ) : Type 0 where
-  taken : bit row.taken x ≡ not (is_free_role r)
+record HasRole (v : ℕ) (row : PatternRow) (x : ℕ) (r : Option Role) (index : Option ℕ) : Type 0 where
+  taken : bit row.taken x ≡ not (is_none r)
   dark : bit row.dark x ≡ unmasked_module v r
   shows : index_of r ≡ index
 
-has_role : (v : ℕ) (row : PatternRow) (x : ℕ) (r : Role) (index : Option ℕ) → right_place v row x r index ≡ true
+has_role : (v : ℕ) (row : PatternRow) (x : ℕ) (r : Option Role) (index : Option ℕ) → right_place v row x r index ≡ true
     → HasRole v row x r index
 unfolding right_place
 has_role v row x r index h =
-    let whole = and_parts (beq (bit row.taken x) (not (is_free_role r)))
+    let whole = and_parts (beq (bit row.taken x) (not (is_none r)))
     (beq (bit row.dark x) (unmasked_module v r) && same_index (index_of r) index) h in
     let rest = and_parts (beq (bit row.dark x) (unmasked_module v r)) (same_index (index_of r) index) whole.1 in
     record {

@@ -1,6 +1,6 @@
 -- What is computed of the format and version information.
 use Rattle.std.proofs.Common.{◌≡◌, ℕ, zero, suc, ◌<◌, ◌≤◌, List, refl, arith, Bool, true, Some}
-use Rattle.std.specs.Prelude.{◌/◌, ◌%◌, ◌^◌, ◌==◌, bit_xor, if◌then◌else◌, map, nat_le, reverse, Option, None}
+use Rattle.std.specs.Prelude.{◌/◌, ◌%◌, ◌^◌, ◌==◌, bit_xor, if◌then◌else◌, map, nat_le, reverse, Option, None, Some}
 use Rattle.std.specs.List.{range_with_len, list_all}
 use Rattle.gf256.specs.BinaryPolynomial.{binary_remainder}
 use Rattle.qrdata.specs.declared.level.Level.{Level}
@@ -51,7 +51,7 @@ format_read H = by_mask (FormatRead H) (refl, refl) (refl, refl) (refl, refl) (r
 -- the bits of a number have their roles at a list of places, which are in the square
 abbrev pub StandsAt : ℕ → (ℕ → Role) → ℕ → List (ℕ × ℕ) → Type 0
 StandsAt v kind count places =
-    (map (λ (p : ℕ × ℕ). role v p.0 p.1) places ≡ map kind (range_with_len 0 count))
+    (map (λ (p : ℕ × ℕ). role v p.0 p.1) places ≡ map (λ i. Some (kind i)) (range_with_len 0 count))
     × (list_all (λ (p : ℕ × ℕ). is_inside (side_of v) p.0 p.1) places ≡ true)
 
 -- both copies of the format information

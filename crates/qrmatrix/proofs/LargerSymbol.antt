@@ -3,6 +3,7 @@
 use Rattle.std.proofs.Common.{◌≡◌, ℕ, refl, List, [], ◌∷◌, Some}
 use Rattle.std.specs.Prelude.{slice_index}
 use Rattle.gf256.specs.BinaryPolynomial.{binary_remainder}
+use mathlib.Core.Bool.{xor}
 use Rattle.qrdata.specs.declared.level.Level.TheVariants.{M}
 use Rattle.qrdata.specs.Bits.{codewords_of, number_of}
 use Rattle.qrdata.specs.Versions.{total_codewords}
@@ -41,7 +42,7 @@ codewords =
 
 reading : read_matrix 45 (λ x y. bit (slice_index rows y) x) ≡
     Some (record { version = 7; level = M; codewords = codewords })
-unfolding read_matrix total_codewords read_format shows_version shows_functions read_bits walk codewords_of number_of
+unfolding read_matrix xor total_codewords read_format shows_version shows_functions read_bits walk codewords_of number_of
     fixed_module role is_free is_flipped format_information version_information binary_remainder rows codewords
 reading = refl
 

@@ -5,13 +5,13 @@ use Rattle.std.specs.Prelude.{slice_index_or, ◌==◌, bit_and}
 use Rattle.std.specs.Bool.{beq}
 use Rattle.std.specs.Int.{bit_not, w64}
 use Rattle.qrmatrix.specs.declared.mask.TheConstants.{PATTERNS, EVERY_SIXTH}
-use Rattle.qrmatrix.specs.Counting.{all_below}
 use Rattle.qrmatrix.specs.Bits.{bit}
-use Rattle.qrmatrix.specs.Masks.{is_flipped, flip_if}
+use Rattle.qrmatrix.specs.Masks.{is_flipped}
+use Rattle.qrmatrix.specs.Private.Squares.{flip_if}
 use Rattle.qrmatrix.specs.Square.{value_at}
 use Rattle.qrmatrix.specs.Private.Drawing.{module_under_mask}
 use Rattle.qrmatrix.proofs.PassLaws.{Mapped, row_turned}
-use Rattle.qrmatrix.proofs.SumLaws.{all_below_at}
+use Rattle.qrmatrix.proofs.SumLaws.{all_below, all_below_at}
 use Rattle.qrmatrix.proofs.RowBitsLaws.{and_bit, not_bit, same_beq}
 
 -- the row that the table of patterns gives

@@ -6,7 +6,7 @@ use Rattle.std.specs.Int.Count.{ones}
 use Rattle.std.proofs.lemmas.Nat.{ones_cat, ones_le_self, pow_pos}
 use Rattle.std.proofs.lemmas.Nat.Bits.{bit_at_cat_low}
 use Rattle.std.proofs.Math.Nat.{pow-suc, div-lt_iff_lt-mul}
-use Rattle.qrmatrix.specs.Counting.{count_below, one_if}
+use Rattle.qrmatrix.specs.Private.Counting.{count_below, one_if}
 use Rattle.qrmatrix.specs.Bits.{bit}
 use Rattle.qrmatrix.proofs.SumLaws.{sum_below_same}
 

@@ -4,12 +4,25 @@ use Rattle.std.proofs.Common.{false, ◌&&◌, inl, inr}
 use Rattle.std.specs.Prelude.{nat_lt, ◌==◌}
 use Rattle.std.proofs.lemmas.Bool.{and_parts, or_cases, eqb-true, ltb-true, both_ways, not-true}
 use Rattle.std.proofs.lemmas.Bool.Decides.{nat_tests}
-use Rattle.qrmatrix.specs.Counting.{sum_below, count_below, all_below, one_if}
+use Rattle.qrmatrix.specs.Private.Counting.{sum_below, count_below, one_if}
 use Rattle.qrdata.specs.Versions.{side_of}
 use Rattle.qrmatrix.specs.Functions.{is_free}
-use Rattle.qrmatrix.specs.Placement.{key, free_below}
-use Rattle.qrmatrix.proofs.SumLaws.{all_below_at, sum_below_same, sum_below_one, sum_below_zero}
+use Rattle.qrmatrix.specs.Placement.{key, rank}
+use Rattle.qrmatrix.proofs.SumLaws.{all_below, all_below_at, sum_below_same, sum_below_one, sum_below_zero}
+use Rattle.qrmatrix.proofs.SumLaws.{sum_by-count_by}
 use Rattle.qrmatrix.proofs.VersionLaws.{Computed, is_found, is_below, is_outside, place_column, place_row}
+
+-- how many free modules have a key below k
+unfoldable pub free_below : ℕ → ℕ → ℕ
+free_below v k =
+    let n = side_of v in
+    sum_below n (λ y. count_below n (λ x. is_free v x y && nat_lt (key n x y) k))
+
+pub rank-free_below : (v x y : ℕ) → rank v x y ≡ free_below v (key (side_of v) x y)
+unfolding rank free_below
+rank-free_below v x y =
+    let n = side_of v in
+    sum_by-count_by n (λ j i. is_free v i j && nat_lt (key n i j) (key n x y))
 
 cell_same : (b : Bool) (j k : ℕ) → (b ≡ true → j ≢ k) → one_if (b && nat_lt j (suc k)) ≡ one_if (b && nat_lt j k)
 cell_same false j k h = refl

@@ -1,25 +1,25 @@
 -- Reading inverts drawing.
 use Rattle.std.proofs.Common.{◌≡◌, ℕ, ◌+◌, ◌*◌, ◌<◌, ◌≤◌, refl, ap, ◌∙◌, Bool, true, false, cond, List}
-use Rattle.std.proofs.Common.{[], ◌∷◌, length, Option, Some, None, eq-eqb}
+use Rattle.std.proofs.Common.{[], ◌∷◌, length, Option, Some, None, eq-eqb, arith}
+use mathlib.Core.Bool.{xor}
 use Rattle.std.specs.Bool.{beq}
-use Rattle.std.specs.Prelude.{◌==◌, find, unwrap_or, map, nat_lt, reverse, All}
+use Rattle.std.specs.Prelude.{◌==◌, find, is_none, option_map, unwrap_or, map, nat_lt, reverse, All}
 use Rattle.std.specs.List.{range_with_len, filter, list_all}
 use Rattle.std.proofs.lemmas.Bool.{and_from, and_parts, lt-ltb}
 use Rattle.qrdata.specs.declared.level.Level.{Level}
-use Rattle.qrmatrix.specs.Functions.{Role, Function, Format, Version, Free, is_free, is_free_role, role, fixed_module}
+use Rattle.qrmatrix.specs.Functions.{Role, Format, Version, is_free, role, fixed_module}
 use Rattle.qrmatrix.specs.Functions.{module_of_role}
-use Rattle.qrmatrix.specs.Counting.{all_below}
 use Rattle.qrdata.specs.Bits.{number_of, codewords_of}
 use Rattle.qrdata.specs.Versions.{side_of, total_codewords}
 use Rattle.qrmatrix.specs.Bits.{bit}
 use Rattle.qrmatrix.specs.Information.{format_information, version_information}
 use Rattle.qrmatrix.specs.Modules.{module_at, is_inside}
-use Rattle.qrmatrix.specs.Masks.{flip_if, is_flipped}
+use Rattle.qrmatrix.specs.Masks.{is_flipped}
 use Rattle.qrmatrix.specs.Placement.{codeword_bit, rank, remainder_bits}
 use Rattle.qrmatrix.specs.Reading.{walk, read_bits, read_matrix, format_copy_1, format_copy_2, version_copy_1}
 use Rattle.qrmatrix.specs.Reading.{version_copy_2, information_at, read_format, shows_version, shows_functions}
 use Rattle.qrmatrix.proofs.ByVersionLaws.{by_version}
-use Rattle.qrmatrix.proofs.SumLaws.{all_below_from}
+use Rattle.qrmatrix.proofs.SumLaws.{list_all-range}
 use Rattle.qrmatrix.proofs.VersionLaws.{Computed, computed}
 use Rattle.qrmatrix.proofs.WalkLaws.{walk_ranks}
 use Rattle.qrmatrix.proofs.CodewordBitLaws.{codewords_of-codeword_bits}
@@ -45,17 +45,17 @@ map_map : {X Y Z : Type 0} (f : Y → Z) (g : X → Y) (xs : List X) → map (λ
 map_map f g [] = refl
 map_map f g (x ∷ xs) = ap (λ ys. f (g x) ∷ ys) (map_map f g xs)
 
-flip_twice : (b d : Bool) → flip_if b (flip_if b d) ≡ d
+flip_twice : (b d : Bool) → xor b (xor b d) ≡ d
+unfolding xor
 flip_twice true true = refl
 flip_twice true false = refl
-flip_twice false d = refl
+flip_twice false true = refl
+flip_twice false false = refl
 
-pub free_is_data : (v : ℕ) (level : Level) (mask : ℕ) (r : Role) (d : Bool) → is_free_role r ≡ true
-    → unwrap_or (module_of_role v level mask r) d ≡ d
-free_is_data v level mask Free d h = refl
-free_is_data v level mask (Function b) d h = cc
-free_is_data v level mask (Format i) d h = cc
-free_is_data v level mask (Version i) d h = cc
+pub free_is_data : (v : ℕ) (level : Level) (mask : ℕ) (r : Option Role) (d : Bool) → is_none r ≡ true
+    → unwrap_or (option_map (module_of_role v level mask) r) d ≡ d
+free_is_data v level mask None d h = refl
+free_is_data v level mask (Some r) d h = cc
 
 pub inside_from : (n x y : ℕ) → x < n → y < n → is_inside n x y ≡ true
 inside_from n x y lx ly = and_from (nat_lt x n) (nat_lt y n) (lt-ltb x n lx) (lt-ltb y n ly)
@@ -70,7 +70,7 @@ module _ (v : ℕ) (level : Level) (mask : ℕ) (codewords : List ℕ) where
   -- a module in the square
   pub module_inside : (x y : ℕ) → is_inside (side_of v) x y ≡ true
       → module_at v level mask codewords x y
-      ≡ unwrap_or (fixed_module v level mask x y) (flip_if (is_flipped mask x y) (codeword_bit codewords (rank v x y)))
+      ≡ unwrap_or (fixed_module v level mask x y) (xor (is_flipped mask x y) (codeword_bit codewords (rank v x y)))
   unfolding module_at
   module_inside x y h = rw h
 
@@ -80,14 +80,14 @@ module _ (v : ℕ) (level : Level) (mask : ℕ) (codewords : List ℕ) where
   module_outside x y h = rw h
 
   unmasked : (p : ℕ × ℕ) → is_inside (side_of v) p.0 p.1 ≡ true → is_free v p.0 p.1 ≡ true
-      → flip_if (is_flipped mask p.0 p.1) (module_at v level mask codewords p.0 p.1)
+      → xor (is_flipped mask p.0 p.1) (module_at v level mask codewords p.0 p.1)
       ≡ codeword_bit codewords (rank v p.0 p.1)
   unfolding is_free fixed_module
   unmasked p i h =
       rw (
         module_inside p.0 p.1 i,
         free_is_data v level mask (role v p.0 p.1)
-            (flip_if (is_flipped mask p.0 p.1) (codeword_bit codewords (rank v p.0 p.1))) h,
+            (xor (is_flipped mask p.0 p.1) (codeword_bit codewords (rank v p.0 p.1))) h,
       )
       (flip_twice (is_flipped mask p.0 p.1) (codeword_bit codewords (rank v p.0 p.1)))
 
@@ -96,7 +96,7 @@ module _ (v : ℕ) (level : Level) (mask : ℕ) (codewords : List ℕ) where
   unfolding read_bits
   bits_read c =
       map_filter (λ (p : ℕ × ℕ). is_free v p.0 p.1) (λ (p : ℕ × ℕ). is_inside (side_of v) p.0 p.1)
-      (λ (p : ℕ × ℕ). flip_if (is_flipped mask p.0 p.1) (module_at v level mask codewords p.0 p.1))
+      (λ (p : ℕ × ℕ). xor (is_flipped mask p.0 p.1) (module_at v level mask codewords p.0 p.1))
       (λ (p : ℕ × ℕ). codeword_bit codewords (rank v p.0 p.1)) unmasked (walk (side_of v)) c.inside
       ∙ map_map (codeword_bit codewords) (λ (p : ℕ × ℕ). rank v p.0 p.1)
       (filter (λ (p : ℕ × ℕ). is_free v p.0 p.1) (walk (side_of v)))
@@ -118,32 +118,32 @@ module _ (v : ℕ) (level : Level) (mask : ℕ) (codewords : List ℕ) where
   pub functions_shown : shows_functions v level mask (module_at v level mask codewords) ≡ true
   unfolding shows_functions
   functions_shown =
-      all_below_from (side_of v) (λ y. all_below (side_of v)
-      (λ x. beq (unwrap_or (fixed_module v level mask x y)
-      (module_at v level mask codewords x y)) (module_at v level mask codewords x y)))
-      (λ y ly. all_below_from (side_of v) (λ x. beq (unwrap_or (fixed_module v level mask x y)
+      list_all-range 0 (side_of v) (λ y. list_all (λ x. beq (unwrap_or (fixed_module v level mask x y)
+      (module_at v level mask codewords x y)) (module_at v level mask codewords x y)) (range_with_len 0 (side_of v)))
+      (λ y ly. list_all-range 0 (side_of v) (λ x. beq (unwrap_or (fixed_module v level mask x y)
       (module_at v level mask codewords x y)) (module_at v level mask codewords x y))
-      (λ x lx. rw (module_inside x y (inside_from (side_of v) x y lx ly))
-      (agrees_itself (fixed_module v level mask x y) (flip_if (is_flipped mask x y) (codeword_bit codewords
+      (λ x lx. rw (module_inside x y (inside_from (side_of v) x y (omega arith) (omega arith)))
+      (agrees_itself (fixed_module v level mask x y) (xor (is_flipped mask x y) (codeword_bit codewords
       (rank v x y))))))
 
   -- the modules at the places of the bits of a number
   modules_at_role : (places : List (ℕ × ℕ)) (kind : ℕ → Role) (information : ℕ) (is_ : List ℕ)
-      → ((i : ℕ) → module_of_role v level mask (kind i) ≡ Some (bit information i))
+      → ((i : ℕ) → module_of_role v level mask (kind i) ≡ bit information i)
       → list_all (λ (p : ℕ × ℕ). is_inside (side_of v) p.0 p.1) places ≡ true
-      → map (λ (p : ℕ × ℕ). role v p.0 p.1) places ≡ map kind is_
+      → map (λ (p : ℕ × ℕ). role v p.0 p.1) places ≡ map (λ i. Some (kind i)) is_
       → map (λ (p : ℕ × ℕ). module_at v level mask codewords p.0 p.1) places ≡ map (bit information) is_
   unfolding fixed_module
   modules_at_role [] kind information [] h z e = refl
   modules_at_role [] kind information (i ∷ is_) h z e = cc
   modules_at_role (p ∷ ps) kind information [] h z e = cc
   modules_at_role (p ∷ ps) kind information (i ∷ is_) h z e =
-      let here : role v p.0 p.1 ≡ kind i = cc in
-      let there : map (λ (p : ℕ × ℕ). role v p.0 p.1) ps ≡ map kind is_ = cc in
+      let here : role v p.0 p.1 ≡ Some (kind i) = cc in
+      let there : map (λ (p : ℕ × ℕ). role v p.0 p.1) ps ≡ map (λ i. Some (kind i)) is_ = cc in
       let parts = and_parts (is_inside (side_of v) p.0 p.1) (list_all (λ (p : ℕ × ℕ). is_inside (side_of v) p.0 p.1) ps)
       z in
-      let chosen = flip_if (is_flipped mask p.0 p.1) (codeword_bit codewords (rank v p.0 p.1)) in
-      let m : unwrap_or (module_of_role v level mask (role v p.0 p.1)) chosen ≡ bit information i = rw (here, h i) in
+      let chosen = xor (is_flipped mask p.0 p.1) (codeword_bit codewords (rank v p.0 p.1)) in
+      let m : unwrap_or (option_map (module_of_role v level mask) (role v p.0 p.1)) chosen ≡ bit information i =
+      rw (here, h i) refl in
       let at = module_inside p.0 p.1 parts.0 ∙ m in
       let rest = modules_at_role ps kind information is_ h parts.1 there in
       cc
@@ -151,7 +151,7 @@ module _ (v : ℕ) (level : Level) (mask : ℕ) (codewords : List ℕ) where
   module _ (at_least : 1 ≤ v) (at_most : v ≤ 10) (mask_below : mask < 8) where
     -- the number at places where its bits have their roles
     information_at-shown : (places : List (ℕ × ℕ)) (kind : ℕ → Role) (information count : ℕ)
-        → ((i : ℕ) → module_of_role v level mask (kind i) ≡ Some (bit information i))
+        → ((i : ℕ) → module_of_role v level mask (kind i) ≡ bit information i)
         → StandsAt v kind count places → information_at (module_at v level mask codewords) places
         ≡ number_of (reverse (map (bit information) (range_with_len 0 count)))
     information_at-shown places kind information count by stands =
@@ -163,9 +163,8 @@ module _ (v : ℕ) (level : Level) (mask : ℕ) (codewords : List ℕ) where
     format_shown =
         let copies = format_copies v at_least at_most in
         let f = format_read level mask mask_below in
-        let by = λ (i : ℕ). let e : module_of_role v level mask (Format i)
-        ≡ Some (bit (format_information level mask) i) = refl in
-        e in
+        let by = λ (i : ℕ). let e : module_of_role v level mask (Format i) ≡ bit (format_information level mask) i =
+        refl in e in
         let one = information_at-shown format_copy_1 Format (format_information level mask) 15 by copies.0 ∙ f.0 in
         let two = information_at-shown (format_copy_2 (side_of v)) Format
         (format_information level mask) 15 by copies.1 ∙ f.0 in
@@ -173,8 +172,8 @@ module _ (v : ℕ) (level : Level) (mask : ℕ) (codewords : List ℕ) where
 
     pub version_is_shown : shows_version v (side_of v) (module_at v level mask codewords) ≡ true
     version_is_shown =
-        let by = λ (i : ℕ). let e : module_of_role v level mask (Version i)
-        ≡ Some (bit (version_information v) i) = refl in e in
+        let by = λ (i : ℕ). let e : module_of_role v level mask (Version i) ≡ bit (version_information v) i =
+        refl in e in
         version_shown v at_least at_most (module_at v level mask codewords) (λ h.
         let copies = version_copies v at_least at_most h in (
           information_at-shown (version_copy_1 (side_of v)) Version (version_information v) 18 by copies.0,

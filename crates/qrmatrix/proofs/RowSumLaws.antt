@@ -7,7 +7,7 @@ use Rattle.std.proofs.lemmas.Nat.{and_le_r}
 use Rattle.qrmatrix.specs.Bits.{bit}
 use Rattle.qrmatrix.proofs.OnesLaws.{ones_counted}
 use Rattle.qrmatrix.proofs.RowBitsLaws.{and_bit}
-use Rattle.qrmatrix.specs.Counting.{sum_below, count_below, one_if}
+use Rattle.qrmatrix.specs.Private.Counting.{sum_below, count_below, one_if}
 use Rattle.qrmatrix.proofs.SumLaws.{sum_below_same, sum_below_zero}
 
 one_if_small : (b : Bool) → one_if b ≤ 1

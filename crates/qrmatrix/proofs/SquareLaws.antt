@@ -10,7 +10,7 @@ use Rattle.std.proofs.lemmas.List.FromFn.{get_or-map-range_with_len}
 use Rattle.std.proofs.lemmas.Nat.Bits.{bit_at_above, bit_at-zero}
 use Rattle.std.proofs.lemmas.Nat.{xor_lt}
 use Rattle.std.specs.Bool.{beq}
-use Rattle.qrmatrix.specs.Masks.{flip_if}
+use Rattle.qrmatrix.specs.Private.Squares.{flip_if}
 use Rattle.qrmatrix.proofs.RowBitsLaws.{xor_bit}
 use Rattle.qrmatrix.specs.Bits.{bit}
 use Rattle.qrmatrix.specs.Square.{value_at}

@@ -1,14 +1,15 @@
 -- The module under a mask: what was drawn for all masks, the format information of this one, and the mask.
 use Rattle.std.proofs.Common.{◌≡◌, ℕ, ◌<◌, refl, ap, Bool, true, false, not, List}
-use Rattle.std.specs.Prelude.{unwrap_or, if◌then◌else◌}
+use Rattle.std.specs.Prelude.{unwrap_or, if◌then◌else◌, Option, Some, None, is_none, option_map}
 use Rattle.std.proofs.lemmas.Bool.{both_ways}
 use Rattle.qrdata.specs.declared.level.Level.{Level}
+use mathlib.Core.Bool.{xor}
 use Rattle.qrdata.specs.Versions.{side_of}
 use Rattle.qrmatrix.specs.Private.Drawing.{module_under_mask, unmasked_module, format_module, IsUnmasked, ShowsFormat}
-use Rattle.qrmatrix.specs.Functions.{Role, Function, Format, Version, Free, fixed_module, module_of_role, role, is_free}
-use Rattle.qrmatrix.specs.Functions.{is_free_role}
+use Rattle.qrmatrix.specs.Functions.{Role, Function, Format, Version, fixed_module, module_of_role, role, is_free}
 use Rattle.qrmatrix.specs.Information.{format_information}
-use Rattle.qrmatrix.specs.Masks.{flip_if, is_flipped}
+use Rattle.qrmatrix.specs.Masks.{is_flipped}
+use Rattle.qrmatrix.specs.Private.Squares.{flip_if}
 use Rattle.qrmatrix.specs.Placement.{codeword_bit, rank}
 use Rattle.qrmatrix.specs.Square.{value_at}
 
@@ -17,29 +18,34 @@ pub flip_light : (b : Bool) → flip_if b false ≡ b
 flip_light true = refl
 flip_light false = refl
 
+xor-flip_if : (b d : Bool) → xor b d ≡ flip_if b d
+unfolding xor
+xor-flip_if true true = refl
+xor-flip_if true false = refl
+xor-flip_if false true = refl
+xor-flip_if false false = refl
+
 -- nothing is drawn where the codewords go
-pub free_is_light : (v : ℕ) (r : Role) → is_free_role r ≡ true → unmasked_module v r ≡ false
-free_is_light v (Function b) h = absurd (both_ways _ refl h)
-free_is_light v (Format i) h = refl
-free_is_light v (Version i) h = absurd (both_ways _ refl h)
-free_is_light v Free h = refl
+pub free_is_light : (v : ℕ) (r : Option Role) → is_none r ≡ true → unmasked_module v r ≡ false
+free_is_light v (Some r) h = absurd (both_ways _ refl h)
+free_is_light v None h = refl
 
 -- the module of each role
-shown : (v : ℕ) (level : Level) (mask : ℕ) (r : Role) (f t chosen old : Bool) → f ≡ not (is_free_role r)
-    → (is_free_role r ≡ true → old ≡ chosen) → (is_free_role r ≡ false → old ≡ unmasked_module v r)
+shown : (v : ℕ) (level : Level) (mask : ℕ) (r : Option Role) (f t chosen old : Bool) → f ≡ not (is_none r)
+    → (is_none r ≡ true → old ≡ chosen) → (is_none r ≡ false → old ≡ unmasked_module v r)
     → (if f then flip_if (format_module (format_information level mask) r) old else
     flip_if t (flip_if (format_module (format_information level mask) r) old))
-    ≡ unwrap_or (module_of_role v level mask r) (flip_if t chosen)
-shown v level mask (Function b) f t chosen old e free taken = rw e (taken refl)
-shown v level mask (Format i) f t chosen old e free taken = rw (e, taken refl) (flip_light _)
-shown v level mask (Version i) f t chosen old e free taken = rw e (taken refl)
-shown v level mask Free f t chosen old e free taken = rw e (ap (flip_if t) (free refl))
+    ≡ unwrap_or (option_map (module_of_role v level mask) r) (xor t chosen)
+shown v level mask (Some (Function b)) f t chosen old e free taken = rw e (taken refl)
+shown v level mask (Some (Format i)) f t chosen old e free taken = rw (e, taken refl) (flip_light _)
+shown v level mask (Some (Version i)) f t chosen old e free taken = rw e (taken refl)
+shown v level mask None f t chosen old e free taken = rw (e, xor-flip_if t chosen) (ap (flip_if t) (free refl))
 
 pub under : (v : ℕ) (level : Level) (mask : ℕ) (codewords : List ℕ) (function old m : List (List Bool))
     → IsUnmasked v codewords function old
     → ShowsFormat v level mask old m → (x y : ℕ) → x < side_of v → y < side_of v
     → module_under_mask mask function m x y ≡ unwrap_or (fixed_module v level mask x y)
-    (flip_if (is_flipped mask x y) (codeword_bit codewords (rank v x y)))
+    (xor (is_flipped mask x y) (codeword_bit codewords (rank v x y)))
 unfolding fixed_module is_free
 under v level mask codewords function old m u s x y lx ly =
     rw (s.inside x y lx ly) (shown v level mask (role v x y) (value_at function x y) (is_flipped mask x y)

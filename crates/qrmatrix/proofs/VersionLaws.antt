@@ -5,7 +5,7 @@ use Rattle.std.specs.List.{range_with_len, list_all, filter}
 use Rattle.std.proofs.lemmas.Bool.{and_parts, ltb-true}
 use Rattle.std.proofs.lemmas.List.FromFn.{get_or-map-range_with_len}
 use Rattle.qrmatrix.specs.Bits.{bit}
-use Rattle.qrmatrix.specs.Counting.{all_below, count_below, one_if, sum_below}
+use Rattle.qrmatrix.specs.Private.Counting.{count_below, one_if, sum_below}
 use Rattle.qrdata.specs.Versions.{side_of, total_codewords}
 use Rattle.qrmatrix.specs.Functions.{is_free}
 use Rattle.qrmatrix.specs.Placement.{key, free_count, remainder_bits}
@@ -17,7 +17,7 @@ use Rattle.qrmatrix.specs.Reading.{walk}
 use Rattle.qrmatrix.proofs.ByVersionLaws.{by_version}
 use Rattle.qrmatrix.proofs.FunctionRowLaws.{function_row_is}
 use Rattle.qrmatrix.proofs.RowBitsLaws.{not_not}
-use Rattle.qrmatrix.proofs.SumLaws.{all_below_at, all_below_from, sum_below_same}
+use Rattle.qrmatrix.proofs.SumLaws.{all_below, all_below_at, all_below_from, sum_below_same, sum_by-count_by}
 
 -- the place of a key
 unfoldable pub place_column : ℕ → ℕ → ℕ
@@ -134,7 +134,8 @@ module _ (v : ℕ) (l : 1 ≤ v) (h : v ≤ 10) where
   counted =
       let rows = taken_rows v in
       let n = side_of v in
-      sym (sum_below_same n (λ y. count_below n (λ x. is_left rows x y)) (λ y. count_below n (λ x. is_free v x y))
+      sum_by-count_by n (λ y x. is_free v x y)
+      ∙ sym (sum_below_same n (λ y. count_below n (λ x. is_left rows x y)) (λ y. count_below n (λ x. is_free v x y))
       (λ y ly. sum_below_same n (λ x. one_if (is_left rows x y)) (λ x. one_if (is_free v x y))
       (λ x lx. ap one_if (left_is v l h x y lx ly)))) ∙ (left v l h).1
 

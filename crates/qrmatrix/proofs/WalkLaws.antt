@@ -1,16 +1,17 @@
 -- The ranks of the free modules in the order of reading are 0, 1, 2, ..
+use mathlib.Core.Path.{fun_ext}
 use Rattle.std.proofs.Common.{◌≡◌, ◌≢◌, ℕ, zero, suc, ◌+◌, ◌-◌, ◌*◌, ◌<◌, refl, ap, Bool, true, false, cond, not, ◌&&◌}
-use Rattle.std.proofs.Common.{List, [], ◌∷◌, length, add-one, add-zero}
+use Rattle.std.proofs.Common.{List, [], ◌∷◌, length, add-one, add-zero, ◌∙◌}
 use Rattle.std.specs.Prelude.{map, nat_lt, ◌==◌}
 use Rattle.std.specs.List.{range_with_len, list_all, filter}
 use Rattle.std.proofs.lemmas.Bool.{and_parts, ltb-true, eqb-false, not-true}
-use Rattle.qrmatrix.specs.Counting.{one_if}
+use Rattle.qrmatrix.specs.Private.Counting.{one_if}
 use Rattle.qrdata.specs.Versions.{side_of, total_codewords}
 use Rattle.qrmatrix.specs.Functions.{is_free}
-use Rattle.qrmatrix.specs.Placement.{key, free_below, rank, remainder_bits}
+use Rattle.qrmatrix.specs.Placement.{key, rank, remainder_bits}
 use Rattle.qrmatrix.specs.Reading.{walk}
 use Rattle.qrmatrix.proofs.VersionLaws.{Computed, is_walked}
-use Rattle.qrmatrix.proofs.RankLaws.{free_below_more, free_below_none}
+use Rattle.qrmatrix.proofs.RankLaws.{free_below, free_below_more, free_below_none, rank-free_below}
 
 step : (b : Bool) (p : ℕ × ℕ) (ps : List (ℕ × ℕ)) (r : ℕ × ℕ → ℕ) (i j : ℕ) → r p ≡ i → j ≡ i + one_if b
     → map r ps ≡ range_with_len j (length ps)
@@ -45,8 +46,8 @@ module _ (v : ℕ) (c : Computed v) where
 
   pub walk_ranks : map (λ (p : ℕ × ℕ). rank v p.0 p.1) (filter (λ (p : ℕ × ℕ). is_free v p.0 p.1) (walk (side_of v)))
       ≡ range_with_len 0 (8 * total_codewords v + remainder_bits v)
-  unfolding rank
   walk_ranks =
+      let ranks = fun_ext (λ (p : ℕ × ℕ). rank-free_below v p.0 p.1) in
       let a = along (walk (side_of v)) 0 (side_of v * (side_of v - 1)) c.keys c.walked in
       let b = rw (free_below_none v c, c.area) at a in
-      b
+      ap (λ f. map f (filter (λ (p : ℕ × ℕ). is_free v p.0 p.1) (walk (side_of v)))) ranks ∙ b

@@ -2,10 +2,11 @@
 use Rattle.std.proofs.Common.{◌≡◌, ℕ, suc, ◌+◌, ◌-◌, ◌*◌, ◌/◌, ◌^◌, ◌<◌, ◌≤◌, refl, sym, ap, ◌∙◌, arith, Bool, true}
 use Rattle.std.proofs.Common.{false, cond, ◌&&◌, add-zero, add-one, List, ◌∷◌, drop, drop-cons, length, get_or}
 use Rattle.std.specs.Bool.{beq}
-use Rattle.qrmatrix.specs.Counting.{sum_below, count_below, one_if}
+use Rattle.qrmatrix.specs.Private.Counting.{sum_below, count_below, one_if}
 use Rattle.qrmatrix.specs.Bits.{bit}
-use Rattle.qrmatrix.specs.Penalty.{run_penalty, finder_penalty, line_penalty, is_uniform, begins_run, shows}
+use Rattle.qrmatrix.specs.Penalty.{run_penalty, line_penalty, is_uniform, begins_run, shows}
 use Rattle.qrmatrix.specs.Penalty.{window_points, shows_finder}
+use Rattle.qrmatrix.proofs.PenaltySumLaws.{run_penalty-sum, finder_penalty-count}
 use Rattle.qrmatrix.proofs.SumLaws.{sum_below_same}
 use Rattle.qrmatrix.proofs.RowBitsLaws.{shr_bit}
 use Rattle.qrmatrix.proofs.RowSumLaws.{sum_added, sum_scaled, sum_exchanged}
@@ -14,11 +15,21 @@ beq_self : (b : Bool) → beq b b ≡ true
 beq_self true = refl
 beq_self false = refl
 
+grouped_left : (a b c d : Bool) → (a && (b && (c && (d && true)))) ≡ (((a && b) && c) && d)
+grouped_left false b c d = refl
+grouped_left true false c d = refl
+grouped_left true true false d = refl
+grouped_left true true true false = refl
+grouped_left true true true true = refl
+
 -- the test of five modules without its first part
 uniform_five : (line : ℕ → Bool) (i : ℕ)
     → is_uniform line i 5 ≡ (((beq (line (i + 1)) (line i) && beq (line (i + 2)) (line i))
     && beq (line (i + 3)) (line i)) && beq (line (i + 4)) (line i))
-uniform_five line i = rw (add-zero i, beq_self (line i)) refl
+uniform_five line i =
+    rw (add-zero i, beq_self (line i))
+    (grouped_left (beq (line (i + 1)) (line i)) (beq (line (i + 2)) (line i)) (beq (line (i + 3)) (line i))
+    (beq (line (i + 4)) (line i)))
 
 window_same : (u v b c : Bool) → u ≡ v → b ≡ c → cond u (1 + cond b 2 0) 0 ≡ cond v (1 + cond c 2 0) 0
 window_same u v b c p q = rw (p, q) refl
@@ -31,13 +42,13 @@ pub row_windows : (w u b n : ℕ) → n ≤ 57
     && beq (bit (w / 2 ^ 3) i) (bit w i)) && beq (bit (w / 2 ^ 4) i) (bit w i)))
     → ((i : ℕ) → i < 64 → bit b i ≡ begins_run (bit w) i)
     → sum_below (n - 4) (λ i. cond (bit u i) (1 + cond (bit b i) 2 0) 0) ≡ run_penalty n (bit w)
-unfolding run_penalty
 row_windows w u b n l uniform begins =
-    sum_below_same (n - 4) (λ i. cond (bit u i) (1 + cond (bit b i) 2 0) 0) (window_points (bit w)) (λ i h.
+    rw (run_penalty-sum n (bit w))
+    (sum_below_same (n - 4) (λ i. cond (bit u i) (1 + cond (bit b i) 2 0) 0) (window_points (bit w)) (λ i h.
     let s : i < 64 = omega arith in
     window_same (bit u i) (is_uniform (bit w) i 5) (bit b i) (begins_run (bit w) i)
     (uniform i s ∙ rw (shr_bit w 1 i, shr_bit w 2 i, shr_bit w 3 i, shr_bit w 4 i) (sym (uniform_five (bit w) i)))
-    (begins i s))
+    (begins i s)))
 
 pub column_windows : (m : ℕ → ℕ → Bool) (u b r r1 r2 r3 r4 y n : ℕ) → n ≤ 57 → ((x : ℕ) → bit r x ≡ m x y)
     → ((x : ℕ) → bit r1 x ≡ m x (y + 1))
@@ -57,13 +68,16 @@ column_windows m u b r r1 r2 r3 r4 y n l h h1 h2 h3 h4 uniform begins =
 pub columns_summed : (n : ℕ) (m : ℕ → ℕ → Bool)
     → sum_below n (λ x. line_penalty n (m x)) ≡ sum_below (n - 4) (λ y. sum_below n (λ x. window_points (m x) y))
     + 40 * sum_below (n - 10) (λ y. count_below n (λ x. shows_finder (m x) y))
-unfolding run_penalty finder_penalty
 columns_summed n m =
-    let both = sum_added n (λ x. run_penalty n (m x)) (λ x. finder_penalty n (m x)) in
+    let each = sum_below_same n (λ x. line_penalty n (m x))
+    (λ x. sum_below (n - 4) (window_points (m x)) + 40 * count_below (n - 10) (shows_finder (m x)))
+    (λ x l. rw (run_penalty-sum n (m x), finder_penalty-count n (m x)) refl) in
+    let both = sum_added n (λ x. sum_below (n - 4) (window_points (m x)))
+    (λ x. 40 * count_below (n - 10) (shows_finder (m x))) in
     let runs = sum_exchanged n (n - 4) (λ x y. window_points (m x) y) in
     let scaled = sum_scaled n 40 (λ x. count_below (n - 10) (shows_finder (m x))) in
     let finders = sum_exchanged n (n - 10) (λ x y. one_if (shows_finder (m x) y)) in
-    both ∙ ap (λ z. z + sum_below n (λ x. finder_penalty n (m x))) runs
+    each ∙ both ∙ ap (λ z. z + sum_below n (λ x. 40 * count_below (n - 10) (shows_finder (m x)))) runs
     ∙ ap (λ z. sum_below (n - 4) (λ y. sum_below n (λ x. window_points (m x) y)) + z)
     (scaled ∙ ap (λ z. 40 * z) finders)
 

@@ -2,23 +2,22 @@
 -- A pattern is `Some true` where it has a dark module, `Some false` where it has a light one, and `None` where it has
 -- none.
 -- Why: `finder`, `alignment`, `timing`, `role`, `fixed_module`: 6.3, annex E.
-use Rattle.std.specs.Prelude.{ℕ, ◌+◌, ◌-◌, ◌*◌, ◌%◌, max, Bool, true, false, not, ◌&&◌, ◌==◌, nat_lt, nat_le}
+use Rattle.std.specs.Prelude.{ℕ, ◌+◌, ◌-◌, ◌*◌, ◌%◌, max, Bool, true, not, ◌&&◌, ◌==◌, nat_lt, nat_le}
 use Rattle.std.specs.Prelude.{if◌then◌else◌, List, [], ◌∷◌, Option, None, Some, is_none, slice_get, slice_index_or}
 use Rattle.std.specs.Int.{abs_diff}
 use Rattle.std.specs.List.{filter_map, flat_map}
-use Rattle.std.specs.Option.{option_or, option_map_or}
+use Rattle.std.specs.Option.{option_map, option_or}
 use Rattle.qrdata.specs.declared.level.Level.{Level}
 use Rattle.qrdata.specs.Versions.{side_of}
 use Rattle.qrmatrix.specs.Bits.{bit}
 use Rattle.qrmatrix.specs.Information.{format_information, version_information}
 
--- what a module is there for: a function pattern, dark where true; a bit of the format information; a bit of the
--- version information; or the codewords
+-- what a module is there for, if not for the codewords: a function pattern, dark where true; a bit of the format
+-- information; or a bit of the version information
 pub data Role : Type 0 where
   Function : (dark : Bool) → Role
   Format : (i : ℕ) → Role
   Version : (i : ℕ) → Role
-  Free : Role
 
 -- the square ring round the centre (a, b) on which the place (x, y) lies; ring 0 is the centre itself
 abbrev pub ring : ℕ → ℕ → ℕ → ℕ → ℕ
@@ -76,31 +75,26 @@ version_bit n x y =
 unfoldable pub is_dark_module : ℕ → ℕ → ℕ → Bool
 is_dark_module n x y = (x == 8) && (y == n - 8)
 
--- the role of the module at column x and row y in version v: that of the first pattern that has the module
-unfoldable pub role : ℕ → ℕ → ℕ → Role
+-- the role of the module at column x and row y in version v: that of the first pattern that has the module, and none
+-- where the codewords choose it
+unfoldable pub role : ℕ → ℕ → ℕ → Option Role
 unfolding finder alignment timing format_bit version_bit is_dark_module
 role v x y =
-    option_map_or Function (finder (side_of v) x y) (option_map_or Function (alignment v x y)
-    (option_map_or Function (timing x y) (option_map_or Format (format_bit (side_of v) x y)
-    (if is_dark_module (side_of v) x y then Function true
-    else if nat_le 7 v then option_map_or Version (version_bit (side_of v) x y) Free else Free))))
+    option_or (option_map Function (option_or (finder (side_of v) x y) (option_or (alignment v x y) (timing x y))))
+    (option_or (option_map Format (format_bit (side_of v) x y))
+    (if is_dark_module (side_of v) x y then Some (Function true)
+    else if nat_le 7 v then option_map Version (version_bit (side_of v) x y) else None))
 
--- the module that a role fixes for a version, a level and a mask
-abbrev pub module_of_role : ℕ → Level → ℕ → Role → Option Bool
-module_of_role v level mask (Function b) = Some b
-module_of_role v level mask (Format i) = Some (bit (format_information level mask) i)
-module_of_role v level mask (Version i) = Some (bit (version_information v) i)
-module_of_role v level mask Free = None
+-- the module that a role fixes for a version, a level and a mask, dark where true
+abbrev pub module_of_role : ℕ → Level → ℕ → Role → Bool
+module_of_role v level mask (Function b) = b
+module_of_role v level mask (Format i) = bit (format_information level mask) i
+module_of_role v level mask (Version i) = bit (version_information v) i
 
 -- the module at column x and row y, where the codewords do not choose it
 unfoldable pub fixed_module : ℕ → Level → ℕ → ℕ → ℕ → Option Bool
-fixed_module v level mask x y = module_of_role v level mask (role v x y)
-
--- whether the codewords choose the module
-abbrev pub is_free_role : Role → Bool
-is_free_role Free = true
-is_free_role other = false
+fixed_module v level mask x y = option_map (module_of_role v level mask) (role v x y)
 
 -- whether the codewords choose the module
 unfoldable pub is_free : ℕ → ℕ → ℕ → Bool
-is_free v x y = is_free_role (role v x y)
+is_free v x y = is_none (role v x y)

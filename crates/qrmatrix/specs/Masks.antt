@@ -1,6 +1,6 @@
 -- The eight mask patterns (ISO/IEC 18004, 7.8.2 and Table 10).
 -- Why: `is_flipped`: 7.8.2, table 10.
-use Rattle.std.specs.Prelude.{ℕ, ◌+◌, ◌*◌, ◌/◌, ◌%◌, Bool, true, false, not, ◌==◌, [], ◌∷◌, slice_index}
+use Rattle.std.specs.Prelude.{ℕ, ◌+◌, ◌*◌, ◌/◌, ◌%◌, Bool, ◌==◌, [], ◌∷◌, slice_index}
 
 -- whether a mask flips a free module at column j and row i: where the value of its formula is 0
 unfoldable pub is_flipped : ℕ → ℕ → ℕ → Bool
@@ -15,8 +15,3 @@ is_flipped mask j i =
     ∷ (((i * j) % 2 + (i * j) % 3) % 2)
     ∷ (((i + j) % 2 + (i * j) % 3) % 2)
     ∷ []) mask == 0
-
--- a module, flipped if the mask says so
-abbrev pub flip_if : Bool → Bool → Bool
-flip_if true b = not b
-flip_if false b = b

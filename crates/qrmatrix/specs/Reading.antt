@@ -2,17 +2,16 @@
 -- Why: `read_matrix`: clause 12, with no correction.
 use Rattle.std.specs.Prelude.{ℕ, ◌+◌, ◌-◌, ◌*◌, ◌/◌, ◌%◌, ◌^◌, Bool, not, ◌&&◌, ◌||◌, ◌==◌, nat_le, if◌then◌else◌}
 use Rattle.std.specs.Prelude.{List, [], ◌∷◌, ◌++◌, map, reverse, Option, None, Some, bit_xor, unwrap_or}
-use Rattle.std.specs.Bool.{beq}
-use Rattle.std.specs.List.{range_with_len, filter, find}
+use Rattle.std.specs.Bool.{beq, xor}
+use Rattle.std.specs.List.{range_with_len, filter, find, flat_map, list_all}
 use Rattle.gf256.specs.BinaryPolynomial.{binary_remainder}
 use Rattle.qrdata.specs.declared.level.Level.{Level}
 use Rattle.qrdata.specs.declared.level.Level.TheVariants.{L, M, Q, H}
 use Rattle.qrdata.specs.Steps.{◌>>=◌}
 use Rattle.qrdata.specs.Bits.{number_of, codewords_of}
 use Rattle.qrdata.specs.Versions.{total_codewords, side_of}
-use Rattle.qrmatrix.specs.Counting.{all_below}
 use Rattle.qrmatrix.specs.Functions.{fixed_module, is_free}
-use Rattle.qrmatrix.specs.Masks.{is_flipped, flip_if}
+use Rattle.qrmatrix.specs.Masks.{is_flipped}
 
 -- the places of the bits of the format information, bit 0 first, in its first copy
 abbrev pub format_copy_1 : List (ℕ × ℕ)
@@ -57,13 +56,12 @@ shows_version v n m =
 -- whether every module that the codewords do not choose is right
 unfoldable pub shows_functions : ℕ → Level → ℕ → (ℕ → ℕ → Bool) → Bool
 shows_functions v level mask m =
-    all_below (side_of v) (λ y. all_below (side_of v) (λ x.
-    beq (unwrap_or (fixed_module v level mask x y) (m x y)) (m x y)))
+    let places = range_with_len 0 (side_of v) in
+    list_all (λ y. list_all (λ x. beq (unwrap_or (fixed_module v level mask x y) (m x y)) (m x y)) places) places
 
 -- a strip of two columns: in each of its rows the right module, then the left one
 abbrev pub strip : ℕ → List ℕ → List (ℕ × ℕ)
-strip right [] = []
-strip right (y ∷ ys) = (right, y) ∷ (right - 1, y) ∷ strip right ys
+strip right ys = flat_map (λ y. (right, y) ∷ (right - 1, y) ∷ []) ys
 
 -- strips one after another, their rows in one order and the other in turn
 abbrev pub strips : List ℕ → List ℕ → List ℕ → List (ℕ × ℕ)
@@ -80,7 +78,7 @@ walk n = strips (right_columns n) (reverse (range_with_len 0 n)) (range_with_len
 
 -- the bits of the codewords: the free modules in the order of reading, with the mask taken off
 unfoldable pub read_bits : ℕ → ℕ → (ℕ → ℕ → Bool) → List Bool
-read_bits v mask m = map (λ (p : ℕ × ℕ). flip_if (is_flipped mask p.0 p.1) (m p.0 p.1))
+read_bits v mask m = map (λ (p : ℕ × ℕ). xor (is_flipped mask p.0 p.1) (m p.0 p.1))
     (filter (λ (p : ℕ × ℕ). is_free v p.0 p.1) (walk (side_of v)))
 
 -- what the modules of a symbol are read as

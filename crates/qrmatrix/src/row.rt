@@ -1,7 +1,7 @@
 //! Rows of modules, 64 bits each: bit i is the module at place i.
 ghost use Rattle.std.specs.Prelude.{◌≡◌, ℕ, ◌+◌, ◌-◌, ◌*◌, ◌^◌, ◌<◌, ◌≤◌, nat_lt, if◌then◌else◌, ◌&&◌};
 ghost use Rattle.std.specs.Bool.{beq};
-ghost use Rattle.qrmatrix.specs.Counting.{sum_below, count_below};
+ghost use Rattle.qrmatrix.specs.Private.Counting.{sum_below, count_below};
 ghost use Rattle.qrmatrix.specs.Bits.{bit};
 ghost use Rattle.qrmatrix.specs.Penalty.{begins_run};
 

@@ -2,7 +2,7 @@
 ghost use Rattle.std.specs.Prelude.{◌≡◌, ℕ, ◌^◌, ◌<◌, Bool, ◌&&◌, ◌==◌, if◌then◌else◌, List, false, map};
 ghost use Rattle.std.specs.Prelude.{slice_index, All};
 ghost use Rattle.qrmatrix.specs.Bits.{bit};
-ghost use Rattle.qrmatrix.specs.Masks.{flip_if};
+ghost use Rattle.qrmatrix.specs.Private.Squares.{flip_if};
 ghost use Rattle.qrmatrix.specs.Private.RowBits.{low_bits, AreRows};
 ghost use Rattle.qrmatrix.specs.Square.{value_at};
 ghost use Rattle.qrmatrix.specs.Private.Squares.{WritesAt};

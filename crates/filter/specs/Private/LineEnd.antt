@@ -1,14 +1,18 @@
 -- What the private contracts of a line's end say.
-use Rattle.std.specs.Prelude.{◌≡◌, ℕ, Bool, List, [], Option, None, if◌then◌else◌}
+use Rattle.std.specs.Prelude.{◌≡◌, ℕ, ◌<◌, ◌≤◌, Bool, List, [], Option, None, Some, Result, IfOk, ⊤, if◌then◌else◌}
 use Rattle.device.specs.Device.{Begins}
 use Rattle.labelcore.specs.declared.symbology.Symbology.{Symbology}
-use Rattle.labelcore.specs.LineItem.{Outcome}
+use Rattle.labelcore.specs.LineItem.{Outcome, drawn}
+use Rattle.labelcore.specs.declared.fault.Fault.{Fault}
+use Rattle.device.specs.Writing.{WritesText}
+use Rattle.device.specs.declared.sink.Sink.{Ghosts}
+use Rattle.filter.specs.Drawing.{refusal_of}
 use Rattle.labelcore.specs.OptionValues.{OptionValues}
 use Rattle.linear.specs.declared.linear.QuietZones.{QuietZones}
 use Rattle.filter.specs.Output.{image_of, message_of, is_refusal}
 use Rattle.filter.specs.Readback.{ReadsBack, read_modules}
 use Rattle.filter.specs.Symbol.{Symbol, quiet_zone}
-use Rattle.picture.specs.Reading.{common_row}
+use Rattle.picture.specs.Reading.{raster, common_row}
 use Rattle.qrdata.specs.Steps.{◌>>=◌}
 use Rattle.filter.specs.declared.status.RunFault.{RunFault}
 use Rattle.filter.specs.declared.status.RunFault.TheVariants.{WriteOut, WriteMessages}
@@ -24,19 +28,39 @@ worst Refused other = Refused
 abbrev pub status_of_line : Outcome Symbol → Status
 status_of_line outcome = if is_refusal outcome then Refused else Clean
 
+-- modules of some size that are read as the full data
+pub record IsReadable (symbol : Symbol) : Type 0 where
+  pub some_columns : 0 < symbol.modules.width
+  pub columns : symbol.modules.width ≤ 1795
+  pub some_rows : 0 < symbol.modules.height
+  pub rows : symbol.modules.height ≤ 500
+  pub read : read_modules symbol.symbology (raster symbol.modules).rows ≡ Some symbol.full
+
+-- the modules of what is drawn are read; of other lines nothing is said
+abbrev pub HasReadable : Outcome Symbol → Type 0
+HasReadable (drawn symbol) = IsReadable symbol
+HasReadable other = ⊤
+
+-- as `DrawsOutcome`, of the modules
+pub record DrawsModules {S E : Type 0} (sink : Ghosts S) (old new : S) (options : OptionValues)
+    (outcome : Outcome Symbol) (r : Result (Result (Unit {0}) Fault) E) : Type 0 where
+  pub writes : WritesText sink old new (image_of options outcome) r
+  pub refusal : IfOk r (λ drawn. drawn ≡ refusal_of outcome)
+  pub readable : HasReadable outcome
+
 -- a symbology of one row, with these quiet zones before and after it, read by this rule
 pub record IsLinear (symbology : Symbology) (zones : QuietZones) (reading : List Bool → Option (List ℕ)) : Type 0 where
   pub zone : quiet_zone symbology ≡ record { left = zones.left; right = zones.right; top = 0; bottom = 0 }
   pub rule : (rows : List (List Bool)) → read_modules symbology rows ≡ common_row rows >>= reading
   pub none : reading [] ≡ None
 
--- the sinks took the image and the message of a line, and its symbol reads back
+-- the sinks took the image and the message of a line, and the image is read
 pub record EndsLine (options : OptionValues) (took_out took_err : List ℕ → Type 0) (number : ℕ)
     (outcome : Outcome Symbol) (status : Status) : Type 0 where
   pub status_is : status ≡ status_of_line outcome
   pub image : took_out (image_of options outcome)
   pub message : took_err (message_of number outcome)
-  pub read : ReadsBack outcome
+  pub read : ReadsBack options outcome
 
 -- where the images failed, the messages took nothing; where the messages failed, they took a beginning of the text
 abbrev pub FailsInMessage : (took_err : List ℕ → Type 0) (text : List ℕ) → RunFault → Type 0

@@ -1,11 +1,12 @@
 -- The square of modules after each step of drawing a symbol (ISO/IEC 18004, 7.7 to 7.9).
-use Rattle.std.specs.Prelude.{◌≡◌, ℕ, ◌<◌, ◌≤◌, ◌^◌, Bool, true, false, not, List, if◌then◌else◌}
+use Rattle.std.specs.Prelude.{◌≡◌, ℕ, ◌<◌, ◌≤◌, ◌^◌, Bool, true, false, not, List, if◌then◌else◌, Option, Some, None}
 use Rattle.qrdata.specs.declared.level.Level.{Level}
 use Rattle.qrdata.specs.Versions.{side_of}
 use Rattle.qrmatrix.specs.Bits.{bit}
-use Rattle.qrmatrix.specs.Functions.{Role, Function, Format, Version, Free, role, is_free}
+use Rattle.qrmatrix.specs.Functions.{Role, Function, Format, Version, role, is_free}
 use Rattle.qrmatrix.specs.Information.{format_information, version_information}
-use Rattle.qrmatrix.specs.Masks.{is_flipped, flip_if}
+use Rattle.qrmatrix.specs.Masks.{is_flipped}
+use Rattle.qrmatrix.specs.Private.Squares.{flip_if}
 use Rattle.qrmatrix.specs.Modules.{module_at}
 use Rattle.qrmatrix.specs.Placement.{codeword_bit, rank}
 use Rattle.qrmatrix.specs.Square.{value_at}
@@ -25,11 +26,11 @@ module_under_mask mask function modules x y =
     if value_at function x y then value_at modules x y else flip_if (is_flipped mask x y) (value_at modules x y)
 
 -- the module that a role fixes for every level and mask; the format information is light
-abbrev pub unmasked_module : ℕ → Role → Bool
-unmasked_module v (Function b) = b
-unmasked_module v (Format i) = false
-unmasked_module v (Version i) = bit (version_information v) i
-unmasked_module v Free = false
+abbrev pub unmasked_module : ℕ → Option Role → Bool
+unmasked_module v (Some (Function b)) = b
+unmasked_module v (Some (Format i)) = false
+unmasked_module v (Some (Version i)) = bit (version_information v) i
+unmasked_module v None = false
 
 -- the bits of a row have the modules that the codewords do not choose, and those of them that are dark
 pub record HasFunctions (v y : ℕ) (row : PatternRow) : Type 0 where
@@ -39,11 +40,11 @@ pub record HasFunctions (v y : ℕ) (row : PatternRow) : Type 0 where
   pub narrow_dark : row.dark < 2 ^ side_of v
 
 -- the module that the format information makes dark
-abbrev pub format_module : ℕ → Role → Bool
-format_module information (Function b) = false
-format_module information (Format i) = bit information i
-format_module information (Version i) = false
-format_module information Free = false
+abbrev pub format_module : ℕ → Option Role → Bool
+format_module information (Some (Function b)) = false
+format_module information (Some (Format i)) = bit information i
+format_module information (Some (Version i)) = false
+format_module information None = false
 
 -- a symbol that has no format information and no mask laid over
 pub record IsUnmasked (v : ℕ) (codewords : List ℕ) (function modules : List (List Bool)) : Type 0 where

@@ -1,8 +1,13 @@
 -- What an operation changes of a square of truth values.
-use Rattle.std.specs.Prelude.{◌≡◌, ◌≤◌, ◌+◌, ℕ, Bool, false, List, if◌then◌else◌, ◌==◌, ◌&&◌}
+use Rattle.std.specs.Prelude.{◌≡◌, ◌≤◌, ◌+◌, ℕ, Bool, true, false, not, List, if◌then◌else◌, ◌==◌, ◌&&◌}
 use Rattle.qrmatrix.specs.Modules.{is_inside}
 use Rattle.qrmatrix.specs.Square.{value_at}
 use Rattle.qrmatrix.specs.declared.square.TheConstants.{SIDE}
+
+-- the value, or the other one where the test passes
+abbrev pub flip_if : Bool → Bool → Bool
+flip_if true b = not b
+flip_if false b = b
 
 -- new is old with a value written at column x and row y
 abbrev pub WritesAt : List (List Bool) → List (List Bool) → ℕ → ℕ → Bool → Type 0

@@ -8,7 +8,7 @@ use Rattle.device.specs.Lines.{lines, ended_lines, open_line, unless_empty}
 use Rattle.filter.specs.Line.{RaisesOneCount}
 use Rattle.filter.specs.Filter.{TookLines, StopsInFinish}
 use Rattle.filter.specs.Output.{status_of}
-use Rattle.filter.specs.Run.{RunsWhole, RunStops}
+use Rattle.filter.specs.Run.{RunsWhole, RunStops, RunRaises}
 use Rattle.filter.proofs.ReadLaws.{images_read}
 use Rattle.filter.proofs.RunLaws.{at_err, at_ok, RunStops-in_line, RunStops-between, TookPiece-sent, TookLines-finish}
 use Rattle.filter.proofs.RunLaws.{RunStops-finish}
@@ -36,6 +36,7 @@ returns-then-is_err-clause-stops g c =
       RunStops-between c.args.options g.O.Sink.took g.E.Sink.took g.met.O.Sink.took_joined g.met.E.Sink.took_joined
           c.args.out.now c.loop-turn.out c.pass_on.new.self c.args.err.now c.loop-turn.err c.loop-turn.err h.given
           h.took c.pass_on.ensures.bytes (g.met.E.Sink.took_none c.loop-turn.err),
+      search rules,
     )
 
 pub returns-in_default-clause-stops : goal.returns-in_default-clause-stops
@@ -48,11 +49,12 @@ returns-in_default-clause-stops g c =
       subst (g.S.Source.gave c.args.source.now c.read.new.self) (append-nil h.given)
           (g.met.S.Source.gave_joined _ _ _ _ _ h.gave c.in_default.ensures.bytes),
       TookLines-ended c.args.options _ _ h.given sent,
+      search rules,
     )
 
 pub returns-clause-stops : goal.returns-clause-stops
 returns-clause-stops g c =
-    let h = c.loop-turn.invariant in (h.given, h.gave, TookLines-ended c.args.options _ _ h.given h.took)
+    let h = c.loop-turn.invariant in (h.given, h.gave, TookLines-ended c.args.options _ _ h.given h.took, search rules)
 
 pub returns-then-count-eq0-clause-whole : goal.returns-then-count-eq0-clause-whole
 returns-then-count-eq0-clause-whole g c =
@@ -81,8 +83,7 @@ returns-then-count-eq0-clause-whole g c =
       out = took.out;
       err = took.err;
       status_is = s;
-      read = images_read c.reading_laws.ensures c.args.options c.ranges-2.ensures.scale_low
-          c.ranges-2.ensures.scale_high (lines h.given) took.read;
+      read = images_read c.reading_laws.ensures c.args.options (lines h.given) took.read;
     })
 
 pub returns-then-count-eq0-clause-stops : goal.returns-then-count-eq0-clause-stops
@@ -105,7 +106,10 @@ returns-then-count-eq0-clause-stops g c =
     (g.E.Sink.failures c.loop-turn.err) (g.E.Sink.failures c.finish.new.err))
     (λ fault. (text : List ℕ) × g.S.Source.gave c.args.source.now c.read.new.self text
     × RunStops c.args.options (g.O.Sink.took c.args.out.now c.finish.new.out)
-    (g.E.Sink.took c.args.err.now c.finish.new.err) text fault)
+    (g.E.Sink.took c.args.err.now c.finish.new.err) text fault
+    × RunRaises text (g.S.Source.failures c.args.source.now) (g.S.Source.failures c.read.new.self)
+    (g.O.Sink.failures c.args.out.now) (g.O.Sink.failures c.finish.new.out) (g.E.Sink.failures c.args.err.now)
+    (g.E.Sink.failures c.finish.new.err) fault)
     (c.finish.ensures.ends c.args.options h.given h.stands) (c.finish.ensures.counts h.stands.is_spent)
     (λ fault s r. (
       h.given,
@@ -113,6 +117,7 @@ returns-then-count-eq0-clause-stops g c =
       RunStops-finish c.args.options g.O.Sink.took g.E.Sink.took g.met.O.Sink.took_joined g.met.E.Sink.took_joined
           c.args.out.now c.pass_on.new.self c.finish.new.out c.args.err.now c.loop-turn.err c.finish.new.err h.given
           sent _ _ _ _ fault s r,
+      search rules,
     ))
 
 pub returns-in_err-feed-clause-stops : goal.returns-in_err-feed-clause-stops
@@ -131,6 +136,7 @@ returns-in_err-feed-clause-stops g c =
           (StopsInPiece-append c.args.options g.O.Sink.took g.E.Sink.took g.met.O.Sink.took_joined
           g.met.E.Sink.took_joined c.args.out.now c.pass_on.new.self c.feed.new.out c.args.err.now c.loop-turn.err
           c.feed.new.err [] h.given (take c.in-Ok.count c.read.new.buf) sent c.in_err-feed.field-0.0 s)),
+      search rules,
     )
 
 pub loop-turn-preserved : goal.loop-turn-preserved

@@ -3,7 +3,7 @@ use Rattle.qrdata.specs.Versions.{side_of}
 use Rattle.qrmatrix.specs.Private.Drawing.{format_module}
 use Rattle.qrmatrix.specs.Functions.{role}
 use Rattle.qrmatrix.specs.Information.{format_information}
-use Rattle.qrmatrix.specs.Masks.{flip_if}
+use Rattle.qrmatrix.specs.Private.Squares.{flip_if}
 use Rattle.qrmatrix.specs.Square.{value_at}
 use Rattle.qrmatrix.proofs.FunctionRowLaws.{fits, format_between, row_shows}
 use Rattle.qrmatrix.proofs.PassLaws.{Mapped, mapped_outside, row_turned, rows_kept}

@@ -1,7 +1,7 @@
 use Rattle.std.proofs.Common.{◌≡◌, arith, ap, ◌&&◌}
 use Rattle.std.specs.Prelude.{bit_and}
 use Rattle.qrmatrix.specs.Bits.{bit}
-use Rattle.qrmatrix.specs.Counting.{count_below, one_if}
+use Rattle.qrmatrix.specs.Private.Counting.{count_below, one_if}
 use Rattle.qrmatrix.proofs.SumLaws.{sum_below_same}
 use Rattle.qrmatrix.proofs.RowBitsLaws.{and_bit}
 use Rattle.qrmatrix.proofs.RowSumLaws.{weighed}
