@@ -1,7 +1,8 @@
 //! The command `labels` around the filter: what its arguments ask for ([`options_of`]), the file that they name
 //! ([`open_file`]), and how it ends ([`End`]).
 //!
-//! The program's `main` makes these calls. They are a library, so that they can be proved and tested without it.
+//! The program's `main` makes these calls. They are a library, so that they can be proved and tested without it. The
+//! README of this crate has an example.
 #![tactic(auto)]
 
 mod arguments;

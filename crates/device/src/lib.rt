@@ -2,7 +2,7 @@
 //!
 //! [`StdSource`] and [`StdSink`] are the readers and writers of std, [`MemSource`] and [`MemSink`] keep their bytes in
 //! memory, [`Buffered`] buffers bytes before another sink, and [`FailAt`] fails at one call, for tests.
-//! [`write_whole`] writes a text in as many writes as a sink needs.
+//! [`write_whole`] writes a text in as many writes as a sink needs. The README of this crate has an example.
 #![tactic(auto)]
 
 mod buffered;

@@ -1,8 +1,8 @@
 //! The filter as a library: lines in, pictures and messages out.
 //!
 //! [`run`] reads a whole source, and [`run_streams`] does so between a reader and a writer of std. A [`Filter`] is fed
-//! piece by piece, by a caller who does the reading. [`draw`] draws one symbol, with no line of text. None of them
-//! takes memory from the heap.
+//! piece by piece, by a caller who does the reading. [`draw`] draws one symbol, with no line of text. The README of
+//! this crate has an example. None of these calls takes memory from the heap.
 #![tactic(auto)]
 
 mod drawing;

@@ -1,4 +1,7 @@
-//! Linear symbols: the rows of EAN-13, EAN-8, UPC-A and Code 128, drawn and read.
+//! Linear symbols as rows of modules: EAN-13, EAN-8 and UPC-A (ISO/IEC 15420), and Code 128 (ISO/IEC 15417).
+//!
+//! Each symbology is a type with the trait [`Linear`]: `encode` draws data as a [`Row`], or returns a [`Refusal`]. The
+//! README of this crate has an example. Nothing here takes memory from the heap.
 #![tactic(auto)]
 
 mod code128;

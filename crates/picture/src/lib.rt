@@ -1,4 +1,8 @@
 //! Pictures by coordinates, their quiet zones and enlargements, and their texts: plain PBM, or letters.
+//!
+//! A picture is a [`Grid`]: [`Bars`], a `qrmatrix::Matrix`, or one of these [`Framed`] and [`Scaled`]. [`write_pbm`]
+//! and [`write_ascii`] write it to a sink. The README of this crate has an example. Nothing here takes memory from the
+//! heap.
 #![tactic(auto)]
 
 mod ascii;

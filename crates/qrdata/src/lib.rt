@@ -1,8 +1,8 @@
 //! From bytes to the codewords of a QR Code symbol (ISO/IEC 18004): versions 1 to 10, segments, blocks and
 //! interleaving.
 //!
-//! [`choose`] makes a [`Plan`] of the data, the version and the segments of the symbol, and [`codewords`] writes the
-//! codewords of that plan. Neither takes memory.
+//! [`choose`] makes a [`Plan`]: the version and the segments of a symbol for some data. [`codewords`] writes the
+//! codewords of that plan. The README of this crate has an example. Nothing here takes memory from the heap.
 #![tactic(auto)]
 
 mod bits;
