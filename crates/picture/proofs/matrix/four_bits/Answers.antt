@@ -3,8 +3,7 @@ use Rattle.std.specs.Prelude.{slice_index_or, bit_and, ◌&&◌}
 use Rattle.std.specs.Bool.{beq}
 use Rattle.std.proofs.lemmas.Nat.{and_le_r}
 use Rattle.qrmatrix.specs.Bits.{bit}
-use Rattle.qrmatrix.specs.Private.Counting.{all_below}
-use Rattle.qrmatrix.proofs.SumLaws.{all_below_at}
+use Rattle.qrmatrix.proofs.SumLaws.{all_below, all_below_at}
 use Rattle.qrmatrix.proofs.RowBitsLaws.{and_bit, shr_bit, same_beq}
 use Rattle.picture.specs.declared.matrix.TheConstants.{FOUR}
 use Rattle.picture.proofs.matrix.four_bits.Goals as goal
