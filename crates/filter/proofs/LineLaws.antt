@@ -1,6 +1,5 @@
 -- What is written for a line, from what is written for its symbol or its refusal.
 use Rattle.std.proofs.Common.{◌≡◌, ℕ, List, [], Result, Ok, Err, refl, subst}
-use Rattle.std.specs.Prelude.{IfErr, IfOk, OnOk}
 use Rattle.labelcore.specs.OptionValues.{OptionValues}
 use Rattle.labelcore.specs.LineItem.{item}
 use Rattle.labelcore.specs.Message.{message}
@@ -9,10 +8,10 @@ use Rattle.labelcore.specs.LineItem.{Outcome, skipped, refused, drawn}
 use Rattle.filter.specs.Output.{outcome, outcome_of_item, image_of}
 use Rattle.filter.specs.Line.{FailsInLine}
 use Rattle.filter.specs.Drawing.{refusal_of}
-use Rattle.filter.specs.Private.LineEnd.{EndsLine, FailsInMessage}
+use Rattle.filter.specs.Private.LineEnd.{EndsLine, FailsInMessage, LineEnds, MessageEnds}
 use Rattle.filter.specs.Symbol.{Symbol}
 use Rattle.filter.specs.declared.status.Status.{Status}
-use Rattle.filter.specs.declared.status.Status.TheVariants.{Clean, Refused}
+use Rattle.filter.specs.declared.status.Status.TheVariants.{Clean}
 use Rattle.filter.specs.Readback.{ReadsBack}
 use Rattle.filter.specs.declared.status.RunFault.{RunFault}
 use Rattle.filter.specs.declared.status.RunFault.TheVariants.{Read, WriteOut, WriteMessages, Spent}
@@ -31,35 +30,24 @@ fails_refused options took_out took_err number fault WriteOut none fails = (([],
 fails_refused options took_out took_err number fault WriteMessages none fails = (none, fails)
 fails_refused options took_out took_err number fault Spent none fails = fails
 
--- the message of a refusal was not written whole
-pub refused_fails : (options : OptionValues) (took_out took_err : List ℕ → Type 0) (number : ℕ) (o : Outcome Symbol)
-    (fault : Fault) (r : Result Status RunFault) → refusal_of o ≡ Err fault → took_out (image_of options o)
-    → IfErr r (FailsInMessage took_err (message number fault))
-    → IfErr r (FailsInLine options took_out took_err number o)
-refused_fails options took_out took_err number skipped fault r e image fails = cc
-refused_fails options took_out took_err number (drawn symbol) fault r e image fails = cc
-refused_fails options took_out took_err number (refused why) fault (Ok x) e image fails = tt
-refused_fails options took_out took_err number (refused why) fault (Err f) e image fails =
-    let same : fault ≡ why = cc in
-    fails_refused options took_out took_err number why f image
-    (subst (λ (w : Fault). FailsInMessage took_err (message number w) f) same fails)
-
--- the message of a refusal was written whole
+-- a line that is refused ends as its message does
 pub refused_ends : (options : OptionValues) (took_out took_err : List ℕ → Type 0) (number : ℕ) (o : Outcome Symbol)
     (fault : Fault) (r : Result Status RunFault) → refusal_of o ≡ Err fault → took_out (image_of options o)
-    → ReadsBack options o → IfOk r (λ status. status ≡ Refused) → OnOk r (took_err (message number fault))
-    → IfOk r (EndsLine options took_out took_err number o)
-refused_ends options took_out took_err number skipped fault r e image read is written = cc
-refused_ends options took_out took_err number (drawn symbol) fault r e image read is written = cc
-refused_ends options took_out took_err number (refused why) fault (Err f) e image read is written = tt
-refused_ends options took_out took_err number (refused why) fault (Ok x) e image read is written =
+    → MessageEnds took_err (message number fault) r → LineEnds options took_out took_err number o r
+refused_ends options took_out took_err number skipped fault r e image ends = cc
+refused_ends options took_out took_err number (drawn symbol) fault r e image ends = cc
+refused_ends options took_out took_err number (refused why) fault (Ok x) e image ends =
     let same : fault ≡ why = cc in
     record {
-      status_is = is;
+      status_is = ends.0;
       image = image;
-      message = subst (λ (w : Fault). took_err (message number w)) same written;
-      read = read;
+      message = subst (λ (w : Fault). took_err (message number w)) same ends.1;
+      read = tt;
     }
+refused_ends options took_out took_err number (refused why) fault (Err f) e image ends =
+    let same : fault ≡ why = cc in
+    fails_refused options took_out took_err number why f image
+    (subst (λ (w : Fault). FailsInMessage took_err (message number w) f) same ends)
 
 -- a line without a refusal has no message
 pub drawn_ends : (options : OptionValues) (took_out took_err : List ℕ → Type 0) (number : ℕ) (o : Outcome Symbol)

@@ -1,6 +1,7 @@
 -- What the sinks take at the end of a line (docs/SPECIFICATION.md, Lines).
-use Rattle.std.specs.Prelude.{◌≡◌, ℕ, Bool, List, [], Result, MatchResult}
+use Rattle.std.specs.Prelude.{◌≡◌, ℕ, Bool, true, List, [], Result, MatchResult}
 use Rattle.device.specs.Device.{Begins, Rises, Unflushed}
+use Rattle.device.specs.declared.sink.Sink.{Ghosts}
 use Rattle.labelcore.specs.OptionValues.{OptionValues}
 use Rattle.labelcore.specs.LineItem.{Outcome}
 use Rattle.filter.specs.Symbol.{Symbol}
@@ -9,7 +10,8 @@ use Rattle.filter.specs.declared.status.RunFault.{RunFault}
 use Rattle.filter.specs.declared.status.RunFault.TheVariants.{WriteOut, WriteMessages}
 
 -- the sink that failed took a beginning of its text, and the other took nothing
-abbrev pub FailsInLine : OptionValues → (took_out took_err : List ℕ → Type 0) (number : ℕ) → Outcome Symbol → RunFault → Type 0
+abbrev pub FailsInLine : OptionValues → (took_out took_err : List ℕ → Type 0) (number : ℕ) → Outcome Symbol → RunFault
+    → Type 0
 FailsInLine options took_out took_err number outcome WriteOut = Begins took_out (image_of options outcome) × took_err []
 FailsInLine options took_out took_err number outcome WriteMessages =
     took_out [] × Begins took_err (message_of number outcome)
@@ -31,3 +33,15 @@ CountsFault out_old out_new err_old err_new r =
 abbrev pub FlushedImagesAtMost : (out_old out_new err_old err_new : Bool) → RunFault → Type 0
 FlushedImagesAtMost out_old out_new err_old err_new WriteMessages = Unflushed err_old err_new
 FlushedImagesAtMost out_old out_new err_old err_new other = Unflushed out_old out_new × Unflushed err_old err_new
+
+-- at `Ok` both sinks are flushed, the images first, and at `Err` at most that of the images where it was not before
+abbrev pub FlushesImagesFirst : {T : Type 0} → (out_old out_new err_old err_new : Bool) → Result T RunFault → Type 0
+FlushesImagesFirst out_old out_new err_old err_new r =
+    MatchResult r (λ _. (out_new ≡ true) × (err_new ≡ true)) (FlushedImagesAtMost out_old out_new err_old err_new)
+
+-- a call that flushes nothing: the count of the sink that failed rises, and a sink that is flushed now was flushed before
+pub record FlushesNeither {O E T : Type 0} (out : Ghosts O) (err : Ghosts E) (out_old out_new : O) (err_old err_new : E)
+    (r : Result T RunFault) : Type 0 where
+  pub counts : CountsFault (out.failures out_old) (out.failures out_new) (err.failures err_old) (err.failures err_new) r
+  pub out_unflushed : Unflushed (out.is_flushed out_old) (out.is_flushed out_new)
+  pub err_unflushed : Unflushed (err.is_flushed err_old) (err.is_flushed err_new)

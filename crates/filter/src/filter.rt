@@ -1,12 +1,9 @@
 //! The filter, fed piece by piece.
-ghost use Rattle.std.specs.Prelude.{◌≡◌, ℕ, true, false, List, [], ◌∷◌, length, Err, OnOk, OnErr, IfOk};
-ghost use Rattle.std.specs.Prelude.{IfErr};
-ghost use Rattle.device.specs.Device.{Unflushed};
+ghost use Rattle.std.specs.Prelude.{◌≡◌, ℕ, true, false, List, [], ◌∷◌, Err, OnErr};
 ghost use Rattle.labelcore.specs.OptionValues.{OptionValues};
-ghost use Rattle.device.specs.Lines.{lines, ended_lines, open_line, unless_empty};
-ghost use Rattle.filter.specs.Output.{status_of};
-ghost use Rattle.filter.specs.Filter.{FilterState, StandsAt, TookLines, StopsInLine, FeedsPiece, EndsInput};
-ghost use Rattle.filter.specs.Line.{CountsFault, FlushedImagesAtMost};
+ghost use Rattle.filter.specs.Private.LineEnd.{EndsOpenLine, FlushesBoth};
+ghost use Rattle.filter.specs.Filter.{FilterState, StandsAt, FeedsPiece, EndsInput};
+ghost use Rattle.filter.specs.Line.{CountsFault, FlushesImagesFirst, FlushesNeither};
 
 use crate::line::finish_line;
 use crate::status::{RunFault, Status};
@@ -64,10 +61,7 @@ impl Filter {
             → FeedsPiece options self.new (O.took out.old out.new) (E.took err.old err.new)
             text (byte ∷ []) result }
         ensures spent { OnErr result (self.new.is_spent ≡ true) }
-        ensures counts { CountsFault (O.failures out.old) (O.failures out.new)
-            (E.failures err.old) (E.failures err.new) result }
-        ensures unflushed { Unflushed (O.is_flushed out.old) (O.is_flushed out.new)
-            × Unflushed (E.is_flushed err.old) (E.is_flushed err.new) }
+        ensures sinks { FlushesNeither O.Sink E.Sink out.old out.new err.old err.new result }
     {
         if byte != b'\n' {
             self.line.push(byte);
@@ -103,12 +97,9 @@ impl Filter {
         ensures feeds { (options : OptionValues) (text : List ℕ) → StandsAt options self.old text
             → FeedsPiece options self.new (O.took out.old out.new) (E.took err.old err.new)
             text piece.now result }
-        ensures counts { self.old.is_spent ≡ false
-            → CountsFault (O.failures out.old) (O.failures out.new)
-            (E.failures err.old) (E.failures err.new) result }
+        ensures sinks { self.old.is_spent ≡ false
+            → FlushesNeither O.Sink E.Sink out.old out.new err.old err.new result }
         ensures spent { OnErr result (self.new.is_spent ≡ true) }
-        ensures unflushed { Unflushed (O.is_flushed out.old) (O.is_flushed out.new)
-            × Unflushed (E.is_flushed err.old) (E.is_flushed err.new) }
         ensures spent_before { self.old.is_spent ≡ true
             → (result ≡ Err RunFault.Spent) × (self.new ≡ self.old)
             × (out.new ≡ out.old) × (err.new ≡ err.old) }
@@ -132,11 +123,8 @@ impl Filter {
     pub fn finish<O: Sink, E: Sink>(self, out: &mut O, err: &mut E) -> Result<Status, RunFault>
         ensures ends { (options : OptionValues) (text : List ℕ) → StandsAt options self text
             → EndsInput options (O.took out.old out.new) (E.took err.old err.new) text result }
-        ensures flushed { OnOk result
-            ((O.is_flushed out.new ≡ true) × (E.is_flushed err.new ≡ true)) }
-        ensures order { IfErr result (FlushedImagesAtMost
-            (O.is_flushed out.old) (O.is_flushed out.new)
-            (E.is_flushed err.old) (E.is_flushed err.new)) }
+        ensures flushed { FlushesImagesFirst (O.is_flushed out.old) (O.is_flushed out.new)
+            (E.is_flushed err.old) (E.is_flushed err.new) result }
         ensures counts { self.is_spent ≡ false
             → CountsFault (O.failures out.old) (O.failures out.new)
             (E.failures err.old) (E.failures err.new) result }
@@ -157,20 +145,9 @@ impl Filter {
         out: &mut O,
         err: &mut E,
     ) -> Result<Status, RunFault>
-        ensures status { (options : OptionValues) (text : List ℕ) → StandsAt options self.now text
-            → IfOk result (λ status. status ≡ status_of options (lines text)) }
-        ensures took { (options : OptionValues) (text : List ℕ) → StandsAt options self.now text
-            → OnOk result (TookLines options
-            (O.took out.old out.new) (E.took err.old err.new)
-            (length (ended_lines text)) (unless_empty (open_line text))) }
-        ensures stops { (options : OptionValues) (text : List ℕ) → StandsAt options self.now text
-            → IfErr result (StopsInLine options
-            (O.took out.old out.new) (E.took err.old err.new)
-            (length (ended_lines text)) (unless_empty (open_line text))) }
-        ensures counts { CountsFault (O.failures out.old) (O.failures out.new)
-            (E.failures err.old) (E.failures err.new) result }
-        ensures unflushed { Unflushed (O.is_flushed out.old) (O.is_flushed out.new)
-            × Unflushed (E.is_flushed err.old) (E.is_flushed err.new) }
+        ensures ends { (options : OptionValues) (text : List ℕ) → StandsAt options self.now text
+            → EndsOpenLine options (O.took out.old out.new) (E.took err.old err.new) text result }
+        ensures sinks { FlushesNeither O.Sink E.Sink out.old out.new err.old err.new result }
     {
         if self.line.is_empty() {
             return Ok(self.status);
@@ -185,14 +162,7 @@ impl Filter {
 
 /// Flushes the images, and then the messages.
 fn flush_both<O: Sink, E: Sink>(out: &mut O, err: &mut E) -> Result<(), RunFault>
-    ensures out_takes_none { O.took out.old out.new [] }
-    ensures err_takes_none { E.took err.old err.new [] }
-    ensures flushed { OnOk result ((O.is_flushed out.new ≡ true) × (E.is_flushed err.new ≡ true)) }
-    ensures order { IfErr result (FlushedImagesAtMost
-        (O.is_flushed out.old) (O.is_flushed out.new)
-        (E.is_flushed err.old) (E.is_flushed err.new)) }
-    ensures counts { CountsFault (O.failures out.old) (O.failures out.new)
-        (E.failures err.old) (E.failures err.new) result }
+    ensures { FlushesBoth O.Sink E.Sink out.old out.new err.old err.new result }
 {
     if out.flush().is_err() {
         return Err(RunFault::WriteOut);

@@ -1,16 +1,14 @@
 //! What is done at the end of a line.
-ghost use Rattle.std.specs.Prelude.{◌≡◌, ℕ, List, [], IfOk, IfErr, OnOk};
-ghost use Rattle.device.specs.Device.{Unflushed};
+ghost use Rattle.std.specs.Prelude.{◌≡◌, ℕ, List, []};
 ghost use Rattle.labelcore.specs.HeldLine.{held_line};
 ghost use Rattle.labelcore.specs.ItemView.{item_seen};
 ghost use Rattle.labelcore.specs.LineItem.{HasData, KeepsRun};
 ghost use Rattle.labelcore.specs.Message.{message};
 ghost use Rattle.labelcore.specs.OptionValues.{OptionValues};
 ghost use Rattle.filter.specs.Drawing.{DrawsOutcome};
-ghost use Rattle.filter.specs.Line.{FailsInLine, CountsFault};
+ghost use Rattle.filter.specs.Line.{FlushesNeither};
 ghost use Rattle.filter.specs.Output.{outcome, outcome_of_item};
-ghost use Rattle.filter.specs.Private.LineEnd.{EndsLine, FailsInMessage};
-ghost use Rattle.filter.specs.declared.status.Status.TheVariants.{Refused};
+ghost use Rattle.filter.specs.Private.LineEnd.{LineEnds, MessageEnds};
 
 use crate::drawing::draw;
 use crate::status::{RunFault, Status};
@@ -29,16 +27,10 @@ pub fn finish_line<O: Sink, E: Sink>(
     out: &mut O,
     err: &mut E,
 ) -> Result<Status, RunFault>
-    ensures ends { (text : List ℕ) → line.now ≡ held_line text → IfOk result
-        (EndsLine options.now (O.took out.old out.new) (E.took err.old err.new) number
-        (outcome options.now text)) }
-    ensures fails { (text : List ℕ) → line.now ≡ held_line text → IfErr result
-        (FailsInLine options.now (O.took out.old out.new) (E.took err.old err.new) number
-        (outcome options.now text)) }
-    ensures counts { CountsFault (O.failures out.old) (O.failures out.new)
-        (E.failures err.old) (E.failures err.new) result }
-    ensures unflushed { Unflushed (O.is_flushed out.old) (O.is_flushed out.new)
-        × Unflushed (E.is_flushed err.old) (E.is_flushed err.new) }
+    ensures ends { (text : List ℕ) → line.now ≡ held_line text
+        → LineEnds options.now (O.took out.old out.new) (E.took err.old err.new) number
+        (outcome options.now text) result }
+    ensures sinks { FlushesNeither O.Sink E.Sink out.old out.new err.old err.new result }
 {
     let mut scratch = Scratch::new();
     let item = parse(options, line, &mut scratch);
@@ -70,14 +62,9 @@ fn refuse<O: Sink, E: Sink>(
     out: &mut O,
     err: &mut E,
 ) -> Result<Status, RunFault>
-    ensures refused { IfOk result (λ status. status ≡ Refused) }
-    ensures out { O.took out.old out.new [] }
-    ensures message { OnOk result (E.took err.old err.new (message number fault.now)) }
-    ensures fails { IfErr result (FailsInMessage (E.took err.old err.new) (message number fault.now)) }
-    ensures counts { CountsFault (O.failures out.old) (O.failures out.new)
-        (E.failures err.old) (E.failures err.new) result }
-    ensures unflushed { Unflushed (O.is_flushed out.old) (O.is_flushed out.new)
-        × Unflushed (E.is_flushed err.old) (E.is_flushed err.new) }
+    ensures image { O.took out.old out.new [] }
+    ensures message { MessageEnds (E.took err.old err.new) (message number fault.now) result }
+    ensures sinks { FlushesNeither O.Sink E.Sink out.old out.new err.old err.new result }
 {
     if out.pass_on().is_err() {
         return Err(RunFault::WriteOut);

@@ -1,5 +1,5 @@
--- What the private contracts of a line's end say.
-use Rattle.std.specs.Prelude.{◌≡◌, ℕ, ◌<◌, ◌≤◌, Bool, List, [], Option, None, Some, Result, IfOk, ⊤, if◌then◌else◌}
+-- What the private contracts say of a line's end and of the flushes after the last one.
+use Rattle.std.specs.Prelude.{◌≡◌, ℕ, ◌<◌, ◌≤◌, Bool, List, [], length, Option, None, Some, Result, IfOk, MatchResult, ⊤, if◌then◌else◌}
 use Rattle.device.specs.Device.{Begins}
 use Rattle.labelcore.specs.declared.symbology.Symbology.{Symbology}
 use Rattle.labelcore.specs.LineItem.{Outcome, drawn}
@@ -9,7 +9,10 @@ use Rattle.device.specs.declared.sink.Sink.{Ghosts}
 use Rattle.filter.specs.Drawing.{refusal_of}
 use Rattle.labelcore.specs.OptionValues.{OptionValues}
 use Rattle.linear.specs.declared.linear.QuietZones.{QuietZones}
-use Rattle.filter.specs.Output.{image_of, message_of, is_refusal}
+use Rattle.filter.specs.Output.{image_of, message_of, is_refusal, status_of}
+use Rattle.filter.specs.Filter.{StopsInLine, TookLines}
+use Rattle.filter.specs.Line.{CountsFault, FailsInLine, FlushesImagesFirst}
+use Rattle.device.specs.Lines.{lines, ended_lines, open_line, unless_empty}
 use Rattle.filter.specs.Readback.{ReadsBack, read_modules}
 use Rattle.filter.specs.Symbol.{Symbol, quiet_zone}
 use Rattle.picture.specs.Reading.{raster, common_row}
@@ -67,3 +70,31 @@ abbrev pub FailsInMessage : (took_err : List ℕ → Type 0) (text : List ℕ) �
 FailsInMessage took_err text WriteOut = took_err []
 FailsInMessage took_err text WriteMessages = Begins took_err text
 FailsInMessage took_err text other = ⊥
+
+-- the end of a line: at `Ok` its image and its message are written, and at `Err` a sink failed in them
+abbrev pub LineEnds : OptionValues → (took_out took_err : List ℕ → Type 0) (number : ℕ) → Outcome Symbol
+    → Result Status RunFault → Type 0
+LineEnds options took_out took_err number outcome r = MatchResult r
+    (EndsLine options took_out took_err number outcome) (FailsInLine options took_out took_err number outcome)
+
+-- the message of a refused line: at `Ok` it is written
+abbrev pub MessageEnds : (took_err : List ℕ → Type 0) (text : List ℕ) → Result Status RunFault → Type 0
+MessageEnds took_err text r =
+    MatchResult r (λ status. (status ≡ Refused) × took_err text) (FailsInMessage took_err text)
+
+-- as `EndsInput`, but for the flushes
+abbrev pub EndsOpenLine : OptionValues → (took_out took_err : List ℕ → Type 0) (text : List ℕ)
+    → Result Status RunFault → Type 0
+EndsOpenLine options took_out took_err text r =
+    MatchResult r (λ status. (status ≡ status_of options (lines text))
+    × TookLines options took_out took_err (length (ended_lines text)) (unless_empty (open_line text)))
+    (StopsInLine options took_out took_err (length (ended_lines text)) (unless_empty (open_line text)))
+
+-- flushes of both sinks, the images first: they take no byte
+pub record FlushesBoth {O E T : Type 0} (out : Ghosts O) (err : Ghosts E) (out_old out_new : O) (err_old err_new : E)
+    (r : Result T RunFault) : Type 0 where
+  pub out_none : out.took out_old out_new []
+  pub err_none : err.took err_old err_new []
+  pub flushed : FlushesImagesFirst (out.is_flushed out_old) (out.is_flushed out_new)
+      (err.is_flushed err_old) (err.is_flushed err_new) r
+  pub counts : CountsFault (out.failures out_old) (out.failures out_new) (err.failures err_old) (err.failures err_new) r

@@ -147,6 +147,7 @@ loop-turn-preserved g c =
     c.loop-turn.err h.given h.took c.pass_on.ensures.bytes (g.met.E.Sink.took_none c.loop-turn.err) in
     let same : g.O.Sink.failures c.pass_on.new.self ≡ g.O.Sink.failures c.loop-turn.out = search rules in
     let fed = c.in_ok-feed.ensures.feeds c.args.options h.given h.stands in
+    let fed_sinks = c.in_ok-feed.ensures.sinks h.stands.is_spent in
     record {
       given = h.given ++ take c.in-Ok.count c.read.new.buf;
       gave = g.met.S.Source.gave_joined _ _ _ _ _ h.gave c.in-Ok.ensures.bytes;
@@ -160,9 +161,9 @@ loop-turn-preserved g c =
       took = TookPiece-append c.args.options g.O.Sink.took g.E.Sink.took g.met.O.Sink.took_joined
           g.met.E.Sink.took_joined c.args.out.now c.pass_on.new.self c.feed.new.out c.args.err.now c.loop-turn.err
           c.feed.new.err [] h.given (take c.in-Ok.count c.read.new.buf) sent fed.1;
-      out_unflushed = λ e. h.out_unflushed (sym c.pass_on.ensures.flushed ∙ c.in_ok-feed.ensures.unflushed.0 e);
-      err_unflushed = λ e. h.err_unflushed (c.in_ok-feed.ensures.unflushed.1 e);
+      out_unflushed = λ e. h.out_unflushed (sym c.pass_on.ensures.flushed ∙ fed_sinks.out_unflushed e);
+      err_unflushed = λ e. h.err_unflushed (fed_sinks.err_unflushed e);
       source_count = c.in-Ok.ensures.count ∙ h.source_count;
-      out_count = (c.in_ok-feed.ensures.counts h.stands.is_spent).0 ∙ (same ∙ h.out_count);
-      err_count = (c.in_ok-feed.ensures.counts h.stands.is_spent).1 ∙ h.err_count;
+      out_count = fed_sinks.counts.0 ∙ (same ∙ h.out_count);
+      err_count = fed_sinks.counts.1 ∙ h.err_count;
     }

@@ -49,8 +49,8 @@ loop-byte-preserved g c =
           c.args.out.now c.loop-byte.out c.feed_byte.new.out c.args.err.now c.loop-byte.err c.feed_byte.new.err
           text (take i piece) (byte ∷ []) (h.took options text at)
           (c.in_ok-feed_byte.ensures.feeds options (text ++ take i piece) (h.stands options text at)).1);
-      out_unflushed = λ e. h.out_unflushed (c.in_ok-feed_byte.ensures.unflushed.0 e);
-      err_unflushed = λ e. h.err_unflushed (c.in_ok-feed_byte.ensures.unflushed.1 e);
-      out_count = c.in_ok-feed_byte.ensures.counts.0 ∙ h.out_count;
-      err_count = c.in_ok-feed_byte.ensures.counts.1 ∙ h.err_count;
+      out_unflushed = λ e. h.out_unflushed (c.in_ok-feed_byte.ensures.sinks.out_unflushed e);
+      err_unflushed = λ e. h.err_unflushed (c.in_ok-feed_byte.ensures.sinks.err_unflushed e);
+      out_count = c.in_ok-feed_byte.ensures.sinks.counts.0 ∙ h.out_count;
+      err_count = c.in_ok-feed_byte.ensures.sinks.counts.1 ∙ h.err_count;
     }

@@ -39,4 +39,4 @@ returns-in-Err-clause-feeds g c options text at =
     line_number-counts options _ text at' c.saturating_add-self-inside.result
     c.saturating_add-self-inside.ensures in
     StopsInPiece-lf options _ _ text c.args.byte c.in-Err.fault c.if-byte-ne10.false
-    (rw (o, n) at (c.in-Err.ensures.fails (open_line text) at'.line))
+    (rw (o, n) at (c.in-Err.ensures.ends (open_line text) at'.line))

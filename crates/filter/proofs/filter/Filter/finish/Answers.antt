@@ -10,14 +10,14 @@ returns-in_err-flush_both-clause-ends g c options text at =
     rw (p.1, p.2) (inr (TookLines-flushed options g.O.Sink.took g.E.Sink.took g.met.O.Sink.took_joined
     g.met.E.Sink.took_joined c.args.out.now c.finish_open_line.new.out c.flush_both.new.out c.args.err.now
     c.finish_open_line.new.err c.flush_both.new.err
-    (length (ended_lines text)) (unless_empty (open_line text)) (c.in_ok-status.ensures.took options text at)
-    c.in_err-flush_both.ensures.out_takes_none c.in_err-flush_both.ensures.err_takes_none))
+    (length (ended_lines text)) (unless_empty (open_line text)) (c.in_ok-status.ensures.ends options text at).1
+    c.in_err-flush_both.ensures.out_none c.in_err-flush_both.ensures.err_none))
 
 pub returns-clause-ends : goal.returns-clause-ends
 returns-clause-ends g c options text at = (
-  c.in_ok-status.ensures.status options text at,
+  (c.in_ok-status.ensures.ends options text at).0,
   TookLines-flushed options g.O.Sink.took g.E.Sink.took g.met.O.Sink.took_joined g.met.E.Sink.took_joined c.args.out.now
       c.finish_open_line.new.out c.flush_both.new.out c.args.err.now c.finish_open_line.new.err c.flush_both.new.err
-      (length (ended_lines text)) (unless_empty (open_line text)) (c.in_ok-status.ensures.took options text at)
-      c.in_ok-flush_both.ensures.out_takes_none c.in_ok-flush_both.ensures.err_takes_none,
+      (length (ended_lines text)) (unless_empty (open_line text)) (c.in_ok-status.ensures.ends options text at).1
+      c.in_ok-flush_both.ensures.out_none c.in_ok-flush_both.ensures.err_none,
 )

@@ -1,4 +1,4 @@
-use Rattle.std.proofs.Common.{◌≡◌, ◌∙◌, ap, length, refl, sym, subst}
+use Rattle.std.proofs.Common.{[], ◌≡◌, ◌∙◌, ap, length, sym, refl, subst}
 use Rattle.std.proofs.lemmas.Bool.{false≢true}
 use Rattle.device.specs.Lines.{ended_lines, open_line}
 use Rattle.filter.specs.Filter.{FilterState, StandsAt}
@@ -7,41 +7,32 @@ use Rattle.filter.proofs.FilterLaws.{line_number-counts, no_rest, a_rest, status
 use Rattle.filter.proofs.FilterLaws.{TookLines-none, TookLines-one, StopsInLine-one}
 use Rattle.filter.proofs.filter.Filter.finish_open_line.Goals as goal
 
-pub returns-then-is_empty-clause-status : goal.returns-then-is_empty-clause-status
-returns-then-is_empty-clause-status g c options text at =
+pub returns-then-is_empty-clause-ends : goal.returns-then-is_empty-clause-ends
+returns-then-is_empty-clause-ends g c options text at =
     let at' = subst (λ (s : FilterState). StandsAt options s text) (sym c.self.view_is) at in
-    let o : c.self.inside.options ≡ options = at'.options_are in
-    status_of-no_rest options _ text at' (c.if-is_empty.ensures.0 refl)
+    let none = c.if-is_empty.ensures.0 refl in (
+      status_of-no_rest options _ text at' none,
+      rw (no_rest options _ text at' none)
+          (TookLines-none options _ _ (length (ended_lines text)) (g.met.O.Sink.took_none _) (g.met.E.Sink.took_none _)),
+    )
 
-pub returns-then-is_empty-clause-took : goal.returns-then-is_empty-clause-took
-returns-then-is_empty-clause-took g c options text at =
-    let at' = subst (λ (s : FilterState). StandsAt options s text) (sym c.self.view_is) at in
-    let o : c.self.inside.options ≡ options = at'.options_are in
-    rw (no_rest options _ text at' (c.if-is_empty.ensures.0 refl))
-    (TookLines-none options _ _ (length (ended_lines text)) (g.met.O.Sink.took_none _) (g.met.E.Sink.took_none _))
-
-pub returns-in-Ok-clause-status : goal.returns-in-Ok-clause-status
-returns-in-Ok-clause-status g c options text at =
-    let at' = subst (λ (s : FilterState). StandsAt options s text) (sym c.self.view_is) at in
-    let o : c.self.inside.options ≡ options = at'.options_are in
-    let ends = rw o at (c.in-Ok.ensures.ends (open_line text) at'.line) in
-    c.worst.ensures ∙ (ap (worst c.self.inside.status) ends.status_is
-    ∙ status_of-rest options _ text at' (λ e. false≢true (c.if-is_empty.ensures.1 e)))
-
-pub returns-in-Ok-clause-took : goal.returns-in-Ok-clause-took
-returns-in-Ok-clause-took g c options text at =
+pub returns-in-Ok-clause-ends : goal.returns-in-Ok-clause-ends
+returns-in-Ok-clause-ends g c options text at =
     let at' = subst (λ (s : FilterState). StandsAt options s text) (sym c.self.view_is) at in
     let o : c.self.inside.options ≡ options = at'.options_are in
     let n = line_number-counts options _ text at' c.saturating_add-number.result c.saturating_add-number.ensures in
     let ends = rw (o, n) at (c.in-Ok.ensures.ends (open_line text) at'.line) in
-    rw (a_rest options _ text at' (λ e. false≢true (c.if-is_empty.ensures.1 e)))
-    (TookLines-one options _ _ (length (ended_lines text)) (open_line text) ends.image ends.message ends.read)
+    let some : c.self.inside.line.bytes ≡ [] → ⊥ = λ e. false≢true (c.if-is_empty.ensures.1 e) in (
+      c.worst.ensures ∙ (ap (worst c.self.inside.status) ends.status_is ∙ status_of-rest options _ text at' some),
+      rw (a_rest options _ text at' some) (TookLines-one options _ _ (length (ended_lines text)) (open_line text)
+          ends.image ends.message ends.read),
+    )
 
-pub returns-in-Err-clause-stops : goal.returns-in-Err-clause-stops
-returns-in-Err-clause-stops g c options text at =
+pub returns-in-Err-clause-ends : goal.returns-in-Err-clause-ends
+returns-in-Err-clause-ends g c options text at =
     let at' = subst (λ (s : FilterState). StandsAt options s text) (sym c.self.view_is) at in
     let o : c.self.inside.options ≡ options = at'.options_are in
     let n = line_number-counts options _ text at' c.saturating_add-number.result c.saturating_add-number.ensures in
     rw (a_rest options _ text at' (λ e. false≢true (c.if-is_empty.ensures.1 e)))
     (StopsInLine-one options _ _ (length (ended_lines text)) (open_line text) c.in-Err.fault
-    (rw (o, n) at (c.in-Err.ensures.fails (open_line text) at'.line)))
+    (rw (o, n) at (c.in-Err.ensures.ends (open_line text) at'.line)))
