@@ -281,7 +281,7 @@ fn run_of_file<R: Abort + Files>(
     let choice = match options_of(alloc, arguments) {
         Ok(choice) => choice,
         Err(ArgumentsFault::Memory) => return None,
-        Err(_) => panic!(rt; "words refused"),
+        Err(_) => panic!(rt; "arguments refused"),
     };
     let Some(name) = &choice.file else {
         panic!(rt; "no file");

@@ -679,13 +679,13 @@ fn each_version_with_each_level(rt: HostRuntime) -> Result<(), Fail> {
 }
 
 /// Whether codewords begin with these, each of two hexadecimal digits and a space between them.
-fn begin_with(words: &[u8], digits: &[u8]) -> bool {
+fn begin_with(written: &[u8], digits: &[u8]) -> bool {
     for place in 0..digits.len().div_ceil(3) {
         let first = place.wrapping_mul(3);
         let value = digit_at(digits, first)
             .wrapping_mul(16)
             .wrapping_add(digit_at(digits, first.wrapping_add(1)));
-        if words.get(place).copied().map(u32::from) != Some(value) {
+        if written.get(place).copied().map(u32::from) != Some(value) {
             return false;
         }
     }

@@ -1,4 +1,4 @@
--- What the private contracts of reading a line say: no public clause cites these words.
+-- A line and its escapes, as contracts inside this crate see them.
 use Rattle.std.specs.Prelude.{ℕ, ◌+◌, ◌<◌, ◌≤◌, ◌≡◌, List, length, drop, Err, Option, if◌then◌else◌}
 use Rattle.std.specs.Bool.{then_some}
 use Rattle.std.specs.Char.{is_digit}
