@@ -1,5 +1,5 @@
 use Rattle.std.proofs.Common.{◌≡◌, ◌+◌, ◌-◌, ◌++◌, drop, take, length, get_or, append_assoc, append-nil, arith, ap}
-use Rattle.std.proofs.Common.{length-append}
+use Rattle.std.proofs.Common.{length-append, Bool}
 use Rattle.qrdata.specs.Private.BitsInCodewords.{bits_in}
 use Rattle.qrdata.specs.Segments.{segment_bits}
 use Rattle.std.proofs.lemmas.List.{drop-drop, length-drop}
@@ -21,15 +21,13 @@ loop-segment-preserved c =
     let next = segments_bits-next version segments default_segment bytes i place inside in
     let held = IsSegmentation-next version segments default_segment bytes i place inside c.loop-segment.invariant.3 in
     let written : bits_in c.push_segment.new.self ≡ bits_in c.loop-segment.self
-    ++ segment_bits version s.mode (take s.len (drop place bytes)) = rw piece at c.push_segment.ensures in
-    let count = length-segment_bits_front version s.mode s.len (drop place bytes) held.0.inside in (
+    ++ segment_bits version s.mode (take s.len (drop place bytes)) = rw piece at c.push_segment.ensures in (
       rw (written, size, append_assoc) (rw next at c.loop-segment.invariant.0),
       omega (
         arith,
         ap length written,
-        length-append (bits_in c.loop-segment.self)
-            (segment_bits version s.mode (take s.len (drop place bytes))),
-        count,
+        length-append {A = Bool},
+        length-segment_bits_front version s.mode s.len (drop place bytes) held.0.inside,
         cost-next version segments default_segment i inside,
         c.loop-segment.invariant.1,
       ),
