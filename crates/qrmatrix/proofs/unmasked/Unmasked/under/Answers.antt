@@ -27,7 +27,7 @@ returns-clause-modules c =
             (and_right (nat_lt x (side_of v)) (nat_lt y (side_of v)) (le-ltb y (side_of v) gy)))
         | inl ly ↦
             c.apply_mask.ensures.inside x y (omega arith) (omega arith)
-            ∙ under v self.level c.args.mask codewords self.function self.modules _ u redrawn x y lx ly
+            ∙ under u redrawn x y lx ly
             ∙ sym (module_inside v self.level c.args.mask codewords x y (inside_from (side_of v) x y lx ly))
       ]
     ]
