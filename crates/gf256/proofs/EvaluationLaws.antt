@@ -111,8 +111,7 @@ evaluate-polynomial_product (c ∷ p) q b x hp hq hx =
     let hE = evaluate-lt g x hq hx in
     let hpow = field_power-lt x n hx in
     let lengths : length (S ++ zeros n) ≡ length (0 ∷ P) =
-    length-append S (zeros n) ∙ omega
-    (arith, length-scalar_multiple c g, length-zeros n, length-polynomial_product p q b) in
+    length-append S (zeros n) ∙ omega (arith, length-scalar_multiple c g, length-zeros n, length-polynomial_product p q b) in
     let left : evaluate (S ++ zeros n) x ≡ field_product (field_product c power) E =
     evaluate-append_zeros S n x (All-scalar_multiple c g hc hq) hx
     ∙ ap (λ y. field_product y power) (evaluate-scalar_multiple c g x hc hq hx)

@@ -11,8 +11,8 @@ use Rattle.qrdata.specs.declared.segmentation.Digits.{Digits}
 use Rattle.qrdata.specs.declared.segmentation.Characters.{Characters}
 use Rattle.qrdata.specs.declared.segmentation.TheConstants.{ABSENT}
 use Rattle.qrdata.specs.Segments.{has_character, payload_length, segment_length, segment_of}
-use Rattle.qrdata.specs.Private.Table.{absent_choice, better_choice, choices_of, fewest_bits, longer_choice}
-use Rattle.qrdata.specs.Private.Table.{next_characters, next_choices, next_digits, short_choice}
+use Rattle.qrdata.specs.Private.Table.{absent_characters, absent_choice, absent_digits, better_choice, choices_of}
+use Rattle.qrdata.specs.Private.Table.{fewest_bits, longer_choice, next_characters, next_choices, next_digits, short_choice}
 use Rattle.qrdata.proofs.RunLaws.{run_length, run_more, run_none, run_nothing}
 use Rattle.qrdata.proofs.ChoiceOrderLaws.{Beats, better-left, better-one, better-right}
 
@@ -154,26 +154,27 @@ pub record AreBest (version : ℕ) (bytes : List ℕ) (choices : Choices) : Type
   pub characters : AreCharacters version bytes choices.characters
   pub byte : IsClass version bytes Byte 0 0 choices.bytes
 
+-- no digit first, no choice
+AreDigits-absent : (version : ℕ) (bytes : List ℕ) → run_length (has_character Numeric) bytes ≡ 0
+    → AreDigits version bytes absent_digits
+AreDigits-absent version bytes none = record {
+  none_over = IsClass-absent version bytes Numeric 0 none;
+  one_over = IsClass-absent version bytes Numeric 1 none;
+  two_over = IsClass-absent version bytes Numeric 2 none;
+}
+
 AreDigits-next : (version b : ℕ) (bytes : List ℕ) (rest : Digits) → AreDigits version bytes rest
     → AreDigits version (b ∷ bytes) (next_digits version b (fewest_bits version bytes) rest)
 unfolding next_digits
 AreDigits-next version b bytes rest old =
-    let after = fewest_bits version bytes in
     let with : Digits = record {
       none_over = longer_choice rest.two_over 3;
       one_over =
-          better_choice (longer_choice rest.none_over 4) (short_choice version Numeric after);
-      two_over =
-          longer_choice rest.one_over 3;
+          better_choice (longer_choice rest.none_over 4) (short_choice version Numeric (fewest_bits version bytes));
+      two_over = longer_choice rest.one_over 3;
     } in
-    let without : Digits = record {
-      none_over = absent_choice Numeric;
-      one_over = absent_choice Numeric;
-      two_over =
-          absent_choice Numeric;
-    } in
-    let go : (t : Bool) → is_ascii_digit b ≡ t → AreDigits version (b ∷ bytes) (cond t with without) =
-    λ t. elim t as (λ t. is_ascii_digit b ≡ t → AreDigits version (b ∷ bytes) (cond t with without)) [
+    let go : (t : Bool) → is_ascii_digit b ≡ t → AreDigits version (b ∷ bytes) (cond t with absent_digits) =
+    λ t. elim t as (λ t. is_ascii_digit b ≡ t → AreDigits version (b ∷ bytes) (cond t with absent_digits)) [
       | true ↦ λ yes. record {
         none_over = IsClass-whole version (b ∷ bytes) Numeric 0 with.none_over (λ h. omega arith)
             (IsClass-longer version b bytes Numeric 2 0 3 rest.two_over yes numeric_none old.two_over);
@@ -182,56 +183,46 @@ AreDigits-next version b bytes rest old =
         two_over = IsClass-whole version (b ∷ bytes) Numeric 2 with.two_over (λ h. omega arith)
             (IsClass-longer version b bytes Numeric 1 2 3 rest.one_over yes numeric_two old.one_over);
       }
-      | false ↦ λ no. let none = run_none (has_character Numeric) b bytes no in record {
-        none_over = IsClass-absent version (b ∷ bytes) Numeric 0 none;
-        one_over = IsClass-absent version (b ∷ bytes) Numeric 1 none;
-        two_over = IsClass-absent version (b ∷ bytes) Numeric 2 none;
-      }
+      | false ↦ λ no. AreDigits-absent version (b ∷ bytes) (run_none (has_character Numeric) b bytes no)
     ] in
     go (is_ascii_digit b) refl
+
+AreCharacters-absent : (version : ℕ) (bytes : List ℕ) → run_length (has_character Alphanumeric) bytes ≡ 0
+    → AreCharacters version bytes absent_characters
+AreCharacters-absent version bytes none = record {
+  none_over = IsClass-absent version bytes Alphanumeric 0 none;
+  one_over = IsClass-absent version bytes Alphanumeric 1 none;
+}
 
 AreCharacters-next : (version b : ℕ) (bytes : List ℕ) (rest : Characters) → AreCharacters version bytes rest
     → AreCharacters version (b ∷ bytes) (next_characters version b (fewest_bits version bytes) rest)
 unfolding next_characters
 AreCharacters-next version b bytes rest old =
-    let after = fewest_bits version bytes in
     let with : Characters = record {
       none_over = longer_choice rest.one_over 5;
       one_over =
-          better_choice (longer_choice rest.none_over 6) (short_choice version Alphanumeric after);
+          better_choice (longer_choice rest.none_over 6)
+          (short_choice version Alphanumeric (fewest_bits version bytes));
     } in
-    let without : Characters = record {
-      none_over = absent_choice Alphanumeric;
-      one_over =
-          absent_choice Alphanumeric;
-    } in
-    let go : (t : Bool) → has_character Alphanumeric b ≡ t → AreCharacters version (b ∷ bytes) (cond t with without) =
-    λ t. elim t as (λ t. has_character Alphanumeric b ≡ t → AreCharacters version (b ∷ bytes) (cond t with without)) [
+    let Is : Bool → Type 0 =
+    λ t. has_character Alphanumeric b ≡ t → AreCharacters version (b ∷ bytes) (cond t with absent_characters) in
+    let go : (t : Bool) → Is t =
+    λ t. elim t as Is [
       | true ↦ λ yes. record {
         none_over = IsClass-whole version (b ∷ bytes) Alphanumeric 0 with.none_over (λ h. omega arith)
             (IsClass-longer version b bytes Alphanumeric 1 0 5 rest.one_over yes alphanumeric_none old.one_over);
         one_over = IsClass-short version b bytes Alphanumeric 1 (longer_choice rest.none_over 6) yes refl
             (IsClass-longer version b bytes Alphanumeric 0 1 6 rest.none_over yes alphanumeric_one old.none_over);
       }
-      | false ↦ λ no. let none = run_none (has_character Alphanumeric) b bytes no in record {
-        none_over = IsClass-absent version (b ∷ bytes) Alphanumeric 0 none;
-        one_over = IsClass-absent version (b ∷ bytes) Alphanumeric 1 none;
-      }
+      | false ↦ λ no. AreCharacters-absent version (b ∷ bytes) (run_none (has_character Alphanumeric) b bytes no)
     ] in
     go (has_character Alphanumeric b) refl
 
 pub AreBest-of : (version : ℕ) (bytes : List ℕ) → AreBest version bytes (choices_of version bytes)
 unfolding choices_of next_choices
 AreBest-of version [] = record {
-  digits = record {
-    none_over = IsClass-absent version [] Numeric 0 (run_nothing (has_character Numeric));
-    one_over = IsClass-absent version [] Numeric 1 (run_nothing (has_character Numeric));
-    two_over = IsClass-absent version [] Numeric 2 (run_nothing (has_character Numeric));
-  };
-  characters = record {
-    none_over = IsClass-absent version [] Alphanumeric 0 (run_nothing (has_character Alphanumeric));
-    one_over = IsClass-absent version [] Alphanumeric 1 (run_nothing (has_character Alphanumeric));
-  };
+  digits = AreDigits-absent version [] (run_nothing (has_character Numeric));
+  characters = AreCharacters-absent version [] (run_nothing (has_character Alphanumeric));
   byte = IsClass-absent version [] Byte 0 (run_nothing (has_character Byte));
 }
 AreBest-of version (b ∷ bytes) =

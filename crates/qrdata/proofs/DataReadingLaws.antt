@@ -104,61 +104,71 @@ pub lengths_hold : (version : ℕ) (level : Level) → (sum (block_lengths versi
 unfolding data_codewords block_count
 lengths_hold version level = (refl, refl)
 
+-- the blocks of the data codewords and of the error correction codewords, taken back out of a final message
+record IsDealtBack (version : ℕ) (level : Level) (codewords : List ℕ) : Type 0 where
+  total : length (final_message version level codewords) ≡ total_codewords version
+  blocks : deinterleaving (block_lengths version level) (take (data_codewords version level)
+      (final_message version level codewords)) ≡ split_by (block_lengths version level) codewords
+  ec_blocks :
+      deinterleaving (replicate (length (block_lengths version level)) (ec_codewords_per_block version level))
+      (drop (data_codewords version level) (final_message version level codewords))
+      ≡ map (ec_codewords_of (ec_codewords_per_block version level)) (split_by (block_lengths version level) codewords)
+
+IsDealtBack-of : (version : ℕ) (level : Level) (codewords : List ℕ) → 1 ≤ version → version ≤ 10 → AreBytes codewords
+    → length codewords ≡ data_codewords version level → HasEcCodewords (ec_codewords_per_block version level)
+    → IsDealtBack version level codewords
+unfolding final_message
+IsDealtBack-of version level codewords low high w size_is law =
+    let k = ec_codewords_per_block version level in
+    let lengths = block_lengths version level in
+    let blocks = split_by lengths codewords in
+    let ec_blocks = map (ec_codewords_of k) blocks in
+    let shapes = lengths_hold version level in
+    let block_shapes : map length blocks ≡ lengths = split_lengths lengths codewords (omega (arith, shapes.0)) in
+    let ec_shapes : map length ec_blocks ≡ replicate (length lengths) k =
+    ec_lengths (ec_codewords_of k) k blocks AreBytes law.count (AreBytes-split lengths codewords w)
+    ∙ ap (λ n. replicate n k) (length-split_by lengths codewords) in
+    let data_length : length (interleaving blocks) ≡ data_codewords version level =
+    length-interleaving blocks ∙ (ap sum block_shapes ∙ shapes.0) in
+    let ec_length : length (interleaving ec_blocks) ≡ block_count version level * k =
+    length-interleaving ec_blocks ∙ (ap sum ec_shapes
+    ∙ (sum_by-replicate (λ x. x) (length lengths) k ∙ ap (λ n. n * k) shapes.1)) in
+    let total = data_codewords-add_ec_codewords version level low high in record {
+      total = omega (arith, length-append (interleaving blocks) (interleaving ec_blocks), total);
+      blocks = rw (take_front (data_codewords version level) (interleaving blocks) (interleaving ec_blocks) data_length)
+          (rw block_shapes at (deinterleaving-interleaving blocks));
+      ec_blocks = rw (drop_front (data_codewords version level) (interleaving blocks) (interleaving ec_blocks) data_length)
+          (rw ec_shapes at (deinterleaving-interleaving ec_blocks));
+    }
+
 -- what is read of the codewords of a symbol
 pub data_in-symbol_codewords : (version : ℕ) (level : Level) (segments : List Segment) (bytes : List ℕ)
     → 1 ≤ version → version ≤ 10 → AreBytes bytes → IsSegmentation version segments bytes
     → cost version segments ≤ 8 * data_codewords version level
     → EcCodewordsAreRemainder → RemaindersHaveRoots
     → data_in version level (symbol_codewords version level segments bytes) ≡ Some bytes
-unfolding data_in symbol_codewords final_message
+unfolding data_in symbol_codewords
 data_in-symbol_codewords version level segments bytes low high w cut fits remainder codeword =
     let size = data_codewords version level in
     let k = ec_codewords_per_block version level in
-    let count = block_count version level in
     let lengths = block_lengths version level in
     let bits = segments_bits version segments bytes in
     let codewords = data_codewords_of size bits in
-    let blocks = split_by lengths codewords in
-    let ec_blocks = map (ec_codewords_of k) blocks in
-    let sound_here = HasSoundBlocks-of version level low high in
-    let law = HasEcCodewords-from_law remainder codeword k sound_here.some_ec_codewords in
-    let shapes = lengths_hold version level in
+    let law = HasEcCodewords-from_law remainder codeword k (HasSoundBlocks-of version level low high).some_ec_codewords in
     let bits_fit : length bits ≤ 8 * size = omega (arith, length-segments_bits version segments bytes cut, fits) in
-    let codewords_length : length codewords ≡ size = length-data_codewords_of size bits bits_fit in
-    let all_codewords : sum lengths ≡ length codewords = shapes.0 ∙ sym codewords_length in
-    let block_shapes : map length blocks ≡ lengths = split_lengths lengths codewords (omega arith) in
-    let blocks_count : length blocks ≡ count = length-split_by lengths codewords ∙ shapes.1 in
-    let data_length : length (interleaving blocks) ≡ size =
-    length-interleaving blocks ∙ (ap sum block_shapes ∙ shapes.0) in
-    let split_bytes = AreBytes-split lengths codewords (AreBytes-data_codewords_of size bits) in
-    let ec_codewords_shapes : map length ec_blocks ≡ replicate count k =
-    ec_lengths (ec_codewords_of k) k blocks AreBytes law.count split_bytes ∙ ap (λ n. replicate n k) blocks_count in
-    let ec_codewords_codewords : length (interleaving ec_blocks) ≡ count * k =
-    length-interleaving ec_blocks ∙ (ap sum ec_codewords_shapes ∙ sum_by-replicate (λ x. x) count k) in
-    let read_blocks : deinterleaving lengths (interleaving blocks)
-    ≡ blocks = rw block_shapes at (deinterleaving-interleaving blocks) in
-    let read_ec_blocks : deinterleaving (replicate count k) (interleaving ec_blocks) ≡ ec_blocks =
-    rw ec_codewords_shapes at (deinterleaving-interleaving ec_blocks) in
-    let front : take size (interleaving blocks ++ interleaving ec_blocks) ≡ interleaving blocks =
-    take_front size (interleaving blocks) (interleaving ec_blocks) data_length in
-    let back : drop size (interleaving blocks ++ interleaving ec_blocks) ≡ interleaving ec_blocks =
-    drop_front size (interleaving blocks) (interleaving ec_blocks) data_length in
-    let total : length (interleaving blocks ++ interleaving ec_blocks) ≡ total_codewords version =
-    omega (
-      arith,
-      length-append (interleaving blocks)
-          (interleaving ec_blocks),
-      data_codewords-add_ec_codewords version level low high,
-    ) in
-    let valid = all_have_roots k blocks law split_bytes in
-    let joined : concat blocks ≡ codewords = split_joined lengths codewords all_codewords in
+    let size_is : length codewords ≡ size = length-data_codewords_of size bits bits_fit in
+    let are_bytes = AreBytes-data_codewords_of size bits in
+    let dealt = IsDealtBack-of version level codewords low high are_bytes size_is law in
+    let valid = all_have_roots k (split_by lengths codewords) law (AreBytes-split lengths codewords are_bytes) in
+    let joined : concat (split_by lengths codewords) ≡ codewords =
+    split_joined lengths codewords ((lengths_hold version level).0 ∙ sym size_is) in
     let ends = data_codewords_of-ends size bits bits_fit in
     let read : segments_at version (8 * size) (bits ++ ends.0) ≡ Some bytes =
     segments_at-segments_bits version segments bytes (8 * size) ends.0 w cut
     (omega (arith, count_below_cost version segments, fits)) ends.2 in
     let same : (total_codewords version == total_codewords version) ≡ true =
     eq-eqb (total_codewords version) (total_codewords version) refl in
-    rw (shapes.1, front, back, total, read_blocks, read_ec_blocks, valid, same, joined, ends.1) read
+    rw (dealt.total, dealt.blocks, dealt.ec_blocks, valid, same, joined, ends.1) read
 
 both_pass : {A : Type 0} (a b : Bool) (x : Option A) (y : A) → (if a && b then x else None) ≡ Some y → a ≡ true
 both_pass true b x y h = refl

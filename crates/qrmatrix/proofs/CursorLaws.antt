@@ -189,6 +189,17 @@ pub record AtRow (v s t right y : ℕ) : Type 0 where
   pub column : right ≡ right_column (side_of v) s
   pub row : y ≡ row_of (side_of v) s t
 
+-- a row of a strip that goes up, in a square of n modules, and one of a strip that goes down
+pub AtRow-up : {v n s t right y : ℕ} → s < (side_of v - 1) / 2 → t < side_of v → right ≡ right_column (side_of v) s
+    → n ≡ side_of v → s % 2 ≡ 0 → y ≡ n - 1 - t → AtRow v s t right y
+AtRow-up {v} {n} {s} {t} {right} {y} strip step column width even is =
+    record { strip = strip; step = step; column = column; row = row_up (side_of v) n s t y width even is }
+
+pub AtRow-down : {v s t right y : ℕ} → s < (side_of v - 1) / 2 → t < side_of v → right ≡ right_column (side_of v) s
+    → (s % 2 ≢ 0) → y ≡ t → AtRow v s t right y
+AtRow-down {v} {s} {t} {right} {y} strip step column odd is =
+    record { strip = strip; step = step; column = column; row = row_down (side_of v) s t y odd is }
+
 -- a module is in the square but not in column 6, and has this key
 pub record HasKey (v x y k : ℕ) : Type 0 where
   pub inside : x < side_of v
@@ -233,71 +244,77 @@ right_positive v s t right y at =
 row_done : (n s t : ℕ) → 2 * n * s + 2 * t + 1 + 1 ≡ 2 * n * s + 2 * (t + 1)
 row_done n s t = omega arith
 
--- the two modules of a row of a strip, one after the other
-pub placed_pair : (v : ℕ) → Computed v → (codewords : List ℕ) (old : ℕ → ℕ → Bool) (m n o : List (List Bool))
-    (i j h s t right y : ℕ) (function : List (List Bool))
-    → MarksFunctions v function → Placed v codewords old (value_at m) i (2 * side_of v * s + 2 * t)
-    → AtRow v s t right y
-    → (value_at function right y ≡ false → (j ≡ i + 1) × WritesAt m n right y (codeword_bit codewords i))
-    → (value_at function right y ≡ true → (j ≡ i) × (n ≡ m))
-    → (value_at function (right - 1) y ≡ false → (h ≡ j + 1) × WritesAt n o (right - 1) y (codeword_bit codewords j))
-    → (value_at function (right - 1) y ≡ true → (h ≡ j) × (o ≡ n))
-    → Placed v codewords old (value_at o) h (2 * side_of v * s + 2 * (t + 1))
-placed_pair v c codewords old m n o i j h s t right y function marks p at w0 k0 w1 k1 =
-    let r = right_key v s t right y at in
-    let l = left_key v s t right y at in
-    let first = step_any v c codewords old (value_at m) i (2 * side_of v * s + 2 * t) right y p r.inside r.row_inside
-    r.untimed r.has function n m j refl marks w0 k0 in
-    let second = step_any v c codewords old (value_at n) j (2 * side_of v * s + 2 * t + 1) (right - 1) y first l.inside
-    l.row_inside l.untimed l.has function o n h refl marks w1 k1 in
-    subst (λ z. Placed v codewords old (value_at o) h z) (row_done (side_of v) s t) second
+-- the same modules and the same count, by other names
+pub Placed-moved : {v : ℕ} {codewords : List ℕ} {old m n : ℕ → ℕ → Bool} {i j k : ℕ} → Placed v codewords old m i k
+    → n ≡ m → j ≡ i → Placed v codewords old n j k
+Placed-moved {v} {codewords} {old} {m} {n} {i} {j} {k} p same_modules same_count =
+    subst (λ z. Placed v codewords old n z k) (sym same_count)
+    (subst (λ z. Placed v codewords old z i k) (sym same_modules) p)
 
--- the two modules of a row of a strip at once, where both are free
-pub placed_two : (v : ℕ) → Computed v → (codewords : List ℕ) (old : ℕ → ℕ → Bool) (m o function : List (List Bool))
-    (i s t right y two : ℕ)
-    → MarksFunctions v function → Placed v codewords old (value_at m) i (2 * side_of v * s + 2 * t)
-    → AtRow v s t right y
-    → (value_at function (right - 1) y ≡ false) × (value_at function (right - 1 + 1) y ≡ false)
-    → ShowsTwo two (codeword_bit codewords i) (codeword_bit codewords (i + 1))
-    → WritesTwo m o (right - 1) y (bit two 0) (bit two 1)
-    → Placed v codewords old (value_at o) (i + 2) (2 * side_of v * s + 2 * (t + 1))
-placed_two v c codewords old m o function i s t right y two marks p at free shows w =
-    let r = right_key v s t right y at in
-    let l = left_key v s t right y at in
-    let e : right - 1 + 1 ≡ right = right_positive v s t right y at in
-    let right_free : is_free v right y ≡ true =
-    free_from (is_free v right y) (sym (marks right y r.inside r.row_inside) ∙ ap (λ z. value_at function z y) (sym e)
-    ∙ free.1) in
-    let left_free : is_free v (right - 1) y ≡ true =
-    free_from (is_free v (right - 1) y) (sym (marks (right - 1) y l.inside l.row_inside) ∙ free.0) in
-    let half : ℕ → ℕ → Bool = λ a b. if (a == right) && (b == y) then codeword_bit codewords i else value_at m a b in
-    let first = step_free v c codewords old (value_at m) i (2 * side_of v * s + 2 * t) right y p r.inside r.row_inside
-    r.untimed r.has half right_free (λ a b. refl) in
-    let wrote : Writes half (value_at o) (right - 1) y (codeword_bit codewords (i + 1)) =
-    λ a b. w a b ∙ rw (shows.low, shows.high, e) refl in
-    let second = step_free v c codewords old half (i + 1) (2 * side_of v * s + 2 * t + 1) (right - 1) y first l.inside
-    l.row_inside l.untimed l.has (value_at o) left_free wrote in
-    let count : i + 1 + 1 ≡ i + 2 = omega arith in
-    subst (λ z. Placed v codewords old (value_at o) z (2 * side_of v * s + 2 * (t + 1))) count
-    (subst (λ z. Placed v codewords old (value_at o) (i + 1 + 1) z) (row_done (side_of v) s t) second)
+-- The cursor is at a row of a strip of a symbol whose function modules are marked.
+module _ {v : ℕ} (codewords : List ℕ) (old : ℕ → ℕ → Bool) (function : List (List Bool)) {s t right y : ℕ}
+    (marks : MarksFunctions v function) (at : AtRow v s t right y) where
+  -- the two modules of the row that are not marked are free
+  both_free : (value_at function (right - 1) y ≡ false) × (value_at function (right - 1 + 1) y ≡ false)
+      → (is_free v right y ≡ true) × (is_free v (right - 1) y ≡ true)
+  both_free free =
+      let r = right_key v s t right y at in
+      let l = left_key v s t right y at in
+      let e : right - 1 + 1 ≡ right = right_positive v s t right y at in (
+        free_from (is_free v right y)
+            (sym (marks right y r.inside r.row_inside) ∙ ap (λ z. value_at function z y) (sym e) ∙ free.1),
+        free_from (is_free v (right - 1) y) (sym (marks (right - 1) y l.inside l.row_inside) ∙ free.0),
+      )
 
--- free modules at the cursor are light
-pub light_ahead : (v : ℕ) (codewords : List ℕ) (old : ℕ → ℕ → Bool) (m function : List (List Bool)) (i s t right y : ℕ)
-    → MarksFunctions v function → Placed v codewords old (value_at m) i (2 * side_of v * s + 2 * t)
-    → AtRow v s t right y
-    → (value_at function (right - 1) y ≡ false) × (value_at function (right - 1 + 1) y ≡ false)
-    → (value_at m (right - 1) y ≡ false) × (value_at m (right - 1 + 1) y ≡ false)
-light_ahead v codewords old m function i s t right y marks p at free =
-    let r = right_key v s t right y at in
-    let l = left_key v s t right y at in
-    let e : right - 1 + 1 ≡ right = right_positive v s t right y at in
-    let right_free : is_free v right y ≡ true =
-    free_from (is_free v right y) (sym (marks right y r.inside r.row_inside) ∙ ap (λ z. value_at function z y) (sym e)
-    ∙ free.1) in
-    let left_free : is_free v (right - 1) y ≡ true =
-    free_from (is_free v (right - 1) y) (sym (marks (right - 1) y l.inside l.row_inside) ∙ free.0) in
-    let kr : 2 * side_of v * s + 2 * t ≤ key (side_of v) right y = let h = r.has in omega arith in
-    let kl : 2 * side_of v * s + 2 * t ≤ key (side_of v) (right - 1) y = let h = l.has in omega arith in (
-      p.ahead (right - 1) y l.inside l.row_inside left_free kl,
-      ap (λ z. value_at m z y) e ∙ p.ahead right y r.inside r.row_inside right_free kr,
-    )
+  -- the two modules of the row, one after the other
+  pub placed_pair : Computed v → (m n o : List (List Bool)) (i j h : ℕ)
+      → Placed v codewords old (value_at m) i (2 * side_of v * s + 2 * t)
+      → (value_at function right y ≡ false → (j ≡ i + 1) × WritesAt m n right y (codeword_bit codewords i))
+      → (value_at function right y ≡ true → (j ≡ i) × (n ≡ m))
+      → (value_at function (right - 1) y ≡ false → (h ≡ j + 1) × WritesAt n o (right - 1) y (codeword_bit codewords j))
+      → (value_at function (right - 1) y ≡ true → (h ≡ j) × (o ≡ n))
+      → Placed v codewords old (value_at o) h (2 * side_of v * s + 2 * (t + 1))
+  placed_pair c m n o i j h p w0 k0 w1 k1 =
+      let r = right_key v s t right y at in
+      let l = left_key v s t right y at in
+      let first = step_any v c codewords old (value_at m) i (2 * side_of v * s + 2 * t) right y p r.inside r.row_inside
+      r.untimed r.has function n m j refl marks w0 k0 in
+      let second = step_any v c codewords old (value_at n) j (2 * side_of v * s + 2 * t + 1) (right - 1) y first l.inside
+      l.row_inside l.untimed l.has function o n h refl marks w1 k1 in
+      subst (λ z. Placed v codewords old (value_at o) h z) (row_done (side_of v) s t) second
+
+  -- the two modules of the row at once, where both are free
+  pub placed_two : Computed v → (m o : List (List Bool)) (i two : ℕ)
+      → Placed v codewords old (value_at m) i (2 * side_of v * s + 2 * t)
+      → (value_at function (right - 1) y ≡ false) × (value_at function (right - 1 + 1) y ≡ false)
+      → ShowsTwo two (codeword_bit codewords i) (codeword_bit codewords (i + 1))
+      → WritesTwo m o (right - 1) y (bit two 0) (bit two 1)
+      → Placed v codewords old (value_at o) (i + 2) (2 * side_of v * s + 2 * (t + 1))
+  placed_two c m o i two p free shows w =
+      let r = right_key v s t right y at in
+      let l = left_key v s t right y at in
+      let e : right - 1 + 1 ≡ right = right_positive v s t right y at in
+      let half : ℕ → ℕ → Bool = λ a b. if (a == right) && (b == y) then codeword_bit codewords i else value_at m a b in
+      let first = step_free v c codewords old (value_at m) i (2 * side_of v * s + 2 * t) right y p r.inside r.row_inside
+      r.untimed r.has half (both_free free).0 (λ a b. refl) in
+      let wrote : Writes half (value_at o) (right - 1) y (codeword_bit codewords (i + 1)) =
+      λ a b. w a b ∙ rw (shows.low, shows.high, e) refl in
+      let second = step_free v c codewords old half (i + 1) (2 * side_of v * s + 2 * t + 1) (right - 1) y first l.inside
+      l.row_inside l.untimed l.has (value_at o) (both_free free).1 wrote in
+      let count : i + 2 ≡ i + 1 + 1 = omega arith in
+      Placed-moved (subst (λ z. Placed v codewords old (value_at o) (i + 1 + 1) z) (row_done (side_of v) s t) second)
+      refl count
+
+  -- free modules at the cursor are light
+  pub light_ahead : (m : List (List Bool)) (i : ℕ) → Placed v codewords old (value_at m) i (2 * side_of v * s + 2 * t)
+      → (value_at function (right - 1) y ≡ false) × (value_at function (right - 1 + 1) y ≡ false)
+      → (value_at m (right - 1) y ≡ false) × (value_at m (right - 1 + 1) y ≡ false)
+  light_ahead m i p free =
+      let r = right_key v s t right y at in
+      let l = left_key v s t right y at in
+      let e : right - 1 + 1 ≡ right = right_positive v s t right y at in
+      let kr : 2 * side_of v * s + 2 * t ≤ key (side_of v) right y = let h = r.has in omega arith in
+      let kl : 2 * side_of v * s + 2 * t ≤ key (side_of v) (right - 1) y = let h = l.has in omega arith in (
+        p.ahead (right - 1) y l.inside l.row_inside (both_free free).1 kl,
+        ap (λ z. value_at m z y) e ∙ p.ahead right y r.inside r.row_inside (both_free free).0 kr,
+      )

@@ -171,7 +171,7 @@ column_narrow : (information i : ℕ) → up (bit_and (information / 2 ^ i) 1) 8
 column_narrow information i = rw (shr_and_one information i) (moved_narrow (bit_at information i)
     (bit_at-lt information i))
 
--- the row above, between or below, as the tests say
+-- the row above, between or below, as the tests say; they are arguments, so that each case computes
 by_tests : (a b c e : Bool) (information x p q r : ℕ) → (x == 8) ≡ e
     → bit (if a then up (bit_and (information / 2 ^ p) 1) 8 else
     (if b then up (bit_and (information / 2 ^ q) 1) 8 else (if c then up (bit_and (information / 2 ^ r) 1) 8 else 0))) x

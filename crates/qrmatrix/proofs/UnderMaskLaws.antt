@@ -41,13 +41,13 @@ shown v level mask (Some (Format i)) f t chosen old e free taken = rw (e, taken 
 shown v level mask (Some (Version i)) f t chosen old e free taken = rw e (taken refl)
 shown v level mask None f t chosen old e free taken = rw (e, xor-flip_if t chosen) (ap (flip_if t) (free refl))
 
-pub under : (v : ℕ) (level : Level) (mask : ℕ) (codewords : List ℕ) (function old m : List (List Bool))
+pub under : {v : ℕ} {level : Level} {mask : ℕ} {codewords : List ℕ} {function old m : List (List Bool)}
     → IsUnmasked v codewords function old
     → ShowsFormat v level mask old m → (x y : ℕ) → x < side_of v → y < side_of v
     → module_under_mask mask function m x y ≡ unwrap_or (fixed_module v level mask x y)
     (xor (is_flipped mask x y) (codeword_bit codewords (rank v x y)))
 unfolding fixed_module is_free
-under v level mask codewords function old m u s x y lx ly =
+under {v} {level} {mask} {codewords} {function} {old} {m} u s x y lx ly =
     rw (s.inside x y lx ly) (shown v level mask (role v x y) (value_at function x y) (is_flipped mask x y)
     (codeword_bit codewords (rank v x y)) (value_at old x y) (u.marked x y lx ly) (u.free x y lx ly)
     (u.taken x y lx ly))

@@ -50,19 +50,16 @@ row_windows w u b n l uniform begins =
     (uniform i s ∙ rw (shr_bit w 1 i, shr_bit w 2 i, shr_bit w 3 i, shr_bit w 4 i) (sym (uniform_five (bit w) i)))
     (begins i s)))
 
-pub column_windows : (m : ℕ → ℕ → Bool) (u b r r1 r2 r3 r4 y n : ℕ) → n ≤ 57 → ((x : ℕ) → bit r x ≡ m x y)
-    → ((x : ℕ) → bit r1 x ≡ m x (y + 1))
-    → ((x : ℕ) → bit r2 x ≡ m x (y + 2)) → ((x : ℕ) → bit r3 x ≡ m x (y + 3)) → ((x : ℕ) → bit r4 x ≡ m x (y + 4))
-    → ((x : ℕ) → x < 64 → bit u x ≡ (((beq (bit r1 x) (bit r x) && beq (bit r2 x) (bit r x))
-    && beq (bit r3 x) (bit r x)) && beq (bit r4 x) (bit r x)))
+pub column_windows : (m : ℕ → ℕ → Bool) (u b y n : ℕ) → n ≤ 57
+    → ((x : ℕ) → x < 64 → bit u x ≡ (((beq (m x (y + 1)) (m x y) && beq (m x (y + 2)) (m x y))
+    && beq (m x (y + 3)) (m x y)) && beq (m x (y + 4)) (m x y)))
     → ((x : ℕ) → x < 64 → bit b x ≡ begins_run (m x) y)
     → sum_below n (λ x. cond (bit u x) (1 + cond (bit b x) 2 0) 0) ≡ sum_below n (λ x. window_points (m x) y)
-column_windows m u b r r1 r2 r3 r4 y n l h h1 h2 h3 h4 uniform begins =
+column_windows m u b y n l uniform begins =
     sum_below_same n (λ x. cond (bit u x) (1 + cond (bit b x) 2 0) 0) (λ x. window_points (m x) y) (λ x k.
     let s : x < 64 = omega arith in
     window_same (bit u x) (is_uniform (m x) y 5) (bit b x) (begins_run (m x) y)
-    (uniform x s ∙ rw (h x, h1 x, h2 x, h3 x, h4 x) (sym (uniform_five (m x) y)))
-    (begins x s))
+    (uniform x s ∙ sym (uniform_five (m x) y)) (begins x s))
 
 -- the penalty of columns, window by window
 pub columns_summed : (n : ℕ) (m : ℕ → ℕ → Bool)
@@ -89,11 +86,11 @@ and_grouped true b s = refl
 and_grouped false b s = refl
 
 -- one more module of a pattern is compared
-pub shown_more : (line : ℕ → Bool) (at next j : ℕ) (pattern : List Bool) (f r s : Bool) → j < length pattern
-    → next ≡ at + 1
-    → r ≡ (f && beq (line at) (get_or pattern j false)) → (f && shows line at (drop j pattern)) ≡ s
-    → (r && shows line next (drop (j + 1) pattern)) ≡ s
-shown_more line at next j pattern f r s h n e g =
+pub shown_more : (line : ℕ → Bool) (i j : ℕ) (pattern : List Bool) (f r : Bool) → j < length pattern
+    → r ≡ (f && beq (line (i + j)) (get_or pattern j false))
+    → (r && shows line (i + (j + 1)) (drop (j + 1) pattern)) ≡ (f && shows line (i + j) (drop j pattern))
+shown_more line i j pattern f r h e =
     let d : drop j pattern ≡ get_or pattern j false ∷ drop (suc j) pattern = drop-cons pattern j false h in
-    rw (e, n, add-one j) (and_grouped f (beq (line at) (get_or pattern j false))
-    (shows line (at + 1) (drop (suc j) pattern)) ∙ ap (λ z. f && shows line at z) (sym d) ∙ g)
+    let next : i + (j + 1) ≡ i + j + 1 = omega arith in
+    rw (e, next, add-one j) (and_grouped f (beq (line (i + j)) (get_or pattern j false))
+    (shows line (i + j + 1) (drop (suc j) pattern)) ∙ ap (λ z. f && shows line (i + j) z) (sym d))

@@ -38,7 +38,8 @@ information_at m places = number_of (reverse (map (λ (p : ℕ × ℕ). m p.0 p.
 abbrev pub level_of : ℕ → Level
 level_of indicator = if indicator == 0 then M else if indicator == 1 then L else if indicator == 2 then H else Q
 
--- the level and the mask, where both copies of the format information agree, and are a multiple of the generator
+-- the level and the mask, where both copies of the format information agree, and without the format mask are a multiple
+-- of the generator
 unfoldable pub read_format : ℕ → (ℕ → ℕ → Bool) → Option (Level × ℕ)
 read_format n m =
     let first = information_at m format_copy_1 in

@@ -1,4 +1,4 @@
-use Rattle.std.proofs.Common.{◌≡◌, ℕ, ◌+◌, ◌<◌, ◌≤◌, List, ◌∷◌, drop, length, map, get_or, sym, ap, subst, ◌∙◌, arith}
+use Rattle.std.proofs.Common.{◌≡◌, ℕ, ◌+◌, ◌<◌, ◌≤◌, List, drop, length, map, get_or, sym, ap, subst, ◌∙◌, arith}
 use Rattle.std.specs.Prelude.{bit_xor}
 use Rattle.std.proofs.lemmas.List.{drop_more, drop_all}
 use Rattle.std.proofs.lemmas.List.Elements.{All-from_get_or}
@@ -34,10 +34,8 @@ loop-codeword-preserved c =
     (omega (arith, length-low_of k, c.loop-codeword.auto.out, c.clear.auto.register, c.requires))
     c.shift.auto.register
     each in
-    let rest : drop i codewords ≡ codeword ∷ drop (i + 1) codewords =
-    drop_more codewords i 0 c.loop-codeword-test.true in
     ap (λ r. register_after (low_of k) r (drop (i + 1) codewords)) same
-    ∙ ap (register_after (low_of k) old) (sym rest)
+    ∙ ap (register_after (low_of k) old) (sym (drop_more codewords i 0 c.loop-codeword-test.true))
     ∙ c.loop-codeword.invariant
 
 -- after the last codeword the register holds what all codewords leave in it

@@ -1,5 +1,5 @@
 use Rattle.std.proofs.Common.{◌≡◌, ◌+◌, ◌-◌, ◌++◌, drop, take, length, get_or, append_assoc, append-nil, arith, ap}
-use Rattle.std.proofs.Common.{length-append}
+use Rattle.std.proofs.Common.{length-append, Bool}
 use Rattle.qrdata.specs.Private.BitsInCodewords.{bits_in}
 use Rattle.qrdata.specs.Segments.{segment_bits}
 use Rattle.std.proofs.lemmas.List.{drop-drop, length-drop}
@@ -16,25 +16,22 @@ loop-segment-preserved c =
     let place = c.loop-segment.place in
     let s = get_or segments i default_segment in
     let inside = c.loop-segment-test.true in
-    let size : c.from.result ≡ s.len = c.from.ensures in
-    let piece : place + c.from.result - place ≡ s.len = omega arith in
+    let piece : place + c.from.result - place ≡ s.len = omega (arith, c.from.ensures) in
     let next = segments_bits-next version segments default_segment bytes i place inside in
     let held = IsSegmentation-next version segments default_segment bytes i place inside c.loop-segment.invariant.3 in
     let written : bits_in c.push_segment.new.self ≡ bits_in c.loop-segment.self
-    ++ segment_bits version s.mode (take s.len (drop place bytes)) = rw piece at c.push_segment.ensures in
-    let count = length-segment_bits_front version s.mode s.len (drop place bytes) held.0.inside in (
-      rw (written, size, append_assoc) (rw next at c.loop-segment.invariant.0),
+    ++ segment_bits version s.mode (take s.len (drop place bytes)) = rw piece at c.push_segment.ensures in (
+      rw (written, c.from.ensures, append_assoc) (rw next at c.loop-segment.invariant.0),
       omega (
         arith,
         ap length written,
-        length-append (bits_in c.loop-segment.self)
-            (segment_bits version s.mode (take s.len (drop place bytes))),
-        count,
+        length-append {A = Bool},
+        length-segment_bits_front version s.mode s.len (drop place bytes) held.0.inside,
         cost-next version segments default_segment i inside,
         c.loop-segment.invariant.1,
       ),
-      omega (arith, held.0.inside, length-drop place bytes, size, c.loop-segment.invariant.2),
-      rw (size, ← drop-drop s.len place bytes) held.1,
+      omega (arith, held.0.inside, length-drop place bytes, c.from.ensures, c.loop-segment.invariant.2),
+      rw (c.from.ensures, ← drop-drop s.len place bytes) held.1,
     )
 
 pub returns : goal.returns
