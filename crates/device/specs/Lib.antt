@@ -3,6 +3,7 @@ pub mod Device
 pub mod FailAt
 pub mod Lines
 pub mod Memory
+pub mod New
 pub mod Passing
 pub mod Private
 pub mod Sink

@@ -132,8 +132,8 @@ impl<S: Sink> Sink for Buffered<S> {
     fn flush(&mut self) -> Result<(), IoFault>
         ensures flushes { let sink = ⟦<Buffered<S> as Sink>⟧ in
             Flushes sink.failures sink.is_flushed sink.took self.old self.new result }
-        ensures buffered { OnOk result (buffered_bytes self.new ≡ []) }
-        ensures below { OnOk result (S.is_flushed (sink_of self.new) ≡ true) }
+        ensures reaches { OnOk result ((buffered_bytes self.new ≡ [])
+            × (S.is_flushed (sink_of self.new) ≡ true)) }
     {
         self.drain()?;
         self.sink.flush()?;

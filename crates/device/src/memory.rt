@@ -4,6 +4,7 @@ ghost use Rattle.std.specs.Prelude.{IfOk, IsOk, IsErr, refl};
 ghost use Rattle.std.proofs.lemmas.List.{append-nil};
 ghost use Rattle.std.proofs.Common.{sym};
 ghost use Rattle.device.specs.Private.Joined.{cut_joined, grown_joined};
+ghost use Rattle.device.specs.New.{IsNewSink, IsNewSource};
 ghost use Rattle.device.specs.Sink.{Flushes, WritesSome};
 ghost use Rattle.device.specs.Source.{ReadsSome};
 
@@ -32,8 +33,7 @@ impl<'a> MemSource<'a> {
         ensures bytes { left_in result ≡ bytes.now }
         ensures piece { read_limit result ≡ piece }
         ensures fails { fails_after result ≡ fails }
-        ensures failures { ⟦<MemSource<'a> as Source>⟧.failures result ≡ 0 }
-        ensures end { ⟦<MemSource<'a> as Source>⟧.at_end result ≡ false }
+        ensures new { IsNewSource (⟦<MemSource<'a> as Source>⟧) result }
     {
         MemSource {
             rest: bytes,
@@ -105,8 +105,7 @@ impl<const N: usize> MemSink<N> {
         ensures bytes { held_by result ≡ [] }
         ensures piece { write_limit result ≡ piece }
         ensures limit { room_of result ≡ limit }
-        ensures failures { ⟦<MemSink<N> as Sink>⟧.failures result ≡ 0 }
-        ensures flushed { ⟦<MemSink<N> as Sink>⟧.is_flushed result ≡ false }
+        ensures new { IsNewSink (⟦<MemSink<N> as Sink>⟧) result }
     {
         MemSink {
             held: ArrayVec::new(),

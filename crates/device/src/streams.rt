@@ -1,6 +1,7 @@
 //! The readers and writers of std as devices.
-ghost use Rattle.std.specs.Prelude.{◌≡◌, false};
+ghost use Rattle.std.specs.Prelude.{◌≡◌};
 ghost use Rattle.std.specs.Io.KnownBytes.{Appends, Consumes, IsAtEnd};
+ghost use Rattle.device.specs.New.{IsNewSink, IsNewSource};
 ghost use Rattle.device.specs.Streams.{reader_of, writer_of};
 ghost use Rattle.device.specs.Private.Joined.{Appends_none, Appends_joined, Consumes_none, Consumes_joined};
 
@@ -19,8 +20,7 @@ impl<R: Read> StdSource<R> {
     /// Returns a source over this reader that counts no failure and is not at its end.
     pub fn new(reader: R) -> Self
         ensures reader { reader_of result ≡ reader }
-        ensures failures { ⟦<StdSource<R> as Source>⟧.failures result ≡ 0 }
-        ensures end { ⟦<StdSource<R> as Source>⟧.at_end result ≡ false }
+        ensures new { IsNewSource (⟦<StdSource<R> as Source>⟧) result }
     {
         StdSource {
             reader,
@@ -70,8 +70,7 @@ impl<W: Write> StdSink<W> {
     /// Returns a sink over this writer that counts no failure and is not flushed.
     pub fn new(writer: W) -> Self
         ensures writer { writer_of result ≡ writer }
-        ensures failures { ⟦<StdSink<W> as Sink>⟧.failures result ≡ 0 }
-        ensures flushed { ⟦<StdSink<W> as Sink>⟧.is_flushed result ≡ false }
+        ensures new { IsNewSink (⟦<StdSink<W> as Sink>⟧) result }
     {
         StdSink {
             writer,
