@@ -12,7 +12,7 @@ use Rattle.qrdata.specs.declared.level.Level.{Level}
 use Rattle.qrdata.specs.declared.mode.Mode.TheVariants.{Byte}
 use Rattle.qrdata.specs.declared.mode.Segment.{Segment}
 use Rattle.qrdata.specs.Fewest.{chosen_segments}
-use Rattle.qrdata.specs.Private.SmallestPlan.{NamesBest, SameWidths}
+use Rattle.qrdata.specs.Private.SmallestPlan.{IsTable, NamesBest, SameWidths}
 use Rattle.qrdata.specs.Segments.{IsSegmentation, cost, segment_length}
 use Rattle.qrdata.specs.Private.Table.{HasFirsts, choices_of, fewest_bits, next_choices, no_choices}
 use Rattle.qrdata.specs.Versions.{capacity}
@@ -110,15 +110,16 @@ pub record IsNamed (version : ℕ) (bytes : List ℕ) (place limit : ℕ) (s : S
   pub next : chosen_segments version (drop place bytes) ≡ s ∷ chosen_segments version (drop (place + s.len) bytes)
   pub small : cost version (chosen_segments version (drop (place + s.len) bytes)) ≤ limit
 
-pub IsNamed-first : (version : ℕ) (bytes : List ℕ) (limit : ℕ) (firsts : List Segment) (place : ℕ)
-    → place < length bytes → length bytes ≤ length firsts → NamesBest version bytes limit firsts
+pub IsNamed-first : {version : ℕ} {bytes : List ℕ} {limit : ℕ} {firsts : List Segment} {place : ℕ}
+    → place < length bytes → IsTable version bytes limit firsts
     → cost version (chosen_segments version (drop place bytes)) ≤ limit
     → IsNamed version bytes place limit (get_or firsts place default_segment)
-IsNamed-first version bytes limit firsts place h room known fits =
+IsNamed-first {version} {bytes} {limit} {firsts} {place} h table fits =
     let s = get_or firsts place default_segment in
     let first : s ∷ chosen_segments version (drop s.len (drop place bytes))
     ≡ chosen_segments version (drop place bytes) =
-    known place h fits s (slice_get-get_or firsts place default_segment (omega arith)) in
+    table.named place h fits s
+    (slice_get-get_or firsts place default_segment (omega (arith, table.few, table.size))) in
     let cut : IsSegmentation version (s ∷ chosen_segments version (drop s.len (drop place bytes))) (drop place bytes) =
     subst (λ (l : List Segment). IsSegmentation version l (drop place bytes)) (sym first)
     (chosen_segments-is version (drop place bytes)) in

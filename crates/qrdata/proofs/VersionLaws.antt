@@ -62,6 +62,17 @@ HasSoundBlocks-of version level low high =
       few_codewords = leb-true _ _ codewords.1;
     }
 
+-- a symbol has 1 to 8 blocks
+pub block_count-some : {n : ℕ} (version : ℕ) (level : Level) → n ≡ block_count version level
+    → (1 ≤ version) × (version ≤ 10) → 0 < n
+block_count-some {n} version level e known =
+    omega (arith, e, (HasSoundBlocks-of version level known.0 known.1).some_blocks)
+
+pub block_count-few : {n : ℕ} (version : ℕ) (level : Level) → n ≡ block_count version level
+    → (1 ≤ version) × (version ≤ 10) → n ≤ 8
+block_count-few {n} version level e known =
+    omega (arith, e, (HasSoundBlocks-of version level known.0 known.1).few_blocks)
+
 -- no symbol has more than 2192 data bits, and up to version 9 none has more than 1856
 capacity-all : (level : Level) → list_all (λ version. nat_le (capacity version level) 2192) (range_with_len 1 10) ≡ true
 unfolding data_codewords block_lengths groups_of block_table

@@ -1,30 +1,22 @@
-use Rattle.std.proofs.Common.{◌-◌, ◌/◌, ◌%◌, ◌<◌, length, replicate, arith, ap, length-append}
+use Rattle.std.proofs.Common.{◌-◌, ◌/◌, ◌%◌, length, replicate, arith, ap, length-append}
 use Rattle.std.proofs.Math.Nat.{mod-lt, div-le_self}
 use Rattle.std.proofs.lemmas.List.{length-replicate}
-use Rattle.qrdata.proofs.VersionLaws.{block_lengths-even, capacity-le, HasSoundBlocks-of}
+use Rattle.qrdata.proofs.VersionLaws.{block_count-few, block_count-some, block_lengths-even, capacity-le}
 use Rattle.qrdata.proofs.version.Version.lengths.Goals as goal
 
 pub nonzero_rem-codewords : goal.nonzero_rem-codewords
-nonzero_rem-codewords c = omega (
-  arith,
-  c.block_count-blocks.ensures,
-  (HasSoundBlocks-of c.args.self c.args.level c.known.ensures.0 c.known.ensures.1).some_blocks,
-)
+nonzero_rem-codewords c = block_count-some c.args.self c.args.level c.block_count-blocks.ensures c.known.ensures
 
 pub overflow_sub-blocks : goal.overflow_sub-blocks
-overflow_sub-blocks c =
-    let some : 0 < c.block_count-blocks.result = nonzero_rem-codewords c in
-    omega (arith, mod-lt c.data_codewords-codewords.result some)
+overflow_sub-blocks c = omega (arith, mod-lt c.data_codewords-codewords.result (nonzero_rem-codewords c))
 
 pub push_lengths-requires : goal.push_lengths-requires
 push_lengths-requires c = record {
-  room =
-      omega (
-        arith,
-        ap length c.new-lengths.ensures,
-        c.block_count-blocks.ensures,
-        (HasSoundBlocks-of c.args.self c.args.level c.known.ensures.0 c.known.ensures.1).few_blocks,
-      );
+  room = omega (
+    arith,
+    ap length c.new-lengths.ensures,
+    block_count-few c.args.self c.args.level c.block_count-blocks.ensures c.known.ensures,
+  );
 }
 
 pub overflow_add-codewords : goal.overflow_add-codewords
@@ -38,12 +30,6 @@ overflow_add-codewords c =
 
 pub push_lengths-requires-2 : goal.push_lengths-requires-2
 push_lengths-requires-2 c =
-    let some : 0 < c.block_count-blocks.result =
-    omega (
-      arith,
-      c.block_count-blocks.ensures,
-      (HasSoundBlocks-of c.args.self c.args.level c.known.ensures.0 c.known.ensures.1).some_blocks,
-    ) in
     let short = c.block_count-blocks.result - c.data_codewords-codewords.result % c.block_count-blocks.result in
     record {
       room = omega (
@@ -53,9 +39,9 @@ push_lengths-requires-2 c =
         length-append c.new-lengths.result.items (replicate short
             (c.data_codewords-codewords.result / c.block_count-blocks.result)),
         length-replicate short (c.data_codewords-codewords.result / c.block_count-blocks.result),
-        mod-lt c.data_codewords-codewords.result some,
-        c.block_count-blocks.ensures,
-        (HasSoundBlocks-of c.args.self c.args.level c.known.ensures.0 c.known.ensures.1).few_blocks,
+        mod-lt c.data_codewords-codewords.result
+            (block_count-some c.args.self c.args.level c.block_count-blocks.ensures c.known.ensures),
+        block_count-few c.args.self c.args.level c.block_count-blocks.ensures c.known.ensures,
       );
     }
 
@@ -70,22 +56,10 @@ returns c =
     ) (block_lengths-even c.args.self c.args.level c.known.ensures.0 c.known.ensures.1)
 
 pub nonzero_div-codewords : goal.nonzero_div-codewords
-nonzero_div-codewords c = omega (
-  arith,
-  c.block_count-blocks.ensures,
-  (HasSoundBlocks-of c.args.self c.args.level c.known.ensures.0 c.known.ensures.1).some_blocks,
-)
+nonzero_div-codewords c = block_count-some c.args.self c.args.level c.block_count-blocks.ensures c.known.ensures
 
 pub nonzero_rem-codewords-2 : goal.nonzero_rem-codewords-2
-nonzero_rem-codewords-2 c = omega (
-  arith,
-  c.block_count-blocks.ensures,
-  (HasSoundBlocks-of c.args.self c.args.level c.known.ensures.0 c.known.ensures.1).some_blocks,
-)
+nonzero_rem-codewords-2 c = block_count-some c.args.self c.args.level c.block_count-blocks.ensures c.known.ensures
 
 pub nonzero_div-codewords-2 : goal.nonzero_div-codewords-2
-nonzero_div-codewords-2 c = omega (
-  arith,
-  c.block_count-blocks.ensures,
-  (HasSoundBlocks-of c.args.self c.args.level c.known.ensures.0 c.known.ensures.1).some_blocks,
-)
+nonzero_div-codewords-2 c = block_count-some c.args.self c.args.level c.block_count-blocks.ensures c.known.ensures
