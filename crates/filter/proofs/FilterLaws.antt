@@ -132,11 +132,24 @@ module _ (options : OptionValues) where
   read-append [] ys a b = b
   read-append (x ∷ xs) ys a b = (a.0, read-append xs ys a.1 b)
 
-  -- pieces one after another, at sinks whose states are O and E
-  module _ {O E : Type 0} (took_out : O → O → List ℕ → Type 0) (took_err : E → E → List ℕ → Type 0)
+  -- the lines that two pieces end
+  lines_between : (text piece : List ℕ) (added : List (List ℕ)) → ended_lines (text ++ piece) ≡ ended_lines text ++ added
+      → length (ended_lines (text ++ piece)) ≡ length (ended_lines text) + length added
+  lines_between text piece added grown = ap length grown ∙ length-append (ended_lines text) added
+
+  grown_twice : (text piece more : List ℕ) (first added : List (List ℕ))
+      → ended_lines (text ++ piece) ≡ ended_lines text ++ first
+      → ended_lines ((text ++ piece) ++ more) ≡ ended_lines (text ++ piece) ++ added
+      → ended_lines (text ++ (piece ++ more)) ≡ ended_lines text ++ (first ++ added)
+  grown_twice text piece more first added grown more_grown =
+      ap ended_lines (sym (append_assoc text piece more))
+      ∙ (more_grown ∙ (ap (λ (ls : List (List ℕ)). ls ++ added) grown ∙ append_assoc (ended_lines text) first added))
+
+  -- calls one after another, at sinks whose states are O and E
+  module _ {O E : Type 0} {took_out : O → O → List ℕ → Type 0} {took_err : E → E → List ℕ → Type 0}
       (out_joined : (s t u : O) (xs ys : List ℕ) → took_out s t xs → took_out t u ys → took_out s u (xs ++ ys))
       (err_joined : (s t u : E) (xs ys : List ℕ) → took_err s t xs → took_err t u ys → took_err s u (xs ++ ys))
-      (out : O) (out' : O) (out'' : O) (err : E) (err' : E) (err'' : E) where
+      {out : O} {out' : O} {out'' : O} {err : E} {err' : E} {err'' : E} where
     pub TookLines-append : (before : ℕ) (xs ys : List (List ℕ))
         → TookLines options (took_out out out') (took_err err err') before xs
         → TookLines options (took_out out' out'') (took_err err' err'') (before + length xs) ys
@@ -175,6 +188,41 @@ module _ (options : OptionValues) where
               b.wrote);
         }
 
+    -- a call that takes nothing comes after
+    pub TookLines-flushed : {before : ℕ} {ls : List (List ℕ)}
+        → TookLines options (took_out out out') (took_err err err') before ls → took_out out' out'' []
+        → took_err err' err'' [] → TookLines options (took_out out out'') (took_err err err'') before ls
+    TookLines-flushed {before} {ls} t o e = record {
+      out = subst (took_out out out'') (append-nil (images options ls))
+          (out_joined out out' out'' (images options ls) [] t.out o);
+      err = subst (took_err err err'') (append-nil (messages_after options before ls))
+          (err_joined err err' err'' (messages_after options before ls) [] t.err e);
+      read = t.read;
+    }
+
+    -- pieces
+    pub TookPiece-append : {text piece more : List ℕ}
+        → TookPiece options (took_out out out') (took_err err err') text piece
+        → TookPiece options (took_out out' out'') (took_err err' err'') (text ++ piece) more
+        → TookPiece options (took_out out out'') (took_err err err'') text (piece ++ more)
+    TookPiece-append {text} {piece} {more} first second = record {
+      added = first.added ++ second.added;
+      grown = grown_twice text piece more first.added second.added first.grown second.grown;
+      took = TookLines-append (length (ended_lines text)) first.added second.added first.took
+          (rw (lines_between text piece first.added first.grown) at second.took);
+    }
+
+    pub StopsInPiece-append : {text piece more : List ℕ}
+        → TookPiece options (took_out out out') (took_err err err') text piece → (fault : RunFault)
+        → StopsInPiece options (took_out out' out'') (took_err err' err'') (text ++ piece) more fault
+        → StopsInPiece options (took_out out out'') (took_err err err'') text (piece ++ more) fault
+    StopsInPiece-append {text} {piece} {more} first fault second = record {
+      added = first.added ++ second.added;
+      grown = grown_twice text piece more first.added second.added first.grown second.grown;
+      stops = StopsInLine-append (length (ended_lines text)) first.added second.added fault first.took
+          (rw (lines_between text piece first.added first.grown) at second.stops);
+    }
+
   -- no piece
   pub TookPiece-none : (took_out took_err : List ℕ → Type 0) (text : List ℕ) → took_out [] → took_err []
       → TookPiece options took_out took_err text []
@@ -209,40 +257,6 @@ module _ (options : OptionValues) where
           wrote = p.stops.wrote;
         };
       }
-
-  module _ {O E : Type 0} (took_out : O → O → List ℕ → Type 0) (took_err : E → E → List ℕ → Type 0)
-      (out_joined : (s t u : O) (xs ys : List ℕ) → took_out s t xs → took_out t u ys → took_out s u (xs ++ ys))
-      (err_joined : (s t u : E) (xs ys : List ℕ) → took_err s t xs → took_err t u ys → took_err s u (xs ++ ys))
-      (out : O) (out' : O) (out'' : O) (err : E) (err' : E) (err'' : E) (text piece more : List ℕ)
-      (first : TookPiece options (took_out out out') (took_err err err') text piece) where
-    lines_between : length (ended_lines (text ++ piece)) ≡ length (ended_lines text) + length first.added
-    lines_between = ap length first.grown ∙ length-append (ended_lines text) first.added
-
-    grown_twice : (added : List (List ℕ)) → ended_lines ((text ++ piece) ++ more) ≡ ended_lines (text ++ piece) ++ added
-        → ended_lines (text ++ (piece ++ more)) ≡ ended_lines text ++ (first.added ++ added)
-    grown_twice added grown =
-        ap ended_lines (sym (append_assoc text piece more))
-        ∙ (grown ∙ (ap (λ (ls : List (List ℕ)). ls ++ added) first.grown
-        ∙ append_assoc (ended_lines text) first.added added))
-
-    pub TookPiece-append : TookPiece options (took_out out' out'') (took_err err' err'') (text ++ piece) more
-        → TookPiece options (took_out out out'') (took_err err err'') text (piece ++ more)
-    TookPiece-append second = record {
-      added = first.added ++ second.added;
-      grown = grown_twice second.added second.grown;
-      took = TookLines-append took_out took_err out_joined err_joined out out' out'' err err' err''
-          (length (ended_lines text)) first.added second.added first.took (rw lines_between at second.took);
-    }
-
-    pub StopsInPiece-append : (fault : RunFault) → StopsInPiece options (took_out out' out'') (took_err err' err'')
-        (text ++ piece) more fault → StopsInPiece options (took_out out out'') (took_err err err'') text (piece ++ more)
-        fault
-    StopsInPiece-append fault second = record {
-      added = first.added ++ second.added;
-      grown = grown_twice second.added second.grown;
-      stops = StopsInLine-append took_out took_err out_joined err_joined out out' out'' err err' err''
-          (length (ended_lines text)) first.added second.added fault first.took (rw lines_between at second.stops);
-    }
 
   unless_empty-nil : (line : List ℕ) → take line_limit line ≡ [] → unless_empty line ≡ []
   unfolding line_limit
@@ -307,22 +321,6 @@ module _ (options : OptionValues) where
       cut = refl;
       read = tt;
       wrote = rw ((images-nil options), (messages_after-nil options), add-zero) f;
-    }
-
-  -- a call that takes nothing comes after
-  module _ {O E : Type 0} (took_out : O → O → List ℕ → Type 0) (took_err : E → E → List ℕ → Type 0)
-      (out_joined : (s t u : O) (xs ys : List ℕ) → took_out s t xs → took_out t u ys → took_out s u (xs ++ ys))
-      (err_joined : (s t u : E) (xs ys : List ℕ) → took_err s t xs → took_err t u ys → took_err s u (xs ++ ys))
-      (out : O) (out' : O) (out'' : O) (err : E) (err' : E) (err'' : E) where
-    pub TookLines-flushed : (before : ℕ) (ls : List (List ℕ))
-        → TookLines options (took_out out out') (took_err err err') before ls → took_out out' out'' []
-        → took_err err' err'' [] → TookLines options (took_out out out'') (took_err err err'') before ls
-    TookLines-flushed before ls t o e = record {
-      out = subst (took_out out out'') (append-nil (images options ls))
-          (out_joined out out' out'' (images options ls) [] t.out o);
-      err = subst (took_err err err'') (append-nil (messages_after options before ls))
-          (err_joined err err' err'' (messages_after options before ls) [] t.err e);
-      read = t.read;
     }
 
   -- from the beginning of the input
