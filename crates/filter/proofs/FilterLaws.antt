@@ -2,6 +2,7 @@
 use Rattle.std.proofs.Common.{◌≡◌, ◌≢◌, ℕ, ◌+◌, ◌-◌, ◌^◌, min, false, List, [], ◌∷◌, ◌++◌, length, take}
 use Rattle.std.proofs.Common.{append_assoc, refl, ap, subst, sym, ◌∙◌, arith, add-zero, length-append, length-take}
 use Rattle.std.proofs.lemmas.List.{append-nil}
+use Rattle.std.specs.Prelude.{Result}
 use Rattle.labelcore.specs.HeldLine.{held_line, line_limit}
 use Rattle.device.specs.Lines.{LF, lines, ended_lines, open_line, unless_empty}
 use Rattle.device.proofs.LinesLaws.{ended_lines-nil, open_line-nil, ended_lines-push_lf, ended_lines-push_other}
@@ -9,7 +10,7 @@ use Rattle.device.proofs.LinesLaws.{open_line-push_lf, open_line-push_other, som
 use Rattle.labelcore.specs.LineItem.{Outcome}
 use Rattle.filter.specs.Output.{outcome, image_of, message_of, line_number, images, messages_after}
 use Rattle.filter.specs.Output.{status_of}
-use Rattle.filter.specs.Private.LineEnd.{worst, status_of_line}
+use Rattle.filter.specs.Private.LineEnd.{LineEnds, worst, status_of_line}
 use Rattle.filter.specs.declared.status.Status.{Status}
 use Rattle.filter.specs.declared.status.Status.TheVariants.{Clean}
 use Rattle.filter.specs.Symbol.{Symbol}
@@ -74,6 +75,17 @@ module _ (options : OptionValues) where
   pub line_number-counts : (state : FilterState) (text : List ℕ) → StandsAt options state text → (n : ℕ)
       → n ≡ min (state.line_count + 1) (2 ^ 64 - 1) → n ≡ line_number (length (ended_lines text))
   line_number-counts state text at n e = omega (arith, at.line_count)
+
+  -- how the line that ends does, by what is held of it
+  pub line_ends : (took_out took_err : List ℕ → Type 0) (state : FilterState) (text : List ℕ) (n : ℕ)
+      (r : Result Status RunFault) → StandsAt options state text → n ≡ min (state.line_count + 1) (2 ^ 64 - 1)
+      → ((line : List ℕ) → state.line ≡ held_line line
+      → LineEnds state.options took_out took_err n (outcome state.options line) r)
+      → LineEnds options took_out took_err (line_number (length (ended_lines text))) (outcome options (open_line text)) r
+  line_ends took_out took_err state text n r at counts ends =
+      let o : state.options ≡ options = at.options_are in
+      let m = line_number-counts state text at n counts in
+      rw (o, m) at (ends (open_line text) at.line)
 
   -- one byte: what its line comes to
   module _ (took_out took_err : List ℕ → Type 0) (text : List ℕ) (byte : ℕ) where
