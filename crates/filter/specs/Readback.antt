@@ -1,6 +1,6 @@
 -- Images read back: pbm(5), and the readings of ISO/IEC 15420, 15417 and 18004 with no correction.
-use Rattle.std.specs.Prelude.{◌≡◌, ℕ, ◌==◌, Bool, List, length, Option, Some, None, ⊤}
-use Rattle.std.specs.List.{AllZip, list_all, filter_map}
+use Rattle.std.specs.Prelude.{◌≡◌, ℕ, ◌==◌, Bool, List, length, Option, Some, ⊤}
+use Rattle.std.specs.List.{AllZip, list_all}
 use Rattle.std.specs.Bool.{then_some}
 use Rattle.labelcore.specs.declared.options.Format.{Format}
 use Rattle.labelcore.specs.declared.options.Format.TheVariants.{Pbm, Ascii}
@@ -17,7 +17,7 @@ use Rattle.picture.specs.Reading.{Raster, pbm_files, ascii_files, pbm_pixels, as
 use Rattle.labelcore.specs.LineItem.{Outcome, drawn}
 use Rattle.picture.specs.ReadingLaws.{IsDrawable}
 use Rattle.filter.specs.Symbol.{Symbol, quiet_zone}
-use Rattle.filter.specs.Output.{outcome, image_of, picture_of}
+use Rattle.filter.specs.Output.{image_of, picture_of}
 
 -- a stream of images, cut into them
 abbrev pub cut : Format → List ℕ → List (List ℕ)
@@ -46,15 +46,6 @@ read_image format scale symbology text = do
   image ← pixels format text
   modules ← sample image scale (quiet_zone symbology)
   read_modules symbology modules
-
--- the symbol that is drawn, or none
-abbrev pub symbol_in : Outcome Symbol → Option Symbol
-symbol_in (drawn symbol) = Some symbol
-symbol_in other = None
-
--- the symbols of the lines that are drawn, in order
-unfoldable pub drawn_symbols : OptionValues → List (List ℕ) → List Symbol
-drawn_symbols options lines = filter_map (λ line. symbol_in (outcome options line)) lines
 
 -- the image is read as the symbol's full data
 abbrev pub IsRead : Format → ℕ → List ℕ → Symbol → Type 0
