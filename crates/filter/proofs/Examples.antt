@@ -12,8 +12,7 @@ use Rattle.labelcore.specs.declared.symbology.Symbology.TheVariants.{Ean13, Ean8
 use Rattle.picture.specs.declared.quiet_zone.QuietZone.{QuietZone}
 use Rattle.filter.specs.declared.status.Status.TheVariants.{Clean, Refused}
 use Rattle.filter.specs.Symbol.{Symbol, symbol_of, quiet_zone}
-use Rattle.filter.specs.Output.{outcome, images, line_number, messages_after, status_of}
-use Rattle.filter.specs.Readback.{drawn_symbols}
+use Rattle.filter.specs.Output.{drawn_symbols, outcome, images, line_number, messages_after, status_of}
 
 abbrev settings : OptionValues
 settings = record { format = Pbm; scale = 1; height = 1; level = M; min_version = 1; mask = None; escapes = false }
@@ -27,7 +26,7 @@ full_data_of_input = refl
 
 images_of_input : images settings input
     ≡ codes "P1\n81 1\n0000000101011101101111010110001001100101010100001010011101000010100010\n01010000000\n"
-unfolding images outcome symbol_of request head_read symbology_named line_limit digits number_set_a
+unfolding images drawn_symbols outcome symbol_of request head_read symbology_named line_limit digits number_set_a
 images_of_input = refl
 
 messages_of_input : messages_after settings 0 input ≡ codes "line 2: unknown symbology\nline 4: check digit is 0, should be 7\n"

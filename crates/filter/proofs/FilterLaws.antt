@@ -2,6 +2,7 @@
 use Rattle.std.proofs.Common.{◌≡◌, ◌≢◌, ℕ, ◌+◌, ◌-◌, ◌^◌, min, false, List, [], ◌∷◌, ◌++◌, length, take}
 use Rattle.std.proofs.Common.{append_assoc, refl, ap, subst, sym, ◌∙◌, arith, add-zero, length-append, length-take}
 use Rattle.std.proofs.lemmas.List.{append-nil}
+use Rattle.std.specs.Prelude.{Result}
 use Rattle.labelcore.specs.HeldLine.{held_line, line_limit}
 use Rattle.device.specs.Lines.{LF, lines, ended_lines, open_line, unless_empty}
 use Rattle.device.proofs.LinesLaws.{ended_lines-nil, open_line-nil, ended_lines-push_lf, ended_lines-push_other}
@@ -9,7 +10,7 @@ use Rattle.device.proofs.LinesLaws.{open_line-push_lf, open_line-push_other, som
 use Rattle.labelcore.specs.LineItem.{Outcome}
 use Rattle.filter.specs.Output.{outcome, image_of, message_of, line_number, images, messages_after}
 use Rattle.filter.specs.Output.{status_of}
-use Rattle.filter.specs.Private.LineEnd.{worst, status_of_line}
+use Rattle.filter.specs.Private.LineEnd.{LineEnds, worst, status_of_line}
 use Rattle.filter.specs.declared.status.Status.{Status}
 use Rattle.filter.specs.declared.status.Status.TheVariants.{Clean}
 use Rattle.filter.specs.Symbol.{Symbol}
@@ -75,6 +76,17 @@ module _ (options : OptionValues) where
       → n ≡ min (state.line_count + 1) (2 ^ 64 - 1) → n ≡ line_number (length (ended_lines text))
   line_number-counts state text at n e = omega (arith, at.line_count)
 
+  -- how the line ends, by what is held of it
+  pub line_ends : (took_out took_err : List ℕ → Type 0) (state : FilterState) (text : List ℕ) (n : ℕ)
+      (r : Result Status RunFault) → StandsAt options state text → n ≡ min (state.line_count + 1) (2 ^ 64 - 1)
+      → ((line : List ℕ) → state.line ≡ held_line line
+      → LineEnds state.options took_out took_err n (outcome state.options line) r)
+      → LineEnds options took_out took_err (line_number (length (ended_lines text))) (outcome options (open_line text)) r
+  line_ends took_out took_err state text n r at counts ends =
+      let o : state.options ≡ options = at.options_are in
+      let m = line_number-counts state text at n counts in
+      rw (o, m) at (ends (open_line text) at.line)
+
   -- one byte: what the sinks take of its line
   module _ (took_out took_err : List ℕ → Type 0) (text : List ℕ) (byte : ℕ) where
     pub TookPiece-other : byte ≢ LF → took_out [] → took_err [] → TookPiece options took_out took_err text (byte ∷ [])
@@ -132,11 +144,24 @@ module _ (options : OptionValues) where
   read-append [] ys a b = b
   read-append (x ∷ xs) ys a b = (a.0, read-append xs ys a.1 b)
 
-  -- pieces one after another, at sinks whose states are O and E
-  module _ {O E : Type 0} (took_out : O → O → List ℕ → Type 0) (took_err : E → E → List ℕ → Type 0)
+  -- the lines that two pieces end
+  lines_between : (text piece : List ℕ) (added : List (List ℕ)) → ended_lines (text ++ piece) ≡ ended_lines text ++ added
+      → length (ended_lines (text ++ piece)) ≡ length (ended_lines text) + length added
+  lines_between text piece added grown = ap length grown ∙ length-append (ended_lines text) added
+
+  grown_twice : (text piece more : List ℕ) (first added : List (List ℕ))
+      → ended_lines (text ++ piece) ≡ ended_lines text ++ first
+      → ended_lines ((text ++ piece) ++ more) ≡ ended_lines (text ++ piece) ++ added
+      → ended_lines (text ++ (piece ++ more)) ≡ ended_lines text ++ (first ++ added)
+  grown_twice text piece more first added grown more_grown =
+      ap ended_lines (sym (append_assoc text piece more))
+      ∙ (more_grown ∙ (ap (λ (ls : List (List ℕ)). ls ++ added) grown ∙ append_assoc (ended_lines text) first added))
+
+  -- calls one after another, at sinks whose states are O and E
+  module _ {O E : Type 0} {took_out : O → O → List ℕ → Type 0} {took_err : E → E → List ℕ → Type 0}
       (out_joined : (s t u : O) (xs ys : List ℕ) → took_out s t xs → took_out t u ys → took_out s u (xs ++ ys))
       (err_joined : (s t u : E) (xs ys : List ℕ) → took_err s t xs → took_err t u ys → took_err s u (xs ++ ys))
-      (out : O) (out' : O) (out'' : O) (err : E) (err' : E) (err'' : E) where
+      {out : O} {out' : O} {out'' : O} {err : E} {err' : E} {err'' : E} where
     pub TookLines-append : (before : ℕ) (xs ys : List (List ℕ))
         → TookLines options (took_out out out') (took_err err err') before xs
         → TookLines options (took_out out' out'') (took_err err' err'') (before + length xs) ys
@@ -175,6 +200,41 @@ module _ (options : OptionValues) where
               b.wrote);
         }
 
+    -- a call that takes nothing comes after
+    pub TookLines-flushed : {before : ℕ} {ls : List (List ℕ)}
+        → TookLines options (took_out out out') (took_err err err') before ls → took_out out' out'' []
+        → took_err err' err'' [] → TookLines options (took_out out out'') (took_err err err'') before ls
+    TookLines-flushed {before} {ls} t o e = record {
+      out = subst (took_out out out'') (append-nil (images options ls))
+          (out_joined out out' out'' (images options ls) [] t.out o);
+      err = subst (took_err err err'') (append-nil (messages_after options before ls))
+          (err_joined err err' err'' (messages_after options before ls) [] t.err e);
+      read = t.read;
+    }
+
+    -- pieces
+    pub TookPiece-append : {text piece more : List ℕ}
+        → TookPiece options (took_out out out') (took_err err err') text piece
+        → TookPiece options (took_out out' out'') (took_err err' err'') (text ++ piece) more
+        → TookPiece options (took_out out out'') (took_err err err'') text (piece ++ more)
+    TookPiece-append {text} {piece} {more} first second = record {
+      added = first.added ++ second.added;
+      grown = grown_twice text piece more first.added second.added first.grown second.grown;
+      took = TookLines-append (length (ended_lines text)) first.added second.added first.took
+          (rw (lines_between text piece first.added first.grown) at second.took);
+    }
+
+    pub StopsInPiece-append : {text piece more : List ℕ}
+        → TookPiece options (took_out out out') (took_err err err') text piece → (fault : RunFault)
+        → StopsInPiece options (took_out out' out'') (took_err err' err'') (text ++ piece) more fault
+        → StopsInPiece options (took_out out out'') (took_err err err'') text (piece ++ more) fault
+    StopsInPiece-append {text} {piece} {more} first fault second = record {
+      added = first.added ++ second.added;
+      grown = grown_twice text piece more first.added second.added first.grown second.grown;
+      stops = StopsInLine-append (length (ended_lines text)) first.added second.added fault first.took
+          (rw (lines_between text piece first.added first.grown) at second.stops);
+    }
+
   -- no piece
   pub TookPiece-none : (took_out took_err : List ℕ → Type 0) (text : List ℕ) → took_out [] → took_err []
       → TookPiece options took_out took_err text []
@@ -209,40 +269,6 @@ module _ (options : OptionValues) where
           wrote = p.stops.wrote;
         };
       }
-
-  module _ {O E : Type 0} (took_out : O → O → List ℕ → Type 0) (took_err : E → E → List ℕ → Type 0)
-      (out_joined : (s t u : O) (xs ys : List ℕ) → took_out s t xs → took_out t u ys → took_out s u (xs ++ ys))
-      (err_joined : (s t u : E) (xs ys : List ℕ) → took_err s t xs → took_err t u ys → took_err s u (xs ++ ys))
-      (out : O) (out' : O) (out'' : O) (err : E) (err' : E) (err'' : E) (text piece more : List ℕ)
-      (first : TookPiece options (took_out out out') (took_err err err') text piece) where
-    lines_between : length (ended_lines (text ++ piece)) ≡ length (ended_lines text) + length first.added
-    lines_between = ap length first.grown ∙ length-append (ended_lines text) first.added
-
-    grown_twice : (added : List (List ℕ)) → ended_lines ((text ++ piece) ++ more) ≡ ended_lines (text ++ piece) ++ added
-        → ended_lines (text ++ (piece ++ more)) ≡ ended_lines text ++ (first.added ++ added)
-    grown_twice added grown =
-        ap ended_lines (sym (append_assoc text piece more))
-        ∙ (grown ∙ (ap (λ (ls : List (List ℕ)). ls ++ added) first.grown
-        ∙ append_assoc (ended_lines text) first.added added))
-
-    pub TookPiece-append : TookPiece options (took_out out' out'') (took_err err' err'') (text ++ piece) more
-        → TookPiece options (took_out out out'') (took_err err err'') text (piece ++ more)
-    TookPiece-append second = record {
-      added = first.added ++ second.added;
-      grown = grown_twice second.added second.grown;
-      took = TookLines-append took_out took_err out_joined err_joined out out' out'' err err' err''
-          (length (ended_lines text)) first.added second.added first.took (rw lines_between at second.took);
-    }
-
-    pub StopsInPiece-append : (fault : RunFault) → StopsInPiece options (took_out out' out'') (took_err err' err'')
-        (text ++ piece) more fault → StopsInPiece options (took_out out out'') (took_err err err'') text (piece ++ more)
-        fault
-    StopsInPiece-append fault second = record {
-      added = first.added ++ second.added;
-      grown = grown_twice second.added second.grown;
-      stops = StopsInLine-append took_out took_err out_joined err_joined out out' out'' err err' err''
-          (length (ended_lines text)) first.added second.added fault first.took (rw lines_between at second.stops);
-    }
 
   unless_empty-nil : (line : List ℕ) → take line_limit line ≡ [] → unless_empty line ≡ []
   unfolding line_limit
@@ -307,22 +333,6 @@ module _ (options : OptionValues) where
       cut = refl;
       read = tt;
       wrote = rw ((images-nil options), (messages_after-nil options), add-zero) f;
-    }
-
-  -- a call that takes nothing comes after
-  module _ {O E : Type 0} (took_out : O → O → List ℕ → Type 0) (took_err : E → E → List ℕ → Type 0)
-      (out_joined : (s t u : O) (xs ys : List ℕ) → took_out s t xs → took_out t u ys → took_out s u (xs ++ ys))
-      (err_joined : (s t u : E) (xs ys : List ℕ) → took_err s t xs → took_err t u ys → took_err s u (xs ++ ys))
-      (out : O) (out' : O) (out'' : O) (err : E) (err' : E) (err'' : E) where
-    pub TookLines-flushed : (before : ℕ) (ls : List (List ℕ))
-        → TookLines options (took_out out out') (took_err err err') before ls → took_out out' out'' []
-        → took_err err' err'' [] → TookLines options (took_out out out'') (took_err err err'') before ls
-    TookLines-flushed before ls t o e = record {
-      out = subst (took_out out out'') (append-nil (images options ls))
-          (out_joined out out' out'' (images options ls) [] t.out o);
-      err = subst (took_err err err'') (append-nil (messages_after options before ls))
-          (err_joined err err' err'' (messages_after options before ls) [] t.err e);
-      read = t.read;
     }
 
   -- from the beginning of the input

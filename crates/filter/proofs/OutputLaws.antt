@@ -2,12 +2,13 @@
 use Rattle.std.proofs.Common.{◌≡◌, ℕ, ◌+◌, Bool, ◌||◌, true, false, List, [], ◌∷◌, ◌++◌, length, append_assoc, refl, ap}
 use Rattle.std.proofs.Common.{sym, ◌∙◌, arith, add-zero, if◌then◌else◌}
 use Rattle.filter.specs.declared.status.Status.TheVariants.{Clean, Refused}
-use Rattle.std.specs.List.{list_any}
-use Rattle.std.proofs.lemmas.Grind.{flat_map-append}
+use Rattle.std.specs.List.{cons_option, flat_map, list_any}
 use Rattle.std.proofs.lemmas.List.{append-nil}
 use Rattle.std.proofs.lemmas.List.Folds.{list_any-append}
 use Rattle.filter.specs.Output.{outcome, image_of, message_of, is_refusal, line_number, images, messages_after}
-use Rattle.filter.specs.Output.{status_of}
+use Rattle.filter.specs.Output.{drawn_symbols, picture_of, status_of, symbol_in, text_of}
+use Rattle.filter.specs.Symbol.{Symbol}
+use Rattle.labelcore.specs.LineItem.{Outcome, skipped, refused, drawn}
 use Rattle.filter.specs.Private.LineEnd.{worst, status_of_line}
 use Rattle.labelcore.specs.OptionValues.{OptionValues}
 
@@ -20,16 +21,32 @@ worst_of_two false false = refl
 
 module _ (options : OptionValues) where
   pub images-nil : images options [] ≡ []
-  unfolding images
+  unfolding images drawn_symbols
   images-nil = refl
 
+  image_first : (o : Outcome Symbol) (symbols : List Symbol)
+      → flat_map (λ symbol. text_of options.format (picture_of options symbol)) (cons_option (symbol_in o) symbols)
+      ≡ image_of options o ++ flat_map (λ symbol. text_of options.format (picture_of options symbol)) symbols
+  image_first skipped symbols = refl
+  image_first (refused fault) symbols = refl
+  image_first (drawn symbol) symbols = refl
+
+  images-cons : (line : List ℕ) (lines : List (List ℕ))
+      → images options (line ∷ lines) ≡ image_of options (outcome options line) ++ images options lines
+  unfolding images drawn_symbols
+  images-cons line lines = image_first (outcome options line) (drawn_symbols options lines)
+
   pub images-append : (xs ys : List (List ℕ)) → images options (xs ++ ys) ≡ images options xs ++ images options ys
-  unfolding images
-  images-append xs ys = flat_map-append (λ (line : List ℕ). image_of options (outcome options line)) xs ys
+  images-append [] ys = ap (λ (bytes : List ℕ). bytes ++ images options ys) (sym images-nil)
+  images-append (x ∷ xs) ys =
+      let first = image_of options (outcome options x) in
+      images-cons x (xs ++ ys) ∙ (ap (λ (bytes : List ℕ). first ++ bytes) (images-append xs ys)
+      ∙ (sym (append_assoc first (images options xs) (images options ys))
+      ∙ ap (λ (bytes : List ℕ). bytes ++ images options ys) (sym (images-cons x xs))))
 
   pub images_one : (line : List ℕ) → images options (line ∷ []) ≡ image_of options (outcome options line)
-  unfolding images
-  images_one line = append-nil (image_of options (outcome options line))
+  images_one line = let image = image_of options (outcome options line) in
+      images-cons line [] ∙ (ap (λ (bytes : List ℕ). image ++ bytes) images-nil ∙ append-nil image)
 
   pub messages_after-nil : (n : ℕ) → messages_after options n [] ≡ []
   unfolding messages_after

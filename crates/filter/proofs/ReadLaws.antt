@@ -26,9 +26,9 @@ use Rattle.picture.specs.Reading.{raster}
 use Rattle.picture.specs.ReadingLaws.{ReadingLaws, IsDrawable, PixelsAreThePicture}
 use Rattle.filter.specs.Symbol.{Symbol, quiet_zone}
 use Rattle.labelcore.specs.LineItem.{Outcome, skipped, refused, drawn}
-use Rattle.filter.specs.Output.{outcome, image_of, images}
-use Rattle.filter.specs.Output.{picture_of, text_of}
-use Rattle.filter.specs.Readback.{cut, pixels, read_image, drawn_symbols, symbol_in, AreRead, ImageIsRead, ReadsBack}
+use Rattle.filter.specs.Output.{outcome, images}
+use Rattle.filter.specs.Output.{drawn_symbols, picture_of, symbol_in, text_of}
+use Rattle.filter.specs.Readback.{cut, pixels, read_image, AreRead, ImageIsRead, ReadsBack}
 use Rattle.filter.specs.Private.LineEnd.{IsReadable, HasReadable, DrawsModules}
 use Rattle.filter.specs.Drawing.{DrawsOutcome}
 use Rattle.labelcore.specs.declared.fault.Fault.{Fault}
@@ -147,21 +147,16 @@ module _ (laws : ReadingLaws) (options : OptionValues) where
   drawn_symbols_readable (line ∷ lines) all = with_readable (outcome options line) all.0 (drawn_symbols options lines)
       (drawn_symbols_readable lines all.1)
 
-  image_more : (o : Outcome Symbol) (more : List ℕ) (symbols : List Symbol)
-      → more ≡ flat_map (text_of options.format) (map (picture_of options) symbols)
-      → image_of options o ++ more
-      ≡ flat_map (text_of options.format) (map (picture_of options) (cons_option (symbol_in o) symbols))
-  image_more skipped more symbols e = e
-  image_more (refused fault) more symbols e = e
-  image_more (drawn symbol) more symbols e = ap (λ (bytes : List ℕ). text_of options.format (picture_of options symbol)
-      ++ bytes) e
+  texts_are : (symbols : List Symbol) → flat_map (λ symbol. text_of options.format (picture_of options symbol)) symbols
+      ≡ flat_map (text_of options.format) (map (picture_of options) symbols)
+  texts_are [] = refl
+  texts_are (symbol ∷ symbols) =
+      ap (λ (bytes : List ℕ). text_of options.format (picture_of options symbol) ++ bytes) (texts_are symbols)
 
   images_are : (lines : List (List ℕ)) → images options lines
       ≡ flat_map (text_of options.format) (map (picture_of options) (drawn_symbols options lines))
-  unfolding images drawn_symbols
-  images_are [] = refl
-  images_are (line ∷ lines) = image_more (outcome options line) (images options lines) (drawn_symbols options lines)
-      (images_are lines)
+  unfolding images
+  images_are lines = texts_are (drawn_symbols options lines)
 
   -- the images of lines, cut, are read as the full data of the symbols that are drawn
   pub images_read : (lines : List (List ℕ)) → AllByRecursion (λ line. ReadsBack options (outcome options line)) lines

@@ -1,31 +1,38 @@
 -- From pieces to a run over a whole input.
 use Rattle.std.proofs.Common.{ℕ, Result, Ok, Err, List, [], ◌∷◌, ◌++◌, ◌+◌, length, ◌⊎◌, inl, inr, refl, subst, sym}
-use Rattle.std.proofs.Common.{zero-add}
-use Rattle.std.specs.Prelude.{MatchResult, IfErr, IfOk}
+use Rattle.std.proofs.Common.{take, zero-add}
+use Rattle.std.proofs.lemmas.List.{append-nil}
+use Rattle.std.specs.Prelude.{◌≡◌, IfErr, IfOk}
 use Rattle.device.specs.Lines.{lines, ended_lines, open_line, unless_empty}
 use Rattle.filter.specs.Symbol.{Symbol}
-use Rattle.filter.specs.Line.{FailsInLine, RaisesOneCount}
+use Rattle.filter.specs.Line.{CountsFault, FailsInLine, RaisesOneCount}
 use Rattle.labelcore.specs.LineItem.{Outcome}
-use Rattle.filter.specs.Output.{image_of, images, line_number, messages_after, outcome}
-use Rattle.filter.specs.Filter.{TookLines, StopsInLine, TookPiece, StopsInFinish}
+use Rattle.filter.specs.Output.{image_of, images, line_number, messages_after, outcome, status_of}
+use Rattle.filter.specs.Filter.{TookLines, StopsInLine, TookPiece, StopsInFinish, EndsInput}
 use Rattle.filter.specs.Run.{StopsInText, RunStops}
 use Rattle.filter.specs.declared.status.RunFault.{RunFault}
+use Rattle.filter.specs.declared.status.Status.{Status}
 use Rattle.filter.specs.declared.status.RunFault.TheVariants.{Read, WriteOut, WriteMessages, Spent}
 use Rattle.filter.proofs.FilterLaws.{lines-split, TookLines-ended, TookLines-none, TookLines-append}
-use Rattle.filter.proofs.FilterLaws.{TookLines-flushed, StopsInLine-one, StopsInLine-append}
+use Rattle.filter.proofs.FilterLaws.{StopsInLine-one, StopsInLine-append}
 use Rattle.labelcore.specs.OptionValues.{OptionValues}
 
 module _ (options : OptionValues) where
-  -- what follows from two clauses where a result is `Err`, and where it is `Ok`
-  pub at_err : {T E : Type 0} (r : Result T E) (A C : T → Type 0) (P B Q : E → Type 0) → MatchResult r A P
-      → MatchResult r C B → ((fault : E) → P fault → B fault → Q fault) → IfErr r Q
-  at_err (Ok x) A C P B Q p b f = tt
-  at_err (Err e) A C P B Q p b f = f e p b
+  -- what the end of the input says of the result
+  module _ {took_out took_err : List ℕ → Type 0} (text : List ℕ) where
+    pub ends_ok : {Q : Status → Type 0} (r : Result Status RunFault) → EndsInput options took_out took_err text r
+        → ((status : Status) → status ≡ status_of options (lines text)
+        → TookLines options took_out took_err (length (ended_lines text)) (unless_empty (open_line text)) → Q status)
+        → IfOk r Q
+    ends_ok (Ok status) ends each = each status ends.0 ends.1
+    ends_ok (Err fault) ends each = tt
 
-  pub at_ok : {T E : Type 0} (r : Result T E) (P B : T → Type 0) (S : E → Type 0) (Q : T → Type 0)
-      → MatchResult r (λ x. P x × B x) S → ((x : T) → P x → B x → Q x) → IfOk r Q
-  at_ok (Ok x) P B S Q p f = f x p.0 p.1
-  at_ok (Err e) P B S Q p f = tt
+    pub ends_err : {o o' e e' : ℕ} {Q : RunFault → Type 0} (r : Result Status RunFault)
+        → EndsInput options took_out took_err text r → CountsFault o o' e e' r
+        → ((fault : RunFault) → StopsInFinish options took_out took_err text fault → RaisesOneCount o o' e e' fault
+        → Q fault) → IfErr r Q
+    ends_err (Ok status) ends counts each = tt
+    ends_err (Err fault) ends counts each = each fault ends counts
 
   -- a fault in a line, as a run's
   pub RunStops-in_line : (took_out took_err : List ℕ → Type 0) (text : List ℕ) (fault : RunFault)
@@ -79,10 +86,32 @@ module _ (options : OptionValues) where
     RunStops-by text WriteMessages s = StopsInText-by text WriteMessages s
     RunStops-by text Spent s = s
 
-  module _ {O E : Type 0} (took_out : O → O → List ℕ → Type 0) (took_err : E → E → List ℕ → Type 0)
+  -- what is buffered goes on
+  pub TookPiece-sent : {O : Type 0} {took_out : O → O → List ℕ → Type 0} {took_err : List ℕ → Type 0}
+      (out_joined : (s t u : O) (xs ys : List ℕ) → took_out s t xs → took_out t u ys → took_out s u (xs ++ ys))
+      {out out' out'' : O} {text : List ℕ} → TookPiece options (took_out out out') took_err [] text
+      → took_out out' out'' [] → TookPiece options (took_out out out'') took_err [] text
+  TookPiece-sent {took_out = took_out} out_joined {out} {out'} {out''} piece none = record {
+    added = piece.added;
+    grown = piece.grown;
+    took = record {
+      out = subst (took_out out out'') (append-nil (images options piece.added))
+          (out_joined out out' out'' (images options piece.added) [] piece.took.out none);
+      err = piece.took.err;
+      read = piece.took.read;
+    };
+  }
+
+  -- at the end the source gives no more
+  pub gave_end : (gave : List ℕ → Type 0) (given buffer : List ℕ) (n : ℕ) → n ≡ 0 → gave (given ++ take n buffer)
+      → gave given
+  gave_end gave given buffer n none more = subst gave (append-nil given)
+      (subst (λ (k : ℕ). gave (given ++ take k buffer)) none more)
+
+  module _ {O E : Type 0} {took_out : O → O → List ℕ → Type 0} {took_err : E → E → List ℕ → Type 0}
       (out_joined : (s t u : O) (xs ys : List ℕ) → took_out s t xs → took_out t u ys → took_out s u (xs ++ ys))
       (err_joined : (s t u : E) (xs ys : List ℕ) → took_err s t xs → took_err t u ys → took_err s u (xs ++ ys))
-      (out : O) (out' : O) (out'' : O) (err : E) (err' : E) (err'' : E) (text : List ℕ)
+      {out : O} {out' : O} {out'' : O} {err : E} {err' : E} {err'' : E} {text : List ℕ}
       (took : TookPiece options (took_out out out') (took_err err err') [] text) where
     -- the ended lines, and then the last one
     pub TookLines-finish : TookLines options (took_out out' out'') (took_err err' err'') (length (ended_lines text))
@@ -90,7 +119,7 @@ module _ (options : OptionValues) where
     TookLines-finish last =
         subst (λ (ls : List (List ℕ)). TookLines options (took_out out out'') (took_err err err'') 0 ls)
         (sym (lines-split options text))
-        (TookLines-append options took_out took_err out_joined err_joined out out' out'' err err' err'' 0
+        (TookLines-append options out_joined err_joined 0
         (ended_lines text) (unless_empty (open_line text))
         (TookLines-ended options (took_out out out') (took_err err err') text took)
         (subst (λ (n : ℕ). TookLines options (took_out out' out'') (took_err err' err'') n
@@ -102,7 +131,7 @@ module _ (options : OptionValues) where
     StopsInLine-finish fault last =
         subst (λ (ls : List (List ℕ)). StopsInLine options (took_out out out'') (took_err err err'') 0 ls fault)
         (sym (lines-split options text))
-        (StopsInLine-append options took_out took_err out_joined err_joined out out' out'' err err' err'' 0
+        (StopsInLine-append options out_joined err_joined 0
         (ended_lines text) (unless_empty (open_line text)) fault
         (TookLines-ended options (took_out out out') (took_err err err') text took)
         (subst (λ (n : ℕ). StopsInLine options (took_out out' out'') (took_err err' err'') n
@@ -114,16 +143,6 @@ module _ (options : OptionValues) where
     RunStops-finish o o' e e' fault s r =
         RunStops-at_end (took_out out out'') (took_err err err'') text o o' e e' fault r
         (elim s [ inl line ↦ inl (StopsInLine-finish fault line) | inr whole ↦ inr (TookLines-finish whole) ])
-
-    -- what is buffered is passed on
-    pub TookPiece-sent : took_out out' out'' [] → took_err err' err'' []
-        → TookPiece options (took_out out out'') (took_err err err'') [] text
-    TookPiece-sent none_out none_err = record {
-      added = took.added;
-      grown = took.grown;
-      took = TookLines-flushed options took_out took_err out_joined err_joined out out' out'' err err' err''
-          (length (ended_lines [])) took.added took.took none_out none_err;
-    }
 
     -- what is buffered is not passed on: of the open line's image nothing was taken
     pub RunStops-between : took_out out' out'' [] → took_err err' err'' []

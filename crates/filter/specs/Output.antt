@@ -1,7 +1,8 @@
 -- The images, the messages and the status of a text, line by line (docs/SPECIFICATION.md, Lines, Statuses).
--- Why: `outcome`, `images`, `messages_after`, `status_of`: "depend on nothing but options and input, as specified".
-use Rattle.std.specs.Prelude.{ℕ, ◌+◌, ◌-◌, ◌^◌, min, Bool, true, false, if◌then◌else◌, List, [], ◌∷◌, ◌++◌}
-use Rattle.std.specs.List.{flat_map, list_any}
+-- Why: `outcome`, `drawn_symbols`, `images`, `messages_after`, `status_of`: "depend on nothing but options and input, as
+-- specified".
+use Rattle.std.specs.Prelude.{ℕ, ◌+◌, ◌-◌, ◌^◌, min, Bool, true, false, if◌then◌else◌, Option, Some, None, List, [], ◌∷◌, ◌++◌}
+use Rattle.std.specs.List.{filter_map, flat_map, list_any}
 use Rattle.labelcore.specs.declared.options.Format.{Format}
 use Rattle.labelcore.specs.declared.options.Format.TheVariants.{Pbm, Ascii}
 use Rattle.labelcore.specs.OptionValues.{OptionValues}
@@ -33,6 +34,15 @@ abbrev pub text_of : Format → Picture → List ℕ
 text_of Pbm p = pbm_text p
 text_of Ascii p = ascii_text p
 
+-- the symbol that is drawn, or none
+abbrev pub symbol_in : Outcome Symbol → Option Symbol
+symbol_in (drawn symbol) = Some symbol
+symbol_in other = None
+
+-- the symbols of the lines that are drawn, in order
+unfoldable pub drawn_symbols : OptionValues → List (List ℕ) → List Symbol
+drawn_symbols options lines = filter_map (λ line. symbol_in (outcome options line)) lines
+
 -- the image of what is drawn, or nothing
 abbrev pub image_of : OptionValues → Outcome Symbol → List ℕ
 image_of options (drawn symbol) = text_of options.format (picture_of options symbol)
@@ -52,9 +62,10 @@ is_refusal other = false
 abbrev pub line_number : ℕ → ℕ
 line_number before = min (before + 1) (2 ^ 64 - 1)
 
--- the images of lines, joined
+-- the images of the symbols that are drawn of lines, joined
 unfoldable pub images : OptionValues → List (List ℕ) → List ℕ
-images options lines = flat_map (λ line. image_of options (outcome options line)) lines
+images options lines =
+    flat_map (λ symbol. text_of options.format (picture_of options symbol)) (drawn_symbols options lines)
 
 -- the messages of lines that come after `before` lines, joined
 unfoldable pub messages_after : OptionValues → ℕ → List (List ℕ) → List ℕ

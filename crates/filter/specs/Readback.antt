@@ -1,7 +1,7 @@
 -- Images read back: pbm(5), and the readings of ISO/IEC 15420, 15417 and 18004 with no correction.
--- Why: `read_image`, `drawn_symbols`, `AreRead`, `ImageIsRead`: "read back by the standards' reading rules".
-use Rattle.std.specs.Prelude.{◌≡◌, ℕ, ◌==◌, Bool, List, length, Option, Some, None, ⊤}
-use Rattle.std.specs.List.{AllZip, list_all, filter_map}
+-- Why: `read_image`, `AreRead`, `ImageIsRead`: "read back by the standards' reading rules".
+use Rattle.std.specs.Prelude.{◌≡◌, ℕ, ◌==◌, Bool, List, length, Option, Some, ⊤}
+use Rattle.std.specs.List.{AllZip, list_all}
 use Rattle.std.specs.Bool.{then_some}
 use Rattle.labelcore.specs.declared.options.Format.{Format}
 use Rattle.labelcore.specs.declared.options.Format.TheVariants.{Pbm, Ascii}
@@ -18,7 +18,7 @@ use Rattle.picture.specs.Reading.{Raster, pbm_files, ascii_files, pbm_pixels, as
 use Rattle.labelcore.specs.LineItem.{Outcome, drawn}
 use Rattle.picture.specs.ReadingLaws.{IsDrawable}
 use Rattle.filter.specs.Symbol.{Symbol, quiet_zone}
-use Rattle.filter.specs.Output.{outcome, image_of, picture_of}
+use Rattle.filter.specs.Output.{image_of, picture_of}
 
 -- a stream of images, cut into its images
 abbrev pub cut : Format → List ℕ → List (List ℕ)
@@ -48,6 +48,7 @@ read_image format scale symbology text = do
   modules ← sample image scale (quiet_zone symbology)
   read_modules symbology modules
 
+<<<<<<< HEAD
 -- the symbol that is drawn, or none
 abbrev pub symbol_in : Outcome Symbol → Option Symbol
 symbol_in (drawn symbol) = Some symbol
@@ -58,6 +59,9 @@ unfoldable pub drawn_symbols : OptionValues → List (List ℕ) → List Symbol
 drawn_symbols options lines = filter_map (λ line. symbol_in (outcome options line)) lines
 
 -- the image reads as the symbol's full data
+=======
+-- the image is read as the symbol's full data
+>>>>>>> w-tight-filter
 abbrev pub IsRead : Format → ℕ → List ℕ → Symbol → Type 0
 IsRead format scale image symbol = read_image format scale symbol.symbology image ≡ Some symbol.full
 

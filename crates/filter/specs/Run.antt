@@ -6,8 +6,8 @@ use Rattle.std.specs.Prelude.{◌≡◌, ℕ, ◌-◌, ◌^◌, ◌≤◌, ◌�
 use Rattle.device.specs.Device.{Rises}
 use Rattle.labelcore.specs.OptionValues.{OptionValues}
 use Rattle.device.specs.Lines.{lines, ended_lines}
-use Rattle.filter.specs.Output.{images, messages_after, status_of}
-use Rattle.filter.specs.Readback.{AreRead, drawn_symbols, cut}
+use Rattle.filter.specs.Output.{drawn_symbols, images, messages_after, status_of}
+use Rattle.filter.specs.Readback.{AreRead, cut}
 use Rattle.filter.specs.declared.status.Status.{Status}
 use Rattle.filter.specs.Filter.{TookLines, StopsInLine}
 use Rattle.filter.specs.declared.status.RunFault.{RunFault}

@@ -28,9 +28,7 @@ returns-in_err-feed_byte-clause-feeds g c options text at =
     (g.E.Sink.took c.args.err.now c.feed_byte.new.err) text bs c.in_err-feed_byte.field-0.0)
     (ap (λ (bs : List ℕ). bs ++ drop (i + 1) piece) (sym more) ∙ take-append-drop (i + 1) piece)
     (StopsInPiece-longer options _ _ text (take i piece ++ byte ∷ []) (drop (i + 1) piece) _
-    (StopsInPiece-append options g.O.Sink.took g.E.Sink.took g.met.O.Sink.took_joined g.met.E.Sink.took_joined
-    c.args.out.now c.loop-byte.out c.feed_byte.new.out c.args.err.now c.loop-byte.err c.feed_byte.new.err
-    text (take i piece) (byte ∷ []) (h.took options text at) _
+    (StopsInPiece-append options g.met.O.Sink.took_joined g.met.E.Sink.took_joined (h.took options text at) _
     (c.in_err-feed_byte.ensures.feeds options (text ++ take i piece) (h.stands options text at)))))
 
 pub loop-byte-preserved : goal.loop-byte-preserved
@@ -45,9 +43,7 @@ loop-byte-preserved g c =
           (append_assoc text (take i piece) (byte ∷ []))
           (c.in_ok-feed_byte.ensures.feeds options (text ++ take i piece) (h.stands options text at)).0);
       took = λ options text at. rw more
-          (TookPiece-append options g.O.Sink.took g.E.Sink.took g.met.O.Sink.took_joined g.met.E.Sink.took_joined
-          c.args.out.now c.loop-byte.out c.feed_byte.new.out c.args.err.now c.loop-byte.err c.feed_byte.new.err
-          text (take i piece) (byte ∷ []) (h.took options text at)
+          (TookPiece-append options g.met.O.Sink.took_joined g.met.E.Sink.took_joined (h.took options text at)
           (c.in_ok-feed_byte.ensures.feeds options (text ++ take i piece) (h.stands options text at)).1);
       out_unflushed = λ e. h.out_unflushed (c.in_ok-feed_byte.ensures.sinks.out_unflushed e);
       err_unflushed = λ e. h.err_unflushed (c.in_ok-feed_byte.ensures.sinks.err_unflushed e);
