@@ -48,20 +48,7 @@ read_image format scale symbology text = do
   modules ← sample image scale (quiet_zone symbology)
   read_modules symbology modules
 
-<<<<<<< HEAD
--- the symbol that is drawn, or none
-abbrev pub symbol_in : Outcome Symbol → Option Symbol
-symbol_in (drawn symbol) = Some symbol
-symbol_in other = None
-
--- the symbols of the lines that are drawn, in order
-unfoldable pub drawn_symbols : OptionValues → List (List ℕ) → List Symbol
-drawn_symbols options lines = filter_map (λ line. symbol_in (outcome options line)) lines
-
 -- the image reads as the symbol's full data
-=======
--- the image is read as the symbol's full data
->>>>>>> w-tight-filter
 abbrev pub IsRead : Format → ℕ → List ℕ → Symbol → Type 0
 IsRead format scale image symbol = read_image format scale symbol.symbology image ≡ Some symbol.full
 
