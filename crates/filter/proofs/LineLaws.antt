@@ -30,7 +30,7 @@ fails_refused options took_out took_err number fault WriteOut none fails = (([],
 fails_refused options took_out took_err number fault WriteMessages none fails = (none, fails)
 fails_refused options took_out took_err number fault Spent none fails = fails
 
--- a line that is refused ends as its message does
+-- the end of a line that is refused, from the end of its message
 pub refused_ends : (options : OptionValues) (took_out took_err : List ℕ → Type 0) (number : ℕ) (o : Outcome Symbol)
     (fault : Fault) (r : Result Status RunFault) → refusal_of o ≡ Err fault → took_out (image_of options o)
     → MessageEnds took_err (message number fault) r → LineEnds options took_out took_err number o r

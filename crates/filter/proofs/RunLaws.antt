@@ -86,7 +86,7 @@ module _ (options : OptionValues) where
     RunStops-by text WriteMessages s = StopsInText-by text WriteMessages s
     RunStops-by text Spent s = s
 
-  -- what is buffered goes on
+  -- what is buffered is passed on
   pub TookPiece-sent : {O : Type 0} {took_out : O → O → List ℕ → Type 0} {took_err : List ℕ → Type 0}
       (out_joined : (s t u : O) (xs ys : List ℕ) → took_out s t xs → took_out t u ys → took_out s u (xs ++ ys))
       {out out' out'' : O} {text : List ℕ} → TookPiece options (took_out out out') took_err [] text

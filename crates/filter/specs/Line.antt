@@ -34,7 +34,7 @@ abbrev pub FlushedImagesAtMost : (out_old out_new err_old err_new : Bool) → Ru
 FlushedImagesAtMost out_old out_new err_old err_new WriteMessages = Unflushed err_old err_new
 FlushedImagesAtMost out_old out_new err_old err_new other = Unflushed out_old out_new × Unflushed err_old err_new
 
--- at `Ok` both sinks are flushed, the images first, and at `Err` at most that of the images where it was not before
+-- at `Ok` both sinks are flushed; the images are flushed first, so at `Err` no other sink is flushed that was not before
 abbrev pub FlushesImagesFirst : {T : Type 0} → (out_old out_new err_old err_new : Bool) → Result T RunFault → Type 0
 FlushesImagesFirst out_old out_new err_old err_new r =
     MatchResult r (λ _. (out_new ≡ true) × (err_new ≡ true)) (FlushedImagesAtMost out_old out_new err_old err_new)

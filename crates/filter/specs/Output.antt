@@ -62,7 +62,7 @@ is_refusal other = false
 abbrev pub line_number : ℕ → ℕ
 line_number before = min (before + 1) (2 ^ 64 - 1)
 
--- the images of the symbols that are drawn of lines, joined
+-- the images of the symbols of the lines that are drawn, joined
 unfoldable pub images : OptionValues → List (List ℕ) → List ℕ
 images options lines =
     flat_map (λ symbol. text_of options.format (picture_of options symbol)) (drawn_symbols options lines)

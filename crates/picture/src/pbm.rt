@@ -11,8 +11,8 @@ use arrayvec::ArrayVec;
 use device::{IoFault, Sink, write_whole};
 use itoa::Buffer;
 
-/// Writes the grid as a plain PBM file, pbm(5): two lines of header, then each row in pieces of 70 pixels, a piece a
-/// line, of which the last may be shorter.
+/// Writes the grid as a plain PBM file, pbm(5): two lines of header, then each row in pieces of 70 pixels, one a line.
+/// The last piece of a row may be shorter.
 ///
 /// # Errors
 ///

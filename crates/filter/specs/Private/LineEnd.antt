@@ -44,7 +44,7 @@ abbrev pub HasReadable : Outcome Symbol → Type 0
 HasReadable (drawn symbol) = IsReadable symbol
 HasReadable other = ⊤
 
--- as `DrawsOutcome`, of the modules
+-- the image is written, or nothing where there is none; a refusal is returned, and the modules of a symbol are read
 pub record DrawsModules {S E : Type 0} (sink : Ghosts S) (old new : S) (options : OptionValues)
     (outcome : Outcome Symbol) (r : Result (Result (Unit {0}) Fault) E) : Type 0 where
   pub writes : WritesText sink old new (image_of options outcome) r
