@@ -34,12 +34,12 @@ abbrev pub FlushedImagesAtMost : (out_old out_new err_old err_new : Bool) → Ru
 FlushedImagesAtMost out_old out_new err_old err_new WriteMessages = Unflushed err_old err_new
 FlushedImagesAtMost out_old out_new err_old err_new other = Unflushed out_old out_new × Unflushed err_old err_new
 
--- at `Ok` both sinks are flushed; the images are flushed first, so at `Err` no other sink is flushed that was not before
+-- at `Ok` both sinks are flushed; at `Err` none is that was not before, but for the images, which are flushed first
 abbrev pub FlushesImagesFirst : {T : Type 0} → (out_old out_new err_old err_new : Bool) → Result T RunFault → Type 0
 FlushesImagesFirst out_old out_new err_old err_new r =
     MatchResult r (λ _. (out_new ≡ true) × (err_new ≡ true)) (FlushedImagesAtMost out_old out_new err_old err_new)
 
--- a call that flushes nothing: the count of the sink that failed rises, and a sink that is flushed now was flushed before
+-- a call that flushes nothing: the count of the sink that failed rises, and a sink that is flushed now was so before
 pub record FlushesNeither {O E T : Type 0} (out : Ghosts O) (err : Ghosts E) (out_old out_new : O) (err_old err_new : E)
     (r : Result T RunFault) : Type 0 where
   pub counts : CountsFault (out.failures out_old) (out.failures out_new) (err.failures err_old) (err.failures err_new) r

@@ -1,6 +1,6 @@
 -- The images, the messages and the status of a text, line by line (docs/SPECIFICATION.md, Lines, Statuses).
--- Why: `outcome`, `drawn_symbols`, `images`, `messages_after`, `status_of`: "depend on nothing but options and input, as
--- specified".
+-- Why: `outcome`, `drawn_symbols`, `images`, `messages_after`, `status_of`: "depend on nothing but options and input,
+-- as specified".
 use Rattle.std.specs.Prelude.{ℕ, ◌+◌, ◌-◌, ◌^◌, min, Bool, true, false, if◌then◌else◌, Option, Some, None, List, [], ◌∷◌, ◌++◌}
 use Rattle.std.specs.List.{filter_map, flat_map, list_any}
 use Rattle.labelcore.specs.declared.options.Format.{Format}
