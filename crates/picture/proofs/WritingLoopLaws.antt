@@ -7,8 +7,8 @@ use Rattle.device.proofs.WritingLaws.{HasWritten, HasWritten-more, WritesText-fa
 use Rattle.picture.specs.Text.{below}
 use Rattle.picture.proofs.WritingLaws.{flat_map-below_more, flat_map-below_front}
 
--- A loop that writes `f k` in turn k. The lemmas have more than eight arguments, since the sink's law `took_joined`, the
--- sink before the loop, before and after the turn, and the result are all parts of the goals.
+-- A loop that writes `f k` in turn k. The lemmas have more than eight arguments, since the sink's law `took_joined`,
+-- the sink before the loop, before and after the turn, and the result are all parts of the goals.
 module _ {S : Type 0} (sink : Ghosts S) (took_joined : (s t u : S) (xs ys : List ℕ) → sink.took s t xs
     → sink.took t u ys → sink.took s u (xs ++ ys)) (f : ℕ → List ℕ) (s t u : S) (k : ℕ) (next : List ℕ)
     (same : next ≡ f k) (before : HasWritten sink s t (flat_map f (below k))) where

@@ -263,8 +263,8 @@ fn uneven_blocks(rt: HostRuntime) {
     expect_codewords(&rt, &codewords, 56, &[0x16, 0x16, 0xEC, 0xEC, 0x11, 0x11]);
 }
 
-/// The data codewords of four blocks of 15, 15, 16 and 16 in turn, where the codeword at each place is the place itself,
-/// but for the first two, which begin with the mode and the count, and the last, which ends with the terminator.
+/// The data codewords of four blocks of 15, 15, 16 and 16 in turn. The codeword at each place is the place itself, but
+/// for the first two, which begin with the mode and the count, and the last, which ends with the terminator.
 const IN_TURN: [u8; 62] = [
     0x43, 15, 30, 46, 0xC1, 16, 31, 47, 2, 17, 32, 48, 3, 18, 33, 49, 4, 19, 34, 50, 5, 20, 35, 51,
     6, 21, 36, 52, 7, 22, 37, 53, 8, 23, 38, 54, 9, 24, 39, 55, 10, 25, 40, 56, 11, 26, 41, 57, 12,

@@ -115,8 +115,8 @@ fn each_mode(rt: HostRuntime) {
     }
 }
 
-/// Data for which the rule of this program and that of Zint both choose mask 7, the last one, at level M, and the sums of
-/// Zint's symbols of version 1.
+/// Data for which the rule of this program and that of Zint both choose mask 7, the last one, at level M, and the sums
+/// of Zint's symbols of version 1.
 const LAST_MASK: &[(&[u8], u32)] = &[(b"qr 1189\n", 0x4615A13C), (b"qr 3200\n", 0x4142A13A)];
 
 #[test]

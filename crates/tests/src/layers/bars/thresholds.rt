@@ -53,8 +53,8 @@ const AS_ZINT: &[(&[u8], &[u8])] = &[
     ),
 ];
 
-/// Data that the rule of docs/SPECIFICATION.md writes in other sets than Zint: fewer than six digits between others stay
-/// in the set that holds, and a last byte that the set lacks changes the set.
+/// Data that the rule of docs/SPECIFICATION.md writes in other sets than Zint: fewer than six digits between others
+/// stay in the set that holds, and a last byte that the set lacks changes the set.
 const BY_THE_RULE: &[(&[u8], &[u8])] = &[
     (
         b"A1234B",
