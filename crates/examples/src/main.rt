@@ -44,19 +44,19 @@ fn feed_pieces(rt: &HostRuntime) -> io::Result<()> {
     let mut images: MemSink<4096> = MemSink::new(4096, 4096);
     let mut messages: MemSink<1024> = MemSink::new(1024, 1024);
     // The text is cut inside the first line, as it may be between two reads.
-    let answer = draw_in_two(
+    let result = draw_in_two(
         options,
         b"ean8 7351",
         b"353\nean8 123\n",
         &mut images,
         &mut messages,
     );
-    let told = match answer {
+    let shown = match result {
         Ok(Status::Clean) => "every line was drawn",
         Ok(Status::Refused) => "some line was refused",
         Err(_) => "a sink failed",
     };
-    println!(rt; "{told}")?;
+    println!(rt; "{shown}")?;
     println!(rt;
         "{} bytes of pictures, {} of messages",
         images.bytes().len(),

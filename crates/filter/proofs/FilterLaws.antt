@@ -17,7 +17,7 @@ use Rattle.filter.specs.Symbol.{Symbol}
 use Rattle.filter.specs.Line.{FailsInLine}
 use Rattle.std.specs.List.{AllByRecursion}
 use Rattle.filter.specs.Readback.{ReadsBack}
-use Rattle.filter.specs.Filter.{FilterState, StandsAt, TookLines, StopsInLine, TookPiece, StopsInPiece}
+use Rattle.filter.specs.Filter.{FilterState, IsAfter, TookLines, StopsInLine, TookPiece, StopsInPiece}
 use Rattle.filter.specs.declared.status.RunFault.{RunFault}
 use Rattle.filter.specs.declared.status.RunFault.TheVariants.{Read, WriteOut, WriteMessages, Spent}
 use Rattle.filter.proofs.OutputLaws.{images-nil, images-append, images_one, messages_after-nil, messages_after-append}
@@ -26,9 +26,9 @@ use Rattle.labelcore.specs.OptionValues.{OptionValues}
 
 module _ (options : OptionValues) where
   -- a new filter
-  pub StandsAt-new : (state : FilterState) → state.options ≡ options → state.line ≡ held_line [] → state.line_count ≡ 0
-      → state.status ≡ Clean → state.is_spent ≡ false → StandsAt options state []
-  StandsAt-new state o l n r s = record {
+  pub IsAfter-new : (state : FilterState) → state.options ≡ options → state.line ≡ held_line [] → state.line_count ≡ 0
+      → state.status ≡ Clean → state.is_spent ≡ false → IsAfter options state []
+  IsAfter-new state o l n r s = record {
     options_are = o;
     line = l ∙ ap held_line (sym open_line-nil);
     line_count = n ∙ ap (λ (ls : List (List ℕ)). min (length ls) (2 ^ 64 - 1)) (sym ended_lines-nil);
@@ -36,12 +36,12 @@ module _ (options : OptionValues) where
     is_spent = s;
   }
 
-  module _ (old new : FilterState) (text : List ℕ) (byte : ℕ) (at : StandsAt options old text) where
+  module _ (old new : FilterState) (text : List ℕ) (byte : ℕ) (at : IsAfter options old text) where
     -- a byte of the line
-    pub StandsAt-other : byte ≢ LF → new.options ≡ old.options → new.line ≡ held_line (open_line text ++ byte ∷ [])
+    pub IsAfter-other : byte ≢ LF → new.options ≡ old.options → new.line ≡ held_line (open_line text ++ byte ∷ [])
         → new.line_count ≡ old.line_count → new.status ≡ old.status → new.is_spent ≡ old.is_spent
-        → StandsAt options new (text ++ byte ∷ [])
-    StandsAt-other other o l n r s =
+        → IsAfter options new (text ++ byte ∷ [])
+    IsAfter-other other o l n r s =
         let ended = ended_lines-push_other text byte other in
         record {
           options_are = o ∙ at.options_are;
@@ -52,11 +52,11 @@ module _ (options : OptionValues) where
         }
 
     -- the end of the line
-    pub StandsAt-lf : byte ≡ LF → new.options ≡ old.options → new.line ≡ held_line []
+    pub IsAfter-lf : byte ≡ LF → new.options ≡ old.options → new.line ≡ held_line []
         → new.line_count ≡ line_number (length (ended_lines text))
         → new.status ≡ worst old.status (status_of_line (outcome options (open_line text)))
-        → new.is_spent ≡ old.is_spent → StandsAt options new (text ++ byte ∷ [])
-    StandsAt-lf lf o l n r s =
+        → new.is_spent ≡ old.is_spent → IsAfter options new (text ++ byte ∷ [])
+    IsAfter-lf lf o l n r s =
         let text' : text ++ byte ∷ [] ≡ text ++ LF ∷ [] = ap (λ (b : ℕ). text ++ b ∷ []) lf in
         let ended : ended_lines (text ++ byte ∷ []) ≡ ended_lines text ++ open_line text ∷ [] = ap ended_lines text'
         ∙ ended_lines-push_lf text in
@@ -72,13 +72,13 @@ module _ (options : OptionValues) where
         }
 
   -- the number of the line that ends
-  pub line_number-counts : (state : FilterState) (text : List ℕ) → StandsAt options state text → (n : ℕ)
+  pub line_number-counts : (state : FilterState) (text : List ℕ) → IsAfter options state text → (n : ℕ)
       → n ≡ min (state.line_count + 1) (2 ^ 64 - 1) → n ≡ line_number (length (ended_lines text))
   line_number-counts state text at n e = omega (arith, at.line_count)
 
   -- how the line ends, by what is held of it
   pub line_ends : (took_out took_err : List ℕ → Type 0) (state : FilterState) (text : List ℕ) (n : ℕ)
-      (r : Result Status RunFault) → StandsAt options state text → n ≡ min (state.line_count + 1) (2 ^ 64 - 1)
+      (r : Result Status RunFault) → IsAfter options state text → n ≡ min (state.line_count + 1) (2 ^ 64 - 1)
       → ((line : List ℕ) → state.line ≡ held_line line
       → LineEnds state.options took_out took_err n (outcome state.options line) r)
       → LineEnds options took_out took_err (line_number (length (ended_lines text))) (outcome options (open_line text)) r
@@ -285,7 +285,7 @@ module _ (options : OptionValues) where
   lines-split text = refl
 
   -- the end of the input
-  module _ (state : FilterState) (text : List ℕ) (at : StandsAt options state text) where
+  module _ (state : FilterState) (text : List ℕ) (at : IsAfter options state text) where
     pub no_rest : state.line.bytes ≡ [] → unless_empty (open_line text) ≡ []
     no_rest e = unless_empty-nil (open_line text) (sym (ap (λ h. h.bytes) at.line) ∙ e)
 

@@ -1,5 +1,5 @@
 -- The state of a filter in its input, and what it does to its sinks (docs/SPECIFICATION.md, The filter as a library).
--- Why: `FilterState`: what a `Filter` keeps, as a contract sees it; `StandsAt`, `TookPiece`, `StopsInPiece`,
+-- Why: `FilterState`: what a `Filter` keeps, as a contract sees it; `IsAfter`, `TookPiece`, `StopsInPiece`,
 -- `StopsInFinish`: the contracts of `Filter`; `TookLines`, `StopsInLine`: parts of the last three and of `RunStops`.
 use Rattle.std.specs.Prelude.{◌≡◌, ℕ, ◌+◌, ◌-◌, ◌^◌, min, Bool, false, ◌⊎◌, List, ◌∷◌, ◌++◌, length, Result}
 use Rattle.std.specs.Prelude.{MatchResult}
@@ -22,7 +22,7 @@ pub record FilterState : Type 0 where
   pub is_spent : Bool
 
 -- the filter has these options and was fed this text
-pub record StandsAt (options : OptionValues) (state : FilterState) (text : List ℕ) : Type 0 where
+pub record IsAfter (options : OptionValues) (state : FilterState) (text : List ℕ) : Type 0 where
   pub options_are : state.options ≡ options
   pub line : state.line ≡ held_line (open_line text)
   pub line_count : state.line_count ≡ min (length (ended_lines text)) (2 ^ 64 - 1)
@@ -74,7 +74,7 @@ StopsInFinish options took_out took_err text fault =
 abbrev pub FeedsPiece : {T : Type 0} → OptionValues → FilterState
     → (took_out took_err : List ℕ → Type 0) (text piece : List ℕ) → Result T RunFault → Type 0
 FeedsPiece options new took_out took_err text piece r =
-    MatchResult r (λ _. StandsAt options new (text ++ piece) × TookPiece options took_out took_err text piece)
+    MatchResult r (λ _. IsAfter options new (text ++ piece) × TookPiece options took_out took_err text piece)
     (StopsInPiece options took_out took_err text piece)
 
 -- the end of this text: at `Ok` the status is that of the text's lines, and the sinks took the image and the message

@@ -2,7 +2,7 @@
 ghost use Rattle.std.specs.Prelude.{◌≡◌, ℕ, true, false, List, [], ◌∷◌, Err, OnErr};
 ghost use Rattle.labelcore.specs.OptionValues.{OptionValues};
 ghost use Rattle.filter.specs.Private.LineEnd.{EndsOpenLine, FlushesBoth};
-ghost use Rattle.filter.specs.Filter.{FilterState, StandsAt, FeedsPiece, EndsInput};
+ghost use Rattle.filter.specs.Filter.{FilterState, IsAfter, FeedsPiece, EndsInput};
 ghost use Rattle.filter.specs.Line.{CountsFault, FlushesImagesFirst, FlushesNeither};
 
 use crate::line::finish_line;
@@ -39,7 +39,7 @@ impl Model for Filter {
 impl Filter {
     /// Returns a filter with these options that was fed nothing.
     pub fn new(options: Options) -> Self
-        ensures { StandsAt options result [] }
+        ensures { IsAfter options result [] }
     {
         Filter {
             options,
@@ -57,7 +57,7 @@ impl Filter {
         out: &mut O,
         err: &mut E,
     ) -> Result<(), RunFault>
-        ensures feeds { (options : OptionValues) (text : List ℕ) → StandsAt options self.old text
+        ensures feeds { (options : OptionValues) (text : List ℕ) → IsAfter options self.old text
             → FeedsPiece options self.new (O.took out.old out.new) (E.took err.old err.new)
             text (byte ∷ []) result }
         ensures spent { OnErr result (self.new.is_spent ≡ true) }
@@ -94,7 +94,7 @@ impl Filter {
         out: &mut O,
         err: &mut E,
     ) -> Result<(), RunFault>
-        ensures feeds { (options : OptionValues) (text : List ℕ) → StandsAt options self.old text
+        ensures feeds { (options : OptionValues) (text : List ℕ) → IsAfter options self.old text
             → FeedsPiece options self.new (O.took out.old out.new) (E.took err.old err.new)
             text piece.now result }
         ensures sinks { self.old.is_spent ≡ false
@@ -121,7 +121,7 @@ impl Filter {
     /// `WriteOut` where a call of `out` failed, `WriteMessages` where one of `err` did, in that line or in a flush. A
     /// filter that was spent returns `Spent` and calls no sink.
     pub fn finish<O: Sink, E: Sink>(self, out: &mut O, err: &mut E) -> Result<Status, RunFault>
-        ensures ends { (options : OptionValues) (text : List ℕ) → StandsAt options self text
+        ensures ends { (options : OptionValues) (text : List ℕ) → IsAfter options self text
             → EndsInput options (O.took out.old out.new) (E.took err.old err.new) text result }
         ensures flushed { FlushesImagesFirst (O.is_flushed out.old) (O.is_flushed out.new)
             (E.is_flushed err.old) (E.is_flushed err.new) result }
@@ -145,7 +145,7 @@ impl Filter {
         out: &mut O,
         err: &mut E,
     ) -> Result<Status, RunFault>
-        ensures ends { (options : OptionValues) (text : List ℕ) → StandsAt options self.now text
+        ensures ends { (options : OptionValues) (text : List ℕ) → IsAfter options self.now text
             → EndsOpenLine options (O.took out.old out.new) (E.took err.old err.new) text result }
         ensures sinks { FlushesNeither O.Sink E.Sink out.old out.new err.old err.new result }
     {

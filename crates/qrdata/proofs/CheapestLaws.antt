@@ -78,10 +78,10 @@ All-each : {A : Type 0} (P R : A → Type 0) → ((x : A) → P x → R x) → (
 All-each P R each [] all = tt
 All-each P R each (x ∷ xs) all = (each x all.0, All-each P R each xs all.1)
 
-stands : (p : Segment → Bool) (f : Segment → ℕ) (size : ℕ) (t : Segment) (xs : List Segment) → IsLeastOf p f size t
+first_of_size : (p : Segment → Bool) (f : Segment → ℕ) (size : ℕ) (t : Segment) (xs : List Segment) → IsLeastOf p f size t
     → AllByRecursion (λ (s : Segment). (0 < s.len) × (s.len ≤ size)) xs
     → IsFirstLowest f t (filter p (t ∷ xs))
-stands p f size t xs lowest sizes =
+first_of_size p f size t xs lowest sizes =
     let all = All-each _ (λ s. f t ≤ f s) (λ s fits. lowest.low s fits.0.0 fits.0.1 fits.1) (filter p xs)
     (All-filter (λ (s : Segment). (0 < s.len) × (s.len ≤ size)) p xs sizes) in
     let go : (b : Bool) → b ≡ true → IsFirstLowest f t (cond {A = List Segment} b (t ∷ filter p xs) (filter p xs)) =
@@ -92,28 +92,28 @@ stands p f size t xs lowest sizes =
     go (p t) lowest.passes
 
 -- it is among the segments of the greatest length
-stands_longest : (p : Segment → Bool) (f : Segment → ℕ) (size n : ℕ) (mode : Mode) → suc n ≤ size
+longest_first : (p : Segment → Bool) (f : Segment → ℕ) (size n : ℕ) (mode : Mode) → suc n ≤ size
     → IsLeastOf p f size (segment_of mode (suc n))
     → IsFirstLowest f (segment_of mode (suc n)) (filter p (candidates (suc n)))
-stands_longest p f size n Numeric fits lowest = rw (candidates-more n)
+longest_first p f size n Numeric fits lowest = rw (candidates-more n)
     (let sizes = tried_lengths n size (omega arith) in
-    stands p f size (segment_of Numeric (suc n))
+    first_of_size p f size (segment_of Numeric (suc n))
     (segment_of Alphanumeric (suc n) ∷ segment_of Byte (suc n) ∷ candidates n) lowest
     ((omega arith, fits), ((omega arith, fits), sizes)))
-stands_longest p f size n Alphanumeric fits lowest = rw (candidates-more n)
+longest_first p f size n Alphanumeric fits lowest = rw (candidates-more n)
     (let sizes = tried_lengths n size (omega arith) in
     let t = segment_of Alphanumeric (suc n) in
     skips p f t (segment_of Numeric (suc n)) (t ∷ segment_of Byte (suc n) ∷ candidates n)
     (λ yes. lowest.strict (segment_of Numeric (suc n)) (omega arith) fits yes (inr (refl, omega arith)))
-    (stands p f size t (segment_of Byte (suc n) ∷ candidates n) lowest ((omega arith, fits), sizes)))
-stands_longest p f size n Byte fits lowest = rw (candidates-more n)
+    (first_of_size p f size t (segment_of Byte (suc n) ∷ candidates n) lowest ((omega arith, fits), sizes)))
+longest_first p f size n Byte fits lowest = rw (candidates-more n)
     (let sizes = tried_lengths n size (omega arith) in
     let t = segment_of Byte (suc n) in
     skips p f t (segment_of Numeric (suc n)) (segment_of Alphanumeric (suc n) ∷ t ∷ candidates n)
     (λ yes. lowest.strict (segment_of Numeric (suc n)) (omega arith) fits yes (inr (refl, omega arith)))
     (skips p f t (segment_of Alphanumeric (suc n)) (t ∷ candidates n)
     (λ yes. lowest.strict (segment_of Alphanumeric (suc n)) (omega arith) fits yes (inr (refl, omega arith)))
-    (stands p f size t (candidates n) lowest sizes)))
+    (first_of_size p f size t (candidates n) lowest sizes)))
 
 -- it is among those of at most `n` bytes
 pub IsFirstLowest-candidates : (p : Segment → Bool) (f : Segment → ℕ) (size n : ℕ) (mode : Mode) (len : ℕ) → n ≤ size
@@ -134,6 +134,6 @@ IsFirstLowest-candidates p f size (suc n) mode len fits some inside lowest = eli
   | inr last ↦
       let same : suc n ≡ len = omega arith in
       subst (λ m. IsLeastOf p f size (segment_of mode m)
-      → IsFirstLowest f (segment_of mode m) (filter p (candidates (suc n)))) same (stands_longest p f size n mode fits)
+      → IsFirstLowest f (segment_of mode m) (filter p (candidates (suc n)))) same (longest_first p f size n mode fits)
       lowest
 ]

@@ -49,14 +49,14 @@ format_read H = by_mask (FormatRead H) (refl, refl) (refl, refl) (refl, refl) (r
     (refl, refl) (refl, refl)
 
 -- the bits of a number have their roles at a list of places, which are in the square
-abbrev pub StandsAt : ℕ → (ℕ → Role) → ℕ → List (ℕ × ℕ) → Type 0
-StandsAt v kind count places =
+abbrev pub HasRoles : ℕ → (ℕ → Role) → ℕ → List (ℕ × ℕ) → Type 0
+HasRoles v kind count places =
     (map (λ (p : ℕ × ℕ). role v p.0 p.1) places ≡ map (λ i. Some (kind i)) (range_with_len 0 count))
     × (list_all (λ (p : ℕ × ℕ). is_inside (side_of v) p.0 p.1) places ≡ true)
 
 -- both copies of the format information
 abbrev pub FormatCopies : ℕ → Type 0
-FormatCopies v = StandsAt v Format 15 format_copy_1 × StandsAt v Format 15 (format_copy_2 (side_of v))
+FormatCopies v = HasRoles v Format 15 format_copy_1 × HasRoles v Format 15 (format_copy_2 (side_of v))
 
 pub format_copies : (v : ℕ) → 1 ≤ v → v ≤ 10 → FormatCopies v
 unfolding role
@@ -69,8 +69,8 @@ format_copies =
 
 -- both copies of the version information, from version 7 on
 abbrev pub VersionCopies : ℕ → Type 0
-VersionCopies v = nat_le 7 v ≡ true → StandsAt v Version 18 (version_copy_1 (side_of v))
-    × StandsAt v Version 18 (version_copy_2 (side_of v))
+VersionCopies v = nat_le 7 v ≡ true → HasRoles v Version 18 (version_copy_1 (side_of v))
+    × HasRoles v Version 18 (version_copy_2 (side_of v))
 
 pub version_copies : (v : ℕ) → 1 ≤ v → v ≤ 10 → VersionCopies v
 unfolding role

@@ -23,7 +23,7 @@ use Rattle.qrmatrix.proofs.SumLaws.{list_all-range}
 use Rattle.qrmatrix.proofs.VersionLaws.{Computed, computed}
 use Rattle.qrmatrix.proofs.WalkLaws.{walk_ranks}
 use Rattle.qrmatrix.proofs.CodewordBitLaws.{codewords_of-codeword_bits}
-use Rattle.qrmatrix.proofs.InformationReadingLaws.{StandsAt, format_read, format_copies, version_copies, version_shown}
+use Rattle.qrmatrix.proofs.InformationReadingLaws.{HasRoles, format_read, format_copies, version_copies, version_shown}
 
 -- ---- the bits of the codewords
 
@@ -152,11 +152,11 @@ module _ (v : ℕ) (level : Level) (mask : ℕ) (codewords : List ℕ) where
     -- the number at places where its bits have their roles
     information_at-shown : (places : List (ℕ × ℕ)) (kind : ℕ → Role) (information count : ℕ)
         → ((i : ℕ) → module_of_role v level mask (kind i) ≡ bit information i)
-        → StandsAt v kind count places → information_at (module_at v level mask codewords) places
+        → HasRoles v kind count places → information_at (module_at v level mask codewords) places
         ≡ number_of (reverse (map (bit information) (range_with_len 0 count)))
-    information_at-shown places kind information count by stands =
+    information_at-shown places kind information count by roles =
         ap (λ bits. number_of (reverse bits))
-        (modules_at_role places kind information (range_with_len 0 count) by stands.1 stands.0)
+        (modules_at_role places kind information (range_with_len 0 count) by roles.1 roles.0)
 
     pub format_shown : read_format (side_of v) (module_at v level mask codewords) ≡ Some (level, mask)
     unfolding read_format

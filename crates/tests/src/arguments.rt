@@ -300,11 +300,11 @@ fn draws_file<R: Abort + Files>(rt: &R, alloc: Global, name: &str) -> Result<boo
     fs::write(rt, name, "ean8 7351353\n")?;
     let arguments = arguments_of(alloc, &["--height", "1", name])?;
     let mut out: MemSink<91> = MemSink::new(91, 91);
-    let answer = run_of_file(rt, alloc, arguments.as_slice(), &mut out);
-    let images = if answer.is_some() { EAN8 } else { b"" };
+    let result = run_of_file(rt, alloc, arguments.as_slice(), &mut out);
+    let images = if result.is_some() { EAN8 } else { b"" };
     assert!(rt; out.bytes() == images);
-    assert!(rt; matches!(answer, None | Some(Ok(Status::Clean))));
-    Ok(answer.is_some())
+    assert!(rt; matches!(result, None | Some(Ok(Status::Clean))));
+    Ok(result.is_some())
 }
 
 #[test]

@@ -129,8 +129,8 @@ fn a_folder_can_not_be_read(rt: HostRuntime) {
     };
     let mut out: MemSink<1> = MemSink::new(1, 1);
     let mut err: MemSink<1> = MemSink::new(1, 1);
-    let answer = run(low(&rt, false), &mut source, &mut out, &mut err);
-    assert!(rt; answer == Err(RunFault::Read));
+    let result = run(low(&rt, false), &mut source, &mut out, &mut err);
+    assert!(rt; result == Err(RunFault::Read));
 }
 
 /// An argument, `count` times.
@@ -159,7 +159,7 @@ const BAD_ARGUMENTS: [(&str, usize); 7] = [
 ];
 
 #[test]
-fn many_words_are_bad_words(rt: HostRuntime) -> Result<(), Fail> {
+fn many_arguments_are_bad(rt: HostRuntime) -> Result<(), Fail> {
     let alloc = rt.alloc();
     for (argument, first_bad) in BAD_ARGUMENTS {
         for count in [1, 2, 3, 10, 15, 16, 30, 100, 1000] {

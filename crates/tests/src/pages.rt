@@ -119,8 +119,8 @@ fn page_of_filter(rt: HostRuntime) {
     let mut source = MemSource::new(b"ean8 7351353\npdf x\n", 4096, false);
     let mut images: MemSink<512> = MemSink::new(512, 512);
     let mut messages: MemSink<64> = MemSink::new(64, 64);
-    let answer = run(options, &mut source, &mut images, &mut messages);
-    assert!(rt; answer == Ok(Status::Refused));
+    let result = run(options, &mut source, &mut images, &mut messages);
+    assert!(rt; result == Ok(Status::Refused));
     assert!(rt; images.bytes().len() == 91);
     assert!(rt; messages.bytes() == b"line 2: unknown symbology\n".as_slice());
 }

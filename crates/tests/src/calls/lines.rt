@@ -2,7 +2,7 @@
 //! as on a terminal that shows both outputs.
 ghost use Rattle.std.specs.Prelude.{◌<◌};
 
-use crate::runs::support::{answer_of, low};
+use crate::runs::support::{low, result_of};
 use device::{Buffered, IoFault, MemSink, MemSource, Sink, Source};
 use filter::Status;
 use std::alloc::{AllocError, Global};
@@ -243,7 +243,7 @@ fn assert_runs(
         record,
         has_messages: true,
     };
-    assert!(rt; answer_of(low(rt, true), &mut source, out, &mut err) == Ok(Status::Refused));
+    assert!(rt; result_of(low(rt, true), &mut source, out, &mut err) == Ok(Status::Refused));
 }
 
 /// A sink of the pictures whose calls are recorded.

@@ -10,14 +10,14 @@ fn encoded<L: Linear>(rt: &impl Abort, data: &[u8]) -> (Result<(), Refusal>, Row
     assert!(rt; !data.is_empty());
     let mut row = Row::new();
     row.push(true);
-    let answer = L::encode(data, &mut row);
-    (answer, row)
+    let result = L::encode(data, &mut row);
+    (result, row)
 }
 
 /// The data is drawn as this row.
 fn assert_row<L: Linear>(rt: &impl Abort, data: &[u8], want: &Row) {
-    let (answer, row) = encoded::<L>(rt, data);
-    assert!(rt; answer.is_ok());
+    let (result, row) = encoded::<L>(rt, data);
+    assert!(rt; result.is_ok());
     assert!(rt; row.as_slice() == want.as_slice());
 }
 
@@ -55,8 +55,8 @@ fn assert_widths(rt: &impl Abort, rows: &[(&[u8], &[u8])]) {
 /// Each data is refused, and the row is empty.
 fn assert_refused<L: Linear>(rt: &impl Abort, rows: &[(&[u8], Refusal)]) {
     for (data, want) in rows {
-        let (answer, row) = encoded::<L>(rt, data);
-        assert!(rt; answer == Err(*want));
+        let (result, row) = encoded::<L>(rt, data);
+        assert!(rt; result == Err(*want));
         assert!(rt; row.is_empty());
     }
 }
@@ -116,8 +116,8 @@ fn rows_are_drawn(rt: HostRuntime) {
     assert_drawn::<Ean8>(&rt, EAN8_ROWS);
     assert_drawn::<Ean13>(&rt, EAN13_ROWS);
     assert_widths(&rt, CODE128_ROWS);
-    let (answer, ean13_row) = encoded::<Ean13>(&rt, b"0036000291452");
-    assert!(rt; answer.is_ok());
+    let (result, ean13_row) = encoded::<Ean13>(&rt, b"0036000291452");
+    assert!(rt; result.is_ok());
     assert!(rt; ean13_row.len() == 95);
     assert_row::<UpcA>(&rt, b"03600029145", &ean13_row);
 }

@@ -4,12 +4,12 @@ use device::{Buffered, FailAt, MemSink, Sink};
 use std::process::Abort;
 
 /// Whether the memory below has the one text, and the other is buffered.
-fn stands(sink: &Buffered<MemSink<8>>, below: &[u8], buffered: &[u8]) -> bool {
+fn holds(sink: &Buffered<MemSink<8>>, below: &[u8], buffered: &[u8]) -> bool {
     sink.sink().bytes() == below && sink.buffered() == buffered
 }
 
 /// Whether the memory below the counted calls has the one text, and the other is buffered.
-fn stands_counted(sink: &Buffered<FailAt<MemSink<8>>>, below: &[u8], buffered: &[u8]) -> bool {
+fn holds_counted(sink: &Buffered<FailAt<MemSink<8>>>, below: &[u8], buffered: &[u8]) -> bool {
     sink.sink().device().bytes() == below && sink.buffered() == buffered
 }
 
@@ -17,12 +17,12 @@ fn stands_counted(sink: &Buffered<FailAt<MemSink<8>>>, below: &[u8], buffered: &
 fn bytes_are_buffered(rt: HostRuntime) {
     let mut sink = Buffered::new(MemSink::<8>::new(3, 8));
     assert!(rt; takes(&mut sink, b"abcd"));
-    assert!(rt; stands(&sink, b"", b"abcd"));
+    assert!(rt; holds(&sink, b"", b"abcd"));
     assert!(rt; passes_on(&mut sink));
-    assert!(rt; stands(&sink, b"abcd", b""));
+    assert!(rt; holds(&sink, b"abcd", b""));
     assert!(rt; takes(&mut sink, b"efghij"));
     assert!(rt; !flushes(&mut sink));
-    assert!(rt; stands(&sink, b"abcdefgh", b"ij"));
+    assert!(rt; holds(&sink, b"abcdefgh", b"ij"));
     assert!(rt; sink.sink().failures() == 1);
 }
 
@@ -72,7 +72,7 @@ fn a_sink_of_one_byte_a_call_gets_all_bytes_in_order(rt: HostRuntime) {
     assert!(rt; takes(&mut sink, b"fgh"));
     assert!(rt; flushes(&mut sink));
     assert!(rt; sink.sink().calls() == 9);
-    assert!(rt; stands_counted(&sink, b"abcdefgh", b""));
+    assert!(rt; holds_counted(&sink, b"abcdefgh", b""));
 }
 
 /// The call of the sink below at which a text that is passed on in pieces of two bytes fails.
@@ -86,10 +86,10 @@ fn a_failing_call_leaves_what_did_not_go_on(rt: HostRuntime) {
         let mut sink = Buffered::new(FailAt::new(MemSink::<8>::new(2, 8), call));
         assert!(rt; takes(&mut sink, b"abcde"));
         assert!(rt; !passes_on(&mut sink));
-        assert!(rt; stands_counted(&sink, sent, left));
+        assert!(rt; holds_counted(&sink, sent, left));
         assert!(rt; takes(&mut sink, b"fgh"));
         assert!(rt; flushes(&mut sink));
-        assert!(rt; stands_counted(&sink, b"abcdefgh", b""));
+        assert!(rt; holds_counted(&sink, b"abcdefgh", b""));
     }
 }
 
@@ -99,7 +99,7 @@ fn a_flush_that_fails_below_buffers_nothing(rt: HostRuntime) {
     let mut sink = Buffered::new(FailAt::new(MemSink::<8>::new(2, 8), 4));
     assert!(rt; takes(&mut sink, b"abcde"));
     assert!(rt; !flushes(&mut sink));
-    assert!(rt; stands_counted(&sink, b"abcde", b""));
+    assert!(rt; holds_counted(&sink, b"abcde", b""));
     assert!(rt; flushes(&mut sink));
     assert!(rt; sink.sink().calls() == 5);
 }

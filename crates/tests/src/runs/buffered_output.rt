@@ -1,5 +1,5 @@
 //! Output that is buffered, over writers in memory.
-use crate::runs::support::{EAN8, answer_of, answer_to, joined, low, repeated};
+use crate::runs::support::{EAN8, joined, low, repeated, result_of, result_of_piece};
 use device::{Buffered, FailAt, IoFault, MemSink, MemSource, Sink, Source, StdSink};
 use filter::{RunFault, Status};
 use std::cell::RefCell;
@@ -35,9 +35,9 @@ fn run_into_one(rt: &impl Abort, text: &RefCell<Vec<u8>>, fails: bool) -> Result
     let mut source = MemSource::new(b"ean8 7351353\npdf x\nean8 7351353\n", 4096, false);
     let mut out = Buffered::new(StdSink::new(SharedWriter { text, fails }));
     let mut err = StdSink::new(SharedWriter { text, fails: false });
-    let answer = answer_of(low(rt, false), &mut source, &mut out, &mut err);
+    let result = result_of(low(rt, false), &mut source, &mut out, &mut err);
     let _ = out.pass_on();
-    answer
+    result
 }
 
 #[test]
@@ -53,8 +53,8 @@ fn both_outputs_stand_in_the_order_of_the_lines(rt: HostRuntime) -> Result<(), F
 #[test]
 fn no_message_stands_after_output_that_failed_to_go_out(rt: HostRuntime) {
     let text = RefCell::new(Vec::new(rt.alloc()));
-    let answer = run_into_one(&rt, &text, true);
-    assert!(rt; answer == Err(RunFault::WriteOut));
+    let result = run_into_one(&rt, &text, true);
+    assert!(rt; result == Err(RunFault::WriteOut));
     assert!(rt; text.into_inner().as_slice().is_empty());
 }
 
@@ -100,13 +100,13 @@ fn output_goes_out_before_each_read(rt: HostRuntime) {
         fails: false,
     }));
     let mut err: MemSink<8> = MemSink::new(8, 8);
-    let answer = answer_of(low(&rt, false), &mut source, &mut out, &mut err);
-    assert!(rt; answer == Ok(Status::Clean));
+    let result = result_of(low(&rt, false), &mut source, &mut out, &mut err);
+    assert!(rt; result == Ok(Status::Clean));
     assert!(rt; source.seen == 2 * EAN8.len());
 }
 
 /// The images that were passed on are in memory, and one more is buffered, which is passed on after them.
-fn assert_one_is_held<const N: usize>(
+fn assert_one_is_buffered<const N: usize>(
     rt: &impl Abort,
     out: &mut Buffered<FailAt<MemSink<N>>>,
     sent: &[u8],
@@ -121,9 +121,9 @@ fn assert_one_is_held<const N: usize>(
 fn output_that_fails_as_it_is_sent_out_is_a_failed_write(rt: HostRuntime) {
     let mut out = Buffered::new(FailAt::new(MemSink::<200>::new(200, 200), 1));
     let mut err: MemSink<8> = MemSink::new(8, 8);
-    let answer = answer_to(&rt, b"ean8 7351353\nqr 0", &mut out, &mut err);
-    assert!(rt; answer == Err(RunFault::WriteOut));
-    assert_one_is_held(&rt, &mut out, b"");
+    let result = result_of_piece(&rt, b"ean8 7351353\nqr 0", &mut out, &mut err);
+    assert!(rt; result == Err(RunFault::WriteOut));
+    assert_one_is_buffered(&rt, &mut out, b"");
 }
 
 /// Lines that are drawn and refused in turn, each of 13 or 6 bytes.
@@ -140,11 +140,11 @@ fn assert_sending_fails(rt: &impl Abort, piece: usize, sent: usize, images: &[u8
     let mut source = MemSource::new(IN_TURN, piece, false);
     let mut out = Buffered::new(FailAt::new(MemSink::<273>::new(273, 273), call));
     let mut err: MemSink<52> = MemSink::new(52, 52);
-    let answer = answer_of(low(rt, false), &mut source, &mut out, &mut err);
-    assert!(rt; answer == Err(RunFault::WriteOut));
+    let result = result_of(low(rt, false), &mut source, &mut out, &mut err);
+    assert!(rt; result == Err(RunFault::WriteOut));
     assert!(rt; err.bytes().len() == 26usize.saturating_mul(sent));
     assert!(rt; REFUSED_IN_TURN.starts_with(err.bytes()));
-    assert_one_is_held(rt, &mut out, images);
+    assert_one_is_buffered(rt, &mut out, images);
 }
 
 /// With one byte a read, each label is passed on before the read after its line. With all lines in one read, a label is

@@ -1,6 +1,6 @@
 //! Runs over devices that stop, fail or take little, and the filter piece by piece.
 use crate::runs::support::{
-    DEFAULT, EAN8, Named, answer_of, answer_to, feed_piece, finish, joined, low,
+    DEFAULT, EAN8, Named, feed_piece, finish, joined, low, result_of, result_of_piece,
 };
 use device::{MemSink, MemSource, Sink, StdSink, StdSource};
 use filter::{Filter, RunFault, Status};
@@ -14,13 +14,13 @@ fn standard_devices(rt: HostRuntime) -> Result<(), Fail> {
     let mut out = Vec::new(alloc);
     let mut err = Vec::new(alloc);
     let mut source = StdSource::new(b"ean8 7351353\n#\npdf x".as_slice());
-    let answer = answer_of(
+    let result = result_of(
         low(&rt, false),
         &mut source,
         &mut StdSink::new(&mut out),
         &mut StdSink::new(&mut err),
     );
-    assert!(rt; answer == Ok(Status::Refused));
+    assert!(rt; result == Ok(Status::Refused));
     assert!(rt; out.as_slice() == EAN8);
     assert!(rt; err.as_slice() == b"line 3: unknown symbology\n".as_slice());
     Ok(())
@@ -67,8 +67,8 @@ fn assert_full(rt: &impl Abort, options: Options, want: &[u8]) {
     let mut source = MemSource::new(TWO_SYMBOLS, 4096, false);
     let mut out: MemSink<1000> = MemSink::new(1000, 1000);
     let mut err: MemSink<8> = MemSink::new(8, 8);
-    let answer = answer_of(options, &mut source, &mut out, &mut err);
-    assert!(rt; answer == Err(RunFault::WriteOut));
+    let result = result_of(options, &mut source, &mut out, &mut err);
+    assert!(rt; result == Err(RunFault::WriteOut));
     assert!(rt; out.bytes() == want);
 }
 
@@ -100,8 +100,8 @@ fn full_sink(rt: HostRuntime) {
     let mut filter = Filter::new(options);
     let mut out: MemSink<1000> = MemSink::new(1000, 1000);
     let mut err: MemSink<8> = MemSink::new(8, 8);
-    let answer = feed_piece(&mut filter, TWO_SYMBOLS, &mut out, &mut err);
-    assert!(rt; answer == Err(RunFault::WriteOut));
+    let result = feed_piece(&mut filter, TWO_SYMBOLS, &mut out, &mut err);
+    assert!(rt; result == Err(RunFault::WriteOut));
     assert_two_images(&rt, out.bytes());
     assert_spent(&rt, &mut filter, &mut out, &mut err);
     assert!(rt; out.bytes().len() == 1000);
@@ -116,8 +116,8 @@ fn full_sink(rt: HostRuntime) {
 fn nine_bytes_of_the_second_image(rt: HostRuntime) -> Result<(), Fail> {
     let mut out: MemSink<100> = MemSink::new(4096, 100);
     let mut err: MemSink<8> = MemSink::new(8, 8);
-    let answer = answer_to(&rt, b"ean8 7351353\nean8 7351353\n", &mut out, &mut err);
-    assert!(rt; answer == Err(RunFault::WriteOut));
+    let result = result_of_piece(&rt, b"ean8 7351353\nean8 7351353\n", &mut out, &mut err);
+    assert!(rt; result == Err(RunFault::WriteOut));
     let want = joined(rt.alloc(), &[EAN8, b"P1\n81 1\n0"])?;
     assert!(rt; out.bytes() == want.as_slice());
     Ok(())
@@ -129,7 +129,7 @@ fn assert_read_fails(rt: &impl Abort, piece: usize) {
     let mut source = MemSource::new(b"ean8 7351353\nqr 0", piece, true);
     let mut out: MemSink<200> = MemSink::new(200, 200);
     let mut err: MemSink<8> = MemSink::new(8, 8);
-    assert!(rt; answer_of(low(rt, false), &mut source, &mut out, &mut err) == Err(RunFault::Read));
+    assert!(rt; result_of(low(rt, false), &mut source, &mut out, &mut err) == Err(RunFault::Read));
     assert!(rt; out.bytes() == EAN8);
     assert!(rt; err.bytes().is_empty());
 }

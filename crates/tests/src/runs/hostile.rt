@@ -1,7 +1,7 @@
 //! Hostile use: devices that fail at each call or at each byte, very long lines, every byte, and input that breaks off.
 use crate::runs::support::{
-    EAN8, REFUSALS, TOO_LONG, answer_of, answer_to, assert_came_to, first_lines, joined, line_ends,
-    long_lines, low, rather_long_lines, refused_lines, repeated, run_by,
+    EAN8, REFUSALS, TOO_LONG, assert_wrote, first_lines, joined, line_ends, long_lines, low,
+    rather_long_lines, refused_lines, repeated, result_of, result_of_piece, run_by,
 };
 use device::{FailAt, MemSink, MemSource};
 use filter::{RunFault, Status};
@@ -17,7 +17,7 @@ fn every_limit_of_the_images(rt: HostRuntime) -> Result<(), Fail> {
     for limit in 0..183 {
         let mut out: MemSink<182> = MemSink::new(182, limit);
         let mut err: MemSink<1> = MemSink::new(1, 1);
-        let answer = answer_to(&rt, b"ean8 7351353\nean8 7351353\n", &mut out, &mut err);
+        let result = result_of_piece(&rt, b"ean8 7351353\nean8 7351353\n", &mut out, &mut err);
         assert!(rt; all.starts_with(out.bytes()));
         assert!(rt; out.bytes().len() == limit);
         let want = if limit < 182 {
@@ -25,7 +25,7 @@ fn every_limit_of_the_images(rt: HostRuntime) -> Result<(), Fail> {
         } else {
             Ok(Status::Clean)
         };
-        assert!(rt; answer == want);
+        assert!(rt; result == want);
     }
     Ok(())
 }
@@ -37,7 +37,7 @@ fn every_limit_of_the_messages(rt: HostRuntime) {
     for limit in 0..53 {
         let mut out: MemSink<1> = MemSink::new(1, 1);
         let mut err: MemSink<52> = MemSink::new(52, limit);
-        let answer = answer_to(&rt, b"pdf x\npdf x\n", &mut out, &mut err);
+        let result = result_of_piece(&rt, b"pdf x\npdf x\n", &mut out, &mut err);
         assert!(rt; all.starts_with(err.bytes()));
         assert!(rt; err.bytes().len() == limit);
         let want = if limit < 52 {
@@ -45,14 +45,14 @@ fn every_limit_of_the_messages(rt: HostRuntime) {
         } else {
             Ok(Status::Refused)
         };
-        assert!(rt; answer == want);
+        assert!(rt; result == want);
     }
 }
 
 /// A run whose devices fail at these calls, counted from 1; 0 is none. Each read and each write moves one byte.
 #[derive(Drop)]
 struct FailedRun<'a> {
-    answer: Result<Status, RunFault>,
+    result: Result<Status, RunFault>,
     source: FailAt<MemSource<'a>>,
     out: FailAt<MemSink<91>>,
     err: FailAt<MemSink<39>>,
@@ -63,9 +63,9 @@ impl<'a> FailedRun<'a> {
         let mut source = FailAt::new(MemSource::new(input, 1, false), read);
         let mut out = FailAt::new(MemSink::new(1, 91), out);
         let mut err = FailAt::new(MemSink::new(1, 39), err);
-        let answer = answer_of(options, &mut source, &mut out, &mut err);
+        let result = result_of(options, &mut source, &mut out, &mut err);
         FailedRun {
-            answer,
+            result,
             source,
             out,
             err,
@@ -77,11 +77,11 @@ impl<'a> FailedRun<'a> {
     fn assert(
         &self,
         rt: &impl Abort,
-        answer: RunFault,
+        fault: RunFault,
         calls: (u64, u64, u64),
         held: (usize, usize),
     ) {
-        assert!(rt; self.answer == Err(answer));
+        assert!(rt; self.result == Err(fault));
         assert!(rt; self.source.calls() == calls.0);
         assert!(rt; self.out.calls() == calls.1);
         assert!(rt; self.err.calls() == calls.2);
@@ -149,8 +149,8 @@ fn lines_of_ten_million_letters(rt: HostRuntime) -> Result<(), Fail> {
     let letters = ten_million_letters(alloc)?;
     assert!(rt; letters.len() == 10_000_000);
     let input = long_lines(alloc, letters.as_slice(), letters.as_slice())?;
-    let came = run_by(alloc, low(&rt, false), input.as_slice(), 4096);
-    assert_came_to(&rt, &came, EAN8, TOO_LONG);
+    let ran = run_by(alloc, low(&rt, false), input.as_slice(), 4096);
+    assert_wrote(&rt, &ran, EAN8, TOO_LONG);
     Ok(())
 }
 
@@ -179,19 +179,19 @@ fn every_byte(rt: HostRuntime) -> Result<(), Fail> {
     let alloc = rt.alloc();
     let input = lines_of_each_byte(alloc)?;
     let messages = messages_of_each_byte(alloc)?;
-    let came = run_by(alloc, low(&rt, false), input.as_slice(), 4096);
-    assert!(rt; came.out.len() == 9525);
-    for image in came.out.as_slice().chunks(75) {
+    let ran = run_by(alloc, low(&rt, false), input.as_slice(), 4096);
+    assert!(rt; ran.out.len() == 9525);
+    for image in ran.out.as_slice().chunks(75) {
         assert!(rt; image.starts_with(b"P1\n66 1\n"));
     }
-    assert_came_to(&rt, &came, came.out.as_slice(), messages.as_slice());
+    assert_wrote(&rt, &ran, ran.out.as_slice(), messages.as_slice());
     Ok(())
 }
 
 /// The messages of the lines that ended are those of all lines, and at most the line that breaks off has one more.
-fn assert_told(rt: &impl Abort, told: &[u8], ended: usize) {
-    assert!(rt; first_lines(told, ended) == first_lines(REFUSALS, ended));
-    let lines = line_ends(told);
+fn assert_messages(rt: &impl Abort, messages: &[u8], ended: usize) {
+    assert!(rt; first_lines(messages, ended) == first_lines(REFUSALS, ended));
+    let lines = line_ends(messages);
     assert!(rt; lines == ended || lines == ended.saturating_add(1));
 }
 
@@ -202,11 +202,11 @@ fn input_that_breaks_off(rt: HostRuntime) -> Result<(), Fail> {
     let options = low(&rt, true);
     for end in 0..input.len() {
         let front = &input.as_slice()[..end];
-        let came = run_by(alloc, options, front, 4096);
-        let (images, told) = (came.out.as_slice(), came.err.as_slice());
-        assert_came_to(&rt, &came, images, told);
-        assert_came_to(&rt, &run_by(alloc, options, front, 1), images, told);
-        assert_told(&rt, told, line_ends(front));
+        let ran = run_by(alloc, options, front, 4096);
+        let (images, messages) = (ran.out.as_slice(), ran.err.as_slice());
+        assert_wrote(&rt, &ran, images, messages);
+        assert_wrote(&rt, &run_by(alloc, options, front, 1), images, messages);
+        assert_messages(&rt, messages, line_ends(front));
     }
     Ok(())
 }

@@ -49,10 +49,10 @@ fn ean8_in_letters(rt: HostRuntime) -> Result<(), Fail> {
         ..LOW
     }
     .options(&rt);
-    let came = run_by(alloc, options, b"ean8 7351353\n", 4096);
-    assert!(rt; came.out.len() == 10_377);
-    assert!(rt; line_ends(came.out.as_slice()) == 9);
-    assert!(rt; has_lines_of(came.out.as_slice(), 1296));
+    let ran = run_by(alloc, options, b"ean8 7351353\n", 4096);
+    assert!(rt; ran.out.len() == 10_377);
+    assert!(rt; line_ends(ran.out.as_slice()) == 9);
+    assert!(rt; has_lines_of(ran.out.as_slice(), 1296));
     Ok(())
 }
 
@@ -66,8 +66,8 @@ fn ean13(rt: HostRuntime) -> Result<(), Fail> {
         b"P1\n113 50\n",
         EAN13_ROW,
     )?;
-    let came = run_by(alloc, Options::default(), b"ean13 4006381333931\n", 4096);
-    assert!(rt; came.out.len() == 5760);
+    let ran = run_by(alloc, Options::default(), b"ean13 4006381333931\n", 4096);
+    assert!(rt; ran.out.len() == 5760);
     let row = b"0000000000010100011010111101010111100011010001101000110101010110110011\n\
           1010011001101011100100111011011001010000000\n";
     assert_drawn(&rt, alloc, b"ean13 0036000291452\n", b"P1\n113 50\n", row)
@@ -154,11 +154,11 @@ fn code128_shift(rt: HostRuntime) -> Result<(), Fail> {
 fn no_empty_line_after_rows_of_whole_lines(rt: HostRuntime) -> Result<(), Fail> {
     let alloc = rt.alloc();
     let options = Named { scale: 7, ..LOW }.options(&rt);
-    let came = run_by(alloc, options, b"code128 A123456\n", 4096);
-    assert!(rt; came.out.starts_with(b"P1\n770 7\n"));
-    assert!(rt; came.out.len() == 5476);
-    assert!(rt; line_ends(came.out.as_slice()) == 79);
-    let (_, lines) = came.out.as_slice().split_at(9);
+    let ran = run_by(alloc, options, b"code128 A123456\n", 4096);
+    assert!(rt; ran.out.starts_with(b"P1\n770 7\n"));
+    assert!(rt; ran.out.len() == 5476);
+    assert!(rt; line_ends(ran.out.as_slice()) == 79);
+    let (_, lines) = ran.out.as_slice().split_at(9);
     for line in lines.chunks(71) {
         assert!(rt; line_ends(line) == 1 && line.ends_with(b"\n"));
     }

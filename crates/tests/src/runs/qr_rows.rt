@@ -54,9 +54,9 @@ fn plain_pbm(alloc: Global, header: &[u8], rows: &[&[u8]]) -> Result<Vec<u8>, Al
 /// A line is drawn with this header, and nothing is refused.
 fn assert_header(rt: &impl Abort, alloc: Global, named: Named, line: &[u8], header: &[u8]) {
     let options = named.options(rt);
-    let came = run_by(alloc, options, line, 4096);
-    assert!(rt; came.out.starts_with(header));
-    assert_row(rt, alloc, options, line, came.out.as_slice(), b"");
+    let ran = run_by(alloc, options, line, 4096);
+    assert!(rt; ran.out.starts_with(header));
+    assert_row(rt, alloc, options, line, ran.out.as_slice(), b"");
 }
 
 /// A line of this front and `times` equal bytes.

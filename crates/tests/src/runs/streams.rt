@@ -1,5 +1,5 @@
 //! Readers and writers of std that move one byte a call, break off once, or take nothing once.
-use crate::runs::support::{EAN8, EAN13_ROW, REFUSALS, answer_of, bars, low, refused_lines};
+use crate::runs::support::{EAN8, EAN13_ROW, REFUSALS, bars, low, refused_lines, result_of};
 use device::{StdSink, StdSource};
 use filter::{RunFault, Status};
 use labelcore::Options;
@@ -74,7 +74,7 @@ fn run_by_bytes(
     err: &mut ByteWriter,
 ) -> Result<Status, RunFault> {
     let mut source = StdSource::new(reader);
-    answer_of(
+    result_of(
         options,
         &mut source,
         &mut StdSink::new(out),
@@ -110,13 +110,13 @@ fn assert_by_bytes(
 ) {
     let mut images = writer_of(alloc, Oddity::None);
     let mut messages = writer_of(alloc, Oddity::None);
-    let answer = run_by_bytes(options, reader_of(input), &mut images, &mut messages);
+    let result = run_by_bytes(options, reader_of(input), &mut images, &mut messages);
     let status = if err.is_empty() {
         Status::Clean
     } else {
         Status::Refused
     };
-    assert!(rt; answer == Ok(status));
+    assert!(rt; result == Ok(status));
     assert!(rt; images.bytes.as_slice() == out);
     assert!(rt; messages.bytes.as_slice() == err);
 }
@@ -149,8 +149,8 @@ fn an_interrupted_read_is_a_failure(rt: HostRuntime) {
         rest: b"pdf x\nean8 7351353\n",
         interrupted: 9,
     };
-    let answer = run_by_bytes(Options::default(), reader, &mut out, &mut err);
-    assert!(rt; answer == Err(RunFault::Read));
+    let result = run_by_bytes(Options::default(), reader, &mut out, &mut err);
+    assert!(rt; result == Err(RunFault::Read));
     assert!(rt; out.bytes.is_empty());
     assert!(rt; err.bytes.as_slice() == b"line 1: unknown symbology\n".as_slice());
 }
@@ -162,18 +162,18 @@ fn an_interrupted_or_empty_write_is_a_failure(rt: HostRuntime) {
         let mut out = writer_of(alloc, oddity);
         let mut err = writer_of(alloc, Oddity::None);
         let reader = reader_of(b"ean8 7351353\n");
-        let answer = run_by_bytes(Options::default(), reader, &mut out, &mut err);
-        assert!(rt; answer == Err(RunFault::WriteOut));
+        let result = run_by_bytes(Options::default(), reader, &mut out, &mut err);
+        assert!(rt; result == Err(RunFault::WriteOut));
         assert!(rt; out.bytes.as_slice() == b"P1".as_slice());
         let mut out = writer_of(alloc, Oddity::None);
         let mut err = writer_of(alloc, oddity);
-        let answer = run_by_bytes(
+        let result = run_by_bytes(
             Options::default(),
             reader_of(b"pdf x\n"),
             &mut out,
             &mut err,
         );
-        assert!(rt; answer == Err(RunFault::WriteMessages));
+        assert!(rt; result == Err(RunFault::WriteMessages));
         assert!(rt; err.bytes.as_slice() == b"li".as_slice());
     }
 }

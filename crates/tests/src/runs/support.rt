@@ -26,7 +26,7 @@ pub const REFUSALS: &[u8] =
 /// How a run ended, and what it wrote.
 #[derive(Drop)]
 pub struct RunResult {
-    pub answer: Result<Status, RunFault>,
+    pub result: Result<Status, RunFault>,
     pub out: Vec<u8>,
     pub err: Vec<u8>,
 }
@@ -90,7 +90,7 @@ pub fn low(rt: &impl Abort, escapes: bool) -> Options {
 }
 
 /// Calls `run`, and returns its result.
-pub fn answer_of(
+pub fn result_of(
     options: Options,
     source: &mut impl Source,
     out: &mut impl Sink,
@@ -100,13 +100,13 @@ pub fn answer_of(
 }
 
 /// Runs over the input, 4,096 bytes a read, for pictures one module high without escapes, and returns the result.
-pub fn answer_to(
+pub fn result_of_piece(
     rt: &impl Abort,
     input: &[u8],
     out: &mut impl Sink,
     err: &mut impl Sink,
 ) -> Result<Status, RunFault> {
-    answer_of(
+    result_of(
         low(rt, false),
         &mut MemSource::new(input, 4096, false),
         out,
@@ -140,27 +140,27 @@ pub fn run_by(alloc: Global, options: Options, input: &[u8], piece: usize) -> Ru
     let mut out = Vec::new(alloc);
     let mut err = Vec::new(alloc);
     let mut source = MemSource::new(input, piece, false);
-    let answer = answer_of(
+    let result = result_of(
         options,
         &mut source,
         &mut StdSink::new(&mut out),
         &mut StdSink::new(&mut err),
     );
-    RunResult { answer, out, err }
+    RunResult { result, out, err }
 }
 
 /// Feeds the input in two pieces.
 pub fn fed(alloc: Global, options: Options, first: &[u8], second: &[u8]) -> RunResult {
     let mut out = Vec::new(alloc);
     let mut err = Vec::new(alloc);
-    let answer = fed_into(
+    let result = fed_into(
         options,
         first,
         second,
         &mut StdSink::new(&mut out),
         &mut StdSink::new(&mut err),
     );
-    RunResult { answer, out, err }
+    RunResult { result, out, err }
 }
 
 /// Feeds the input in two pieces to a filter over these sinks.
@@ -283,15 +283,15 @@ pub fn first_lines(text: &[u8], count: usize) -> &[u8] {
 }
 
 /// The run wrote these images and messages, and nothing failed.
-pub fn assert_came_to(rt: &impl Abort, came: &RunResult, out: &[u8], err: &[u8]) {
+pub fn assert_wrote(rt: &impl Abort, ran: &RunResult, out: &[u8], err: &[u8]) {
     let status = if err.is_empty() {
         Status::Clean
     } else {
         Status::Refused
     };
-    assert!(rt; came.out.as_slice() == out);
-    assert!(rt; came.err.as_slice() == err);
-    assert!(rt; came.answer == Ok(status));
+    assert!(rt; ran.out.as_slice() == out);
+    assert!(rt; ran.err.as_slice() == err);
+    assert!(rt; ran.result == Ok(status));
 }
 
 /// A run over the input, read in pieces of several sizes and fed in two at each cut, writes these images and
@@ -304,13 +304,13 @@ pub fn assert_row(
     out: &[u8],
     err: &[u8],
 ) {
-    assert_came_to(rt, &run_by(alloc, options, input, 1), out, err);
-    assert_came_to(rt, &run_by(alloc, options, input, 2), out, err);
-    assert_came_to(rt, &run_by(alloc, options, input, 7), out, err);
-    assert_came_to(rt, &run_by(alloc, options, input, 4096), out, err);
+    assert_wrote(rt, &run_by(alloc, options, input, 1), out, err);
+    assert_wrote(rt, &run_by(alloc, options, input, 2), out, err);
+    assert_wrote(rt, &run_by(alloc, options, input, 7), out, err);
+    assert_wrote(rt, &run_by(alloc, options, input, 4096), out, err);
     for at in 0..input.len() {
         let (first, second) = input.split_at(at);
-        assert_came_to(rt, &fed(alloc, options, first, second), out, err);
+        assert_wrote(rt, &fed(alloc, options, first, second), out, err);
     }
-    assert_came_to(rt, &fed(alloc, options, input, b""), out, err);
+    assert_wrote(rt, &fed(alloc, options, input, b""), out, err);
 }

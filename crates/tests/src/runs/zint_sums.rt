@@ -19,9 +19,9 @@ fn sum_of(bytes: &[u8]) -> u32 {
 
 /// The line is drawn as the picture of this sum.
 fn assert_sum(rt: &impl Abort, alloc: std::alloc::Global, options: Options, line: &[u8], sum: u32) {
-    let came = run_by(alloc, options, line, 4096);
-    assert!(rt; came.answer == Ok(Status::Clean));
-    assert!(rt; sum_of(came.out.as_slice()) == sum);
+    let ran = run_by(alloc, options, line, 4096);
+    assert!(rt; ran.result == Ok(Status::Clean));
+    assert!(rt; sum_of(ran.out.as_slice()) == sum);
 }
 
 /// The levels in the order of the sums.

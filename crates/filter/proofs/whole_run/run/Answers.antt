@@ -16,7 +16,7 @@ loop-turn-init g c = record {
   given = [];
   gave = g.met.S.Source.gave_none c.args.source.now;
   enough = omega arith;
-  stands = c.new-filter.ensures;
+  after = c.new-filter.ensures;
   took = TookPiece-none c.args.options _ _ [] (g.met.O.Sink.took_none _) (g.met.E.Sink.took_none _);
   out_unflushed = λ e. e;
   err_unflushed = λ e. e;
@@ -57,7 +57,7 @@ returns-then-count-eq0-clause-whole g c =
     ends_ok c.args.options h.given
     {Q = RunsWhole c.args.options (g.S.Source.gave c.args.source.now c.read.new.self)
     (g.O.Sink.took c.args.out.now c.finish.new.out) (g.E.Sink.took c.args.err.now c.finish.new.err)}
-    c.finish.result (c.finish.ensures.ends c.args.options h.given h.stands)
+    c.finish.result (c.finish.ensures.ends c.args.options h.given h.after)
     (λ status s t.
     let took = TookLines-finish c.args.options g.met.O.Sink.took_joined g.met.E.Sink.took_joined sent t in
     record {
@@ -74,8 +74,8 @@ pub returns-then-count-eq0-clause-stops : goal.returns-then-count-eq0-clause-sto
 returns-then-count-eq0-clause-stops g c =
     let h = c.loop-turn.invariant in
     let sent = TookPiece-sent c.args.options g.met.O.Sink.took_joined h.took c.pass_on.ensures.bytes in
-    ends_err c.args.options h.given c.finish.result (c.finish.ensures.ends c.args.options h.given h.stands)
-    (c.finish.ensures.counts h.stands.is_spent)
+    ends_err c.args.options h.given c.finish.result (c.finish.ensures.ends c.args.options h.given h.after)
+    (c.finish.ensures.counts h.after.is_spent)
     (λ fault s r. (
       h.given,
       gave_end c.args.options (g.S.Source.gave c.args.source.now c.read.new.self) h.given c.read.new.buf _
@@ -89,7 +89,7 @@ returns-in_err-feed-clause-stops g c =
     let h = c.loop-turn.invariant in
     let sent = TookPiece-sent c.args.options g.met.O.Sink.took_joined h.took c.pass_on.ensures.bytes in
     let p = err_from_is_err_and c.from_residual.result c.from_residual.ensures.1 in
-    let s = c.in_err-feed.ensures.feeds c.args.options h.given h.stands in
+    let s = c.in_err-feed.ensures.feeds c.args.options h.given h.after in
     rw (p.1, p.2) (
       h.given ++ take c.in-Ok.count c.read.new.buf,
       g.met.S.Source.gave_joined _ _ _ _ _ h.gave c.in-Ok.ensures.bytes,
@@ -105,8 +105,8 @@ loop-turn-preserved g c =
     let h = c.loop-turn.invariant in
     let sent = TookPiece-sent c.args.options g.met.O.Sink.took_joined h.took c.pass_on.ensures.bytes in
     let same : g.O.Sink.failures c.pass_on.new.self ≡ g.O.Sink.failures c.loop-turn.out = search rules in
-    let fed = c.in_ok-feed.ensures.feeds c.args.options h.given h.stands in
-    let fed_sinks = c.in_ok-feed.ensures.sinks h.stands.is_spent in
+    let fed = c.in_ok-feed.ensures.feeds c.args.options h.given h.after in
+    let fed_sinks = c.in_ok-feed.ensures.sinks h.after.is_spent in
     record {
       given = h.given ++ take c.in-Ok.count c.read.new.buf;
       gave = g.met.S.Source.gave_joined _ _ _ _ _ h.gave c.in-Ok.ensures.bytes;
@@ -116,7 +116,7 @@ loop-turn-preserved g c =
             (take c.in-Ok.count c.read.new.buf),
         length-take c.in-Ok.count c.read.new.buf,
       );
-      stands = fed.0;
+      after = fed.0;
       took = TookPiece-append c.args.options g.met.O.Sink.took_joined g.met.E.Sink.took_joined sent fed.1;
       out_unflushed = λ e. h.out_unflushed (sym c.pass_on.ensures.flushed ∙ fed_sinks.out_unflushed e);
       err_unflushed = λ e. h.err_unflushed (fed_sinks.err_unflushed e);

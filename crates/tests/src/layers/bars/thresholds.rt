@@ -78,8 +78,8 @@ fn sets_change_at_each_threshold(rt: HostRuntime) {
 
 #[test]
 fn eighty_bytes_and_no_more(rt: HostRuntime) {
-    let (answer, row) = encoded::<Code128>(&rt, &[b'a'; 80]);
-    assert!(rt; answer.is_ok());
+    let (result, row) = encoded::<Code128>(&rt, &[b'a'; 80]);
+    assert!(rt; result.is_ok());
     assert!(rt; row.len() == 11 * 82 + 13);
     assert_refused::<Code128>(&rt, &[(&[b'a'; 81], Refusal::DataTooLong)]);
     let (ascii, _) = encoded::<Code128>(&rt, &[0, 127]);
@@ -116,7 +116,7 @@ fn numbers_of_digits(rt: HostRuntime) {
 #[test]
 fn check_digits_at_both_ends(rt: HostRuntime) {
     for data in [b"12345670", b"12345649"] {
-        let (answer, _) = encoded::<Ean8>(&rt, data);
-        assert!(rt; answer.is_ok());
+        let (result, _) = encoded::<Ean8>(&rt, data);
+        assert!(rt; result.is_ok());
     }
 }

@@ -2,13 +2,13 @@ use Rattle.std.proofs.Common.{ℕ, List, [], ◌∷◌, ◌++◌, ◌+◌, refl,
 use Rattle.std.proofs.Common.{take-append-drop}
 use Rattle.std.proofs.lemmas.List.{append-nil, take_more}
 use Rattle.std.proofs.lemmas.Result.{err_from_is_err_and}
-use Rattle.filter.specs.Filter.{StandsAt, StopsInPiece}
+use Rattle.filter.specs.Filter.{IsAfter, StopsInPiece}
 use Rattle.filter.proofs.FilterLaws.{TookPiece-none, TookPiece-append, StopsInPiece-append, StopsInPiece-longer}
 use Rattle.filter.proofs.filter.Filter.feed.Goals as goal
 
 pub loop-byte-init : goal.loop-byte-init
 loop-byte-init g c = record {
-  stands = λ options text at. subst (λ (bs : List ℕ). StandsAt options c.args.self.now bs) (sym (append-nil text)) at;
+  after = λ options text at. subst (λ (bs : List ℕ). IsAfter options c.args.self.now bs) (sym (append-nil text)) at;
   took = λ options text at. TookPiece-none options _ _ text (g.met.O.Sink.took_none _) (g.met.E.Sink.took_none _);
   out_unflushed = λ e. e;
   err_unflushed = λ e. e;
@@ -29,7 +29,7 @@ returns-in_err-feed_byte-clause-feeds g c options text at =
     (ap (λ (bs : List ℕ). bs ++ drop (i + 1) piece) (sym more) ∙ take-append-drop (i + 1) piece)
     (StopsInPiece-longer options _ _ text (take i piece ++ byte ∷ []) (drop (i + 1) piece) _
     (StopsInPiece-append options g.met.O.Sink.took_joined g.met.E.Sink.took_joined (h.took options text at) _
-    (c.in_err-feed_byte.ensures.feeds options (text ++ take i piece) (h.stands options text at)))))
+    (c.in_err-feed_byte.ensures.feeds options (text ++ take i piece) (h.after options text at)))))
 
 pub loop-byte-preserved : goal.loop-byte-preserved
 loop-byte-preserved g c =
@@ -39,12 +39,12 @@ loop-byte-preserved g c =
     let byte = get_or piece i 0 in
     let more = take_more piece i 0 c.loop-byte-test.true in
     record {
-      stands = λ options text at. rw more (subst (λ (bs : List ℕ). StandsAt options c.feed_byte.new.self bs)
+      after = λ options text at. rw more (subst (λ (bs : List ℕ). IsAfter options c.feed_byte.new.self bs)
           (append_assoc text (take i piece) (byte ∷ []))
-          (c.in_ok-feed_byte.ensures.feeds options (text ++ take i piece) (h.stands options text at)).0);
+          (c.in_ok-feed_byte.ensures.feeds options (text ++ take i piece) (h.after options text at)).0);
       took = λ options text at. rw more
           (TookPiece-append options g.met.O.Sink.took_joined g.met.E.Sink.took_joined (h.took options text at)
-          (c.in_ok-feed_byte.ensures.feeds options (text ++ take i piece) (h.stands options text at)).1);
+          (c.in_ok-feed_byte.ensures.feeds options (text ++ take i piece) (h.after options text at)).1);
       out_unflushed = λ e. h.out_unflushed (c.in_ok-feed_byte.ensures.sinks.out_unflushed e);
       err_unflushed = λ e. h.err_unflushed (c.in_ok-feed_byte.ensures.sinks.err_unflushed e);
       out_count = c.in_ok-feed_byte.ensures.sinks.counts.0 ∙ h.out_count;

@@ -1,15 +1,15 @@
 use Rattle.std.proofs.Common.{◌≡◌, List, ℕ, ◌++◌, take}
 use Rattle.device.specs.Device.{Unflushed}
 use Rattle.labelcore.specs.OptionValues.{OptionValues}
-use Rattle.filter.specs.Filter.{StandsAt, TookPiece}
+use Rattle.filter.specs.Filter.{IsAfter, TookPiece}
 use Rattle.filter.proofs.filter.Filter.feed.Given as goal
 
 -- so far the filter was fed the first bytes
 abbrev pub invariant-loop-byte : goal.invariant-loop-byte
 invariant-loop-byte g l = record {
-  stands : (options : OptionValues) (text : List ℕ) → StandsAt options l.initial.self text
-      → StandsAt options l.self (text ++ take l.byte-index l.piece);
-  took : (options : OptionValues) (text : List ℕ) → StandsAt options l.initial.self text
+  after : (options : OptionValues) (text : List ℕ) → IsAfter options l.initial.self text
+      → IsAfter options l.self (text ++ take l.byte-index l.piece);
+  took : (options : OptionValues) (text : List ℕ) → IsAfter options l.initial.self text
       → TookPiece options (g.O.Sink.took l.initial.out l.out) (g.E.Sink.took l.initial.err l.err) text
       (take l.byte-index l.piece);
   out_unflushed : Unflushed (g.O.Sink.is_flushed l.initial.out) (g.O.Sink.is_flushed l.out);
