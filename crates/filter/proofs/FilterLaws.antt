@@ -76,13 +76,43 @@ module _ (options : OptionValues) where
       → n ≡ min (state.line_count + 1) (2 ^ 64 - 1) → n ≡ line_number (length (ended_lines text))
   line_number-counts state text at n e = omega (arith, at.line_count)
 
+  -- no line, and one line
+  module _ (took_out took_err : List ℕ → Type 0) (before : ℕ) where
+    pub TookLines-none : took_out [] → took_err [] → TookLines options took_out took_err before []
+    TookLines-none o e = record {
+      out = subst took_out (sym (images-nil options)) o;
+      err = subst took_err (sym (messages_after-nil options before)) e;
+      read = tt;
+    }
+
+    pub TookLines-one : (line : List ℕ) → took_out (image_of options (outcome options line))
+        → took_err (message_of (line_number before) (outcome options line)) → ReadsBack options (outcome options line)
+        → TookLines options took_out took_err before (line ∷ [])
+    TookLines-one line o e r = record {
+      out = subst took_out (sym (images_one options line)) o;
+      err = subst took_err (sym (messages_after_one options before line)) e;
+      read = (r, tt);
+    }
+
+    pub StopsInLine-one : (line : List ℕ) (fault : RunFault)
+        → FailsInLine options took_out took_err (line_number before) (outcome options line) fault
+        → StopsInLine options took_out took_err before (line ∷ []) fault
+    StopsInLine-one line fault f = record {
+      earlier = [];
+      line = line;
+      later = [];
+      cut = refl;
+      read = tt;
+      wrote = rw ((images-nil options), (messages_after-nil options), add-zero) f;
+    }
+
   -- how the line ends, by what is held of it
-  pub line_ends : (took_out took_err : List ℕ → Type 0) (state : FilterState) (text : List ℕ) (n : ℕ)
+  pub line_ends : (took_out took_err : List ℕ → Type 0) (state : FilterState) (text : List ℕ) {n : ℕ}
       (r : Result Status RunFault) → IsAfter options state text → n ≡ min (state.line_count + 1) (2 ^ 64 - 1)
       → ((line : List ℕ) → state.line ≡ held_line line
       → LineEnds state.options took_out took_err n (outcome state.options line) r)
       → LineEnds options took_out took_err (line_number (length (ended_lines text))) (outcome options (open_line text)) r
-  line_ends took_out took_err state text n r at counts ends =
+  line_ends took_out took_err state text {n} r at counts ends =
       let o : state.options ≡ options = at.options_are in
       let m = line_number-counts state text at n counts in
       rw (o, m) at (ends (open_line text) at.line)
@@ -93,11 +123,7 @@ module _ (options : OptionValues) where
     TookPiece-other other o e = record {
       added = [];
       grown = ended_lines-push_other text byte other ∙ sym (append-nil (ended_lines text));
-      took = record {
-        out = subst took_out (sym (images-nil options)) o;
-        err = subst took_err (sym (messages_after-nil options (length (ended_lines text)))) e;
-        read = tt;
-      };
+      took = TookLines-none took_out took_err (length (ended_lines text)) o e;
     }
 
     pub TookPiece-lf : byte ≡ LF → took_out (image_of options (outcome options (open_line text)))
@@ -106,11 +132,7 @@ module _ (options : OptionValues) where
     TookPiece-lf lf o e r = record {
       added = open_line text ∷ [];
       grown = ap (λ (b : ℕ). ended_lines (text ++ b ∷ [])) lf ∙ ended_lines-push_lf text;
-      took = record {
-        out = subst took_out (sym (images_one options (open_line text))) o;
-        err = subst took_err (sym (messages_after_one options (length (ended_lines text)) (open_line text))) e;
-        read = (r, tt);
-      };
+      took = TookLines-one took_out took_err (length (ended_lines text)) (open_line text) o e r;
     }
 
     pub StopsInPiece-lf : (fault : RunFault) → byte ≡ LF
@@ -119,17 +141,11 @@ module _ (options : OptionValues) where
     StopsInPiece-lf fault lf f = record {
       added = open_line text ∷ [];
       grown = ap (λ (b : ℕ). ended_lines (text ++ b ∷ [])) lf ∙ ended_lines-push_lf text;
-      stops = record {
-        earlier = [];
-        line = open_line text;
-        later = [];
-        cut = refl;
-        read = tt;
-        wrote = rw ((images-nil options), (messages_after-nil options), add-zero) f;
-      };
+      stops = StopsInLine-one took_out took_err (length (ended_lines text)) (open_line text) fault f;
     }
 
-  -- the same failure, where more was written before
+  -- The same failure, where more was taken before. The two relations of each sink are arguments, since a
+  -- failure says nothing of them.
   FailsInLine-map : (o o' e e' : List ℕ → Type 0) (number : ℕ) (i : Outcome Symbol) (fault : RunFault)
       → ((bs : List ℕ) → o bs → o' bs) → ((bs : List ℕ) → e bs → e' bs) → FailsInLine options o e number i fault
       → FailsInLine options o' e' number i fault
@@ -241,11 +257,7 @@ module _ (options : OptionValues) where
   TookPiece-none took_out took_err text o e = record {
     added = [];
     grown = ap ended_lines (append-nil text) ∙ sym (append-nil (ended_lines text));
-    took = record {
-      out = subst took_out (sym (images-nil options)) o;
-      err = subst took_err (sym (messages_after-nil options (length (ended_lines text)))) e;
-      read = tt;
-    };
+    took = TookLines-none took_out took_err (length (ended_lines text)) o e;
   }
 
   -- a sink that failed in a piece failed in the longer piece
@@ -304,36 +316,6 @@ module _ (options : OptionValues) where
         ∙ (status_of-push options (ended_lines text) (open_line text)
         ∙ ap (status_of options) (sym (lines-split text
         ∙ ap (λ (ls : List (List ℕ)). ended_lines text ++ ls) (a_rest n))))
-
-  -- no line, and one line
-  module _ (took_out took_err : List ℕ → Type 0) (before : ℕ) where
-    pub TookLines-none : took_out [] → took_err [] → TookLines options took_out took_err before []
-    TookLines-none o e = record {
-      out = subst took_out (sym (images-nil options)) o;
-      err = subst took_err (sym (messages_after-nil options before)) e;
-      read = tt;
-    }
-
-    pub TookLines-one : (line : List ℕ) → took_out (image_of options (outcome options line))
-        → took_err (message_of (line_number before) (outcome options line)) → ReadsBack options (outcome options line)
-        → TookLines options took_out took_err before (line ∷ [])
-    TookLines-one line o e r = record {
-      out = subst took_out (sym (images_one options line)) o;
-      err = subst took_err (sym (messages_after_one options before line)) e;
-      read = (r, tt);
-    }
-
-    pub StopsInLine-one : (line : List ℕ) (fault : RunFault)
-        → FailsInLine options took_out took_err (line_number before) (outcome options line) fault
-        → StopsInLine options took_out took_err before (line ∷ []) fault
-    StopsInLine-one line fault f = record {
-      earlier = [];
-      line = line;
-      later = [];
-      cut = refl;
-      read = tt;
-      wrote = rw ((images-nil options), (messages_after-nil options), add-zero) f;
-    }
 
   -- from the beginning of the input
   module _ (took_out took_err : List ℕ → Type 0) (text : List ℕ) where

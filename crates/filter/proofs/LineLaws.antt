@@ -20,41 +20,36 @@ pub outcome-item : (options : OptionValues) (line : List ℕ) → outcome option
 unfolding outcome
 outcome-item options line = refl
 
--- before the message of a refusal, or in it
-fails_refused : (options : OptionValues) (took_out took_err : List ℕ → Type 0) (number : ℕ) (fault : Fault)
-    (f : RunFault) →
-    took_out [] → FailsInMessage took_err (message number fault) f
-    → FailsInLine options took_out took_err number (refused fault) f
-fails_refused options took_out took_err number fault Read none fails = fails
-fails_refused options took_out took_err number fault WriteOut none fails = (([], ([], refl), none), fails)
-fails_refused options took_out took_err number fault WriteMessages none fails = (none, fails)
-fails_refused options took_out took_err number fault Spent none fails = fails
+module _ (options : OptionValues) (took_out took_err : List ℕ → Type 0) (number : ℕ) where
+  -- before the message of a refusal, or in it
+  fails_refused : (fault : Fault) (f : RunFault) → took_out [] → FailsInMessage took_err (message number fault) f
+      → FailsInLine options took_out took_err number (refused fault) f
+  fails_refused fault Read none fails = fails
+  fails_refused fault WriteOut none fails = (([], ([], refl), none), fails)
+  fails_refused fault WriteMessages none fails = (none, fails)
+  fails_refused fault Spent none fails = fails
 
--- the end of a line that is refused, from the end of its message
-pub refused_ends : (options : OptionValues) (took_out took_err : List ℕ → Type 0) (number : ℕ) (o : Outcome Symbol)
-    (fault : Fault) (r : Result Status RunFault) → refusal_of o ≡ Err fault → took_out (image_of options o)
-    → MessageEnds took_err (message number fault) r → LineEnds options took_out took_err number o r
-refused_ends options took_out took_err number skipped fault r e image ends = cc
-refused_ends options took_out took_err number (drawn symbol) fault r e image ends = cc
-refused_ends options took_out took_err number (refused why) fault (Ok x) e image ends =
-    let same : fault ≡ why = cc in
-    record {
-      status_is = ends.0;
-      image = image;
-      message = subst (λ (w : Fault). took_err (message number w)) same ends.1;
-      read = tt;
-    }
-refused_ends options took_out took_err number (refused why) fault (Err f) e image ends =
-    let same : fault ≡ why = cc in
-    fails_refused options took_out took_err number why f image
-    (subst (λ (w : Fault). FailsInMessage took_err (message number w) f) same ends)
+  -- a line that is refused ends as its message does
+  pub refused_ends : (o : Outcome Symbol) (fault : Fault) (r : Result Status RunFault) → refusal_of o ≡ Err fault
+      → took_out (image_of options o) → MessageEnds took_err (message number fault) r
+      → LineEnds options took_out took_err number o r
+  refused_ends skipped fault r e image ends = cc
+  refused_ends (drawn symbol) fault r e image ends = cc
+  refused_ends (refused why) fault (Ok x) e image ends =
+      let same : fault ≡ why = cc in
+      record {
+        status_is = ends.0;
+        image = image;
+        message = subst (λ (w : Fault). took_err (message number w)) same ends.1;
+        read = tt;
+      }
+  refused_ends (refused why) fault (Err f) e image ends =
+      let same : fault ≡ why = cc in
+      fails_refused why f image (subst (λ (w : Fault). FailsInMessage took_err (message number w) f) same ends)
 
--- a line without a refusal has no message
-pub drawn_ends : (options : OptionValues) (took_out took_err : List ℕ → Type 0) (number : ℕ) (o : Outcome Symbol)
-    → refusal_of o ≡ Ok tt → took_out (image_of options o) → took_err [] → ReadsBack options o
-    → EndsLine options took_out took_err number o Clean
-drawn_ends options took_out took_err number skipped e image none read =
-    record { status_is = refl; image = image; message = none; read = read }
-drawn_ends options took_out took_err number (refused why) e image none read = cc
-drawn_ends options took_out took_err number (drawn symbol) e image none read =
-    record { status_is = refl; image = image; message = none; read = read }
+  -- a line without a refusal has no message
+  pub drawn_ends : (o : Outcome Symbol) → refusal_of o ≡ Ok tt → took_out (image_of options o) → took_err []
+      → ReadsBack options o → EndsLine options took_out took_err number o Clean
+  drawn_ends skipped e image none read = record { status_is = refl; image = image; message = none; read = read }
+  drawn_ends (refused why) e image none read = cc
+  drawn_ends (drawn symbol) e image none read = record { status_is = refl; image = image; message = none; read = read }

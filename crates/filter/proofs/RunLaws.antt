@@ -3,6 +3,7 @@ use Rattle.std.proofs.Common.{ℕ, Result, Ok, Err, List, [], ◌∷◌, ◌++�
 use Rattle.std.proofs.Common.{take, zero-add}
 use Rattle.std.proofs.lemmas.List.{append-nil}
 use Rattle.std.specs.Prelude.{◌≡◌, IfErr, IfOk}
+use Rattle.device.specs.Device.{Begins}
 use Rattle.device.specs.Lines.{lines, ended_lines, open_line, unless_empty}
 use Rattle.filter.specs.Symbol.{Symbol}
 use Rattle.filter.specs.Line.{CountsFault, FailsInLine, RaisesOneCount}
@@ -42,7 +43,7 @@ module _ (options : OptionValues) where
   RunStops-in_line took_out took_err text WriteMessages s = inl s
   RunStops-in_line took_out took_err text Spent s = absurd s.wrote
 
-  -- a fault of a sink at the end, as a run's
+  -- A fault of a sink at the end, as a run's. The counts are arguments, since no answer of a failure says them.
   RunStops-at_end : (took_out took_err : List ℕ → Type 0) (text : List ℕ) (o o' e e' : ℕ) (fault : RunFault)
       → RaisesOneCount o o' e e' fault → StopsInText options took_out took_err text fault
       → RunStops options took_out took_err text fault
@@ -150,26 +151,15 @@ module _ (options : OptionValues) where
     RunStops-between none_out none_err =
         elim (between (open_line text)) [
           | inl line ↦ inl (StopsInLine-finish WriteOut line)
-          | inr whole ↦
-              inr (TookLines-finish whole)
+          | inr whole ↦ inr (TookLines-finish whole)
         ] where
           between : (line : List ℕ) → StopsInLine options (took_out out' out'') (took_err err' err'')
               (length (ended_lines text)) (unless_empty line) WriteOut
               ⊎ TookLines options (took_out out' out'') (took_err err' err'') (length (ended_lines text))
               (unless_empty line)
-          between [] = inr (TookLines-none options (took_out out' out'') (took_err err' err'')
-              (length (ended_lines text)) none_out none_err)
+          between [] = inr (TookLines-none options _ _ (length (ended_lines text)) none_out none_err)
           between (byte ∷ bytes) =
-              inl (StopsInLine-one options (took_out out' out'') (took_err err' err'') (length (ended_lines text))
-              (byte ∷ bytes) WriteOut (
-                (
-                  [],
-                  (
-                    image_of options
-                        (outcome options (byte ∷ bytes)),
-                    refl,
-                  ),
-                  none_out,
-                ),
-                none_err,
-              ))
+              let begun : Begins (took_out out' out'') (image_of options (outcome options (byte ∷ bytes))) =
+              ([], (image_of options (outcome options (byte ∷ bytes)), refl), none_out) in
+              inl (StopsInLine-one options _ (took_err err' err'') (length (ended_lines text)) (byte ∷ bytes) WriteOut
+              (begun, none_err))

@@ -9,7 +9,8 @@ use Rattle.device.specs.declared.streams.StdSink.{StdSink}
 use Rattle.filter.proofs.RunLaws.{RunStops-by}
 use Rattle.filter.proofs.streams.run_streams.Goals as goal
 
--- a buffer before a writer of std that took a text, and then no more
+-- A buffer before a writer of std that took a text, and then no more. The states and what is buffered in each are
+-- arguments, since what a writer has may be unknown.
 passed_on : {W : Type 0} (contents : W → Option (List ℕ)) (s t u : StdSink W) (a b c text : List ℕ)
     → PassesOn (λ x y xs. Appends (contents (writer_of x)) (contents (writer_of y)) xs) s t a b text
     → PassesOn (λ x y xs. Appends (contents (writer_of x)) (contents (writer_of y)) xs) t u b c []

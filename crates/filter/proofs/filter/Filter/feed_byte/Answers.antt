@@ -19,7 +19,7 @@ returns-then-byte-ne10-clause-feeds g c options text at =
 pub returns-in-Ok-clause-feeds : goal.returns-in-Ok-clause-feeds
 returns-in-Ok-clause-feeds g c options text at =
     let at' = subst (λ (s : FilterState). IsAfter options s text) (sym c.self.view_is) at in
-    let ends = line_ends options _ _ _ text _ (Ok c.in-Ok.status) at' c.saturating_add-self-inside.ensures
+    let ends = line_ends options _ _ _ text (Ok c.in-Ok.status) at' c.saturating_add-self-inside.ensures
     c.in-Ok.ensures.ends in
     let status : c.worst-self-inside.result
     ≡ worst c.self.inside.status (status_of_line (outcome options (open_line text))) =
@@ -34,4 +34,5 @@ returns-in-Err-clause-feeds g c options text at =
     let at' = subst (λ (s : FilterState). IsAfter options s text) (sym c.self.view_is) at in
     StopsInPiece-lf options _ _ text c.args.byte c.in-Err.fault c.if-byte-ne10.false
     (line_ends options (g.O.Sink.took c.args.out.now c.finish_line.new.out)
-    (g.E.Sink.took c.args.err.now c.finish_line.new.err) _ text _ (Err c.in-Err.fault) at' c.saturating_add-self-inside.ensures c.in-Err.ensures.ends)
+    (g.E.Sink.took c.args.err.now c.finish_line.new.err) _ text (Err c.in-Err.fault) at'
+    c.saturating_add-self-inside.ensures c.in-Err.ensures.ends)

@@ -19,7 +19,8 @@ returns-then-is_empty-clause-ends g c options text at =
 pub returns-in-Ok-clause-ends : goal.returns-in-Ok-clause-ends
 returns-in-Ok-clause-ends g c options text at =
     let at' = subst (λ (s : FilterState). IsAfter options s text) (sym c.self.view_is) at in
-    let ends = line_ends options _ _ _ text _ (Ok c.in-Ok.status) at' c.saturating_add-number.ensures c.in-Ok.ensures.ends in
+    let ends = line_ends options _ _ _ text (Ok c.in-Ok.status) at' c.saturating_add-number.ensures
+    c.in-Ok.ensures.ends in
     let some : c.self.inside.line.bytes ≡ [] → ⊥ = λ e. false≢true (c.if-is_empty.ensures.1 e) in (
       c.worst.ensures ∙ (ap (worst c.self.inside.status) ends.status_is ∙ status_of-rest options _ text at' some),
       rw (a_rest options _ text at' some) (TookLines-one options _ _ (length (ended_lines text)) (open_line text)
@@ -32,4 +33,5 @@ returns-in-Err-clause-ends g c options text at =
     rw (a_rest options _ text at' (λ e. false≢true (c.if-is_empty.ensures.1 e)))
     (StopsInLine-one options _ _ (length (ended_lines text)) (open_line text) c.in-Err.fault
     (line_ends options (g.O.Sink.took c.args.out.now c.finish_line.new.out)
-    (g.E.Sink.took c.args.err.now c.finish_line.new.err) _ text _ (Err c.in-Err.fault) at' c.saturating_add-number.ensures c.in-Err.ensures.ends))
+    (g.E.Sink.took c.args.err.now c.finish_line.new.err) _ text (Err c.in-Err.fault) at'
+    c.saturating_add-number.ensures c.in-Err.ensures.ends))
