@@ -78,10 +78,14 @@ row_in : (v s t : ℕ) → t < side_of v → row_of (side_of v) s t < side_of v
 row_in v s t h = grind (arith, nat_tests)
 
 -- a value is read after a write
+-- the place x, y that is read is apart from the place a, b that is written: step_free, the only caller, has two
+-- equations between them by `unique`
 written : (m n : ℕ → ℕ → Bool) (a b : ℕ) (value : Bool) → Writes m n a b value → (x y : ℕ) → x ≡ a → y ≡ b
     → n x y ≡ value
 written m n a b value w x y ex ey = w x y ∙ grind (arith, nat_tests)
 
+-- another place is as it was before a write
+-- it has both places, as `written` does: step_free takes it for five fields, and shows the places different in each
 unwritten : (m n : ℕ → ℕ → Bool) (a b : ℕ) (value : Bool) → Writes m n a b value → (x y : ℕ) → (x ≡ a → y ≡ b → ⊥)
     → n x y ≡ m x y
 unwritten m n a b value w x y ne = w x y ∙ grind (arith, nat_tests)
