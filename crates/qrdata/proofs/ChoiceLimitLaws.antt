@@ -99,8 +99,8 @@ tried_strict version bytes t s is sum some inside passes (inr same) =
     absurd (omega (arith, low, rest, less, as_long, cost-continued version bytes s, cost-continued version bytes t))
 
 -- the best choice begins the best list, if the best list of the rest has as many bits as it says
--- agrees_step, the only caller, has the five facts on t in five ways: one by refl, the sum by its induction too, and
--- the others by best-front, two of them with a bound besides
+-- agrees_step, the only caller, has no record of the five facts on t, but finds each by itself: the first by refl, the
+-- sum by its induction, and the others by best-front, two of them with bounds besides
 begins : (version b : ℕ) (bytes : List ℕ) (t : Segment) → (choices_of version (b ∷ bytes)).best.segment ≡ t
     → cost version (continued version (b ∷ bytes) t) ≡ fewest_bits version (b ∷ bytes)
     → 0 < t.len → t.len ≤ length (b ∷ bytes) → is_first version (b ∷ bytes) t ≡ true

@@ -23,8 +23,8 @@ right_column n strip = if nat_lt strip ((n - 7) / 2) then n - 1 - 2 * strip else
 abbrev pub row_of : ℕ → ℕ → ℕ → ℕ
 row_of n strip t = if strip % 2 == 0 then n - 1 - t else t
 
--- the first i bits are placed on the free modules with a key below k, the other free modules are light, and no function
--- module is written
+-- the first i bits are placed on the free modules with a key below k, the other free modules are light, and no
+-- function module is written
 pub record Placed (v : ℕ) (codewords : List ℕ) (old new : ℕ → ℕ → Bool) (i k : ℕ) : Type 0 where
   pub counted : i ≡ free_below v k
   pub bounded : i ≤ k
