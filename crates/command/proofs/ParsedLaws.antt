@@ -59,6 +59,9 @@ later : (t : Bool) (A B : Type 0) → B → EitherBy t A B
 later true A B b = inr b
 later false A B b = b
 
+-- an argument of this id whose rule has P makes some rule of the id have it
+-- the place k, the argument a and four facts on them are the parts of one tuple: in first_read that is PassesArg for
+-- one call, HasReading for the other, and the induction on xs changes k
 some_at : (P : Rule → Type 0) (id : Text) (xs : List Arg) (k : ℕ) (a : Arg) → k < length xs → slice_index_or xs k a ≡ a
     → bytes_eq a.id.now id ≡ true → P (rule_of a) → SomeRule P id (map rule_of xs)
 some_at P id [] k a lt at same p = absurd (omega arith)

@@ -224,6 +224,8 @@ length-division low q p h =
     ∙ omega (arith, product)
 
 -- two divisions of one polynomial have the same remainder
+-- each division has a quotient, a remainder and facts on them: the induction shortens both quotients, but the records
+-- IsRemainder, which IsRemainder-unique has, are of a whole message
 pub same_remainder : (low q q' p p' : List ℕ) → length q ≡ length q' → length p ≡ length low → length p' ≡ length low
     → All IsElement q → All IsElement q' →
     polynomial_sum (polynomial_product q (1 ∷ low)) (zeros (length q) ++ p)

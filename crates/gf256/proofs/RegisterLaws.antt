@@ -67,6 +67,8 @@ next_register-places low old new codeword pos same long each =
     ∙ sym (get_or-next_register low old codeword k))
 
 -- the register after the last place was written
+-- move_up and move_up_and_add each have the register before (`old`) and after the loop (`part`), what is added, and
+-- the last place with its value; the facts are those of their own loops, which have no record in common
 pub moved_last : (added : ℕ → ℕ) (old part : List ℕ) (last v k : ℕ) → length part ≡ length old → last + 1 ≡ length old
     → ((j : ℕ) → j < last → get_or part j 0 ≡ bit_xor (get_or old (j + 1) 0) (added j)) → v ≡ added last
     → k < length part → get_or (set part last v) k 0 ≡ bit_xor (get_or old (k + 1) 0) (added k)

@@ -13,6 +13,9 @@ use Rattle.linear.specs.CodeSets.{picked_set, is_pair_next, pair_values, byte_va
 use Rattle.linear.specs.Switching.{Step, to_set, character_step, step, Writes, done, stepped, ValuesAreWrittenBySteps}
 use Rattle.linear.proofs.CodeSetLaws.{even_run, picked_set-has, PickedHas, byte_values_by}
 
+-- a step that is `s`, and a writing of what it leaves, write `all`
+-- `s` and `all` have an equation each, for `stepped` has only the terms of `step` itself; pair_in_c, plain, single
+-- and pair each give another `s`
 by_step : (set : CodeSet) (byte : ℕ) (rest values all : List ℕ) (s : Step) → step set byte rest ≡ s
     → Writes s.set s.rest values → s.values ++ values ≡ all → Writes set (byte ∷ rest) all
 by_step set byte rest values all s e w h =

@@ -175,6 +175,8 @@ module _ (before wide next : List Bool) (x s : ℕ) (some : 0 < s)
       [ inl h ↦ spread_square k low h | inr h ↦ after k h ∙ wider k h size ]
 
 -- a row of the picture, over light pixels
+-- `light`, `row` and `w` are the results of fill, read_row and width in the read_row of Framed, the only caller: it
+-- has one fact on each by the call, and two on y by its tests against the zone
 pub put_mid-pixel_row : (p : Picture) (zone : QuietZone) (y : ℕ) (light row : List Bool) (w : ℕ)
     → light ≡ replicate (zone.left + p.width + zone.right) false → w ≡ p.width → zone.top ≤ y → y < zone.top + p.height
     → row ≡ pixel_row p (y - zone.top) →
@@ -196,6 +198,8 @@ put_mid-pixel_row p zone y light row w e width low high same =
     ∙ sym (pixel_row-with_quiet_zone p zone y low high)))))
 
 -- a row of the picture, and what was after it
+-- the read_row of Scaled, the only caller, has `row` and `w` by two calls and `before` by its own argument; the four
+-- facts are what these calls ensure, what it requires, and that the scale is not 0
 pub spread-pixel_row : (p : Picture) (s y : ℕ) (row before : List Bool) (w : ℕ) → 0 < s → w ≡ p.width
     → length before ≡ p.width * s → row ≡ pixel_row p (y / s) →
     map (λ x. get_or (row ++ drop w before) (x / s) false) (below (length (row ++ drop w before)))

@@ -16,6 +16,9 @@ use Rattle.picture.proofs.RasterLaws.{rows-row_digits}
 use Rattle.picture.proofs.HeaderLaws.{leading_number-decimal, after_white-decimal}
 use Rattle.picture.proofs.ShortLineLaws.{has_short_lines, short_rows, short_header}
 
+-- a text that passes the two tests and the five readings of pbm_pixels has the pixels of what the last one leaves
+-- there is a fact for each of the seven, and a value for each text that is left, as the next reading begins with it:
+-- read_back, the only caller, proves each fact by itself, and the proof rewrites by all of them
 pbm_pixels-steps : (text first second third fourth rest : List ℕ) (width height : ℕ) →
     has_short_lines text ≡ true → bytes_eq (take 2 text) (codes "P1") ≡ true → after_white (drop 2 text) ≡ Some first →
     leading_number first ≡ Some (width, second) → after_white second ≡ Some third

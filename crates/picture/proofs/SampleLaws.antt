@@ -53,6 +53,8 @@ enlarged_place : (size scale k i : ℕ) → k < size → i < scale → k * scale
 enlarged_place size scale k i inside within = omega (arith, mul-add-lt k scale i size inside within)
 
 -- a pixel of an enlargement
+-- there are four coordinates, with a bound on each: of the pixel, and of a place in the square that it becomes, which
+-- is 0, 0 at cell-enlargement, the only caller
 value_at-enlargement : (p : Picture) (scale column row x y : ℕ) → column < p.width → row < p.height → x < scale
     → y < scale → value_at (raster (enlargement p scale)).rows (column * scale + x)
     (row * scale + y) ≡ p.dark column row

@@ -32,6 +32,8 @@ no_line_feed_push line dark none = list_all-append (λ b. not (is_line_feed b)) 
     ∙ rw (none, no_line_feed_digit dark) refl
 
 -- one pixel more, which may end the line
+-- each of the last two facts is for one case of `ends`; `more`, the rest of the row, and `rest`, what follows the
+-- row, are two values because short_from, the only caller, has a text that joins the row first
 pixel_step : (dark ends : Bool) (line more rest : List ℕ) → has_no_line_feed line ≡ true → length line < 70 →
     (ends ≡ true → has_short_lines (more ++ rest) ≡ true)
     → (ends ≡ false → has_short_lines ((line ++ pbm_digit dark ∷ []) ++ (more ++ rest)) ≡ true) →
@@ -44,6 +46,8 @@ pixel_step dark false line more rest none room whole part =
     ap has_short_lines (sym (append_assoc line (pbm_digit dark ∷ []) (more ++ rest))) ∙ part refl
 
 -- the pixels of a row from a column on, after what is on the line before it
+-- the induction is on n, and each turn changes a and `line` too, and with them three of the four facts; short_row
+-- begins it at column 0 with an empty line
 short_from : (p : Picture) (y n a : ℕ) (line rest : List ℕ) → a + suc n ≡ p.width → has_no_line_feed line ≡ true
     → length line ≡ a % 70 → has_short_lines rest ≡ true →
     has_short_lines (line ++ (flat_map (pbm_pixel p y) (range_with_len a (suc n)) ++ rest)) ≡ true

@@ -115,7 +115,9 @@ longest_first p f size n Byte fits lowest = rw (candidates-more n)
     (λ yes. lowest.strict (segment_of Alphanumeric (suc n)) (omega arith) fits yes (inr (refl, omega arith)))
     (first_of_size p f size t (candidates n) lowest sizes)))
 
--- it is among those of at most `n` bytes
+-- the lowest segment is the first lowest one of the candidates of at most `n` bytes
+-- the induction is on n below a fixed size, though `begins`, the only caller, has one number for both; the segment is
+-- a mode and a length, because the cases are on the length
 pub IsFirstLowest-candidates : (p : Segment → Bool) (f : Segment → ℕ) (size n : ℕ) (mode : Mode) (len : ℕ) → n ≤ size
     → 0 < len → len ≤ n → IsLeastOf p f size (segment_of mode len)
     → IsFirstLowest f (segment_of mode len) (filter p (candidates n))

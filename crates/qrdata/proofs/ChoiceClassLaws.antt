@@ -55,6 +55,9 @@ pub record Steps (mode : Mode) (class next added : ℕ) : Type 0 where
   pub back : (n : ℕ) → class_of mode (suc n) ≡ next → class_of mode n ≡ class
   pub adds : (n : ℕ) → 0 < n → class_of mode n ≡ class → payload_length mode (suc n) ≡ payload_length mode n + added
 
+-- a longer choice comes no later than a segment of the next class that has more than one byte
+-- n and its three bounds are the arguments of the field `lowest`, for which IsClass-longer takes this; the other
+-- eleven are those of IsClass-longer itself
 lowest-longer : (version b : ℕ) (bytes : List ℕ) (mode : Mode) (class next added : ℕ) (c : ChoiceView)
     → has_character mode b ≡ true → Steps mode class next added → IsClass version bytes mode class 0 c
     → (n : ℕ) → 1 < n → n ≤ run_length (has_character mode) (b ∷ bytes) → class_of mode n ≡ next
@@ -67,6 +70,9 @@ lowest-longer version b bytes mode class next added c t steps old (suc n) more i
     let adds = steps.adds n (omega arith) here in
     (omega arith, λ less. omega (arith, before.1 (omega arith)))
 
+-- a longer choice is absent, or it is one of a segment of the bytes
+-- the arguments are those of IsClass-longer, which takes this for its field `real`; of the old choice it has that
+-- field alone, for its two cases
 real_longer : (version b : ℕ) (bytes : List ℕ) (mode : Mode) (class next added : ℕ) (c : ChoiceView)
     → has_character mode b ≡ true → Steps mode class next added → IsNoneOrReal version bytes mode class c
     → IsNoneOrReal version (b ∷ bytes) mode next (longer_choice c added)
@@ -80,6 +86,8 @@ real_longer version b bytes mode class next added c t steps (inr r) = inr (recor
 })
 
 -- the best choice of more than one byte
+-- mode, class, next and added differ at the six calls: three in AreDigits-next, two in AreCharacters-next and one in
+-- AreBest-of; the byte, the bytes and the old choice are the caller's
 IsClass-longer : (version b : ℕ) (bytes : List ℕ) (mode : Mode) (class next added : ℕ) (c : ChoiceView)
     → has_character mode b ≡ true → Steps mode class next added → IsClass version bytes mode class 0 c
     → IsClass version (b ∷ bytes) mode next 1 (longer_choice c added)
@@ -99,7 +107,9 @@ IsClass-whole version bytes mode class c other old = record {
   ];
 }
 
--- where a segment of one byte is of the class
+-- where a segment of one byte is of the class, the better of it and the choice of the longer ones is the best
+-- AreDigits-next, AreCharacters-next and AreBest-of each call it for one mode and class; they have the first fact by
+-- a case of the byte or by refl, the second by refl, and the last by IsClass-longer
 IsClass-short : (version b : ℕ) (bytes : List ℕ) (mode : Mode) (class : ℕ) (c : ChoiceView)
     → has_character mode b ≡ true → class_of mode 1 ≡ class → IsClass version (b ∷ bytes) mode class 1 c
     → IsClass version (b ∷ bytes) mode class 0 (better_choice c (short_choice version mode (fewest_bits version bytes)))

@@ -62,7 +62,9 @@ cost-continued : (version : ℕ) (bytes : List ℕ) (s : Segment)
     + cost version (chosen_segments version (drop s.len bytes))
 cost-continued version bytes s = sum_by-cons (segment_length version) s (chosen_segments version (drop s.len bytes))
 
--- a first segment that is tried
+-- the best first segment t costs no more than a segment s that is tried, and less than a longer one
+-- s and its three facts are the arguments of the field `low` of IsLeastOf, for which `begins` takes this; t and the
+-- two equations on it are those of `begins`
 tried_low : (version : ℕ) (bytes : List ℕ) (t s : Segment) → (choices_of version bytes).best.segment ≡ t
     → cost version (continued version bytes t) ≡ fewest_bits version bytes → 0 < s.len → s.len ≤ length bytes
     → is_first version bytes s ≡ true
@@ -78,6 +80,8 @@ tried_low version bytes t s is sum some inside passes =
     let len : (choices_of version bytes).best.segment.len ≡ t.len = ap (λ (u : Segment). u.len) is in
     (omega (arith, first.0), λ less. omega (arith, first.1 (omega arith)))
 
+-- the best first segment t costs less than a segment s that is tried before it
+-- the arguments of tried_low, and for the field `strict` of IsLeastOf one more: that s is before t, in two cases
 tried_strict : (version : ℕ) (bytes : List ℕ) (t s : Segment) → (choices_of version bytes).best.segment ≡ t
     → cost version (continued version bytes t) ≡ fewest_bits version bytes → 0 < s.len → s.len ≤ length bytes
     → is_first version bytes s ≡ true
@@ -95,6 +99,8 @@ tried_strict version bytes t s is sum some inside passes (inr same) =
     absurd (omega (arith, low, rest, less, as_long, cost-continued version bytes s, cost-continued version bytes t))
 
 -- the best choice begins the best list, if the best list of the rest has as many bits as it says
+-- agrees_step, the only caller, has no record of the five facts on t, but finds each by itself: the first by refl, the
+-- sum by its induction, and the others by best-front, two of them with bounds besides
 begins : (version b : ℕ) (bytes : List ℕ) (t : Segment) → (choices_of version (b ∷ bytes)).best.segment ≡ t
     → cost version (continued version (b ∷ bytes) t) ≡ fewest_bits version (b ∷ bytes)
     → 0 < t.len → t.len ≤ length (b ∷ bytes) → is_first version (b ∷ bytes) t ≡ true

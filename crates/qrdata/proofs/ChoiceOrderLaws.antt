@@ -11,6 +11,9 @@ use Rattle.qrdata.specs.Private.Table.{better_choice}
 abbrev pub Beats : ChoiceView → (bits len : ℕ) → Type 0
 Beats c bits len = (c.bits ≤ bits) × (c.segment.len < len → c.bits < bits)
 
+-- to come no later is transitive: a, b and x are the bits of three choices, and l, m and n are their lengths
+-- they are six numbers, for in better-left and better-right, the two callers, the third choice is no ChoiceView but
+-- bits and a length
 beats_then : (a b x l m n : ℕ) → a ≤ b → (l < m → a < b) → b ≤ x → (m < n → b < x) → (a ≤ x) × (l < n → a < x)
 beats_then a b x l m n h k h' k' = (
   omega arith,

@@ -44,6 +44,9 @@ found_is : (firsts : List Segment) (k : ℕ) (first : Segment) → k < length fi
     → first ≡ get_or firsts k default_segment
 found_is firsts k first h found = let at_k = slice_get-get_or firsts k default_segment h in cc
 
+-- a table that has the firsts from a place on has them from one place earlier, once the first there is set
+-- the loop of `fill`, the only caller, has `firsts` and `place` as variables and `s` by a call; the five facts are
+-- its test, two parts of its invariant, the sizes, and what its calls ensure
 pub HasFirsts-set : (version : ℕ) (bytes : List ℕ) (firsts : List Segment) (place : ℕ) (s : Segment) → 0 < place
     → place ≤ length bytes → length bytes ≤ length firsts
     → s ≡ (choices_of version (drop (place - 1) bytes)).best.segment → HasFirsts version bytes place firsts
@@ -93,6 +96,9 @@ pub fewest_bits-is : (v w : ℕ) → SameWidths v w → (bytes : List ℕ) → l
     → fewest_bits w bytes ≡ cost v (chosen_segments v bytes)
 fewest_bits-is v w same bytes few fits = (Agrees-if_fits w bytes few fits).bits ∙ sym (cost-chosen_same v w same bytes)
 
+-- a table of the version w names the best segments of each version v whose counts have the same widths
+-- plan_between, the only caller, has the loop's number for v and the highest version for w; one call of `fill`
+-- returns the limit and leaves the table
 pub NamesBest-of : (v w : ℕ) → SameWidths v w → (bytes : List ℕ) (limit : ℕ) (firsts : List Segment)
     → length bytes ≤ 652 → limit ≤ widest w → HasFirsts w bytes 0 firsts → NamesBest v bytes limit firsts
 NamesBest-of v w same bytes limit firsts few fits known = λ k inside small first found.

@@ -97,6 +97,8 @@ AreBytes-drop (suc n) [] w = tt
 AreBytes-drop (suc n) (b ∷ bytes) w = AreBytes-drop n bytes w.1
 
 -- the segments of the data, followed by what ends them, are read as the data
+-- each turn of the induction shortens the segments, the bytes and n, and so changes three of the facts on them;
+-- data_in-symbol_codewords begins it with all the segments of a symbol
 pub segments_at-segments_bits : (version : ℕ) (segments : List Segment) (bytes : List ℕ) (n : ℕ) (rest : List Bool)
     → AreBytes bytes → IsSegmentation version segments bytes → length segments ≤ n → is_end rest ≡ true
     → segments_at version n (segments_bits version segments bytes ++ rest) ≡ Some bytes

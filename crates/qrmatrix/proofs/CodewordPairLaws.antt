@@ -145,6 +145,8 @@ moved two x a h l =
         ]
 
 -- two values are written on light modules
+-- `old` and `new` are the square before and after the flip in place_two, the only caller; the four facts are three
+-- that it requires and what flip ensures
 pub two_written : (old new : List (List Bool)) (two x y : ℕ) → two < 4 → x + 1 < 57 → (value_at old x y ≡ false)
     × (value_at old (x + 1) y ≡ false)
     → ((a b : ℕ) → value_at new a b ≡ flip_if ((b == y) && bit (two * 2 ^ x % 2 ^ 64) a) (value_at old a b))
@@ -189,6 +191,8 @@ no_pairs n i codewords e = record { made = λ j l. absurd (omega arith); none = 
   zeros (suc n) (suc j) = zeros n j
 
 -- the last codeword, with nothing after it
+-- codeword_pairs, the only caller, has `pairs` and `i` as its loop leaves them: two facts are the invariant's, three
+-- are on i by the tests, one is on `value` by a cast, and one is on the codewords by their type
 pub pairs_last : (codewords pairs : List ℕ) (i value : ℕ) → PairsBelow codewords pairs i → length pairs ≡ 400 → i
     ≡ length codewords
     → 1 ≤ i → i < 400

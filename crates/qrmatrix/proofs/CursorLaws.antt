@@ -23,8 +23,8 @@ right_column n strip = if nat_lt strip ((n - 7) / 2) then n - 1 - 2 * strip else
 abbrev pub row_of : ℕ → ℕ → ℕ → ℕ
 row_of n strip t = if strip % 2 == 0 then n - 1 - t else t
 
--- the first i bits are placed on the free modules with a key below k, the other free modules are light, and no function
--- module is written
+-- the first i bits are placed on the free modules with a key below k, the other free modules are light, and no
+-- function module is written
 pub record Placed (v : ℕ) (codewords : List ℕ) (old new : ℕ → ℕ → Bool) (i k : ℕ) : Type 0 where
   pub counted : i ≡ free_below v k
   pub bounded : i ≤ k
@@ -78,10 +78,14 @@ row_in : (v s t : ℕ) → t < side_of v → row_of (side_of v) s t < side_of v
 row_in v s t h = grind (arith, nat_tests)
 
 -- a value is read after a write
+-- the place x, y that is read is apart from the place a, b that is written: step_free, the only caller, has two
+-- equations between them by `unique`
 written : (m n : ℕ → ℕ → Bool) (a b : ℕ) (value : Bool) → Writes m n a b value → (x y : ℕ) → x ≡ a → y ≡ b
     → n x y ≡ value
 written m n a b value w x y ex ey = w x y ∙ grind (arith, nat_tests)
 
+-- another place is as it was before a write
+-- it has both places, as `written` does: step_free takes it for five fields, and shows the places different in each
 unwritten : (m n : ℕ → ℕ → Bool) (a b : ℕ) (value : Bool) → Writes m n a b value → (x y : ℕ) → (x ≡ a → y ≡ b → ⊥)
     → n x y ≡ m x y
 unwritten m n a b value w x y ne = w x y ∙ grind (arith, nat_tests)

@@ -311,6 +311,8 @@ between n information y l h = rw (
 ) refl
 
 -- no row between the finder patterns shows the format information
+-- x, y and their three bounds are the arguments of a fact of rows_kept, for which draw_format takes this; the other
+-- bounds are on the version, by what `side` ensures, and on the mask, as draw_format requires
 pub format_between : (v : ℕ) → 1 ≤ v → v ≤ 10 → (level : Level) (mask x y : ℕ) → mask < 8 → x < side_of v → 9 ≤ y
     → y < side_of v - 7 → format_module (format_information level mask) (role v x y) ≡ false
 format_between v l h level mask x y lm lx low high =
@@ -319,7 +321,9 @@ format_between v l h level mask x y lm lx low high =
     ∙ ap (λ w. bit w x) (between (side_of v) (format_information level mask) y low high)
     ∙ above_bit 0 0 x (omega arith) (omega arith)
 
--- the same at the values of a drawing
+-- a row shows its format information, at the values of a drawing
+-- n, information and row are the results of three calls in draw_format, with the equation that each ensures: four
+-- proofs on its two loops take this, and need not rewrite by them
 pub row_shows : (v n information row : ℕ) (level : Level) (mask y : ℕ) → 1 ≤ v → v ≤ 10 → mask < 8 → y < n → n
     ≡ side_of v
     → information ≡ format_information level mask

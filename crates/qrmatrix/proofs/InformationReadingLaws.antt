@@ -16,6 +16,8 @@ use Rattle.qrmatrix.specs.Reading.{level_of, shows_version}
 use Rattle.qrmatrix.proofs.ByVersionLaws.{by_version}
 
 -- a fact on each mask: an argument for each
+-- P 0 to P 7 are eight facts of eight types: at each level format_read gives eight pairs of `refl`, and
+-- format_information-multiple eight terms of format_code
 pub by_mask : (P : ℕ → Type 0) → P 0 → P 1 → P 2 → P 3 → P 4 → P 5 → P 6 → P 7 → (mask : ℕ) → mask < 8 → P mask
 by_mask P p0 p1 p2 p3 p4 p5 p6 p7 zero h = p0
 by_mask P p0 p1 p2 p3 p4 p5 p6 p7 (suc zero) h = p1

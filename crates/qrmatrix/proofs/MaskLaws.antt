@@ -42,6 +42,8 @@ free_flip false true b = refl
 free_flip false false b = refl
 
 -- one more row under the mask
+-- there are four squares: `old` before the pass, `m` and `r` before and after this row, and the function modules;
+-- apply_mask, the only caller, has the first fact by its invariant, the next by its call of flip, and proves two on w
 pub masked_row : (n mask row w : ℕ) (old m r function : List (List Bool))
     → Mapped n old m (module_under_mask mask function old) row 0
     → ((a b : ℕ) → value_at r a b ≡ flip_if ((b == row) && bit w a) (value_at m a b))

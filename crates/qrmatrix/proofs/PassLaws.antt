@@ -29,6 +29,8 @@ mapped_outside n row old new target p e =
     }
 
 -- rows that keep their modules are passed over
+-- n, old, m, target and a are those of Mapped, and b is the row that the pass goes on to: draw_format takes this
+-- once, between its loops, where a is 9 and b is n - 7
 pub rows_kept : (n a b : ℕ) (old m : List (List Bool)) (target : ℕ → ℕ → Bool) → Mapped n old m target a 0 → a ≤ b
     → ((x y : ℕ) → x < n → a ≤ y → y < b → target x y ≡ value_at old x y) → Mapped n old m target b 0
 rows_kept n a b old m target p l kept =
@@ -50,6 +52,8 @@ rows_kept n a b old m target p l kept =
     ]
 
 -- one more row is turned over by row bits
+-- `old` is the square before the pass, `m` and `r` are before and after this row; it is used twice in draw_format,
+-- twice in draw_functions and in masked_row, each time with another target or other row bits
 pub row_turned : (n row w : ℕ) (old m r : List (List Bool)) (target : ℕ → ℕ → Bool) → Mapped n old m target row 0
     → ((a b : ℕ) → value_at r a b ≡ flip_if ((b == row) && bit w a) (value_at m a b))
     → ((a : ℕ) → a < n → flip_if (bit w a) (value_at old a row) ≡ target a row)

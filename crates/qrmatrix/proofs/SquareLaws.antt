@@ -38,6 +38,8 @@ rows_seen (w ∷ ws) h x zero = row_bits w (All-head (λ w. w < 2 ^ 57) w ws h) 
 rows_seen (w ∷ ws) h x (suc y) = rows_seen ws (All-tail (λ w. w < 2 ^ 57) w ws h) x y
 
 -- a row is written
+-- Square::set, the only caller, has x, y and the value as arguments, and w by its call of with_bit: two facts are
+-- what that call ensures, one is required, and one is the square's invariant
 pub row_written : (ws : List ℕ) (w x y : ℕ) (value : Bool) → AreRows ws → w < 2 ^ 57 → y < 57
     → ((a : ℕ) → bit w a ≡ (if a == x then value else bit (get_or ws y 0) a))
     → WritesAt (map low_bits ws) (map low_bits (set ws y w)) x y value

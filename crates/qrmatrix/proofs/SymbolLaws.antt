@@ -7,6 +7,8 @@ use Rattle.qrmatrix.specs.Symbol.{IsSymbolOf, Symbol, is_dark}
 use Rattle.qrmatrix.proofs.ReadingLaws.{module_outside}
 
 -- a symbol is light outside of its side
+-- v, level, asked and codewords are there for IsSymbolOf, and the prover finds them in matrix_of, the only caller;
+-- that passes the lemma from x on, as a fact on each place
 pub is_dark-outside : (v : ℕ) (level : Level) (asked : Option ℕ) (codewords : List ℕ) (s : Symbol)
     → IsSymbolOf v level asked codewords s → (x y : ℕ) → is_inside s.side x y ≡ false → is_dark s x y ≡ false
 is_dark-outside v level asked codewords s is x y out =

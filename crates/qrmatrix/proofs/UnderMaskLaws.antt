@@ -31,6 +31,8 @@ free_is_light v (Some r) h = absurd (both_ways _ refl h)
 free_is_light v None h = refl
 
 -- the module of each role
+-- the proof is by cases of the role, so f, t, chosen and old are values, with facts on those that depend on it;
+-- `under`, the only caller, gives its terms: two modules, the mask and the codeword bit
 shown : (v : ℕ) (level : Level) (mask : ℕ) (r : Option Role) (f t chosen old : Bool) → f ≡ not (is_none r)
     → (is_none r ≡ true → old ≡ chosen) → (is_none r ≡ false → old ≡ unmasked_module v r)
     → (if f then flip_if (format_module (format_information level mask) r) old else

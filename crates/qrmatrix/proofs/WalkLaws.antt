@@ -13,6 +13,9 @@ use Rattle.qrmatrix.specs.Reading.{walk}
 use Rattle.qrmatrix.proofs.VersionLaws.{Computed, is_walked}
 use Rattle.qrmatrix.proofs.RankLaws.{free_below, free_below_more, free_below_none, rank-free_below}
 
+-- a place before a list whose numbers count up from j: whether it is kept or not, the numbers count up from i
+-- the proof is by cases of b, so b, r, i and j are values; `along`, the only caller, has long terms for them:
+-- is_free, free_below of a key, and two counts of free places
 step : (b : Bool) (p : ℕ × ℕ) (ps : List (ℕ × ℕ)) (r : ℕ × ℕ → ℕ) (i j : ℕ) → r p ≡ i → j ≡ i + one_if b
     → map r ps ≡ range_with_len j (length ps)
     → map r (cond b (p ∷ ps) ps) ≡ range_with_len i (length (cond b (p ∷ ps) ps))

@@ -16,6 +16,7 @@ same_left : (left : List ℕ) (i digit : ℕ) → i ≡ digit → digit < 10 →
 same_left left i digit e h six = ap length (sets_of_left-left_sets i digit [] e h) ∙ length-left_sets digit h ∙ sym six
 
 -- the halves that the code cuts
+-- of the hypotheses, one is required of the caller, one is first_below, and three are what `from` and split_at ensure
 symbol_is : (full left right : List ℕ) (i : ℕ) → length full ≡ 13 → i ≡ get_or full 0 0 - 48
     → get_or full 0 0 - 48 < 10 → left ≡ take 6 (take (length full - 1) (drop 1 full))
     → right ≡ drop 6 (take (length full - 1) (drop 1 full))

@@ -7,6 +7,8 @@ use Rattle.picture.proofs.WritingLoopLaws.{HasWritten-below_more, WritesText-bel
 use Rattle.picture.proofs.rows.write_kept_rows.Goals as goal
 
 -- the text of the row that is kept
+-- width is the result of a call before the loop, y its variable, and next and kept are what read_next_rows returns and
+-- leaves: one fact by the first call, two by the second; both callers let the prover find the four values
 kept_text : (text : List Bool → List ℕ) (p : Picture) (y next width : ℕ) (kept : List Bool) → width ≡ p.width
     → KeepsRows p y next kept → y < next → text (take width kept) ≡ text (pixel_row p y)
 kept_text text p y next width kept same keeps further =

@@ -50,6 +50,8 @@ overflow_cast-bits c = omega (
 )
 
 -- the best segments of a version that the bits fit
+-- two proofs take it, for plan_of's clause `bits` and for the plan returned: both have the number by the loop, the
+-- bits by `fill`, and the six facts by these, by the test and by what plan_between requires
 FitsBits-of : (number highest : ℕ) (level : Level) (bytes : List ℕ) (bits : ℕ) → SameWidths number highest → 1 ≤ number
     → number ≤ 10 → length bytes ≤ 652 → bits ≡ fewest_bits highest bytes → bits ≤ capacity number level
     → FitsBits number level bits (chosen_segments number bytes)

@@ -6,6 +6,8 @@ use Rattle.linear.proofs.EanLaws.{IsDrawn-from_Ok, ean8_read_back}
 use Rattle.linear.proofs.ean.Ean8Linear.encode.Goals as goal
 
 -- the code's halves are those of the full data
+-- the hypotheses are five clauses of four calls that `encode` makes: deref, split_at (both halves), clear,
+-- push_symbol
 is_drawn : (whole full left right : List ℕ) (old row : List Bool) → full ≡ whole → left ≡ take 4 full
     → right ≡ drop 4 full → old ≡ [] → row ≡ old ++ symbol (replicate 4 A) left right → row ≡ ean8_row whole
 is_drawn whole full left right old row same l r empty e =

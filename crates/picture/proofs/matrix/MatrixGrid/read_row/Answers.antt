@@ -12,6 +12,8 @@ record Begins (f : ℕ → Bool) (n : ℕ) (pixels : List Bool) (k : ℕ) : Type
   size : length pixels ≡ n
   made : (j : ℕ) → j < k → get_or pixels j false ≡ f j
 
+-- one more of the first pixels is written
+-- `next` is a value with an equation, because four_more, which takes this four times, ends at 4 * (k + 1)
 one_more : (f : ℕ → Bool) (n : ℕ) (pixels : List Bool) (k next : ℕ) (value : Bool) → Begins f n pixels k → k < n
     → next ≡ k + 1 → value ≡ f k → Begins f n (set pixels k value) next
 one_more f n pixels k next value p l e is =
@@ -25,6 +27,9 @@ one_more f n pixels k next value p l e is =
       ];
     }
 
+-- the four pixels that one turn of the loop writes
+-- there are four values and four equations, because four_bits ensures one for each pixel, and loop-k-preserved proves
+-- each from it
 four_more : (f : ℕ → Bool) (n : ℕ) (pixels : List Bool) (k : ℕ) (a b c d : Bool) → Begins f n pixels (4 * k)
     → 4 * k + 3 < n
     → a ≡ f (4 * k) → b ≡ f (4 * k + 1) → c ≡ f (4 * k + 2) → d ≡ f (4 * k + 3)
