@@ -97,6 +97,11 @@ pub capacity-le_nine : (level : Level) (version : ℕ) → 1 ≤ version → ver
 capacity-le_nine level version low high =
     leb-true _ _ (at_version (λ v. nat_le (capacity v level) 1856) 9 version (capacity-all_nine level) low high)
 
+-- a symbol has at most 274 data codewords
+pub data_codewords-few : {n : ℕ} (version : ℕ) (level : Level) → n ≡ data_codewords version level
+    → (1 ≤ version) × (version ≤ 10) → n ≤ 274
+data_codewords-few version level e known = omega (arith, e, capacity-le level version known.0 known.1)
+
 -- the data codewords are what the error correction codewords leave
 data_codewords-all : (level : Level) → list_all (λ version.
     data_codewords version level == total_codewords version - block_count version level * ec_codewords_per_block version level)

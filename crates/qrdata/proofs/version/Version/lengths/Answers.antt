@@ -1,8 +1,24 @@
-use Rattle.std.proofs.Common.{◌-◌, ◌/◌, ◌%◌, length, replicate, arith, ap, length-append}
+use Rattle.std.proofs.Common.{◌≡◌, ℕ, ◌+◌, ◌-◌, ◌/◌, ◌%◌, ◌<◌, ◌≤◌, List, [], ◌++◌, length, replicate}
+use Rattle.std.proofs.Common.{arith, ap, length-append}
 use Rattle.std.proofs.Math.Nat.{mod-lt, div-le_self}
 use Rattle.std.proofs.lemmas.List.{length-replicate}
-use Rattle.qrdata.proofs.VersionLaws.{block_count-few, block_count-some, block_lengths-even, capacity-le}
+use Rattle.qrdata.proofs.VersionLaws.{block_count-few, block_count-some, block_lengths-even, data_codewords-few}
 use Rattle.qrdata.proofs.version.Version.lengths.Goals as goal
+
+-- the short blocks, whose lengths are written, and the long blocks are at most 8 blocks
+all_blocks : {blocks : ℕ} {none written : List ℕ} (codewords : ℕ) → none ≡ []
+    → written ≡ none ++ replicate (blocks - codewords % blocks) (codewords / blocks) → 0 < blocks → blocks ≤ 8
+    → length written + codewords % blocks ≤ 8
+all_blocks {blocks} {none} codewords empty short some few =
+    let count = blocks - codewords % blocks in
+    omega (
+      arith,
+      ap length empty,
+      ap length short,
+      length-append none (replicate count (codewords / blocks)),
+      length-replicate count (codewords / blocks),
+      mod-lt codewords some,
+    )
 
 pub nonzero_rem-codewords : goal.nonzero_rem-codewords
 nonzero_rem-codewords c = block_count-some c.args.self c.args.level c.block_count-blocks.ensures c.known.ensures
@@ -24,26 +40,15 @@ overflow_add-codewords c =
     omega (
       arith,
       div-le_self c.data_codewords-codewords.result c.block_count-blocks.result,
-      c.data_codewords-codewords.ensures,
-      capacity-le c.args.level c.args.self c.known.ensures.0 c.known.ensures.1,
+      data_codewords-few c.args.self c.args.level c.data_codewords-codewords.ensures c.known.ensures,
     )
 
 pub push_lengths-requires-2 : goal.push_lengths-requires-2
-push_lengths-requires-2 c =
-    let short = c.block_count-blocks.result - c.data_codewords-codewords.result % c.block_count-blocks.result in
-    record {
-      room = omega (
-        arith,
-        ap length c.push_lengths.ensures,
-        ap length c.new-lengths.ensures,
-        length-append c.new-lengths.result.items (replicate short
-            (c.data_codewords-codewords.result / c.block_count-blocks.result)),
-        length-replicate short (c.data_codewords-codewords.result / c.block_count-blocks.result),
-        mod-lt c.data_codewords-codewords.result
-            (block_count-some c.args.self c.args.level c.block_count-blocks.ensures c.known.ensures),
-        block_count-few c.args.self c.args.level c.block_count-blocks.ensures c.known.ensures,
-      );
-    }
+push_lengths-requires-2 c = record {
+  room = all_blocks c.data_codewords-codewords.result c.new-lengths.ensures c.push_lengths.ensures
+      (block_count-some c.args.self c.args.level c.block_count-blocks.ensures c.known.ensures)
+      (block_count-few c.args.self c.args.level c.block_count-blocks.ensures c.known.ensures);
+}
 
 pub returns : goal.returns
 returns c =
