@@ -42,6 +42,15 @@ first_bad_decides symbology settings options fault h =
     ∙ ap (λ (r : Result OptionValues Fault). r >>= (λ next. with_settings symbology ((1 + length h.front) + 1)
     h.rest next)) h.bad)
 
+-- a good setting after good ones
+good_after : (symbology : Symbology) (front : List (List ℕ)) (setting : List ℕ) (options left next : OptionValues)
+    → with_settings symbology 1 front options ≡ Ok left
+    → with_setting symbology (1 + length front) setting left ≡ Ok next
+    → with_settings symbology 1 (front ++ setting ∷ []) options ≡ Ok next
+good_after symbology front setting options left next good is =
+    settings_after symbology 1 front (setting ∷ []) options left good
+    ∙ ap (λ (r : Result OptionValues Fault). r >>= (λ next. Ok next)) is
+
 -- the first bad setting of those that come after some good ones
 after_good : (symbology : Symbology) (front settings : List (List ℕ)) (options left : OptionValues) (fault : Fault)
     → with_settings symbology 1 front options ≡ Ok left →
@@ -69,12 +78,10 @@ after_good symbology front (setting ∷ more) options left fault good e =
       by_result again (Ok next) is all =
           let longer : length (front ++ setting ∷ []) ≡ length front + 1 = length-append front (setting ∷ []) in
           let place : (1 + length front) + 1 ≡ 1 + length (front ++ setting ∷ []) = omega arith in
-          let set : with_settings symbology 1 (front ++ setting ∷ []) options ≡ Ok next =
-          settings_after symbology 1 front (setting ∷ []) options left good
-          ∙ ap (λ (r : Result OptionValues Fault). r >>= (λ next. Ok next)) is in
           subst (λ (all : List (List ℕ)). IsFirstBad symbology all options fault)
           (append_assoc front (setting ∷ []) more)
-          (again next set (ap (λ (k : ℕ). with_settings symbology k more next) (sym place) ∙ all))
+          (again next (good_after symbology front setting options left next good is)
+          (ap (λ (k : ℕ). with_settings symbology k more next) (sym place) ∙ all))
 
 pub first_bad : (symbology : Symbology) (settings : List (List ℕ)) (options : OptionValues) (fault : Fault)
     → with_settings symbology 1 settings options ≡ Err fault → IsFirstBad symbology settings options fault

@@ -21,15 +21,7 @@ returns c =
     let f = found_of c.args.matches.now in
     let is = c.default-defaults.ensures in
     let flag = c.get_flag-escapes.ensures in
-    made-options_named (rows_of f) (record {
-      format = c.in_ok-format.format;
-      scale = c.unwrap_or-scale.result;
-      height = c.unwrap_or-height.result;
-      level = c.in_ok-level.level;
-      min_version = c.unwrap_or-min_version.result;
-      mask = c.small_number-mask.result;
-      escapes = c.get_flag-escapes.result;
-    }) c.new.result c.new.ensures.some c.new.ensures.value (record {
+    made-options_named (rows_of f) _ c.new.result c.new.ensures.some c.new.ensures.value (record {
       format = sym c.format_in.ensures ∙ c.in_ok-format.was;
       scale = NumberIs-read f (codes "scale") _ c.small_number.ensures 1 8 _ _ _ c.requires.scale (omega arith)
           (omega arith) (c.scale.ensures.value ∙ ap (λ o. o.scale) is) c.unwrap_or-scale.ensures;

@@ -1,11 +1,10 @@
 use Rattle.std.proofs.Common.{◌≡◌, ◌+◌, ◌-◌, ◌++◌, ℕ, List, length, take, drop, get_or, sym, ap, ◌∙◌, append_assoc}
-use Rattle.std.proofs.Common.{append-nil, [], subst, ◌<◌, ◌≤◌, All, arith, Bool, true}
+use Rattle.std.proofs.Common.{append-nil, [], subst, ◌<◌, ◌≤◌, All, arith, Bool, true, false}
 use Rattle.std.proofs.lemmas.List.{take_all, drop_all, length-drop}
 use Rattle.std.proofs.lemmas.List.Elements.{All-from_recursion, recursion_from_All}
 use Rattle.linear.proofs.ValueRangeLaws.{AreCharacters-data_values}
 use Rattle.linear.specs.declared.switching.CodeSet.{CodeSet}
-use Rattle.linear.specs.declared.switching.CodeSet.TheVariants.{C}
-use Rattle.linear.specs.CodeSets.{is_pair_next, pair_values, byte_values, data_values}
+use Rattle.linear.specs.CodeSets.{is_pair_next, byte_values, data_values}
 use Rattle.linear.proofs.DataValueLaws.{PairAt, pair_at, byte_at}
 use Rattle.linear.proofs.switching.data_values.Goals as goal
 
@@ -17,6 +16,20 @@ rest_is xs i = take_all (length xs - i) (drop i xs) (let e = length-drop i xs in
 pair_in : (set : CodeSet) (xs : List ℕ) (i : ℕ) (b : Bool) → i ≤ length xs
     → b ≡ is_pair_next set (take (length xs - i) (drop i xs)) → b ≡ true → PairAt set xs i
 pair_in set xs i b le is h = pair_at set xs i le (ap (is_pair_next set) (sym (rest_is xs i)) ∙ sym is ∙ h)
+
+-- what is written of a byte where no pair is next, as the code tests it
+byte_in : (set : CodeSet) (xs : List ℕ) (i : ℕ) (b : Bool) → i < length xs
+    → b ≡ is_pair_next set (take (length xs - i) (drop i xs)) → b ≡ false
+    → let step = byte_values set (get_or xs i 0) (take (length xs - (i + 1)) (drop (i + 1) xs)) in
+    data_values set (drop i xs) ≡ step.0 ++ data_values step.1 (drop (i + 1) xs)
+byte_in set xs i b lt is h = rw (rest_is xs (i + 1))
+    (byte_at set xs i lt (ap (is_pair_next set) (sym (rest_is xs i)) ∙ sym is ∙ h))
+
+-- the first values of those that are left are written
+written_more : (before first rest : List ℕ) {now left all : List ℕ} → now ≡ before ++ first → left ≡ first ++ rest
+    → before ++ left ≡ all → now ++ rest ≡ all
+written_more before first rest written cut whole = ap (λ ys. ys ++ rest) written ∙ append_assoc before first rest
+    ∙ ap (λ ys. before ++ ys) (sym cut) ∙ whole
 
 pub bounds-data-i-then-is_pair_next : goal.bounds-data-i-then-is_pair_next
 bounds-data-i-then-is_pair_next c =
@@ -34,41 +47,24 @@ push_pair-requires-clause-second c = (pair_in c.loop-i.set c.args.data.now c.loo
 
 pub loop-i-preserved-then-is_pair_next : goal.loop-i-preserved-then-is_pair_next
 loop-i-preserved-then-is_pair_next c =
-    let i = c.loop-i.i in
-    let xs = c.args.data.now in
-    let set = c.loop-i.set in
-    let before = c.loop-i.values.items in
-    let p = pair_in set xs i _ c.loop-i.invariant.within c.is_pair_next.ensures c.if-is_pair_next.true in
-    let after = data_values C (drop (i + 2) xs) in
+    let p = pair_in c.loop-i.set c.args.data.now c.loop-i.i _ c.loop-i.invariant.within c.is_pair_next.ensures
+    c.if-is_pair_next.true in
     record {
       within = p.within;
       room = omega arith;
-      whole = ap (λ ys. ys ++ after) c.push_pair.ensures.items
-          ∙ append_assoc before (pair_values set (get_or xs i 0) (get_or xs (i + 1) 0)) after
-          ∙ ap (λ ys. before ++ ys) (sym p.values) ∙ c.loop-i.invariant.whole;
+      whole = written_more _ _ _ c.push_pair.ensures.items p.values c.loop-i.invariant.whole;
     }
 
 pub loop-i-preserved : goal.loop-i-preserved
 loop-i-preserved c =
-    let i = c.loop-i.i in
-    let xs = c.args.data.now in
-    let set = c.loop-i.set in
-    let before = c.loop-i.values.items in
-    let single = ap (is_pair_next set) (sym (rest_is xs i)) ∙ sym c.is_pair_next.ensures ∙ c.if-is_pair_next.false in
-    let e = byte_at set xs i c.loop-i-test.true single in
-    let rest = rest_is xs (i + 1) in
-    let step = byte_values set (get_or xs i 0) (drop (i + 1) xs) in
-    let items : c.push_byte-set.new.values.items ≡ before ++ step.0 = c.push_byte-set.ensures.values.items
-    ∙ ap (λ ys. before ++ (byte_values set (get_or xs i 0) ys).0) rest in
-    let after : c.push_byte-set.result ≡ step.1 = c.push_byte-set.ensures.set
-    ∙ ap (λ ys. (byte_values set (get_or xs i 0) ys).1) rest in
+    let single = byte_in c.loop-i.set c.args.data.now c.loop-i.i _ c.loop-i-test.true c.is_pair_next.ensures
+    c.if-is_pair_next.false in
+    let rest = drop (c.loop-i.i + 1) c.args.data.now in
     record {
       within = omega arith;
       room = omega arith;
-      whole = ap (λ ys. ys ++ data_values c.push_byte-set.result (drop (i + 1) xs)) items
-          ∙ ap (λ s. (before ++ step.0) ++ data_values s (drop (i + 1) xs)) after
-          ∙ append_assoc before step.0 (data_values step.1 (drop (i + 1) xs)) ∙ ap (λ ys. before ++ ys) (sym e)
-          ∙ c.loop-i.invariant.whole;
+      whole = ap (λ set. c.push_byte-set.new.values.items ++ data_values set rest) c.push_byte-set.ensures.set
+          ∙ written_more _ _ _ c.push_byte-set.ensures.values.items single c.loop-i.invariant.whole;
     }
 
 pub returns-clause-characters : goal.returns-clause-characters

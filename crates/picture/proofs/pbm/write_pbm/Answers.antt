@@ -1,10 +1,18 @@
-use Rattle.std.proofs.Common.{◌≡◌, ◌++◌, [], ℕ, List, ap, sym, refl, ◌∙◌, arith, flat_map}
+use Rattle.std.proofs.Common.{◌≡◌, ◌<◌, ◌^◌, ◌++◌, Some, [], ℕ, List, ap, sym, refl, ◌∙◌, arith, flat_map}
 use Rattle.device.proofs.WritingLaws.{HasWritten-call, WritesText-begun, WritesText-last}
+use Rattle.picture.specs.Picture.{Picture}
 use Rattle.picture.specs.Private.Rows.{rows_text}
-use Rattle.picture.specs.Text.{pbm_header, pbm_piece, pbm_row, below}
+use Rattle.picture.specs.Reading.{pbm_pixels, raster}
+use Rattle.picture.specs.Text.{pbm_header, pbm_piece, pbm_row, pbm_text, below}
 use Rattle.picture.proofs.PbmLaws.{pbm_pixels-pbm_text}
 use Rattle.picture.proofs.WritingLaws.{pbm_rows}
 use Rattle.picture.proofs.pbm.write_pbm.Goals as goal
+
+-- the text of a picture that has columns is read back, where the code has the two sides as its numbers
+read_back : (p : Picture) {width height : ℕ} → 0 < p.width → width ≡ p.width → width < 2 ^ 64 → height ≡ p.height
+    → height < 2 ^ 64 → pbm_pixels (pbm_text p) ≡ Some (raster p)
+read_back p some as_width wide as_height high = pbm_pixels-pbm_text p
+    (record { some = some; wide = omega (arith, as_width, wide); high = omega (arith, as_height, high) })
 
 pub returns-in_err-write_whole-clause-writes : goal.returns-in_err-write_whole-clause-writes
 returns-in_err-write_whole-clause-writes g c =
@@ -17,11 +25,8 @@ returns-in_err-write_whole-clause-writes g c =
 
 pub returns-in_err-write_whole-clause-read : goal.returns-in_err-write_whole-clause-read
 returns-in_err-write_whole-clause-read g c some =
-    pbm_pixels-pbm_text (g.G.Grid.picture c.args.grid.now) (record {
-      some = some;
-      wide = omega (arith, c.width.ensures, c.width.type_inv);
-      high = omega (arith, c.height.ensures, c.height.type_inv);
-    })
+    read_back (g.G.Grid.picture c.args.grid.now) some c.width.ensures c.width.type_inv c.height.ensures
+    c.height.type_inv
 
 pub returns-clause-writes : goal.returns-clause-writes
 returns-clause-writes g c =
@@ -36,8 +41,5 @@ returns-clause-writes g c =
 
 pub returns-clause-read : goal.returns-clause-read
 returns-clause-read g c some =
-    pbm_pixels-pbm_text (g.G.Grid.picture c.args.grid.now) (record {
-      some = some;
-      wide = omega (arith, c.width.ensures, c.width.type_inv);
-      high = omega (arith, c.height.ensures, c.height.type_inv);
-    })
+    read_back (g.G.Grid.picture c.args.grid.now) some c.width.ensures c.width.type_inv c.height.ensures
+    c.height.type_inv
