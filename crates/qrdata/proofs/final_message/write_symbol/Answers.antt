@@ -26,58 +26,52 @@ interleave-requires-clause-whole c = rw (c.as_slice-2.ensures.value, c.lengths-l
 pub interleave-requires-clause-room : goal.interleave-requires-clause-room
 interleave-requires-clause-room c = omega (arith, ap length c.clear.ensures, c.have_blocks.ensures.total)
 
--- the error correction codewords that are written are those of the blocks, and each block has as many of them
-codewords_written : (c : After-as_slice-4) → c.as_slice-4.result.now
-    ≡ flat_map (ec_codewords_of (ec_codewords_per_block c.args.version c.args.level))
-    (split_by (block_lengths c.args.version c.args.level) c.args.message.now)
-codewords_written c = rw (
+-- each block has the same number of error correction codewords, and those of the blocks are written
+written : (c : After-as_slice-4)
+    → (c.as_slice-3.result.now ≡ replicate (length (block_lengths c.args.version c.args.level))
+    (ec_codewords_per_block c.args.version c.args.level))
+    × (c.as_slice-4.result.now ≡ flat_map (ec_codewords_of (ec_codewords_per_block c.args.version c.args.level))
+    (split_by (block_lengths c.args.version c.args.level) c.args.message.now))
+written c = rw (
+  c.as_slice-3.ensures.value,
+  c.push_lengths.ensures,
+  c.new-ec_lengths.ensures,
+  c.len.ensures.value,
   c.as_slice-4.ensures.value,
   c.push_ec_codewords.ensures,
   c.new-ec_codewords.ensures,
   c.as_slice.ensures.value,
   c.lengths-lengths.ensures,
   c.ec_codewords_per_block-count.ensures,
-) refl
-
-lengths_written : (c : After-as_slice-4) → c.as_slice-3.result.now
-    ≡ replicate (length (block_lengths c.args.version c.args.level)) (ec_codewords_per_block c.args.version c.args.level)
-lengths_written c = rw (
-  c.as_slice-3.ensures.value,
-  c.push_lengths.ensures,
-  c.new-ec_lengths.ensures,
-  c.len.ensures.value,
-  c.lengths-lengths.ensures,
-  c.ec_codewords_per_block-count.ensures,
-) refl
+) (refl, refl)
 
 pub interleave-requires-2-clause-whole : goal.interleave-requires-2-clause-whole
 interleave-requires-2-clause-whole c =
-    let here = (goal.at.interleave-requires-2-clause-whole c).After-as_slice-4 in
+    let each = written (goal.at.interleave-requires-2-clause-whole c).After-as_slice-4 in
     let k = ec_codewords_per_block c.args.version c.args.level in
-    rw (lengths_written here, codewords_written here) (sum_by-replicate (λ x. x)
-    (length (block_lengths c.args.version c.args.level)) k
+    rw (each.0, each.1) (sum_by-replicate (λ x. x) (length (block_lengths c.args.version c.args.level)) k
     ∙ (ap (λ n. n * k) c.have_blocks.ensures.count ∙ sym c.have_blocks.ensures.ec_blocks))
 
 pub interleave-requires-2-clause-room : goal.interleave-requires-2-clause-room
 interleave-requires-2-clause-room c =
     let lengths = block_lengths c.args.version c.args.level in
-    let written = codewords_written (goal.at.interleave-requires-2-clause-room c).After-as_slice-4 in
+    let each = written (goal.at.interleave-requires-2-clause-room c).After-as_slice-4 in
     let first : length c.interleave.new.out.items ≡ length c.args.message.now =
     ap length c.interleave.ensures ∙ (rw (c.clear.ensures, c.as_slice-2.ensures.value, c.lengths-lengths.ensures)
     (length-interleaving-split_by lengths c.args.message.now c.have_blocks.ensures.whole)) in
-    omega (arith, first, ap length written, c.have_blocks.ensures.ec_blocks, c.have_blocks.ensures.total)
+    omega (arith, first, ap length each.1, c.have_blocks.ensures.ec_blocks, c.have_blocks.ensures.total)
 
 pub returns : goal.returns
 unfolding final_message
 returns c =
-    let here = (goal.at.returns c).After-as_slice-4 in
+    let each = written (goal.at.returns c).After-as_slice-4 in
     rw (
       c.interleave-2.ensures,
       c.interleave.ensures,
       c.clear.ensures,
       c.as_slice-2.ensures.value,
-      lengths_written here,
-      codewords_written here,
+      each.0,
+      each.1,
       c.lengths-lengths.ensures,
       c.have_blocks.ensures.cut,
     ) refl
