@@ -193,16 +193,20 @@ pub record AtRow (v s t right y : ℕ) : Type 0 where
   pub column : right ≡ right_column (side_of v) s
   pub row : y ≡ row_of (side_of v) s t
 
--- a row of a strip that goes up, in a square of n modules, and one of a strip that goes down
-pub AtRow-up : {v n s t right y : ℕ} → s < (side_of v - 1) / 2 → t < side_of v → right ≡ right_column (side_of v) s
-    → n ≡ side_of v → s % 2 ≡ 0 → y ≡ n - 1 - t → AtRow v s t right y
-AtRow-up {v} {n} {s} {t} {right} {y} strip step column width even is =
-    record { strip = strip; step = step; column = column; row = row_up (side_of v) n s t y width even is }
-
-pub AtRow-down : {v s t right y : ℕ} → s < (side_of v - 1) / 2 → t < side_of v → right ≡ right_column (side_of v) s
-    → (s % 2 ≢ 0) → y ≡ t → AtRow v s t right y
-AtRow-down {v} {s} {t} {right} {y} strip step column odd is =
-    record { strip = strip; step = step; column = column; row = row_down (side_of v) s t y odd is }
+-- the row that a strip reaches in a square of n modules: an even strip goes up, an odd one down
+pub AtRow-reached : {v n s t right y : ℕ} → s < (side_of v - 1) / 2 → t < side_of v
+    → right ≡ right_column (side_of v) s → n ≡ side_of v → (s % 2 ≡ 0 → y ≡ n - 1 - t) → (s % 2 ≢ 0 → y ≡ t)
+    → AtRow v s t right y
+AtRow-reached {v} {n} {s} {t} {right} {y} strip step column width up down =
+    record {
+      strip = strip;
+      step = step;
+      column = column;
+      row = elim (cases_eq (s % 2) 0) [
+        | inl even ↦ row_up (side_of v) n s t y width even (up even)
+        | inr odd ↦ row_down (side_of v) s t y odd (down odd)
+      ];
+    }
 
 -- a module is in the square but not in column 6, and has this key
 pub record HasKey (v x y k : ℕ) : Type 0 where

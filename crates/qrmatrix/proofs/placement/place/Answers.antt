@@ -2,12 +2,12 @@ use Rattle.std.proofs.Common.{◌≡◌, ◌-◌, ◌*◌, ◌/◌, arith, ap, s
 use Rattle.qrdata.specs.Versions.{side_of}
 use Rattle.qrmatrix.specs.Square.{value_at}
 use Rattle.qrmatrix.specs.Private.CodewordPairs.{ArePairs}
-use Rattle.qrmatrix.proofs.CursorLaws.{AtRow, AtRow-down, AtRow-up, Placed-moved, placed_none, placed_pair, placed_two}
+use Rattle.qrmatrix.proofs.CursorLaws.{AtRow, AtRow-reached, Placed-moved, placed_none, placed_pair, placed_two}
 use Rattle.qrmatrix.proofs.CursorLaws.{light_ahead}
 use Rattle.qrmatrix.proofs.VersionLaws.{computed}
 use Rattle.qrmatrix.proofs.RankLaws.{outside_at, below_at}
 use Rattle.qrmatrix.proofs.placement.place.Goals as goal
-use Rattle.qrmatrix.proofs.placement.place.Goals.{then-strip-eq0, else-strip-eq0, then-are_free, else-are_free}
+use Rattle.qrmatrix.proofs.placement.place.Goals.{then-are_free, else-are_free}
 
 pub loop-strip-init : goal.loop-strip-init
 loop-strip-init c =
@@ -24,10 +24,8 @@ pub place_two-requires-clause-light : goal.place_two-requires-clause-light
 place_two-requires-clause-light c =
     let v = c.args.version in
     let i = c.loop-t.invariant in
-    let at : AtRow v c.loop-strip.strip c.loop-t.t c.if-strip-n.right c.if-strip-eq0.y = elim c.if-strip-eq0.branch [
-      | then-strip-eq0 w ↦ AtRow-up i.inside (omega arith) i.right i.width w.if-strip-eq0.true w.y-is
-      | else-strip-eq0 w ↦ AtRow-down i.inside (omega arith) i.right w.if-strip-eq0.false w.y-is
-    ] in
+    let at : AtRow v c.loop-strip.strip c.loop-t.t c.if-strip-n.right c.if-strip-eq0.y =
+    AtRow-reached i.inside (omega arith) i.right i.width (λ even. omega arith) (λ odd. omega arith) in
     light_ahead c.args.codewords.now.items _ c.args.function.now c.requires.marked at c.loop-t.modules c.loop-t.i i.placed
     (c.are_free.ensures c.if-are_free.true)
 
@@ -35,10 +33,8 @@ pub loop-t-preserved : goal.loop-t-preserved
 loop-t-preserved c =
     let known = computed c.args.version c.side-n.ensures.known.0 c.side-n.ensures.known.1 in
     let i = c.loop-t.invariant in
-    let at : AtRow c.args.version c.loop-strip.strip c.loop-t.t c.if-strip-n.right c.if-strip-eq0.y = elim c.if-strip-eq0.branch [
-      | then-strip-eq0 w ↦ AtRow-up i.inside (omega arith) i.right i.width w.if-strip-eq0.true w.y-is
-      | else-strip-eq0 w ↦ AtRow-down i.inside (omega arith) i.right w.if-strip-eq0.false w.y-is
-    ] in
+    let at : AtRow c.args.version c.loop-strip.strip c.loop-t.t c.if-strip-n.right c.if-strip-eq0.y =
+    AtRow-reached i.inside (omega arith) i.right i.width (λ even. omega arith) (λ odd. omega arith) in
     record {
       placed = elim c.if-are_free.branch [
         | then-are_free w ↦ Placed-moved
