@@ -25,7 +25,8 @@ byte_in : (set : CodeSet) (xs : List ℕ) (i : ℕ) (b : Bool) → i < length xs
 byte_in set xs i b lt is h = rw (rest_is xs (i + 1))
     (byte_at set xs i lt (ap (is_pair_next set) (sym (rest_is xs i)) ∙ sym is ∙ h))
 
--- the first values of those that are left are written
+-- the first values of those that are left are written; three of the lists are found from the hypotheses, which a turn of
+-- the loop has: what it wrote, how it cut what was left, and what held before it
 written_more : (before first rest : List ℕ) {now left all : List ℕ} → now ≡ before ++ first → left ≡ first ++ rest
     → before ++ left ≡ all → now ++ rest ≡ all
 written_more before first rest written cut whole = ap (λ ys. ys ++ rest) written ∙ append_assoc before first rest
