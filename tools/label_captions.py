@@ -20,7 +20,7 @@ TEXTS_AT_ONCE = 500
 
 
 @dataclass(frozen=True)
-class Held:
+class CompressedPicture:
     """A picture that waits for its page, packed small."""
 
     width: int
@@ -28,9 +28,9 @@ class Held:
     packed: bytes
 
     @staticmethod
-    def of(picture: Picture) -> "Held":
+    def of(picture: Picture) -> "CompressedPicture":
         """Packs a picture."""
-        return Held(picture.width, picture.height, zlib.compress(b"".join(picture.rows), 1))
+        return CompressedPicture(picture.width, picture.height, zlib.compress(b"".join(picture.rows), 1))
 
     def picture(self) -> Picture:
         """The picture again."""
@@ -97,7 +97,7 @@ class Letters:
         self.times = times
         self.most_letters = most_letters
         self.height = 0
-        self.drawn: Dict[str, Held] = {}
+        self.drawn: Dict[str, CompressedPicture] = {}
         self.faults: Dict[str, str] = {}
 
     def draw(self, texts: Sequence[str]) -> None:
@@ -135,4 +135,4 @@ class Letters:
         rows = iter(picture.rows)
         for text in texts:
             own = list(islice(rows, self.height))
-            self.drawn[text] = Held.of(trim(Picture(picture.width, self.height, own)))
+            self.drawn[text] = CompressedPicture.of(trim(Picture(picture.width, self.height, own)))
