@@ -208,6 +208,7 @@ class Believed(unittest.TestCase):
         self.change("crates/labelcore/specs/HeldLine.antt", "pub line_limit :", "pub line_bound :")
         status, said = self.check()
         self.assertEqual(status, 1)
+        self.assertIn("line_limit", said)
 
     def test_a_list_without_its_marks(self):
         self.change("docs/DEFINITIONS.md", "<!-- code: end -->", "")

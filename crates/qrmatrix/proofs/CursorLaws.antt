@@ -41,10 +41,10 @@ abbrev Writes : (ℕ → ℕ → Bool) → (ℕ → ℕ → Bool) → ℕ → �
 Writes old new x y value = (a b : ℕ) → new a b ≡ (if (a == x) && (b == y) then value else old a b)
 
 -- the row in a strip that goes up, and in one that goes down
-pub row_up : (side n strip t y : ℕ) → n ≡ side → strip % 2 ≡ 0 → y ≡ n - 1 - t → y ≡ row_of side strip t
+row_up : (side n strip t y : ℕ) → n ≡ side → strip % 2 ≡ 0 → y ≡ n - 1 - t → y ≡ row_of side strip t
 row_up side n strip t y e even is = is ∙ rw (eq-eqb (strip % 2) 0 even) (ap (λ z. z - 1 - t) e)
 
-pub row_down : (side strip t y : ℕ) → strip % 2 ≢ 0 → y ≡ t → y ≡ row_of side strip t
+row_down : (side strip t y : ℕ) → strip % 2 ≢ 0 → y ≡ t → y ≡ row_of side strip t
 row_down side strip t y odd is = is ∙ rw (ne_eqb (strip % 2) 0 odd) refl
 
 row_back : (b : Bool) (n t : ℕ) → t < n → cond b (n - 1 - cond b (n - 1 - t) t) (cond b (n - 1 - t) t) ≡ t
