@@ -97,7 +97,7 @@ def needs(*programs: str) -> None:
 
 
 def skip(message: str) -> NoReturn:
-    """Skips the test; with $NO_SKIP set, as in the merge gate, the test fails."""
+    """Skips the test; with $NO_SKIP set, the test fails."""
     raise AssertionError(message) if os.environ.get("NO_SKIP") else unittest.SkipTest(message)
 
 

@@ -124,6 +124,8 @@ class Pictures(unittest.TestCase):
 
 
 class Endings(unittest.TestCase):
+    tools: tuple = ("label-zpl", "label-escpos")
+
     def ended(self, tool: str, arguments: tuple, shell: str) -> tuple[int, str]:
         """The status and messages of a tool whose output goes elsewhere."""
         command = ["bash", "-c", shell, "sh", tool, *arguments]
@@ -131,24 +133,33 @@ class Endings(unittest.TestCase):
         return done.returncode, done.stderr.decode()
 
     def test_a_full_disk(self) -> None:
-        for tool in ("label-zpl", "label-escpos", "label-caption"):
+        for tool in self.tools:
             ended = self.ended(tool, TOOLS[tool], '"$@" > /dev/full')
             self.assertEqual(ended, (1, f"{tool}: standard output: No space left on device\n"))
 
     def test_a_closed_pipe(self) -> None:
-        for tool in ("label-zpl", "label-escpos", "label-caption"):
+        for tool in self.tools:
             ended = self.ended(tool, TOOLS[tool], '"$@" | true; exit "${PIPESTATUS[0]}"')
             self.assertEqual(ended, (1, f"{tool}: standard output: Broken pipe\n"))
 
     def test_a_closed_output(self) -> None:
-        for tool in ("label-zpl", "label-escpos", "label-caption"):
+        for tool in self.tools:
             ended = self.ended(tool, TOOLS[tool], '"$@" >&-')
             self.assertEqual(ended, (1, f"{tool}: standard output is closed\n"))
 
 
+class EndingsOfCaptions(Endings):
+    tools = ("label-caption",)
+
+    def setUp(self) -> None:
+        support.needs("pbmtext")
+
+
 class OneByOne(unittest.TestCase):
+    tools: tuple = ("label-zpl", "label-escpos")
+
     def test_a_label_is_written_as_soon_as_it_is_whole(self) -> None:
-        for tool in ("label-zpl", "label-escpos", "label-caption"):
+        for tool in self.tools:
             command = [str(support.TOOLS / tool), *TOOLS[tool]]
             pipes = {"stdin": subprocess.PIPE, "stdout": subprocess.PIPE, "env": support.environment()}
             with subprocess.Popen(command, **pipes) as process:
@@ -160,6 +171,15 @@ class OneByOne(unittest.TestCase):
                 process.stdin.close()
                 self.assertEqual((process.stdout.read(), process.wait()), (b"", 0))
 
+
+class CaptionsOneByOne(OneByOne):
+    tools = ("label-caption",)
+
+    def setUp(self) -> None:
+        support.needs("pbmtext")
+
+
+class Streams(unittest.TestCase):
     def test_a_long_stream_is_not_held(self) -> None:
         limit = "ulimit -v 120000 && exec " + '"$@"'
         for tool in ("label-zpl", "label-escpos", "label-fits"):
