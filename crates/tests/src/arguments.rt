@@ -12,7 +12,7 @@ use std::rt::Files;
 use std::test::Fail;
 
 /// The arguments of a command line.
-fn arguments_of(alloc: Global, texts: &[&str]) -> Result<Vec<String>, AllocError> {
+pub fn arguments_of(alloc: Global, texts: &[&str]) -> Result<Vec<String>, AllocError> {
     let mut arguments = Vec::new(alloc);
     for text in texts {
         arguments.push(String::from_str(alloc, text)?)?;

@@ -1,10 +1,10 @@
 //! Worked rows, the standards' listings, plain slow forms, devices that fail: the layers below the filter.
-mod bars;
+pub mod bars;
 mod buffered_bytes;
-mod codewords;
+pub mod codewords;
 mod field;
 mod limits;
-mod lines;
+pub mod lines;
 mod pictures;
 mod segments;
 mod streams;

@@ -1,4 +1,5 @@
 //! Names of files, long lists of arguments, and the help text, as far as no clause speaks of them.
+use crate::arguments::arguments_of;
 use crate::calls::kinds::KINDS;
 use crate::runs::support::low;
 use command::{ArgumentsFault, OpenFault, open_file, options_of};
@@ -7,7 +8,6 @@ use filter::{RunFault, run};
 use std::alloc::{AllocError, Allocator, Global};
 use std::fs::{File, Metadata, OpenOptions};
 use std::io::{self, ErrorKind};
-use std::process::Abort;
 use std::rt::Files;
 use std::test::Fail;
 
@@ -197,10 +197,7 @@ const MOST_ARGUMENTS: [&str; 15] = [
 #[test]
 fn the_longest_command_line_is_taken(rt: HostRuntime) -> Result<(), Fail> {
     let alloc = rt.alloc();
-    let mut arguments = Vec::new(alloc);
-    for argument in MOST_ARGUMENTS {
-        arguments.push(String::from_str(alloc, argument)?)?;
-    }
+    let mut arguments = arguments_of(alloc, &MOST_ARGUMENTS)?;
     assert!(rt; matches!(&options_of(alloc, arguments.as_slice()), Ok(_)));
     arguments.push(letters(alloc, 5000)?)?;
     assert!(rt; are_bad(alloc, arguments.as_slice()));
@@ -244,19 +241,15 @@ Example: echo 'ean13 400638133393' | labels --scale 4 --height 70 > pencil.pbm
 ";
 
 /// An argument asks for the whole help text.
-fn assert_helps(rt: &impl Abort, alloc: Global, argument: &str) -> Result<(), AllocError> {
-    let arguments = many(alloc, argument, 1)?;
-    match options_of(alloc, arguments.as_slice()) {
-        Err(ArgumentsFault::Help(text)) => assert!(rt; text.as_str() == HELP, "{argument}"),
-        _ => panic!(rt; "no help"),
-    }
-    Ok(())
-}
-
 #[test]
 fn the_help_text_is_whole(rt: HostRuntime) -> Result<(), Fail> {
+    let alloc = rt.alloc();
     for argument in ["--help", "-h"] {
-        assert_helps(&rt, rt.alloc(), argument)?;
+        let arguments = arguments_of(alloc, &[argument])?;
+        match options_of(alloc, arguments.as_slice()) {
+            Err(ArgumentsFault::Help(text)) => assert!(rt; text.as_str() == HELP, "{argument}"),
+            _ => panic!(rt; "no help"),
+        }
     }
     Ok(())
 }

@@ -8,6 +8,7 @@ use linear::{Ean8, Linear, Refusal, Row, coding_laws};
 use picture::{Bars, Framed, QuietZone, Scaled, write_pbm};
 use qrdata::{Codewords, Level, Version, choose, codewords};
 use qrmatrix::{Matrix, symbol_laws};
+use std::alloc::{AllocError, Global};
 use std::test::Fail;
 
 #[test]
@@ -142,27 +143,36 @@ fn page_of_command(rt: HostRuntime) -> Result<(), Fail> {
     Ok(())
 }
 
+/// The end of a line of the help text, which names a default.
+fn default_of(alloc: Global, front: &str, value: u16) -> Result<String, AllocError> {
+    format!(in alloc; "{front} [default: {value}]\n")
+}
+
 #[test]
 fn help_names_the_version_and_the_defaults(rt: HostRuntime) -> Result<(), Fail> {
     let alloc = rt.alloc();
     let mut arguments = Vec::new(alloc);
     arguments.push(String::from_str(alloc, "--help")?)?;
     let defaults = Options::default();
-    let scale = format!(in alloc;
-        "The width and height of a module in pixels [default: {}]\n",
-        defaults.scale()
-    )?;
-    let height = format!(in alloc; "symbols in modules [default: {}]\n", defaults.height())?;
-    let min_version = format!(in alloc;
-        "The smallest version of QR symbols [default: {}]\n",
-        defaults.min_version()
-    )?;
     match options_of(alloc, arguments.as_slice()) {
         Err(ArgumentsFault::Help(text)) => {
             assert!(rt; text.as_str().starts_with(VERSION));
-            assert!(rt; text.as_str().contains(scale.as_str()));
-            assert!(rt; text.as_str().contains(height.as_str()));
-            assert!(rt; text.as_str().contains(min_version.as_str()));
+            for (front, value) in [
+                (
+                    "The width and height of a module in pixels",
+                    u16::from(defaults.scale()),
+                ),
+                ("symbols in modules", defaults.height()),
+                (
+                    "The smallest version of QR symbols",
+                    u16::from(defaults.min_version()),
+                ),
+            ] {
+                assert!(rt;
+                    text.as_str()
+                        .contains(default_of(alloc, front, value)?.as_str())
+                );
+            }
             assert!(rt;
                 defaults.format() == Format::Pbm && text.as_str().contains("[default: pbm]\n")
             );

@@ -12,49 +12,16 @@ mod ean;
 mod qr;
 mod upca;
 
+use crate::layers::bars::{assert_row, encoded, push_widths};
 use linear::{Linear, Refusal, Row};
 use std::process::Abort;
-
-/// The row of elements of these widths in modules, a bar first.
-fn row_of(widths: &[u8]) -> Row {
-    let mut row = Row::new();
-    let mut dark = true;
-    for width in widths {
-        for _ in b'0'..*width {
-            let _ = row.try_push(dark);
-        }
-        dark = !dark;
-    }
-    row
-}
-
-/// What a symbology returns for data, and the row.
-fn encoded<L: Linear>(rt: &impl Abort, data: &[u8]) -> (Result<(), Refusal>, Row) {
-    assert!(rt; !data.is_empty());
-    let mut row = Row::new();
-    let result = L::encode(data, &mut row);
-    (result, row)
-}
-
-/// The data is drawn as this row.
-fn assert_row<L: Linear>(rt: &impl Abort, data: &[u8], want: &Row) {
-    let (result, row) = encoded::<L>(rt, data);
-    assert!(rt; result.is_ok(), "{data:?}");
-    assert!(rt; row.as_slice() == want.as_slice(), "{data:?}");
-}
-
-/// Each data is drawn as the row of these widths.
-fn assert_drawn<L: Linear>(rt: &impl Abort, rows: &[(&[u8], &[u8])]) {
-    for (data, widths) in rows {
-        assert_row::<L>(rt, data, &row_of(widths));
-    }
-}
 
 /// Full data, and the data without its check digit, are drawn as the row of these widths. With any other check digit
 /// the data is refused, and the refusal names the right one.
 fn assert_digits<L: Linear>(rt: &impl Abort, rows: &[(&[u8], &[u8])]) {
     for (full, widths) in rows {
-        let want = row_of(widths);
+        let mut want = Row::new();
+        push_widths(&mut want, widths);
         assert_row::<L>(rt, full, &want);
         assert!(rt; full.len() > 0 && full.len() <= 13);
         let last = full.len() - 1;

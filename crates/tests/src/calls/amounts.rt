@@ -1,34 +1,20 @@
 //! How many bytes a call moves. If it moved fewer, a run would take more time, which no clause speaks of.
+use crate::calls::kinds::{Counts, Failing};
 use crate::layers::support::{MOST_BUFFERED, flushes, gives, passes_on, takes, takes_some};
 use device::{Buffered, FailAt, MemSink, StdSink, StdSource};
-use std::io::{self, Read, Write};
-
-/// Fills each buffer, and takes each text.
-#[derive(Drop)]
-struct Whole;
-
-impl Read for Whole {
-    fn read(&mut self, buf: &mut [u8]) -> io::Result<usize> {
-        Ok(buf.len())
-    }
-}
-
-impl Write for Whole {
-    fn write(&mut self, bytes: &[u8]) -> io::Result<usize> {
-        Ok(bytes.len())
-    }
-
-    fn flush(&mut self) -> io::Result<()> {
-        Ok(())
-    }
-}
+use std::io::ErrorKind;
 
 /// Numbers of bytes.
 const AMOUNTS: [usize; 6] = [1, 512, 1024, 4096, 60_000, 65_536];
 
 #[test]
 fn a_reader_is_asked_for_a_whole_buffer(rt: HostRuntime) {
-    let mut source = StdSource::new(Whole);
+    let counts = Counts::new(usize::MAX);
+    let mut source = StdSource::new(Failing {
+        kind: ErrorKind::Other,
+        call: 0,
+        counts: &counts,
+    });
     let mut buf = [0; 65_536];
     for amount in AMOUNTS {
         assert!(rt;
@@ -40,7 +26,12 @@ fn a_reader_is_asked_for_a_whole_buffer(rt: HostRuntime) {
 
 #[test]
 fn a_writer_is_given_a_whole_text(rt: HostRuntime) {
-    let mut sink = StdSink::new(Whole);
+    let counts = Counts::new(usize::MAX);
+    let mut sink = StdSink::new(Failing {
+        kind: ErrorKind::Other,
+        call: 0,
+        counts: &counts,
+    });
     let text = [b'a'; 65_536];
     for amount in AMOUNTS {
         assert!(rt;

@@ -52,34 +52,35 @@ pub const KINDS: [ErrorKind; 42] = [
     ErrorKind::Uncategorized,
 ];
 
-/// Counts of the calls of a reader or a writer.
+/// Counts of the calls of a reader or a writer, and the most bytes that its next call moves.
 #[derive(Drop)]
-struct Counts {
+pub struct Counts {
     moves: Cell<u32>,
     flushes: Cell<u32>,
+    pub moved: Cell<usize>,
 }
 
 impl Counts {
-    fn new() -> Self {
+    pub fn new(moved: usize) -> Self {
         Counts {
             moves: Cell::new(0),
             flushes: Cell::new(0),
+            moved: Cell::new(moved),
         }
     }
 
     /// Whether there were `moves` reads or writes, and `flushes` flushes.
-    fn are(&self, moves: u32, flushes: u32) -> bool {
+    pub fn are(&self, moves: u32, flushes: u32) -> bool {
         self.moves.get() == moves && self.flushes.get() == flushes
     }
 }
 
-/// Moves `moved` bytes a call, and fails with an error of this kind at the call of this number, counted from 1.
+/// Counts its calls, and fails with an error of this kind at the call of this number, counted from 1; 0 is none.
 #[derive(Drop)]
-struct Failing<'a> {
-    kind: ErrorKind,
-    call: u32,
-    moved: usize,
-    counts: &'a Counts,
+pub struct Failing<'a> {
+    pub kind: ErrorKind,
+    pub call: u32,
+    pub counts: &'a Counts,
 }
 
 impl Failing<'_> {
@@ -96,14 +97,14 @@ impl Failing<'_> {
 impl Read for Failing<'_> {
     fn read(&mut self, buf: &mut [u8]) -> io::Result<usize> {
         self.count(&self.counts.moves)?;
-        Ok(self.moved.min(buf.len()))
+        Ok(self.counts.moved.get().min(buf.len()))
     }
 }
 
 impl Write for Failing<'_> {
     fn write(&mut self, bytes: &[u8]) -> io::Result<usize> {
         self.count(&self.counts.moves)?;
-        Ok(self.moved.min(bytes.len()))
+        Ok(self.counts.moved.get().min(bytes.len()))
     }
 
     fn flush(&mut self) -> io::Result<()> {
@@ -113,11 +114,10 @@ impl Write for Failing<'_> {
 
 /// Of three reads the one of this number fails, and no call of the reader is added or left out.
 fn assert_read_fails(rt: &impl Abort, kind: ErrorKind, failing: u32) {
-    let counts = Counts::new();
+    let counts = Counts::new(2);
     let mut source = StdSource::new(Failing {
         kind,
         call: failing,
-        moved: 2,
         counts: &counts,
     });
     let mut buf = [0; 4];
@@ -133,11 +133,10 @@ fn assert_read_fails(rt: &impl Abort, kind: ErrorKind, failing: u32) {
 
 /// Of three writes the one of this number fails, and then of three flushes. No call of the writer is added or left out.
 fn assert_write_fails(rt: &impl Abort, kind: ErrorKind, failing: u32) {
-    let counts = Counts::new();
+    let counts = Counts::new(2);
     let mut sink = StdSink::new(Failing {
         kind,
         call: failing,
-        moved: 2,
         counts: &counts,
     });
     for call in 1..4u32 {
@@ -171,11 +170,10 @@ fn each_kind_of_error_is_one_failed_call(rt: HostRuntime) {
 #[test]
 fn a_short_write_is_one_write_and_no_flush(rt: HostRuntime) {
     for moved in 0..16usize {
-        let counts = Counts::new();
+        let counts = Counts::new(moved);
         let mut sink = StdSink::new(Failing {
             kind: ErrorKind::Other,
             call: 0,
-            moved,
             counts: &counts,
         });
         let text = b"0123456789abcde";

@@ -6,7 +6,7 @@ use linear::{Code128, Ean8, Ean13, Linear, QuietZones, Refusal, Row, UpcA, codin
 use std::process::Abort;
 
 /// Draws data over an old row. Returns what the symbology returned, and the row.
-fn encoded<L: Linear>(rt: &impl Abort, data: &[u8]) -> (Result<(), Refusal>, Row) {
+pub fn encoded<L: Linear>(rt: &impl Abort, data: &[u8]) -> (Result<(), Refusal>, Row) {
     assert!(rt; !data.is_empty());
     let mut row = Row::new();
     row.push(true);
@@ -15,10 +15,10 @@ fn encoded<L: Linear>(rt: &impl Abort, data: &[u8]) -> (Result<(), Refusal>, Row
 }
 
 /// The data is drawn as this row.
-fn assert_row<L: Linear>(rt: &impl Abort, data: &[u8], want: &Row) {
+pub fn assert_row<L: Linear>(rt: &impl Abort, data: &[u8], want: &Row) {
     let (result, row) = encoded::<L>(rt, data);
-    assert!(rt; result.is_ok());
-    assert!(rt; row.as_slice() == want.as_slice());
+    assert!(rt; result.is_ok(), "{data:?}");
+    assert!(rt; row.as_slice() == want.as_slice(), "{data:?}");
 }
 
 /// Each data is drawn as the modules of a text of `0` and `1`.
@@ -32,8 +32,8 @@ fn assert_drawn<L: Linear>(rt: &impl Abort, rows: &[(&[u8], &[u8])]) {
     }
 }
 
-/// Adds modules of these widths to a row, a bar first. Spaces separate the characters.
-fn push_widths(row: &mut Row, widths: &[u8]) {
+/// Adds elements of these widths in modules to a row, a bar first. Spaces may separate the characters.
+pub fn push_widths(row: &mut Row, widths: &[u8]) {
     let mut dark = true;
     for width in widths {
         for _ in b'0'..*width {
@@ -44,7 +44,7 @@ fn push_widths(row: &mut Row, widths: &[u8]) {
 }
 
 /// Each data is drawn as a Code 128 row of these widths.
-fn assert_widths(rt: &impl Abort, rows: &[(&[u8], &[u8])]) {
+pub fn assert_widths(rt: &impl Abort, rows: &[(&[u8], &[u8])]) {
     for (data, widths) in rows {
         let mut want = Row::new();
         push_widths(&mut want, widths);

@@ -3,7 +3,8 @@ use crate::layers::support::version;
 use qrdata::{Codewords, DoesNotFit, Level, Mode, Plan, Segment, Version, choose, codewords};
 use std::process::Abort;
 
-fn planned<'a>(rt: &impl Abort, level: Level, min_version: u8, data: &'a [u8]) -> Plan<'a> {
+/// The plan of data, in the smallest version from this one on.
+pub fn planned<'a>(rt: &impl Abort, level: Level, min_version: u8, data: &'a [u8]) -> Plan<'a> {
     match choose(version(rt, min_version), level, data) {
         Ok(plan) => plan,
         Err(_) => panic!(rt; "data does not fit"),
@@ -22,7 +23,8 @@ fn expect_version(rt: &impl Abort, plan: &Plan, number: u8, bits: u32) {
     assert!(rt; plan.bits() == bits);
 }
 
-fn codewords_of(plan: &Plan) -> Codewords {
+/// The codewords of a plan, written over old ones.
+pub fn codewords_of(plan: &Plan) -> Codewords {
     let mut written = Codewords::new();
     written.push(7);
     codewords(plan, &mut written);
@@ -33,10 +35,6 @@ fn expect_codewords(rt: &impl Abort, codewords: &Codewords, from: usize, expecte
     let all = codewords.as_slice();
     assert!(rt; from <= all.len());
     assert!(rt; all[from..].starts_with(expected));
-}
-
-fn expect_segments(rt: &impl Abort, plan: &Plan, expected: &[Segment]) {
-    assert!(rt; plan.segments() == expected);
 }
 
 /// Each version's number, side, codewords, and data codewords at the levels L, M, Q and H.
@@ -53,13 +51,6 @@ const SIZES: [(u8, usize, usize, [usize; 4]); 10] = [
     (10, 57, 346, [274, 216, 154, 122]),
 ];
 
-fn expect_data_codewords(rt: &impl Abort, version: Version, data: &[usize; 4]) {
-    assert!(rt; version.data_codewords(Level::L) == data[0]);
-    assert!(rt; version.data_codewords(Level::M) == data[1]);
-    assert!(rt; version.data_codewords(Level::Q) == data[2]);
-    assert!(rt; version.data_codewords(Level::H) == data[3]);
-}
-
 #[test]
 fn sizes(rt: HostRuntime) {
     assert!(rt; Version::new(0).is_none());
@@ -71,7 +62,10 @@ fn sizes(rt: HostRuntime) {
         assert!(rt; version.number() == number);
         assert!(rt; version.side() == side);
         assert!(rt; version.total_codewords() == total);
-        expect_data_codewords(&rt, version, &data);
+        assert!(rt; version.data_codewords(Level::L) == data[0]);
+        assert!(rt; version.data_codewords(Level::M) == data[1]);
+        assert!(rt; version.data_codewords(Level::Q) == data[2]);
+        assert!(rt; version.data_codewords(Level::H) == data[3]);
     }
 }
 
@@ -183,7 +177,7 @@ fn known_symbols(rt: HostRuntime) {
     for (level, data, bits, segments, front) in KNOWN {
         let plan = planned(&rt, *level, 1, data);
         expect_version(&rt, &plan, 1, *bits);
-        expect_segments(&rt, &plan, segments);
+        assert!(rt; plan.segments() == *segments);
         let codewords = codewords_of(&plan);
         assert!(rt; codewords.len() == 26);
         expect_codewords(&rt, &codewords, 0, front);
@@ -278,14 +272,11 @@ fn interleaving_order(rt: HostRuntime) {
         data[usize::from(place)] = (place + 1) % 16 * 16 + (place + 2) / 16;
     }
     let plan = planned(&rt, Level::Q, 5, &data);
-    expect_segments(
-        &rt,
-        &plan,
-        &[Segment {
-            mode: Mode::Byte,
-            len: 60,
-        }],
-    );
+    let segment = Segment {
+        mode: Mode::Byte,
+        len: 60,
+    };
+    assert!(rt; plan.segments() == [segment].as_slice());
     let codewords = codewords_of(&plan);
     assert!(rt; codewords.len() == 62 + 72);
     expect_codewords(&rt, &codewords, 0, &IN_TURN);
@@ -334,7 +325,7 @@ fn fewest_bits(data: &[u8]) -> u32 {
 }
 
 /// The text whose characters are the digits of a number to the base 3, of which `1`, `A` and `a` are the digits.
-fn text_of(number: u32) -> [u8; 6] {
+pub fn text_of(number: u32) -> [u8; 6] {
     let characters = [b'1', b'A', b'a'];
     let mut text = [b'1'; 6];
     let mut rest = number;

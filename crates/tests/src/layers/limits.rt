@@ -1,5 +1,6 @@
 //! Both ends of each range of a setting, and the values just outside; the letters and places of messages
 //! (docs/SPECIFICATION.md, Settings, Refusals).
+use crate::layers::lines::held;
 use device::MemSink;
 use labelcore::{Fault, Format, Item, LineBuf, Options, Scratch, Symbology, parse, write_fault};
 use qrdata::Level;
@@ -9,12 +10,8 @@ use std::process::Abort;
 fn asked(rt: &impl Abort, line: &[u8], escapes: bool) -> Result<Options, Fault> {
     let options = Options::new(Format::Pbm, 1, 50, Level::M, 1, None, escapes);
     let options = options.expect(rt, "in range");
-    let mut held = LineBuf::new();
-    for byte in line {
-        held.push(*byte);
-    }
     let mut scratch = Scratch::new();
-    match parse(&options, &held, &mut scratch) {
+    match parse(&options, &held(line), &mut scratch) {
         Item::Drawn(_, own, _) => Ok(own),
         Item::Refused(fault) => Err(fault),
         Item::Skipped => panic!(rt; "a line that is skipped"),
@@ -171,12 +168,9 @@ fn places_of_bad_escapes(rt: HostRuntime) {
 fn bytes_of_units(rt: HostRuntime) {
     let options = Options::new(Format::Pbm, 1, 50, Level::M, 1, None, true);
     let options = options.expect(&rt, "in range");
-    let mut held = LineBuf::new();
-    for byte in b"qr a\\nb\\\\c\\x41\\xfF" {
-        held.push(*byte);
-    }
+    let line = held(b"qr a\\nb\\\\c\\x41\\xfF");
     let mut scratch = Scratch::new();
-    let item = parse(&options, &held, &mut scratch);
+    let item = parse(&options, &line, &mut scratch);
     assert!(rt; item == Item::Drawn(Symbology::Qr, options, b"a\nb\\cA\xFF"));
 }
 

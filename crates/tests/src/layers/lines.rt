@@ -17,7 +17,7 @@ fn row_options(rt: &impl Abort, level: Level, escapes: bool) -> Options {
 }
 
 /// A line that was read byte by byte.
-fn held(bytes: &[u8]) -> LineBuf {
+pub fn held(bytes: &[u8]) -> LineBuf {
     let mut line = LineBuf::new();
     for byte in bytes {
         line.push(*byte);

@@ -1,6 +1,7 @@
 //! Worked texts, and each public call once.
 mod widths;
 
+use crate::runs::support::line_ends;
 use device::{MemSink, write_whole};
 use picture::{Bars, Framed, Grid, QuietZone, Scaled, reading_laws, write_ascii, write_pbm};
 use std::process::Abort;
@@ -190,17 +191,6 @@ fn ascii_of_a_row(rt: HostRuntime) {
     assert!(rt; sink.bytes().ends_with(b"##              \n\n"));
 }
 
-/// Whether a line feed ends the line, and there is none elsewhere in it.
-fn is_line(line: &[u8]) -> bool {
-    let mut line_ends: usize = 0;
-    for byte in line {
-        if *byte == b'\n' {
-            line_ends = line_ends.saturating_add(1);
-        }
-    }
-    line_ends == 1 && line.ends_with(b"\n")
-}
-
 /// `ean8 7351353` at scale 8: eight lines of 1,296 letters and an empty line.
 #[test]
 fn ascii_of_large_pixels(rt: HostRuntime) {
@@ -212,7 +202,7 @@ fn ascii_of_large_pixels(rt: HostRuntime) {
     let (lines, rest) = sink.bytes().split_at(10376);
     assert!(rt; rest == b"\n".as_slice());
     for line in lines.chunks(1297) {
-        assert!(rt; is_line(line));
+        assert!(rt; line_ends(line) == 1 && line.ends_with(b"\n"));
     }
 }
 

@@ -2,6 +2,7 @@
 //! character counts.
 ghost use Rattle.std.specs.Prelude.{length, ◌≤◌, ◌<◌};
 
+use crate::layers::codewords::text_of;
 use crate::layers::support::version;
 use qrdata::{Level, Mode, Plan, Segment, Version, choose};
 use std::process::Abort;
@@ -232,16 +233,9 @@ impl Numbers {
 
 #[test]
 fn same_as_slow_on_short_texts(rt: HostRuntime) {
-    let characters = [b'1', b'A', b'a'];
     for (len, count) in [1, 3, 9, 27, 81, 243u32].iter().enumerate() {
         for number in 0..*count {
-            let mut text = [b'1'; 6];
-            let mut rest = number;
-            for character in text.iter_mut() {
-                *character = characters[(rest % 3) as usize];
-                rest /= 3;
-            }
-            expect_same(&rt, &text[..len]);
+            expect_same(&rt, &text_of(number)[..len]);
         }
     }
 }

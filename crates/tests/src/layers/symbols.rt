@@ -7,6 +7,8 @@ mod slow;
 use arrayvec::ArrayVec;
 use qrdata::{Codewords, Level, Version};
 use qrmatrix::{Matrix, symbol_laws};
+use slow::penalty::penalty;
+use slow::{mask_of_lowest_penalty, modules_under};
 
 /// The codewords of the digits 01234567 in version 1 at level M (ISO/IEC 18004, Annex I).
 const CODEWORDS: [u8; 26] = [
@@ -128,15 +130,19 @@ fn agrees(version: Version, level: Level, mask: Option<u8>, codewords: &Codeword
     requires mask { IfSome mask (λ k. k < 8) }
 {
     let matrix = Matrix::draw(version, level, mask, codewords);
-    let slow = slow::Symbol::draw(version, level, mask, codewords);
+    let slow_mask = match mask {
+        Some(mask) => mask,
+        None => mask_of_lowest_penalty(version, level, codewords),
+    };
+    let slow = modules_under(version, level, slow_mask, codewords);
     for y in 0..matrix.side() {
         for x in 0..matrix.side() {
-            if matrix.dark(x, y) != slow.dark(x, y) {
+            if matrix.dark(x, y) != slow.get(x, y) {
                 return false;
             }
         }
     }
-    matrix.mask() == slow.mask() && u64::from(matrix.penalty()) == slow.penalty()
+    matrix.mask() == slow_mask && u64::from(matrix.penalty()) == penalty(&slow, version.side())
 }
 
 /// Whether the symbols of a version and a level agree, with no mask given and with each.

@@ -2,7 +2,7 @@
 use crate::runs::support::{
     DEFAULT, EAN8, Named, feed_piece, finish, joined, low, result_of, result_of_piece,
 };
-use device::{MemSink, MemSource, Sink, StdSink, StdSource};
+use device::{MemSink, MemSource, StdSink, StdSource};
 use filter::{Filter, RunFault, Status};
 use labelcore::Options;
 use std::process::Abort;
@@ -84,12 +84,6 @@ fn assert_two_images(rt: &impl Abort, text: &[u8]) {
 const LATER_PIECES: &[&[u8]] = &[b"#\n", b"", b"ean8 7351353\n"];
 
 /// A filter that is spent takes no piece.
-fn assert_spent(rt: &impl Abort, filter: &mut Filter, out: &mut impl Sink, err: &mut impl Sink) {
-    for piece in LATER_PIECES {
-        assert!(rt; feed_piece(filter, piece, out, err) == Err(RunFault::Spent));
-    }
-}
-
 #[test]
 fn full_sink(rt: HostRuntime) {
     let options = Named {
@@ -103,7 +97,9 @@ fn full_sink(rt: HostRuntime) {
     let result = feed_piece(&mut filter, TWO_SYMBOLS, &mut out, &mut err);
     assert!(rt; result == Err(RunFault::WriteOut));
     assert_two_images(&rt, out.bytes());
-    assert_spent(&rt, &mut filter, &mut out, &mut err);
+    for piece in LATER_PIECES {
+        assert!(rt; feed_piece(&mut filter, piece, &mut out, &mut err) == Err(RunFault::Spent));
+    }
     assert!(rt; out.bytes().len() == 1000);
     assert!(rt; out.failures() == 1);
     assert!(rt; err.failures() == 0);

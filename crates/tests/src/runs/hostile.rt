@@ -5,7 +5,6 @@ use crate::runs::support::{
 };
 use device::{FailAt, MemSink, MemSource};
 use filter::{RunFault, Status};
-use labelcore::Options;
 use std::alloc::{AllocError, Global};
 use std::process::Abort;
 use std::test::Fail;
@@ -49,48 +48,28 @@ fn every_limit_of_the_messages(rt: HostRuntime) {
     }
 }
 
-/// A run whose devices fail at these calls, counted from 1; 0 is none. Each read and each write moves one byte.
-#[derive(Drop)]
-struct FailedRun<'a> {
-    result: Result<Status, RunFault>,
-    source: FailAt<MemSource<'a>>,
-    out: FailAt<MemSink<91>>,
-    err: FailAt<MemSink<39>>,
-}
-
-impl<'a> FailedRun<'a> {
-    fn new(options: Options, input: &'a [u8], read: u64, out: u64, err: u64) -> Self {
-        let mut source = FailAt::new(MemSource::new(input, 1, false), read);
-        let mut out = FailAt::new(MemSink::new(1, 91), out);
-        let mut err = FailAt::new(MemSink::new(1, 39), err);
-        let result = result_of(options, &mut source, &mut out, &mut err);
-        FailedRun {
-            result,
-            source,
-            out,
-            err,
-        }
-    }
-
-    /// The run returned this error after this many calls of each device, and the sinks have this many bytes of their
-    /// texts.
-    fn assert(
-        &self,
-        rt: &impl Abort,
-        fault: RunFault,
-        calls: (u64, u64, u64),
-        held: (usize, usize),
-    ) {
-        assert!(rt; self.result == Err(fault));
-        assert!(rt; self.source.calls() == calls.0);
-        assert!(rt; self.out.calls() == calls.1);
-        assert!(rt; self.err.calls() == calls.2);
-        let out = self.out.device().bytes();
-        let err = self.err.device().bytes();
-        assert!(rt; out.len() == held.0 && err.len() == held.1);
-        assert!(rt; EAN8.starts_with(out));
-        assert!(rt; TOO_LONG.starts_with(err));
-    }
+/// A run whose devices fail at these calls, of the source, the images and the messages, counted from 1; 0 is none. Each
+/// read and each write moves one byte. The run returns this error after this many calls of each device, and the sinks
+/// have this many bytes of their texts.
+fn assert_fails(
+    rt: &impl Abort,
+    input: &[u8],
+    failing: (u64, u64, u64),
+    fault: RunFault,
+    calls: (u64, u64, u64),
+    held: (usize, usize),
+) {
+    let mut source = FailAt::new(MemSource::new(input, 1, false), failing.0);
+    let mut out = FailAt::new(MemSink::<91>::new(1, 91), failing.1);
+    let mut err = FailAt::new(MemSink::<39>::new(1, 39), failing.2);
+    let result = result_of(low(rt, false), &mut source, &mut out, &mut err);
+    assert!(rt; result == Err(fault));
+    assert!(rt; (source.calls(), out.calls(), err.calls()) == calls);
+    let out = out.device().bytes();
+    let err = err.device().bytes();
+    assert!(rt; out.len() == held.0 && err.len() == held.1);
+    assert!(rt; EAN8.starts_with(out));
+    assert!(rt; TOO_LONG.starts_with(err));
 }
 
 #[test]
@@ -98,9 +77,15 @@ fn each_read_fails(rt: HostRuntime) -> Result<(), Fail> {
     let input = rather_long_lines(rt.alloc())?;
     assert!(rt; input.len() == 3116);
     for call in 1..3118 {
-        let failed = FailedRun::new(low(&rt, false), input.as_slice(), call, 0, 0);
         let err = if call <= 1102 { 0 } else { 39 };
-        failed.assert(&rt, RunFault::Read, (call, 0, err as u64), (0, err));
+        assert_fails(
+            &rt,
+            input.as_slice(),
+            (call, 0, 0),
+            RunFault::Read,
+            (call, 0, err as u64),
+            (0, err),
+        );
     }
     Ok(())
 }
@@ -109,9 +94,10 @@ fn each_read_fails(rt: HostRuntime) -> Result<(), Fail> {
 fn each_write_of_the_image_and_its_flush_fail(rt: HostRuntime) -> Result<(), Fail> {
     let input = rather_long_lines(rt.alloc())?;
     for call in 1..93 {
-        let failed = FailedRun::new(low(&rt, false), input.as_slice(), 0, call, 0);
-        failed.assert(
+        assert_fails(
             &rt,
+            input.as_slice(),
+            (0, call, 0),
             RunFault::WriteOut,
             (3117, call, 39),
             (call as usize - 1, 39),
@@ -124,29 +110,30 @@ fn each_write_of_the_image_and_its_flush_fail(rt: HostRuntime) -> Result<(), Fai
 fn each_write_of_the_message_and_its_flush_fail(rt: HostRuntime) -> Result<(), Fail> {
     let input = rather_long_lines(rt.alloc())?;
     for call in 1..40 {
-        let failed = FailedRun::new(low(&rt, false), input.as_slice(), 0, 0, call);
-        failed.assert(
+        assert_fails(
             &rt,
+            input.as_slice(),
+            (0, 0, call),
             RunFault::WriteMessages,
             (1102, 0, call),
             (0, call as usize - 1),
         );
     }
-    let failed = FailedRun::new(low(&rt, false), input.as_slice(), 0, 0, 40);
-    failed.assert(&rt, RunFault::WriteMessages, (3117, 92, 40), (91, 39));
+    assert_fails(
+        &rt,
+        input.as_slice(),
+        (0, 0, 40),
+        RunFault::WriteMessages,
+        (3117, 92, 40),
+        (91, 39),
+    );
     Ok(())
-}
-
-/// Ten million letters.
-fn ten_million_letters(alloc: Global) -> Result<Vec<u8>, AllocError> {
-    let thousand = repeated(alloc, b"a", 1000)?;
-    repeated(alloc, thousand.as_slice(), 10_000)
 }
 
 #[test]
 fn lines_of_ten_million_letters(rt: HostRuntime) -> Result<(), Fail> {
     let alloc = rt.alloc();
-    let letters = ten_million_letters(alloc)?;
+    let letters = repeated(alloc, &[b'a'; 1000], 10_000)?;
     assert!(rt; letters.len() == 10_000_000);
     let input = long_lines(alloc, letters.as_slice(), letters.as_slice())?;
     let ran = run_by(alloc, low(&rt, false), input.as_slice(), 4096);
@@ -189,12 +176,6 @@ fn every_byte(rt: HostRuntime) -> Result<(), Fail> {
 }
 
 /// The messages of the lines that ended are those of all lines, and at most the line that breaks off has one more.
-fn assert_messages(rt: &impl Abort, messages: &[u8], ended: usize) {
-    assert!(rt; first_lines(messages, ended) == first_lines(REFUSALS, ended));
-    let lines = line_ends(messages);
-    assert!(rt; lines == ended || lines == ended.saturating_add(1));
-}
-
 #[test]
 fn input_that_breaks_off(rt: HostRuntime) -> Result<(), Fail> {
     let alloc = rt.alloc();
@@ -206,7 +187,10 @@ fn input_that_breaks_off(rt: HostRuntime) -> Result<(), Fail> {
         let (images, messages) = (ran.out.as_slice(), ran.err.as_slice());
         assert_wrote(&rt, &ran, images, messages);
         assert_wrote(&rt, &run_by(alloc, options, front, 1), images, messages);
-        assert_messages(&rt, messages, line_ends(front));
+        let ended = line_ends(front);
+        assert!(rt; first_lines(messages, ended) == first_lines(REFUSALS, ended));
+        let lines = line_ends(messages);
+        assert!(rt; lines == ended || lines == ended.saturating_add(1));
     }
     Ok(())
 }

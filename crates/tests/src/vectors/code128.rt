@@ -1,7 +1,6 @@
 //! Code 128: data and its row. Every printable character of set B, every pair of set C and every control character of
 //! set A is here.
-use crate::vectors::assert_drawn;
-use linear::Code128;
+use crate::layers::bars::assert_widths;
 
 /// Rows of the test suites of zint and barcode. zint has some from ISO/IEC 15417 and the specifications of HIBC and
 /// DPD.
@@ -203,7 +202,7 @@ const CODE128_CONTROLS: &[(&[u8], &[u8])] = &[
 
 #[test]
 fn code128(rt: HostRuntime) {
-    assert_drawn::<Code128>(&rt, CODE128);
-    assert_drawn::<Code128>(&rt, CODE128_DRAWN);
-    assert_drawn::<Code128>(&rt, CODE128_CONTROLS);
+    assert_widths(&rt, CODE128);
+    assert_widths(&rt, CODE128_DRAWN);
+    assert_widths(&rt, CODE128_CONTROLS);
 }

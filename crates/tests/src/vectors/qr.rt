@@ -4,26 +4,18 @@ mod data_codewords;
 mod full_symbols;
 mod symbols;
 
-use crate::layers::support::version;
-use qrdata::{Codewords, Level, Plan, choose, codewords};
+use crate::layers::codewords::planned;
+use qrdata::{Codewords, Level, codewords};
 use qrmatrix::Matrix;
 use std::process::Abort;
 
 /// A version, a level and a mask.
 type Form = (u8, Level, u8);
 
-/// The plan of data, in the smallest version from this one on.
-fn plan_of<'a>(rt: &impl Abort, lowest: u8, level: Level, data: &'a [u8]) -> Plan<'a> {
-    match choose(version(rt, lowest), level, data) {
-        Ok(plan) => plan,
-        Err(_) => panic!(rt; "data does not fit"),
-    }
-}
-
 /// The symbol of data, in the smallest version from that of the form on.
 fn symbol_of(rt: &impl Abort, (lowest, level, mask): Form, data: &[u8]) -> Matrix {
     assert!(rt; mask < 8);
-    let plan = plan_of(rt, lowest, level, data);
+    let plan = planned(rt, level, lowest, data);
     let mut drawn = Codewords::new();
     codewords(&plan, &mut drawn);
     Matrix::draw(plan.version(), plan.level(), Some(mask), &drawn)

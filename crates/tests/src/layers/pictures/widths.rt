@@ -1,4 +1,5 @@
 //! Rows at the widths where their form changes, against the slow form, which asks for each pixel.
+use crate::runs::support::line_ends;
 use device::{IoFault, MemSink, Sink, write_whole};
 use picture::{Bars, Framed, Grid, QuietZone, write_ascii, write_pbm};
 use std::process::Abort;
@@ -33,23 +34,15 @@ impl Grid for Stripes {
     }
 }
 
-/// The letter of a pixel of a plain PBM file, with the line feed where a line ends.
-fn pbm_letter(dark: bool, ends_line: bool) -> &'static [u8] {
-    match (dark, ends_line) {
-        (false, false) => b"0",
-        (false, true) => b"0\n",
-        (true, false) => b"1",
-        (true, true) => b"1\n",
-    }
-}
-
 /// The rows of a plain PBM file, a pixel at a time.
 fn write_pbm_slowly<G: Grid, S: Sink>(grid: &G, sink: &mut S) -> Result<(), IoFault> {
     let width = grid.width();
     for y in 0..grid.height() {
         for x in 0..width {
-            let ends_line = x % 70 == 69 || x == width - 1;
-            write_whole(pbm_letter(grid.dark(x, y), ends_line), sink)?;
+            write_whole(if grid.dark(x, y) { b"1" } else { b"0" }, sink)?;
+            if x % 70 == 69 || x == width - 1 {
+                write_whole(b"\n", sink)?;
+            }
         }
     }
     Ok(())
@@ -64,16 +57,6 @@ fn write_ascii_slowly<G: Grid, S: Sink>(grid: &G, sink: &mut S) -> Result<(), Io
         write_whole(b"\n", sink)?;
     }
     write_whole(b"\n", sink)
-}
-
-fn line_ends(text: &[u8]) -> usize {
-    let mut count: usize = 0;
-    for byte in text {
-        if *byte == b'\n' {
-            count = count.saturating_add(1);
-        }
-    }
-    count
 }
 
 /// Both texts of the grid, of at most four rows.

@@ -1,62 +1,17 @@
 //! The slow form of a symbol: 57 by 57 truth values, drawn and counted module by module, and drawn anew for each mask.
 
 mod function;
-mod penalty;
+pub mod penalty;
 mod square;
 
-ghost use Rattle.std.specs.Prelude.{◌<◌, ◌≤◌, IfSome};
+ghost use Rattle.std.specs.Prelude.{◌<◌, ◌≤◌};
 
 use penalty::penalty;
 use qrdata::{Codewords, Level, Version};
 use square::Square;
 
-/// The modules of a symbol.
-#[derive(Drop)]
-pub struct Symbol {
-    side: usize,
-    mask: u8,
-    modules: Square,
-    ghost least: { 21 ≤ side },
-    ghost most: { side ≤ 57 },
-}
-
-impl Symbol {
-    /// Draws the codewords under the given mask, or else under the first with the lowest penalty.
-    pub fn draw(version: Version, level: Level, mask: Option<u8>, codewords: &Codewords) -> Symbol
-        requires { IfSome mask (λ k. k < 8) }
-    {
-        let mask = match mask {
-            Some(mask) => mask,
-            None => mask_of_lowest_penalty(version, level, codewords),
-        };
-        Symbol {
-            side: version.side(),
-            mask,
-            modules: modules_under(version, level, mask, codewords),
-        }
-    }
-
-    /// Whether the module at column `x` and row `y` is dark.
-    pub fn dark(&self, x: usize, y: usize) -> bool
-        requires column { x < 57 }
-        requires row { y < 57 }
-    {
-        self.modules.get(x, y)
-    }
-
-    /// The mask.
-    pub fn mask(&self) -> u8 {
-        self.mask
-    }
-
-    /// The penalty.
-    pub fn penalty(&self) -> u64 {
-        penalty(&self.modules, self.side)
-    }
-}
-
 /// The first mask with the lowest penalty.
-fn mask_of_lowest_penalty(version: Version, level: Level, codewords: &Codewords) -> u8
+pub fn mask_of_lowest_penalty(version: Version, level: Level, codewords: &Codewords) -> u8
     ensures { result < 8 }
 {
     let mut best = 0;
@@ -75,7 +30,7 @@ fn mask_of_lowest_penalty(version: Version, level: Level, codewords: &Codewords)
 }
 
 /// The modules of the symbol under a mask.
-fn modules_under(version: Version, level: Level, mask: u8, codewords: &Codewords) -> Square
+pub fn modules_under(version: Version, level: Level, mask: u8, codewords: &Codewords) -> Square
     requires { mask < 8 }
 {
     let n = version.side();

@@ -1,6 +1,7 @@
 //! Data and its data codewords.
-use super::{digit_at, plan_of};
-use qrdata::{Codewords, Level, codewords};
+use super::digit_at;
+use crate::layers::codewords::{codewords_of, planned};
+use qrdata::Level;
 use std::process::Abort;
 
 /// Data, the level of its symbol and its data codewords in hexadecimal digits: what the test suite of zint expects.
@@ -88,9 +89,8 @@ fn begin_with(written: &[u8], digits: &[u8]) -> bool {
 
 /// The symbol of data at a level begins with these codewords.
 fn assert_codewords(rt: &impl Abort, data: &[u8], level: Level, digits: &[u8]) {
-    let plan = plan_of(rt, 1, level, data);
-    let mut written = Codewords::new();
-    codewords(&plan, &mut written);
+    let plan = planned(rt, level, 1, data);
+    let written = codewords_of(&plan);
     assert!(rt;
         plan.version().data_codewords(level) == digits.len().div_ceil(3),
         "{data:?}"

@@ -43,15 +43,10 @@ fn version_information(version: Version) -> u32 {
     }
 }
 
-/// How far two coordinates are from one another.
-fn distance(a: usize, b: usize) -> usize {
-    if a < b { b - a } else { a - b }
-}
-
 /// The square ring round the centre (`a`, `b`) on which the module at column `x` and row `y` lies, the centre being
 /// ring 0.
 fn ring(a: usize, b: usize, x: usize, y: usize) -> usize {
-    distance(a, x).max(distance(b, y))
+    a.abs_diff(x).max(b.abs_diff(y))
 }
 
 /// The finder pattern with its separator that has its centre at (`a`, `b`).
@@ -180,12 +175,6 @@ fn alignment_over(n: usize, columns: &[usize], rows: &[usize], x: usize, y: usiz
     None
 }
 
-/// The alignment pattern that has the module.
-fn alignment(version: Version, x: usize, y: usize) -> Option<bool> {
-    let coordinates = alignment_coordinates(version);
-    alignment_over(version.side(), coordinates, coordinates, x, y)
-}
-
 /// Whether the module at column `x` and row `y` is dark, where the codewords do not choose it (ISO/IEC 18004, 6.3, 7.9
 /// and 7.10).
 pub fn fixed(version: Version, level: Level, mask: u8, x: usize, y: usize) -> Option<bool>
@@ -197,7 +186,8 @@ pub fn fixed(version: Version, level: Level, mask: u8, x: usize, y: usize) -> Op
     if let Some(dark) = finder(n, x, y) {
         return Some(dark);
     }
-    if let Some(dark) = alignment(version, x, y) {
+    let centres = alignment_coordinates(version);
+    if let Some(dark) = alignment_over(n, centres, centres, x, y) {
         return Some(dark);
     }
     if let Some(dark) = timing(x, y) {
