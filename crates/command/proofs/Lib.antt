@@ -2,3 +2,4 @@ pub mod Examples
 pub mod NamedLaws
 pub mod OneKindLaws
 pub mod ParsedLaws
+pub mod RuleLaws

@@ -44,18 +44,19 @@ picture_options = text_option (codes "format")
     ∷ number_option (codes "height") 1 500
     ∷ []
 
--- the options of QR symbols
+-- the options of symbols and of their data
 abbrev pub symbol_options : List Rule
 symbol_options = text_option (codes "level")
     ∷ number_option (codes "min-version") 1 10
     ∷ number_option (codes "mask") 0 7
+    ∷ switch (codes "escapes")
     ∷ []
 
 -- the command: its arguments come without the program's name
 abbrev pub command_line : App
 command_line = record {
   top = record (new_shape (codes "labels")) {
-    rules = picture_options ++ symbol_options ++ switch (codes "escapes") ∷ file_argument ∷ [];
+    rules = picture_options ++ symbol_options ++ file_argument ∷ [];
     no_binary_name = true;
   };
   subs = [];

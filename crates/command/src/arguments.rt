@@ -1,14 +1,12 @@
 //! The arguments of the command line.
-ghost use Rattle.std.specs.Prelude.{◌≡◌, IfOk, map, string_bytes};
-ghost use Rattle.clap.specs.Words.{app_of, found_of, kind_of, one_text, rows_of};
+ghost use Rattle.std.specs.Prelude.{◌≡◌, IfOk, Some, false, map, option_map, string_bytes};
+ghost use Rattle.clap.specs.Words.{app_of, built, found_of, kind_of, one_text, rows_of, rule_of};
+ghost use Rattle.command.specs.Choosing.{Chooses, Refuses};
 ghost use Rattle.command.specs.CommandLine.{command_line, file_argument, format_in, format_of, invocation_of};
 ghost use Rattle.command.specs.CommandLine.{invocation_refused, level_in, number_of, options_named, picture_options};
 ghost use Rattle.command.specs.CommandLine.{run_of, switch, symbol_options, text_option};
 ghost use Rattle.command.specs.Private.Checked.{HoldsNumber, HoldsValues};
-ghost use Rattle.command.specs.Private.Rules.{with_rules};
-ghost use Rattle.clap.specs.Words.{built, rule_of};
-ghost use Rattle.command.specs.Choosing.{Chooses, Refuses};
-ghost use Rattle.std.specs.Prelude.{Some, false, option_map};
+ghost use Rattle.command.specs.Private.Rules.{HaveRules};
 
 use clap::builder::ValueParser;
 use clap::error::ErrorKind;
@@ -120,73 +118,77 @@ fn built_command<'a>(alloc: Global) -> Result<Command<'a>, AllocError>
 fn command<'a>(alloc: Global) -> Result<Command<'a>, AllocError>
     ensures { IfOk result (λ c. app_of c ≡ command_line) }
 {
-    let command = Command::new(alloc, "labels")
+    let pictures = picture_options(alloc)?;
+    let symbols = symbol_options(alloc)?;
+    Command::new(alloc, "labels")
         .no_binary_name(true)
         .before_help(VERSION)
         .about(ABOUT)
-        .after_help(AFTER_HELP);
-    let command = with_pictures(alloc, command)?;
-    with_symbols(alloc, command)?
-        .arg(switch(
-            alloc,
-            "escapes",
-            "Read \\\\, \\n and \\xHH in the data as one byte each",
-        ))?
+        .after_help(AFTER_HELP)
+        .args(pictures)?
+        .args(symbols)?
         .arg(file_argument(alloc))
 }
 
-/// Adds the options of the pictures.
-fn with_pictures<'a>(alloc: Global, command: Command<'a>) -> Result<Command<'a>, AllocError>
-    ensures { IfOk result (λ c. app_of c ≡ with_rules (app_of command.entry) picture_options) }
+/// Returns the options of the pictures.
+fn picture_options<'a>(alloc: Global) -> Result<Vec<Arg<'a>>, AllocError>
+    ensures { IfOk result (λ options. HaveRules options.items picture_options) }
 {
-    command
-        .arg(text_option(
+    Ok(vec![in alloc;
+        text_option(
             alloc,
             "format",
             "pbm|ascii",
             "How pictures are written: as plain PBM or as text [default: pbm]",
-        ))?
-        .arg(number_option(
+        ),
+        number_option(
             alloc,
             "scale",
             "1-8",
             value_parser!(u8).range(1..=8),
             "The width and height of a module in pixels [default: 1]",
-        ))?
-        .arg(number_option(
+        ),
+        number_option(
             alloc,
             "height",
             "1-500",
             value_parser!(u16).range(1..=500),
             "The height of EAN, UPC and Code 128 symbols in modules [default: 50]",
-        ))
+        ),
+    ]?)
 }
 
-/// Adds the options of QR symbols.
-fn with_symbols<'a>(alloc: Global, command: Command<'a>) -> Result<Command<'a>, AllocError>
-    ensures { IfOk result (λ c. app_of c ≡ with_rules (app_of command.entry) symbol_options) }
+/// Returns the options of symbols and of their data.
+fn symbol_options<'a>(alloc: Global) -> Result<Vec<Arg<'a>>, AllocError>
+    ensures { IfOk result (λ options. HaveRules options.items symbol_options) }
 {
-    command
-        .arg(text_option(
+    Ok(vec![in alloc;
+        text_option(
             alloc,
             "level",
             "L|M|Q|H",
             "The error correction level of QR symbols [default: M]",
-        ))?
-        .arg(number_option(
+        ),
+        number_option(
             alloc,
             "min-version",
             "1-10",
             value_parser!(u8).range(1..=10),
             "The smallest version of QR symbols [default: 1]",
-        ))?
-        .arg(number_option(
+        ),
+        number_option(
             alloc,
             "mask",
             "0-7",
             value_parser!(u8).range(0..=7),
             "The mask of QR symbols [default: the mask with the lowest penalty]",
-        ))
+        ),
+        switch(
+            alloc,
+            "escapes",
+            "Read \\\\, \\n and \\xHH in the data as one byte each",
+        ),
+    ]?)
 }
 
 /// Returns the format of this name.
