@@ -32,7 +32,7 @@ import sources
 
 # What `rt version` prints of the kit that this script was written for: it calls functions of that kit, and reads the
 # lines that its check prints for people.
-KIT_ID = "rattle-kit-13b logic dac8208d650f15bf"
+KIT_ID = "rattle-kit-13f logic dac8208d650f15bf"
 KIT_NAMES = ("PARTS", "RATTLE", "guarded", "crates_below", "Crate.words", "Crate.below", "Crate.build_rlib")
 # The line of a function that was not proved for what is written in it, and not for what it calls.
 REFUSED = re.compile(r"not proved|no proof: expected answers|.*did not prove")
