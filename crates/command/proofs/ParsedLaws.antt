@@ -2,7 +2,8 @@
 use Rattle.std.proofs.Common.{◌≡◌, ◌∙◌, ◌<◌, ◌⊎◌, ◌==◌, ◌||◌, not, Err, ap, refl, sym, subst, codes, cond, drop, ℕ}
 use Rattle.std.proofs.Common.{zero, suc, Bool, true, false, List, [], ◌∷◌, length, map, Option, Some, None, inl, inr}
 use Rattle.std.proofs.Common.{arith}
-use Rattle.std.specs.Prelude.{IfSome, option_map, slice_get, pos, unwrap_or}
+use Rattle.std.specs.Prelude.{IfSome, Ok, Result, option_map, slice_get, pos, unwrap_or}
+use Rattle.std.specs.Result.{OnOk, is_err}
 use Rattle.std.specs.List.{All, slice_index_or}
 use Rattle.std.specs.Str.{bytes_eq}
 use Rattle.std.specs.Str.Parse.{IsNumeral, starts_with_minus, without_leading_plus}
@@ -243,6 +244,13 @@ pub still_built : (old new : Command) → app_of old ≡ built command_line → 
 still_built old new is whole (inl broken) = absurd (whole broken)
 still_built old new is whole (inr (builds, names, inl same)) = same ∙ is
 still_built old new is whole (inr (builds, names, inr again)) = again (ap is_buildable is) ∙ ap built is
+
+-- a build that succeeds builds the command line
+pub built_well : {V E : Type 0} (old new : Command) (result : Result V E) → false ≡ is_err result
+    → app_of old ≡ command_line → OnOk result (is_buildable (app_of old) ≡ true → app_of new ≡ built (app_of old))
+    → app_of new ≡ built command_line
+built_well old new (Ok v) good is shape = shape (ap is_buildable is) ∙ ap built is
+built_well old new (Err e) good is shape = cc
 
 -- ---- what a refused parse returns
 

@@ -6,9 +6,11 @@
 #![tactic(auto)]
 
 mod arguments;
+mod command_line;
 mod end;
 mod file;
 
-pub use arguments::{ArgumentsFault, Choice, VERSION, options_of};
+pub use arguments::{ArgumentsFault, Choice, options_of};
+pub use command_line::VERSION;
 pub use end::End;
 pub use file::{OpenFault, open_file};

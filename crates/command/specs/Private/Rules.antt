@@ -1,7 +1,23 @@
 -- How the command is put together.
-use Rattle.std.specs.Prelude.{◌≡◌, All, false, List, map}
-use Rattle.clap.specs.Words.{Rule, rule_of}
+use Rattle.std.specs.Prelude.{◌≡◌, All, Some, false, List, map}
+use Rattle.clap.specs.Words.{Rule, Text, new_rule, rule_of}
 use Rattle.clap.specs.declared.builder.arg.Arg.{Arg}
+use Rattle.clap.specs.declared.builder.value_parser.ValueParser.TheVariants as parser
+use Rattle.command.specs.CommandLine.{switch, text_option}
+use Rattle.command.specs.declared.command_line.Argument.{Argument}
+use Rattle.command.specs.declared.command_line.Takes.{Takes}
+use Rattle.command.specs.declared.command_line.Takes.TheVariants as takes
+
+-- the rule of an argument of this name
+abbrev pub rule_named : Text → Takes → Rule
+rule_named name (takes.Text value) = text_option name
+rule_named name (takes.Number value low high) = record (text_option name) { parser = Some (parser.Signed low high) }
+rule_named name takes.Nothing = switch name
+rule_named name (takes.File value) = record (new_rule name) { value_names = 1 }
+
+-- the rule of an argument of the table
+abbrev pub rule : Argument → Rule
+rule argument = rule_named argument.name.now argument.takes
 
 -- an argument of one command alone
 abbrev pub IsLocal : Arg → Type 0
