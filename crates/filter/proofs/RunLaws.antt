@@ -1,5 +1,5 @@
 -- From pieces to a run over a whole input.
-use Rattle.std.proofs.Common.{ℕ, Result, Ok, Err, List, [], ◌∷◌, ◌++◌, ◌+◌, length, ◌⊎◌, inl, inr, refl, subst, sym, ◌∙◌, Bool}
+use Rattle.std.proofs.Common.{ℕ, Result, Ok, Err, List, [], ◌∷◌, ◌++◌, ◌+◌, length, ◌⊎◌, inl, inr, refl, subst, sym, ◌∙◌, Bool, true, false}
 use Rattle.std.proofs.Common.{take, zero-add}
 use Rattle.std.proofs.lemmas.List.{append-nil}
 use Rattle.std.specs.Prelude.{◌≡◌, IfErr, IfOk, OnOk}
@@ -180,6 +180,19 @@ FlushesImagesFirst-after out' err' o e (Err Read) f = (λ h. o (f.0 h), λ h. e 
 FlushesImagesFirst-after out' err' o e (Err WriteOut) f = (λ h. o (f.0 h), λ h. e (f.1 h))
 FlushesImagesFirst-after out' err' o e (Err WriteMessages) f = λ h. e (f h)
 FlushesImagesFirst-after out' err' o e (Err Spent) f = (λ h. o (f.0 h), λ h. e (f.1 h))
+
+-- a filter that is not spent is not spent
+pub not_spent : {spent : Bool} → spent ≡ true → spent ≡ false → ⊥
+not_spent is isnt = cc
+
+module _ {first out before err : ℕ} (out' err' : ℕ) (o : out ≡ first) (e : err ≡ before) where
+  -- a fault of a sink, after calls in which no sink failed
+  pub RaisesOneCount-after : (fault : RunFault) → RaisesOneCount out out' err err' fault
+      → RaisesOneCount first out' before err' fault
+  RaisesOneCount-after Read r = r
+  RaisesOneCount-after WriteOut r = (subst (λ (n : ℕ). Rises n out') o r.0, r.1 ∙ e)
+  RaisesOneCount-after WriteMessages r = (r.0 ∙ o, subst (λ (n : ℕ). Rises n err') e r.1)
+  RaisesOneCount-after Spent r = r
 
 module _ {source source' first out before err : ℕ} (out' err' : ℕ) (s : source' ≡ source) (o : out ≡ first)
     (e : err ≡ before) where
