@@ -181,7 +181,7 @@ FlushesImagesFirst-after out' err' o e (Err WriteOut) f = (λ h. o (f.0 h), λ h
 FlushesImagesFirst-after out' err' o e (Err WriteMessages) f = λ h. e (f h)
 FlushesImagesFirst-after out' err' o e (Err Spent) f = (λ h. o (f.0 h), λ h. e (f.1 h))
 
--- a filter that is not spent is not spent
+-- no filter is both spent and not spent
 pub not_spent : {spent : Bool} → spent ≡ true → spent ≡ false → ⊥
 not_spent is isnt = cc
 
