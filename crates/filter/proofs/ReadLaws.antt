@@ -104,7 +104,7 @@ module _ (laws : ReadingLaws) (options : OptionValues) (low : 1 ≤ options.scal
       (r : Result (Result (Unit {0}) Fault) E) → DrawsModules sink old new options outcome r
       → DrawsOutcome sink old new options outcome r
   DrawsOutcome-modules sink old new outcome r h =
-      record { writes = h.writes; refusal = h.refusal; read = image_is_read outcome h.readable }
+      record { writes = h.writes; refusal = h.refusal; read = image_is_read outcome (h.readable laws) }
 
 module _ (laws : ReadingLaws) (options : OptionValues) where
   are_drawable : (symbols : List Symbol) → AllByRecursion (ImageIsRead options) symbols

@@ -1,16 +1,16 @@
 -- From pieces to a run over a whole input.
-use Rattle.std.proofs.Common.{ℕ, Result, Ok, Err, List, [], ◌∷◌, ◌++◌, ◌+◌, length, ◌⊎◌, inl, inr, refl, subst, sym}
+use Rattle.std.proofs.Common.{ℕ, Result, Ok, Err, List, [], ◌∷◌, ◌++◌, ◌+◌, length, ◌⊎◌, inl, inr, refl, subst, sym, ◌∙◌, Bool, true, false}
 use Rattle.std.proofs.Common.{take, zero-add}
 use Rattle.std.proofs.lemmas.List.{append-nil}
-use Rattle.std.specs.Prelude.{◌≡◌, IfErr, IfOk}
-use Rattle.device.specs.Device.{Begins}
+use Rattle.std.specs.Prelude.{◌≡◌, IfErr, IfOk, OnOk}
+use Rattle.device.specs.Device.{Begins, Rises, Unflushed}
 use Rattle.device.specs.Lines.{lines, ended_lines, open_line, unless_empty}
 use Rattle.filter.specs.Symbol.{Symbol}
-use Rattle.filter.specs.Line.{CountsFault, FailsInLine, RaisesOneCount}
+use Rattle.filter.specs.Line.{CountsFault, FailsInLine, FlushedImagesAtMost, FlushesImagesFirst, RaisesOneCount}
 use Rattle.labelcore.specs.LineItem.{Outcome}
 use Rattle.filter.specs.Output.{image_of, images, line_number, messages_after, outcome, status_of}
 use Rattle.filter.specs.Filter.{TookLines, StopsInLine, TookPiece, StopsInFinish, EndsInput}
-use Rattle.filter.specs.Run.{StopsInText, RunStops}
+use Rattle.filter.specs.Run.{StopsInText, RunStops, RunRaises}
 use Rattle.filter.specs.declared.status.RunFault.{RunFault}
 use Rattle.filter.specs.declared.status.Status.{Status}
 use Rattle.filter.specs.declared.status.RunFault.TheVariants.{Read, WriteOut, WriteMessages, Spent}
@@ -163,3 +163,49 @@ module _ (options : OptionValues) where
               ([], (image_of options (outcome options (byte ∷ bytes)), refl), none_out) in
               inl (StopsInLine-one options _ (took_err err' err'') (length (ended_lines text)) (byte ∷ bytes) WriteOut
               (begun, none_err))
+
+-- in a line no sink is flushed
+pub FlushedImagesAtMost-neither : {out out' err err' : Bool} → Unflushed out out' → Unflushed err err'
+    → (fault : RunFault) → FlushedImagesAtMost out out' err err' fault
+FlushedImagesAtMost-neither o e Read = (o, e)
+FlushedImagesAtMost-neither o e WriteOut = (o, e)
+FlushedImagesAtMost-neither o e WriteMessages = e
+FlushedImagesAtMost-neither o e Spent = (o, e)
+
+-- flushes after calls that flush no sink
+pub FlushesImagesFirst-after : {first out before err : Bool} (out' err' : Bool) → Unflushed first out
+    → Unflushed before err → (r : Result Status RunFault) → FlushesImagesFirst out out' err err' r → FlushesImagesFirst first out' before err' r
+FlushesImagesFirst-after out' err' o e (Ok status) f = f
+FlushesImagesFirst-after out' err' o e (Err Read) f = (λ h. o (f.0 h), λ h. e (f.1 h))
+FlushesImagesFirst-after out' err' o e (Err WriteOut) f = (λ h. o (f.0 h), λ h. e (f.1 h))
+FlushesImagesFirst-after out' err' o e (Err WriteMessages) f = λ h. e (f h)
+FlushesImagesFirst-after out' err' o e (Err Spent) f = (λ h. o (f.0 h), λ h. e (f.1 h))
+
+-- no filter is both spent and not spent
+pub not_spent : {spent : Bool} → spent ≡ true → spent ≡ false → ⊥
+not_spent is isnt = cc
+
+module _ {first out before err : ℕ} (out' err' : ℕ) (o : out ≡ first) (e : err ≡ before) where
+  -- a fault of a sink, after calls in which no sink failed
+  pub RaisesOneCount-after : (fault : RunFault) → RaisesOneCount out out' err err' fault
+      → RaisesOneCount first out' before err' fault
+  RaisesOneCount-after Read r = r
+  RaisesOneCount-after WriteOut r = (subst (λ (n : ℕ). Rises n out') o r.0, r.1 ∙ e)
+  RaisesOneCount-after WriteMessages r = (r.0 ∙ o, subst (λ (n : ℕ). Rises n err') e r.1)
+  RaisesOneCount-after Spent r = r
+
+module _ {source source' first out before err : ℕ} (out' err' : ℕ) (s : source' ≡ source) (o : out ≡ first)
+    (e : err ≡ before) where
+  -- a fault of a sink, as a run's
+  pub RunRaises-line : (text : List ℕ) (fault : RunFault) → RaisesOneCount out out' err err' fault
+      → RunRaises text source source' first out' before err' fault
+  RunRaises-line text Read r = absurd r
+  RunRaises-line text WriteOut r = (s, subst (λ (n : ℕ). Rises n out') o r.0, r.1 ∙ e)
+  RunRaises-line text WriteMessages r = (s, r.0 ∙ o, subst (λ (n : ℕ). Rises n err') e r.1)
+  RunRaises-line text Spent r = absurd r
+
+  -- at `Ok` no device failed
+  pub NoneFailed-after : (r : Result Status RunFault) → CountsFault out out' err err' r
+      → OnOk r ((source' ≡ source) × (out' ≡ first) × (err' ≡ before))
+  NoneFailed-after (Ok status) counts = (s, counts.0 ∙ o, counts.1 ∙ e)
+  NoneFailed-after (Err fault) counts = tt

@@ -1,18 +1,20 @@
 //! Drawing the symbol of a line.
-ghost use Rattle.std.specs.Prelude.{◌≡◌, ◌≢◌, ◌+◌, ◌≤◌, []};
+ghost use Rattle.std.specs.Prelude.{◌≡◌, ◌≢◌, ◌+◌, ◌≤◌, [], length};
 ghost use Rattle.device.specs.Writing.{WritesText};
 ghost use Rattle.labelcore.specs.LineItem.{outcome_of};
 ghost use Rattle.labelcore.specs.declared.symbology.Symbology.TheVariants.{Qr};
-ghost use Rattle.picture.specs.Picture.{enlargement, symbol_picture};
+ghost use Rattle.linear.specs.declared.limits.TheConstants.{MAX_MODULES};
+ghost use Rattle.picture.specs.Picture.{bars, symbol_picture};
+ghost use Rattle.picture.specs.ReadingLaws.{ReadingLaws};
 ghost use Rattle.qrdata.specs.Fewest.{chosen_segments};
 ghost use Rattle.filter.specs.Drawing.{DrawsOutcome};
 ghost use Rattle.filter.specs.Output.{text_of};
-ghost use Rattle.filter.specs.Private.LineEnd.{DrawsModules, IsLinear, IsReadable};
-ghost use Rattle.filter.specs.Symbol.{linear_symbol, qr_modules, symbol_of};
+ghost use Rattle.filter.specs.Private.LineEnd.{DrawsModules, IsLinear, IsReadable, beside, image_in};
+ghost use Rattle.filter.specs.Symbol.{linear_symbol, qr_modules, quiet_zone, symbol_of};
 
 use device::{IoFault, Sink};
 use labelcore::{Fault, Format, Options, Symbology};
-use linear::{Code128, Ean8, Ean13, Linear, Row, UpcA};
+use linear::{Code128, Ean8, Ean13, Linear, QuietZones, Row, UpcA};
 use picture::{Bars, Framed, Grid, QuietZone, Scaled, reading_laws, write_ascii, write_pbm};
 use qrdata::{Codewords, Plan, Version, choose, codewords};
 use qrmatrix::{Matrix, QUIET_ZONE};
@@ -59,20 +61,37 @@ fn draw_linear<L: Linear, O: Sink>(
         → DrawsModules O.Sink out.old out.new options.now
         (outcome_of (linear_symbol symbology L.row_of options.now (L.full_data bytes.now))) result }
 {
-    reading_laws();
     let mut row = Row::new();
-    if let Err(refusal) = L::encode(bytes, &mut row) {
-        return Ok(Err(Fault::from(refusal)));
+    match L::encode(bytes, &mut row) {
+        Ok(()) => {
+            write_bars(options, row.as_slice(), L::QUIET_ZONES, out)?;
+            Ok(Ok(()))
+        }
+        Err(refusal) => Ok(Err(Fault::from(refusal))),
     }
-    let bars = Bars::new(row.as_slice(), usize::from(options.height()));
+}
+
+/// Writes the image of a row as bars, with these quiet zones before and after it.
+fn write_bars<O: Sink>(
+    options: &Options,
+    row: &[bool],
+    zones: QuietZones,
+    out: &mut O,
+) -> Result<(), IoFault>
+    requires fits { length row.now ≤ MAX_MODULES }
+    requires narrow { zones.left + zones.right ≤ 20 }
+    ensures writes { WritesText O.Sink out.old out.new (image_in (beside zones) options.now
+        (bars row.now options.now.height)) result }
+    ensures height { (1 ≤ options.now.height) × (options.now.height ≤ 500) }
+{
+    let bars = Bars::new(row, usize::from(options.height()));
     let zone = QuietZone {
-        left: L::QUIET_ZONES.left,
-        right: L::QUIET_ZONES.right,
+        left: zones.left,
+        right: zones.right,
         top: 0,
         bottom: 0,
     };
-    write_picture(options, Framed::new(bars, zone), out)?;
-    Ok(Ok(()))
+    write_picture(options, bars, zone, out)
 }
 
 /// Draws a QR symbol.
@@ -88,17 +107,32 @@ fn draw_qr<O: Sink>(
     let min_version = Version::of(options.min_version());
     match choose(min_version, options.level(), bytes) {
         Ok(plan) => {
-            let zone = QuietZone {
-                left: QUIET_ZONE,
-                right: QUIET_ZONE,
-                top: QUIET_ZONE,
-                bottom: QUIET_ZONE,
-            };
-            write_picture(options, Framed::new(matrix_of(options, &plan), zone), out)?;
+            write_plan(options, &plan, out)?;
             Ok(Ok(()))
         }
         Err(refusal) => Ok(Err(Fault::from(refusal))),
     }
+}
+
+/// Writes the image of a plan.
+fn write_plan<O: Sink>(options: &Options, plan: &Plan, out: &mut O) -> Result<(), IoFault>
+    requires chosen { plan.now.segments ≡ chosen_segments plan.now.version plan.now.bytes }
+    requires level { plan.now.level ≡ options.now.level }
+    ensures writes { WritesText O.Sink out.old out.new (image_in (quiet_zone Qr) options.now
+        (qr_modules options.now plan.now.bytes plan.now.version)) result }
+    ensures read { ReadingLaws → IsReadable (record {
+      symbology = Qr;
+      full = plan.now.bytes;
+      modules = qr_modules options.now plan.now.bytes plan.now.version;
+    }) }
+{
+    let zone = QuietZone {
+        left: QUIET_ZONE,
+        right: QUIET_ZONE,
+        top: QUIET_ZONE,
+        bottom: QUIET_ZONE,
+    };
+    write_picture(options, matrix_of(options, plan), zone, out)
 }
 
 /// The symbol of a plan.
@@ -108,30 +142,29 @@ fn matrix_of(options: &Options, plan: &Plan) -> Matrix
     requires level { plan.now.level ≡ options.now.level }
     ensures modules { symbol_picture result ≡ qr_modules options.now plan.now.bytes plan.now.version }
     ensures side { result.side ≤ 57 }
-    ensures read { IsReadable (record {
+    ensures read { ReadingLaws → IsReadable (record {
       symbology = Qr;
       full = plan.now.bytes;
       modules = symbol_picture result;
     }) }
 {
-    reading_laws();
     let mut all = Codewords::new();
     codewords(plan, &mut all);
     Matrix::draw(plan.version(), plan.level(), options.mask(), &all)
 }
 
-/// Writes the text of a picture, enlarged by the scale of the options.
+/// Writes the image of a grid in its quiet zone, enlarged by the scale of the options.
 fn write_picture<G: Grid + Drop, O: Sink>(
     options: &Options,
     grid: G,
+    zone: QuietZone,
     out: &mut O,
 ) -> Result<(), IoFault>
-    requires width { (G.picture grid).width ≤ 1815 }
-    requires height { (G.picture grid).height ≤ 500 }
-    ensures { WritesText O.Sink out.old out.new
-        (text_of options.now.format (enlargement (G.picture grid) options.now.scale)) result }
+    requires width { zone.left + (G.picture grid).width + zone.right ≤ 1815 }
+    requires height { zone.top + (G.picture grid).height + zone.bottom ≤ 500 }
+    ensures { WritesText O.Sink out.old out.new (image_in zone options.now (G.picture grid)) result }
 {
-    let picture = Scaled::new(grid, usize::from(options.scale()));
+    let picture = Scaled::new(Framed::new(grid, zone), usize::from(options.scale()));
     write_text(options.format(), &picture, out)
 }
 

@@ -1,5 +1,6 @@
 //! Values by their names.
 ghost use Rattle.std.specs.Prelude.{◌≡◌};
+ghost use Rattle.std.specs.Str.{bytes_eq};
 ghost use Rattle.labelcore.specs.OptionValues.{level_named};
 
 use qrdata::Level;
@@ -9,15 +10,22 @@ use qrdata::Level;
 pub fn level_of(letter: &[u8]) -> Option<Level>
     ensures { result ≡ level_named letter.now }
 {
-    if letter == b"L".as_slice() {
+    if is_word(letter, b"L") {
         Some(Level::L)
-    } else if letter == b"M".as_slice() {
+    } else if is_word(letter, b"M") {
         Some(Level::M)
-    } else if letter == b"Q".as_slice() {
+    } else if is_word(letter, b"Q") {
         Some(Level::Q)
-    } else if letter == b"H".as_slice() {
+    } else if is_word(letter, b"H") {
         Some(Level::H)
     } else {
         None
     }
+}
+
+/// Returns whether a text is this word.
+pub fn is_word(text: &[u8], word: &[u8]) -> bool
+    ensures { result ≡ bytes_eq text.now word.now }
+{
+    text == word
 }

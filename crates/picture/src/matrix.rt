@@ -53,11 +53,12 @@ impl Grid for Matrix {
         let row = self.rows()[y];
         let fours = pixels.len() / 4;
         for k in 0..fours {
-            let four = four_bits(row, 4 * k);
-            pixels[4 * k] = four[0];
-            pixels[4 * k + 1] = four[1];
-            pixels[4 * k + 2] = four[2];
-            pixels[4 * k + 3] = four[3];
+            let x = 4 * k;
+            let four = four_bits(row, x);
+            pixels[x] = four[0];
+            pixels[x + 1] = four[1];
+            pixels[x + 2] = four[2];
+            pixels[x + 3] = four[3];
         }
         for x in 4 * fours..pixels.len() {
             pixels[x] = (row >> x) & 1 == 1;

@@ -9,13 +9,16 @@ use Rattle.device.specs.declared.sink.Sink.{Ghosts}
 use Rattle.filter.specs.Drawing.{refusal_of}
 use Rattle.labelcore.specs.OptionValues.{OptionValues}
 use Rattle.linear.specs.declared.linear.QuietZones.{QuietZones}
-use Rattle.filter.specs.Output.{image_of, message_of, is_refusal, status_of}
+use Rattle.filter.specs.Output.{image_of, message_of, is_refusal, status_of, text_of}
 use Rattle.filter.specs.Filter.{StopsInLine, TookLines}
 use Rattle.filter.specs.Line.{CountsFault, FailsInLine, FlushesImagesFirst}
 use Rattle.device.specs.Lines.{lines, ended_lines, open_line, unless_empty}
 use Rattle.filter.specs.Readback.{ReadsBack, read_modules}
 use Rattle.filter.specs.Symbol.{Symbol, quiet_zone}
+use Rattle.picture.specs.Picture.{Picture, enlargement, with_quiet_zone}
 use Rattle.picture.specs.Reading.{raster, common_row}
+use Rattle.picture.specs.ReadingLaws.{ReadingLaws}
+use Rattle.picture.specs.declared.quiet_zone.QuietZone.{QuietZone}
 use Rattle.qrdata.specs.Steps.{◌>>=◌}
 use Rattle.filter.specs.declared.status.RunFault.{RunFault}
 use Rattle.filter.specs.declared.status.RunFault.TheVariants.{WriteOut, WriteMessages}
@@ -49,11 +52,19 @@ pub record DrawsModules {S E : Type 0} (sink : Ghosts S) (old new : S) (options 
     (outcome : Outcome Symbol) (r : Result (Result (Unit {0}) Fault) E) : Type 0 where
   pub writes : WritesText sink old new (image_of options outcome) r
   pub refusal : IfOk r (λ drawn. drawn ≡ refusal_of outcome)
-  pub readable : HasReadable outcome
+  pub readable : ReadingLaws → HasReadable outcome
+
+-- the text of modules in a quiet zone, as the options say
+abbrev pub image_in : QuietZone → OptionValues → Picture → List ℕ
+image_in zone options modules = text_of options.format (enlargement (with_quiet_zone modules zone) options.scale)
+
+-- quiet zones before and after a row
+abbrev pub beside : QuietZones → QuietZone
+beside zones = record { left = zones.left; right = zones.right; top = 0; bottom = 0 }
 
 -- a symbology of one row, with these quiet zones before and after it, read by this rule
 pub record IsLinear (symbology : Symbology) (zones : QuietZones) (reading : List Bool → Option (List ℕ)) : Type 0 where
-  pub zone : quiet_zone symbology ≡ record { left = zones.left; right = zones.right; top = 0; bottom = 0 }
+  pub zone : quiet_zone symbology ≡ beside zones
   pub rule : (rows : List (List Bool)) → read_modules symbology rows ≡ common_row rows >>= reading
   pub none : reading [] ≡ None
 

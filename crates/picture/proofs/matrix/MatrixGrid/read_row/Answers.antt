@@ -1,6 +1,8 @@
 use Rattle.std.proofs.Common.{◌≡◌, ℕ, ◌+◌, ◌*◌, ◌<◌, Bool, false, List, length, length-set, set, get_or}
+use Rattle.std.proofs.Common.{◌/◌, ◌^◌, ◌==◌}
 use Rattle.std.proofs.Common.{get_or-set_same, get_or-set_other, ap, ◌∙◌, sym, refl, add-zero, arith, inl, inr}
 use Rattle.std.proofs.lemmas.Bool.{cases_eq, lt-ltb}
+use Rattle.std.proofs.lemmas.Nat.{and_mask}
 use Rattle.std.proofs.lemmas.List.FromFn.{fill_by_all}
 use Rattle.std.specs.Prelude.{slice_index}
 use Rattle.qrmatrix.specs.Bits.{bit}
@@ -62,3 +64,17 @@ pub returns : goal.returns
 returns c =
     fill_by_all (λ x. is_dark c.args.self.now x c.args.y) c.loop-x.pixels c.args.self.now.side false (omega arith)
     (λ k h. c.loop-x.invariant.made k (omega arith))
+
+pub loop-x-preserved : goal.loop-x-preserved
+loop-x-preserved c =
+    let x = c.loop-x.x in
+    let side = c.args.self.now.side in
+    let row = slice_index c.rows.result.now c.args.y in
+    let before : Begins (λ k. is_dark c.args.self.now k c.args.y) side c.loop-x.pixels x =
+    record { size = c.loop-x.invariant.size; made = c.loop-x.invariant.made } in
+    let wide : x < side = omega arith in
+    let shown : bit row x ≡ is_dark c.args.self.now x c.args.y = c.rows.ensures.bits x c.args.y
+    ∙ rw (lt-ltb x side wide, lt-ltb c.args.y side c.requires.in_height) refl in
+    let q = one_more (λ k. is_dark c.args.self.now k c.args.y) side c.loop-x.pixels x (x + 1) _ before wide refl
+    (ap (λ bits. bits == 1) (and_mask (row / 2 ^ x) 1) ∙ shown) in
+    record { size = q.size; made = q.made }

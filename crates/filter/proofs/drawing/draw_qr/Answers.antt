@@ -1,0 +1,29 @@
+use Rattle.std.proofs.Common.{refl}
+use Rattle.std.proofs.lemmas.Result.{err_from_is_err_and}
+use Rattle.filter.specs.Symbol.{symbol_of}
+use Rattle.filter.proofs.drawing.draw_qr.Goals as goal
+
+pub returns-in_err-write_plan-in-Ok : goal.returns-in_err-write_plan-in-Ok
+unfolding symbol_of
+returns-in_err-write_plan-in-Ok g c =
+    let p = err_from_is_err_and c.from_residual.result c.from_residual.ensures.1 in
+    let plan = c.in-Ok.ensures.plan in
+    let version = rw (c.of-min_version.ensures, c.min_version.ensures.value, c.level.ensures) at plan.version in
+    let written = c.in_err-write_plan-in-Ok.ensures.writes in
+    rw (p.1, version, ← plan.same_bytes) (record {
+      writes = record { bytes = written.bytes; count = written.count; unflushed = written.unflushed };
+      refusal = tt;
+      readable = c.in_err-write_plan-in-Ok.ensures.read;
+    })
+
+pub returns-in_ok-write_plan-in-Ok : goal.returns-in_ok-write_plan-in-Ok
+unfolding symbol_of
+returns-in_ok-write_plan-in-Ok g c =
+    let plan = c.in-Ok.ensures.plan in
+    let version = rw (c.of-min_version.ensures, c.min_version.ensures.value, c.level.ensures) at plan.version in
+    let written = c.in_ok-write_plan-in-Ok.ensures.writes in
+    rw (version, ← plan.same_bytes) (record {
+      writes = record { bytes = written.bytes; count = written.count; unflushed = written.unflushed };
+      refusal = refl;
+      readable = c.in_ok-write_plan-in-Ok.ensures.read;
+    })
