@@ -97,7 +97,7 @@ impl<S: Sink + Drop> Sink for Recorded<'_, S> {
 
 /// Lines: the front, how many letters `a` follow it, how many writes the picture takes (its header, and each row in
 /// pieces of 70 pixels), and why the line is refused. A line that is neither drawn nor refused is skipped.
-const LINES: &[(&[u8], usize, usize, &[u8])] = &[
+const LINES: [(&[u8], usize, usize, &[u8]); 20] = [
     (b"ean8 7351353", 0, 3, b""),
     (b"", 1101, 0, b"line is longer than 1100 bytes"),
     (b"# a comment", 0, 0, b""),
@@ -126,15 +126,14 @@ const ROUNDS: usize = 15;
 /// The lines, repeated. No line feed ends the last one.
 fn input_of(alloc: Global) -> Result<Vec<u8>, AllocError> {
     let mut input = Vec::new(alloc);
-    for _ in 0..ROUNDS {
-        for (front, letters, _, _) in LINES {
-            if !input.is_empty() {
-                input.push(b'\n')?;
-            }
-            input.extend_from_slice(front)?;
-            for _ in 0..*letters {
-                input.push(b'a')?;
-            }
+    for place in 0..ROUNDS * 20 {
+        let (front, letters, _, _) = LINES[place % 20];
+        if place > 0 {
+            input.push(b'\n')?;
+        }
+        input.extend_from_slice(front)?;
+        for _ in 0..letters {
+            input.push(b'a')?;
         }
     }
     Ok(input)
@@ -177,22 +176,19 @@ fn record_of(alloc: Global, len: usize, piece: usize) -> Result<Vec<u8>, Fail>
     let mut record = Vec::new(alloc);
     let mut end: usize = 0;
     let mut reads = 0;
-    let mut number: usize = 0;
-    for _ in 0..ROUNDS {
-        for (front, letters, writes, refusal) in LINES {
-            number = number.saturating_add(1);
-            end = end
-                .saturating_add(front.len())
-                .saturating_add(*letters)
-                .saturating_add(1);
-            let needed = end
-                .min(len)
-                .div_ceil(piece)
-                .saturating_add(usize::from(end > len));
-            add_reads(&mut record, reads, needed)?;
-            reads = needed;
-            add_line(alloc, &mut record, number, *writes, refusal)?;
-        }
+    for place in 0..ROUNDS * 20 {
+        let (front, letters, writes, refusal) = LINES[place % 20];
+        end = end
+            .saturating_add(front.len())
+            .saturating_add(letters)
+            .saturating_add(1);
+        let needed = end
+            .min(len)
+            .div_ceil(piece)
+            .saturating_add(usize::from(end > len));
+        add_reads(&mut record, reads, needed)?;
+        reads = needed;
+        add_line(alloc, &mut record, place + 1, writes, refusal)?;
     }
     record.extend_from_slice(&[FLUSH, FLUSH_OF_MESSAGES])?;
     Ok(record)
@@ -224,7 +220,7 @@ const PIECES: [usize; 3] = [13, 4096, 100_000];
 /// The bytes that the run asks for at each read.
 const BUFFER: usize = 4096;
 
-/// A run over the input, and the status that it ends with.
+/// A run over the input, `piece` bytes a read, whose status is that of refused lines.
 fn assert_runs(
     rt: &impl Abort,
     input: &[u8],
@@ -255,44 +251,36 @@ fn pictures(record: &RefCell<Vec<u8>>) -> Recorded<'_, MemSink<32768>> {
     }
 }
 
+/// The record of a run over the input whose pictures are buffered, or are not.
+fn record_of_run(
+    rt: &impl Abort,
+    alloc: Global,
+    input: &[u8],
+    piece: usize,
+    is_buffered: bool,
+) -> Vec<u8> {
+    let record = RefCell::new(Vec::new(alloc));
+    if is_buffered {
+        let mut out = Buffered::new(pictures(&record));
+        assert_runs(rt, input, piece, &record, &mut out);
+    } else {
+        assert_runs(rt, input, piece, &record, &mut pictures(&record));
+    }
+    record.into_inner()
+}
+
+/// Buffered pictures go out before each read and each message.
 #[test]
 fn the_calls_of_300_lines_are_in_order(rt: HostRuntime) -> Result<(), Fail> {
     let alloc = rt.alloc();
     let input = input_of(alloc)?;
     for piece in PIECES {
-        let want = record_of(alloc, input.len(), BUFFER.min(piece))?;
-        let record = RefCell::new(Vec::new(alloc));
-        assert_runs(
-            &rt,
-            input.as_slice(),
-            piece,
-            &record,
-            &mut pictures(&record),
-        );
-        assert!(rt;
-            record.into_inner().as_slice() == want.as_slice(),
-            "{piece} bytes a read"
-        );
-    }
-    Ok(())
-}
-
-#[test]
-fn buffered_pictures_of_300_lines_go_out_before_reads_and_messages(
-    rt: HostRuntime,
-) -> Result<(), Fail> {
-    let alloc = rt.alloc();
-    let input = input_of(alloc)?;
-    for piece in PIECES {
         let calls = record_of(alloc, input.len(), BUFFER.min(piece))?;
-        let want = buffered_record_of(alloc, calls.as_slice())?;
-        let record = RefCell::new(Vec::new(alloc));
-        let mut out = Buffered::new(pictures(&record));
-        assert_runs(&rt, input.as_slice(), piece, &record, &mut out);
-        assert!(rt;
-            record.into_inner().as_slice() == want.as_slice(),
-            "{piece} bytes a read"
-        );
+        let record = record_of_run(&rt, alloc, input.as_slice(), piece, false);
+        assert!(rt; record.as_slice() == calls.as_slice());
+        let buffered_calls = buffered_record_of(alloc, calls.as_slice())?;
+        let record = record_of_run(&rt, alloc, input.as_slice(), piece, true);
+        assert!(rt; record.as_slice() == buffered_calls.as_slice());
     }
     Ok(())
 }
