@@ -82,10 +82,7 @@ fn only_an_error_of_memory_is_no_memory(rt: HostRuntime) {
             OpenFault::NoFile
         };
         let files = Refusing { kind };
-        assert!(rt;
-            refusal_of(&files, rt.alloc(), "a-name") == Some(want),
-            "{kind:?}"
-        );
+        assert!(rt; refusal_of(&files, rt.alloc(), "a-name") == Some(want));
     }
 }
 
@@ -152,10 +149,7 @@ fn many_arguments_are_bad(rt: HostRuntime) -> Result<(), Fail> {
         let arguments = [argument; 1000];
         for count in COUNTS {
             if count >= first_bad {
-                assert!(rt;
-                    are_bad(rt.alloc(), &arguments[..count])?,
-                    "{argument} {count} times"
-                );
+                assert!(rt; are_bad(rt.alloc(), &arguments[..count])?);
             }
         }
     }
@@ -228,7 +222,7 @@ arguments (bad words), 3 reading, writing or opening FILE failed, or memory ran 
 Example: echo 'ean13 400638133393' | labels --scale 4 --height 70 > pencil.pbm
 ";
 
-/// An argument asks for the whole help text. It begins with the version, and the options have the defaults that it names.
+/// An argument asks for the whole help text. It begins with the version; the options have the defaults that it names.
 #[test]
 fn the_help_text_is_whole(rt: HostRuntime) -> Result<(), Fail> {
     let alloc = rt.alloc();

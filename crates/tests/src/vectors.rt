@@ -18,14 +18,17 @@ use crate::layers::bars::{assert_row, encoded};
 use linear::{Linear, Refusal};
 use std::process::Abort;
 
-/// Full data, and the data without its check digit, are drawn as the row of these widths. With any other check digit
-/// the data is refused, and the refusal names the right one.
-fn assert_digits<L: Linear>(rt: &impl Abort, rows: &[(&[u8], &[u8])]) {
-    for (full, widths) in rows {
-        assert!(rt; full.len() > 0 && full.len() <= 13);
-        let last = full.len() - 1;
+/// Each line of a table has `len` bytes: the digits of full data, a space, and the widths of its row. The data, and
+/// the data without its check digit, are drawn as the row of these widths. With any other check digit the data is
+/// refused, and the refusal names the right one.
+fn assert_digits<L: Linear>(rt: &impl Abort, digits: usize, len: usize, table: &[u8]) {
+    assert!(rt; 0 < digits && digits <= 13 && digits < len);
+    for line in table.chunks(len) {
+        assert!(rt; line.len() == len);
+        let (full, widths) = line.split_at(digits);
+        assert!(rt; full.len() == digits && widths.ends_with(b"\n"));
         assert_row::<L>(rt, full, widths);
-        assert_row::<L>(rt, &full[..last], widths);
+        assert_row::<L>(rt, &full[..digits - 1], widths);
         for digit in b'0'..b':' {
             assert!(rt; has_check_digit::<L>(rt, full, digit));
         }

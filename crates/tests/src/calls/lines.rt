@@ -97,7 +97,7 @@ impl<S: Sink + Drop> Sink for Recorded<'_, S> {
 
 /// Lines: the front, how many letters `a` follow it, how many writes the picture takes (its header, and each row in
 /// pieces of 70 pixels), and why the line is refused. A line that is neither drawn nor refused is skipped.
-const LINES: [(&[u8], usize, usize, &[u8]); 20] = [
+const LINES: &[(&[u8], usize, usize, &[u8])] = &[
     (b"ean8 7351353", 0, 3, b""),
     (b"", 1101, 0, b"line is longer than 1100 bytes"),
     (b"# a comment", 0, 0, b""),
@@ -126,14 +126,15 @@ const ROUNDS: usize = 15;
 /// The lines, repeated. No line feed ends the last one.
 fn input_of(alloc: Global) -> Result<Vec<u8>, AllocError> {
     let mut input = Vec::new(alloc);
-    for place in 0..ROUNDS * 20 {
-        let (front, letters, _, _) = LINES[place % 20];
-        if place > 0 {
-            input.push(b'\n')?;
-        }
-        input.extend_from_slice(front)?;
-        for _ in 0..letters {
-            input.push(b'a')?;
+    for _ in 0..ROUNDS {
+        for (front, letters, _, _) in LINES {
+            if !input.is_empty() {
+                input.push(b'\n')?;
+            }
+            input.extend_from_slice(front)?;
+            for _ in 0..*letters {
+                input.push(b'a')?;
+            }
         }
     }
     Ok(input)
@@ -176,19 +177,22 @@ fn record_of(alloc: Global, len: usize, piece: usize) -> Result<Vec<u8>, Fail>
     let mut record = Vec::new(alloc);
     let mut end: usize = 0;
     let mut reads = 0;
-    for place in 0..ROUNDS * 20 {
-        let (front, letters, writes, refusal) = LINES[place % 20];
-        end = end
-            .saturating_add(front.len())
-            .saturating_add(letters)
-            .saturating_add(1);
-        let needed = end
-            .min(len)
-            .div_ceil(piece)
-            .saturating_add(usize::from(end > len));
-        add_reads(&mut record, reads, needed)?;
-        reads = needed;
-        add_line(alloc, &mut record, place + 1, writes, refusal)?;
+    let mut number: usize = 0;
+    for _ in 0..ROUNDS {
+        for (front, letters, writes, refusal) in LINES {
+            number = number.saturating_add(1);
+            end = end
+                .saturating_add(front.len())
+                .saturating_add(*letters)
+                .saturating_add(1);
+            let needed = end
+                .min(len)
+                .div_ceil(piece)
+                .saturating_add(usize::from(end > len));
+            add_reads(&mut record, reads, needed)?;
+            reads = needed;
+            add_line(alloc, &mut record, number, *writes, refusal)?;
+        }
     }
     record.extend_from_slice(&[FLUSH, FLUSH_OF_MESSAGES])?;
     Ok(record)

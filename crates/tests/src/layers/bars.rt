@@ -14,7 +14,8 @@ pub fn encoded<L: Linear>(rt: &impl Abort, data: &[u8]) -> (Result<(), Refusal>,
     (result, row)
 }
 
-/// The row of elements of these widths in modules, a bar first. Spaces may separate the characters.
+/// The row of elements of these widths in modules, a bar first. Spaces may separate the characters, and a line end may
+/// follow.
 pub fn row_of(widths: &[u8]) -> Row {
     let mut row = Row::new();
     let mut dark = true;

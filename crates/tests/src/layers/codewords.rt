@@ -57,8 +57,8 @@ fn sizes(rt: HostRuntime) {
     }
 }
 
-/// The level, the version from which one is chosen, and which is chosen, the data, its bits, its segments, and the first
-/// codewords.
+/// The level, the version (the lowest one, which is chosen), the data, its bits, its segments, and the first codewords
+/// of its symbol.
 const KNOWN: &[(Level, u8, &[u8], u32, &[Segment], &[u8])] = &[
     (
         Level::M,

@@ -135,8 +135,8 @@ fn larger_pixels_are_asked(rt: HostRuntime) {
     reading_laws();
 }
 
-/// Whether a sink of up to `limit` bytes, which takes `piece` bytes a call, gets the beginning of a grid's plain PBM, and
-/// fails if that is not all of it.
+/// Whether a sink of up to `limit` bytes, which takes `piece` bytes a call, gets the beginning of a grid's plain PBM,
+/// and fails if that is not all of it.
 fn writes_pbm(grid: &impl Grid, piece: usize, limit: usize, want: &[u8]) -> bool
     requires piece { 0 < piece }
     requires limit { limit ≤ 5476 }

@@ -159,7 +159,7 @@ fn all_agree(version: Version, level: Level) -> bool {
 fn each_version_agrees_with_the_slow_form(rt: HostRuntime) {
     for number in 1..11u8 {
         for level in LEVELS {
-            assert!(rt; all_agree(Version::of(number), level), "version {number}");
+            assert!(rt; all_agree(Version::of(number), level));
         }
     }
 }

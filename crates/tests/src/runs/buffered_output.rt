@@ -35,7 +35,7 @@ P1\n81 1\n0000000101011101101111010110001001100101010100001010011101000010100010
 line 2: unknown symbology\n\
 P1\n81 1\n0000000101011101101111010110001001100101010100001010011101000010100010\n01010000000\n";
 
-/// Runs over lines that are drawn, refused and drawn, with both outputs into one text. No message stands after output
+/// Runs over lines that are drawn, refused and drawn, with both outputs into one text. No message comes after output
 /// that failed to go out.
 #[test]
 fn both_outputs_stand_in_the_order_of_the_lines(rt: HostRuntime) {

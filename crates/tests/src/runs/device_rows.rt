@@ -25,7 +25,7 @@ fn standard_devices(rt: HostRuntime) {
 }
 
 /// Pieces of the input, and the images after each.
-const PIECES: [(&[u8], &[u8]); 3] = [(b"", b""), (b"ean8 73", b""), (b"51353\nqr", EAN8)];
+const PIECES: &[(&[u8], &[u8])] = &[(b"", b""), (b"ean8 73", b""), (b"51353\nqr", EAN8)];
 
 #[test]
 fn pieces(rt: HostRuntime) {
@@ -35,7 +35,7 @@ fn pieces(rt: HostRuntime) {
     for (piece, images) in PIECES {
         assert!(rt;
             feed_piece(&mut filter, piece, &mut out, &mut err).is_ok()
-                && out.bytes() == images
+                && out.bytes() == *images
                 && err.bytes().is_empty()
         );
     }

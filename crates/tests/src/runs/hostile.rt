@@ -9,7 +9,7 @@ use std::alloc::{AllocError, Global};
 use std::process::Abort;
 use std::test::Fail;
 
-/// A run over devices that keep so many bytes of the images and of the messages ends so, and they keep these.
+/// A run over devices that keep this many bytes of images and of messages ends in this way, and they keep these.
 fn assert_limited(
     rt: &impl Abort,
     input: &[u8],

@@ -23,7 +23,7 @@ const LETTERS: Named = Named {
 const EAN8_ROW: &[u8] =
     b"0000000101011101101111010110001001100101010100001010011101000010100010\n01010000000\n";
 
-/// Options, lines, the header of the picture, and a row of it, which is there so many times.
+/// Options, lines, the header of the picture, and a row of it, which is there this many times.
 const DRAWN: &[(Named, &[u8], &[u8], &[u8], usize)] = &[
     (LOW, b"ean8 7351353\n", b"", EAN8, 1),
     (LOW, b"ean8 73513537\n", b"", EAN8, 1),

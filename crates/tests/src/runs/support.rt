@@ -161,30 +161,24 @@ pub fn run_by(alloc: Global, options: Options, input: &[u8], piece: usize) -> Ru
 
 /// Feeds the input in two pieces.
 pub fn fed(alloc: Global, options: Options, first: &[u8], second: &[u8]) -> RunResult {
-    let mut out = Vec::new(alloc);
-    let mut err = Vec::new(alloc);
-    let result = fed_into(
-        options,
-        first,
-        second,
-        &mut StdSink::new(&mut out),
-        &mut StdSink::new(&mut err),
-    );
-    RunResult { result, out, err }
-}
-
-/// Feeds the input in two pieces to a filter over these sinks.
-fn fed_into(
-    options: Options,
-    first: &[u8],
-    second: &[u8],
-    out: &mut StdSink<&mut Vec<u8>>,
-    err: &mut StdSink<&mut Vec<u8>>,
-) -> Result<Status, RunFault> {
+    let mut images = Vec::new(alloc);
+    let mut messages = Vec::new(alloc);
+    let mut out = StdSink::new(&mut images);
+    let mut err = StdSink::new(&mut messages);
     let mut filter = Filter::new(options);
-    feed_piece(&mut filter, first, out, err)?;
-    feed_piece(&mut filter, second, out, err)?;
-    finish(filter, out, err)
+    let mut fed = feed_piece(&mut filter, first, &mut out, &mut err);
+    if fed.is_ok() {
+        fed = feed_piece(&mut filter, second, &mut out, &mut err);
+    }
+    let result = match fed {
+        Ok(()) => finish(filter, &mut out, &mut err),
+        Err(fault) => Err(fault),
+    };
+    RunResult {
+        result,
+        out: images,
+        err: messages,
+    }
 }
 
 /// The text, `times` times.
