@@ -10,16 +10,110 @@ fn holds(sink: &Buffered<Counted<8>>, below: &[u8], buffered: &[u8]) -> bool {
     sink.sink().device().bytes() == below && sink.buffered() == buffered
 }
 
-/// The memory below has room for eight bytes.
+/// A call of a buffered sink.
+#[derive(Clone, Copy)]
+enum Call {
+    Write(&'static [u8]),
+    PassOn,
+    Flush,
+}
+
+/// A call, whether it succeeds, and after it the text of the memory below, what is buffered, and how many calls reached
+/// the sink below, where a number is given.
+type Step = (Call, bool, &'static [u8], &'static [u8], Option<u64>);
+
+/// How many bytes a sink in memory with room for eight takes at a call, the call that fails below, and the steps. Then
+/// how often the memory failed.
+const CALLS: &[(usize, u64, &[Step], u64)] = &[
+    // A write is buffered, passing on and a flush pass it on, and what there is no room for stays buffered.
+    (
+        3,
+        0,
+        &[
+            (Call::Write(b"abcd"), true, b"", b"abcd", None),
+            (Call::PassOn, true, b"abcd", b"", None),
+            (Call::Write(b"efghij"), true, b"abcd", b"efghij", None),
+            (Call::Flush, false, b"abcdefgh", b"ij", None),
+        ],
+        1,
+    ),
+    // A sink of one byte a call gets all bytes in order.
+    (
+        1,
+        0,
+        &[
+            (Call::Write(b"abcde"), true, b"", b"abcde", Some(0)),
+            (Call::PassOn, true, b"abcde", b"", Some(5)),
+            (Call::Write(b"fgh"), true, b"abcde", b"fgh", Some(5)),
+            (Call::Flush, true, b"abcdefgh", b"", Some(9)),
+        ],
+        0,
+    ),
+    // A call that fails leaves what did not go on, with two bytes a call.
+    (
+        2,
+        1,
+        &[
+            (Call::Write(b"abcde"), true, b"", b"abcde", None),
+            (Call::PassOn, false, b"", b"abcde", None),
+            (Call::Write(b"fgh"), true, b"", b"abcdefgh", None),
+            (Call::Flush, true, b"abcdefgh", b"", None),
+        ],
+        0,
+    ),
+    (
+        2,
+        2,
+        &[
+            (Call::Write(b"abcde"), true, b"", b"abcde", None),
+            (Call::PassOn, false, b"ab", b"cde", None),
+            (Call::Write(b"fgh"), true, b"ab", b"cdefgh", None),
+            (Call::Flush, true, b"abcdefgh", b"", None),
+        ],
+        0,
+    ),
+    (
+        2,
+        3,
+        &[
+            (Call::Write(b"abcde"), true, b"", b"abcde", None),
+            (Call::PassOn, false, b"abcd", b"e", None),
+            (Call::Write(b"fgh"), true, b"abcd", b"efgh", None),
+            (Call::Flush, true, b"abcdefgh", b"", None),
+        ],
+        0,
+    ),
+    // The fourth call is the flush below, at which nothing is buffered any more.
+    (
+        2,
+        4,
+        &[
+            (Call::Write(b"abcde"), true, b"", b"abcde", None),
+            (Call::Flush, false, b"abcde", b"", None),
+            (Call::Flush, true, b"abcde", b"", Some(5)),
+        ],
+        0,
+    ),
+];
+
 #[test]
-fn bytes_are_buffered(rt: HostRuntime) {
-    let mut sink = Buffered::new(FailAt::new(MemSink::<8>::new(3, 8), 0));
-    assert!(rt; takes(&mut sink, b"abcd") && holds(&sink, b"", b"abcd"));
-    assert!(rt; passes_on(&mut sink) && holds(&sink, b"abcd", b""));
-    assert!(rt;
-        takes(&mut sink, b"efghij") && !flushes(&mut sink) && holds(&sink, b"abcdefgh", b"ij")
-    );
-    assert!(rt; sink.sink().device().failures() == 1);
+fn calls_pass_bytes_on(rt: HostRuntime) {
+    for (piece, failing, steps, failures) in CALLS {
+        assert!(rt; *piece > 0);
+        let mut sink = Buffered::new(FailAt::new(MemSink::<8>::new(*piece, 8), *failing));
+        for (call, succeeds, below, buffered, calls) in *steps {
+            let is_ok = match call {
+                Call::Write(bytes) => takes(&mut sink, bytes),
+                Call::PassOn => passes_on(&mut sink),
+                Call::Flush => flushes(&mut sink),
+            };
+            let made = sink.sink().calls();
+            assert!(rt;
+                is_ok == *succeeds && holds(&sink, below, buffered) && calls.unwrap_or(made) == made
+            );
+        }
+        assert!(rt; sink.sink().device().failures() == *failures);
+    }
 }
 
 /// Whether a sink takes `count` bytes in all: 1,000 a write, and the rest in a last one.
@@ -60,53 +154,6 @@ fn a_full_room_goes_on_at_the_next_byte(rt: HostRuntime) {
                 && counts(&sink, *count, 0)
         );
     }
-}
-
-#[test]
-fn a_sink_of_one_byte_a_call_gets_all_bytes_in_order(rt: HostRuntime) {
-    let mut sink = Buffered::new(FailAt::new(MemSink::<8>::new(1, 8), 0));
-    assert!(rt; takes(&mut sink, b"abcde") && sink.sink().calls() == 0);
-    assert!(rt; passes_on(&mut sink) && sink.sink().calls() == 5);
-    assert!(rt;
-        takes(&mut sink, b"fgh")
-            && flushes(&mut sink)
-            && sink.sink().calls() == 9
-            && holds(&sink, b"abcdefgh", b"")
-    );
-}
-
-/// The call of the sink below at which a text that is passed on in pieces of two bytes fails, what is in the memory
-/// then, and what is left.
-const FAILING_CALLS: [(u64, &[u8], &[u8]); 3] = [
-    (1, b"", b"abcde"),
-    (2, b"ab", b"cde"),
-    (3, b"abcd", b"e"),
-];
-
-#[test]
-fn a_failing_call_leaves_what_did_not_go_on(rt: HostRuntime) {
-    for (call, sent, left) in FAILING_CALLS {
-        let mut sink = Buffered::new(FailAt::new(MemSink::<8>::new(2, 8), call));
-        assert!(rt;
-            takes(&mut sink, b"abcde") && !passes_on(&mut sink) && holds(&sink, sent, left)
-        );
-        assert!(rt;
-            takes(&mut sink, b"fgh") && flushes(&mut sink) && holds(&sink, b"abcdefgh", b"")
-        );
-    }
-}
-
-/// The fourth call is the flush below, at which nothing is buffered any more.
-#[test]
-fn a_flush_that_fails_below_buffers_nothing(rt: HostRuntime) {
-    let mut sink = Buffered::new(FailAt::new(MemSink::<8>::new(2, 8), 4));
-    assert!(rt;
-        takes(&mut sink, b"abcde")
-            && !flushes(&mut sink)
-            && holds(&sink, b"abcde", b"")
-            && flushes(&mut sink)
-            && sink.sink().calls() == 5
-    );
 }
 
 #[test]

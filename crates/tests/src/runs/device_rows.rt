@@ -24,44 +24,65 @@ fn standard_devices(rt: HostRuntime) {
     );
 }
 
-/// Pieces of the input, and the images after each.
-const PIECES: &[(&[u8], &[u8])] = &[(b"", b""), (b"ean8 73", b""), (b"51353\nqr", EAN8)];
+/// How many bytes the sink of images takes at a call, pieces of the input and the images after each, the status and the
+/// messages.
+type Fed = (
+    usize,
+    &'static [(&'static [u8], &'static [u8])],
+    Status,
+    &'static [u8],
+);
+
+const FED: &[Fed] = &[
+    (
+        7,
+        &[(b"", b""), (b"ean8 73", b""), (b"51353\nqr", EAN8)],
+        Status::Refused,
+        b"line 2: no data\n",
+    ),
+    // Single bytes: the image comes with the line end, and not before.
+    (
+        200,
+        &[
+            (b"e", b""),
+            (b"a", b""),
+            (b"n", b""),
+            (b"8", b""),
+            (b" ", b""),
+            (b"7", b""),
+            (b"3", b""),
+            (b"5", b""),
+            (b"1", b""),
+            (b"3", b""),
+            (b"5", b""),
+            (b"3", b""),
+            (b"\n", EAN8),
+        ],
+        Status::Clean,
+        b"",
+    ),
+];
 
 #[test]
-fn pieces(rt: HostRuntime) {
-    let mut filter = Filter::new(low(&rt, false));
-    let mut out: MemSink<200> = MemSink::new(7, 200);
-    let mut err: MemSink<200> = MemSink::new(200, 200);
-    for (piece, images) in PIECES {
+fn pieces_and_single_bytes(rt: HostRuntime) {
+    for (taken, pieces, status, messages) in FED {
+        assert!(rt; *taken > 0);
+        let mut filter = Filter::new(low(&rt, false));
+        let mut out: MemSink<200> = MemSink::new(*taken, 200);
+        let mut err: MemSink<200> = MemSink::new(200, 200);
+        for (piece, images) in *pieces {
+            assert!(rt;
+                feed_piece(&mut filter, piece, &mut out, &mut err).is_ok()
+                    && out.bytes() == *images
+                    && err.bytes().is_empty()
+            );
+        }
         assert!(rt;
-            feed_piece(&mut filter, piece, &mut out, &mut err).is_ok()
-                && out.bytes() == *images
-                && err.bytes().is_empty()
+            finish(filter, &mut out, &mut err) == Ok(*status)
+                && out.bytes() == EAN8
+                && err.bytes() == *messages
         );
     }
-    assert!(rt;
-        finish(filter, &mut out, &mut err) == Ok(Status::Refused)
-            && out.bytes() == EAN8
-            && err.bytes() == b"line 2: no data\n".as_slice()
-    );
-}
-
-/// The image comes with the line end, and not before.
-#[test]
-fn single_bytes(rt: HostRuntime) {
-    let mut filter = Filter::new(low(&rt, false));
-    let mut out: MemSink<200> = MemSink::new(200, 200);
-    let mut err: MemSink<200> = MemSink::new(200, 200);
-    for byte in b"ean8 7351353\n" {
-        assert!(rt;
-            out.bytes().is_empty() && feed_piece(&mut filter, &[*byte], &mut out, &mut err).is_ok()
-        );
-    }
-    assert!(rt;
-        out.bytes() == EAN8
-            && finish(filter, &mut out, &mut err) == Ok(Status::Clean)
-            && out.bytes() == EAN8
-    );
 }
 
 /// Two lines of a symbol each.
