@@ -63,26 +63,30 @@ const IN_RANGE: &[(&str, Named)] = &[
     ),
 ];
 
+/// Arguments that are bad: numbers beside their ranges, and others.
+const BAD: &[&[&str]] = &[
+    &["--scale=0"],
+    &["--scale=9"],
+    &["--height=0"],
+    &["--height=501"],
+    &["--min-version=0"],
+    &["--min-version=11"],
+    &["--mask=8"],
+    &["--scale", "9"],
+    &["--level", "l"],
+    &["--level", "Q", "--level", "M"],
+    &["--height"],
+    &["--mask", "8"],
+    &["a", "b"],
+];
+
 #[test]
-fn numbers_at_the_ends_of_their_ranges(rt: HostRuntime) -> Result<(), Fail> {
+fn numbers_at_the_ends_of_their_ranges_and_beside(rt: HostRuntime) -> Result<(), Fail> {
     for (argument, named) in IN_RANGE {
         assert!(rt; choice_of(rt.alloc(), &[*argument])?.options == named.options(&rt));
     }
-    Ok(())
-}
-
-#[test]
-fn numbers_beside_their_ranges(rt: HostRuntime) -> Result<(), Fail> {
-    for argument in [
-        "--scale=0",
-        "--scale=9",
-        "--height=0",
-        "--height=501",
-        "--min-version=0",
-        "--min-version=11",
-        "--mask=8",
-    ] {
-        assert!(rt; are_bad(rt.alloc(), &[argument])?);
+    for arguments in BAD {
+        assert!(rt; are_bad(rt.alloc(), arguments)?);
     }
     Ok(())
 }

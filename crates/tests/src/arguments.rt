@@ -35,33 +35,6 @@ pub fn are_bad(alloc: Global, texts: &[&str]) -> Result<bool, AllocError> {
     ))
 }
 
-#[test]
-fn refuses_bad_arguments(rt: HostRuntime) -> Result<(), Fail> {
-    let alloc = rt.alloc();
-    for arguments in [
-        ["--scale", "9"].as_slice(),
-        ["--level", "l"].as_slice(),
-        ["--level", "Q", "--level", "M"].as_slice(),
-        ["--height"].as_slice(),
-        ["--mask", "8"].as_slice(),
-        ["a", "b"].as_slice(),
-    ] {
-        assert!(rt; are_bad(alloc, arguments)?);
-    }
-    Ok(())
-}
-
-/// Whether arguments ask for a run with these options over this file.
-fn chooses(
-    alloc: Global,
-    texts: &[&str],
-    options: Option<Options>,
-    file: Option<&str>,
-) -> Result<bool, Fail> {
-    let choice = choice_of(alloc, texts)?;
-    Ok(Some(choice.options) == options && choice.file.as_deref() == file)
-}
-
 /// Arguments that name each option, and `-` as the file.
 const ALL_SETTINGS: &[&str] = &[
     "--format",
@@ -78,15 +51,6 @@ const ALL_SETTINGS: &[&str] = &[
     "--escapes",
     "-",
 ];
-
-#[test]
-fn names_settings(rt: HostRuntime) -> Result<(), Fail> {
-    let default = Options::new(Format::Pbm, 1, 50, Level::M, 1, None, false);
-    assert!(rt; chooses(rt.alloc(), &[], default, None)?);
-    let all = Options::new(Format::Ascii, 8, 1, Level::H, 10, Some(0), true);
-    assert!(rt; chooses(rt.alloc(), ALL_SETTINGS, all, Some("-"))?);
-    Ok(())
-}
 
 /// The arguments of worked labels, and the options that the tests of the filter draw these labels with.
 const WORKED: &[(&[&str], Named)] = &[
@@ -181,37 +145,20 @@ const WORKED: &[(&[&str], Named)] = &[
 
 #[test]
 fn names_the_options_of_worked_labels(rt: HostRuntime) -> Result<(), Fail> {
-    let alloc = rt.alloc();
     for (arguments, named) in WORKED {
-        assert!(rt; choice_of(alloc, arguments)?.options == named.options(&rt));
+        assert!(rt; choice_of(rt.alloc(), arguments)?.options == named.options(&rt));
     }
     Ok(())
 }
 
+/// No arguments, arguments that name each option, and `-` as the file.
 #[test]
-fn helps(rt: HostRuntime) -> Result<(), Fail> {
-    let alloc = rt.alloc();
-    let arguments = arguments_of(alloc, &["--help"])?;
-    match options_of(alloc, arguments.as_slice()) {
-        Err(ArgumentsFault::Help(text)) => {
-            for part in [
-                "\nUsage: labels [OPTIONS] [FILE]\n",
-                "--format <pbm|ascii>",
-                "--height <1-500>",
-                "[default: 50]",
-                "\nLines: NAME[,KEY=VALUE].. DATA",
-                "\n  ean13 ",
-                "\n  ean8 ",
-                "\n  upca ",
-                "\n  code128 ",
-                "\n  qr ",
-                "\nStatus: 0 ",
-            ] {
-                assert!(rt; text.as_str().contains(part));
-            }
-        }
-        _ => panic!(rt; "no help"),
-    }
+fn names_settings(rt: HostRuntime) -> Result<(), Fail> {
+    let none = choice_of(rt.alloc(), &[])?;
+    assert!(rt; none.options == DEFAULT.options(&rt) && none.file.is_none());
+    let all = choice_of(rt.alloc(), ALL_SETTINGS)?;
+    let options = Options::new(Format::Ascii, 8, 1, Level::H, 10, Some(0), true);
+    assert!(rt; Some(all.options) == options && all.file.as_deref() == Some("-"));
     Ok(())
 }
 
@@ -231,13 +178,6 @@ fn shows_faults(rt: HostRuntime) -> Result<(), Fail> {
         assert!(rt; shown.as_str() == *text);
     }
     Ok(())
-}
-
-#[test]
-fn finds_no_file(rt: HostRuntime) {
-    let opened = open_file(&rt, rt.alloc(), "there-is-no-such-file");
-    assert!(rt; matches!(&opened, Err(OpenFault::NoFile)));
-    assert!(rt; End::NoFile.line() == "labels: cannot open file\n" && End::NoFile.status() == 3);
 }
 
 /// Ends of the program, and the status and the line of each.
@@ -264,12 +204,9 @@ const ENDS: &[(End, u8, &str)] = &[
 #[test]
 fn ends(rt: HostRuntime) {
     for (end, status, line) in ENDS {
-        assert!(rt; end.status() == *status);
-        assert!(rt; end.line() == *line);
+        assert!(rt; end.status() == *status && end.line() == *line);
     }
 }
-
-const NAME: &str = "one-label.txt";
 
 /// The run of one label over a file, or `None` where memory ran out before it.
 fn run_of_file<R: Abort + Files>(
@@ -283,16 +220,16 @@ fn run_of_file<R: Abort + Files>(
         Err(ArgumentsFault::Memory) => return None,
         Err(_) => panic!(rt; "arguments refused"),
     };
-    let Some(name) = &choice.file else {
-        panic!(rt; "no file");
-    };
-    let mut source = match open_file(rt, alloc, name.as_str()) {
-        Ok(source) => source,
-        Err(OpenFault::Memory) => return None,
+    match open_file(rt, alloc, choice.file.as_deref().unwrap_or("no file")) {
+        Ok(mut source) => Some(run(
+            choice.options,
+            &mut source,
+            out,
+            &mut MemSink::<1>::new(1, 1),
+        )),
+        Err(OpenFault::Memory) => None,
         Err(OpenFault::NoFile) => panic!(rt; "not opened"),
-    };
-    let mut err: MemSink<1> = MemSink::new(1, 1);
-    Some(run(choice.options, &mut source, out, &mut err))
+    }
 }
 
 /// Writes a file of one label and runs over it. Returns whether memory sufficed; if not, there is no image.
@@ -302,14 +239,13 @@ fn draws_file<R: Abort + Files>(rt: &R, alloc: Global, name: &str) -> Result<boo
     let mut out: MemSink<91> = MemSink::new(91, 91);
     let result = run_of_file(rt, alloc, arguments.as_slice(), &mut out);
     let images = if result.is_some() { EAN8 } else { b"" };
-    assert!(rt; out.bytes() == images);
-    assert!(rt; matches!(result, None | Some(Ok(Status::Clean))));
+    assert!(rt; out.bytes() == images && matches!(result, None | Some(Ok(Status::Clean))));
     Ok(result.is_some())
 }
 
 #[test]
 fn runs_over_a_file_or_has_no_memory(rt: HostRuntime) -> Result<(), Fail> {
-    let _ = draws_file(&rt, rt.alloc(), NAME)?;
+    let _ = draws_file(&rt, rt.alloc(), "one-label.txt")?;
     Ok(())
 }
 

@@ -5,7 +5,7 @@ pub mod codewords;
 mod field;
 mod limits;
 pub mod lines;
-mod pictures;
+pub mod pictures;
 mod segments;
 mod streams;
 pub mod support;

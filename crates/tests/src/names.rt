@@ -1,10 +1,12 @@
 //! Names of files, long lists of arguments, and the help text, as far as no clause speaks of them.
-use crate::arguments::arguments_of;
+use crate::arguments::{are_bad, arguments_of, choice_of};
 use crate::calls::kinds::KINDS;
 use crate::runs::support::low;
-use command::{ArgumentsFault, OpenFault, open_file, options_of};
+use command::{ArgumentsFault, OpenFault, VERSION, open_file, options_of};
 use device::MemSink;
 use filter::{RunFault, run};
+use labelcore::{Format, Options};
+use qrdata::Level;
 use std::alloc::{AllocError, Allocator, Global};
 use std::fs::{File, Metadata, OpenOptions};
 use std::io::{self, ErrorKind};
@@ -80,10 +82,7 @@ fn only_an_error_of_memory_is_no_memory(rt: HostRuntime) {
             OpenFault::NoFile
         };
         let files = Refusing { kind };
-        assert!(rt;
-            refusal_of(&files, rt.alloc(), "a-name") == Some(want),
-            "{kind:?}"
-        );
+        assert!(rt; refusal_of(&files, rt.alloc(), "a-name") == Some(want));
     }
 }
 
@@ -108,15 +107,12 @@ const NO_FILES: [&str; 5] = [
 #[test]
 fn names_of_no_file_are_no_file(rt: HostRuntime) -> Result<(), Fail> {
     for name in NO_FILES {
-        assert!(rt;
-            refusal_of(&rt, rt.alloc(), name) == Some(OpenFault::NoFile),
-            "{name:?}"
-        );
+        assert!(rt; refusal_of(&rt, rt.alloc(), name) == Some(OpenFault::NoFile));
     }
     for count in [255, 256, 4095, 4096, 5000] {
         let name = letters(rt.alloc(), count)?;
         let refusal = refusal_of(&rt, rt.alloc(), name.as_str());
-        assert!(rt; refusal == Some(OpenFault::NoFile), "{count} letters");
+        assert!(rt; refusal == Some(OpenFault::NoFile));
     }
     Ok(())
 }
@@ -133,20 +129,6 @@ fn a_folder_can_not_be_read(rt: HostRuntime) {
     assert!(rt; result == Err(RunFault::Read));
 }
 
-/// An argument, `count` times.
-fn many(alloc: Global, argument: &str, count: usize) -> Result<Vec<String>, AllocError> {
-    let mut arguments = Vec::new(alloc);
-    for _ in 0..count {
-        arguments.push(String::from_str(alloc, argument)?)?;
-    }
-    Ok(arguments)
-}
-
-/// Whether arguments are refused as bad, and for no other reason.
-fn are_bad(alloc: Global, arguments: &[String]) -> bool {
-    matches!(&options_of(alloc, arguments), Err(ArgumentsFault::Bad))
-}
-
 /// Arguments, and how often each has to be there for the command line to be bad.
 const BAD_ARGUMENTS: [(&str, usize); 7] = [
     ("--no-such-option", 1),
@@ -158,17 +140,16 @@ const BAD_ARGUMENTS: [(&str, usize); 7] = [
     ("a-file", 2),
 ];
 
+/// How often an argument is there.
+const COUNTS: [usize; 9] = [1, 2, 3, 10, 15, 16, 30, 100, 1000];
+
 #[test]
 fn many_arguments_are_bad(rt: HostRuntime) -> Result<(), Fail> {
-    let alloc = rt.alloc();
     for (argument, first_bad) in BAD_ARGUMENTS {
-        for count in [1, 2, 3, 10, 15, 16, 30, 100, 1000] {
+        let arguments = [argument; 1000];
+        for count in COUNTS {
             if count >= first_bad {
-                let arguments = many(alloc, argument, count)?;
-                assert!(rt;
-                    are_bad(alloc, arguments.as_slice()),
-                    "{argument} {count} times"
-                );
+                assert!(rt; are_bad(rt.alloc(), &arguments[..count])?);
             }
         }
     }
@@ -197,10 +178,11 @@ const MOST_ARGUMENTS: [&str; 15] = [
 #[test]
 fn the_longest_command_line_is_taken(rt: HostRuntime) -> Result<(), Fail> {
     let alloc = rt.alloc();
-    let mut arguments = arguments_of(alloc, &MOST_ARGUMENTS)?;
-    assert!(rt; matches!(&options_of(alloc, arguments.as_slice()), Ok(_)));
-    arguments.push(letters(alloc, 5000)?)?;
-    assert!(rt; are_bad(alloc, arguments.as_slice()));
+    let long = letters(alloc, 5000)?;
+    let mut arguments = [long.as_str(); 16];
+    arguments[..15].copy_from_slice(&MOST_ARGUMENTS);
+    let _ = choice_of(alloc, &arguments[..15])?;
+    assert!(rt; are_bad(alloc, &arguments)?);
     Ok(())
 }
 
@@ -240,14 +222,16 @@ arguments (bad words), 3 reading, writing or opening FILE failed, or memory ran 
 Example: echo 'ean13 400638133393' | labels --scale 4 --height 70 > pencil.pbm
 ";
 
-/// An argument asks for the whole help text.
+/// An argument asks for the whole help text. It begins with the version; the options have the defaults that it names.
 #[test]
 fn the_help_text_is_whole(rt: HostRuntime) -> Result<(), Fail> {
     let alloc = rt.alloc();
+    let defaults = Options::new(Format::Pbm, 1, 50, Level::M, 1, None, false);
+    assert!(rt; HELP.starts_with(VERSION) && defaults == Some(Options::default()));
     for argument in ["--help", "-h"] {
         let arguments = arguments_of(alloc, &[argument])?;
         match options_of(alloc, arguments.as_slice()) {
-            Err(ArgumentsFault::Help(text)) => assert!(rt; text.as_str() == HELP, "{argument}"),
+            Err(ArgumentsFault::Help(text)) => assert!(rt; text.as_str() == HELP),
             _ => panic!(rt; "no help"),
         }
     }

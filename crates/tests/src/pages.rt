@@ -1,5 +1,5 @@
 //! The examples of the crates' pages (`crates/*/README.md`). `scripts/pages.py` compares them with the pages.
-use command::{ArgumentsFault, VERSION, options_of};
+use command::{ArgumentsFault, options_of};
 use device::{Buffered, MemSink, MemSource, Sink, write_whole};
 use filter::{Status, run};
 use gf256::Generator;
@@ -8,7 +8,6 @@ use linear::{Ean8, Linear, Refusal, Row, coding_laws};
 use picture::{Bars, Framed, QuietZone, Scaled, write_pbm};
 use qrdata::{Codewords, Level, Version, choose, codewords};
 use qrmatrix::{Matrix, symbol_laws};
-use std::alloc::{AllocError, Global};
 use std::test::Fail;
 
 #[test]
@@ -100,19 +99,6 @@ fn page_of_labelcore(rt: HostRuntime) {
 }
 
 #[test]
-fn options_by_steps(rt: HostRuntime) {
-    let options = Options::default()
-        .with_format(Format::Ascii)
-        .with_escapes(true);
-    let Some(options) = options.with_level(Level::H).with_scale(2) else {
-        panic!(rt; "2 is a scale");
-    };
-    assert!(rt; options.format() == Format::Ascii && options.scale() == 2 && options.escapes());
-    assert!(rt; options.with_scale(9).is_none() && options.with_height(0).is_none());
-    assert!(rt; options.with_min_version(11).is_none() && options.with_mask(Some(8)).is_none());
-}
-
-#[test]
 fn page_of_filter(rt: HostRuntime) {
     let Some(options) = Options::new(Format::Pbm, 1, 1, Level::M, 1, None, false) else {
         panic!(rt; "these are in their ranges");
@@ -139,48 +125,6 @@ fn page_of_command(rt: HostRuntime) -> Result<(), Fail> {
         }
         Err(ArgumentsFault::Memory) => {}
         Err(_fault) => panic!(rt; "refused"),
-    }
-    Ok(())
-}
-
-/// The end of a line of the help text, which names a default.
-fn default_of(alloc: Global, front: &str, value: u16) -> Result<String, AllocError> {
-    format!(in alloc; "{front} [default: {value}]\n")
-}
-
-#[test]
-fn help_names_the_version_and_the_defaults(rt: HostRuntime) -> Result<(), Fail> {
-    let alloc = rt.alloc();
-    let mut arguments = Vec::new(alloc);
-    arguments.push(String::from_str(alloc, "--help")?)?;
-    let defaults = Options::default();
-    match options_of(alloc, arguments.as_slice()) {
-        Err(ArgumentsFault::Help(text)) => {
-            assert!(rt; text.as_str().starts_with(VERSION));
-            for (front, value) in [
-                (
-                    "The width and height of a module in pixels",
-                    u16::from(defaults.scale()),
-                ),
-                ("symbols in modules", defaults.height()),
-                (
-                    "The smallest version of QR symbols",
-                    u16::from(defaults.min_version()),
-                ),
-            ] {
-                assert!(rt;
-                    text.as_str()
-                        .contains(default_of(alloc, front, value)?.as_str())
-                );
-            }
-            assert!(rt;
-                defaults.format() == Format::Pbm && text.as_str().contains("[default: pbm]\n")
-            );
-            assert!(rt; defaults.level() == Level::M && text.as_str().contains("[default: M]\n"));
-            assert!(rt; defaults.mask().is_none() && !defaults.escapes());
-        }
-        Err(ArgumentsFault::Memory) => {}
-        _ => panic!(rt; "no help"),
     }
     Ok(())
 }

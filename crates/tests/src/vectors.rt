@@ -12,41 +12,44 @@ mod ean;
 mod qr;
 mod upca;
 
-use crate::layers::bars::{assert_row, encoded, push_widths};
-use linear::{Linear, Refusal, Row};
+ghost use Rattle.std.specs.Prelude.{length, ◌≤◌, ◌<◌};
+
+use crate::layers::bars::{assert_row, encoded};
+use linear::{Linear, Refusal};
 use std::process::Abort;
 
-/// Full data, and the data without its check digit, are drawn as the row of these widths. With any other check digit
-/// the data is refused, and the refusal names the right one.
-fn assert_digits<L: Linear>(rt: &impl Abort, rows: &[(&[u8], &[u8])]) {
-    for (full, widths) in rows {
-        let mut want = Row::new();
-        push_widths(&mut want, widths);
-        assert_row::<L>(rt, full, &want);
-        assert!(rt; full.len() > 0 && full.len() <= 13);
-        let last = full.len() - 1;
-        assert_row::<L>(rt, &full[..last], &want);
-        assert_check_digit::<L>(rt, full, last);
+/// Each line of a table has `len` bytes: the digits of full data, a space, and the widths of its row. The data, and
+/// the data without its check digit, are drawn as the row of these widths. With any other check digit the data is
+/// refused, and the refusal names the right one.
+fn assert_digits<L: Linear>(rt: &impl Abort, digits: usize, len: usize, table: &[u8]) {
+    assert!(rt; 0 < digits && digits <= 13 && digits < len);
+    for line in table.chunks(len) {
+        assert!(rt; line.len() == len);
+        let (full, widths) = line.split_at(digits);
+        assert!(rt; full.len() == digits && widths.ends_with(b"\n"));
+        assert_row::<L>(rt, full, widths);
+        assert_row::<L>(rt, &full[..digits - 1], widths);
+        for digit in b'0'..b':' {
+            assert!(rt; has_check_digit::<L>(rt, full, digit));
+        }
     }
 }
 
-/// With any other digit at its end the data is refused, and the refusal names the digit that is there.
-fn assert_check_digit<L: Linear>(rt: &impl Abort, full: &[u8], last: usize) {
-    assert!(rt; last < 13 && full.len() == last + 1);
+/// Whether data with this digit at its end is drawn if it is the digit that is there, and else refused by the refusal
+/// that names the right one.
+fn has_check_digit<L: Linear>(rt: &impl Abort, full: &[u8], digit: u8) -> bool
+    requires least { 0 < length full.now }
+    requires most { length full.now ≤ 13 }
+{
+    let last = full.len() - 1;
     let right = full[last];
-    for digit in b'0'..b':' {
-        let mut other = [b'0'; 13];
-        other[..last].copy_from_slice(&full[..last]);
-        other[last] = digit;
-        let (result, _) = encoded::<L>(rt, &other[..last + 1]);
-        let want = if digit == right {
-            Ok(())
-        } else {
-            Err(Refusal::WrongCheckDigit {
-                given: digit.wrapping_sub(b'0'),
-                right: right.wrapping_sub(b'0'),
-            })
-        };
-        assert!(rt; result == want, "{full:?} with {digit}");
-    }
+    let mut other = [b'0'; 13];
+    other[..last].copy_from_slice(&full[..last]);
+    other[last] = digit;
+    let (result, _) = encoded::<L>(rt, &other[..last + 1]);
+    let refusal = Refusal::WrongCheckDigit {
+        given: digit.wrapping_sub(b'0'),
+        right: right.wrapping_sub(b'0'),
+    };
+    result == if digit == right { Ok(()) } else { Err(refusal) }
 }

@@ -4,7 +4,6 @@ use crate::layers::support::{flushes, gives, gives_none, takes_none, takes_some}
 use device::{StdSink, StdSource};
 use std::cell::Cell;
 use std::io::{self, ErrorKind, Read, Write};
-use std::process::Abort;
 
 /// Each kind of error that std has.
 pub const KINDS: [ErrorKind; 42] = [
@@ -112,8 +111,8 @@ impl Write for Failing<'_> {
     }
 }
 
-/// Of three reads the one of this number fails, and no call of the reader is added or left out.
-fn assert_read_fails(rt: &impl Abort, kind: ErrorKind, failing: u32) {
+/// Whether of three reads the one of this number fails, and no call of the reader is added or left out.
+fn one_read_fails(kind: ErrorKind, failing: u32) -> bool {
     let counts = Counts::new(2);
     let mut source = StdSource::new(Failing {
         kind,
@@ -122,17 +121,21 @@ fn assert_read_fails(rt: &impl Abort, kind: ErrorKind, failing: u32) {
     });
     let mut buf = [0; 4];
     for call in 1..4u32 {
-        if call == failing {
-            assert!(rt; gives_none(&mut source, &mut buf), "read {call}, {kind:?}");
+        let is_right = if call == failing {
+            gives_none(&mut source, &mut buf)
         } else {
-            assert!(rt; gives(&mut source, &mut buf, 2), "read {call}, {kind:?}");
+            gives(&mut source, &mut buf, 2)
+        };
+        if !is_right || !counts.are(call, 0) {
+            return false;
         }
-        assert!(rt; counts.are(call, 0), "read {call}, {kind:?}");
     }
+    true
 }
 
-/// Of three writes the one of this number fails, and then of three flushes. No call of the writer is added or left out.
-fn assert_write_fails(rt: &impl Abort, kind: ErrorKind, failing: u32) {
+/// Whether of three writes the one of this number fails, and no call of the writer is added or left out; and then of
+/// three flushes.
+fn one_write_fails(kind: ErrorKind, failing: u32) -> bool {
     let counts = Counts::new(2);
     let mut sink = StdSink::new(Failing {
         kind,
@@ -140,28 +143,31 @@ fn assert_write_fails(rt: &impl Abort, kind: ErrorKind, failing: u32) {
         counts: &counts,
     });
     for call in 1..4u32 {
-        if call == failing {
-            assert!(rt; takes_none(&mut sink, b"abc"), "write {call}, {kind:?}");
+        let is_right = if call == failing {
+            takes_none(&mut sink, b"abc")
         } else {
-            assert!(rt; takes_some(&mut sink, b"abc", 2), "write {call}, {kind:?}");
+            takes_some(&mut sink, b"abc", 2)
+        };
+        if !is_right || !counts.are(call, 0) {
+            return false;
         }
-        assert!(rt; counts.are(call, 0), "write {call}, {kind:?}");
     }
     for call in 1..4u32 {
-        assert!(rt;
-            flushes(&mut sink) == (call != failing),
-            "flush {call}, {kind:?}"
-        );
-        assert!(rt; counts.are(3, call), "flush {call}, {kind:?}");
+        if flushes(&mut sink) == (call == failing) || !counts.are(3, call) {
+            return false;
+        }
     }
+    true
 }
 
 #[test]
 fn each_kind_of_error_is_one_failed_call(rt: HostRuntime) {
     for kind in KINDS {
         for failing in 1..4u32 {
-            assert_read_fails(&rt, kind, failing);
-            assert_write_fails(&rt, kind, failing);
+            assert!(rt;
+                one_read_fails(kind, failing) && one_write_fails(kind, failing),
+                "{kind:?}"
+            );
         }
     }
 }
@@ -169,6 +175,7 @@ fn each_kind_of_error_is_one_failed_call(rt: HostRuntime) {
 /// A writer that takes each part of a text, from none of it on: one write each, and no flush.
 #[test]
 fn a_short_write_is_one_write_and_no_flush(rt: HostRuntime) {
+    let text = b"0123456789abcde";
     for moved in 0..16usize {
         let counts = Counts::new(moved);
         let mut sink = StdSink::new(Failing {
@@ -176,12 +183,11 @@ fn a_short_write_is_one_write_and_no_flush(rt: HostRuntime) {
             call: 0,
             counts: &counts,
         });
-        let text = b"0123456789abcde";
-        if moved == 0 {
-            assert!(rt; takes_none(&mut sink, text));
+        let is_right = if moved == 0 {
+            takes_none(&mut sink, text)
         } else {
-            assert!(rt; takes_some(&mut sink, text, moved), "{moved} bytes");
-        }
-        assert!(rt; counts.are(1, 0), "{moved} bytes");
+            takes_some(&mut sink, text, moved)
+        };
+        assert!(rt; is_right && counts.are(1, 0));
     }
 }

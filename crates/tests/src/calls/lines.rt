@@ -224,7 +224,7 @@ const PIECES: [usize; 3] = [13, 4096, 100_000];
 /// The bytes that the run asks for at each read.
 const BUFFER: usize = 4096;
 
-/// A run over the input, and the status that it ends with.
+/// A run over the input, `piece` bytes a read, whose status is that of refused lines.
 fn assert_runs(
     rt: &impl Abort,
     input: &[u8],
@@ -255,44 +255,36 @@ fn pictures(record: &RefCell<Vec<u8>>) -> Recorded<'_, MemSink<32768>> {
     }
 }
 
+/// The record of a run over the input whose pictures are buffered, or are not.
+fn record_of_run(
+    rt: &impl Abort,
+    alloc: Global,
+    input: &[u8],
+    piece: usize,
+    is_buffered: bool,
+) -> Vec<u8> {
+    let record = RefCell::new(Vec::new(alloc));
+    if is_buffered {
+        let mut out = Buffered::new(pictures(&record));
+        assert_runs(rt, input, piece, &record, &mut out);
+    } else {
+        assert_runs(rt, input, piece, &record, &mut pictures(&record));
+    }
+    record.into_inner()
+}
+
+/// Buffered pictures go out before each read and each message.
 #[test]
 fn the_calls_of_300_lines_are_in_order(rt: HostRuntime) -> Result<(), Fail> {
     let alloc = rt.alloc();
     let input = input_of(alloc)?;
     for piece in PIECES {
-        let want = record_of(alloc, input.len(), BUFFER.min(piece))?;
-        let record = RefCell::new(Vec::new(alloc));
-        assert_runs(
-            &rt,
-            input.as_slice(),
-            piece,
-            &record,
-            &mut pictures(&record),
-        );
-        assert!(rt;
-            record.into_inner().as_slice() == want.as_slice(),
-            "{piece} bytes a read"
-        );
-    }
-    Ok(())
-}
-
-#[test]
-fn buffered_pictures_of_300_lines_go_out_before_reads_and_messages(
-    rt: HostRuntime,
-) -> Result<(), Fail> {
-    let alloc = rt.alloc();
-    let input = input_of(alloc)?;
-    for piece in PIECES {
         let calls = record_of(alloc, input.len(), BUFFER.min(piece))?;
-        let want = buffered_record_of(alloc, calls.as_slice())?;
-        let record = RefCell::new(Vec::new(alloc));
-        let mut out = Buffered::new(pictures(&record));
-        assert_runs(&rt, input.as_slice(), piece, &record, &mut out);
-        assert!(rt;
-            record.into_inner().as_slice() == want.as_slice(),
-            "{piece} bytes a read"
-        );
+        let record = record_of_run(&rt, alloc, input.as_slice(), piece, false);
+        assert!(rt; record.as_slice() == calls.as_slice());
+        let buffered_calls = buffered_record_of(alloc, calls.as_slice())?;
+        let record = record_of_run(&rt, alloc, input.as_slice(), piece, true);
+        assert!(rt; record.as_slice() == buffered_calls.as_slice());
     }
     Ok(())
 }

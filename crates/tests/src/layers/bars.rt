@@ -2,7 +2,7 @@
 mod listings;
 mod thresholds;
 
-use linear::{Code128, Ean8, Ean13, Linear, QuietZones, Refusal, Row, UpcA, coding_laws};
+use linear::{Code128, Ean8, Ean13, Linear, Refusal, Row, UpcA, coding_laws};
 use std::process::Abort;
 
 /// Draws data over an old row. Returns what the symbology returned, and the row.
@@ -14,26 +14,10 @@ pub fn encoded<L: Linear>(rt: &impl Abort, data: &[u8]) -> (Result<(), Refusal>,
     (result, row)
 }
 
-/// The data is drawn as this row.
-pub fn assert_row<L: Linear>(rt: &impl Abort, data: &[u8], want: &Row) {
-    let (result, row) = encoded::<L>(rt, data);
-    assert!(rt; result.is_ok(), "{data:?}");
-    assert!(rt; row.as_slice() == want.as_slice(), "{data:?}");
-}
-
-/// Each data is drawn as the modules of a text of `0` and `1`.
-fn assert_drawn<L: Linear>(rt: &impl Abort, rows: &[(&[u8], &[u8])]) {
-    for (data, modules) in rows {
-        let mut want = Row::new();
-        for module in *modules {
-            let _ = want.try_push(*module == b'1');
-        }
-        assert_row::<L>(rt, data, &want);
-    }
-}
-
-/// Adds elements of these widths in modules to a row, a bar first. Spaces may separate the characters.
-pub fn push_widths(row: &mut Row, widths: &[u8]) {
+/// The row of elements of these widths in modules, a bar first. Spaces may separate the characters, and a line end may
+/// follow.
+pub fn row_of(widths: &[u8]) -> Row {
+    let mut row = Row::new();
     let mut dark = true;
     for width in widths {
         for _ in b'0'..*width {
@@ -41,14 +25,22 @@ pub fn push_widths(row: &mut Row, widths: &[u8]) {
         }
         dark = dark == (*width == b' ');
     }
+    row
 }
 
-/// Each data is drawn as a Code 128 row of these widths.
-pub fn assert_widths(rt: &impl Abort, rows: &[(&[u8], &[u8])]) {
+/// The data is drawn as the row of these widths.
+pub fn assert_row<L: Linear>(rt: &impl Abort, data: &[u8], widths: &[u8]) {
+    let (result, row) = encoded::<L>(rt, data);
+    assert!(rt;
+        result.is_ok() && row.as_slice() == row_of(widths).as_slice(),
+        "{data:?}"
+    );
+}
+
+/// Each data is drawn as the row of these widths.
+pub fn assert_rows<L: Linear>(rt: &impl Abort, rows: &[(&[u8], &[u8])]) {
     for (data, widths) in rows {
-        let mut want = Row::new();
-        push_widths(&mut want, widths);
-        assert_row::<Code128>(rt, data, &want);
+        assert_row::<L>(rt, data, widths);
     }
 }
 
@@ -56,32 +48,25 @@ pub fn assert_widths(rt: &impl Abort, rows: &[(&[u8], &[u8])]) {
 fn assert_refused<L: Linear>(rt: &impl Abort, rows: &[(&[u8], Refusal)]) {
     for (data, want) in rows {
         let (result, row) = encoded::<L>(rt, data);
-        assert!(rt; result == Err(*want));
-        assert!(rt; row.is_empty());
+        assert!(rt; result == Err(*want) && row.is_empty());
     }
 }
 
 /// Worked rows of EAN-8.
 const EAN8_ROWS: &[(&[u8], &[u8])] = &[
-    (
-        b"7351353",
-        b"1010111011011110101100010011001010101000010100111010000101000100101",
-    ),
-    (
-        b"73513537",
-        b"1010111011011110101100010011001010101000010100111010000101000100101",
-    ),
+    (b"7351353", b"1111312141112312221111111411123114111312111"),
+    (b"73513537", b"1111312141112312221111111411123114111312111"),
 ];
 
 /// Worked rows of EAN-13.
 const EAN13_ROWS: &[(&[u8], &[u8])] = &[
     (
         b"4006381333931",
-        b"10100011010100111010111101111010001001011001101010100001010000101000010111010010000101100110101",
+        b"11132111123111414113121122211111141114111411311214112221111",
     ),
     (
         b"400638133393",
-        b"10100011010100111010111101111010001001011001101010100001010000101000010111010010000101100110101",
+        b"11132111123111414113121122211111141114111411311214112221111",
     ),
 ];
 
@@ -111,15 +96,22 @@ const CODE128_ROWS: &[(&[u8], &[u8])] = &[
     (b"1", b"211214 123221 223211 2331112"),
 ];
 
+/// UPC-A is drawn as EAN-13 with a 0 in front.
+const UPCA_DIGITS: (&[u8], &[u8]) = (b"03600029145", b"0036000291452");
+
 #[test]
 fn rows_are_drawn(rt: HostRuntime) {
-    assert_drawn::<Ean8>(&rt, EAN8_ROWS);
-    assert_drawn::<Ean13>(&rt, EAN13_ROWS);
-    assert_widths(&rt, CODE128_ROWS);
-    let (result, ean13_row) = encoded::<Ean13>(&rt, b"0036000291452");
-    assert!(rt; result.is_ok());
-    assert!(rt; ean13_row.len() == 95);
-    assert_row::<UpcA>(&rt, b"03600029145", &ean13_row);
+    assert_rows::<Ean8>(&rt, EAN8_ROWS);
+    assert_rows::<Ean13>(&rt, EAN13_ROWS);
+    assert_rows::<Code128>(&rt, CODE128_ROWS);
+    let (ean13, ean13_row) = encoded::<Ean13>(&rt, UPCA_DIGITS.1);
+    let (upca, upca_row) = encoded::<UpcA>(&rt, UPCA_DIGITS.0);
+    assert!(rt;
+        ean13.is_ok()
+            && upca.is_ok()
+            && ean13_row.len() == 95
+            && upca_row.as_slice() == ean13_row.as_slice()
+    );
 }
 
 /// Data that EAN-8 refuses.
@@ -128,6 +120,8 @@ const EAN8_REFUSALS: &[(&[u8], Refusal)] = &[
     (b"73x1353", Refusal::NotADigit(3)),
     (b"7351353\r", Refusal::NotADigit(8)),
     (b"7\\x", Refusal::NotADigit(2)),
+    (b"735135", Refusal::WrongNumberOfDigits(6)),
+    (b"735135377", Refusal::WrongNumberOfDigits(9)),
 ];
 
 /// Data that EAN-13 refuses.
@@ -137,6 +131,15 @@ const EAN13_REFUSALS: &[(&[u8], Refusal)] = &[
         Refusal::WrongCheckDigit { given: 2, right: 1 },
     ),
     (b"123", Refusal::WrongNumberOfDigits(3)),
+    (b"40063813339", Refusal::WrongNumberOfDigits(11)),
+    (b"40063813339311", Refusal::WrongNumberOfDigits(14)),
+];
+
+/// Data that UPC-A refuses.
+const UPCA_REFUSALS: &[(&[u8], Refusal)] = &[
+    (b"12345", Refusal::WrongNumberOfDigits(5)),
+    (b"0360002914", Refusal::WrongNumberOfDigits(10)),
+    (b"0360002914522", Refusal::WrongNumberOfDigits(13)),
 ];
 
 /// Data that Code 128 refuses.
@@ -144,27 +147,29 @@ const CODE128_REFUSALS: &[(&[u8], Refusal)] = &[
     (b"\xC3\xA9", Refusal::NotAscii(1)),
     (&[b'a'; 81], Refusal::DataTooLong),
     (&[0xC3; 81], Refusal::DataTooLong),
+    (&[127, 128], Refusal::NotAscii(2)),
 ];
 
 #[test]
 fn data_is_refused(rt: HostRuntime) {
     assert_refused::<Ean8>(&rt, EAN8_REFUSALS);
     assert_refused::<Ean13>(&rt, EAN13_REFUSALS);
-    assert_refused::<UpcA>(&rt, &[(b"12345", Refusal::WrongNumberOfDigits(5))]);
+    assert_refused::<UpcA>(&rt, UPCA_REFUSALS);
     assert_refused::<Code128>(&rt, CODE128_REFUSALS);
+}
+
+/// Whether a symbology has quiet zones of these widths.
+fn has_quiet_zones<L: Linear>(left: usize, right: usize) -> bool {
+    L::QUIET_ZONES.left == left && L::QUIET_ZONES.right == right
 }
 
 #[test]
 fn quiet_zones_and_laws(rt: HostRuntime) {
-    assert!(rt; Ean8::QUIET_ZONES == QuietZones { left: 7, right: 7 });
-    assert!(rt; Ean13::QUIET_ZONES == QuietZones { left: 11, right: 7 });
-    assert!(rt; UpcA::QUIET_ZONES == QuietZones { left: 9, right: 9 });
     assert!(rt;
-        Code128::QUIET_ZONES
-            == QuietZones {
-                left: 10,
-                right: 10
-            }
+        has_quiet_zones::<Ean8>(7, 7)
+            && has_quiet_zones::<Ean13>(11, 7)
+            && has_quiet_zones::<UpcA>(9, 9)
+            && has_quiet_zones::<Code128>(10, 10)
     );
     coding_laws();
 }

@@ -1,5 +1,5 @@
 //! Known symbols, and the shortest lists of segments found by listing them all.
-use crate::layers::support::version;
+use crate::layers::support::{LEVELS, version};
 use qrdata::{Codewords, DoesNotFit, Level, Mode, Plan, Segment, Version, choose, codewords};
 use std::process::Abort;
 
@@ -11,18 +11,6 @@ pub fn planned<'a>(rt: &impl Abort, level: Level, min_version: u8, data: &'a [u8
     }
 }
 
-fn expect_refused(rt: &impl Abort, level: Level, data: &[u8]) {
-    match choose(version(rt, 1), level, data) {
-        Ok(_) => panic!(rt; "data fits"),
-        Err(refusal) => assert!(rt; refusal == DoesNotFit { level }),
-    }
-}
-
-fn expect_version(rt: &impl Abort, plan: &Plan, number: u8, bits: u32) {
-    assert!(rt; plan.version().number() == number);
-    assert!(rt; plan.bits() == bits);
-}
-
 /// The codewords of a plan, written over old ones.
 pub fn codewords_of(plan: &Plan) -> Codewords {
     let mut written = Codewords::new();
@@ -31,10 +19,12 @@ pub fn codewords_of(plan: &Plan) -> Codewords {
     written
 }
 
-fn expect_codewords(rt: &impl Abort, codewords: &Codewords, from: usize, expected: &[u8]) {
-    let all = codewords.as_slice();
-    assert!(rt; from <= all.len());
-    assert!(rt; all[from..].starts_with(expected));
+/// Whether these codewords are the ones from a place on.
+fn has_codewords(codewords: &Codewords, from: usize, expected: &[u8]) -> bool {
+    match codewords.as_slice().get(from..) {
+        Some(rest) => rest.starts_with(expected),
+        None => false,
+    }
 }
 
 /// Each version's number, side, codewords, and data codewords at the levels L, M, Q and H.
@@ -53,26 +43,26 @@ const SIZES: [(u8, usize, usize, [usize; 4]); 10] = [
 
 #[test]
 fn sizes(rt: HostRuntime) {
-    assert!(rt; Version::new(0).is_none());
-    assert!(rt; Version::new(11).is_none());
+    assert!(rt; Version::new(0).is_none() && Version::new(11).is_none());
     for (number, side, total, data) in SIZES {
-        let Some(version) = Version::new(number) else {
-            panic!(rt; "there is such a version")
-        };
-        assert!(rt; version.number() == number);
-        assert!(rt; version.side() == side);
-        assert!(rt; version.total_codewords() == total);
-        assert!(rt; version.data_codewords(Level::L) == data[0]);
-        assert!(rt; version.data_codewords(Level::M) == data[1]);
-        assert!(rt; version.data_codewords(Level::Q) == data[2]);
-        assert!(rt; version.data_codewords(Level::H) == data[3]);
+        let version = version(&rt, number);
+        assert!(rt;
+            version.number() == number
+                && version.side() == side
+                && version.total_codewords() == total
+        );
+        for place in 0..4 {
+            assert!(rt; version.data_codewords(LEVELS[place]) == data[place]);
+        }
     }
 }
 
-/// Data in version 1: the level, the data, the bits, the segments, and the first codewords.
-const KNOWN: &[(Level, &[u8], u32, &[Segment], &[u8])] = &[
+/// The level, the version (the lowest one, which is chosen), the data, its bits, its segments, and the first codewords
+/// of its symbol.
+const KNOWN: &[(Level, u8, &[u8], u32, &[Segment], &[u8])] = &[
     (
         Level::M,
+        1,
         b"01234567",
         41,
         &[Segment {
@@ -86,6 +76,7 @@ const KNOWN: &[(Level, &[u8], u32, &[Segment], &[u8])] = &[
     ),
     (
         Level::Q,
+        1,
         b"HELLO WORLD",
         74,
         &[Segment {
@@ -99,6 +90,7 @@ const KNOWN: &[(Level, &[u8], u32, &[Segment], &[u8])] = &[
     ),
     (
         Level::H,
+        1,
         b"1",
         18,
         &[Segment {
@@ -109,6 +101,7 @@ const KNOWN: &[(Level, &[u8], u32, &[Segment], &[u8])] = &[
     ),
     (
         Level::H,
+        1,
         b"a123456789",
         64,
         &[
@@ -125,6 +118,7 @@ const KNOWN: &[(Level, &[u8], u32, &[Segment], &[u8])] = &[
     ),
     (
         Level::Q,
+        1,
         b"ab1234567890cd",
         104,
         &[
@@ -148,6 +142,7 @@ const KNOWN: &[(Level, &[u8], u32, &[Segment], &[u8])] = &[
     // One segment where more save nothing.
     (
         Level::M,
+        1,
         b"a123",
         44,
         &[Segment {
@@ -158,6 +153,7 @@ const KNOWN: &[(Level, &[u8], u32, &[Segment], &[u8])] = &[
     ),
     (
         Level::M,
+        1,
         b"a12b",
         44,
         &[Segment {
@@ -169,117 +165,148 @@ const KNOWN: &[(Level, &[u8], u32, &[Segment], &[u8])] = &[
             0xEC, 0x11,
         ],
     ),
-    (Level::M, b"", 0, &[], &[0, 0xEC, 0x11]),
+    (Level::M, 1, b"", 0, &[], &[0, 0xEC, 0x11]),
+    // Four blocks of 15, 15, 16 and 16 data codewords in turn. The codeword at each place is the place itself, but for
+    // the first two, which begin with the mode and the count, and the last, which ends with the terminator.
+    (
+        Level::Q,
+        5,
+        &[
+            0x10, 0x20, 0x30, 0x40, 0x50, 0x60, 0x70, 0x80, 0x90, 0xA0, 0xB0, 0xC0, 0xD0, 0xE0,
+            0xF1, 0x01, 0x11, 0x21, 0x31, 0x41, 0x51, 0x61, 0x71, 0x81, 0x91, 0xA1, 0xB1, 0xC1,
+            0xD1, 0xE1, 0xF2, 0x02, 0x12, 0x22, 0x32, 0x42, 0x52, 0x62, 0x72, 0x82, 0x92, 0xA2,
+            0xB2, 0xC2, 0xD2, 0xE2, 0xF3, 0x03, 0x13, 0x23, 0x33, 0x43, 0x53, 0x63, 0x73, 0x83,
+            0x93, 0xA3, 0xB3, 0xC3,
+        ],
+        492,
+        &[Segment {
+            mode: Mode::Byte,
+            len: 60,
+        }],
+        &[
+            0x43, 15, 30, 46, 0xC1, 16, 31, 47, 2, 17, 32, 48, 3, 18, 33, 49, 4, 19, 34, 50, 5, 20,
+            35, 51, 6, 21, 36, 52, 7, 22, 37, 53, 8, 23, 38, 54, 9, 24, 39, 55, 10, 25, 40, 56, 11,
+            26, 41, 57, 12, 27, 42, 58, 13, 28, 43, 59, 14, 29, 44, 60, 45, 0x30,
+        ],
+    ),
 ];
 
 #[test]
 fn known_symbols(rt: HostRuntime) {
-    for (level, data, bits, segments, front) in KNOWN {
-        let plan = planned(&rt, *level, 1, data);
-        expect_version(&rt, &plan, 1, *bits);
-        assert!(rt; plan.segments() == *segments);
+    for (level, number, data, bits, segments, front) in KNOWN {
+        let plan = planned(&rt, *level, *number, data);
         let codewords = codewords_of(&plan);
-        assert!(rt; codewords.len() == 26);
-        expect_codewords(&rt, &codewords, 0, front);
+        assert!(rt;
+            plan.version().number() == *number
+                && plan.bits() == *bits
+                && plan.segments() == *segments
+                && codewords.len() == plan.version().total_codewords()
+                && has_codewords(&codewords, 0, front)
+        );
     }
 }
 
-#[test]
-fn terminator_of_one_bit(rt: HostRuntime) {
-    let data = [b'1'; 42];
-    let plan = planned(&rt, Level::L, 1, &data[..41]);
-    expect_version(&rt, &plan, 1, 151);
-    let codewords = codewords_of(&plan);
-    expect_codewords(&rt, &codewords, 0, &[0x10, 0xA4, 0x6F]);
-    expect_codewords(&rt, &codewords, 18, &[0x16]);
-    let longer = planned(&rt, Level::L, 1, &data);
-    assert!(rt; longer.version().number() == 2);
-}
-
-#[test]
-fn terminator_of_four_bits(rt: HostRuntime) {
-    let data = [b'a'; 18];
-    let plan = planned(&rt, Level::L, 1, &data[..17]);
-    expect_version(&rt, &plan, 1, 148);
-    let codewords = codewords_of(&plan);
-    expect_codewords(&rt, &codewords, 0, &[0x41]);
-    expect_codewords(&rt, &codewords, 1, &[0x16; 17]);
-    expect_codewords(&rt, &codewords, 18, &[0x10]);
-    let longer = planned(&rt, Level::L, 1, &data);
-    assert!(rt; longer.version().number() == 2);
-    let codewords = codewords_of(&longer);
-    expect_codewords(&rt, &codewords, 0, &[0x41, 0x26]);
-    expect_codewords(&rt, &codewords, 2, &[0x16; 17]);
-    expect_codewords(
-        &rt,
-        &codewords,
-        19,
+/// Data of equal bytes after a first one: the level, the lowest version, the first byte, the other bytes, and how many
+/// bytes there are. Then the version that is chosen and the bits, a place and the codewords from there on.
+const REPEATED: &[(Level, u8, [u8; 2], usize, u8, u32, usize, &[u8])] = &[
+    // A terminator of one bit.
+    (Level::L, 1, *b"11", 41, 1, 151, 0, &[0x10, 0xA4, 0x6F]),
+    (Level::L, 1, *b"11", 41, 1, 151, 18, &[0x16]),
+    (Level::L, 1, *b"11", 42, 2, 154, 0, &[]),
+    // A terminator of four bits.
+    (
+        Level::L,
+        1,
+        *b"aa",
+        17,
+        1,
+        148,
+        0,
         &[
-            0x10, 0xEC, 0x11, 0xEC, 0x11, 0xEC, 0x11, 0xEC, 0x11, 0xEC, 0x11, 0xEC, 0x11, 0xEC,
-            0x11,
+            0x41, 0x16, 0x16, 0x16, 0x16, 0x16, 0x16, 0x16, 0x16, 0x16, 0x16, 0x16, 0x16, 0x16,
+            0x16, 0x16, 0x16, 0x16, 0x10,
         ],
-    );
-}
-
-#[test]
-fn longest_data(rt: HostRuntime) {
-    let letters = [b'a'; 272];
-    let plan = planned(&rt, Level::L, 1, &letters[..271]);
-    expect_version(&rt, &plan, 10, 2188);
-    expect_refused(&rt, Level::L, &letters);
-    let digits = [b'1'; 653];
-    let plan = planned(&rt, Level::L, 1, &digits[..652]);
-    expect_version(&rt, &plan, 10, 2190);
-    assert!(rt; codewords_of(&plan).len() == 346);
-    expect_refused(&rt, Level::L, &digits);
-    let mut mixed = [b'1'; 646];
-    mixed[0] = b'a';
-    let plan = planned(&rt, Level::L, 1, &mixed[..645]);
-    expect_version(&rt, &plan, 10, 2191);
-    expect_refused(&rt, Level::L, &mixed);
-}
-
-#[test]
-fn uneven_blocks(rt: HostRuntime) {
-    let data = [b'a'; 30];
-    let plan = planned(&rt, Level::Q, 5, &data);
-    assert!(rt; plan.version().number() == 5);
-    assert!(rt; plan.level() == Level::Q);
-    assert!(rt; planned(&rt, Level::Q, 1, &data).version().number() == 3);
-    let codewords = codewords_of(&plan);
-    assert!(rt; codewords.len() == 62 + 72);
-    expect_codewords(
-        &rt,
-        &codewords,
+    ),
+    (
+        Level::L,
+        1,
+        *b"aa",
+        18,
+        2,
+        156,
+        0,
+        &[
+            0x41, 0x26, 0x16, 0x16, 0x16, 0x16, 0x16, 0x16, 0x16, 0x16, 0x16, 0x16, 0x16, 0x16,
+            0x16, 0x16, 0x16, 0x16, 0x16, 0x10, 0xEC, 0x11, 0xEC, 0x11, 0xEC, 0x11, 0xEC, 0x11,
+            0xEC, 0x11, 0xEC, 0x11, 0xEC, 0x11,
+        ],
+    ),
+    // The longest data.
+    (Level::L, 1, *b"aa", 271, 10, 2188, 0, &[]),
+    (Level::L, 1, *b"11", 652, 10, 2190, 0, &[]),
+    (Level::L, 1, *b"a1", 645, 10, 2191, 0, &[]),
+    // Blocks of 15 and of 16 data codewords, in a version that is larger than it has to be.
+    (Level::Q, 1, *b"aa", 30, 3, 252, 0, &[]),
+    (
+        Level::Q,
+        5,
+        *b"aa",
+        30,
+        5,
+        252,
         0,
         &[0x41, 0x16, 0x16, 0xEC, 0xE6, 0x16, 0x10, 0x11],
-    );
-    expect_codewords(&rt, &codewords, 56, &[0x16, 0x16, 0xEC, 0xEC, 0x11, 0x11]);
-}
-
-/// The data codewords of four blocks of 15, 15, 16 and 16 in turn. The codeword at each place is the place itself, but
-/// for the first two, which begin with the mode and the count, and the last, which ends with the terminator.
-const IN_TURN: [u8; 62] = [
-    0x43, 15, 30, 46, 0xC1, 16, 31, 47, 2, 17, 32, 48, 3, 18, 33, 49, 4, 19, 34, 50, 5, 20, 35, 51,
-    6, 21, 36, 52, 7, 22, 37, 53, 8, 23, 38, 54, 9, 24, 39, 55, 10, 25, 40, 56, 11, 26, 41, 57, 12,
-    27, 42, 58, 13, 28, 43, 59, 14, 29, 44, 60, 45, 0x30,
+    ),
+    (
+        Level::Q,
+        5,
+        *b"aa",
+        30,
+        5,
+        252,
+        56,
+        &[0x16, 0x16, 0xEC, 0xEC, 0x11, 0x11],
+    ),
 ];
 
+/// The first byte, the other bytes and the length of data that does not fit at level L.
+const TOO_LONG: [([u8; 2], usize); 3] = [(*b"aa", 272), (*b"11", 653), (*b"a1", 646)];
+
+/// Data of a first byte, and then equal ones.
+fn repeated(bytes: [u8; 2]) -> [u8; 653] {
+    let mut data = [bytes[1]; 653];
+    data[0] = bytes[0];
+    data
+}
+
 #[test]
-fn interleaving_order(rt: HostRuntime) {
-    let mut data = [0; 60];
-    for place in 0..60u8 {
-        data[usize::from(place)] = (place + 1) % 16 * 16 + (place + 2) / 16;
+fn terminators_and_the_longest_data(rt: HostRuntime) {
+    for (level, lowest, bytes, len, number, bits, from, expected) in REPEATED {
+        assert!(rt; *len <= 653);
+        let data = repeated(*bytes);
+        let plan = planned(&rt, *level, *lowest, &data[..*len]);
+        let codewords = codewords_of(&plan);
+        assert!(rt;
+            plan.version().number() == *number
+                && plan.level() == *level
+                && plan.bits() == *bits
+                && codewords.len() == plan.version().total_codewords()
+                && has_codewords(&codewords, *from, expected)
+        );
     }
-    let plan = planned(&rt, Level::Q, 5, &data);
-    let segment = Segment {
-        mode: Mode::Byte,
-        len: 60,
-    };
-    assert!(rt; plan.segments() == [segment].as_slice());
-    let codewords = codewords_of(&plan);
-    assert!(rt; codewords.len() == 62 + 72);
-    expect_codewords(&rt, &codewords, 0, &IN_TURN);
+}
+
+#[test]
+fn longer_data_does_not_fit(rt: HostRuntime) {
+    for (bytes, len) in TOO_LONG {
+        assert!(rt; len <= 653);
+        let data = repeated(bytes);
+        let level = Level::L;
+        match choose(Version::of(1), level, &data[..len]) {
+            Ok(_) => panic!(rt; "data fits"),
+            Err(refusal) => assert!(rt; refusal == DoesNotFit { level }),
+        }
+    }
 }
 
 /// The bits of a list of segments in versions 1 to 9. The data is cut after each byte whose bit in `cuts` is set, and
@@ -347,36 +374,22 @@ fn no_list_costs_less(rt: HostRuntime) {
     }
 }
 
+/// The characters of the alphanumeric mode in the order of their values.
+const CHARACTERS: &[u8; 45] = b"0123456789ABCDEFGHIJKLMNOPQRSTUVWXYZ $%*+-./:";
+
+/// An `A` and each byte. A character of value `v` makes a pair of the number 450 + v, which is 256 + 0xC2 + v, in 11
+/// bits. With any other byte there are two bytes.
 #[test]
 fn values_of_characters(rt: HostRuntime) {
     for byte in 0u8..=255 {
-        let value = match byte {
-            b'0'..=b'9' => byte - b'0',
-            b'A'..=b'Z' => byte - b'A' + 10,
-            b' ' => 36,
-            b'$' => 37,
-            b'%' => 38,
-            b'*' => 39,
-            b'+' => 40,
-            b'-' => 41,
-            b'.' => 42,
-            b'/' => 43,
-            b':' => 44,
-            _ => 45,
-        };
-        // The pair of an `A` and the byte, whose values make a number of 11 bits, or two bytes.
+        let mut want = [0x40, 0x24, 0x10 + byte / 16];
+        for (character, low) in CHARACTERS.iter().zip(0xC2u8..0xEF) {
+            if *character == byte {
+                want = [0x20, 0x11, low];
+            }
+        }
         let data = [b'A', byte];
         let codewords = codewords_of(&planned(&rt, Level::L, 1, &data));
-        if value == 45 {
-            expect_codewords(&rt, &codewords, 0, &[0x40, 0x24]);
-        } else {
-            let pair = 450 + u16::from(value);
-            expect_codewords(
-                &rt,
-                &codewords,
-                0,
-                &[0x20, 0x10 + (pair / 256) as u8, (pair % 256) as u8],
-            );
-        }
+        assert!(rt; has_codewords(&codewords, 0, &want));
     }
 }

@@ -1,10 +1,11 @@
 //! Worked texts, and each public call once.
+ghost use Rattle.std.specs.Prelude.{◌<◌, ◌≤◌};
+
 mod widths;
 
-use crate::runs::support::line_ends;
-use device::{MemSink, write_whole};
+use crate::runs::support::{has_lines_of, line_ends};
+use device::MemSink;
 use picture::{Bars, Framed, Grid, QuietZone, Scaled, reading_laws, write_ascii, write_pbm};
-use std::process::Abort;
 
 /// The modules of the symbol of `ean8 7351353`.
 const EAN8_MODULES: &[u8; 67] =
@@ -13,6 +14,10 @@ const EAN8_MODULES: &[u8; 67] =
 /// Its plain PBM file, one module high: a line of 70 and a line of 11.
 const EAN8_PBM: &[u8; 91] =
     b"P1\n81 1\n0000000101011101101111010110001001100101010100001010011101000010100010\n01010000000\n";
+
+/// Its text picture, one module high: a line of 162 letters, and an empty line.
+pub const EAN8_ASCII: &[u8; 164] =
+    b"              ##  ##  ######  ####  ########  ##  ####      ##    ####    ##  ##  ##  ##        ##  ##    ######  ##        ##  ##      ##    ##  ##              \n\n";
 
 /// The quiet zone of EAN-8.
 const EAN8_ZONE: QuietZone = QuietZone {
@@ -38,11 +43,11 @@ const UNEVEN: QuietZone = QuietZone {
     bottom: 2,
 };
 
-/// The modules of a text of `0` and `1`.
-fn modules_of(text: &[u8; 67]) -> [bool; 67] {
+/// The modules of the symbol of `ean8 7351353`.
+fn ean8_modules() -> [bool; 67] {
     let mut modules = [false; 67];
     for i in 0..67 {
-        modules[i] = text[i] == b'1';
+        modules[i] = EAN8_MODULES[i] == b'1';
     }
     modules
 }
@@ -52,14 +57,24 @@ fn is_sized(grid: &impl Grid, width: usize, height: usize) -> bool {
     grid.width() == width && grid.height() == height
 }
 
-/// Whether a pixel of a grid is there, and of this colour.
-fn has_pixel(grid: &impl Grid, x: usize, y: usize, dark: bool) -> bool {
-    x < grid.width() && y < grid.height() && grid.dark(x, y) == dark
+/// Whether pixels of a grid are there, and of these colours.
+fn has_pixels(grid: &impl Grid, pixels: &[(usize, usize, bool)]) -> bool {
+    for (x, y, dark) in pixels {
+        if *x >= grid.width() || *y >= grid.height() || grid.dark(*x, *y) != *dark {
+            return false;
+        }
+    }
+    true
 }
 
-/// Whether `rows` rows from row `y` on are known to be equal.
-fn has_equal_rows(grid: &impl Grid, y: usize, rows: usize) -> bool {
-    y < grid.height() && grid.equal_rows(y) == rows
+/// Whether these many rows from these rows on are known to be equal.
+fn has_equal_rows(grid: &impl Grid, from: &[(usize, usize)]) -> bool {
+    for (y, rows) in from {
+        if *y >= grid.height() || grid.equal_rows(*y) != *rows {
+            return false;
+        }
+    }
+    true
 }
 
 /// Whether a row of a grid of 14 pixels is read as these pixels.
@@ -71,6 +86,9 @@ fn has_row(grid: &impl Grid, y: usize, row: &[bool; 14]) -> bool {
     grid.read_row(y, &mut pixels);
     pixels == *row
 }
+
+/// Pixels of bars below: column, row, and whether it is dark.
+const BAR_PIXELS: &[(usize, usize, bool)] = &[(0, 2, true), (1, 2, false)];
 
 /// Pixels of the framed bars below: column, row, and whether it is dark.
 const FRAMED_PIXELS: &[(usize, usize, bool)] = &[
@@ -95,76 +113,73 @@ const LARGER_EQUAL_ROWS: &[(usize, usize)] = &[(0, 6), (5, 1), (6, 4), (9, 1)];
 fn bars_are_asked(rt: HostRuntime) {
     let row = [true, false];
     let bars = Bars::new(&row, 3);
-    assert!(rt; is_sized(&bars, 2, 3));
-    assert!(rt; has_pixel(&bars, 0, 2, true));
-    assert!(rt; has_pixel(&bars, 1, 2, false));
+    assert!(rt; is_sized(&bars, 2, 3) && has_pixels(&bars, BAR_PIXELS));
     let framed = Framed::new(bars, UNEVEN);
-    assert!(rt; is_sized(&framed, 7, 5));
-    for (x, y, dark) in FRAMED_PIXELS {
-        assert!(rt; has_pixel(&framed, *x, *y, *dark));
-    }
+    assert!(rt; is_sized(&framed, 7, 5) && has_pixels(&framed, FRAMED_PIXELS));
 }
 
 #[test]
 fn larger_pixels_are_asked(rt: HostRuntime) {
     let row = [true, false];
     let scaled = Scaled::new(Framed::new(Bars::new(&row, 3), UNEVEN), 2);
-    assert!(rt; is_sized(&scaled, 14, 10));
-    for (x, y, dark) in LARGER_PIXELS {
-        assert!(rt; has_pixel(&scaled, *x, *y, *dark));
-    }
-    for (y, rows) in LARGER_EQUAL_ROWS {
-        assert!(rt; has_equal_rows(&scaled, *y, *rows));
-    }
+    assert!(rt;
+        is_sized(&scaled, 14, 10)
+            && has_pixels(&scaled, LARGER_PIXELS)
+            && has_equal_rows(&scaled, LARGER_EQUAL_ROWS)
+    );
     let mut pixels = [false; 14];
     assert!(rt; has_row(&scaled, 6, &pixels));
     pixels[8] = true;
     pixels[9] = true;
     assert!(rt; has_row(&scaled, 5, &pixels));
+    reading_laws();
 }
 
-#[test]
-fn laws() {
-    reading_laws();
+/// Whether a sink of up to `limit` bytes, which takes `piece` bytes a call, gets the beginning of a grid's plain PBM,
+/// and fails if that is not all of it.
+fn writes_pbm(grid: &impl Grid, piece: usize, limit: usize, want: &[u8]) -> bool
+    requires piece { 0 < piece }
+    requires limit { limit ≤ 5476 }
+{
+    let mut sink = MemSink::<5476>::new(piece, limit);
+    let is_written = write_pbm(grid, &mut sink).is_ok();
+    let is_whole = want.len() <= limit;
+    is_written == is_whole
+        && sink.bytes() == &want[..want.len().min(limit)]
+        && sink.failures() == u64::from(!is_whole)
+}
+
+/// The same of its text picture.
+fn writes_ascii(grid: &impl Grid, piece: usize, limit: usize, want: &[u8]) -> bool
+    requires piece { 0 < piece }
+    requires limit { limit ≤ 164 }
+{
+    let mut sink = MemSink::<164>::new(piece, limit);
+    let is_written = write_ascii(grid, &mut sink).is_ok();
+    let is_whole = want.len() <= limit;
+    is_written == is_whole
+        && sink.bytes() == &want[..want.len().min(limit)]
+        && sink.failures() == u64::from(!is_whole)
 }
 
 #[test]
 fn pbm_of_a_row(rt: HostRuntime) {
-    let modules = modules_of(EAN8_MODULES);
+    let modules = ean8_modules();
     let grid = Framed::new(Bars::new(&modules, 1), EAN8_ZONE);
-    let mut sink = MemSink::<91>::new(7, 91);
-    assert!(rt; write_pbm(&grid, &mut sink).is_ok());
-    assert!(rt; sink.bytes() == EAN8_PBM.as_slice());
-    assert!(rt; sink.failures() == 0);
-}
-
-#[test]
-fn pbm_of_a_failing_sink(rt: HostRuntime) {
-    let modules = modules_of(EAN8_MODULES);
+    assert!(rt; writes_pbm(&grid, 7, 91, EAN8_PBM));
     for limit in 0..91 {
-        let grid = Framed::new(Bars::new(&modules, 1), EAN8_ZONE);
-        let mut sink = MemSink::<91>::new(4096, limit);
-        assert!(rt; write_pbm(&grid, &mut sink).is_err());
-        assert!(rt; EAN8_PBM.starts_with(sink.bytes()));
-        assert!(rt; sink.bytes().len() == limit);
-        assert!(rt; sink.failures() == 1);
+        assert!(rt; writes_pbm(&grid, 4096, limit, EAN8_PBM));
     }
 }
 
-/// A line of 70 light pixels, and one of 70 dark ones.
-const LINES: [&[u8; 71]; 2] = [
-    b"0000000000000000000000000000000000000000000000000000000000000000000000\n",
-    b"1111111111111111111111111111111111111111111111111111111111111111111111\n",
-];
-
-/// The file of seven rows of 70 light pixels, 630 dark ones and 70 light ones.
-fn full_lines(rt: &impl Abort) -> MemSink<5476> {
-    let mut file = MemSink::<5476>::new(5476, 5476);
-    assert!(rt; write_whole(b"P1\n770 7\n", &mut file).is_ok());
+/// Seven rows of 70 light pixels, 630 dark ones and 70 light ones, as lines of 70 pixels.
+fn full_lines() -> [u8; 5476] {
+    let mut file = [b'\n'; 5476];
+    file[..9].copy_from_slice(b"P1\n770 7\n");
     for place in 0..77 {
-        let is_dark = place % 11 != 0 && place % 11 != 10;
-        let line = LINES[usize::from(is_dark)];
-        assert!(rt; write_whole(line.as_slice(), &mut file).is_ok());
+        let is_light = place % 11 == 0 || place % 11 == 10;
+        let pixel = if is_light { b'0' } else { b'1' };
+        file[9 + 71 * place..79 + 71 * place].copy_from_slice(&[pixel; 70]);
     }
     file
 }
@@ -174,46 +189,33 @@ fn full_lines(rt: &impl Abort) -> MemSink<5476> {
 fn pbm_of_full_lines(rt: HostRuntime) {
     let modules = [true; 90];
     let framed = Framed::new(Bars::new(&modules, 1), CODE128_ZONE);
-    let mut sink = MemSink::<5476>::new(4096, 5476);
-    assert!(rt; write_pbm(&Scaled::new(framed, 7), &mut sink).is_ok());
-    assert!(rt; sink.bytes().len() == 5476);
-    assert!(rt; sink.bytes() == full_lines(&rt).bytes());
+    assert!(rt; writes_pbm(&Scaled::new(framed, 7), 4096, 5476, &full_lines()));
 }
 
+/// The row of EAN-8, and two dark and light rows in sinks that are too small.
 #[test]
 fn ascii_of_a_row(rt: HostRuntime) {
-    let modules = modules_of(EAN8_MODULES);
+    let modules = ean8_modules();
     let grid = Framed::new(Bars::new(&modules, 1), EAN8_ZONE);
-    let mut sink = MemSink::<164>::new(3, 164);
-    assert!(rt; write_ascii(&grid, &mut sink).is_ok());
-    assert!(rt; sink.bytes().len() == 164);
-    assert!(rt; sink.bytes().starts_with(b"              ##  ##"));
-    assert!(rt; sink.bytes().ends_with(b"##              \n\n"));
+    assert!(rt; writes_ascii(&grid, 3, 164, EAN8_ASCII));
+    let pair = [true, false];
+    for limit in 0..11 {
+        assert!(rt; writes_ascii(&Bars::new(&pair, 2), 1, limit, b"##  \n##  \n\n"));
+    }
 }
 
 /// `ean8 7351353` at scale 8: eight lines of 1,296 letters and an empty line.
 #[test]
 fn ascii_of_large_pixels(rt: HostRuntime) {
-    let modules = modules_of(EAN8_MODULES);
+    let modules = ean8_modules();
     let framed = Framed::new(Bars::new(&modules, 1), EAN8_ZONE);
     let mut sink = MemSink::<10377>::new(4096, 10377);
     assert!(rt; write_ascii(&Scaled::new(framed, 8), &mut sink).is_ok());
-    assert!(rt; sink.bytes().len() == 10377);
-    let (lines, rest) = sink.bytes().split_at(10376);
-    assert!(rt; rest == b"\n".as_slice());
-    for line in lines.chunks(1297) {
-        assert!(rt; line_ends(line) == 1 && line.ends_with(b"\n"));
-    }
-}
-
-#[test]
-fn ascii_of_a_failing_sink(rt: HostRuntime) {
-    let modules = [true, false];
-    for limit in 0..11 {
-        let mut sink = MemSink::<11>::new(1, limit);
-        assert!(rt; write_ascii(&Bars::new(&modules, 2), &mut sink).is_err());
-        assert!(rt; b"##  \n##  \n\n".starts_with(sink.bytes()));
-        assert!(rt; sink.bytes().len() == limit);
-        assert!(rt; sink.failures() == 1);
-    }
+    let text = sink.bytes();
+    assert!(rt;
+        text.len() == 10377
+            && text.ends_with(b"\n\n")
+            && line_ends(text) == 9
+            && has_lines_of(text, 1296)
+    );
 }

@@ -3,7 +3,7 @@
 ghost use Rattle.std.specs.Prelude.{length, ◌≤◌, ◌<◌};
 
 use crate::layers::codewords::text_of;
-use crate::layers::support::version;
+use crate::layers::support::{LEVELS, version};
 use qrdata::{Level, Mode, Plan, Segment, Version, choose};
 use std::process::Abort;
 
@@ -22,23 +22,13 @@ const EMPTY: SlowChoice = SlowChoice {
     bits: 0,
 };
 
-/// What a length must be below for the character count to hold it.
-fn count_limit(version: Version, mode: Mode) -> usize {
+/// The bits of the character count, and what a length must be below for the count to hold it.
+fn count_of(version: Version, mode: Mode) -> (usize, usize) {
     let short = version.number() < 10;
     match mode {
-        Mode::Numeric => if short { 1024 } else { 4096 },
-        Mode::Alphanumeric => if short { 512 } else { 2048 },
-        Mode::Byte => if short { 256 } else { 65536 },
-    }
-}
-
-/// The bits of the character count.
-fn count_width(version: Version, mode: Mode) -> usize {
-    let short = version.number() < 10;
-    match mode {
-        Mode::Numeric => if short { 10 } else { 12 },
-        Mode::Alphanumeric => if short { 9 } else { 11 },
-        Mode::Byte => if short { 8 } else { 16 },
+        Mode::Numeric => if short { (10, 1024) } else { (12, 4096) },
+        Mode::Alphanumeric => if short { (9, 512) } else { (11, 2048) },
+        Mode::Byte => if short { (8, 256) } else { (16, 65536) },
     }
 }
 
@@ -69,11 +59,12 @@ fn cheaper(
 ) -> SlowChoice
     requires { len ≤ 652 }
 {
+    let (width, limit) = count_of(version, mode);
     let bits = payload_bits(mode, len)
         .saturating_add(4)
-        .saturating_add(count_width(version, mode))
+        .saturating_add(width)
         .saturating_add(after);
-    if len > run || len >= count_limit(version, mode) || bits >= so_far.bits {
+    if len > run || len >= limit || bits >= so_far.bits {
         return so_far;
     }
     SlowChoice {
@@ -158,41 +149,47 @@ fn slow_version(
     None
 }
 
-fn expect_same_segments(rt: &impl Abort, plan: &Plan, data: &[u8], table: &[SlowChoice; 653]) {
-    assert!(rt; plan.bits() as usize == table[0].bits);
+/// Whether a plan has the segments and the bits of a table.
+fn has_segments(plan: &Plan, data: &[u8], table: &[SlowChoice; 653]) -> bool {
     let mut place: usize = 0;
     for segment in plan.segments() {
-        match table.get(place) {
-            Some(choice) => assert!(rt; *segment == choice.segment),
-            None => panic!(rt; "a segment past the end"),
+        if place >= 653 || *segment != table[place].segment {
+            return false;
         }
         place = place.saturating_add(usize::from(segment.len));
     }
-    assert!(rt; place == data.len());
+    place == data.len() && plan.bits() as usize == table[0].bits
+}
+
+/// Whether the choice for the data, in the smallest version from `lowest` on, is that of the slow tables.
+fn is_same(
+    lowest: Version,
+    level: Level,
+    data: &[u8],
+    short: &[SlowChoice; 653],
+    long: &[SlowChoice; 653],
+) -> bool {
+    match (
+        choose(lowest, level, data),
+        slow_version(lowest.number(), level, short, long),
+    ) {
+        (Ok(plan), Some(version)) => {
+            let table = if version.number() < 10 { short } else { long };
+            plan.version() == version && has_segments(&plan, data, table)
+        }
+        (Err(_), None) => true,
+        _ => false,
+    }
 }
 
 /// Checks the choice for the data at each level, from each of some versions on, against the slow tables.
 fn expect_same(rt: &impl Abort, data: &[u8]) {
     assert!(rt; data.len() <= 652);
-    let (Some(nine), Some(ten)) = (Version::new(9), Version::new(10)) else {
-        panic!(rt; "there are such versions")
-    };
-    let short = slow_table(nine, data);
-    let long = slow_table(ten, data);
-    for level in [Level::L, Level::M, Level::Q, Level::H] {
+    let short = slow_table(Version::of(9), data);
+    let long = slow_table(Version::of(10), data);
+    for level in LEVELS {
         for lowest in [1, 9, 10] {
-            match (
-                choose(version(rt, lowest), level, data),
-                slow_version(lowest, level, &short, &long),
-            ) {
-                (Ok(plan), Some(version)) => {
-                    let table = if version.number() < 10 { &short } else { &long };
-                    assert!(rt; plan.version() == version);
-                    expect_same_segments(rt, &plan, data, table);
-                }
-                (Err(_), None) => {}
-                _ => panic!(rt; "only one of the two finds a version"),
-            }
+            assert!(rt; is_same(version(rt, lowest), level, data, &short, &long));
         }
     }
 }

@@ -4,35 +4,29 @@ use crate::layers::support::{flushes, gives, passes_on, takes, takes_some};
 use device::{StdSink, StdSource};
 use std::io::ErrorKind;
 
-/// The second flush fails.
+/// A write flushes nothing, a flush writes nothing, and a failed flush is a failure: the third call of each kind fails.
 #[test]
-fn failed_flush_of_std_is_told(rt: HostRuntime) {
+fn each_write_and_flush_is_one_of_the_writer(rt: HostRuntime) {
     let counts = Counts::new(usize::MAX);
     let mut sink = StdSink::new(Failing {
         kind: ErrorKind::Other,
-        call: 2,
+        call: 3,
         counts: &counts,
     });
-    assert!(rt; takes_some(&mut sink, b"ab", 2));
-    assert!(rt; flushes(&mut sink));
-    assert!(rt; !flushes(&mut sink));
-}
-
-#[test]
-fn a_write_flushes_nothing_and_a_flush_writes_nothing(rt: HostRuntime) {
-    let counts = Counts::new(usize::MAX);
-    let mut sink = StdSink::new(Failing {
-        kind: ErrorKind::Other,
-        call: 0,
-        counts: &counts,
-    });
-    assert!(rt; takes_some(&mut sink, b"ab", 2));
-    assert!(rt; takes_some(&mut sink, b"c", 1));
-    assert!(rt; counts.are(2, 0));
-    assert!(rt; passes_on(&mut sink));
-    assert!(rt; counts.are(2, 0));
-    assert!(rt; flushes(&mut sink));
-    assert!(rt; counts.are(2, 1));
+    assert!(rt;
+        takes_some(&mut sink, b"ab", 2)
+            && takes_some(&mut sink, b"c", 1)
+            && counts.are(2, 0)
+            && passes_on(&mut sink)
+            && counts.are(2, 0)
+    );
+    assert!(rt;
+        flushes(&mut sink)
+            && counts.are(2, 1)
+            && flushes(&mut sink)
+            && !flushes(&mut sink)
+            && counts.are(2, 3)
+    );
 }
 
 /// One byte is given, and then the end; a third read would fail.
@@ -45,22 +39,17 @@ fn each_read_is_one_read_of_the_reader(rt: HostRuntime) {
         counts: &counts,
     });
     let mut buf = [0; 4];
-    assert!(rt; gives(&mut source, &mut buf, 1));
-    assert!(rt; counts.are(1, 0));
+    assert!(rt; gives(&mut source, &mut buf, 1) && counts.are(1, 0));
     counts.moved.set(0);
-    assert!(rt; gives(&mut source, &mut buf, 0));
-    assert!(rt; counts.are(2, 0));
+    assert!(rt; gives(&mut source, &mut buf, 0) && counts.are(2, 0));
 }
 
 #[test]
 fn std_gives_and_takes(rt: HostRuntime) {
     let mut buf = [0; 4];
     let mut source = StdSource::new(b"abc".as_slice());
-    assert!(rt; gives(&mut source, &mut buf, 3));
-    assert!(rt; gives(&mut source, &mut buf, 0));
+    assert!(rt; gives(&mut source, &mut buf, 3) && gives(&mut source, &mut buf, 0));
     let mut room = [0; 3];
     let mut sink = StdSink::new(room.as_mut_slice());
-    assert!(rt; takes_some(&mut sink, b"ab", 2));
-    assert!(rt; flushes(&mut sink));
-    assert!(rt; !takes(&mut sink, b"cd"));
+    assert!(rt; takes_some(&mut sink, b"ab", 2) && flushes(&mut sink) && !takes(&mut sink, b"cd"));
 }

@@ -4,6 +4,7 @@ ghost use Rattle.qrdata.specs.Versions.{total_codewords};
 
 mod slow;
 
+use crate::layers::support::LEVELS;
 use arrayvec::ArrayVec;
 use qrdata::{Codewords, Level, Version};
 use qrmatrix::{Matrix, symbol_laws};
@@ -61,41 +62,32 @@ fn example(mask: Option<u8>) -> Option<Matrix>
     }
 }
 
+/// Some rows of the symbol: the module of the first column is the lowest bit.
+const ROW_BITS: [(usize, u64); 4] = [(0, 0x1FDA7F), (6, 0x1FD57F), (20, 0x052F7F), (21, 0)];
+
 #[test]
 fn draws_the_worked_example(rt: HostRuntime) {
     symbol_laws();
     let matrix = example(Some(2)).expect(&rt, "26 codewords");
-    assert!(rt; matrix.side() == 21);
-    assert!(rt; matrix.mask() == 2);
+    assert!(rt; matrix.side() == 21 && matrix.mask() == 2);
     for y in 0..21 {
         for x in 0..21 {
-            assert!(rt; matrix.dark(x, y) == (ROWS[y][x] == b'1'), "at {x}, {y}");
+            assert!(rt; matrix.dark(x, y) == (ROWS[y][x] == b'1'));
         }
     }
-}
-
-#[test]
-fn lends_its_rows(rt: HostRuntime) {
-    let matrix = example(Some(2)).expect(&rt, "26 codewords");
-    let rows = matrix.rows();
-    assert!(rt; rows[0] == 0x1FDA7F);
-    assert!(rt; rows[6] == 0x1FD57F);
-    assert!(rt; rows[20] == 0x052F7F);
-    assert!(rt; rows[21] == 0);
+    for (y, bits) in ROW_BITS {
+        assert!(rt; matrix.rows().get(y) == Some(&bits));
+    }
 }
 
 #[test]
 fn picks_the_mask_with_the_lowest_penalty(rt: HostRuntime) {
     for mask in 0..8u8 {
         let matrix = example(Some(mask)).expect(&rt, "26 codewords");
-        assert!(rt;
-            matrix.penalty() == PENALTIES[usize::from(mask)],
-            "under mask {mask}"
-        );
+        assert!(rt; matrix.penalty() == PENALTIES[usize::from(mask)]);
     }
     let matrix = example(None).expect(&rt, "26 codewords");
-    assert!(rt; matrix.mask() == 0);
-    assert!(rt; matrix.penalty() == 297);
+    assert!(rt; matrix.mask() == 0 && matrix.penalty() == 297);
 }
 
 /// What the codewords of a symbol are made of.
@@ -164,19 +156,10 @@ fn all_agree(version: Version, level: Level) -> bool {
 }
 
 #[test]
-fn version_1_agrees_with_the_slow_form(rt: HostRuntime) {
-    let version = Version::new(1).expect(&rt, "a version");
-    for level in [Level::L, Level::M, Level::Q, Level::H] {
-        assert!(rt; all_agree(version, level));
-    }
-}
-
-#[test]
-fn larger_versions_agree_with_the_slow_form(rt: HostRuntime) {
-    for number in 2..11u8 {
-        let version = Version::new(number).expect(&rt, "a version");
-        for level in [Level::L, Level::M, Level::Q, Level::H] {
-            assert!(rt; all_agree(version, level), "version {number}");
+fn each_version_agrees_with_the_slow_form(rt: HostRuntime) {
+    for number in 1..11u8 {
+        for level in LEVELS {
+            assert!(rt; all_agree(Version::of(number), level));
         }
     }
 }

@@ -1,6 +1,6 @@
 //! How much data each version holds, against the listing of the standard (ISO/IEC 18004, table 7).
-use crate::layers::support::version;
-use qrdata::{Level, choose};
+use crate::layers::support::LEVELS;
+use qrdata::{Level, Version, choose};
 use std::process::Abort;
 
 /// The most digits at the levels L, M, Q and H, from version 1 on.
@@ -45,32 +45,26 @@ const BYTES: [[usize; 4]; 10] = [
     [271, 213, 151, 119],
 ];
 
-/// The number of the version that is chosen for data, and 11 where the data is refused.
-fn version_of(rt: &impl Abort, level: Level, text: &[u8]) -> usize {
-    match choose(version(rt, 1), level, text) {
+/// The number of the version that is chosen for this many equal characters, and 11 where they are refused.
+fn version_of(rt: &impl Abort, level: Level, character: u8, count: usize) -> usize {
+    let text = [character; 653];
+    assert!(rt; count <= 653);
+    match choose(Version::of(1), level, &text[..count]) {
         Ok(plan) => usize::from(plan.version().number()),
         Err(_) => 11,
     }
 }
 
-/// Checks that `most` of the characters fit in version `before + 1`, and that one more fits only in the next version.
-fn expect_limit(rt: &impl Abort, level: Level, text: &[u8; 653], most: usize, before: usize) {
-    assert!(rt; most < 653);
-    let version = version_of(rt, level, &text[..most]);
-    assert!(rt; version == before.saturating_add(1), "{most}");
-    let next = version_of(rt, level, &text[..most + 1]);
-    assert!(rt; next == before.saturating_add(2), "{most}");
-}
-
-/// The levels in the order of the tables.
-const LEVELS: &[Level] = &[Level::L, Level::M, Level::Q, Level::H];
-
 /// Checks how many of one character fit in a version; one more fits only in the next.
 fn expect_most(rt: &impl Abort, character: u8, rows: &[[usize; 4]; 10]) {
-    let text = [character; 653];
-    for (place, row) in rows.iter().enumerate() {
-        for (level, most) in LEVELS.iter().zip(row) {
-            expect_limit(rt, *level, &text, *most, place);
+    for before in 0..10 {
+        for place in 0..4 {
+            let most = rows[before][place];
+            let level = LEVELS[place];
+            assert!(rt;
+                version_of(rt, level, character, most) == before + 1
+                    && version_of(rt, level, character, most.saturating_add(1)) == before + 2
+            );
         }
     }
 }

@@ -1,11 +1,10 @@
 //! Output that is buffered, over writers in memory.
-use crate::runs::support::{EAN8, joined, low, repeated, result_of, result_of_piece};
+use crate::runs::support::{EAN8, TWO_EAN8, low, result_of};
 use device::{Buffered, FailAt, IoFault, MemSink, MemSource, Sink, Source, StdSink};
 use filter::{RunFault, Status};
 use std::cell::RefCell;
 use std::io::{self, ErrorKind, Write};
 use std::process::Abort;
-use std::test::Fail;
 
 /// Adds its bytes to a text that several writers share, or fails.
 #[derive(Drop)]
@@ -30,32 +29,33 @@ impl Write for SharedWriter<'_> {
     }
 }
 
-/// Runs over lines that are drawn, refused and drawn, with both outputs into one text.
-fn run_into_one(rt: &impl Abort, text: &RefCell<Vec<u8>>, fails: bool) -> Result<Status, RunFault> {
-    let mut source = MemSource::new(b"ean8 7351353\npdf x\nean8 7351353\n", 4096, false);
-    let mut out = Buffered::new(StdSink::new(SharedWriter { text, fails }));
-    let mut err = StdSink::new(SharedWriter { text, fails: false });
-    let result = result_of(low(rt, false), &mut source, &mut out, &mut err);
-    let _ = out.pass_on();
-    result
-}
+/// Two images, and between them the message of a refused line.
+const ORDERED: &[u8] = b"\
+P1\n81 1\n0000000101011101101111010110001001100101010100001010011101000010100010\n01010000000\n\
+line 2: unknown symbology\n\
+P1\n81 1\n0000000101011101101111010110001001100101010100001010011101000010100010\n01010000000\n";
 
+/// Runs over lines that are drawn, refused and drawn, with both outputs into one text. No message comes after output
+/// that failed to go out.
 #[test]
-fn both_outputs_stand_in_the_order_of_the_lines(rt: HostRuntime) -> Result<(), Fail> {
-    let alloc = rt.alloc();
-    let text = RefCell::new(Vec::new(alloc));
-    assert!(rt; run_into_one(&rt, &text, false) == Ok(Status::Refused));
-    let want = joined(alloc, &[EAN8, b"line 2: unknown symbology\n", EAN8])?;
-    assert!(rt; text.into_inner().as_slice() == want.as_slice());
-    Ok(())
-}
-
-#[test]
-fn no_message_stands_after_output_that_failed_to_go_out(rt: HostRuntime) {
-    let text = RefCell::new(Vec::new(rt.alloc()));
-    let result = run_into_one(&rt, &text, true);
-    assert!(rt; result == Err(RunFault::WriteOut));
-    assert!(rt; text.into_inner().as_slice().is_empty());
+fn both_outputs_stand_in_the_order_of_the_lines(rt: HostRuntime) {
+    for fails in [false, true] {
+        let text = RefCell::new(Vec::new(rt.alloc()));
+        let mut source = MemSource::new(b"ean8 7351353\npdf x\nean8 7351353\n", 4096, false);
+        let mut out = Buffered::new(StdSink::new(SharedWriter { text: &text, fails }));
+        let mut err = StdSink::new(SharedWriter {
+            text: &text,
+            fails: false,
+        });
+        let result = result_of(low(&rt, false), &mut source, &mut out, &mut err);
+        let _ = out.pass_on();
+        let (want, written) = if fails {
+            (Err(RunFault::WriteOut), b"".as_slice())
+        } else {
+            (Ok(Status::Refused), ORDERED)
+        };
+        assert!(rt; result == want && text.into_inner().as_slice() == written);
+    }
 }
 
 /// A source that records how long a text was at its last read.
@@ -105,57 +105,43 @@ fn output_goes_out_before_each_read(rt: HostRuntime) {
     assert!(rt; source.seen == 2 * EAN8.len());
 }
 
-/// The images that were passed on are in memory, and one more is buffered, which is passed on after them.
-fn assert_one_is_buffered<const N: usize>(
-    rt: &impl Abort,
-    out: &mut Buffered<FailAt<MemSink<N>>>,
-    sent: &[u8],
-) {
-    assert!(rt; out.sink().device().bytes() == sent);
-    assert!(rt; out.buffered() == EAN8);
-    assert!(rt; out.pass_on().is_ok());
-    assert!(rt; out.sink().device().bytes().strip_prefix(sent) == Some(EAN8));
-}
-
-#[test]
-fn output_that_fails_as_it_is_sent_out_is_a_failed_write(rt: HostRuntime) {
-    let mut out = Buffered::new(FailAt::new(MemSink::<200>::new(200, 200), 1));
-    let mut err: MemSink<8> = MemSink::new(8, 8);
-    let result = result_of_piece(&rt, b"ean8 7351353\nqr 0", &mut out, &mut err);
-    assert!(rt; result == Err(RunFault::WriteOut));
-    assert_one_is_buffered(&rt, &mut out, b"");
-}
-
 /// Lines that are drawn and refused in turn, each of 13 or 6 bytes.
 const IN_TURN: &[u8] = b"ean8 7351353\npdf x\nean8 7351353\npdf x\nean8 7351353\n";
 
 /// The messages of the refused lines.
-const REFUSED_IN_TURN: &[u8] = b"line 2: unknown symbology\nline 4: unknown symbology\n";
+const REFUSED_IN_TURN: &[u8; 52] = b"line 2: unknown symbology\nline 4: unknown symbology\n";
 
-/// Runs over the lines, `piece` bytes a read. Passing on the buffered output fails after `sent` labels and messages
-/// were written. What is buffered is passed on after the run.
-fn assert_sending_fails(rt: &impl Abort, piece: usize, sent: usize, images: &[u8]) {
-    assert!(rt; piece > 0);
-    let call = (sent as u64).saturating_add(1);
-    let mut source = MemSource::new(IN_TURN, piece, false);
-    let mut out = Buffered::new(FailAt::new(MemSink::<273>::new(273, 273), call));
+/// Whether the images that were passed on are in memory, and one more is buffered, which is passed on after them.
+fn has_one_buffered(out: &mut Buffered<FailAt<MemSink<273>>>, sent: &[u8]) -> bool {
+    out.sink().device().bytes() == sent
+        && out.buffered() == EAN8
+        && out.pass_on().is_ok()
+        && out.sink().device().bytes().strip_prefix(sent) == Some(EAN8)
+}
+
+/// Runs over lines, `piece` bytes a read. Passing on the buffered output fails after `sent` labels and messages were
+/// written. What is buffered is passed on after the run.
+fn assert_sending_fails(rt: &impl Abort, lines: &[u8], piece: usize, sent: usize) {
+    assert!(rt; piece > 0 && sent <= 2);
+    let mut source = MemSource::new(lines, piece, false);
+    let mut out = Buffered::new(FailAt::new(MemSink::<273>::new(273, 273), sent as u64 + 1));
     let mut err: MemSink<52> = MemSink::new(52, 52);
     let result = result_of(low(rt, false), &mut source, &mut out, &mut err);
-    assert!(rt; result == Err(RunFault::WriteOut));
-    assert!(rt; err.bytes().len() == 26usize.saturating_mul(sent));
-    assert!(rt; REFUSED_IN_TURN.starts_with(err.bytes()));
-    assert_one_is_buffered(rt, &mut out, images);
+    assert!(rt;
+        result == Err(RunFault::WriteOut)
+            && err.bytes() == &REFUSED_IN_TURN[..26 * sent]
+            && has_one_buffered(&mut out, &TWO_EAN8[..91 * sent])
+    );
 }
 
 /// With one byte a read, each label is passed on before the read after its line. With all lines in one read, a label is
 /// passed on before the message after it, and the last one before the next read.
 #[test]
-fn each_sending_fails(rt: HostRuntime) -> Result<(), Fail> {
+fn each_sending_fails(rt: HostRuntime) {
     for piece in [1, 4096] {
         for sent in 0..3 {
-            let images = repeated(rt.alloc(), EAN8, sent)?;
-            assert_sending_fails(&rt, piece, sent, images.as_slice());
+            assert_sending_fails(&rt, IN_TURN, piece, sent);
         }
     }
-    Ok(())
+    assert_sending_fails(&rt, b"ean8 7351353\nqr 0", 4096, 0);
 }

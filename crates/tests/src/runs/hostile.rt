@@ -1,7 +1,7 @@
 //! Hostile use: devices that fail at each call or at each byte, very long lines, every byte, and input that breaks off.
 use crate::runs::support::{
-    EAN8, REFUSALS, TOO_LONG, assert_wrote, first_lines, joined, line_ends, long_lines, low,
-    rather_long_lines, refused_lines, repeated, result_of, result_of_piece, run_by,
+    EAN8, REFUSALS, REFUSED_LINES, TOO_LONG, TWO_EAN8, assert_wrote, first_lines, line_ends,
+    long_lines, low, rather_long_lines, repeated, result_of, result_of_piece, run_by,
 };
 use device::{FailAt, MemSink, MemSource};
 use filter::{RunFault, Status};
@@ -9,43 +9,40 @@ use std::alloc::{AllocError, Global};
 use std::process::Abort;
 use std::test::Fail;
 
+/// A run over devices that keep this many bytes of images and of messages ends in this way, and they keep these.
+fn assert_limited(
+    rt: &impl Abort,
+    input: &[u8],
+    limits: (usize, usize),
+    want: Result<Status, RunFault>,
+    kept: (&[u8], &[u8]),
+) {
+    assert!(rt; limits.0 <= 182 && limits.1 <= 52);
+    let mut out: MemSink<182> = MemSink::new(182, limits.0);
+    let mut err: MemSink<52> = MemSink::new(52, limits.1);
+    let result = result_of_piece(rt, input, &mut out, &mut err);
+    assert!(rt; result == want && out.bytes() == kept.0 && err.bytes() == kept.1);
+}
+
 #[test]
-fn every_limit_of_the_images(rt: HostRuntime) -> Result<(), Fail> {
-    let all = joined(rt.alloc(), &[EAN8, EAN8])?;
-    assert!(rt; all.len() == 182);
-    for limit in 0..183 {
-        let mut out: MemSink<182> = MemSink::new(182, limit);
-        let mut err: MemSink<1> = MemSink::new(1, 1);
-        let result = result_of_piece(&rt, b"ean8 7351353\nean8 7351353\n", &mut out, &mut err);
-        assert!(rt; all.starts_with(out.bytes()));
-        assert!(rt; out.bytes().len() == limit);
-        let want = if limit < 182 {
-            Err(RunFault::WriteOut)
-        } else {
-            Ok(Status::Clean)
-        };
-        assert!(rt; result == want);
+fn every_limit_of_the_images(rt: HostRuntime) {
+    let input = b"ean8 7351353\nean8 7351353\n";
+    for limit in 0..182 {
+        let kept = (&TWO_EAN8[..limit], b"".as_slice());
+        assert_limited(&rt, input, (limit, 1), Err(RunFault::WriteOut), kept);
     }
-    Ok(())
+    assert_limited(&rt, input, (182, 1), Ok(Status::Clean), (TWO_EAN8, b""));
 }
 
 #[test]
 fn every_limit_of_the_messages(rt: HostRuntime) {
+    let input = b"pdf x\npdf x\n";
     let all = b"line 1: unknown symbology\nline 2: unknown symbology\n";
-    assert!(rt; all.len() == 52);
-    for limit in 0..53 {
-        let mut out: MemSink<1> = MemSink::new(1, 1);
-        let mut err: MemSink<52> = MemSink::new(52, limit);
-        let result = result_of_piece(&rt, b"pdf x\npdf x\n", &mut out, &mut err);
-        assert!(rt; all.starts_with(err.bytes()));
-        assert!(rt; err.bytes().len() == limit);
-        let want = if limit < 52 {
-            Err(RunFault::WriteMessages)
-        } else {
-            Ok(Status::Refused)
-        };
-        assert!(rt; result == want);
+    for limit in 0..52 {
+        let kept = (b"".as_slice(), &all[..limit]);
+        assert_limited(&rt, input, (1, limit), Err(RunFault::WriteMessages), kept);
     }
+    assert_limited(&rt, input, (1, 52), Ok(Status::Refused), (b"", all));
 }
 
 /// A run whose devices fail at these calls, of the source, the images and the messages, counted from 1; 0 is none. Each
@@ -63,79 +60,48 @@ fn assert_fails(
     let mut out = FailAt::new(MemSink::<91>::new(1, 91), failing.1);
     let mut err = FailAt::new(MemSink::<39>::new(1, 39), failing.2);
     let result = result_of(low(rt, false), &mut source, &mut out, &mut err);
-    assert!(rt; result == Err(fault));
-    assert!(rt; (source.calls(), out.calls(), err.calls()) == calls);
-    let out = out.device().bytes();
-    let err = err.device().bytes();
-    assert!(rt; out.len() == held.0 && err.len() == held.1);
-    assert!(rt; EAN8.starts_with(out));
-    assert!(rt; TOO_LONG.starts_with(err));
+    assert!(rt; result == Err(fault) && (source.calls(), out.calls(), err.calls()) == calls);
+    let (images, messages) = (out.device().bytes(), err.device().bytes());
+    assert!(rt; EAN8.get(..held.0) == Some(images) && TOO_LONG.get(..held.1) == Some(messages));
 }
 
+/// Each read fails, each write of the image and its flush, and each write of the message and its flush.
 #[test]
-fn each_read_fails(rt: HostRuntime) -> Result<(), Fail> {
-    let input = rather_long_lines(rt.alloc())?;
+fn each_call_fails(rt: HostRuntime) -> Result<(), Fail> {
+    let lines = rather_long_lines(rt.alloc())?;
+    let input = lines.as_slice();
     assert!(rt; input.len() == 3116);
-    for call in 1..3118 {
+    for call in 1..3118u64 {
         let err = if call <= 1102 { 0 } else { 39 };
-        assert_fails(
-            &rt,
-            input.as_slice(),
-            (call, 0, 0),
-            RunFault::Read,
-            (call, 0, err as u64),
-            (0, err),
-        );
+        let calls = (call, 0, err as u64);
+        assert_fails(&rt, input, (call, 0, 0), RunFault::Read, calls, (0, err));
     }
-    Ok(())
-}
-
-#[test]
-fn each_write_of_the_image_and_its_flush_fail(rt: HostRuntime) -> Result<(), Fail> {
-    let input = rather_long_lines(rt.alloc())?;
-    for call in 1..93 {
+    for sent in 0..92usize {
+        let call = sent as u64 + 1;
+        let calls = (3117, call, 39);
         assert_fails(
             &rt,
-            input.as_slice(),
+            input,
             (0, call, 0),
             RunFault::WriteOut,
-            (3117, call, 39),
-            (call as usize - 1, 39),
+            calls,
+            (sent, 39),
         );
     }
-    Ok(())
-}
-
-#[test]
-fn each_write_of_the_message_and_its_flush_fail(rt: HostRuntime) -> Result<(), Fail> {
-    let input = rather_long_lines(rt.alloc())?;
-    for call in 1..40 {
-        assert_fails(
-            &rt,
-            input.as_slice(),
-            (0, 0, call),
-            RunFault::WriteMessages,
-            (1102, 0, call),
-            (0, call as usize - 1),
-        );
+    let fault = RunFault::WriteMessages;
+    for sent in 0..39usize {
+        let call = sent as u64 + 1;
+        assert_fails(&rt, input, (0, 0, call), fault, (1102, 0, call), (0, sent));
     }
-    assert_fails(
-        &rt,
-        input.as_slice(),
-        (0, 0, 40),
-        RunFault::WriteMessages,
-        (3117, 92, 40),
-        (91, 39),
-    );
+    assert_fails(&rt, input, (0, 0, 40), fault, (3117, 92, 40), (91, 39));
     Ok(())
 }
 
 #[test]
 fn lines_of_ten_million_letters(rt: HostRuntime) -> Result<(), Fail> {
     let alloc = rt.alloc();
-    let letters = repeated(alloc, &[b'a'; 1000], 10_000)?;
-    assert!(rt; letters.len() == 10_000_000);
-    let input = long_lines(alloc, letters.as_slice(), letters.as_slice())?;
+    let input = long_lines(alloc, 10_000_000, 10_000_000)?;
+    assert!(rt; input.len() == 20_000_015);
     let ran = run_by(alloc, low(&rt, false), input.as_slice(), 4096);
     assert_wrote(&rt, &ran, EAN8, TOO_LONG);
     Ok(())
@@ -153,7 +119,7 @@ fn lines_of_each_byte(alloc: Global) -> Result<Vec<u8>, AllocError> {
 
 /// The messages of these lines.
 fn messages_of_each_byte(alloc: Global) -> Result<Vec<u8>, AllocError> {
-    let mut messages = joined(alloc, &[b"line 11: no data\n"])?;
+    let mut messages = repeated(alloc, b"line 11: no data\n", 1)?;
     for line in 130..258 {
         let message = format!(in alloc; "line {line}: byte 1 is not ASCII\n")?;
         messages.extend_from_slice(message.as_bytes())?;
@@ -167,30 +133,31 @@ fn every_byte(rt: HostRuntime) -> Result<(), Fail> {
     let input = lines_of_each_byte(alloc)?;
     let messages = messages_of_each_byte(alloc)?;
     let ran = run_by(alloc, low(&rt, false), input.as_slice(), 4096);
-    assert!(rt; ran.out.len() == 9525);
-    for image in ran.out.as_slice().chunks(75) {
+    let images = ran.out.as_slice();
+    assert!(rt; images.len() == 9525);
+    for image in images.chunks(75) {
         assert!(rt; image.starts_with(b"P1\n66 1\n"));
     }
-    assert_wrote(&rt, &ran, ran.out.as_slice(), messages.as_slice());
+    assert_wrote(&rt, &ran, images, messages.as_slice());
     Ok(())
 }
 
 /// The messages of the lines that ended are those of all lines, and at most the line that breaks off has one more.
 #[test]
-fn input_that_breaks_off(rt: HostRuntime) -> Result<(), Fail> {
+fn input_that_breaks_off(rt: HostRuntime) {
     let alloc = rt.alloc();
-    let input = refused_lines(alloc)?;
     let options = low(&rt, true);
-    for end in 0..input.len() {
-        let front = &input.as_slice()[..end];
+    for end in 0..REFUSED_LINES.len() {
+        let front = &REFUSED_LINES[..end];
         let ran = run_by(alloc, options, front, 4096);
         let (images, messages) = (ran.out.as_slice(), ran.err.as_slice());
         assert_wrote(&rt, &ran, images, messages);
         assert_wrote(&rt, &run_by(alloc, options, front, 1), images, messages);
         let ended = line_ends(front);
-        assert!(rt; first_lines(messages, ended) == first_lines(REFUSALS, ended));
         let lines = line_ends(messages);
-        assert!(rt; lines == ended || lines == ended.saturating_add(1));
+        assert!(rt;
+            first_lines(messages, ended) == first_lines(REFUSALS, ended)
+                && (lines == ended || lines == ended.saturating_add(1))
+        );
     }
-    Ok(())
 }

@@ -1,11 +1,8 @@
 //! Worked labels of QR.
-use crate::runs::support::{
-    DEFAULT, LEVEL_L, Named, assert_row, joined, letters, repeated, run_by,
-};
+use crate::runs::support::{DEFAULT, LEVEL_L, Named, assert_row, bars, repeated, run_by};
 use labelcore::Format;
 use qrdata::Level;
 use std::alloc::{AllocError, Global};
-use std::process::Abort;
 use std::test::Fail;
 
 /// The symbol of `01234567` at level M under mask 2, in its quiet zone.
@@ -41,33 +38,21 @@ const EXAMPLE: &[&[u8]] = &[
     b"00000000000000000000000000000",
 ];
 
-/// The plain PBM of rows of pixels, each of less than 70.
-fn plain_pbm(alloc: Global, header: &[u8], rows: &[&[u8]]) -> Result<Vec<u8>, AllocError> {
-    let mut text = joined(alloc, &[header])?;
+/// A picture of rows of pixels, with a header and these texts for a light pixel, a dark one and the end of the picture.
+fn picture_of(
+    alloc: Global,
+    rows: &[&[u8]],
+    (header, light, dark, end): (&[u8], &[u8], &[u8], &[u8]),
+) -> Result<Vec<u8>, AllocError> {
+    let mut text = repeated(alloc, header, 1)?;
     for row in rows {
-        text.extend_from_slice(row)?;
+        for pixel in *row {
+            text.extend_from_slice(if *pixel == b'1' { dark } else { light })?;
+        }
         text.push(b'\n')?;
     }
+    text.extend_from_slice(end)?;
     Ok(text)
-}
-
-/// A line is drawn with this header, and nothing is refused.
-fn assert_header(rt: &impl Abort, alloc: Global, named: Named, line: &[u8], header: &[u8]) {
-    let options = named.options(rt);
-    let ran = run_by(alloc, options, line, 4096);
-    assert!(rt; ran.out.starts_with(header));
-    assert_row(rt, alloc, options, line, ran.out.as_slice(), b"");
-}
-
-/// A line of this front and `times` equal bytes.
-fn long_line(
-    alloc: Global,
-    front: &[u8],
-    byte: &[u8],
-    times: usize,
-) -> Result<Vec<u8>, AllocError> {
-    let data = repeated(alloc, byte, times)?;
-    joined(alloc, &[front, data.as_slice()])
 }
 
 /// The symbol of `HELLO WORLD` at level Q under mask 6, in its quiet zone, as another encoder draws it.
@@ -121,117 +106,123 @@ const HIGH: Named = Named {
     ..DEFAULT
 };
 
-/// Lines of the first symbol.
-const EXAMPLE_LINES: &[(Named, &[u8])] = &[
-    (MASKED, b"qr 01234567\n"),
-    (Named { height: 1, ..HIGH }, b"qr,level=M,mask=2 01234567\n"),
+/// The texts of a plain PBM file of 29 by 29 pixels, and those of a text picture.
+const PBM: (&[u8], &[u8], &[u8], &[u8]) = (b"P1\n29 29\n", b"0", b"1", b"");
+
+const ASCII: (&[u8], &[u8], &[u8], &[u8]) = (b"", b"  ", b"##", b"\n");
+
+/// Options and a line, the pixels of its symbol, the texts of its picture, and how long this is.
+type Drawn = (
+    Named,
+    &'static [u8],
+    &'static [&'static [u8]],
+    (&'static [u8], &'static [u8], &'static [u8], &'static [u8]),
+    usize,
+);
+
+const DRAWN: &[Drawn] = &[
+    (MASKED, b"qr 01234567\n", EXAMPLE, PBM, 879),
+    (
+        Named { height: 1, ..HIGH },
+        b"qr,level=M,mask=2 01234567\n",
+        EXAMPLE,
+        PBM,
+        879,
+    ),
+    (
+        Named {
+            mask: Some(6),
+            ..QUARTILE
+        },
+        b"qr HELLO WORLD\n",
+        HELLO,
+        PBM,
+        879,
+    ),
+    (
+        Named {
+            format: Format::Ascii,
+            ..MASKED
+        },
+        b"qr 01234567\n",
+        EXAMPLE,
+        ASCII,
+        1712,
+    ),
 ];
-
-/// A line of the second one.
-const HELLO_LINES: &[(Named, &[u8])] = &[(
-    Named {
-        mask: Some(6),
-        ..QUARTILE
-    },
-    b"qr HELLO WORLD\n",
-)];
-
-/// Each line is drawn as the plain PBM of these rows.
-fn assert_symbol(
-    rt: &impl Abort,
-    alloc: Global,
-    rows: &[&[u8]],
-    lines: &[(Named, &[u8])],
-) -> Result<(), AllocError> {
-    let want = plain_pbm(alloc, b"P1\n29 29\n", rows)?;
-    assert!(rt; want.len() == 879);
-    for (named, line) in lines {
-        assert_row(rt, alloc, named.options(rt), line, want.as_slice(), b"");
-    }
-    Ok(())
-}
 
 #[test]
 fn known_symbols(rt: HostRuntime) -> Result<(), Fail> {
     let alloc = rt.alloc();
-    assert_symbol(&rt, alloc, EXAMPLE, EXAMPLE_LINES)?;
-    assert_symbol(&rt, alloc, HELLO, HELLO_LINES)?;
-    let text = letters(alloc, EXAMPLE)?;
-    assert!(rt; text.len() == 1712);
-    let ascii = Named {
-        format: Format::Ascii,
-        ..MASKED
-    };
-    assert_row(
-        &rt,
-        alloc,
-        ascii.options(&rt),
-        b"qr 01234567\n",
-        text.as_slice(),
-        b"",
-    );
+    for (named, line, rows, texts, len) in DRAWN {
+        let want = picture_of(alloc, rows, *texts)?;
+        assert!(rt; want.len() == *len);
+        assert_row(&rt, alloc, named.options(&rt), line, want.as_slice(), b"");
+    }
     Ok(())
 }
 
-/// Options, the front of a line, the byte that follows it and how many times, and the header of the picture.
-const LEAST_VERSIONS: &[(Named, &[u8], &[u8], usize, &[u8])] = &[
-    (LEVEL_L, b"qr ", b"1", 41, b"P1\n29 29\n"),
-    (LEVEL_L, b"qr ", b"1", 42, b"P1\n33 33\n"),
-    (LEVEL_L, b"qr ", b"a", 17, b"P1\n29 29\n"),
-    (LEVEL_L, b"qr ", b"a", 18, b"P1\n33 33\n"),
+/// Options, the front of a line, how often which byte follows it, and the header of the picture.
+const LEAST_VERSIONS: &[(Named, &[u8], usize, &[u8], &[u8])] = &[
+    (LEVEL_L, b"qr ", 41, b"1", b"P1\n29 29\n"),
+    (LEVEL_L, b"qr ", 42, b"1", b"P1\n33 33\n"),
+    (LEVEL_L, b"qr ", 17, b"a", b"P1\n29 29\n"),
+    (LEVEL_L, b"qr ", 18, b"a", b"P1\n33 33\n"),
     (
         Named {
             min_version: 5,
             ..QUARTILE
         },
         b"qr ",
-        b"a",
         30,
+        b"a",
         b"P1\n45 45\n",
     ),
-    (LEVEL_L, b"qr ", b"a", 271, b"P1\n65 65\n"),
-    (LEVEL_L, b"qr ", b"1", 652, b"P1\n65 65\n"),
-    (LEVEL_L, b"qr a", b"1", 644, b"P1\n65 65\n"),
+    (LEVEL_L, b"qr ", 271, b"a", b"P1\n65 65\n"),
+    (LEVEL_L, b"qr ", 652, b"1", b"P1\n65 65\n"),
+    (LEVEL_L, b"qr a", 644, b"1", b"P1\n65 65\n"),
+    // Lines of several segments.
+    (HIGH, b"qr a123456789\n", 0, b"", b"P1\n29 29\n"),
+    (QUARTILE, b"qr ab1234567890cd\n", 0, b"", b"P1\n29 29\n"),
+    (DEFAULT, b"qr a123\n", 0, b"", b"P1\n29 29\n"),
 ];
 
+/// Each line is drawn with its header, and nothing is refused.
 #[test]
 fn least_versions(rt: HostRuntime) -> Result<(), Fail> {
-    for (named, front, byte, times, header) in LEAST_VERSIONS {
-        let line = long_line(rt.alloc(), front, byte, *times)?;
-        assert_header(&rt, rt.alloc(), *named, line.as_slice(), header);
+    let alloc = rt.alloc();
+    for (named, front, times, byte, header) in LEAST_VERSIONS {
+        let options = named.options(&rt);
+        let line = bars(alloc, front, byte, *times)?;
+        let ran = run_by(alloc, options, line.as_slice(), 4096);
+        assert!(rt; ran.out.starts_with(header));
+        assert_row(
+            &rt,
+            alloc,
+            options,
+            line.as_slice(),
+            ran.out.as_slice(),
+            b"",
+        );
     }
     Ok(())
 }
 
-/// Fronts of lines, the byte that follows each and how many times: the data does not fit.
-const TOO_MUCH_DATA: &[(&[u8], &[u8], usize)] = &[
-    (b"qr ", b"a", 272),
-    (b"qr ", b"1", 653),
-    (b"qr a", b"1", 645),
+/// Fronts of lines, and how often which byte follows each: the data does not fit.
+const TOO_MUCH_DATA: &[(&[u8], usize, &[u8])] = &[
+    (b"qr ", 272, b"a"),
+    (b"qr ", 653, b"1"),
+    (b"qr a", 645, b"1"),
 ];
 
 #[test]
 fn data_that_does_not_fit(rt: HostRuntime) -> Result<(), Fail> {
     let alloc = rt.alloc();
     let options = LEVEL_L.options(&rt);
-    for (front, byte, times) in TOO_MUCH_DATA {
-        let line = long_line(alloc, front, byte, *times)?;
+    for (front, times, byte) in TOO_MUCH_DATA {
+        let line = bars(alloc, front, byte, *times)?;
         let message = b"line 1: data does not fit version 10-L\n";
         assert_row(&rt, alloc, options, line.as_slice(), b"", message);
     }
     Ok(())
-}
-
-/// Options, and a line of several segments.
-const MIXED: &[(Named, &[u8])] = &[
-    (HIGH, b"qr a123456789\n"),
-    (QUARTILE, b"qr ab1234567890cd\n"),
-    (DEFAULT, b"qr a123\n"),
-];
-
-#[test]
-fn mixed_segments(rt: HostRuntime) {
-    for (named, line) in MIXED {
-        assert_header(&rt, rt.alloc(), *named, line, b"P1\n29 29\n");
-    }
 }

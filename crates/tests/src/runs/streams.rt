@@ -1,5 +1,5 @@
 //! Readers and writers of std that move one byte a call, break off once, or take nothing once.
-use crate::runs::support::{EAN8, EAN13_ROW, REFUSALS, bars, low, refused_lines, result_of};
+use crate::runs::support::{EAN8, EAN13_ROW, REFUSALS, REFUSED_LINES, bars, low, result_of};
 use device::{StdSink, StdSource};
 use filter::{RunFault, Status};
 use labelcore::Options;
@@ -30,11 +30,11 @@ impl Read for ByteReader<'_> {
     }
 }
 
-/// What a writer does at its odd call.
-#[derive(Clone, Copy, Drop)]
+/// What a writer does at its third call.
+#[derive(Clone, Copy)]
 enum Oddity {
-    None,
-    Interrupted,
+    TakesOne,
+    IsInterrupted,
     TakesNothing,
 }
 
@@ -50,7 +50,7 @@ impl Write for ByteWriter {
     fn write(&mut self, bytes: &[u8]) -> io::Result<usize> {
         self.calls = self.calls.wrapping_add(1);
         match self.oddity {
-            Oddity::Interrupted if self.calls == 3 => return Err(ErrorKind::Interrupted.into()),
+            Oddity::IsInterrupted if self.calls == 3 => return Err(ErrorKind::Interrupted.into()),
             Oddity::TakesNothing if self.calls == 3 => return Ok(0),
             _ => {}
         }
@@ -66,20 +66,28 @@ impl Write for ByteWriter {
     }
 }
 
-/// Runs over a reader and two writers of one byte a call.
-fn run_by_bytes(
+/// Runs over a reader of one byte a call, of which one is interrupted, and two writers of these oddities. The run ends
+/// so, and writes these images and messages.
+fn assert_run(
+    rt: &impl Abort,
+    alloc: Global,
     options: Options,
     reader: ByteReader<'_>,
-    out: &mut ByteWriter,
-    err: &mut ByteWriter,
-) -> Result<Status, RunFault> {
+    oddities: (Oddity, Oddity),
+    want: (Result<Status, RunFault>, &[u8], &[u8]),
+) {
+    let mut out = writer_of(alloc, oddities.0);
+    let mut err = writer_of(alloc, oddities.1);
     let mut source = StdSource::new(reader);
-    result_of(
+    let result = result_of(
         options,
         &mut source,
-        &mut StdSink::new(out),
-        &mut StdSink::new(err),
-    )
+        &mut StdSink::new(&mut out),
+        &mut StdSink::new(&mut err),
+    );
+    assert!(rt;
+        result == want.0 && out.bytes.as_slice() == want.1 && err.bytes.as_slice() == want.2
+    );
 }
 
 /// A reader of these bytes that is never interrupted.
@@ -99,81 +107,57 @@ fn writer_of(alloc: Global, oddity: Oddity) -> ByteWriter {
     }
 }
 
-/// Over devices of one byte a call, a run writes these images and messages.
-fn assert_by_bytes(
-    rt: &impl Abort,
-    alloc: Global,
-    options: Options,
-    input: &[u8],
-    out: &[u8],
-    err: &[u8],
-) {
-    let mut images = writer_of(alloc, Oddity::None);
-    let mut messages = writer_of(alloc, Oddity::None);
-    let result = run_by_bytes(options, reader_of(input), &mut images, &mut messages);
-    let status = if err.is_empty() {
-        Status::Clean
-    } else {
-        Status::Refused
-    };
-    assert!(rt; result == Ok(status));
-    assert!(rt; images.bytes.as_slice() == out);
-    assert!(rt; messages.bytes.as_slice() == err);
-}
+/// Two writers that are not odd.
+const EVEN: (Oddity, Oddity) = (Oddity::TakesOne, Oddity::TakesOne);
 
 #[test]
 fn devices_of_one_byte_a_call(rt: HostRuntime) -> Result<(), Fail> {
     let alloc = rt.alloc();
     let options = low(&rt, true);
-    assert_by_bytes(&rt, alloc, options, b"ean8 7351353\n", EAN8, b"");
+    let clean = Ok(Status::Clean);
+    let label = reader_of(b"ean8 7351353\n");
+    assert_run(&rt, alloc, options, label, EVEN, (clean, EAN8, b""));
     let tall = bars(alloc, b"P1\n113 50\n", EAN13_ROW, 50)?;
-    assert_by_bytes(
-        &rt,
-        alloc,
-        Options::default(),
-        b"ean13 4006381333931\n",
-        tall.as_slice(),
-        b"",
-    );
-    let input = refused_lines(alloc)?;
-    assert_by_bytes(&rt, alloc, options, input.as_slice(), b"", REFUSALS);
+    let label = reader_of(b"ean13 4006381333931\n");
+    let want = (clean, tall.as_slice(), b"".as_slice());
+    assert_run(&rt, alloc, Options::default(), label, EVEN, want);
+    let want = (Ok(Status::Refused), b"".as_slice(), REFUSALS);
+    assert_run(&rt, alloc, options, reader_of(REFUSED_LINES), EVEN, want);
     Ok(())
 }
 
+/// An interrupted read, and an interrupted or empty write, are failures.
 #[test]
-fn an_interrupted_read_is_a_failure(rt: HostRuntime) {
+fn odd_calls_are_failures(rt: HostRuntime) {
     let alloc = rt.alloc();
-    let mut out = writer_of(alloc, Oddity::None);
-    let mut err = writer_of(alloc, Oddity::None);
+    let options = Options::default();
     let reader = ByteReader {
         rest: b"pdf x\nean8 7351353\n",
         interrupted: 9,
     };
-    let result = run_by_bytes(Options::default(), reader, &mut out, &mut err);
-    assert!(rt; result == Err(RunFault::Read));
-    assert!(rt; out.bytes.is_empty());
-    assert!(rt; err.bytes.as_slice() == b"line 1: unknown symbology\n".as_slice());
-}
-
-#[test]
-fn an_interrupted_or_empty_write_is_a_failure(rt: HostRuntime) {
-    let alloc = rt.alloc();
-    for oddity in [Oddity::Interrupted, Oddity::TakesNothing] {
-        let mut out = writer_of(alloc, oddity);
-        let mut err = writer_of(alloc, Oddity::None);
-        let reader = reader_of(b"ean8 7351353\n");
-        let result = run_by_bytes(Options::default(), reader, &mut out, &mut err);
-        assert!(rt; result == Err(RunFault::WriteOut));
-        assert!(rt; out.bytes.as_slice() == b"P1".as_slice());
-        let mut out = writer_of(alloc, Oddity::None);
-        let mut err = writer_of(alloc, oddity);
-        let result = run_by_bytes(
-            Options::default(),
-            reader_of(b"pdf x\n"),
-            &mut out,
-            &mut err,
+    let read = (
+        Err(RunFault::Read),
+        b"".as_slice(),
+        b"line 1: unknown symbology\n".as_slice(),
+    );
+    assert_run(&rt, alloc, options, reader, EVEN, read);
+    for odd in [Oddity::IsInterrupted, Oddity::TakesNothing] {
+        let oddities = (odd, Oddity::TakesOne);
+        let want = (Err(RunFault::WriteOut), b"P1".as_slice(), b"".as_slice());
+        assert_run(
+            &rt,
+            alloc,
+            options,
+            reader_of(b"ean8 7351353\n"),
+            oddities,
+            want,
         );
-        assert!(rt; result == Err(RunFault::WriteMessages));
-        assert!(rt; err.bytes.as_slice() == b"li".as_slice());
+        let oddities = (Oddity::TakesOne, odd);
+        let want = (
+            Err(RunFault::WriteMessages),
+            b"".as_slice(),
+            b"li".as_slice(),
+        );
+        assert_run(&rt, alloc, options, reader_of(b"pdf x\n"), oddities, want);
     }
 }

@@ -12,6 +12,11 @@ use std::process::Abort;
 pub const EAN8: &[u8] =
     b"P1\n81 1\n0000000101011101101111010110001001100101010100001010011101000010100010\n01010000000\n";
 
+/// That image, and after it the same image.
+pub const TWO_EAN8: &[u8; 182] =
+    b"P1\n81 1\n0000000101011101101111010110001001100101010100001010011101000010100010\n01010000000\n\
+      P1\n81 1\n0000000101011101101111010110001001100101010100001010011101000010100010\n01010000000\n";
+
 /// A row of pixels of `ean13 4006381333931`, in its quiet zone.
 pub const EAN13_ROW: &[u8] =
     b"0000000000010100011010100111010111101111010001001011001101010100001010\n\
@@ -23,6 +28,11 @@ pub const REFUSALS: &[u8] =
       line 5: unknown symbology\nline 6: bad escape at byte 2\nline 7: byte 1 is not ASCII\n\
       line 8: data is longer than 80 bytes\n";
 
+/// The lines of these messages.
+pub const REFUSED_LINES: &[u8] =
+    b"ean8 73x1353\nean13 123\nqr\nqr \n qr x\ncode128 a\\q\ncode128 \xC3\xA9\n\
+      code128 aaaaaaaaaaaaaaaaaaaaaaaaaaaaaaaaaaaaaaaaaaaaaaaaaaaaaaaaaaaaaaaaaaaaaaaaaaaaaaaaa\n";
+
 /// How a run ended, and what it wrote.
 #[derive(Drop)]
 pub struct RunResult {
@@ -32,7 +42,7 @@ pub struct RunResult {
 }
 
 /// The options of a worked row, with the defaults for those that it does not name.
-#[derive(Clone, Copy, Drop)]
+#[derive(Clone, Copy)]
 pub struct Named {
     pub format: Format,
     pub scale: u8,
@@ -151,30 +161,24 @@ pub fn run_by(alloc: Global, options: Options, input: &[u8], piece: usize) -> Ru
 
 /// Feeds the input in two pieces.
 pub fn fed(alloc: Global, options: Options, first: &[u8], second: &[u8]) -> RunResult {
-    let mut out = Vec::new(alloc);
-    let mut err = Vec::new(alloc);
-    let result = fed_into(
-        options,
-        first,
-        second,
-        &mut StdSink::new(&mut out),
-        &mut StdSink::new(&mut err),
-    );
-    RunResult { result, out, err }
-}
-
-/// Feeds the input in two pieces to a filter over these sinks.
-fn fed_into(
-    options: Options,
-    first: &[u8],
-    second: &[u8],
-    out: &mut StdSink<&mut Vec<u8>>,
-    err: &mut StdSink<&mut Vec<u8>>,
-) -> Result<Status, RunFault> {
+    let mut images = Vec::new(alloc);
+    let mut messages = Vec::new(alloc);
+    let mut out = StdSink::new(&mut images);
+    let mut err = StdSink::new(&mut messages);
     let mut filter = Filter::new(options);
-    feed_piece(&mut filter, first, out, err)?;
-    feed_piece(&mut filter, second, out, err)?;
-    finish(filter, out, err)
+    let mut fed = feed_piece(&mut filter, first, &mut out, &mut err);
+    if fed.is_ok() {
+        fed = feed_piece(&mut filter, second, &mut out, &mut err);
+    }
+    let result = match fed {
+        Ok(()) => finish(filter, &mut out, &mut err),
+        Err(fault) => Err(fault),
+    };
+    RunResult {
+        result,
+        out: images,
+        err: messages,
+    }
 }
 
 /// The text, `times` times.
@@ -186,59 +190,31 @@ pub fn repeated(alloc: Global, text: &[u8], times: usize) -> Result<Vec<u8>, All
     Ok(all)
 }
 
-/// Texts, joined.
-pub fn joined(alloc: Global, texts: &[&[u8]]) -> Result<Vec<u8>, AllocError> {
-    let mut all = Vec::new(alloc);
-    for text in texts {
-        all.extend_from_slice(text)?;
-    }
-    Ok(all)
-}
-
-/// The lines whose messages `REFUSALS` has.
-pub fn refused_lines(alloc: Global) -> Result<Vec<u8>, AllocError> {
-    let mut lines = Vec::new(alloc);
-    lines.extend_from_slice(
-        b"ean8 73x1353\nean13 123\nqr\nqr \n qr x\ncode128 a\\q\ncode128 \xC3\xA9\ncode128 ",
-    )?;
-    for _ in 0..81 {
-        lines.push(b'a')?;
-    }
-    lines.push(b'\n')?;
-    Ok(lines)
-}
-
 /// The message of the line that is too long.
 pub const TOO_LONG: &[u8] = b"line 1: line is longer than 1100 bytes\n";
 
-/// A line that is too long, a long comment and a label.
-pub fn long_lines(alloc: Global, letters: &[u8], comment: &[u8]) -> Result<Vec<u8>, AllocError> {
-    joined(alloc, &[letters, b"\n#", comment, b"\nean8 7351353"])
+/// A line that is too long, of this many letters, a comment of this many letters, and a label.
+pub fn long_lines(alloc: Global, letters: usize, comment: usize) -> Result<Vec<u8>, AllocError> {
+    let mut lines = repeated(alloc, b"a", letters)?;
+    lines.extend_from_slice(b"\n#")?;
+    for _ in 0..comment {
+        lines.push(b'a')?;
+    }
+    lines.extend_from_slice(b"\nean8 7351353")?;
+    Ok(lines)
 }
 
 /// A line of 1,101 letters, a comment of 2,000 and a label.
 pub fn rather_long_lines(alloc: Global) -> Result<Vec<u8>, AllocError> {
-    let letters = repeated(alloc, b"a", 1101)?;
-    let comment = repeated(alloc, b"a", 2000)?;
-    long_lines(alloc, letters.as_slice(), comment.as_slice())
+    long_lines(alloc, 1101, 2000)
 }
 
 /// A header, and then the text of one row of pixels for each of the rows.
 pub fn bars(alloc: Global, header: &[u8], row: &[u8], rows: usize) -> Result<Vec<u8>, AllocError> {
-    let pixels = repeated(alloc, row, rows)?;
-    joined(alloc, &[header, pixels.as_slice()])
-}
-
-/// The text picture of rows of pixels, each written as `0` and `1`.
-pub fn letters(alloc: Global, rows: &[&[u8]]) -> Result<Vec<u8>, AllocError> {
-    let mut text = Vec::new(alloc);
-    for row in rows {
-        for pixel in *row {
-            text.extend_from_slice(if *pixel == b'1' { b"##" } else { b"  " })?;
-        }
-        text.push(b'\n')?;
+    let mut text = repeated(alloc, header, 1)?;
+    for _ in 0..rows {
+        text.extend_from_slice(row)?;
     }
-    text.push(b'\n')?;
     Ok(text)
 }
 
@@ -289,9 +265,7 @@ pub fn assert_wrote(rt: &impl Abort, ran: &RunResult, out: &[u8], err: &[u8]) {
     } else {
         Status::Refused
     };
-    assert!(rt; ran.out.as_slice() == out);
-    assert!(rt; ran.err.as_slice() == err);
-    assert!(rt; ran.result == Ok(status));
+    assert!(rt; ran.out.as_slice() == out && ran.err.as_slice() == err && ran.result == Ok(status));
 }
 
 /// A run over the input, read in pieces of several sizes and fed in two at each cut, writes these images and
@@ -304,10 +278,10 @@ pub fn assert_row(
     out: &[u8],
     err: &[u8],
 ) {
-    assert_wrote(rt, &run_by(alloc, options, input, 1), out, err);
-    assert_wrote(rt, &run_by(alloc, options, input, 2), out, err);
-    assert_wrote(rt, &run_by(alloc, options, input, 7), out, err);
-    assert_wrote(rt, &run_by(alloc, options, input, 4096), out, err);
+    for piece in [1, 2, 7, 4096] {
+        assert!(rt; piece > 0);
+        assert_wrote(rt, &run_by(alloc, options, input, piece), out, err);
+    }
     for at in 0..input.len() {
         let (first, second) = input.split_at(at);
         assert_wrote(rt, &fed(alloc, options, first, second), out, err);

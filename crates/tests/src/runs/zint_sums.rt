@@ -1,9 +1,9 @@
 //! The pictures of each QR version at each level, under each mask, and of each linear symbology, beside what Zint
 //! 2.11.1 draws. A picture is compared by one number, its Adler-32 sum (RFC 1950).
+use crate::layers::support::LEVELS;
 use crate::runs::support::{DEFAULT, Named, run_by};
 use filter::Status;
 use labelcore::Options;
-use qrdata::Level;
 use std::process::Abort;
 
 /// The Adler-32 sum of bytes.
@@ -20,12 +20,8 @@ fn sum_of(bytes: &[u8]) -> u32 {
 /// The line is drawn as the picture of this sum.
 fn assert_sum(rt: &impl Abort, alloc: std::alloc::Global, options: Options, line: &[u8], sum: u32) {
     let ran = run_by(alloc, options, line, 4096);
-    assert!(rt; ran.result == Ok(Status::Clean));
-    assert!(rt; sum_of(ran.out.as_slice()) == sum);
+    assert!(rt; ran.result == Ok(Status::Clean) && sum_of(ran.out.as_slice()) == sum);
 }
-
-/// The levels in the order of the sums.
-const LEVELS: &[Level] = &[Level::L, Level::M, Level::Q, Level::H];
 
 /// Of versions 1 to 10 the sums at these levels, under the mask that is the version's remainder by 8: `zint -b 58
 /// --vers=VERSION --secure=LEVEL --mask=MASK --dump -d 01234567`, as a plain PBM file with a quiet zone of four
@@ -104,27 +100,9 @@ const DATA: &[(&[u8], u32)] = &[
     (b"qr a12b\n", 0x44E2A13E),
 ];
 
-#[test]
-fn each_mode(rt: HostRuntime) {
-    let named = Named {
-        mask: Some(0),
-        ..DEFAULT
-    };
-    for (line, sum) in DATA {
-        assert_sum(&rt, rt.alloc(), named.options(&rt), line, *sum);
-    }
-}
-
 /// Data for which the rule of this program and that of Zint both choose mask 7, the last one, at level M, and the sums
 /// of Zint's symbols of version 1.
 const LAST_MASK: &[(&[u8], u32)] = &[(b"qr 1189\n", 0x4615A13C), (b"qr 3200\n", 0x4142A13A)];
-
-#[test]
-fn the_last_mask_is_tried(rt: HostRuntime) {
-    for (line, sum) in LAST_MASK {
-        assert_sum(&rt, rt.alloc(), DEFAULT.options(&rt), line, *sum);
-    }
-}
 
 /// Lines of each linear symbology, and the sums of Zint's modules in 50 rows between the quiet zones of ISO/IEC 15420
 /// and 15417: 11 and 7, 7 and 7, 9 and 9, 10 and 10 modules.
@@ -136,8 +114,14 @@ const LINEAR: &[(&[u8], u32)] = &[
 ];
 
 #[test]
-fn each_linear_symbology(rt: HostRuntime) {
-    for (line, sum) in LINEAR {
-        assert_sum(&rt, rt.alloc(), DEFAULT.options(&rt), line, *sum);
+fn each_mode_the_last_mask_and_each_linear_symbology(rt: HostRuntime) {
+    let masked = Named {
+        mask: Some(0),
+        ..DEFAULT
+    };
+    for (named, rows) in [(masked, DATA), (DEFAULT, LAST_MASK), (DEFAULT, LINEAR)] {
+        for (line, sum) in rows {
+            assert_sum(&rt, rt.alloc(), named.options(&rt), line, *sum);
+        }
     }
 }

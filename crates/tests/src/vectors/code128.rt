@@ -1,6 +1,7 @@
 //! Code 128: data and its row. Every printable character of set B, every pair of set C and every control character of
 //! set A is here.
-use crate::layers::bars::assert_widths;
+use crate::layers::bars::assert_rows;
+use linear::Code128;
 
 /// Rows of the test suites of zint and barcode. zint has some from ISO/IEC 15417 and the specifications of HIBC and
 /// DPD.
@@ -202,7 +203,7 @@ const CODE128_CONTROLS: &[(&[u8], &[u8])] = &[
 
 #[test]
 fn code128(rt: HostRuntime) {
-    assert_widths(&rt, CODE128);
-    assert_widths(&rt, CODE128_DRAWN);
-    assert_widths(&rt, CODE128_CONTROLS);
+    assert_rows::<Code128>(&rt, CODE128);
+    assert_rows::<Code128>(&rt, CODE128_DRAWN);
+    assert_rows::<Code128>(&rt, CODE128_CONTROLS);
 }

@@ -52,9 +52,6 @@ fn has_modules(matrix: &Matrix, digits: &[u8]) -> bool {
 /// The data is drawn as these modules, in this version.
 fn assert_symbol(rt: &impl Abort, data: &[u8], form: Form, digits: &[u8]) {
     let matrix = symbol_of(rt, form, data);
-    assert!(rt;
-        matrix.side() == 17usize.saturating_add(usize::from(form.0).saturating_mul(4)),
-        "{form:?}"
-    );
-    assert!(rt; has_modules(&matrix, digits), "{form:?}");
+    let side = 17 + 4 * usize::from(form.0);
+    assert!(rt; matrix.side() == side && has_modules(&matrix, digits));
 }

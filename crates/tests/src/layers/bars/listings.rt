@@ -1,8 +1,8 @@
 //! Each row of the tables against the symbols that Zint 2.11.1 draws.
 ghost use Rattle.std.specs.Prelude.{◌<◌};
 
-use super::{assert_drawn, assert_row, assert_widths, push_widths};
-use linear::{Code128, Ean8, Ean13, Row};
+use super::{assert_row, assert_rows, row_of};
+use linear::{Code128, Ean8, Ean13};
 
 /// The widths of the values 0 to 105, six digits each, as `zint -b 20 --dump` and, for 102, `zint -b 16 --dump` draw
 /// them: 0 to 99 and 105 in the symbols of two digits, 103 in that of bytes 1 and 2, 104 in that of `ab`, 101 in that
@@ -17,29 +17,29 @@ const WIDTHS: &[u8] = b"\
     214121412121111143111341131141114113114311411113411311113141114131311141411131211412211214\
     211232";
 
-/// The row of two digits alone: the start value of set C, their value, the check value 105 + value, modulo 103, and the
-/// stop character.
-fn row_of(value: u8) -> Row
+/// The widths of two digits alone: the start value of set C, their value, the check value 105 + value, modulo 103, and
+/// the stop character.
+fn widths_of(value: u8) -> [u8; 25]
     requires { value < 100 }
 {
-    let mut row = Row::new();
-    for character in [105, value, (105 + value) % 103] {
-        let place = 6 * usize::from(character);
-        if let Some(widths) = WIDTHS.get(place..place + 6) {
-            push_widths(&mut row, widths);
+    let mut widths = *b"                  2331112";
+    let values = [105, value, (105 + value) % 103];
+    for place in 0..18 {
+        let first = 6 * usize::from(values[place / 6]);
+        if let Some(width) = WIDTHS.get(first + place % 6) {
+            widths[place] = *width;
         }
     }
-    push_widths(&mut row, b"2331112");
-    row
+    widths
 }
 
 #[test]
 fn widths_of_each_value(rt: HostRuntime) {
     for value in 0..100u8 {
         let data = [b'0' + value / 10, b'0' + value % 10];
-        let want = row_of(value);
-        assert!(rt; want.len() == 46);
-        assert_row::<Code128>(&rt, &data, &want);
+        let widths = widths_of(value);
+        assert!(rt; row_of(&widths).len() == 46);
+        assert_row::<Code128>(&rt, &data, &widths);
     }
 }
 
@@ -66,65 +66,59 @@ const OTHER_VALUES: &[(&[u8], &[u8])] = &[
     ),
 ];
 
-/// Symbols of `zint -b 13 --dump`: each first digit, and each digit in each number set.
+/// Symbols of `zint -b 13 --dump`, as widths: each first digit, and each digit in each number set.
 const EAN13_SYMBOLS: &[(&[u8], &[u8])] = &[
     (
         b"021403579861",
-        b"10100100110011001010001100011010111101011000101010100010011101001001000101000011001101011100101",
+        b"11121222221113232111411123111111131231121213111422211132111",
     ),
     (
         b"170634891525",
-        b"10101110110001101000010101111010011101000100101010111010011001101001110110110010011101000100101",
+        b"11113123211411114112311312111111311222211231212212311312111",
     ),
     (
         b"209854732610",
-        b"10100011010001011000100101110010100011001000101010100001011011001010000110011011100101100110101",
+        b"11132113112312113211132213111111141121221114222132112221111",
     ),
     (
         b"383794120654",
-        b"10101101110111101001000100101110011101001100101010110110011100101010000100111010111001010000101",
+        b"11112131411213121132311222111111212232111114123111321114111",
     ),
     (
         b"406175294838",
-        b"10100011010000101001100101110110111001001101101010111010010111001001000100001010010001100110101",
+        b"11132114111222113121321221211111311211321213141112132221111",
     ),
     (
         b"534879652013",
-        b"10101111010011101000100101110110001011000010101010100111011011001110010110011010000101100110101",
+        b"11114112311312113123112411111111123121223211222114112221111",
     ),
     (
         b"669274801358",
-        b"10101011110010111001101100100010100011011011101010111001011001101000010100111010010001001110101",
+        b"11111142113221221311132121311111321122211411123112131231111",
     ),
     (
         b"765780391242",
-        b"10101011110111001011101100010010001101010000101010111010011001101101100101110011011001011100101",
+        b"11111141321131231213211114111111311222212122113221221132111",
     ),
     (
         b"883061459277",
-        b"10101101110100001000110100001010110011010001101010100111011101001101100100010010001001011100101",
+        b"11112131141321141111222113211111123131122122131213121132111",
     ),
     (
         b"948035912760",
-        b"10101000110001001010011101111010111001000101101010110011011011001000100101000011100101101100101",
+        b"11111323121112314111321311211111222121221312111432112122111",
     ),
 ];
 
-/// Symbols of `zint -b 13 --dump` with seven digits: each digit in a left or right half.
+/// Symbols of `zint -b 13 --dump` with seven digits, as widths: each digit in a left or right half.
 const EAN8_SYMBOLS: &[(&[u8], &[u8])] = &[
-    (
-        b"2468013",
-        b"1010010011010001101011110110111010101110010110011010000101011100101",
-    ),
-    (
-        b"9753108",
-        b"1010001011011101101100010111101010101100110111001010010001100110101",
-    ),
+    (b"2468013", b"1112122113211141213111113211222114111132111"),
+    (b"9753108", b"1113112131212311411111112221321112132221111"),
 ];
 
 #[test]
 fn rows_are_drawn(rt: HostRuntime) {
-    assert_widths(&rt, OTHER_VALUES);
-    assert_drawn::<Ean13>(&rt, EAN13_SYMBOLS);
-    assert_drawn::<Ean8>(&rt, EAN8_SYMBOLS);
+    assert_rows::<Code128>(&rt, OTHER_VALUES);
+    assert_rows::<Ean13>(&rt, EAN13_SYMBOLS);
+    assert_rows::<Ean8>(&rt, EAN8_SYMBOLS);
 }

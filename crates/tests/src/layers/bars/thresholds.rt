@@ -1,6 +1,6 @@
 //! Both sides of each limit and of each threshold of Code 128 (ISO/IEC 15417, annex on the use of code sets).
-use super::{assert_refused, assert_widths, encoded};
-use linear::{Code128, Ean8, Ean13, Refusal, UpcA};
+use super::{assert_rows, encoded};
+use linear::{Code128, Ean8};
 
 /// Data whose values Zint 2.11.1 writes in the same sets (`zint -b 20 --verbose`): digits at the start and at the end,
 /// two to eight of them, and bytes 31, 32, 95, 96 and 127.
@@ -72,51 +72,18 @@ const BY_THE_RULE: &[(&[u8], &[u8])] = &[
 
 #[test]
 fn sets_change_at_each_threshold(rt: HostRuntime) {
-    assert_widths(&rt, AS_ZINT);
-    assert_widths(&rt, BY_THE_RULE);
+    assert_rows::<Code128>(&rt, AS_ZINT);
+    assert_rows::<Code128>(&rt, BY_THE_RULE);
 }
 
+/// Eighty bytes, byte 127, and the check digits 0 and 9, as Zint appends them. The tests of refusals have one byte more
+/// and byte 128.
 #[test]
-fn eighty_bytes_and_no_more(rt: HostRuntime) {
-    let (result, row) = encoded::<Code128>(&rt, &[b'a'; 80]);
-    assert!(rt; result.is_ok());
-    assert!(rt; row.len() == 11 * 82 + 13);
-    assert_refused::<Code128>(&rt, &[(&[b'a'; 81], Refusal::DataTooLong)]);
+fn data_at_its_limits_is_drawn(rt: HostRuntime) {
+    let (longest, row) = encoded::<Code128>(&rt, &[b'a'; 80]);
+    assert!(rt; longest.is_ok() && row.len() == 11 * 82 + 13);
     let (ascii, _) = encoded::<Code128>(&rt, &[0, 127]);
-    assert!(rt; ascii.is_ok());
-    assert_refused::<Code128>(&rt, &[(&[127, 128], Refusal::NotAscii(2))]);
-}
-
-#[test]
-fn numbers_of_digits(rt: HostRuntime) {
-    assert_refused::<Ean13>(
-        &rt,
-        &[
-            (b"40063813339", Refusal::WrongNumberOfDigits(11)),
-            (b"40063813339311", Refusal::WrongNumberOfDigits(14)),
-        ],
-    );
-    assert_refused::<Ean8>(
-        &rt,
-        &[
-            (b"735135", Refusal::WrongNumberOfDigits(6)),
-            (b"735135377", Refusal::WrongNumberOfDigits(9)),
-        ],
-    );
-    assert_refused::<UpcA>(
-        &rt,
-        &[
-            (b"0360002914", Refusal::WrongNumberOfDigits(10)),
-            (b"0360002914522", Refusal::WrongNumberOfDigits(13)),
-        ],
-    );
-}
-
-/// Check digits 0 and 9, as Zint appends them.
-#[test]
-fn check_digits_at_both_ends(rt: HostRuntime) {
-    for data in [b"12345670", b"12345649"] {
-        let (result, _) = encoded::<Ean8>(&rt, data);
-        assert!(rt; result.is_ok());
-    }
+    let (zero, _) = encoded::<Ean8>(&rt, b"12345670");
+    let (nine, _) = encoded::<Ean8>(&rt, b"12345649");
+    assert!(rt; ascii.is_ok() && zero.is_ok() && nine.is_ok());
 }

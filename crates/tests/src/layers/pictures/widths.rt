@@ -2,7 +2,6 @@
 use crate::runs::support::line_ends;
 use device::{IoFault, MemSink, Sink, write_whole};
 use picture::{Bars, Framed, Grid, QuietZone, write_ascii, write_pbm};
-use std::process::Abort;
 
 /// About a line, the room for a row at scale 1, and the room for any label's row.
 const WIDTHS: [usize; 13] = [
@@ -59,26 +58,31 @@ fn write_ascii_slowly<G: Grid, S: Sink>(grid: &G, sink: &mut S) -> Result<(), Io
     write_whole(b"\n", sink)
 }
 
-/// Both texts of the grid, of at most four rows.
-fn assert_texts<G: Grid>(rt: &impl Abort, grid: &G) {
+/// Whether the plain PBM of a grid of at most four rows has a header and the slow form's rows.
+fn has_same_pbm(grid: &impl Grid) -> bool {
     let mut sink = MemSink::<61000>::new(4096, 61000);
     let mut slow = MemSink::<61000>::new(4096, 61000);
-    assert!(rt; write_pbm(grid, &mut sink).is_ok());
-    assert!(rt; write_pbm_slowly(grid, &mut slow).is_ok());
-    assert!(rt; sink.bytes().starts_with(b"P1\n"));
-    assert!(rt; sink.bytes().ends_with(slow.bytes()));
-    assert!(rt; line_ends(sink.bytes()) == line_ends(slow.bytes()).wrapping_add(2));
+    write_pbm(grid, &mut sink).is_ok()
+        && write_pbm_slowly(grid, &mut slow).is_ok()
+        && sink.bytes().starts_with(b"P1\n")
+        && sink.bytes().ends_with(slow.bytes())
+        && line_ends(sink.bytes()) == line_ends(slow.bytes()).wrapping_add(2)
+}
+
+/// Whether the text picture of a grid of at most four rows is that of the slow form.
+fn has_same_ascii(grid: &impl Grid) -> bool {
     let mut sink = MemSink::<121000>::new(4096, 121000);
     let mut slow = MemSink::<121000>::new(4096, 121000);
-    assert!(rt; write_ascii(grid, &mut sink).is_ok());
-    assert!(rt; write_ascii_slowly(grid, &mut slow).is_ok());
-    assert!(rt; sink.bytes() == slow.bytes());
+    write_ascii(grid, &mut sink).is_ok()
+        && write_ascii_slowly(grid, &mut slow).is_ok()
+        && sink.bytes() == slow.bytes()
 }
 
 #[test]
 fn rows_that_are_not_known_to_be_equal(rt: HostRuntime) {
     for width in WIDTHS {
-        assert_texts(&rt, &Stripes { width });
+        let stripes = Stripes { width };
+        assert!(rt; has_same_pbm(&stripes) && has_same_ascii(&stripes));
     }
 }
 
@@ -98,6 +102,7 @@ fn rows_that_are_known_to_be_equal(rt: HostRuntime) {
             top: 1,
             bottom: 1,
         };
-        assert_texts(&rt, &Framed::new(bars, zone));
+        let framed = Framed::new(bars, zone);
+        assert!(rt; has_same_pbm(&framed) && has_same_ascii(&framed));
     }
 }

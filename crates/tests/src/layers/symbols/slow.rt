@@ -68,13 +68,16 @@ fn place(n: usize, codewords: &Codewords, function: &Square, modules: &mut Squar
         } else {
             n - 2 - 2 * strip
         };
-        for t in 0..n {
-            let y = if strip % 2 == 0 { n - 1 - t } else { t };
-            for x in [right, right - 1] {
-                if !function.get(x, y) {
-                    modules.set(x, y, codeword_bit(codewords, placed));
-                    placed = placed.saturating_add(1);
-                }
+        for step in 0..2 * n {
+            let x = right - step % 2;
+            let y = if strip % 2 == 0 {
+                n - 1 - step / 2
+            } else {
+                step / 2
+            };
+            if !function.get(x, y) {
+                modules.set(x, y, codeword_bit(codewords, placed));
+                placed = placed.saturating_add(1);
             }
         }
     }

@@ -24,13 +24,13 @@ const FORMAT_INFORMATION: [[u32; 8]; 4] = [
 fn format_information(level: Level, mask: u8) -> u32
     requires { mask < 8 }
 {
-    let of_masks = match level {
-        Level::L => FORMAT_INFORMATION[0],
-        Level::M => FORMAT_INFORMATION[1],
-        Level::Q => FORMAT_INFORMATION[2],
-        Level::H => FORMAT_INFORMATION[3],
+    let row = match level {
+        Level::L => 0,
+        Level::M => 1,
+        Level::Q => 2,
+        Level::H => 3,
     };
-    of_masks[usize::from(mask)]
+    FORMAT_INFORMATION[row][usize::from(mask)]
 }
 
 /// The version information of a version from 7 on (ISO/IEC 18004, Table D.1).
@@ -49,29 +49,15 @@ fn ring(a: usize, b: usize, x: usize, y: usize) -> usize {
     a.abs_diff(x).max(b.abs_diff(y))
 }
 
-/// The finder pattern with its separator that has its centre at (`a`, `b`).
-fn finder_at(a: usize, b: usize, x: usize, y: usize) -> Option<bool> {
-    let r = ring(a, b, x, y);
-    if r <= 4 { Some(r != 2 && r != 4) } else { None }
-}
-
-/// The finder pattern with its separator that has the module, in a symbol of `n` by `n` modules.
+/// The finder pattern with its separator that has the module, in a symbol of `n` by `n` modules. No two of the patterns
+/// have a module in common.
 fn finder(n: usize, x: usize, y: usize) -> Option<bool>
     requires { 21 ≤ n }
 {
-    if let Some(dark) = finder_at(3, 3, x, y) {
-        return Some(dark);
-    }
-    if let Some(dark) = finder_at(n - 4, 3, x, y) {
-        return Some(dark);
-    }
-    finder_at(3, n - 4, x, y)
-}
-
-/// The alignment pattern that has its centre at (`a`, `b`).
-fn alignment_at(a: usize, b: usize, x: usize, y: usize) -> Option<bool> {
-    let r = ring(a, b, x, y);
-    if r <= 2 { Some(r != 1) } else { None }
+    let r = ring(3, 3, x, y)
+        .min(ring(n - 4, 3, x, y))
+        .min(ring(3, n - 4, x, y));
+    if r <= 4 { Some(r != 2 && r != 4) } else { None }
 }
 
 /// The timing pattern that has the module.
@@ -149,27 +135,17 @@ fn alignment_coordinates(version: Version) -> &'static [usize] {
     }
 }
 
-/// The first alignment pattern with its centre in column `a` that has the module.
-fn alignment_in(n: usize, a: usize, rows: &[usize], x: usize, y: usize) -> Option<bool>
+/// The first alignment pattern that has the module, of those with these coordinates. Where a finder pattern lies there
+/// is none.
+fn alignment(n: usize, centres: &[usize], x: usize, y: usize) -> Option<bool>
     requires { 21 ≤ n }
 {
-    for b in rows {
-        if let Some(dark) = alignment_at(a, *b, x, y) {
-            if finder(n, a, *b).is_none() {
-                return Some(dark);
+    for a in centres {
+        for b in centres {
+            let r = ring(*a, *b, x, y);
+            if r <= 2 && finder(n, *a, *b).is_none() {
+                return Some(r != 1);
             }
-        }
-    }
-    None
-}
-
-/// The first alignment pattern that has the module.
-fn alignment_over(n: usize, columns: &[usize], rows: &[usize], x: usize, y: usize) -> Option<bool>
-    requires { 21 ≤ n }
-{
-    for a in columns {
-        if let Some(dark) = alignment_in(n, *a, rows, x, y) {
-            return Some(dark);
         }
     }
     None
@@ -186,8 +162,7 @@ pub fn fixed(version: Version, level: Level, mask: u8, x: usize, y: usize) -> Op
     if let Some(dark) = finder(n, x, y) {
         return Some(dark);
     }
-    let centres = alignment_coordinates(version);
-    if let Some(dark) = alignment_over(n, centres, centres, x, y) {
+    if let Some(dark) = alignment(n, alignment_coordinates(version), x, y) {
         return Some(dark);
     }
     if let Some(dark) = timing(x, y) {
