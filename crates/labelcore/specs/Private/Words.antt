@@ -1,4 +1,4 @@
--- The words of a message, as the code appends them.
+-- The two parts of a message, as the code appends them.
 use Rattle.std.specs.Prelude.{ℕ, List, [], ◌++◌, codes, decimal}
 use Rattle.labelcore.specs.declared.fault.Fault.{Fault}
 use Rattle.labelcore.specs.declared.fault.Fault.TheVariants.{LineTooLong, UnknownSymbology, NoData, BadEscape}
@@ -7,22 +7,7 @@ use Rattle.labelcore.specs.declared.fault.Fault.TheVariants.{DataTooLong, NotAsc
 use Rattle.labelcore.specs.declared.fault.Fault.TheVariants.{BadValue}
 use Rattle.labelcore.specs.Message.{level_letter}
 
--- the words before the first number or the level
-abbrev pub first_words : Fault → List ℕ
-first_words LineTooLong = codes "line is longer than 1100 bytes"
-first_words UnknownSymbology = codes "unknown symbology"
-first_words NoData = codes "no data"
-first_words (BadEscape place) = codes "bad escape at byte "
-first_words (NotADigit place) = codes "not a digit at byte "
-first_words (WrongNumberOfDigits count) = codes "wrong number of digits: "
-first_words (WrongCheckDigit is right) = codes "check digit is "
-first_words DataTooLong = codes "data is longer than 80 bytes"
-first_words (NotAscii place) = codes "byte "
-first_words (DoesNotFit level) = codes "data does not fit version 10-"
-first_words (UnknownSetting number) = codes "unknown setting "
-first_words (BadValue number) = codes "bad value in setting "
-
--- what comes after the first words
+-- what comes after the words before the first number or the level
 abbrev pub words_after : Fault → List ℕ
 words_after LineTooLong = []
 words_after UnknownSymbology = []

@@ -12,6 +12,7 @@ use Rattle.filter.proofs.RunLaws.{RunStops-finish, RunRaises-line, FlushedImages
 use Rattle.filter.proofs.RunLaws.{FlushesImagesFirst-after, NoneFailed-after}
 use Rattle.filter.proofs.whole_run.run.Goals as goal
 
+-- at a fault the clauses whole, ended, nothing_left and no_failure say nothing: tt
 pub loop-turn-init : goal.loop-turn-init
 loop-turn-init g c = record {
   given = [];
