@@ -12,7 +12,6 @@ use Rattle.filter.proofs.RunLaws.{RunStops-finish, RunRaises-line, FlushedImages
 use Rattle.filter.proofs.RunLaws.{FlushesImagesFirst-after, NoneFailed-after}
 use Rattle.filter.proofs.whole_run.run.Goals as goal
 
--- at a fault the clauses whole, ended, nothing_left and no_failure say nothing: tt
 pub loop-turn-init : goal.loop-turn-init
 loop-turn-init g c = record {
   given = [];
@@ -27,6 +26,7 @@ loop-turn-init g c = record {
   err_count = refl;
 }
 
+-- at a fault the clauses whole, ended, nothing_left and no_failure say nothing: tt
 pub returns-then-is_err : goal.returns-then-is_err
 returns-then-is_err g c =
     let h = c.loop-turn.invariant in
