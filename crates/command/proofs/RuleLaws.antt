@@ -28,7 +28,8 @@ pub added : (old : Command) (arguments : List Arg) (rules : List Rule) (new : Co
 added old arguments rules new adds (have, local) app is =
     rules_added old arguments new adds local ∙ ap (with_rules (app_of old)) have ∙ ap (λ a. with_rules a rules) is
 
--- an argument with the rule of the next row of the table, added after those of the rows before
+-- an argument with the rule of the next row of the table, added after those of the rows before; what the loop has, its
+-- place, what the call returned and what holds so far are arguments
 pub row_added : (arguments : List Arg) (argument : Arg) (table : List Argument) (place : ℕ) (row : Argument)
     (rules : List Rule) → place < length table → rule_of argument ≡ rule (get_or table place row)
     → IsLocal argument

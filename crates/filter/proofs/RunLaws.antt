@@ -172,9 +172,11 @@ FlushedImagesAtMost-neither o e WriteOut = (o, e)
 FlushedImagesAtMost-neither o e WriteMessages = e
 FlushedImagesAtMost-neither o e Spent = (o, e)
 
--- flushes after calls that flush no sink
+-- flushes after calls that flush no sink; the marks of each sink are arguments, at the start, before the flushes and
+-- after them
 pub FlushesImagesFirst-after : {first out before err : Bool} (out' err' : Bool) → Unflushed first out
-    → Unflushed before err → (r : Result Status RunFault) → FlushesImagesFirst out out' err err' r → FlushesImagesFirst first out' before err' r
+    → Unflushed before err → (r : Result Status RunFault) → FlushesImagesFirst out out' err err' r
+    → FlushesImagesFirst first out' before err' r
 FlushesImagesFirst-after out' err' o e (Ok status) f = f
 FlushesImagesFirst-after out' err' o e (Err Read) f = (λ h. o (f.0 h), λ h. e (f.1 h))
 FlushesImagesFirst-after out' err' o e (Err WriteOut) f = (λ h. o (f.0 h), λ h. e (f.1 h))
@@ -185,6 +187,8 @@ FlushesImagesFirst-after out' err' o e (Err Spent) f = (λ h. o (f.0 h), λ h. e
 pub not_spent : {spent : Bool} → spent ≡ true → spent ≡ false → ⊥
 not_spent is isnt = cc
 
+-- The counts of each device are arguments, at the start, before the last line and after it, since no answer of a failure
+-- says them.
 module _ {first out before err : ℕ} (out' err' : ℕ) (o : out ≡ first) (e : err ≡ before) where
   -- a fault of a sink, after calls in which no sink failed
   pub RaisesOneCount-after : (fault : RunFault) → RaisesOneCount out out' err err' fault
