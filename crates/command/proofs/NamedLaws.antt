@@ -10,8 +10,8 @@ use Rattle.clap.proofs.WalkLemmas.{first_value-rows, one_text-rows}
 use Rattle.labelcore.specs.Defaults.{default_options}
 use Rattle.labelcore.specs.OptionValues.{IsInRange, IsMask, OptionValues}
 use Rattle.labelcore.specs.declared.options.Format.{Format}
-use Rattle.command.specs.CommandLine.{format_in, is_on, level_in, number_named, number_of, options_named, options_with}
-use Rattle.command.specs.CommandLine.{run, run_of}
+use Rattle.command.specs.CommandLine.{format_in, is_on, level_in, number_named, number_written, options_named}
+use Rattle.command.specs.CommandLine.{options_with, run, run_of}
 use Rattle.command.specs.Private.Checked.{HoldsNumber, IsNumberIn}
 
 -- what a getter returns for an option that is given
@@ -24,9 +24,9 @@ pub read_default : {X : Type 0} (f : Found) (id : Text) (read : Text → Option 
     → None ≡ first_value f id → default ≡ option_map_or read (first_of id (rows_of f)) default
 read_default f id read default is = ap (λ o. option_map_or read o default) (is ∙ first_value-rows f id)
 
-pub number_read : (f : Found) (id : Text) (o : Option ℕ) → o ≡ option_map number_of (one_text f id)
+pub number_read : (f : Found) (id : Text) (o : Option ℕ) → o ≡ option_map number_written (one_text f id)
     → o ≡ number_named id (rows_of f)
-number_read f id o is = is ∙ ap (option_map number_of) (one_text-rows f id)
+number_read f id o is = is ∙ ap (option_map number_written) (one_text-rows f id)
 
 -- a number is the one that the rows name, or the default, and in its range
 pub record NumberIs (rows : List Row) (id : Text) (default low high n : ℕ) : Type 0 where
@@ -34,18 +34,20 @@ pub record NumberIs (rows : List Row) (id : Text) (default low high n : ℕ) : T
   pub at_least : low ≤ n
   pub at_most : n ≤ high
 
-module _ (f : Found) (id : Text) (o : Option ℕ) (is : o ≡ option_map number_of (one_text f id)) where
+module _ (f : Found) (id : Text) (o : Option ℕ) (is : o ≡ option_map number_written (one_text f id)) where
   -- a number that is given lies in the range, and so does the default
   in_range : (low high d : ℕ) → HoldsNumber low high id f → low ≤ d → d ≤ high
       → (low ≤ unwrap_or o d) × (unwrap_or o d ≤ high)
   in_range low high d holds least most = rw is (go (one_text f id) holds)
     where
       go : (t : Option Text) → IfSome t (IsNumberIn low high)
-          → (low ≤ unwrap_or (option_map number_of t) d) × (unwrap_or (option_map number_of t) d ≤ high)
+          → (low ≤ unwrap_or (option_map number_written t) d) × (unwrap_or (option_map number_written t) d ≤ high)
       go None h = (least, most)
       go (Some t) h = (h.1, h.2)
 
   -- what a getter reads of a number, with a default in its range
+  -- d and n are what two calls in options_named, the only caller, return, with the equation that each ensures; the
+  -- other facts are that the number that was given is in the range, and that the default is
   pub NumberIs-read : (low high default d n : ℕ) → HoldsNumber low high id f → low ≤ default → default ≤ high
       → d ≡ default → n ≡ unwrap_or o d → NumberIs (rows_of f) id default low high n
   NumberIs-read low high default d n holds least most same given =
@@ -57,11 +59,11 @@ module _ (f : Found) (id : Text) (o : Option ℕ) (is : o ≡ option_map number_
         at_most = omega (arith, chosen, range.1);
       }
 
-pub mask_in_range : (f : Found) (id : Text) (o : Option ℕ) → o ≡ option_map number_of (one_text f id)
+pub mask_in_range : (f : Found) (id : Text) (o : Option ℕ) → o ≡ option_map number_written (one_text f id)
     → HoldsNumber 0 7 id f → IsMask o
 mask_in_range f id o is holds = rw is (go (one_text f id) holds)
   where
-    go : (t : Option Text) → IfSome t (IsNumberIn 0 7) → IsMask (option_map number_of t)
+    go : (t : Option Text) → IfSome t (IsNumberIn 0 7) → IsMask (option_map number_written t)
     go None h = tt
     go (Some t) h = h.2
 

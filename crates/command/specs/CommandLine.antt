@@ -65,12 +65,12 @@ command_line = record {
 -- ---- what the matches name
 
 -- the whole number that a text writes in decimal digits, with or without a plus before them
-abbrev pub number_of : Text → ℕ
-number_of text = digits_value 10 (without_leading_plus text)
+abbrev pub number_written : Text → ℕ
+number_written text = digits_value 10 (without_leading_plus text)
 
 -- the number that an option was given
 abbrev pub number_named : Text → List Row → Option ℕ
-number_named id rows = option_map number_of (one_of id rows)
+number_named id rows = option_map number_written (one_of id rows)
 
 -- whether a switch was given
 abbrev pub is_on : Text → List Row → Bool

@@ -3,7 +3,7 @@ ghost use Rattle.std.specs.Prelude.{◌≡◌, map, option_map, string_bytes};
 ghost use Rattle.clap.specs.Words.{app_of, found_of, kind_of, one_text, rows_of};
 ghost use Rattle.command.specs.Choosing.{Chooses, Refuses};
 ghost use Rattle.command.specs.CommandLine.{command_line, format_in, format_of, invocation_of, invocation_refused};
-ghost use Rattle.command.specs.CommandLine.{level_in, number_of, options_named, run_of};
+ghost use Rattle.command.specs.CommandLine.{level_in, number_written, options_named, run_of};
 ghost use Rattle.command.specs.Private.Checked.{HoldsNumber, HoldsValues};
 
 use crate::command_line::command;
@@ -67,7 +67,7 @@ fn level_in(matches: &ArgMatches<'_>) -> Option<Level>
 /// Returns the number that the matches name for an option, 0 to 65,535.
 fn number(matches: &ArgMatches<'_>, id: &str) -> Option<u16>
     requires { HoldsNumber 0 65535 id.now (found_of matches.now) }
-    ensures { result ≡ option_map number_of (one_text (found_of matches.now) id.now) }
+    ensures { result ≡ option_map number_written (one_text (found_of matches.now) id.now) }
 {
     matches.get_one(id)
 }
@@ -75,7 +75,7 @@ fn number(matches: &ArgMatches<'_>, id: &str) -> Option<u16>
 /// Returns the number that the matches name for an option, 0 to 255.
 fn small_number(matches: &ArgMatches<'_>, id: &str) -> Option<u8>
     requires { HoldsNumber 0 255 id.now (found_of matches.now) }
-    ensures { result ≡ option_map number_of (one_text (found_of matches.now) id.now) }
+    ensures { result ≡ option_map number_written (one_text (found_of matches.now) id.now) }
 {
     matches.get_one(id)
 }

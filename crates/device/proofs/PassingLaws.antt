@@ -40,6 +40,7 @@ buffered_more bytes more s e n low high size =
     ∙ ap (λ (xs : List ℕ). xs ++ more) (sym (between_is bytes s e))))
 
 -- what was passed on, and more that is buffered
+-- `write` of Buffered, the only caller, has three buffers: as it got it, with room made, and with `more` in it
 pub PassesOn-more : {S : Type 0} (took : S → S → List ℕ → Type 0) (s t : S) (old mid new more : List ℕ)
     → PassesOn took s t old mid [] → new ≡ mid ++ more → PassesOn took s t old new more
 PassesOn-more took s t old mid new more h e = record {

@@ -1,4 +1,6 @@
 -- A text that is written piece by piece.
+-- Most of these lemmas have nine or ten arguments. Two calls have three states, s, t and u, and a text each; the whole
+-- text has an equation, since a caller often has another term for it; and r is the caller's own result.
 use Rattle.std.proofs.Common.{◌≡◌, ℕ, List, [], ◌++◌, Result, Ok, Err, refl, ap, sym, subst, ◌∙◌, append_assoc}
 use Rattle.std.proofs.lemmas.Bool.{false≢true}
 use Rattle.std.proofs.lemmas.List.{append-nil}

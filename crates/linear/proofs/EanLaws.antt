@@ -89,6 +89,8 @@ zipped g (set ∷ sets) [] = []
 zipped g (set ∷ sets) (byte ∷ bytes) = g set byte ∷ zipped g sets bytes
 
 -- what a reader finds for each group of a left half, from what it finds for one digit in one of its sets
+-- the induction is on the sets and the bytes, with a fact on each and one on their lengths; `found`, `g` and `P`
+-- differ: a left half of EAN-8 is in set A, one of EAN-13 in A and B
 pub each_group-patterns : {Y : Type 0} (found : List Bool → Option Y) (g : NumberSet → ℕ → Y) (P : NumberSet → Type 0)
     → ((set : NumberSet) (byte : ℕ) → P set → IsAsciiDigit byte
     → found (pattern set (digit_value byte)) ≡ Some (g set byte))
@@ -232,6 +234,8 @@ read_ean8-ean8_row full f =
     ∙ ap (λ xs. result_ok (with_check_digit 7 xs)) whole ∙ with_check_digit-full 7 full f
 
 -- a row that was empty, and then is that of the full data
+-- each `encode`, of four symbologies, has its own answer, row and reading, the row before and after, and a fact by each
+-- of its calls
 pub IsDrawn-from_Ok : {R : Type 0} (answer : Result (List ℕ) Refusal) (row_of : List ℕ → List Bool)
     (reading : List Bool → Option (List ℕ)) (full : List ℕ) (old row : List Bool) → answer ≡ Ok full → old ≡ []
     → row ≡ row_of full → length row ≤ length old + MAX_MODULES → IfOk answer (λ xs. reading (row_of xs) ≡ Some xs) → R

@@ -18,7 +18,7 @@ use Rattle.picture.specs.Text.{below, pbm_digit, pbm_header, pbm_text}
 use Rattle.picture.proofs.ColumnLaws.{pbm_line_end, pbm_pixel, pbm_columns, columns_text, texts_by_columns}
 use Rattle.picture.proofs.ColumnLaws.{map_by_columns}
 use Rattle.picture.proofs.LineLaws.{is_line_feed}
-use Rattle.picture.specs.Reading.{parts, pbm_files}
+use Rattle.picture.specs.Reading.{cut_between, pbm_files}
 
 -- parts with an element before them: it is a part of its own, or the front of the first
 abbrev onto_parts : {X : Type 0} → Bool → X → List (List X) → List (List X)
@@ -26,7 +26,7 @@ onto_parts is_cut x parts = if is_cut then (x ∷ []) ∷ parts else onto_first 
 
 -- the lines of a stream, each with its line feed
 abbrev pub whole_lines : List ℕ → List (List ℕ)
-whole_lines stream = parts (λ b next. b == LF) stream
+whole_lines stream = cut_between (λ b next. b == LF) stream
 
 -- the line that a plain PBM file begins with
 abbrev is_magic : List ℕ → Bool
@@ -34,11 +34,11 @@ is_magic line = bytes_eq line (codes "P1\n") || bytes_eq line (codes "P1")
 
 -- the parts of a list, each but the last ended by an element that passes
 abbrev pub cut_after : {X : Type 0} → (X → Bool) → List X → List (List X)
-cut_after ends xs = parts (λ x next. ends x) xs
+cut_after ends xs = cut_between (λ x next. ends x) xs
 
 -- the parts of a list, each but the first begun by an element that passes
 abbrev pub cut_before : {X : Type 0} → (X → Bool) → List X → List (List X)
-cut_before begins xs = parts (λ x next. begins next) xs
+cut_before begins xs = cut_between (λ x next. begins next) xs
 
 onto_parts-nil : {X : Type 0} (b : Bool) (x : X) → onto_parts b x [] ≡ (x ∷ []) ∷ []
 onto_parts-nil true x = refl

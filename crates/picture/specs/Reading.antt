@@ -82,15 +82,15 @@ ascii_pixels text = do
   then_some (list_all (λ row. length row == width) rows) (record { width = width; height = length rows; rows = rows })
 
 -- the parts of a list, which is cut between two neighbours where they pass the test
-abbrev pub parts : {X : Type 0} → (X → X → Bool) → List X → List (List X)
-parts is_cut [] = []
-parts is_cut (x ∷ []) = (x ∷ []) ∷ []
-parts is_cut (x ∷ y ∷ xs) =
-    let more = parts is_cut (y ∷ xs) in if is_cut x y then (x ∷ []) ∷ more else onto_first x more
+abbrev pub cut_between : {X : Type 0} → (X → X → Bool) → List X → List (List X)
+cut_between is_cut [] = []
+cut_between is_cut (x ∷ []) = (x ∷ []) ∷ []
+cut_between is_cut (x ∷ y ∷ xs) =
+    let more = cut_between is_cut (y ∷ xs) in if is_cut x y then (x ∷ []) ∷ more else onto_first x more
 
 -- the files of a stream, which is cut between two neighbouring lines where they pass the test; a line has its line feed
 abbrev pub files : (List ℕ → List ℕ → Bool) → List ℕ → List (List ℕ)
-files is_cut stream = map concat (parts is_cut (parts (λ b next. b == LF) stream))
+files is_cut stream = map concat (cut_between is_cut (cut_between (λ b next. b == LF) stream))
 
 -- the plain PBM files of a stream: each begins with a line `P1`, which may have no line feed at the stream's end
 abbrev pub pbm_files : List ℕ → List (List ℕ)

@@ -85,7 +85,8 @@ written : (m n : ℕ → ℕ → Bool) (a b : ℕ) (value : Bool) → Writes m n
 written m n a b value w x y ex ey = w x y ∙ grind (arith, nat_tests)
 
 -- another place is as it was before a write
--- it has both places, as `written` does: step_free takes it for five fields, and shows the places different in each
+-- it has both places, as `written` does: other_key and three fields of step_free show in their own ways that they
+-- differ
 unwritten : (m n : ℕ → ℕ → Bool) (a b : ℕ) (value : Bool) → Writes m n a b value → (x y : ℕ) → (x ≡ a → y ≡ b → ⊥)
     → n x y ≡ m x y
 unwritten m n a b value w x y ne = w x y ∙ grind (arith, nat_tests)
@@ -93,6 +94,13 @@ unwritten m n a b value w x y ne = w x y ∙ grind (arith, nat_tests)
 module _ (v : ℕ) (c : Computed v) (codewords : List ℕ) (old m : ℕ → ℕ → Bool) (i k a b : ℕ)
     (p : Placed v codewords old m i k)
     (la : a < side_of v) (lb : b < side_of v) (ne : a ≢ 6) (e : key (side_of v) a b ≡ k) where
+  -- a module with another key is as it was before the bit
+  other_key : (n : ℕ → ℕ → Bool) → Writes m n a b (codeword_bit codewords i) → (x y : ℕ) → key (side_of v) x y ≢ k
+      → n x y ≡ m x y
+  other_key n w x y other =
+      unwritten m n a b (codeword_bit codewords i) w x y
+      (λ ex ey. other (ap (λ z. key (side_of v) z y) ex ∙ ap (λ z. key (side_of v) a z) ey ∙ e))
+
   -- a bit is placed on a free module
   step_free : (n : ℕ → ℕ → Bool) → is_free v a b ≡ true → Writes m n a b (codeword_bit codewords i)
       → Placed v codewords old n (i + 1) (k + 1)
@@ -108,16 +116,9 @@ module _ (v : ℕ) (c : Computed v) (codewords : List ℕ) (old m : ℕ → ℕ 
               let at = unique v c x y a b lx ly free la lb ne (same ∙ sym e) in
               written m n a b (codeword_bit codewords i) w x y at.0 at.1
               ∙ ap (codeword_bit codewords) (p.counted ∙ ap (free_below v) (sym same) ∙ sym (rank-free_below v x y))
-          | inr other ↦
-              unwritten m n a b (codeword_bit codewords i) w x y
-              (λ ex ey. other (ap (λ z. key (side_of v) z y) ex ∙ ap (λ z. key (side_of v) a z) ey ∙ e))
-              ∙ p.placed x y lx ly free (omega arith)
+          | inr other ↦ other_key n w x y other ∙ p.placed x y lx ly free (omega arith)
         ];
-        ahead = λ x y lx ly free l.
-            unwritten m n a b (codeword_bit codewords i) w x y
-            (λ ex ey. let same : key (side_of v) x y ≡ k =
-            ap (λ z. key (side_of v) z y) ex ∙ ap (λ z. key (side_of v) a z) ey ∙ e in omega arith)
-            ∙ p.ahead x y lx ly free (omega arith);
+        ahead = λ x y lx ly free l. other_key n w x y (λ same. omega arith) ∙ p.ahead x y lx ly free (omega arith);
         others = λ x y lx ly taken.
             unwritten m n a b (codeword_bit codewords i) w x y
             (λ ex ey. let same : is_free v x y ≡ true = ap (λ z. is_free v z y) ex ∙ ap (λ z. is_free v a z) ey ∙ f in
@@ -275,6 +276,8 @@ module _ {v : ℕ} (codewords : List ℕ) (old : ℕ → ℕ → Bool) (function
       )
 
   -- the two modules of the row, one after the other
+  -- m, n and o are the square before, between and after two calls of place_module in `place`, the only caller; i, j and
+  -- h count the bits; each call ensures one fact for a free module and one for another
   pub placed_pair : Computed v → (m n o : List (List Bool)) (i j h : ℕ)
       → Placed v codewords old (value_at m) i (2 * side_of v * s + 2 * t)
       → (value_at function right y ≡ false → (j ≡ i + 1) × WritesAt m n right y (codeword_bit codewords i))
@@ -292,6 +295,8 @@ module _ {v : ℕ} (codewords : List ℕ) (old : ℕ → ℕ → Bool) (function
       subst (λ z. Placed v codewords old (value_at o) h z) (row_done (side_of v) s t) second
 
   -- the two modules of the row at once, where both are free
+  -- `place`, the only caller, has m and i by its loop, o and `two` by two calls, and a fact by each call, its loop and
+  -- its test
   pub placed_two : Computed v → (m o : List (List Bool)) (i two : ℕ)
       → Placed v codewords old (value_at m) i (2 * side_of v * s + 2 * t)
       → (value_at function (right - 1) y ≡ false) × (value_at function (right - 1 + 1) y ≡ false)

@@ -15,8 +15,8 @@ use Rattle.qrdata.specs.declared.level.Level.TheVariants.{L, M, Q, H}
 use Rattle.qrdata.specs.Versions.{side_of}
 use Rattle.qrmatrix.specs.Bits.{bit}
 use Rattle.qrmatrix.specs.Private.Drawing.{unmasked_module, format_module, HasFunctions}
-use Rattle.qrmatrix.specs.Private.FunctionRows.{alignments, finders, format_row, formats, function_row, or_else, timing}
-use Rattle.qrmatrix.specs.Private.FunctionRows.{up, versions}
+use Rattle.qrmatrix.specs.Private.FunctionRows.{alignments, finders, format_row, formats, function_row, or_else}
+use Rattle.qrmatrix.specs.Private.FunctionRows.{timings, up, versions}
 use Rattle.qrmatrix.specs.Functions.{Role, Function, Format, Version, format_bit, role, is_free}
 use Rattle.qrmatrix.specs.Information.{format_information, version_information}
 use Rattle.qrmatrix.specs.declared.function.PatternRow.{PatternRow}
@@ -146,7 +146,7 @@ fits v w h l =
 
 -- the patterns of a row one after another
 pub all_patterns : (v y : ℕ) → or_else (or_else
-    (or_else (or_else (finders (side_of v) y) (alignments v y)) (timing (side_of v) y)) (formats (side_of v) y))
+    (or_else (or_else (finders (side_of v) y) (alignments v y)) (timings (side_of v) y)) (formats (side_of v) y))
     (versions v y) ≡ function_row v y
 unfolding function_row
 all_patterns v y = refl

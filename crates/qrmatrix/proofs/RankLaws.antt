@@ -73,9 +73,10 @@ module _ (v : ℕ) (c : Computed v) where
       (all_below_at (side_of v) (λ y. is_outside v y) c.outside y ly)) (subst (λ z. is_free v z y ≡ true) e free)
 
   -- no other free module has the key of a module
+  -- two modules have four coordinates with their bounds; of x, y it is known that it is free, of a, b only that it is
+  -- not in column 6
   pub unique : (x y a b : ℕ) → x < side_of v → y < side_of v → is_free v x y ≡ true → a < side_of v → b < side_of v
-      → a ≢ 6
-      → key (side_of v) x y ≡ key (side_of v) a b → (x ≡ a) × (y ≡ b)
+      → a ≢ 6 → key (side_of v) x y ≡ key (side_of v) a b → (x ≡ a) × (y ≡ b)
   unique x y a b lx ly free la lb ne e =
       let p = found_at x y lx ly (outside_at x y ly free) in
       let q = found_at a b la lb ne in

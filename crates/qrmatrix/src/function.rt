@@ -142,10 +142,10 @@ fn alignments(version: Version, y: usize) -> PatternRow
 }
 
 /// The timing patterns.
-#[tactic(auto, unfolding(crate::specs::Private::FunctionRows::timing))]
-fn timing(n: usize, y: usize) -> PatternRow
+#[tactic(auto, unfolding(crate::specs::Private::FunctionRows::timings))]
+fn timings(n: usize, y: usize) -> PatternRow
     requires { n ≤ SIDE }
-    ensures { result ≡ FunctionRows.timing n y }
+    ensures { result ≡ FunctionRows.timings n y }
 {
     if y == 6 {
         let taken = low_ones(n);
@@ -238,7 +238,7 @@ pub fn function_row(version: Version, y: usize) -> PatternRow
     let n = version.side();
     finders(n, y)
         .or_else(alignments(version, y))
-        .or_else(timing(n, y))
+        .or_else(timings(n, y))
         .or_else(formats(n, y))
         .or_else(versions(version, y))
 }

@@ -3,11 +3,12 @@ use Rattle.std.specs.Prelude.{◌≡◌, ◌≤◌, ◌⊎◌, ℕ, IfSome, code
 use Rattle.std.specs.Str.Parse.{IsNumeral, without_leading_plus}
 use Rattle.clap.specs.Words.{Text, one_text}
 use Rattle.clap.specs.declared.parser.matches.Found.{Found}
-use Rattle.command.specs.CommandLine.{number_of}
+use Rattle.command.specs.CommandLine.{number_written}
 
 -- a numeral from low to high
 abbrev pub IsNumberIn : ℕ → ℕ → Text → Type 0
-IsNumberIn low high text = IsNumeral 10 (without_leading_plus text) × (low ≤ number_of text) × (number_of text ≤ high)
+IsNumberIn low high text =
+    IsNumeral 10 (without_leading_plus text) × (low ≤ number_written text) × (number_written text ≤ high)
 
 -- an option that was given holds a number from low to high
 abbrev pub HoldsNumber : ℕ → ℕ → Text → Found → Type 0

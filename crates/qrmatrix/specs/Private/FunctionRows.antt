@@ -58,8 +58,8 @@ alignments v y =
     pattern_row (row.taken * columns) (row.dark * columns)
 
 -- the timing patterns
-unfoldable pub timing : ℕ → ℕ → PatternRow
-timing n y =
+unfoldable pub timings : ℕ → ℕ → PatternRow
+timings n y =
     if y == 6 then pattern_row (2 ^ n - 1) (bit_and (2 ^ n - 1) EVERY_OTHER)
     else (if y % 2 == 0 then pattern_row 64 64 else pattern_row 64 0)
 
@@ -90,10 +90,10 @@ versions v y =
 
 -- the modules that the codewords do not choose, those of the format information light
 unfoldable pub function_row : ℕ → ℕ → PatternRow
-unfolding or_else finders alignments timing formats versions
+unfolding or_else finders alignments timings formats versions
 function_row v y =
     let n = side_of v in
-    or_else (or_else (or_else (or_else (finders n y) (alignments v y)) (timing n y)) (formats n y)) (versions v y)
+    or_else (or_else (or_else (or_else (finders n y) (alignments v y)) (timings n y)) (formats n y)) (versions v y)
 
 -- the modules that show a one of the format information
 unfoldable pub format_row : ℕ → ℕ → ℕ → ℕ

@@ -1,5 +1,6 @@
 use Rattle.std.proofs.Common.{◌≡◌, ℕ, List, [], ◌++◌, take, refl, ◌∙◌, subst, arith, length-append, length-take}
 use Rattle.std.proofs.Common.{sym, rules, inr}
+use Rattle.std.specs.Prelude.{⊤}
 use Rattle.std.proofs.lemmas.List.{append-nil}
 use Rattle.std.proofs.lemmas.Result.{err_from_is_err_and}
 use Rattle.filter.proofs.FilterLaws.{TookPiece-none, TookPiece-append, StopsInPiece-append, TookLines-ended}
@@ -26,60 +27,44 @@ loop-turn-init g c = record {
   err_count = refl;
 }
 
--- at a fault the clauses whole, ended, nothing_left and no_failure say nothing: tt
+-- at a fault the clauses whole, ended, nothing_left and no_failure say nothing
+at_fault : {Flushed Stops : Type 0} → Flushed → Stops
+    → record { whole : ⊤; ended : ⊤; nothing_left : ⊤; flushed : Flushed; no_failure : ⊤; stops : Stops }
+at_fault flushed stops =
+    record { whole = tt; ended = tt; nothing_left = tt; flushed = flushed; no_failure = tt; stops = stops }
+
 pub returns-then-is_err : goal.returns-then-is_err
 returns-then-is_err g c =
     let h = c.loop-turn.invariant in
-    record {
-      whole = tt;
-      ended = tt;
-      nothing_left = tt;
-      flushed = (λ e. h.out_unflushed (sym c.pass_on.ensures.flushed ∙ e), h.err_unflushed);
-      no_failure = tt;
-      stops = (
-        h.given,
-        h.gave,
-        RunStops-between c.args.options g.met.O.Sink.took_joined g.met.E.Sink.took_joined h.took c.pass_on.ensures.bytes
-            (g.met.E.Sink.took_none c.loop-turn.err),
-        (h.source_count, search rules, h.err_count),
-      );
-    }
+    at_fault (λ e. h.out_unflushed (sym c.pass_on.ensures.flushed ∙ e), h.err_unflushed) (
+      h.given,
+      h.gave,
+      RunStops-between c.args.options g.met.O.Sink.took_joined g.met.E.Sink.took_joined h.took c.pass_on.ensures.bytes
+          (g.met.E.Sink.took_none c.loop-turn.err),
+      (h.source_count, search rules, h.err_count),
+    )
 
 pub returns-in_default : goal.returns-in_default
 returns-in_default g c =
     let h = c.loop-turn.invariant in
     let sent = TookPiece-sent c.args.options g.met.O.Sink.took_joined h.took c.pass_on.ensures.bytes in
-    record {
-      whole = tt;
-      ended = tt;
-      flushed = (λ e. h.out_unflushed (sym c.pass_on.ensures.flushed ∙ e), h.err_unflushed);
-      nothing_left = tt;
-      no_failure = tt;
-      stops = (
-        h.given,
-        subst (g.S.Source.gave c.args.source.now c.read.new.self) (append-nil h.given)
-            (g.met.S.Source.gave_joined _ _ _ _ _ h.gave c.in_default.ensures.bytes),
-        TookLines-ended c.args.options _ _ h.given sent,
-        search rules,
-      );
-    }
+    at_fault (λ e. h.out_unflushed (sym c.pass_on.ensures.flushed ∙ e), h.err_unflushed) (
+      h.given,
+      subst (g.S.Source.gave c.args.source.now c.read.new.self) (append-nil h.given)
+          (g.met.S.Source.gave_joined _ _ _ _ _ h.gave c.in_default.ensures.bytes),
+      TookLines-ended c.args.options _ _ h.given sent,
+      search rules,
+    )
 
 pub returns : goal.returns
 returns g c =
     let h = c.loop-turn.invariant in
-    record {
-      whole = tt;
-      flushed = (h.out_unflushed, h.err_unflushed);
-      ended = tt;
-      nothing_left = tt;
-      no_failure = tt;
-      stops = (
-        h.given,
-        h.gave,
-        TookLines-ended c.args.options _ _ h.given h.took,
-        (inr (h.source_count, omega arith), h.out_count, h.err_count),
-      );
-    }
+    at_fault (h.out_unflushed, h.err_unflushed) (
+      h.given,
+      h.gave,
+      TookLines-ended c.args.options _ _ h.given h.took,
+      (inr (h.source_count, omega arith), h.out_count, h.err_count),
+    )
 
 pub returns-then-count-eq0-clause-whole : goal.returns-then-count-eq0-clause-whole
 returns-then-count-eq0-clause-whole g c =
@@ -144,25 +129,19 @@ returns-in_err-feed g c =
     let s = c.in_err-feed.ensures.feeds c.args.options h.given h.after in
     let sinks = c.in_err-feed.ensures.sinks h.after.is_spent in
     let same : g.O.Sink.failures c.pass_on.new.self ≡ g.O.Sink.failures c.loop-turn.out = search rules in
-    rw (p.1, p.2) (record {
-      flushed = (FlushedImagesAtMost-neither (λ e. h.out_unflushed (sym c.pass_on.ensures.flushed ∙ sinks.out_unflushed e))
-          (λ e. h.err_unflushed (sinks.err_unflushed e)) c.in_err-feed.field-0.0);
-      whole = tt;
-      ended = tt;
-      no_failure = tt;
-      nothing_left = tt;
-      stops = (
-        h.given ++ take c.in-Ok.count c.read.new.buf,
-        g.met.S.Source.gave_joined _ _ _ _ _ h.gave c.in-Ok.ensures.bytes,
-        RunStops-in_line c.args.options _ _ (h.given ++ take c.in-Ok.count c.read.new.buf) c.in_err-feed.field-0.0
-            (StopsInLine-lines c.args.options _ _ (h.given ++ take c.in-Ok.count c.read.new.buf)
-            c.in_err-feed.field-0.0
-            (StopsInPiece-append c.args.options g.met.O.Sink.took_joined g.met.E.Sink.took_joined sent
-            c.in_err-feed.field-0.0 s)),
-        RunRaises-line _ _ (c.in-Ok.ensures.count ∙ h.source_count) (same ∙ h.out_count) h.err_count _
-            c.in_err-feed.field-0.0 sinks.counts,
-      );
-    })
+    rw (p.1, p.2) (at_fault
+    (FlushedImagesAtMost-neither (λ e. h.out_unflushed (sym c.pass_on.ensures.flushed ∙ sinks.out_unflushed e))
+    (λ e. h.err_unflushed (sinks.err_unflushed e)) c.in_err-feed.field-0.0) (
+      h.given ++ take c.in-Ok.count c.read.new.buf,
+      g.met.S.Source.gave_joined _ _ _ _ _ h.gave c.in-Ok.ensures.bytes,
+      RunStops-in_line c.args.options _ _ (h.given ++ take c.in-Ok.count c.read.new.buf) c.in_err-feed.field-0.0
+          (StopsInLine-lines c.args.options _ _ (h.given ++ take c.in-Ok.count c.read.new.buf)
+          c.in_err-feed.field-0.0
+          (StopsInPiece-append c.args.options g.met.O.Sink.took_joined g.met.E.Sink.took_joined sent
+          c.in_err-feed.field-0.0 s)),
+      RunRaises-line _ _ (c.in-Ok.ensures.count ∙ h.source_count) (same ∙ h.out_count) h.err_count _
+          c.in_err-feed.field-0.0 sinks.counts,
+    ))
 
 pub loop-turn-preserved : goal.loop-turn-preserved
 loop-turn-preserved g c =

@@ -15,7 +15,7 @@ returns c =
       c.or_else.ensures,
       c.finders.ensures,
       c.alignments.ensures,
-      c.timing.ensures,
+      c.timings.ensures,
       c.formats.ensures,
       c.versions.ensures,
       c.side-n.ensures.value,

@@ -6,6 +6,7 @@ use Rattle.device.specs.Passing.{PassesOn}
 use Rattle.device.proofs.buffered.BufferedSink.flush.Goals as goal
 
 -- what was passed on, before a device that took no byte
+-- drain and flush, the two calls, have three states, and `took` with its law `joined` are the sink's
 passed : {S : Type 0} (took : S → S → List ℕ → Type 0) (s t u : S) (old new : List ℕ)
     → ((xs ys : List ℕ) → took s t xs → took t u ys → took s u (xs ++ ys))
     → PassesOn took s t old new [] → took t u [] → PassesOn took s u old new []
