@@ -305,7 +305,8 @@ def counts_of_code(items):
     for kind in declared.KINDS:
         if counts[kind]:
             many = kind if kind == "members" or counts[kind] == 1 else f"{kind}s"
-            shown.append(f"{counts[kind]} {many}, {lines[kind]} lines")
+            unit = "line" if lines[kind] == 1 else "lines"
+            shown.append(f"{counts[kind]} {many}, {lines[kind]} {unit}")
     return "; ".join(shown)
 
 

@@ -1,8 +1,8 @@
 //! The command line: its options, its argument and its help text.
-ghost use Rattle.std.specs.Prelude.{◌≡◌, ◌++◌, ◌∷◌, [], IfOk, false};
+ghost use Rattle.std.specs.Prelude.{◌≡◌, IfOk, false};
 ghost use Rattle.clap.specs.Words.{app_of, rule_of};
-ghost use Rattle.command.specs.CommandLine.{command_line, file_argument, picture_options, symbol_options};
-ghost use Rattle.command.specs.Private.Rules.{HaveRules, rule};
+ghost use Rattle.command.specs.CommandLine.{command_line};
+ghost use Rattle.command.specs.Private.Rules.{rule};
 
 use clap::builder::ValueParser;
 use clap::{Arg, ArgAction, Command};
@@ -100,25 +100,15 @@ static ARGUMENTS: [Argument; 8] = [
 pub fn command<'a>(alloc: Global) -> Result<Command<'a>, AllocError>
     ensures { IfOk result (λ c. app_of c ≡ command_line) }
 {
-    let arguments = all_arguments(alloc)?;
-    Command::new(alloc, "labels")
+    let mut command = Command::new(alloc, "labels")
         .no_binary_name(true)
         .before_help(VERSION)
         .about(ABOUT)
-        .after_help(AFTER_HELP)
-        .args(arguments)
-}
-
-/// Returns the arguments of the command line.
-fn all_arguments<'a>(alloc: Global) -> Result<Vec<Arg<'a>>, AllocError>
-    ensures { IfOk result (λ args. HaveRules args.items
-        (picture_options ++ symbol_options ++ file_argument ∷ [])) }
-{
-    let mut arguments = Vec::new(alloc);
+        .after_help(AFTER_HELP);
     for argument in &ARGUMENTS {
-        arguments.push(arg_of(alloc, argument))?;
+        command = command.arg(arg_of(alloc, argument))?;
     }
-    Ok(arguments)
+    Ok(command)
 }
 
 /// Returns the argument as `clap` has it.

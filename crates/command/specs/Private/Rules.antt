@@ -1,7 +1,6 @@
 -- How the command is put together.
-use Rattle.std.specs.Prelude.{◌≡◌, All, Some, false, List, map}
-use Rattle.clap.specs.Words.{Rule, Text, new_rule, rule_of}
-use Rattle.clap.specs.declared.builder.arg.Arg.{Arg}
+use Rattle.std.specs.Prelude.{Some}
+use Rattle.clap.specs.Words.{Rule, Text, new_rule}
 use Rattle.clap.specs.declared.builder.value_parser.ValueParser.TheVariants as parser
 use Rattle.command.specs.CommandLine.{switch, text_option}
 use Rattle.command.specs.declared.command_line.Argument.{Argument}
@@ -18,11 +17,3 @@ rule_named name (takes.File value) = record (new_rule name) { value_names = 1 }
 -- the rule of an argument of the table
 abbrev pub rule : Argument → Rule
 rule argument = rule_named argument.name.now argument.takes
-
--- an argument of one command alone
-abbrev pub IsLocal : Arg → Type 0
-IsLocal argument = argument.global ≡ false
-
--- these arguments have these rules, and are all local
-abbrev pub HaveRules : List Arg → List Rule → Type 0
-HaveRules arguments rules = (map rule_of arguments ≡ rules) × All IsLocal arguments

@@ -1,13 +1,8 @@
-use Rattle.std.proofs.Common.{rules, codes, ◌≡◌, ◌++◌, ◌∷◌, true, []}
-use Rattle.std.proofs.lemmas.Result.{IfOk-weaker}
-use Rattle.clap.specs.Words.{App, app_of, new_app}
-use Rattle.command.specs.CommandLine.{file_argument, picture_options, symbol_options}
-use Rattle.command.proofs.RuleLaws.{added}
+use Rattle.command.proofs.RuleLaws.{row_added}
 use Rattle.command.proofs.command_line.command.Goals as goal
 
-pub returns : goal.returns
-returns c =
-    let start : App = record { top = record (new_app (codes "labels")).top { no_binary_name = true }; subs = [] } in
-    let start_is : app_of c.after_help.result ≡ start = search rules in
-    IfOk-weaker c.args-2.result _ _ (λ d adds. added _ _ (picture_options ++ symbol_options ++ file_argument ∷ []) _ adds
-    c.in_ok-arguments.ensures start start_is) c.args-2.ensures
+pub loop-argument-preserved : goal.loop-argument-preserved
+loop-argument-preserved c =
+    row_added c.loop-argument.command c.in_ok-command.command c.arg_of.result _ c.loop-argument.argument-index _ _
+    c.loop-argument-test.true c.in_ok-command.ensures c.arg_of.ensures.rule c.arg_of.ensures.local
+    c.loop-argument.invariant
