@@ -13,8 +13,8 @@ abbrev pub with_rules : App → List Rule → App
 with_rules app [] = app
 with_rules app (rule ∷ rules) = with_rules (with_rule app rule) rules
 
--- a command with the rules of the rows to come stays the same when it takes on the next of them; the values and facts of
--- one turn of the loop are arguments
+-- a command with the rules of the rows to come stays the same when it takes on the next of them; one turn of the loop
+-- has these values and facts, so they are arguments
 pub row_added : (old new : Command) (argument : Arg) (table : List Argument) (place : ℕ) (row : Argument) (app : App)
     → place < length table → AddsArg old argument new → rule_of argument ≡ rule (get_or table place row)
     → argument.global ≡ false
