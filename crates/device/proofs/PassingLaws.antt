@@ -5,7 +5,8 @@ use Rattle.std.proofs.lemmas.Bool.Decides.{nat_tests}
 use Rattle.std.specs.Prelude.{slice_range}
 use borrow.Rule.Slice.PartMut.{put_mid}
 use Rattle.std.proofs.lemmas.Slice.{between_is, take-put_mid}
-use Rattle.std.proofs.lemmas.List.{take_all, take-append-drop, drop-drop, drop-append-le, append-nil}
+use Rattle.std.proofs.lemmas.List.{take_all, take-append-drop, drop-drop, drop-append-le, append-nil, length-append}
+use Rattle.std.proofs.Math.Seq.{drop-append_seam, drop-append-add}
 use Rattle.device.specs.Passing.{PassesOn}
 
 -- a list whose length is tested as 0 is empty
@@ -60,3 +61,50 @@ pub PassesOn-all : {S : Type 0} (took : S → S → List ℕ → Type 0) (s t : 
     → PassesOn took s t old new more → took s t (old ++ more)
 PassesOn-all took s t old new more none h =
     subst (took s t) (sym (h.cut ∙ (ap (λ (xs : List ℕ). h.sent ++ xs) none ∙ append-nil h.sent))) h.taken
+
+-- two equal texts have the same end of n bytes, where the second part of one is n bytes and that of the other has them
+pub same_end : (front last sent held : List ℕ) → front ++ last ≡ sent ++ held → length last ≤ length held
+    → drop (length held - length last) held ≡ last
+same_end front last sent held e few =
+    let whole : length front + length last ≡ length sent + length held =
+    sym (length-append front last) ∙ (ap length e ∙ length-append sent held) in
+    let places : length front ≡ length sent + (length held - length last) = omega (arith, whole, few) in
+    sym (drop-append-add sent held (length held - length last))
+    ∙ (ap (λ (n : ℕ). drop n (sent ++ held)) (sym places)
+    ∙ (ap (drop (length front)) (sym e) ∙ drop-append_seam front last))
+
+-- the last n of the bytes that are buffered from s to e
+pub end_of_buffered : (bytes : List ℕ) (s e n : ℕ) → s + n ≤ e → e ≤ length bytes
+    → slice_range bytes (e - n) e ≡ drop (length (slice_range bytes s e) - n) (slice_range bytes s e)
+end_of_buffered bytes s e n low high =
+    let size : length (slice_range bytes s e) ≡ e - s =
+    ap length (between_is bytes s e) ∙ omega (arith, length-drop s (take e bytes), length-take e bytes) in
+    let place : s + (length (slice_range bytes s e) - n) ≡ e - n = omega (arith, size, low) in
+    between_is bytes (e - n) e
+    ∙ (ap (λ (k : ℕ). drop k (take e bytes)) (sym place)
+    ∙ (sym (drop-drop (length (slice_range bytes s e) - n) s (take e bytes))
+    ∙ ap (drop (length (slice_range bytes s e) - n)) (sym (between_is bytes s e))))
+
+-- the last bytes that were taken, buffered once more
+pub PassesOn-repeated : {S : Type 0} (took : S → S → List ℕ → Type 0) (before s : S) (old front last : List ℕ)
+    (bytes : List ℕ) (start end n : ℕ) → took s s [] → start + n ≤ end → end + n ≤ length bytes → length last ≡ n
+    → PassesOn took before s old (slice_range bytes start end) (front ++ last)
+    → PassesOn took s s (slice_range bytes start end)
+    (slice_range (put_mid end n bytes (slice_range bytes (end - n) end)) start (end + n)) last
+PassesOn-repeated took before s old front last bytes start end n none low high size h =
+    let held = slice_range bytes start end in
+    let held_size : length held ≡ end - start =
+    ap length (between_is bytes start end) ∙ omega (arith, length-drop start (take end bytes), length-take end bytes) in
+    let same : slice_range bytes (end - n) end ≡ last =
+    end_of_buffered bytes start end n low (omega (arith, high))
+    ∙ (ap (λ (k : ℕ). drop (length held - k) held) (sym size)
+    ∙ same_end (old ++ front) last h.sent held (append_assoc old front last ∙ h.cut)
+    (omega (arith, size, held_size, low))) in
+    record {
+      sent = [];
+      taken = none;
+      cut =
+          ap (λ (xs : List ℕ). held ++ xs) (sym same)
+          ∙ sym (buffered_more bytes (slice_range bytes (end - n) end) start end n (omega (arith, low))
+          (omega (arith, high)) (sym (ap length same ∙ size)));
+    }

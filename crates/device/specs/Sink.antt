@@ -1,5 +1,5 @@
 -- What each call of a sink promises, over the sink's ghosts (docs/SPECIFICATION.md, The filter as a library).
-use Rattle.std.specs.Prelude.{◌≡◌, ℕ, ◌<◌, ◌≤◌, Bool, true, false, List, [], length, take, Result, IfOk, MatchResult}
+use Rattle.std.specs.Prelude.{◌≡◌, ℕ, ◌<◌, ◌≤◌, Bool, true, false, List, [], ◌++◌, length, take, Result, IfOk, IsTrue, IsFalse, MatchResult}
 use Rattle.device.specs.Device.{CountsFailure}
 
 -- a write of a text takes at least one byte from its front and returns how many; one that fails takes none
@@ -24,3 +24,13 @@ pub record PassesBuffered {S T E : Type 0} (failures : S → ℕ) (is_flushed : 
   pub bytes : took old new []
   pub count : CountsFailure (failures old) (failures new) r
   pub flushed : is_flushed new ≡ is_flushed old
+
+-- a sink that repeats takes its last bytes once more: whatever it took up to now, and however many of these bytes were
+-- the last of it. One that does not is unchanged.
+pub record RepeatsBytes {S : Type 0} (failures : S → ℕ) (is_flushed : S → Bool) (took : S → S → List ℕ → Type 0)
+    (old new : S) (size : ℕ) (r : Bool) : Type 0 where
+  pub bytes : IsTrue r → (before : S) (front last : List ℕ) → length last ≡ size → took before old (front ++ last)
+      → took old new last
+  pub count : failures new ≡ failures old
+  pub flushed : IsTrue r → is_flushed new ≡ false
+  pub kept : IsFalse r → new ≡ old

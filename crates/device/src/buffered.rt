@@ -1,5 +1,5 @@
 //! A sink that buffers bytes.
-ghost use Rattle.std.specs.Prelude.{◌≡◌, ◌+◌, ◌<◌, ◌≤◌, ◌++◌, ℕ, List, [], true, false, length, OnOk};
+ghost use Rattle.std.specs.Prelude.{◌≡◌, ◌+◌, ◌-◌, ◌<◌, ◌≤◌, ◌++◌, ℕ, List, [], true, false, length, slice_range, OnOk};
 ghost use borrow.Rule.Slice.PartMut.{put_mid};
 ghost use Rattle.device.specs.Passing.{PassesOn};
 ghost use Rattle.device.specs.Sink.{Flushes, PassesBuffered};
@@ -149,6 +149,16 @@ impl<S: Sink> Sink for Buffered<S> {
         self.drain()
     }
 
+    fn repeat(&mut self, count: usize) -> bool {
+        if self.end - self.start < count || ROOM - self.end < count {
+            return false;
+        }
+        put_again(&mut self.bytes[..], self.end, count);
+        self.end += count;
+        self.is_flushed = false;
+        true
+    }
+
     ghost took_none = { λ s. PassesOn_none S.took s.sink (buffered_bytes s) (S.took_none s.sink) };
 
     ghost took_joined = { λ s t u xs ys. PassesOn_joined S.took s.sink t.sink u.sink
@@ -162,4 +172,13 @@ fn put(room: &mut [u8], at: usize, bytes: &[u8])
     ensures { room.new ≡ put_mid at (length bytes.now) room.old bytes.now }
 {
     room[at..at + bytes.len()].copy_from_slice(bytes);
+}
+
+/// Copies the `count` bytes before the index `at` to that index.
+fn put_again(room: &mut [u8], at: usize, count: usize)
+    requires { (count ≤ at) × (at + count ≤ length room.old) }
+    ensures { room.new ≡ put_mid at count room.old (slice_range room.old (at - count) at) }
+{
+    let (taken, free) = room.split_at_mut(at);
+    free[..count].copy_from_slice(&taken[at - count..]);
 }

@@ -1,6 +1,6 @@
 //! What takes bytes.
 ghost use Rattle.std.specs.Prelude.{ℕ, ◌<◌, Bool, List, [], ◌++◌, length};
-ghost use Rattle.device.specs.Sink.{WritesSome, Flushes, PassesBuffered};
+ghost use Rattle.device.specs.Sink.{WritesSome, Flushes, PassesBuffered, RepeatsBytes};
 
 use crate::IoFault;
 
@@ -41,6 +41,14 @@ pub trait Sink {
         ensures { PassesBuffered failures is_flushed took self.old self.new result }
     {
         Ok(())
+    }
+
+    /// Takes the last `count` bytes that were taken once more, and returns whether it did. It does so only where it
+    /// still has them all and has room for them: else nothing changes.
+    fn repeat(&mut self, count: usize) -> bool
+        ensures { RepeatsBytes failures is_flushed took self.old self.new count result }
+    {
+        false
     }
 
     /// With no write, nothing is taken.

@@ -1,5 +1,5 @@
 -- The shift register divides by the generator, and the remainder is the only one.
-use Rattle.std.proofs.Common.{◌≡◌, ℕ, suc, ◌+◌, ◌-◌, ◌<◌, List, [], ◌∷◌, ◌++◌, length, drop, get_or, refl, sym, ap, ◌∙◌}
+use Rattle.std.proofs.Common.{◌≡◌, ℕ, suc, ◌+◌, ◌<◌, List, [], ◌∷◌, ◌++◌, length, drop, get_or, refl, sym, ap, ◌∙◌}
 use Rattle.std.proofs.Common.{arith}
 use Rattle.std.specs.Prelude.{bit_xor, All}
 use Rattle.std.specs.Int.Bits.{xor_zero_r}
@@ -7,24 +7,13 @@ use Rattle.std.proofs.lemmas.List.{length-append, append-nil, append_assoc}
 use Rattle.std.proofs.lemmas.List.Elements.{All-head, All-tail, All-cons, All-nil, All-append}
 use Rattle.std.proofs.lemmas.Nat.{xor_of_8}
 use Rattle.gf256.specs.Field.{field_product, IsElement}
-use Rattle.gf256.specs.ErrorCorrection.{long_division}
+use Rattle.gf256.specs.ErrorCorrection.{next_register, register_after}
 use Rattle.gf256.specs.Private.{zeros}
 use Rattle.gf256.specs.Polynomial.{polynomial_sum, scalar_multiple, polynomial_product}
 use Rattle.gf256.proofs.FieldLaws.{field_product-lt, field_product-one_right}
 use Rattle.gf256.proofs.PolynomialSumLaws.{length-zeros, polynomial_sum-assoc, polynomial_sum-comm}
 use Rattle.gf256.proofs.PolynomialSumLaws.{polynomial_sum-zeros_left, polynomial_sum-twice, length-polynomial_sum}
 use Rattle.gf256.proofs.PolynomialSumLaws.{polynomial_sum-append, length-scalar_multiple}
-
--- the register of a division by x^k + low after one more codeword: the highest codeword and the new codeword
--- are fed back
-unfoldable pub next_register : (low register : List ℕ) → ℕ → List ℕ
-next_register low register codeword =
-    polynomial_sum (drop 1 register ++ 0 ∷ []) (scalar_multiple (bit_xor (get_or register 0 0) codeword) low)
-
--- the register after all codewords
-unfoldable pub register_after : (low register codewords : List ℕ) → List ℕ
-register_after low register [] = register
-register_after low register (codeword ∷ codewords) = register_after low (next_register low register codeword) codewords
 
 -- the codewords that were fed back
 unfoldable pub quotient_of : (low register codewords : List ℕ) → List ℕ
@@ -253,31 +242,3 @@ same_remainder low (f ∷ q) (f' ∷ q') p p' e hp hp' eq eq' same =
     (length-division low q p hp ∙ sym (length-multiple f low (length q)))
     (length-division low q' p' hp' ∙ omega (arith, length-multiple f low (length q))) tails in
     same_remainder low q q' p p' places hp hp' (All-tail IsElement f q eq) (All-tail IsElement f' q' eq') rests
-
--- the register holds what a long division has not yet divided
-pub long_division-register : (low register codewords : List ℕ) → length register ≡ length low → 0 < length low →
-    long_division (length codewords) low (polynomial_sum (register ++ zeros (length codewords)) (codewords ++ zeros
-    (length low)))
-    ≡ register_after low register codewords
-unfolding long_division register_after polynomial_sum
-long_division-register low register [] h pos =
-    polynomial_sum-comm (register ++ []) (zeros (length low))
-    ∙ polynomial_sum-zeros_left (length low) (register ++ []) (omega (arith, length-append register []))
-    ∙ append-nil register
-long_division-register low [] (codeword ∷ codewords) h pos = absurd (omega arith)
-long_division-register low (r ∷ rs) (codeword ∷ codewords) h pos =
-    let n = length codewords in
-    let f = bit_xor r codeword in
-    let R = rs ++ zeros (suc n) in
-    let X = codewords ++ zeros (length low) in
-    let S = scalar_multiple f low in
-    let length_R : length R ≡ length low + n = length-append_zeros rs (suc n) ∙ omega arith in
-    let length_X : length X ≡ length low + n = length-append_zeros codewords (length low) ∙ omega arith in
-    let places : length (polynomial_sum R X) - length low ≡ n =
-    omega (arith, length-polynomial_sum R X (length_R ∙ sym length_X), length_X) in
-    ap (λ m. long_division n low (polynomial_sum (S ++ zeros m) (polynomial_sum R X))) places
-    ∙ ap (long_division n low)
-    (sym (polynomial_sum-assoc (S ++ zeros n) R X)
-    ∙ ap (λ l. polynomial_sum l X) (sym (next_register-append_zeros low rs r codeword n h)))
-    ∙ long_division-register low (next_register low (r ∷ rs) codeword) codewords (length-next_register low
-    (r ∷ rs) codeword pos h) pos

@@ -1,5 +1,6 @@
 -- The error correction codewords of a block (ISO/IEC 18004, 7.5.2 and annex A).
-use Rattle.std.specs.Prelude.{◌≡◌, ◌-◌, ◌<◌, ◌≤◌, ℕ, zero, suc, List, [], ◌∷◌, ◌++◌, length, drop, replicate, All}
+use Rattle.std.specs.Prelude.{◌≡◌, ◌<◌, ◌≤◌, ℕ, zero, suc, List, [], ◌∷◌, ◌++◌, length, drop, replicate, All, bit_xor}
+use Rattle.std.specs.Prelude.{slice_index}
 use Rattle.gf256.specs.Field.{alpha, field_power, IsElement}
 use Rattle.gf256.specs.Polynomial.{scalar_multiple, evaluate, polynomial_sum, polynomial_product}
 
@@ -8,17 +9,20 @@ unfoldable pub generator : ℕ → List ℕ
 generator zero = 1 ∷ []
 generator (suc k) = polynomial_product (1 ∷ field_power alpha k ∷ []) (generator k)
 
--- the remainder by a divisor x^k + low in n steps of a long division: each step takes the highest
--- coefficient c away, and adds c times low to the highest of the others
-unfoldable pub long_division : (n : ℕ) (low : List ℕ) → List ℕ → List ℕ
-long_division zero low p = p
-long_division (suc n) low [] = []
-long_division (suc n) low (c ∷ p) =
-    long_division n low (polynomial_sum (scalar_multiple c low ++ replicate (length p - length low) 0) p)
+-- the register of a division by x^k + low after one more codeword: the highest codeword and the new codeword
+-- are fed back (the encoding circuit of 7.5.2)
+unfoldable pub next_register : (low register : List ℕ) → ℕ → List ℕ
+next_register low register codeword =
+    polynomial_sum (drop 1 register ++ 0 ∷ []) (scalar_multiple (bit_xor (slice_index register 0) codeword) low)
 
--- the k error correction codewords of a block: the remainder of its codewords times x^k by the generator
+-- the register after all codewords
+unfoldable pub register_after : (low register codewords : List ℕ) → List ℕ
+register_after low register [] = register
+register_after low register (codeword ∷ codewords) = register_after low (next_register low register codeword) codewords
+
+-- the k error correction codewords of a block: what the register of the generator holds, which began with zeros
 unfoldable pub ec_codewords_of : ℕ → List ℕ → List ℕ
-ec_codewords_of k message = long_division (length message) (drop 1 (generator k)) (message ++ replicate k 0)
+ec_codewords_of k message = register_after (drop 1 (generator k)) (replicate k 0) message
 
 -- there are k error correction codewords, and for some quotient the message times x^k is the quotient times the
 -- generator plus the error correction codewords

@@ -1,10 +1,10 @@
 //! Generator polynomials and the error correction codewords of a block (ISO/IEC 18004, 7.5.2 and annex A).
 ghost use Rattle.gf256.specs.Field.{alpha, field_power};
 ghost use Rattle.gf256.specs.ErrorCorrection.{AreEcCodewords, IsEcCodewordCount, EcCodewordsAreRemainder};
-ghost use Rattle.gf256.specs.ErrorCorrection.{RemaindersHaveRoots, generator};
-ghost use Rattle.gf256.specs.Private.{HasPlaces, MovesUp};
-ghost use Rattle.gf256.specs.Private.{zeros};
-ghost use Rattle.std.specs.Prelude.{◌≡◌, ◌+◌, ◌<◌, ℕ, ◌∷◌, length, map, slice_index, EachIndex, bit_xor};
+ghost use Rattle.gf256.specs.ErrorCorrection.{RemaindersHaveRoots, generator, next_register};
+ghost use Rattle.gf256.specs.Polynomial.{polynomial_sum, scalar_multiple};
+ghost use Rattle.gf256.specs.Private.{HasPlaces, zeros};
+ghost use Rattle.std.specs.Prelude.{◌≡◌, ◌<◌, ℕ, ◌∷◌, ◌++◌, drop, length, map};
 
 use crate::field::{logarithm_of, product_of_powers};
 use crate::tables::GENERATORS;
@@ -68,46 +68,38 @@ fn clear(register: &mut [u8])
     register.fill(0);
 }
 
-/// Moves each codeword of the register up by one place. Adds the multiple of the divisor that cancels the sum of the
-/// codeword that leaves the register and the new codeword. The divisor is given by the logarithms of its coefficients
+/// Takes one more codeword into the register of a division. The divisor is given by the logarithms of its coefficients
 /// but the highest.
 fn shift(logarithms: &[u8], register: &mut [u8], codeword: u8)
     requires { HasPlaces logarithms.now register.old }
-    ensures { MovesUp (bit_xor (slice_index register.old 0) codeword)
-        logarithms.now register.old register.new }
+    ensures { register.new ≡ next_register (map (field_power alpha) logarithms.now) register.old codeword }
 {
     let feedback = register[0] ^ codeword;
-    if feedback == 0 {
-        move_up(register);
-    } else {
-        move_up_and_add(logarithm_of(feedback), logarithms, register);
+    move_up(register);
+    if feedback != 0 {
+        add_multiple(logarithm_of(feedback), logarithms, register);
     }
 }
 
 /// Moves each codeword of the register up by one place, and writes a 0 into the last.
 fn move_up(register: &mut [u8])
     requires { 0 < length register.old }
-    ensures { EachIndex register.new (λ j.
-        slice_index register.new j ≡ slice_index register.old (j + 1)) }
+    ensures { register.new ≡ drop 1 register.old ++ zeros 1 }
 {
     let last = register.len() - 1;
-    for j in 0..last {
-        register[j] = register[j + 1];
-    }
+    register.copy_within(1.., 0);
     register[last] = 0;
 }
 
-/// Moves each codeword of the register up by one place, and adds to each the product of alpha^logarithm and the
-/// coefficient of its place.
-fn move_up_and_add(logarithm: u8, logarithms: &[u8], register: &mut [u8])
-    requires { HasPlaces logarithms.now register.old }
-    ensures { MovesUp (field_power alpha logarithm) logarithms.now register.old register.new }
+/// Adds alpha^logarithm times the polynomial whose coefficients have these logarithms.
+fn add_multiple(logarithm: u8, logarithms: &[u8], register: &mut [u8])
+    requires { length register.old ≡ length logarithms.now }
+    ensures { register.new ≡ polynomial_sum register.old
+        (scalar_multiple (field_power alpha logarithm) (map (field_power alpha) logarithms.now)) }
 {
-    let last = logarithms.len() - 1;
-    for j in 0..last {
-        register[j] = register[j + 1] ^ product_of_powers(logarithm, logarithms[j]);
+    for j in 0..logarithms.len() {
+        register[j] ^= product_of_powers(logarithm, logarithms[j]);
     }
-    register[last] = product_of_powers(logarithm, logarithms[last]);
 }
 
 /// Proves, for crates above, that the error correction codewords of the definition are a remainder by the generator
