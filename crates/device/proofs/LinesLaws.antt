@@ -1,8 +1,8 @@
 -- A text is cut into lines in one way alone. How the lines change where a byte is added at the text's end.
 use Rattle.std.proofs.Common.{◌≡◌, ◌≢◌, ℕ, Bool, true, false, eqb, ne_eqb, List, [], ◌∷◌, ◌++◌, refl, ap, subst, sym}
-use Rattle.std.proofs.Common.{◌∙◌, ◌-◌, append_assoc, arith, length, length-append, take}
+use Rattle.std.proofs.Common.{◌∙◌, ◌-◌, append_assoc, arith, length, length-append, take, cond, zero, suc}
 use Rattle.std.proofs.Math.Seq.{take-append_seam}
-use Rattle.std.specs.List.{All, slice_index_or}
+use Rattle.std.specs.List.{All, AllByRecursion, onto_first, slice_index_or}
 use Rattle.std.proofs.lemmas.Grind.{flat_map-append}
 use Rattle.std.proofs.lemmas.Bool.{eqb-true, eqb-false}
 use Rattle.std.proofs.lemmas.List.{append-nil}
@@ -202,3 +202,44 @@ some_added text (byte ∷ piece) =
           ∙ (ap (λ (ls : List (List ℕ)). ls ++ later.added) first.grown
           ∙ append_assoc (ended_lines text) first.added later.added));
     }
+
+-- what is true of each byte of a text is true of each byte of its lines
+module _ (P : ℕ → Type 0) where
+  abbrev pub AllOf : List (List ℕ) → Type 0
+  AllOf ps = AllByRecursion (AllByRecursion P) ps
+
+  AllOf-onto_first : (byte : ℕ) (ps : List (List ℕ)) → P byte → AllOf ps → AllOf (onto_first byte ps)
+  AllOf-onto_first byte [] h w = ((h, tt), tt)
+  AllOf-onto_first byte (p ∷ ps) h w = ((h, w.0), w.1)
+
+  AllOf-cut : (is_lf : Bool) (byte : ℕ) (ps : List (List ℕ)) → P byte → AllOf ps
+      → AllOf (cond is_lf ([] ∷ ps) (onto_first byte ps))
+  AllOf-cut true byte ps h w = (tt, w)
+  AllOf-cut false byte ps h w = AllOf-onto_first byte ps h w
+
+  AllOf-parts : (text : List ℕ) → AllByRecursion P text → AllOf (parts text)
+  AllOf-parts [] w = (tt, tt)
+  AllOf-parts (byte ∷ text) w = AllOf-cut (eqb byte LF) byte (parts text) w.0 (AllOf-parts text w.1)
+
+  AllOf-take : (n : ℕ) (ps : List (List ℕ)) → AllOf ps → AllOf (take n ps)
+  AllOf-take zero ps w = tt
+  AllOf-take (suc n) [] w = tt
+  AllOf-take (suc n) (p ∷ ps) w = (w.0, AllOf-take n ps w.1)
+
+  AllOf-at : (ps : List (List ℕ)) (n : ℕ) → AllOf ps → AllByRecursion P (slice_index_or ps n [])
+  AllOf-at [] n w = tt
+  AllOf-at (p ∷ ps) zero w = w.0
+  AllOf-at (p ∷ ps) (suc n) w = AllOf-at ps n w.1
+
+  AllOf-and_last : (ps : List (List ℕ)) (p : List ℕ) → AllOf ps → AllByRecursion P p → AllOf (ps ++ unless_empty p)
+  AllOf-and_last [] [] w h = tt
+  AllOf-and_last [] (byte ∷ p) w h = (h, tt)
+  AllOf-and_last (q ∷ ps) p w h = (w.0, AllOf-and_last ps p w.1 h)
+
+  pub AllOf-lines : (text : List ℕ) → AllByRecursion P text → AllOf (lines text)
+  unfolding lines ended_lines open_line
+  AllOf-lines text w =
+      let ps = parts text in
+      let each = AllOf-parts text w in
+      AllOf-and_last (take (length ps - 1) ps) (slice_index_or ps (length ps - 1) [])
+      (AllOf-take (length ps - 1) ps each) (AllOf-at ps (length ps - 1) each)

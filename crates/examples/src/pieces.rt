@@ -2,7 +2,8 @@
 ghost use Rattle.std.specs.Prelude.{◌≡◌, ◌++◌, true, IfOk, OnOk};
 ghost use Rattle.filter.specs.Filter.{TookLines};
 ghost use Rattle.filter.specs.Line.{CountsFault};
-ghost use Rattle.filter.specs.Output.{status_of};
+ghost use Rattle.filter.specs.Output.{drawn_symbols, images, status_of};
+ghost use Rattle.filter.specs.Readback.{AreRead, cut};
 ghost use Rattle.device.specs.Lines.{lines};
 
 use device::Sink;
@@ -26,6 +27,9 @@ pub fn draw_in_two<O: Sink, E: Sink>(
         (λ status. status ≡ status_of options (lines (first.now ++ second.now))) }
     ensures draws { OnOk result (TookLines options (O.took out.old out.new) (E.took err.old err.new) 0
         (lines (first.now ++ second.now))) }
+    ensures read { OnOk result (AreRead options.format options.scale
+        (cut options.format (images options (lines (first.now ++ second.now))))
+        (drawn_symbols options (lines (first.now ++ second.now)))) }
     ensures counts { CountsFault (O.failures out.old) (O.failures out.new)
         (E.failures err.old) (E.failures err.new) result }
     ensures flushed { OnOk result ((O.is_flushed out.new ≡ true) × (E.is_flushed err.new ≡ true)) }

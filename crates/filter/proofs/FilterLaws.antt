@@ -1,8 +1,10 @@
 -- A filter's state and what it wrote, byte by byte and piece by piece.
 use Rattle.std.proofs.Common.{◌≡◌, ◌≢◌, ℕ, ◌+◌, ◌-◌, ◌^◌, min, false, List, [], ◌∷◌, ◌++◌, length, take}
-use Rattle.std.proofs.Common.{append_assoc, refl, ap, subst, sym, ◌∙◌, arith, add-zero, length-append, length-take}
+use Rattle.std.proofs.Common.{◌<◌, append_assoc, refl, ap, subst, sym, ◌∙◌, arith, add-zero, length-append, length-take}
 use Rattle.std.proofs.lemmas.List.{append-nil}
+use Rattle.std.proofs.lemmas.List.Elements.{All-nil, All-push}
 use Rattle.std.specs.Prelude.{Result}
+use Rattle.labelcore.proofs.KeptLaws.{AreInRange}
 use Rattle.labelcore.specs.HeldLine.{held_line, line_limit}
 use Rattle.device.specs.Lines.{LF, lines, ended_lines, open_line, unless_empty}
 use Rattle.device.proofs.LinesLaws.{ended_lines-nil, open_line-nil, ended_lines-push_lf, ended_lines-push_other}
@@ -15,8 +17,6 @@ use Rattle.filter.specs.declared.status.Status.{Status}
 use Rattle.filter.specs.declared.status.Status.TheVariants.{Clean}
 use Rattle.filter.specs.Symbol.{Symbol}
 use Rattle.filter.specs.Line.{FailsInLine}
-use Rattle.std.specs.List.{AllByRecursion}
-use Rattle.filter.specs.Readback.{ReadsBack}
 use Rattle.filter.specs.Filter.{FilterState, IsAfter, TookLines, StopsInLine, TookPiece, StopsInPiece}
 use Rattle.filter.specs.declared.status.RunFault.{RunFault}
 use Rattle.filter.specs.declared.status.RunFault.TheVariants.{Read, WriteOut, WriteMessages, Spent}
@@ -26,17 +26,20 @@ use Rattle.labelcore.specs.OptionValues.{OptionValues}
 
 module _ (options : OptionValues) where
   -- a new filter
-  pub IsAfter-new : (state : FilterState) → state.options ≡ options → state.line ≡ held_line [] → state.line_count ≡ 0
-      → state.status ≡ Clean → state.is_spent ≡ false → IsAfter options state []
-  IsAfter-new state o l n r s = record {
+  pub IsAfter-new : (state : FilterState) → AreInRange options → state.options ≡ options → state.line ≡ held_line []
+      → state.line_count ≡ 0 → state.status ≡ Clean → state.is_spent ≡ false → IsAfter options state []
+  IsAfter-new state range o l n r s = record {
     options_are = o;
+    range = range;
+    bytes = All-nil (λ b. b < 256);
     line = l ∙ ap held_line (sym open_line-nil);
     line_count = n ∙ ap (λ (ls : List (List ℕ)). min (length ls) (2 ^ 64 - 1)) (sym ended_lines-nil);
     status_is = r ∙ (sym (status_of-nil options) ∙ ap (status_of options) (sym ended_lines-nil));
     is_spent = s;
   }
 
-  module _ (old new : FilterState) (text : List ℕ) (byte : ℕ) (at : IsAfter options old text) where
+  module _ (old new : FilterState) (text : List ℕ) (byte : ℕ) (at : IsAfter options old text)
+      (small : byte < 256) where
     -- a byte of the line
     pub IsAfter-other : byte ≢ LF → new.options ≡ old.options → new.line ≡ held_line (open_line text ++ byte ∷ [])
         → new.line_count ≡ old.line_count → new.status ≡ old.status → new.is_spent ≡ old.is_spent
@@ -45,6 +48,8 @@ module _ (options : OptionValues) where
         let ended = ended_lines-push_other text byte other in
         record {
           options_are = o ∙ at.options_are;
+          range = at.range;
+          bytes = All-push (λ b. b < 256) text byte at.bytes small;
           line = l ∙ ap held_line (sym (open_line-push_other text byte other));
           line_count = n ∙ (at.line_count ∙ ap (λ (ls : List (List ℕ)). min (length ls) (2 ^ 64 - 1)) (sym ended));
           status_is = r ∙ (at.status_is ∙ ap (status_of options) (sym ended));
@@ -62,6 +67,8 @@ module _ (options : OptionValues) where
         ∙ ended_lines-push_lf text in
         record {
           options_are = o ∙ at.options_are;
+          range = at.range;
+          bytes = All-push (λ b. b < 256) text byte at.bytes small;
           line = l ∙ ap held_line (sym (ap open_line text' ∙ open_line-push_lf text));
           line_count = n ∙ (ap (λ (k : ℕ). min k (2 ^ 64 - 1))
               (sym (length-append (ended_lines text) (open_line text ∷ [])))
@@ -82,16 +89,14 @@ module _ (options : OptionValues) where
     TookLines-none o e = record {
       out = subst took_out (sym (images-nil options)) o;
       err = subst took_err (sym (messages_after-nil options before)) e;
-      read = tt;
     }
 
     pub TookLines-one : (line : List ℕ) → took_out (image_of options (outcome options line))
-        → took_err (message_of (line_number before) (outcome options line)) → ReadsBack options (outcome options line)
+        → took_err (message_of (line_number before) (outcome options line))
         → TookLines options took_out took_err before (line ∷ [])
-    TookLines-one line o e r = record {
+    TookLines-one line o e = record {
       out = subst took_out (sym (images_one options line)) o;
       err = subst took_err (sym (messages_after_one options before line)) e;
-      read = (r, tt);
     }
 
     pub StopsInLine-one : (line : List ℕ) (fault : RunFault)
@@ -102,7 +107,6 @@ module _ (options : OptionValues) where
       line = line;
       later = [];
       cut = refl;
-      read = tt;
       wrote = rw ((images-nil options), (messages_after-nil options), add-zero) f;
     }
 
@@ -128,11 +132,11 @@ module _ (options : OptionValues) where
 
     pub TookPiece-lf : byte ≡ LF → took_out (image_of options (outcome options (open_line text)))
         → took_err (message_of (line_number (length (ended_lines text))) (outcome options (open_line text)))
-        → ReadsBack options (outcome options (open_line text)) → TookPiece options took_out took_err text (byte ∷ [])
-    TookPiece-lf lf o e r = record {
+        → TookPiece options took_out took_err text (byte ∷ [])
+    TookPiece-lf lf o e = record {
       added = open_line text ∷ [];
       grown = ap (λ (b : ℕ). ended_lines (text ++ b ∷ [])) lf ∙ ended_lines-push_lf text;
-      took = TookLines-one took_out took_err (length (ended_lines text)) (open_line text) o e r;
+      took = TookLines-one took_out took_err (length (ended_lines text)) (open_line text) o e;
     }
 
     pub StopsInPiece-lf : (fault : RunFault) → byte ≡ LF
@@ -153,12 +157,6 @@ module _ (options : OptionValues) where
   FailsInLine-map o o' e e' number i WriteOut f g h = ((h.0.0, h.0.1, f h.0.0 h.0.2), g [] h.1)
   FailsInLine-map o o' e e' number i WriteMessages f g h = (f [] h.0, (h.1.0, h.1.1, g h.1.0 h.1.2))
   FailsInLine-map o o' e e' number i Spent f g h = h
-
-  read-append : (xs ys : List (List ℕ)) → AllByRecursion (λ line. ReadsBack options (outcome options line)) xs
-      → AllByRecursion (λ line. ReadsBack options (outcome options line)) ys
-      → AllByRecursion (λ line. ReadsBack options (outcome options line)) (xs ++ ys)
-  read-append [] ys a b = b
-  read-append (x ∷ xs) ys a b = (a.0, read-append xs ys a.1 b)
 
   -- the lines that two pieces end
   lines_between : (text piece : List ℕ) (added : List (List ℕ)) → ended_lines (text ++ piece) ≡ ended_lines text ++ added
@@ -186,7 +184,6 @@ module _ (options : OptionValues) where
       out = rw (images-append options) (out_joined out out' out'' (images options xs) (images options ys) a.out b.out);
       err = rw (messages_after-append options) (err_joined err err' err'' (messages_after options before xs)
           (messages_after options (before + length xs) ys) a.err b.err);
-      read = read-append xs ys a.read b.read;
     }
 
     pub StopsInLine-append : (before : ℕ) (xs ys : List (List ℕ)) (fault : RunFault)
@@ -201,7 +198,6 @@ module _ (options : OptionValues) where
           line = b.line;
           later = b.later;
           cut = ap (λ (ls : List (List ℕ)). xs ++ ls) b.cut ∙ sym (append_assoc xs b.earlier (b.line ∷ b.later));
-          read = read-append xs b.earlier a.read b.read;
           wrote = rw (← number) (FailsInLine-map
               (λ bytes. took_out out' out'' (images options b.earlier ++ bytes))
               (λ bytes. took_out out out'' (images options (xs ++ b.earlier) ++ bytes))
@@ -225,7 +221,6 @@ module _ (options : OptionValues) where
           (out_joined out out' out'' (images options ls) [] t.out o);
       err = subst (took_err err err'') (append-nil (messages_after options before ls))
           (err_joined err err' err'' (messages_after options before ls) [] t.err e);
-      read = t.read;
     }
 
     -- pieces
@@ -277,7 +272,6 @@ module _ (options : OptionValues) where
           later = p.stops.later ++ s.added;
           cut = ap (λ (ls : List (List ℕ)). ls ++ s.added) p.stops.cut
               ∙ append_assoc p.stops.earlier (p.stops.line ∷ p.stops.later) s.added;
-          read = p.stops.read;
           wrote = p.stops.wrote;
         };
       }
@@ -340,6 +334,5 @@ module _ (options : OptionValues) where
           cut = lines-split text ∙ (ap (λ (ls : List (List ℕ)). ls ++ unless_empty (open_line text))
               (ended_from_nil p.added p.grown ∙ s.cut)
               ∙ append_assoc s.earlier (s.line ∷ s.later) (unless_empty (open_line text)));
-          read = s.read;
           wrote = s.wrote;
         }

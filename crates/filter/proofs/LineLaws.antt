@@ -12,7 +12,6 @@ use Rattle.filter.specs.Private.LineEnd.{EndsLine, FailsInMessage, LineEnds, Mes
 use Rattle.filter.specs.Symbol.{Symbol}
 use Rattle.filter.specs.declared.status.Status.{Status}
 use Rattle.filter.specs.declared.status.Status.TheVariants.{Clean}
-use Rattle.filter.specs.Readback.{ReadsBack}
 use Rattle.filter.specs.declared.status.RunFault.{RunFault}
 use Rattle.filter.specs.declared.status.RunFault.TheVariants.{Read, WriteOut, WriteMessages, Spent}
 
@@ -41,7 +40,6 @@ module _ (options : OptionValues) (took_out took_err : List ℕ → Type 0) (num
         status_is = ends.0;
         image = image;
         message = subst (λ (w : Fault). took_err (message number w)) same ends.1;
-        read = tt;
       }
   refused_ends (refused why) fault (Err f) e image ends =
       let same : fault ≡ why = cc in
@@ -49,7 +47,7 @@ module _ (options : OptionValues) (took_out took_err : List ℕ → Type 0) (num
 
   -- a line without a refusal has no message
   pub drawn_ends : (o : Outcome Symbol) → refusal_of o ≡ Ok tt → took_out (image_of options o) → took_err []
-      → ReadsBack options o → EndsLine options took_out took_err number o Clean
-  drawn_ends skipped e image none read = record { status_is = refl; image = image; message = none; read = read }
-  drawn_ends (refused why) e image none read = cc
-  drawn_ends (drawn symbol) e image none read = record { status_is = refl; image = image; message = none; read = read }
+      → EndsLine options took_out took_err number o Clean
+  drawn_ends skipped e image none = record { status_is = refl; image = image; message = none }
+  drawn_ends (refused why) e image none = cc
+  drawn_ends (drawn symbol) e image none = record { status_is = refl; image = image; message = none }

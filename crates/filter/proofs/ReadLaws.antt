@@ -1,38 +1,31 @@
--- Images that are read back, one and many.
-use Rattle.std.proofs.Common.{◌≡◌, ℕ, ◌+◌, ◌*◌, ◌^◌, ◌<◌, ◌≤◌, Bool, true, false, List, [], ◌∷◌, ◌++◌, map, length}
-use Rattle.std.proofs.Common.{Some, Result, refl, sym, ap, ◌∙◌, arith, get_or, inl, inr, ◌&&◌}
-use Rattle.std.proofs.Common.{◌==◌, eq-eqb}
-use mathlib.Core.Path.{fun_ext}
-use Rattle.std.specs.Prelude.{nat_lt}
-use Rattle.std.specs.List.{AllByRecursion, cons_option, flat_map, list_all}
+-- What the definitions draw reads back as the full data of its line, whoever computes it.
+use Rattle.std.specs.List.{AllByRecursion, cons_option, flat_map}
+use Rattle.std.specs.Prelude.{All, IfOk}
+use Rattle.std.proofs.Common.{◌≡◌, ℕ, ◌+◌, ◌*◌, ◌^◌, ◌<◌, ◌≤◌, List, [], ◌∷◌, ◌++◌, map, Some, refl, ap, arith, Result}
+use Rattle.std.proofs.Common.{Ok, Err}
 use Rattle.std.proofs.Math.Nat.{mul-pos, mul-le-mul_right}
-use Rattle.std.proofs.lemmas.Bool.{cases_lt, le-ltb}
-use Rattle.std.proofs.lemmas.List.{get_or_past}
-use Rattle.std.proofs.lemmas.List.Elements.{All-from_recursion}
-use Rattle.std.proofs.lemmas.List.FromFn.{get_or-map-range_with_len, length-map-range_with_len}
+use Rattle.std.proofs.lemmas.List.Elements.{All-from_recursion, recursion_from_All, All-map, All-weaker}
+use Rattle.device.specs.Lines.{lines}
+use Rattle.device.proofs.LinesLaws.{AllOf-lines}
+use Rattle.labelcore.specs.LineItem.{Outcome, skipped, refused, drawn, outcome_of}
+use Rattle.labelcore.specs.OptionValues.{OptionValues}
+use Rattle.labelcore.specs.declared.fault.Fault.{Fault}
 use Rattle.labelcore.specs.declared.options.Format.{Format}
 use Rattle.labelcore.specs.declared.options.Format.TheVariants.{Pbm, Ascii}
-use Rattle.qrdata.specs.declared.level.Level.{Level}
 use Rattle.labelcore.specs.declared.symbology.Symbology.{Symbology}
 use Rattle.labelcore.specs.declared.symbology.Symbology.TheVariants.{Ean13, Ean8, UpcA, Code128, Qr}
-use Rattle.labelcore.specs.OptionValues.{OptionValues}
-use Rattle.qrdata.specs.Reading.{data_in}
-use Rattle.qrmatrix.specs.Modules.{is_inside}
-use Rattle.qrmatrix.specs.Reading.{read_matrix}
-use Rattle.qrmatrix.specs.Square.{value_at}
+use Rattle.labelcore.proofs.KeptLaws.{AreBytes, AreInRange}
 use Rattle.picture.specs.Picture.{Picture}
-use Rattle.picture.specs.Text.{below, pixel_row}
 use Rattle.picture.specs.Reading.{raster}
-use Rattle.picture.specs.ReadingLaws.{ReadingLaws, IsDrawable, PixelsAreThePicture}
-use Rattle.filter.specs.Symbol.{Symbol, quiet_zone}
-use Rattle.labelcore.specs.LineItem.{Outcome, skipped, refused, drawn}
-use Rattle.filter.specs.Output.{outcome, images}
-use Rattle.filter.specs.Output.{drawn_symbols, picture_of, symbol_in, text_of}
-use Rattle.filter.specs.Readback.{cut, pixels, read_image, AreRead, ImageIsRead, ReadsBack}
-use Rattle.filter.specs.Private.LineEnd.{IsReadable, HasReadable, DrawsModules}
-use Rattle.filter.specs.Drawing.{DrawsOutcome}
-use Rattle.labelcore.specs.declared.fault.Fault.{Fault}
-use Rattle.device.specs.declared.sink.Sink.{Ghosts}
+use Rattle.picture.specs.ReadingLaws.{IsDrawable}
+use Rattle.picture.proofs.AsciiLaws.{ascii_files-flat_map, ascii_pixels-ascii_text}
+use Rattle.picture.proofs.CutLaws.{pbm_files-flat_map}
+use Rattle.picture.proofs.PbmLaws.{pbm_pixels-pbm_text}
+use Rattle.picture.proofs.SampleLaws.{sample-raster}
+use Rattle.filter.specs.Output.{outcome, images, drawn_symbols, image_of, picture_of, symbol_in, text_of}
+use Rattle.filter.specs.Readback.{cut, pixels, read_image, AreRead, IsRead}
+use Rattle.filter.specs.Symbol.{Symbol, quiet_zone, symbol_of}
+use Rattle.filter.proofs.ReadableLaws.{IsReadable, HasReadable, symbol_readable, outcome_readable}
 
 -- the quiet zones are narrow
 zone_columns : (symbology : Symbology) → (quiet_zone symbology).left + (quiet_zone symbology).right ≤ 20
@@ -58,7 +51,7 @@ some_sum a b c some = omega arith
 small_product : (a b : ℕ) → a ≤ 1840 → b ≤ 8 → a * b < 2 ^ 64
 small_product a b few scale = let m : a * b ≤ 1840 * b = mul-le-mul_right b few in omega arith
 
-module _ (laws : ReadingLaws) (options : OptionValues) (low : 1 ≤ options.scale) (high : options.scale ≤ 8) where
+module _ (options : OptionValues) (range : AreInRange options) where
   drawable : (symbol : Symbol) → IsReadable symbol → IsDrawable (picture_of options symbol)
   drawable symbol h =
       let zone = quiet_zone symbol.symbology in
@@ -67,85 +60,71 @@ module _ (laws : ReadingLaws) (options : OptionValues) (low : 1 ≤ options.scal
       let tall : zone.top + symbol.modules.height + zone.bottom ≤ 1840 =
       small_sum zone.top symbol.modules.height zone.bottom (omega (arith, zone_rows symbol.symbology))
       (omega (arith, h.rows)) in
-      let some = mul-pos (some_sum zone.left symbol.modules.width zone.right h.some_columns) low in
       record {
-        some = some;
-        wide = small_product (zone.left + symbol.modules.width + zone.right) options.scale wide high;
-        high = small_product (zone.top + symbol.modules.height + zone.bottom) options.scale tall high;
+        some = mul-pos (some_sum zone.left symbol.modules.width zone.right h.some_columns) range.scale_low;
+        wide = small_product (zone.left + symbol.modules.width + zone.right) options.scale wide range.scale_high;
+        high = small_product (zone.top + symbol.modules.height + zone.bottom) options.scale tall range.scale_high;
       }
-
-  some_rows : (symbol : Symbol) → IsReadable symbol → 0 < (picture_of options symbol).height
-  some_rows symbol h =
-      let zone = quiet_zone symbol.symbology in
-      mul-pos (some_sum zone.top symbol.modules.height zone.bottom h.some_rows) low
 
   text_read : (format : Format) (symbol : Symbol) → IsReadable symbol
       → pixels format (text_of format (picture_of options symbol)) ≡ Some (raster (picture_of options symbol))
-  text_read Pbm symbol h = laws.pbm_texts (picture_of options symbol) (drawable symbol h)
-  text_read Ascii symbol h = laws.ascii_texts (picture_of options symbol) (some_rows symbol h)
+  text_read Pbm symbol h = pbm_pixels-pbm_text (picture_of options symbol) (drawable symbol h)
+  text_read Ascii symbol h =
+      let zone = quiet_zone symbol.symbology in
+      ascii_pixels-ascii_text (picture_of options symbol)
+      (mul-pos (some_sum zone.top symbol.modules.height zone.bottom h.some_rows) range.scale_low)
 
-  -- one image
+  -- the image of modules that are read
   image_read : (format : Format) (symbol : Symbol) → IsReadable symbol
-      → read_image format options.scale symbol.symbology (text_of format (picture_of options symbol)) ≡ Some symbol.full
+      → IsRead format options.scale (text_of format (picture_of options symbol)) symbol
   unfolding read_image
   image_read format symbol h = rw (
     text_read format symbol h,
-    laws.sampled symbol.modules (quiet_zone symbol.symbology)
-        options.scale low,
+    sample-raster symbol.modules (quiet_zone symbol.symbology) options.scale range.scale_low,
   ) h.read
 
-  -- modules that are read, drawn
-  image_is_read : (outcome : Outcome Symbol) → HasReadable outcome → ReadsBack options outcome
-  image_is_read skipped h = tt
-  image_is_read (refused fault) h = tt
-  image_is_read (drawn symbol) h = record { drawable = drawable symbol h; read = image_read options.format symbol h }
+  outcome_read : (found : Result Symbol Fault) → HasReadable (outcome_of found)
+      → IfOk found (λ symbol. IsRead options.format options.scale (image_of options (drawn symbol)) symbol)
+  outcome_read (Ok symbol) h = image_read options.format symbol h
+  outcome_read (Err fault) h = tt
 
-  pub DrawsOutcome-modules : {S E : Type 0} (sink : Ghosts S) (old new : S) (outcome : Outcome Symbol)
-      (r : Result (Result (Unit {0}) Fault) E) → DrawsModules sink old new options outcome r
-      → DrawsOutcome sink old new options outcome r
-  DrawsOutcome-modules sink old new outcome r h =
-      record { writes = h.writes; refusal = h.refusal; read = image_is_read outcome (h.readable laws) }
-
-module _ (laws : ReadingLaws) (options : OptionValues) where
-  are_drawable : (symbols : List Symbol) → AllByRecursion (ImageIsRead options) symbols
-      → AllByRecursion IsDrawable (map (picture_of options) symbols)
-  are_drawable [] all = tt
-  are_drawable (symbol ∷ symbols) all = (all.0.drawable, are_drawable symbols all.1)
-
-  have_columns : (symbols : List Symbol) → AllByRecursion (ImageIsRead options) symbols
-      → AllByRecursion (λ (p : Picture). 0 < p.width) (map (picture_of options) symbols)
-  have_columns [] all = tt
-  have_columns (symbol ∷ symbols) all = (all.0.drawable.some, have_columns symbols all.1)
+  -- the image of data is read as its full data
+  pub image_of_data_read : (symbology : Symbology) (bytes : List ℕ) → All (λ b. b < 256) bytes
+      → IfOk (symbol_of options symbology bytes)
+      (λ symbol. IsRead options.format options.scale (image_of options (drawn symbol)) symbol)
+  image_of_data_read symbology bytes w = outcome_read (symbol_of options symbology bytes)
+      (symbol_readable options range symbology bytes (recursion_from_All (λ b. b < 256) bytes w))
 
   -- a stream of images
-  stream_cut : (format : Format) (symbols : List Symbol) → AllByRecursion (ImageIsRead options) symbols
+  stream_cut : (format : Format) (symbols : List Symbol) → All IsReadable symbols
       → cut format (flat_map (text_of format) (map (picture_of options) symbols))
       ≡ map (text_of format) (map (picture_of options) symbols)
-  stream_cut Pbm symbols all = let ps = map (picture_of options) symbols in
-      laws.pbm_files ps (All-from_recursion IsDrawable ps (are_drawable symbols all))
-  stream_cut Ascii symbols all = let ps = map (picture_of options) symbols in
-      laws.ascii_files ps (All-from_recursion (λ (p : Picture). 0 < p.width) ps (have_columns symbols all))
+  stream_cut Pbm symbols all = pbm_files-flat_map (map (picture_of options) symbols)
+      (All-map IsDrawable (picture_of options) symbols
+      (All-weaker IsReadable (λ symbol. IsDrawable (picture_of options symbol)) drawable symbols all))
+  stream_cut Ascii symbols all = ascii_files-flat_map (map (picture_of options) symbols)
+      (All-map (λ (p : Picture). 0 < p.width) (picture_of options) symbols
+      (All-weaker IsReadable (λ symbol. 0 < (picture_of options symbol).width) (λ symbol h. (drawable symbol h).some)
+      symbols all))
 
-  all_read : (symbols : List Symbol) → AllByRecursion (ImageIsRead options) symbols
+  all_read : (symbols : List Symbol) → AllByRecursion IsReadable symbols
       → AreRead options.format options.scale (map (text_of options.format) (map (picture_of options) symbols)) symbols
   unfolding AreRead
   all_read [] all = tt
-  all_read (symbol ∷ symbols) all = (all.0.read, all_read symbols all.1)
+  all_read (symbol ∷ symbols) all = (image_read options.format symbol all.0, all_read symbols all.1)
 
-  with_readable : (o : Outcome Symbol) → ReadsBack options o → (symbols : List Symbol)
-      → AllByRecursion (ImageIsRead options) symbols
-      → AllByRecursion (ImageIsRead options) (cons_option (symbol_in o) symbols)
+  with_readable : (o : Outcome Symbol) → HasReadable o → (symbols : List Symbol) → AllByRecursion IsReadable symbols
+      → AllByRecursion IsReadable (cons_option (symbol_in o) symbols)
   with_readable skipped r symbols all = all
   with_readable (refused fault) r symbols all = all
   with_readable (drawn symbol) r symbols all = (r, all)
 
-  drawn_symbols_readable : (lines : List (List ℕ))
-      → AllByRecursion (λ line. ReadsBack options (outcome options line)) lines
-      → AllByRecursion (ImageIsRead options) (drawn_symbols options lines)
+  drawn_symbols_readable : (lines : List (List ℕ)) → AllByRecursion AreBytes lines
+      → AllByRecursion IsReadable (drawn_symbols options lines)
   unfolding drawn_symbols
-  drawn_symbols_readable [] all = tt
-  drawn_symbols_readable (line ∷ lines) all = with_readable (outcome options line) all.0 (drawn_symbols options lines)
-      (drawn_symbols_readable lines all.1)
+  drawn_symbols_readable [] w = tt
+  drawn_symbols_readable (line ∷ lines) w = with_readable (outcome options line)
+      (outcome_readable options range line w.0) (drawn_symbols options lines) (drawn_symbols_readable lines w.1)
 
   texts_are : (symbols : List Symbol) → flat_map (λ symbol. text_of options.format (picture_of options symbol)) symbols
       ≡ flat_map (text_of options.format) (map (picture_of options) symbols)
@@ -158,68 +137,18 @@ module _ (laws : ReadingLaws) (options : OptionValues) where
   unfolding images
   images_are lines = texts_are (drawn_symbols options lines)
 
-  -- the images of lines, cut, are read as the full data of the symbols that are drawn
-  pub images_read : (lines : List (List ℕ)) → AllByRecursion (λ line. ReadsBack options (outcome options line)) lines
+  -- the images of lines, cut, are read as the full data of those that are drawn
+  pub images_of_lines_read : (lines : List (List ℕ)) → AllByRecursion AreBytes lines
       → AreRead options.format options.scale (cut options.format (images options lines)) (drawn_symbols options lines)
-  images_read lines all =
-      let readable = drawn_symbols_readable lines all in
-      rw (images_are lines, stream_cut options.format (drawn_symbols options lines) readable)
-      (all_read (drawn_symbols options lines) readable)
+  images_of_lines_read lines w =
+      let symbols = drawn_symbols options lines in
+      let readable = drawn_symbols_readable lines w in
+      rw (images_are lines, stream_cut options.format symbols (All-from_recursion IsReadable symbols readable))
+      (all_read symbols readable)
 
-equal_lengths : (p : Picture) (n : ℕ) (ys : List ℕ) → p.width ≡ n
-    → list_all (λ row. length row == n) (map (pixel_row p) ys) ≡ true
-equal_lengths p n [] e = refl
-equal_lengths p n (y ∷ ys) e = rw (
-  eq-eqb (length (pixel_row p y)) n
-      (length-map-range_with_len (λ x. p.dark x y) 0 p.width ∙ e),
-  equal_lengths p n ys e,
-) refl
-
-right_false : (a b : Bool) → b ≡ false → (a && b) ≡ false
-right_false true b e = e
-right_false false b e = refl
-
-left_false : (a b : Bool) → a ≡ false → (a && b) ≡ false
-left_false true b e = cc
-left_false false b e = refl
-
-module _ (pixels_are : PixelsAreThePicture) (n : ℕ) (dark : ℕ → ℕ → Bool)
-    (outside : (x y : ℕ) → is_inside n x y ≡ false → dark x y ≡ false) where
-  abbrev square : Picture
-  square = record { width = n; height = n; dark = dark }
-
-  square_value : (x y : ℕ) → value_at (raster square).rows x y ≡ dark x y
-  square_value x y = elim (cases_lt y n) [
-    | inl high ↦ elim (cases_lt x n) [
-      | inl wide ↦ pixels_are square x y wide high
-      | inr past ↦
-          ap (λ (row : List Bool). get_or row x false)
-          (get_or-map-range_with_len (pixel_row square) 0 n y y [] high (omega arith))
-          ∙ (get_or_past (pixel_row square y) x false
-          (let size = length-map-range_with_len (λ x. dark x y) 0 n in omega arith)
-          ∙ sym (outside x y (left_false (nat_lt x n) (nat_lt y n) (le-ltb x n past))))
-    ]
-    | inr past ↦
-        ap (λ (row : List Bool). get_or row x false)
-        (get_or_past (raster square).rows y [] (let size = length-map-range_with_len (pixel_row square) 0 n in
-        omega arith))
-        ∙ sym (outside x y (right_false (nat_lt x n) (nat_lt y n) (le-ltb y n past)))
-  ]
-
-  -- a QR symbol whose modules are read
-  pub qr_readable : (version : ℕ) (level : Level) (codewords bytes : List ℕ) → 0 < n → n ≤ 57
-      → read_matrix n dark ≡ Some (record { version = version; level = level; codewords = codewords })
-      → data_in version level codewords ≡ Some bytes →
-      IsReadable (record { symbology = Qr; full = bytes; modules = record { width = n; height = n; dark = dark } })
-  qr_readable version level codewords bytes some most symbol data_read =
-      let rows = (raster square).rows in
-      let count : length rows ≡ n = length-map-range_with_len (pixel_row square) 0 n in
-      let values : value_at rows ≡ dark = fun_ext (λ x. fun_ext (λ y. square_value x y)) in
-      let equal : list_all (λ row. length row == n) rows ≡ true = equal_lengths square n (below n) refl in
-      record {
-        some_columns = some;
-        columns = omega arith;
-        some_rows = some;
-        rows = omega arith;
-        read = rw (count, equal, values, symbol) data_read;
-      }
+  -- the images of a text, cut, are read as the full data of its lines that are drawn
+  pub images_of_text_read : (text : List ℕ) → All (λ b. b < 256) text
+      → AreRead options.format options.scale (cut options.format (images options (lines text)))
+      (drawn_symbols options (lines text))
+  images_of_text_read text w = images_of_lines_read (lines text) (AllOf-lines (λ b. b < 256) text
+      (recursion_from_All (λ b. b < 256) text w))

@@ -65,7 +65,7 @@ module _ (options : OptionValues) where
 
     TookLines-by : (before : ℕ) (ls : List (List ℕ)) → TookLines options out err before ls
         → TookLines options out' err before ls
-    TookLines-by before ls h = record { out = widen _ h.out; err = h.err; read = h.read }
+    TookLines-by before ls h = record { out = widen _ h.out; err = h.err }
 
     StopsInText-by : (text : List ℕ) (fault : RunFault) → StopsInText options out err text fault
         → StopsInText options out' err text fault
@@ -74,7 +74,6 @@ module _ (options : OptionValues) where
       line = s.line;
       later = s.later;
       cut = s.cut;
-      read = s.read;
       wrote = FailsInLine-by (λ bytes. err (messages_after options 0 s.earlier ++ bytes))
           (line_number (0 + length s.earlier)) (outcome options s.line) (images options s.earlier) fault s.wrote;
     })
@@ -99,7 +98,6 @@ module _ (options : OptionValues) where
       out = subst (took_out out out'') (append-nil (images options piece.added))
           (out_joined out out' out'' (images options piece.added) [] piece.took.out none);
       err = piece.took.err;
-      read = piece.took.read;
     };
   }
 

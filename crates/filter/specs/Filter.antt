@@ -2,14 +2,12 @@
 -- Why: `FilterState`: what a `Filter` keeps, as a contract sees it; `IsAfter`, `TookPiece`, `StopsInPiece`,
 -- `StopsInFinish`: the contracts of `Filter`; `TookLines`, `StopsInLine`: parts of the last three and of `RunStops`.
 use Rattle.std.specs.Prelude.{◌≡◌, ℕ, ◌+◌, ◌-◌, ◌^◌, min, Bool, false, ◌⊎◌, List, ◌∷◌, ◌++◌, length, Result}
-use Rattle.std.specs.Prelude.{MatchResult}
+use Rattle.std.specs.Prelude.{All, ◌<◌, MatchResult}
 use Rattle.labelcore.specs.HeldLine.{HeldLine, held_line}
 use Rattle.device.specs.Lines.{lines, ended_lines, open_line, unless_empty}
-use Rattle.labelcore.specs.OptionValues.{OptionValues}
+use Rattle.labelcore.specs.OptionValues.{OptionValues, IsInRange}
 use Rattle.filter.specs.Output.{outcome, images, messages_after, line_number, status_of}
 use Rattle.filter.specs.Line.{FailsInLine}
-use Rattle.filter.specs.Readback.{ReadsBack}
-use Rattle.std.specs.List.{AllByRecursion}
 use Rattle.filter.specs.declared.status.RunFault.{RunFault}
 use Rattle.filter.specs.declared.status.Status.{Status}
 
@@ -21,30 +19,30 @@ pub record FilterState : Type 0 where
   pub status : Status
   pub is_spent : Bool
 
--- the filter has these options and was fed this text
+-- the filter has these options, each in its range, and was fed this text of bytes
 pub record IsAfter (options : OptionValues) (state : FilterState) (text : List ℕ) : Type 0 where
   pub options_are : state.options ≡ options
+  pub range : IsInRange options.scale options.height options.min_version options.mask
+  pub bytes : All (λ b. b < 256) text
   pub line : state.line ≡ held_line (open_line text)
   pub line_count : state.line_count ≡ min (length (ended_lines text)) (2 ^ 64 - 1)
   pub status_is : state.status ≡ status_of options (ended_lines text)
   pub is_spent : state.is_spent ≡ false
 
--- the sinks took the images and the messages of these lines, and the images are read; `before` lines come before these
+-- the sinks took the images and the messages of these lines; `before` lines come before these
 pub record TookLines (options : OptionValues) (took_out took_err : List ℕ → Type 0) (before : ℕ) (lines : List (List ℕ))
     : Type 0 where
   pub out : took_out (images options lines)
   pub err : took_err (messages_after options before lines)
-  pub read : AllByRecursion (λ line. ReadsBack options (outcome options line)) lines
 
--- a sink failed in one of these lines: the images and messages of the lines before that one are whole, and the images
--- are read; of its own the sink took a beginning
+-- a sink failed in one of these lines: the images and messages of the lines before that one are whole; of its own the
+-- sink took a beginning
 pub record StopsInLine (options : OptionValues) (took_out took_err : List ℕ → Type 0) (before : ℕ)
     (lines : List (List ℕ)) (fault : RunFault) : Type 0 where
   pub earlier : List (List ℕ)
   pub line : List ℕ
   pub later : List (List ℕ)
   pub cut : lines ≡ earlier ++ line ∷ later
-  pub read : AllByRecursion (λ line. ReadsBack options (outcome options line)) earlier
   pub wrote : FailsInLine options (λ bytes. took_out (images options earlier ++ bytes))
       (λ bytes. took_err (messages_after options before earlier ++ bytes))
       (line_number (before + length earlier)) (outcome options line) fault

@@ -1,13 +1,12 @@
 -- Images read back: pbm(5), and the readings of ISO/IEC 15420, 15417 and 18004 with no correction.
--- Why: `read_image`, `AreRead`, `ImageIsRead`: "read back by the standards' reading rules".
-use Rattle.std.specs.Prelude.{◌≡◌, ℕ, ◌==◌, Bool, List, length, Option, Some, ⊤}
+-- Why: `read_image`, `AreRead`: "read back by the standards' reading rules".
+use Rattle.std.specs.Prelude.{◌≡◌, ℕ, ◌==◌, Bool, List, length, Option, Some}
 use Rattle.std.specs.List.{AllZip, list_all}
 use Rattle.std.specs.Bool.{then_some}
 use Rattle.labelcore.specs.declared.options.Format.{Format}
 use Rattle.labelcore.specs.declared.options.Format.TheVariants.{Pbm, Ascii}
 use Rattle.labelcore.specs.declared.symbology.Symbology.{Symbology}
 use Rattle.labelcore.specs.declared.symbology.Symbology.TheVariants.{Ean13, Ean8, UpcA, Code128, Qr}
-use Rattle.labelcore.specs.OptionValues.{OptionValues}
 use Rattle.qrdata.specs.Steps.{◌>>=◌}
 use Rattle.linear.specs.EanReading.{read_ean13, read_ean8, read_upca}
 use Rattle.linear.specs.Code128Reading.{read_code128}
@@ -15,10 +14,7 @@ use Rattle.qrdata.specs.Reading.{data_in}
 use Rattle.qrmatrix.specs.Reading.{read_matrix}
 use Rattle.qrmatrix.specs.Square.{value_at}
 use Rattle.picture.specs.Reading.{Raster, pbm_files, ascii_files, pbm_pixels, ascii_pixels, sample, common_row}
-use Rattle.labelcore.specs.LineItem.{Outcome, drawn}
-use Rattle.picture.specs.ReadingLaws.{IsDrawable}
 use Rattle.filter.specs.Symbol.{Symbol, quiet_zone}
-use Rattle.filter.specs.Output.{image_of, picture_of}
 
 -- a stream of images, cut into its images
 abbrev pub cut : Format → List ℕ → List (List ℕ)
@@ -55,13 +51,3 @@ IsRead format scale image symbol = read_image format scale symbol.symbology imag
 -- there is one image for each symbol, in order, and it reads as the symbol's full data
 unfoldable pub AreRead : Format → ℕ → List (List ℕ) → List Symbol → Type 0
 AreRead format scale images symbols = AllZip (IsRead format scale) images symbols
-
--- the image of a symbol reads as its full data, and its picture is such that a stream of images is cut into its images
-pub record ImageIsRead (options : OptionValues) (symbol : Symbol) : Type 0 where
-  pub drawable : IsDrawable (picture_of options symbol)
-  pub read : IsRead options.format options.scale (image_of options (drawn symbol)) symbol
-
--- the image of what is drawn is read; of other lines nothing is said
-abbrev pub ReadsBack : OptionValues → Outcome Symbol → Type 0
-ReadsBack options (drawn symbol) = ImageIsRead options symbol
-ReadsBack options other = ⊤

@@ -1,21 +1,21 @@
 //! Drawing the symbol of a line.
-ghost use Rattle.std.specs.Prelude.{◌≡◌, ◌≢◌, ◌+◌, ◌≤◌, [], length};
+ghost use Rattle.std.specs.Prelude.{◌≡◌, ◌≢◌, ◌+◌, ◌≤◌, IfOk, [], length};
 ghost use Rattle.device.specs.Writing.{WritesText};
-ghost use Rattle.labelcore.specs.LineItem.{outcome_of};
+ghost use Rattle.labelcore.specs.LineItem.{drawn, outcome_of};
 ghost use Rattle.labelcore.specs.declared.symbology.Symbology.TheVariants.{Qr};
 ghost use Rattle.linear.specs.declared.limits.TheConstants.{MAX_MODULES};
 ghost use Rattle.picture.specs.Picture.{bars, symbol_picture};
-ghost use Rattle.picture.specs.ReadingLaws.{ReadingLaws};
 ghost use Rattle.qrdata.specs.Fewest.{chosen_segments};
 ghost use Rattle.filter.specs.Drawing.{DrawsOutcome};
-ghost use Rattle.filter.specs.Output.{text_of};
-ghost use Rattle.filter.specs.Private.LineEnd.{DrawsModules, IsLinear, IsReadable, beside, image_in};
+ghost use Rattle.filter.specs.Output.{image_of, text_of};
+ghost use Rattle.filter.specs.Readback.{IsRead};
+ghost use Rattle.filter.specs.Private.LineEnd.{beside, image_in};
 ghost use Rattle.filter.specs.Symbol.{linear_symbol, qr_modules, quiet_zone, symbol_of};
 
 use device::{IoFault, Sink};
 use labelcore::{Fault, Format, Options, Symbology};
 use linear::{Code128, Ean8, Ean13, Linear, QuietZones, Row, UpcA};
-use picture::{Bars, Framed, Grid, QuietZone, Scaled, reading_laws, write_ascii, write_pbm};
+use picture::{Bars, Framed, Grid, QuietZone, Scaled, write_ascii, write_pbm};
 use qrdata::{Codewords, Plan, Version, choose, codewords};
 use qrmatrix::{Matrix, QUIET_ZONE};
 
@@ -27,8 +27,25 @@ use qrmatrix::{Matrix, QUIET_ZONE};
 /// # Errors
 ///
 /// [`IoFault`] where a write fails: the sink took a beginning of the image.
-#[tactic(auto, unfolding(crate::specs::Symbol::symbol_of))]
 pub fn draw<O: Sink>(
+    options: &Options,
+    symbology: Symbology,
+    bytes: &[u8],
+    out: &mut O,
+) -> Result<Result<(), Fault>, IoFault>
+    requires { bytes.now ≢ [] }
+    ensures drawn { DrawsOutcome O.Sink out.old out.new options.now
+        (outcome_of (symbol_of options.now symbology bytes.now)) result }
+    ensures read { IfOk (symbol_of options.now symbology bytes.now) (λ symbol.
+        IsRead options.now.format options.now.scale (image_of options.now (drawn symbol)) symbol) }
+{
+    options.ranges();
+    draw_symbol(options, symbology, bytes, out)
+}
+
+/// Draws one symbol.
+#[tactic(auto, unfolding(crate::specs::Symbol::symbol_of))]
+fn draw_symbol<O: Sink>(
     options: &Options,
     symbology: Symbology,
     bytes: &[u8],
@@ -38,8 +55,6 @@ pub fn draw<O: Sink>(
     ensures { DrawsOutcome O.Sink out.old out.new options.now
         (outcome_of (symbol_of options.now symbology bytes.now)) result }
 {
-    options.ranges();
-    reading_laws();
     match symbology {
         Symbology::Ean13 => draw_linear::<Ean13, O>(options, bytes, out),
         Symbology::Ean8 => draw_linear::<Ean8, O>(options, bytes, out),
@@ -57,8 +72,8 @@ fn draw_linear<L: Linear, O: Sink>(
 ) -> Result<Result<(), Fault>, IoFault>
     requires some { bytes.now ≢ [] }
     requires narrow { L.QUIET_ZONES.left + L.QUIET_ZONES.right ≤ 20 }
-    ensures { (symbology : Symbology) → IsLinear symbology L.QUIET_ZONES L.reading
-        → DrawsModules O.Sink out.old out.new options.now
+    ensures { (symbology : Symbology) → quiet_zone symbology ≡ beside L.QUIET_ZONES
+        → DrawsOutcome O.Sink out.old out.new options.now
         (outcome_of (linear_symbol symbology L.row_of options.now (L.full_data bytes.now))) result }
 {
     let mut row = Row::new();
@@ -101,7 +116,7 @@ fn draw_qr<O: Sink>(
     bytes: &[u8],
     out: &mut O,
 ) -> Result<Result<(), Fault>, IoFault>
-    ensures { DrawsModules O.Sink out.old out.new options.now
+    ensures { DrawsOutcome O.Sink out.old out.new options.now
         (outcome_of (symbol_of options.now Qr bytes.now)) result }
 {
     let min_version = Version::of(options.min_version());
@@ -118,13 +133,8 @@ fn draw_qr<O: Sink>(
 fn write_plan<O: Sink>(options: &Options, plan: &Plan, out: &mut O) -> Result<(), IoFault>
     requires chosen { plan.now.segments ≡ chosen_segments plan.now.version plan.now.bytes }
     requires level { plan.now.level ≡ options.now.level }
-    ensures writes { WritesText O.Sink out.old out.new (image_in (quiet_zone Qr) options.now
+    ensures { WritesText O.Sink out.old out.new (image_in (quiet_zone Qr) options.now
         (qr_modules options.now plan.now.bytes plan.now.version)) result }
-    ensures read { ReadingLaws → IsReadable (record {
-      symbology = Qr;
-      full = plan.now.bytes;
-      modules = qr_modules options.now plan.now.bytes plan.now.version;
-    }) }
 {
     let zone = QuietZone {
         left: QUIET_ZONE,
@@ -142,11 +152,6 @@ fn matrix_of(options: &Options, plan: &Plan) -> Matrix
     requires level { plan.now.level ≡ options.now.level }
     ensures modules { symbol_picture result ≡ qr_modules options.now plan.now.bytes plan.now.version }
     ensures side { result.side ≤ 57 }
-    ensures read { ReadingLaws → IsReadable (record {
-      symbology = Qr;
-      full = plan.now.bytes;
-      modules = symbol_picture result;
-    }) }
 {
     let mut all = Codewords::new();
     codewords(plan, &mut all);

@@ -41,6 +41,7 @@ impl Filter {
     pub fn new(options: Options) -> Self
         ensures { IsAfter options result [] }
     {
+        options.ranges();
         Filter {
             options,
             line: LineBuf::new(),

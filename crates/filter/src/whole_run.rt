@@ -7,7 +7,6 @@ use crate::filter::Filter;
 use crate::status::{RunFault, Status};
 use device::{Sink, Source};
 use labelcore::Options;
-use picture::reading_laws;
 
 /// Reads the source to its end, at most 4,096 bytes a read, and writes the images of its lines to `out`, their messages
 /// to `err`. Before each read and each message, `out` passes on what it buffers. Returns whether a line was refused.
@@ -36,7 +35,6 @@ pub fn run<S: Source, O: Sink, E: Sink>(
         × RunRaises text (S.failures source.old) (S.failures source.new) (O.failures out.old)
         (O.failures out.new) (E.failures err.old) (E.failures err.new) fault) }
 {
-    reading_laws();
     let mut filter = Filter::new(options);
     let mut buffer = [0u8; 4096];
     for _turn in 0..u64::MAX {

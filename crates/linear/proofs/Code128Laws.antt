@@ -13,6 +13,7 @@ use Rattle.linear.specs.declared.switching.CodeSet.{CodeSet}
 use Rattle.linear.specs.declared.switching.CodeSet.TheVariants.{A, B, C}
 use Rattle.linear.specs.CodeSets.{data_values, start_set, start_value}
 use Rattle.linear.specs.Code128.{check_value, with_check, full_code128, code128_row}
+use Rattle.linear.specs.Private.Data.{IsCode128Data}
 use Rattle.linear.specs.Code128Reading.{read_values, symbol_data, read_code128}
 use Rattle.linear.proofs.DigitLaws.{IfOk-from_each, chosen, fails_from_None, not_refused}
 use Rattle.linear.proofs.GroupLaws.{take-append}
@@ -52,17 +53,23 @@ start_below A = lit< tt
 start_below B = lit< tt
 start_below C = lit< tt
 
+-- the values of a symbol are those of characters
+pub AreCharacters-with_check : (bytes : List ℕ) → AllByRecursion (λ byte. byte < 128) bytes
+    → AreCharacters (with_check (start_set bytes) (data_values (start_set bytes) bytes))
+AreCharacters-with_check bytes d =
+    let set = start_set bytes in
+    let values = data_values set bytes in
+    let check = check_value (start_value set) values in
+    let below : check < 106 = omega arith in
+    (start_below set, AreCharacters-append values (check ∷ []) (AreCharacters-data_values set bytes d) (below, tt))
+
 pub read_code128-code128_row : (bytes : List ℕ) → AllByRecursion (λ byte. byte < 128) bytes
     → read_code128 (code128_row bytes) ≡ Some bytes
 read_code128-code128_row bytes d =
     let set = start_set bytes in
     let values = data_values set bytes in
-    let check = check_value (start_value set) values in
-    let below : check < 106 = omega arith in
-    let characters : AreCharacters (with_check set values) =
-    (start_below set, AreCharacters-append values (check ∷ []) (AreCharacters-data_values set bytes d) (below, tt)) in
-    read_code128-characters (with_check set values) characters ∙ symbol_data-with_check set values
-    ∙ read_values-data_values set bytes d
+    read_code128-characters (with_check set values) (AreCharacters-with_check bytes d)
+    ∙ symbol_data-with_check set values ∙ read_values-data_values set bytes d
 
 pub all_ascii_from_None : (bytes : List ℕ) → position (λ byte. leb 128 byte) bytes ≡ None
     → All (λ byte. byte < 128) bytes
@@ -70,22 +77,20 @@ all_ascii_from_None bytes h =
     (λ k d lt. let e : leb 128 (get_or bytes k d) ≡ false = fails_from_None (λ byte. leb 128 byte) bytes h k d lt in
     grind (arith, nat_tests))
 
-all_ascii_by_recursion : (bytes : List ℕ) → position (λ byte. leb 128 byte) bytes ≡ None
-    → AllByRecursion (λ byte. byte < 128) bytes
-all_ascii_by_recursion bytes h = recursion_from_All (λ byte. byte < 128) bytes (all_ascii_from_None bytes h)
-
-code128_full : (bytes full : List ℕ) → full_code128 bytes ≡ Ok full → read_code128 (code128_row full) ≡ Some full
-code128_full bytes full h =
+-- full data is at most 80 ASCII bytes
+pub full_code128-Ok : (bytes full : List ℕ) → full_code128 bytes ≡ Ok full → IsCode128Data full
+full_code128-Ok bytes full h =
     elim (chosen (ltb 80 (length bytes)) _ _ _ h) [
       | inl p ↦ absurd (let e = p.1 in cc)
       | inr p ↦
           let parts = not_refused NotAscii (position (λ byte. leb 128 byte) bytes) (Ok bytes) full p.1 in
           let same : bytes ≡ full = (let e = parts.1 in cc) in
-          let P : List ℕ → Type 0 = λ xs. read_code128 (code128_row xs) ≡ Some xs in
-          subst P same (read_code128-code128_row bytes (all_ascii_by_recursion bytes parts.0))
+          subst IsCode128Data same
+          (record { few = (let few = p.0 in grind (arith, nat_tests)); ascii = all_ascii_from_None bytes parts.0 })
     ]
 
 -- what is drawn of data that is full is read back
 pub code128_read_back : (bytes : List ℕ)
     → IfOk (full_code128 bytes) (λ full. read_code128 (code128_row full) ≡ Some full)
-code128_read_back bytes = IfOk-from_each (full_code128 bytes) _ (code128_full bytes)
+code128_read_back bytes = IfOk-from_each (full_code128 bytes) _ (λ full h. read_code128-code128_row full
+    (recursion_from_All (λ byte. byte < 128) full (full_code128-Ok bytes full h).ascii))

@@ -35,7 +35,7 @@ use Rattle.linear.proofs.GroupLaws.{take-append, drop-append, drop-append_more}
 abbrev pub right_half : List ℕ → List Bool
 right_half bytes = flat_map (λ byte. pattern C (digit_value byte)) bytes
 
-digit_below : (byte : ℕ) → IsAsciiDigit byte → digit_value byte < 10
+pub digit_below : (byte : ℕ) → IsAsciiDigit byte → digit_value byte < 10
 digit_below byte h = omega arith
 
 digit_again : (byte : ℕ) → IsAsciiDigit byte → 48 + digit_value byte ≡ byte
@@ -199,7 +199,7 @@ all_full count full f =
 pub length-full : (count : ℕ) (full : List ℕ) → IsFull count full → length full ≡ count + 1
 length-full count full f = ap length f.whole ∙ length-append f.digits (f.last ∷ []) ∙ ap (λ k. k + 1) f.long
 
-all_in : (full : List ℕ) → All IsAsciiDigit full → AllByRecursion IsAsciiDigit full
+pub all_in : (full : List ℕ) → All IsAsciiDigit full → AllByRecursion IsAsciiDigit full
 all_in full d = recursion_from_All IsAsciiDigit full d
 
 -- EAN-8
@@ -327,7 +327,7 @@ ean13_read_back bytes =
     IfOk-from_each (full_digits 12 bytes) _ (λ full h. read_ean13-ean13_row full (full_from_Ok 12 bytes full h))
 
 -- UPC-A: a 0 before the digits leaves their check digit
-with_zero : (full : List ℕ) → IsFull 11 full → IsFull 12 (48 ∷ full)
+pub with_zero : (full : List ℕ) → IsFull 11 full → IsFull 12 (48 ∷ full)
 with_zero full f = record {
   digits = 48 ∷ f.digits;
   last = f.last;

@@ -7,7 +7,7 @@ use Rattle.std.proofs.lemmas.Bool.{eq-eqb, eqb-true}
 use Rattle.std.proofs.lemmas.List.{length-take}
 use Rattle.std.proofs.Math.Nat.{pow-le-pow_right}
 use Rattle.std.proofs.lemmas.List.Folds.{sum_by-replicate}
-use Rattle.std.proofs.lemmas.List.Elements.{All-from_recursion}
+use Rattle.std.proofs.lemmas.List.Elements.{All-from_recursion, recursion_from_All}
 use Rattle.gf256.specs.Field.{alpha, field_power, IsElement}
 use Rattle.gf256.specs.Polynomial.{evaluate}
 use Rattle.gf256.specs.ErrorCorrection.{ec_codewords_of, HasRoots, IsRemainder, EcCodewordsAreRemainder}
@@ -36,6 +36,7 @@ use Rattle.qrdata.proofs.SegmentReadingLaws.{AreBytes-take, AreBytes-drop, segme
 pub record HasEcCodewords (k : ℕ) : Type 0 where
   pub count : (block : List ℕ) → AreBytes block → length (ec_codewords_of k block) ≡ k
   pub roots : (block : List ℕ) → AreBytes block → has_roots k (block, ec_codewords_of k block) ≡ true
+  pub bytes : (block : List ℕ) → AreBytes block → AreBytes (ec_codewords_of k block)
 
 roots_pass : (p : List ℕ) (n low : ℕ) → ((i : ℕ) → i < low + n → evaluate p (field_power alpha i) ≡ 0)
     → list_all (λ i. evaluate p (field_power alpha i) == 0) (range_with_len low n) ≡ true
@@ -53,9 +54,12 @@ HasEcCodewords-from_law remainder codeword k some = record {
       remainder k block some (All-from_recursion IsElement block w) in
       let roots : HasRoots k (block ++ ec_codewords_of k block) = codeword k block (ec_codewords_of k block) here in
       roots_pass (block ++ ec_codewords_of k block) k 0 (λ i h. roots i (omega arith));
+  bytes = λ block w. let here : IsRemainder k block (ec_codewords_of k block) =
+      remainder k block some (All-from_recursion IsElement block w) in
+      recursion_from_All IsElement (ec_codewords_of k block) here.ec_codewords_elements;
 }
 
-AreBytes-append : (xs ys : List ℕ) → AreBytes xs → AreBytes ys → AreBytes (xs ++ ys)
+pub AreBytes-append : (xs ys : List ℕ) → AreBytes xs → AreBytes ys → AreBytes (xs ++ ys)
 AreBytes-append [] ys v w = w
 AreBytes-append (x ∷ xs) ys v w = (v.0, AreBytes-append xs ys v.1 w)
 

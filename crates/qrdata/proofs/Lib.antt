@@ -19,6 +19,7 @@ pub mod PayloadStepLaws
 pub mod PayloadLaws
 pub mod PlanLaws
 pub mod DataReadingLaws
+pub mod CodewordByteLaws
 pub mod RunLaws
 pub mod SameWidthLaws
 pub mod SegmentReadingLaws

@@ -1,8 +1,9 @@
 -- A search in rising order finds the smallest version in which the best segments fit.
-use Rattle.std.proofs.Common.{◌≡◌, ℕ, zero, suc, ◌+◌, ◌-◌, ◌<◌, ◌≤◌, List, arith, Bool, true, false, inl, inr, refl}
-use Rattle.std.specs.Prelude.{nat_le, Some, None}
+use Rattle.std.proofs.Common.{◌≡◌, ℕ, zero, suc, ◌+◌, ◌-◌, ◌<◌, ◌≤◌, List, arith, Bool, true, false, cond, inl}
+use Rattle.std.proofs.Common.{inr, refl}
+use Rattle.std.specs.Prelude.{nat_le, None, Option, Some}
 use Rattle.std.specs.List.{find, range_with_len}
-use Rattle.std.proofs.lemmas.Bool.{cases_lt, le-leb, lt-leb}
+use Rattle.std.proofs.lemmas.Bool.{cases_lt, le-leb, leb-true, lt-leb}
 use Rattle.qrdata.specs.declared.level.Level.{Level}
 use Rattle.qrdata.specs.Segments.{cost}
 use Rattle.qrdata.specs.Versions.{capacity}
@@ -26,6 +27,21 @@ find_none p (suc n) low others =
     let no : p low ≡ false = others low (omega arith) (omega arith) in
     rw no (find_none p n (low + 1) (λ u h k. others u (omega arith) (omega arith)))
 
+-- what is found is in the range, and passes
+abbrev IsFound : (ℕ → Bool) → ℕ → ℕ → ℕ → Type 0
+IsFound p n low v = (low ≤ v) × (v < low + n) × (p v ≡ true)
+
+found_first : (p : ℕ → Bool) (n low v : ℕ) (passes : Bool) (later : Option ℕ) → p low ≡ passes
+    → cond passes (Some low) later ≡ Some v → (later ≡ Some v → IsFound p n (low + 1) v) → IsFound p (suc n) low v
+found_first p n low v true later passes e rest = let same : low ≡ v = cc in
+    (omega arith, omega arith, rw same at passes)
+found_first p n low v false later differs e rest = let found = rest e in (omega arith, omega arith, found.2)
+
+find_found : (p : ℕ → Bool) (n low v : ℕ) → find p (range_with_len low n) ≡ Some v → IsFound p n low v
+find_found p zero low v e = cc
+find_found p (suc n) low v e = found_first p n low v (p low) (find p (range_with_len (low + 1) n)) refl e
+    (find_found p n (low + 1) v)
+
 pub chosen_version-is : (lowest : ℕ) (level : Level) (bytes : List ℕ) (v : ℕ) → lowest ≤ v → v ≤ 10
     → cost v (chosen_segments v bytes) ≤ capacity v level
     → ((u : ℕ) → lowest ≤ u → u < v → DoNotFit u level bytes) → chosen_version lowest level bytes ≡ Some v
@@ -40,6 +56,16 @@ unfolding chosen_version
 chosen_version-none lowest level bytes others =
     find_none (λ version. nat_le (cost version (chosen_segments version bytes)) (capacity version level)) (11 - lowest)
     lowest (λ u h k. lt-leb _ _ (others u h (omega arith)))
+
+-- the version that is chosen is from the lowest to 10, and the best segments fit it
+pub chosen_version-found : (lowest : ℕ) (level : Level) (bytes : List ℕ) (v : ℕ)
+    → chosen_version lowest level bytes ≡ Some v
+    → (lowest ≤ v) × (v ≤ 10) × (cost v (chosen_segments v bytes) ≤ capacity v level)
+unfolding chosen_version
+chosen_version-found lowest level bytes v e =
+    let found = find_found (λ version. nat_le (cost version (chosen_segments version bytes)) (capacity version level))
+    (11 - lowest) lowest v e in
+    (found.0, omega arith, leb-true _ _ found.2)
 
 -- where the best segments do not fit, none do
 pub NoneFits-from_chosen : (version : ℕ) (level : Level) (bytes : List ℕ) → DoNotFit version level bytes

@@ -1,10 +1,15 @@
 -- The choice of the mask.
 use Rattle.std.proofs.Common.{◌≡◌, ℕ, ◌+◌, ◌<◌, ◌≤◌, refl, ap, ◌∙◌, arith, Bool, true, zero, suc, inl, inr}
-use Rattle.std.specs.Prelude.{map, nat_le}
+use Rattle.std.specs.Prelude.{IfSome, List, None, Option, Some, map, nat_le}
 use Rattle.std.specs.List.{range_with_len, list_all, position_or_len}
-use Rattle.std.proofs.lemmas.Bool.{le-leb, false_from_ne_true, leb-true, and_parts, and_from, cases_eq}
+use Rattle.std.proofs.lemmas.Bool.{le-leb, false_from_ne_true, leb-true, and_parts, and_from, cases_eq, cases_lt}
 use Rattle.std.proofs.lemmas.List.Sums.{position_or_len_is}
 use Rattle.std.proofs.lemmas.List.FromFn.{get_or-map-range_with_len}
+use Rattle.qrdata.specs.declared.level.Level.{Level}
+use Rattle.qrdata.specs.Versions.{side_of}
+use Rattle.qrmatrix.specs.MaskChoice.{chosen_mask}
+use Rattle.qrmatrix.specs.Modules.{module_at}
+use Rattle.qrmatrix.specs.Penalty.{penalty}
 
 -- among the first n numbers, f is lowest at k, and is higher before it
 pub record Lowest (f : ℕ → ℕ) (n k : ℕ) : Type 0 where
@@ -47,3 +52,50 @@ lowest_of_eight f k l =
     (λ t. let less = l.first j h in let more =
     leb-true (f j) (f k) (mapped_all f (nat_le (f j)) 0 8 t k (omega arith) (omega arith)) in omega arith)))
     (λ h. rw (at k h) (all_mapped f (nat_le (f k)) 0 8 (λ j a m. le-leb (f k) (f j) (l.lowest j (omega arith)))))
+
+-- one of the first numbers has the lowest value
+some_lowest : (f : ℕ → ℕ) (n : ℕ) → (k : ℕ) × Lowest f (suc n) k
+some_lowest f zero = (
+  0,
+  record {
+    among = omega arith;
+    lowest = λ j h. let same : j ≡ 0 = omega arith in rw same (omega arith);
+    first = λ j h. absurd (omega arith);
+  },
+)
+some_lowest f (suc n) =
+    let before = some_lowest f n in
+    elim (cases_lt (f (suc n)) (f before.0)) [
+      | inl less ↦ (
+        suc n,
+        record {
+          among = omega arith;
+          lowest = λ j h. elim (cases_lt j (suc n)) [
+            | inl earlier ↦ omega (arith, before.1.lowest j earlier)
+            | inr last ↦ let same : j ≡ suc n = omega arith in rw same (omega arith)
+          ];
+          first = λ j h. omega (arith, before.1.lowest j h);
+        },
+      )
+      | inr more ↦ (
+        before.0,
+        record {
+          among = omega (arith, before.1.among);
+          lowest = λ j h. elim (cases_lt j (suc n)) [
+            | inl earlier ↦ before.1.lowest j earlier
+            | inr last ↦ let same : j ≡ suc n = omega arith in rw same more
+          ];
+          first = before.1.first;
+        },
+      )
+    ]
+
+-- a symbol's mask is 0 to 7
+pub chosen_mask-lt : (v : ℕ) (level : Level) (asked : Option ℕ) (codewords : List ℕ) → IfSome asked (λ mask. mask < 8)
+    → chosen_mask v level asked codewords < 8
+unfolding chosen_mask
+chosen_mask-lt v level (Some mask) codewords h = h
+chosen_mask-lt v level None codewords h =
+    let f = λ (mask : ℕ). penalty (side_of v) (module_at v level mask codewords) in
+    let least = some_lowest f 7 in
+    rw (lowest_of_eight f least.0 least.1) least.1.among

@@ -1,25 +1,17 @@
 -- What the private contracts say of a line's end and of the flushes after the last one.
-use Rattle.std.specs.Prelude.{◌≡◌, ℕ, ◌<◌, ◌≤◌, Bool, List, [], length, Option, None, Some, Result, IfOk, MatchResult, ⊤, if◌then◌else◌}
+use Rattle.std.specs.Prelude.{◌≡◌, ℕ, List, [], length, Result, MatchResult, if◌then◌else◌}
 use Rattle.device.specs.Device.{Begins}
-use Rattle.labelcore.specs.declared.symbology.Symbology.{Symbology}
-use Rattle.labelcore.specs.LineItem.{Outcome, drawn}
-use Rattle.labelcore.specs.declared.fault.Fault.{Fault}
-use Rattle.device.specs.Writing.{WritesText}
+use Rattle.labelcore.specs.LineItem.{Outcome}
 use Rattle.device.specs.declared.sink.Sink.{Ghosts}
-use Rattle.filter.specs.Drawing.{refusal_of}
 use Rattle.labelcore.specs.OptionValues.{OptionValues}
 use Rattle.linear.specs.declared.linear.QuietZones.{QuietZones}
 use Rattle.filter.specs.Output.{image_of, message_of, is_refusal, status_of, text_of}
 use Rattle.filter.specs.Filter.{StopsInLine, TookLines}
 use Rattle.filter.specs.Line.{CountsFault, FailsInLine, FlushesImagesFirst}
 use Rattle.device.specs.Lines.{lines, ended_lines, open_line, unless_empty}
-use Rattle.filter.specs.Readback.{ReadsBack, read_modules}
-use Rattle.filter.specs.Symbol.{Symbol, quiet_zone}
+use Rattle.filter.specs.Symbol.{Symbol}
 use Rattle.picture.specs.Picture.{Picture, enlargement, with_quiet_zone}
-use Rattle.picture.specs.Reading.{raster, common_row}
-use Rattle.picture.specs.ReadingLaws.{ReadingLaws}
 use Rattle.picture.specs.declared.quiet_zone.QuietZone.{QuietZone}
-use Rattle.qrdata.specs.Steps.{◌>>=◌}
 use Rattle.filter.specs.declared.status.RunFault.{RunFault}
 use Rattle.filter.specs.declared.status.RunFault.TheVariants.{WriteOut, WriteMessages}
 use Rattle.filter.specs.declared.status.Status.{Status}
@@ -34,26 +26,6 @@ worst Refused other = Refused
 abbrev pub status_of_line : Outcome Symbol → Status
 status_of_line outcome = if is_refusal outcome then Refused else Clean
 
--- modules of some size that are read as the full data
-pub record IsReadable (symbol : Symbol) : Type 0 where
-  pub some_columns : 0 < symbol.modules.width
-  pub columns : symbol.modules.width ≤ 1795
-  pub some_rows : 0 < symbol.modules.height
-  pub rows : symbol.modules.height ≤ 500
-  pub read : read_modules symbol.symbology (raster symbol.modules).rows ≡ Some symbol.full
-
--- the modules of what is drawn are read; of other lines nothing is said
-abbrev pub HasReadable : Outcome Symbol → Type 0
-HasReadable (drawn symbol) = IsReadable symbol
-HasReadable other = ⊤
-
--- the image is written, or nothing where there is none; a refusal is returned, and the modules of a symbol are read
-pub record DrawsModules {S E : Type 0} (sink : Ghosts S) (old new : S) (options : OptionValues)
-    (outcome : Outcome Symbol) (r : Result (Result (Unit {0}) Fault) E) : Type 0 where
-  pub writes : WritesText sink old new (image_of options outcome) r
-  pub refusal : IfOk r (λ drawn. drawn ≡ refusal_of outcome)
-  pub readable : ReadingLaws → HasReadable outcome
-
 -- the text of modules in a quiet zone, as the options say
 abbrev pub image_in : QuietZone → OptionValues → Picture → List ℕ
 image_in zone options modules = text_of options.format (enlargement (with_quiet_zone modules zone) options.scale)
@@ -62,19 +34,12 @@ image_in zone options modules = text_of options.format (enlargement (with_quiet_
 abbrev pub beside : QuietZones → QuietZone
 beside zones = record { left = zones.left; right = zones.right; top = 0; bottom = 0 }
 
--- a symbology of one row, with these quiet zones before and after it, read by this rule
-pub record IsLinear (symbology : Symbology) (zones : QuietZones) (reading : List Bool → Option (List ℕ)) : Type 0 where
-  pub zone : quiet_zone symbology ≡ beside zones
-  pub rule : (rows : List (List Bool)) → read_modules symbology rows ≡ common_row rows >>= reading
-  pub none : reading [] ≡ None
-
--- the sinks took the image and the message of a line, and the image is read
+-- the sinks took the image and the message of a line
 pub record EndsLine (options : OptionValues) (took_out took_err : List ℕ → Type 0) (number : ℕ)
     (outcome : Outcome Symbol) (status : Status) : Type 0 where
   pub status_is : status ≡ status_of_line outcome
   pub image : took_out (image_of options outcome)
   pub message : took_err (message_of number outcome)
-  pub read : ReadsBack options outcome
 
 -- where the images failed, the messages took nothing; where the messages failed, they took a beginning of the text
 abbrev pub FailsInMessage : (took_err : List ℕ → Type 0) (text : List ℕ) → RunFault → Type 0

@@ -13,7 +13,7 @@ returns-in-Ok-Ok-clause-ends g c text at =
     rw (outcome-item options text ∙ ap outcome_of_item (sym (c.parse-item.ensures.item text at)))
     (drawn_ends options (g.O.Sink.took c.args.out.now c.draw_item.new.out)
     (g.E.Sink.took c.args.err.now c.args.err.now) c.args.number (outcome_of_item (item_seen c.parse-item.result))
-    (sym h.refusal ∙ c.in-Ok-Ok.field-0-is) h.writes.bytes (g.met.E.Sink.took_none c.args.err.now) h.read)
+    (sym h.refusal ∙ c.in-Ok-Ok.field-0-is) h.writes.bytes (g.met.E.Sink.took_none c.args.err.now))
 
 pub returns-in-Ok-Ok-clause-sinks : goal.returns-in-Ok-Ok-clause-sinks
 returns-in-Ok-Ok-clause-sinks g c =

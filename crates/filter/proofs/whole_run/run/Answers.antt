@@ -5,9 +5,8 @@ use Rattle.std.proofs.lemmas.List.{append-nil}
 use Rattle.std.proofs.lemmas.Result.{err_from_is_err_and}
 use Rattle.filter.proofs.FilterLaws.{TookPiece-none, TookPiece-append, StopsInPiece-append, TookLines-ended}
 use Rattle.filter.proofs.FilterLaws.{StopsInLine-lines}
-use Rattle.device.specs.Lines.{lines}
 use Rattle.filter.specs.Run.{RunsWhole, RunStops, RunRaises}
-use Rattle.filter.proofs.ReadLaws.{images_read}
+use Rattle.filter.proofs.ReadLaws.{images_of_text_read}
 use Rattle.filter.proofs.RunLaws.{ends_err, ends_ok, gave_end, RunStops-in_line, RunStops-between, TookPiece-sent, TookLines-finish}
 use Rattle.filter.proofs.RunLaws.{RunStops-finish, RunRaises-line, FlushedImagesAtMost-neither}
 use Rattle.filter.proofs.RunLaws.{FlushesImagesFirst-after, NoneFailed-after}
@@ -83,7 +82,7 @@ returns-then-count-eq0-clause-whole g c =
       out = took.out;
       err = took.err;
       status_is = s;
-      read = images_read c.reading_laws.ensures c.args.options (lines h.given) took.read;
+      read = images_of_text_read c.args.options h.after.range h.given h.after.bytes;
     })
 
 pub returns-then-count-eq0-clause-flushed : goal.returns-then-count-eq0-clause-flushed

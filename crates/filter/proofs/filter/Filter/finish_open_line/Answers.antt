@@ -24,7 +24,7 @@ returns-in-Ok-clause-ends g c options text at =
     let some : c.self.inside.line.bytes ≡ [] → ⊥ = λ e. false≢true (c.if-is_empty.ensures.1 e) in (
       c.worst.ensures ∙ (ap (worst c.self.inside.status) ends.status_is ∙ status_of-rest options _ text at' some),
       rw (a_rest options _ text at' some) (TookLines-one options _ _ (length (ended_lines text)) (open_line text)
-          ends.image ends.message ends.read),
+          ends.image ends.message),
     )
 
 pub returns-in-Err-clause-ends : goal.returns-in-Err-clause-ends

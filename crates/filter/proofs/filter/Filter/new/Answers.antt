@@ -10,4 +10,4 @@ returns c = IsAfter-new c.args.options (record {
   line_count = 0;
   status = Clean;
   is_spent = false;
-}) refl c.new.ensures refl refl refl
+}) c.ranges-2.ensures refl c.new.ensures refl refl refl

@@ -1,0 +1,67 @@
+-- The codewords of a symbol are bytes.
+use Rattle.std.proofs.Common.{ℕ, zero, suc, ◌+◌, ◌<◌, ◌≤◌, List, [], ◌∷◌, map}
+use Rattle.std.specs.Prelude.{IfSome, None, Option, Some, slice_get}
+use Rattle.std.specs.List.{AllByRecursion, cons_option, flat_map, range_with_len}
+use Rattle.gf256.specs.ErrorCorrection.{ec_codewords_of}
+use Rattle.gf256.proofs.GeneratorLaws.{HasRoots-remainder, IsRemainder-ec_codewords_of}
+use Rattle.qrdata.specs.declared.level.Level.{Level}
+use Rattle.qrdata.specs.declared.mode.Segment.{Segment}
+use Rattle.qrdata.specs.Codewords.{codewords_at, data_codewords_of, final_message, interleaving, split_by}
+use Rattle.qrdata.specs.Codewords.{symbol_codewords}
+use Rattle.qrdata.specs.Segments.{segments_bits}
+use Rattle.qrdata.specs.Versions.{block_lengths, data_codewords, ec_codewords_per_block}
+use Rattle.qrdata.proofs.DataReadingLaws.{AreBytes-append, AreBytes-data_codewords_of, AreBytes-split, HasEcCodewords}
+use Rattle.qrdata.proofs.DataReadingLaws.{HasEcCodewords-from_law}
+use Rattle.qrdata.proofs.InterleavingLaws.{Blocks, longest}
+use Rattle.qrdata.proofs.PayloadLaws.{AreBytes}
+use Rattle.qrdata.proofs.VersionLaws.{HasSoundBlocks-of}
+
+byte_at : (block : List ℕ) (place : ℕ) → AreBytes block → IfSome (slice_get block place) (λ b. b < 256)
+byte_at [] place w = tt
+byte_at (b ∷ block) zero w = w.0
+byte_at (b ∷ block) (suc place) w = byte_at block place w.1
+
+AreBytes-cons_option : (found : Option ℕ) (bytes : List ℕ) → IfSome found (λ b. b < 256) → AreBytes bytes
+    → AreBytes (cons_option found bytes)
+AreBytes-cons_option None bytes h w = w
+AreBytes-cons_option (Some b) bytes h w = (h, w)
+
+AreBytes-codewords_at : (blocks : Blocks) (place : ℕ) → AllByRecursion AreBytes blocks
+    → AreBytes (codewords_at blocks place)
+AreBytes-codewords_at [] place w = tt
+AreBytes-codewords_at (block ∷ blocks) place w =
+    AreBytes-cons_option (slice_get block place) (codewords_at blocks place)
+    (byte_at block place w.0) (AreBytes-codewords_at blocks place w.1)
+
+AreBytes-places : (blocks : Blocks) (a n : ℕ) → AllByRecursion AreBytes blocks
+    → AreBytes (flat_map (codewords_at blocks) (range_with_len a n))
+AreBytes-places blocks a zero w = tt
+AreBytes-places blocks a (suc n) w =
+    AreBytes-append (codewords_at blocks a) (flat_map (codewords_at blocks) (range_with_len (a + 1) n))
+    (AreBytes-codewords_at blocks a w) (AreBytes-places blocks (a + 1) n w)
+
+AreBytes-interleaving : (blocks : Blocks) → AllByRecursion AreBytes blocks → AreBytes (interleaving blocks)
+unfolding interleaving
+AreBytes-interleaving blocks w = AreBytes-places blocks 0 (longest blocks) w
+
+AreBytes-ec_codewords : (k : ℕ) (blocks : Blocks) → HasEcCodewords k → AllByRecursion AreBytes blocks
+    → AllByRecursion AreBytes (map (ec_codewords_of k) blocks)
+AreBytes-ec_codewords k [] law w = tt
+AreBytes-ec_codewords k (block ∷ blocks) law w = (law.bytes block w.0, AreBytes-ec_codewords k blocks law w.1)
+
+-- the codewords of a symbol are bytes, whatever the segments and the data are
+pub AreBytes-symbol_codewords : (version : ℕ) (level : Level) (segments : List Segment) (bytes : List ℕ) → 1 ≤ version
+    → version ≤ 10 → AreBytes (symbol_codewords version level segments bytes)
+unfolding symbol_codewords final_message
+AreBytes-symbol_codewords version level segments bytes low high =
+    let k = ec_codewords_per_block version level in
+    let size = data_codewords version level in
+    let bits = segments_bits version segments bytes in
+    let blocks = split_by (block_lengths version level) (data_codewords_of size bits) in
+    let law = HasEcCodewords-from_law IsRemainder-ec_codewords_of HasRoots-remainder k
+    (HasSoundBlocks-of version level low high).some_ec_codewords in
+    let w = AreBytes-split (block_lengths version level) (data_codewords_of size bits)
+    (AreBytes-data_codewords_of size bits) in
+    AreBytes-append (interleaving blocks) (interleaving (map (ec_codewords_of k) blocks))
+    (AreBytes-interleaving blocks w)
+    (AreBytes-interleaving (map (ec_codewords_of k) blocks) (AreBytes-ec_codewords k blocks law w))
