@@ -21,25 +21,26 @@ range_with_len-add a (suc n) m =
     let next : (a + 1) + n ≡ a + suc n = omega arith in
     rw (more, ← next, range_with_len-add (a + 1) n m) refl
 
+-- the texts of the numbers below n + m
+pub flat_map-below_add : (f : ℕ → List ℕ) (n m : ℕ) → flat_map f (below (n + m))
+    ≡ flat_map f (below n) ++ flat_map f (range_with_len n m)
+flat_map-below_add f n m =
+    ap (flat_map f) (range_with_len-add 0 n m)
+    ∙ (flat_map-append f (below n) (range_with_len (0 + n) m)
+    ∙ ap (λ (k : ℕ). flat_map f (below n) ++ flat_map f (range_with_len k m)) (zero-add n))
+
 -- the text of one number more
 pub flat_map-below_more : (f : ℕ → List ℕ) (n : ℕ) → flat_map f (below (n + 1)) ≡ flat_map f (below n) ++ f n
 flat_map-below_more f n =
-    ap (flat_map f) (range_with_len-add 0 n 1)
-    ∙ (flat_map-append f (below n) (range_with_len (0 + n) 1)
-    ∙ (ap (λ (xs : List ℕ). flat_map f (below n) ++ xs) (append-nil (f (0 + n)))
-    ∙ ap (λ (k : ℕ). flat_map f (below n) ++ f k) (zero-add n)))
+    flat_map-below_add f n 1 ∙ ap (λ (xs : List ℕ). flat_map f (below n) ++ xs) (append-nil (f n))
 
--- the text of the numbers up to k is a front of the whole
-pub flat_map-below_front : (f : ℕ → List ℕ) (k n : ℕ) → k < n
-    → (rest : List ℕ) × (flat_map f (below n) ≡ (flat_map f (below k) ++ f k) ++ rest)
-flat_map-below_front f k n h =
-    let r = n - (k + 1) in
-    let size : n ≡ (k + 1) + r = omega arith in (
-      flat_map f (range_with_len (0 + (k + 1)) r),
-      ap (λ (m : ℕ). flat_map f (below m)) size
-          ∙ (ap (flat_map f) (range_with_len-add 0 (k + 1) r)
-          ∙ (flat_map-append f (below (k + 1)) (range_with_len (0 + (k + 1)) r)
-          ∙ ap (λ (xs : List ℕ). xs ++ flat_map f (range_with_len (0 + (k + 1)) r)) (flat_map-below_more f k))),
+-- the texts of the numbers below n are a front of those below a larger number
+pub flat_map-below_front : (f : ℕ → List ℕ) (n all : ℕ) → n ≤ all
+    → (rest : List ℕ) × (flat_map f (below all) ≡ flat_map f (below n) ++ rest)
+flat_map-below_front f n all h =
+    let size : all ≡ n + (all - n) = omega arith in (
+      flat_map f (range_with_len n (all - n)),
+      ap (λ (m : ℕ). flat_map f (below m)) size ∙ flat_map-below_add f n (all - n),
     )
 
 -- the pixels below x + n

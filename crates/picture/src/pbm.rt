@@ -6,7 +6,7 @@ ghost use Rattle.device.specs.Lines.{LF};
 ghost use Rattle.picture.specs.Text.{pbm_digit, pbm_header, pbm_text};
 
 use crate::grid::Grid;
-use crate::rows::{PixelText, write_rows};
+use crate::rows::{PIECE, PixelText, write_rows};
 use arrayvec::ArrayVec;
 use device::{IoFault, Sink, write_whole};
 use itoa::Buffer;
@@ -69,6 +69,10 @@ impl PixelText for PbmPixels {
 
     fn row_end() -> &'static [u8] {
         b""
+    }
+
+    fn row_len(width: usize) -> usize {
+        width + width.div_ceil(PIECE)
     }
 }
 

@@ -7,7 +7,7 @@ use Rattle.device.specs.Writing.{WritesText}
 use Rattle.picture.specs.Private.Rows.{piece}
 use Rattle.picture.specs.Text.{below}
 use Rattle.picture.proofs.WritingLaws.{piece_asked}
-use Rattle.picture.proofs.rows.write_wide_piece.Goals as goal
+use Rattle.picture.proofs.wide_rows.write_wide_piece.Goals as goal
 
 pub returns : goal.returns
 returns g c =

@@ -6,7 +6,7 @@ use Rattle.picture.specs.Private.Rows.{piece}
 use Rattle.picture.specs.Text.{below}
 use Rattle.picture.proofs.WritingLaws.{piece_held}
 use Rattle.picture.proofs.WritingLoopLaws.{HasWritten-below_more, WritesText-below_fails}
-use Rattle.picture.proofs.rows.write_row.Goals as goal
+use Rattle.picture.proofs.kept_rows.write_row.Goals as goal
 
 pub loop-k-init : goal.loop-k-init
 loop-k-init g c = record { written = HasWritten-none g.S.Sink c.args.sink.now (g.met.S.Sink.took_none _) }
