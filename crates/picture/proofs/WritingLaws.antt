@@ -62,7 +62,7 @@ take_piece row k = let place : 70 * (k + 1) ≡ 70 * k + 70 = omega arith in ap 
     ∙ take_add (70 * k) 70 row
 
 -- all pieces of a row are the row
-all_pieces : (row : List Bool) → take (70 * div_ceil (length row) 70) row ≡ row
+pub all_pieces : (row : List Bool) → take (70 * div_ceil (length row) 70) row ≡ row
 all_pieces row = take_all (70 * div_ceil (length row) 70) row (omega arith)
 
 -- a piece of a row at the front of a longer list
@@ -115,7 +115,7 @@ pbm_rows p (y ∷ ys) =
     rw (append-nil (flat_map (λ k. pbm_piece (piece row k)) (below (div_ceil (length row) 70))), pbm_rows p ys)
     (ap (λ (w : ℕ). flat_map (λ k. pbm_piece (piece row k)) (below (div_ceil w 70)) ++ flat_map (pbm_row p) ys) size)
 
-letters_of_pieces : (row : List Bool) (k : ℕ) → flat_map (λ k. flat_map ascii_pixel (piece row k)) (below k)
+pub letters_of_pieces : (row : List Bool) (k : ℕ) → flat_map (λ k. flat_map ascii_pixel (piece row k)) (below k)
     ≡ flat_map ascii_pixel (take (70 * k) row)
 letters_of_pieces row zero = refl
 letters_of_pieces row (suc k) =

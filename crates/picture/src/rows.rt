@@ -39,9 +39,9 @@ pub trait PixelText {
     fn row_end() -> &'static [u8]
         ensures { result.now ≡ row_end };
 
-    /// Returns the length of the text of a row of `width` pixels.
+    /// Returns the length of the text of a row of `width` pixels, in bytes.
     fn row_len(width: usize) -> usize
-        requires { width < 2 ^ 62 }
+        requires { width < 2 ^ 63 }
         ensures { (row : List Bool) → length row ≡ width → length (row_text text row_end row) ≡ result };
 }
 

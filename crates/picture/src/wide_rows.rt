@@ -14,7 +14,10 @@ use device::{IoFault, Sink, write_whole};
 /// # Errors
 ///
 /// The sink's error. A beginning of the rows is written then.
-pub fn write_wide_rows<T: PixelText, G: Grid, S: Sink>(grid: &G, sink: &mut S) -> Result<(), IoFault>
+pub fn write_wide_rows<T: PixelText, G: Grid, S: Sink>(
+    grid: &G,
+    sink: &mut S,
+) -> Result<(), IoFault>
     ensures { WritesText S.Sink sink.old sink.new
         (rows_text T.text T.row_end (G.picture grid.now)) result }
 {
