@@ -65,16 +65,16 @@ take_piece row k = let place : 70 * (k + 1) ≡ 70 * k + 70 = omega arith in ap 
 pub all_pieces : (row : List Bool) → take (70 * div_ceil (length row) 70) row ≡ row
 all_pieces row = take_all (70 * div_ceil (length row) 70) row (omega arith)
 
--- a piece of a row at the front of a longer list
-pub piece_held : (room : List Bool) (width k n : ℕ) → 70 * k < width → width ≤ length room → n ≡ min 70 (width - 70 * k)
-    → take n (slice_range room (70 * k) (70 * k + 70)) ≡ piece (take width room) k
-piece_held room width k n some fits size =
+-- a piece of a row at the front of a longer list, from the 80 pixels that begin with it
+pub piece_held : (room : List Bool) (width k n : ℕ) → 70 * k < width → n ≡ min 70 (width - 70 * k)
+    → take n (slice_range room (70 * k) (70 * k + 80)) ≡ piece (take width room) k
+piece_held room width k n some size =
     let x = 70 * k in
     let m = width - x in
     let d = drop x room in
     let whole : width ≡ x + m = omega arith in
-    let left : take n (slice_range room x (x + 70)) ≡ take n d =
-    ap (take n) (between_is room x (x + 70) ∙ drop-take x 70 room) ∙ take-take n 70 d (omega arith) in
+    let left : take n (slice_range room x (x + 80)) ≡ take n d =
+    ap (take n) (between_is room x (x + 80) ∙ drop-take x 80 room) ∙ take-take n 80 d (omega arith) in
     let right : piece (take width room) k ≡ take 70 (take m d) = ap (λ (w : ℕ). take 70 (drop x (take w room))) whole
     ∙ ap (take 70) (drop-take x m room) in
     left ∙ (elim (cases_lt m 70) [

@@ -1,10 +1,10 @@
 //! The rows of a grid that is narrow enough to keep one of them: each row is rendered once for all that equal it.
-ghost use Rattle.std.specs.Prelude.{◌≡◌, ℕ, ◌%◌, ◌^◌, ◌<◌, ◌≤◌, ◌++◌, List, length, take};
+ghost use Rattle.std.specs.Prelude.{◌≡◌, ℕ, ◌+◌, ◌^◌, ◌<◌, ◌≤◌, ◌++◌, List, length, take};
 ghost use Rattle.device.specs.Writing.{WritesText};
 ghost use Rattle.picture.specs.Private.Rows.{repeated, row_text, rows_text};
 
 use crate::grid::Grid;
-use crate::rows::{PIECE, PixelText};
+use crate::rows::{PIECE, PIECE_ROOM, PixelText};
 use device::{IoFault, Sink, write_whole};
 
 /// Writes the rows of the grid, and keeps each at the front of `kept` for the rows that equal it.
@@ -17,8 +17,7 @@ pub fn write_kept_rows<T: PixelText, G: Grid, S: Sink>(
     kept: &mut [bool],
     sink: &mut S,
 ) -> Result<(), IoFault>
-    requires fits { (G.picture grid.now).width ≤ length kept.old }
-    requires pieces { length kept.old % 70 ≡ 0 }
+    requires { (G.picture grid.now).width + 80 ≤ length kept.old }
     ensures { WritesText S.Sink sink.old sink.new
         (rows_text T.text T.row_end (G.picture grid.now)) result }
 {
@@ -42,8 +41,7 @@ fn write_equal_rows<T: PixelText, S: Sink>(
     sink: &mut S,
 ) -> Result<(), IoFault>
     requires some { 0 < count }
-    requires fits { width ≤ length kept.now }
-    requires pieces { length kept.now % 70 ≡ 0 }
+    requires fits { width + 80 ≤ length kept.now }
     ensures { WritesText S.Sink sink.old sink.new
         (repeated count (row_text T.text T.row_end (take width kept.now))) result }
 {
@@ -61,8 +59,7 @@ fn repeat_row<T: PixelText, S: Sink>(
     width: usize,
     sink: &mut S,
 ) -> Result<(), IoFault>
-    requires fits { width ≤ length kept.now }
-    requires pieces { length kept.now % 70 ≡ 0 }
+    requires { width + 80 ≤ length kept.now }
     ensures { let row = row_text T.text T.row_end (take width kept.now) in
         (first : S) (before : List ℕ) → S.took first sink.old (before ++ row)
         → WritesText S.Sink sink.old sink.new row result }
@@ -79,14 +76,13 @@ fn write_row<T: PixelText, S: Sink>(
     width: usize,
     sink: &mut S,
 ) -> Result<(), IoFault>
-    requires fits { width ≤ length kept.now }
-    requires pieces { length kept.now % 70 ≡ 0 }
+    requires { width + 80 ≤ length kept.now }
     ensures { WritesText S.Sink sink.old sink.new
         (row_text T.text T.row_end (take width kept.now)) result }
 {
     for k in 0..width.div_ceil(PIECE) {
         let x = PIECE * k;
-        T::write_piece(&kept[x..x + PIECE], PIECE.min(width - x), sink)?;
+        T::write_piece(&kept[x..x + PIECE_ROOM], PIECE.min(width - x), sink)?;
     }
     write_whole(T::row_end(), sink)
 }

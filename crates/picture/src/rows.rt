@@ -11,11 +11,15 @@ use device::{IoFault, Sink};
 /// The most pixels of a piece, which is written at once.
 pub const PIECE: usize = 70;
 
-/// The pixels of a row that is kept for the rows that equal it: 16 pieces where they suffice, since a small array costs
-/// less to clear, and else 208.
-const SMALL_ROW: usize = 1120;
+/// The pixels that the text of a piece is made of: a piece, and ten pixels after it, whose text is left out. The
+/// processor makes 16 digits at once, and 80 is a multiple of 16.
+pub const PIECE_ROOM: usize = 80;
 
-const LARGE_ROW: usize = 14560;
+/// The pixels that are kept of a row and after it, for its last piece. A small array costs less to clear than a large
+/// one.
+const SMALL_ROW: usize = 1200;
+
+const LARGE_ROW: usize = 14480;
 
 /// How a row of pixels is written.
 pub trait PixelText {
@@ -25,13 +29,13 @@ pub trait PixelText {
     /// The text after a row's pieces.
     ghost row_end: { List ℕ };
 
-    /// Writes a piece: the first `len` of these 70 pixels. The work is the same for each length.
+    /// Writes a piece: the first `len` of these 80 pixels, at most 70. The work is the same for each length.
     ///
     /// # Errors
     ///
     /// The sink's error. A beginning of the piece is written then.
     fn write_piece<S: Sink>(pixels: &[bool], len: usize, sink: &mut S) -> Result<(), IoFault>
-        requires whole { length pixels.now ≡ 70 }
+        requires whole { length pixels.now ≡ 80 }
         requires short { len ≤ 70 }
         ensures { WritesText S.Sink sink.old sink.new (text (take len pixels.now)) result };
 
@@ -55,10 +59,10 @@ pub fn write_rows<T: PixelText, G: Grid, S: Sink>(grid: &G, sink: &mut S) -> Res
         (rows_text T.text T.row_end (G.picture grid.now)) result }
 {
     let width = grid.width();
-    if width <= SMALL_ROW {
+    if width <= SMALL_ROW - PIECE_ROOM {
         let mut row = [false; SMALL_ROW];
         write_kept_rows::<T, G, S>(grid, &mut row[..], sink)
-    } else if width <= LARGE_ROW {
+    } else if width <= LARGE_ROW - PIECE_ROOM {
         let mut row = [false; LARGE_ROW];
         write_kept_rows::<T, G, S>(grid, &mut row[..], sink)
     } else {

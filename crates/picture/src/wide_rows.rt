@@ -6,7 +6,7 @@ ghost use Rattle.picture.specs.Private.Rows.{piece, row_text, rows_text};
 ghost use Rattle.picture.specs.Text.{pixel_row};
 
 use crate::grid::Grid;
-use crate::rows::{PIECE, PixelText};
+use crate::rows::{PIECE, PIECE_ROOM, PixelText};
 use device::{IoFault, Sink, write_whole};
 
 /// Writes the rows of the grid.
@@ -58,7 +58,7 @@ fn write_wide_piece<T: PixelText, G: Grid, S: Sink>(
     let width = grid.width();
     let x = PIECE * k;
     let len = PIECE.min(width - x);
-    let mut pixels = [false; PIECE];
+    let mut pixels = [false; PIECE_ROOM];
     read_piece(grid, y, x, &mut pixels[..len]);
     T::write_piece(&pixels[..], len, sink)
 }

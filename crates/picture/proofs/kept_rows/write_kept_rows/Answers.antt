@@ -11,6 +11,10 @@ use Rattle.picture.proofs.GridLaws.{pixel_row-equal}
 use Rattle.picture.proofs.WritingLaws.{flat_map-below_add, flat_map-below_front}
 use Rattle.picture.proofs.kept_rows.write_kept_rows.Goals as goal
 
+-- a row that was read is as long as the picture is wide
+length-row : (p : Picture) (y : ℕ) (row : List Bool) → row ≡ pixel_row p y → length row ≡ p.width
+length-row p y row read = ap length read ∙ length-map-range_with_len (λ x. p.dark x y) 0 p.width
+
 -- one text for each of n numbers, from a or from y on
 same_texts : (f : ℕ → List ℕ) (text : List ℕ) (a y n : ℕ) → ((k : ℕ) → y ≤ k → k < y + n → text ≡ f k)
     → flat_map (λ _. text) (range_with_len a n) ≡ flat_map f (range_with_len y n)
@@ -24,8 +28,7 @@ same_texts f text a y (suc n) same =
 module _ (text : List Bool → List ℕ) (p : Picture) (y count width : ℕ) (row rest : List Bool) (wide : width ≡ p.width)
     (read : row ≡ pixel_row p y) (equal : AreEqualRows p y count) where
   kept_row : take width (row ++ rest) ≡ row
-  kept_row =
-      take_at row rest width (ap length read ∙ (length-map-range_with_len (λ x. p.dark x y) 0 p.width ∙ sym wide))
+  kept_row = take_at row rest width (length-row p y row read ∙ sym wide)
 
   rows_more : flat_map (λ y. text (pixel_row p y)) (below y) ++ repeated count (text (take width (row ++ rest)))
       ≡ flat_map (λ y. text (pixel_row p y)) (below (y + count))
@@ -62,12 +65,11 @@ loop-y-preserved g c =
     let text = row_text g.T.PixelText.text g.T.PixelText.row_end in
     let h = c.loop-y.invariant in
     let row = c.read_row.new.pixels in
-    let size : length row ≡ p.width = ap length c.read_row.ensures
-    ∙ length-map-range_with_len (λ x. p.dark x c.loop-y.y) 0 p.width in
     record {
       inside = c.equal_rows-count.ensures.inside;
       size = omega (
         arith,
+        length-row p c.loop-y.y row c.read_row.ensures,
         length-append row (drop c.width-width.result c.loop-y.kept),
         length-drop c.width-width.result c.loop-y.kept,
       );
