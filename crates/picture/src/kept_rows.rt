@@ -1,5 +1,5 @@
 //! The rows of a grid that is narrow enough to keep one of them: each row is rendered once for all that equal it.
-ghost use Rattle.std.specs.Prelude.{◌≡◌, ℕ, ◌+◌, ◌^◌, ◌<◌, ◌≤◌, ◌++◌, List, length, take};
+ghost use Rattle.std.specs.Prelude.{ℕ, ◌+◌, ◌<◌, ◌≤◌, ◌++◌, List, length, take};
 ghost use Rattle.device.specs.Writing.{WritesText};
 ghost use Rattle.picture.specs.Private.Rows.{repeated, row_text, rows_text};
 
