@@ -4,6 +4,7 @@ pub mod CutLaws
 pub mod Examples
 pub mod GridLaws
 pub mod HeaderLaws
+pub mod LengthLaws
 pub mod LetterLaws
 pub mod LineLaws
 pub mod PbmLaws

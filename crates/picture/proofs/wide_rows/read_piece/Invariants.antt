@@ -1,6 +1,6 @@
 use Rattle.std.proofs.Common.{◌≡◌, ◌+◌, ◌<◌, ℕ, false}
 use Rattle.std.proofs.Math.ListN.{get_or}
-use Rattle.picture.proofs.rows.read_piece.Given as goal
+use Rattle.picture.proofs.wide_rows.read_piece.Given as goal
 
 -- the pixels so far
 abbrev pub invariant-loop-i : goal.invariant-loop-i

@@ -3,7 +3,7 @@ use Rattle.device.proofs.WritingLaws.{HasWritten, HasWritten-none, WritesText-wh
 use Rattle.picture.specs.Private.Rows.{row_text}
 use Rattle.picture.specs.Text.{below, pixel_row}
 use Rattle.picture.proofs.WritingLoopLaws.{HasWritten-below_more, WritesText-below_fails}
-use Rattle.picture.proofs.rows.write_wide_rows.Goals as goal
+use Rattle.picture.proofs.wide_rows.write_wide_rows.Goals as goal
 
 pub loop-y-init : goal.loop-y-init
 loop-y-init g c = record { written = HasWritten-none g.S.Sink c.args.sink.now (g.met.S.Sink.took_none _) }

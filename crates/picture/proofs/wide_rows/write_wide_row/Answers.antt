@@ -5,7 +5,7 @@ use Rattle.device.proofs.WritingLaws.{HasWritten-none, WritesText-last}
 use Rattle.picture.specs.Private.Rows.{piece}
 use Rattle.picture.specs.Text.{below, pixel_row}
 use Rattle.picture.proofs.WritingLoopLaws.{HasWritten-below_more, WritesText-below_fails}
-use Rattle.picture.proofs.rows.write_wide_row.Goals as goal
+use Rattle.picture.proofs.wide_rows.write_wide_row.Goals as goal
 
 pub loop-k-init : goal.loop-k-init
 loop-k-init g c = record { written = HasWritten-none g.S.Sink c.args.sink.now (g.met.S.Sink.took_none _) }

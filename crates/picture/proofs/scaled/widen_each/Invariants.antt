@@ -1,6 +1,6 @@
 use Rattle.std.proofs.Common.{◌≡◌, ◌*◌, ◌/◌, ◌<◌, ◌≤◌, ℕ, false, length}
 use Rattle.std.proofs.Math.ListN.{get_or}
-use Rattle.picture.proofs.scaled.spread.Given as goal
+use Rattle.picture.proofs.scaled.widen_each.Given as goal
 
 -- the squares so far, and the pixels that are still to be read
 abbrev pub invariant-loop-x : goal.invariant-loop-x

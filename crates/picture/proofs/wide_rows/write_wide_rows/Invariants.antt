@@ -2,7 +2,7 @@ use Rattle.std.proofs.Common.{ℕ, flat_map}
 use Rattle.device.proofs.WritingLaws.{HasWritten}
 use Rattle.picture.specs.Private.Rows.{row_text}
 use Rattle.picture.specs.Text.{below, pixel_row}
-use Rattle.picture.proofs.rows.write_wide_rows.Given as goal
+use Rattle.picture.proofs.wide_rows.write_wide_rows.Given as goal
 
 -- the rows so far were written
 abbrev pub invariant-loop-y : goal.invariant-loop-y

@@ -1,6 +1,6 @@
 use Rattle.std.proofs.Common.{length, arith}
 use Rattle.picture.proofs.GridLaws.{filled_from}
-use Rattle.picture.proofs.rows.read_piece.Goals as goal
+use Rattle.picture.proofs.wide_rows.read_piece.Goals as goal
 
 pub returns : goal.returns
 returns g c =
