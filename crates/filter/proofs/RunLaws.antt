@@ -10,7 +10,8 @@ use Rattle.filter.specs.Line.{CountsFault, FailsInLine, FlushedImagesAtMost, Flu
 use Rattle.labelcore.specs.LineItem.{Outcome}
 use Rattle.filter.specs.Output.{image_of, images, line_number, messages_after, outcome, status_of}
 use Rattle.filter.specs.Filter.{TookLines, StopsInLine, TookPiece, StopsInFinish, EndsInput}
-use Rattle.filter.specs.Run.{StopsInText, RunStops, RunRaises}
+use Rattle.filter.specs.Run.{StopsInText, RunStops, RunRaises, Stays, IsPassedOn}
+use Rattle.filter.specs.Private.LineEnd.{PassesAfter}
 use Rattle.filter.specs.declared.status.RunFault.{RunFault}
 use Rattle.filter.specs.declared.status.Status.{Status}
 use Rattle.filter.specs.declared.status.RunFault.TheVariants.{Read, WriteOut, WriteMessages, Spent}
@@ -200,7 +201,7 @@ module _ {source source' first out before err : ℕ} (out' err' : ℕ) (s : sour
     (e : err ≡ before) where
   -- a fault of a sink, as a run's
   pub RunRaises-line : (text : List ℕ) (fault : RunFault) → RaisesOneCount out out' err err' fault
-      → RunRaises text source source' first out' before err' fault
+      → RunRaises Stays text source source' first out' before err' fault
   RunRaises-line text Read r = absurd r
   RunRaises-line text WriteOut r = (s, subst (λ (n : ℕ). Rises n out') o r.0, r.1 ∙ e)
   RunRaises-line text WriteMessages r = (s, r.0 ∙ o, subst (λ (n : ℕ). Rises n err') e r.1)
@@ -211,3 +212,17 @@ module _ {source source' first out before err : ℕ} (out' err' : ℕ) (s : sour
       → OnOk r ((source' ≡ source) × (out' ≡ first) × (err' ≡ before))
   NoneFailed-after (Ok status) counts = (s, counts.0 ∙ o, counts.1 ∙ e)
   NoneFailed-after (Err fault) counts = tt
+
+passed : (left : List ℕ) (first counted new : ℕ) → counted ≡ first → IsPassedOn left counted new
+    → IsPassedOn left first new
+passed left first counted new same h = subst (λ (n : ℕ). IsPassedOn left n new) same h
+
+-- The run's fault, and then what is buffered is passed on. What is left of it and the counts of the images are arguments.
+pub RunRaises-passed : (left : List ℕ) (first counted new source source' err err' : ℕ) (text : List ℕ)
+    (fault : RunFault) → PassesAfter left counted new fault
+    → RunRaises Stays text source source' first counted err err' fault
+    → RunRaises (IsPassedOn left) text source source' first new err err' fault
+RunRaises-passed left first counted new s s' e e' text Read p h = (h.0, passed left first counted new h.1 p, h.2)
+RunRaises-passed left first counted new s s' e e' text WriteOut p h = (h.0, subst (Rises first) (sym p) h.1, h.2)
+RunRaises-passed left first counted new s s' e e' text WriteMessages p h = (h.0, passed left first counted new h.1 p, h.2)
+RunRaises-passed left first counted new s s' e e' text Spent p h = absurd h

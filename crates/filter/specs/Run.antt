@@ -2,7 +2,7 @@
 -- (docs/SPECIFICATION.md, The filter as a library).
 -- Why: `RunsWhole`: the contract of `run`.
 -- Why: `RunStops`, `RunRaises`: the contract of `run`.
-use Rattle.std.specs.Prelude.{◌≡◌, ℕ, ◌-◌, ◌^◌, ◌≤◌, ◌⊎◌, List, length}
+use Rattle.std.specs.Prelude.{◌≡◌, ℕ, ◌-◌, ◌^◌, ◌≤◌, ◌⊎◌, List, [], length}
 use Rattle.device.specs.Device.{Rises}
 use Rattle.labelcore.specs.OptionValues.{OptionValues}
 use Rattle.device.specs.Lines.{lines, ended_lines}
@@ -38,14 +38,24 @@ RunStops options took_out took_err text WriteOut = StopsInText options took_out 
 RunStops options took_out took_err text WriteMessages = StopsInText options took_out took_err text WriteMessages
 RunStops options took_out took_err text Spent = ⊥
 
+-- the count of failures stays
+abbrev pub Stays : (old new : ℕ) → Type 0
+Stays old new = new ≡ old
+
+-- what was buffered was passed on, and nothing of it is left; or that failed too, and the count of failures rises
+abbrev pub IsPassedOn : (left : List ℕ) (old new : ℕ) → Type 0
+IsPassedOn left old new = ((new ≡ old) × (left ≡ [])) ⊎ Rises old new
+
 -- the count of failures of the device that failed rises, and no other; none does where the run made 2^64 - 1 reads, and
--- so the text has at least that many bytes
-abbrev pub RunRaises : (text : List ℕ) (source_old source_new out_old out_new err_old err_new : ℕ) → RunFault → Type 0
-RunRaises text source_old source_new out_old out_new err_old err_new Read =
+-- so the text has at least that many bytes. `images` says what becomes of the count of the images where another device
+-- failed.
+abbrev pub RunRaises : (images : (old new : ℕ) → Type 0) (text : List ℕ)
+    (source_old source_new out_old out_new err_old err_new : ℕ) → RunFault → Type 0
+RunRaises images text source_old source_new out_old out_new err_old err_new Read =
     (Rises source_old source_new ⊎ ((source_new ≡ source_old) × (2 ^ 64 - 1 ≤ length text)))
-    × (out_new ≡ out_old) × (err_new ≡ err_old)
-RunRaises text source_old source_new out_old out_new err_old err_new WriteOut =
+    × images out_old out_new × (err_new ≡ err_old)
+RunRaises images text source_old source_new out_old out_new err_old err_new WriteOut =
     (source_new ≡ source_old) × Rises out_old out_new × (err_new ≡ err_old)
-RunRaises text source_old source_new out_old out_new err_old err_new WriteMessages =
-    (source_new ≡ source_old) × (out_new ≡ out_old) × Rises err_old err_new
-RunRaises text source_old source_new out_old out_new err_old err_new Spent = ⊥
+RunRaises images text source_old source_new out_old out_new err_old err_new WriteMessages =
+    (source_new ≡ source_old) × images out_old out_new × Rises err_old err_new
+RunRaises images text source_old source_new out_old out_new err_old err_new Spent = ⊥

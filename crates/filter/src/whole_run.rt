@@ -1,7 +1,7 @@
 //! A run over a whole input.
 ghost use Rattle.std.specs.Prelude.{◌≡◌, ℕ, true, List, OnOk, IfOk, IfErr};
 ghost use Rattle.filter.specs.Line.{FlushesImagesFirst};
-ghost use Rattle.filter.specs.Run.{RunsWhole, RunStops, RunRaises};
+ghost use Rattle.filter.specs.Run.{RunsWhole, RunStops, RunRaises, Stays};
 
 use crate::filter::Filter;
 use crate::status::{RunFault, Status};
@@ -32,7 +32,7 @@ pub fn run<S: Source, O: Sink, E: Sink>(
         × (O.failures out.new ≡ O.failures out.old) × (E.failures err.new ≡ E.failures err.old)) }
     ensures stops { IfErr result (λ fault. (text : List ℕ) × S.gave source.old source.new text
         × RunStops options (O.took out.old out.new) (E.took err.old err.new) text fault
-        × RunRaises text (S.failures source.old) (S.failures source.new) (O.failures out.old)
+        × RunRaises Stays text (S.failures source.old) (S.failures source.new) (O.failures out.old)
         (O.failures out.new) (E.failures err.old) (E.failures err.new) fault) }
 {
     let mut filter = Filter::new(options);

@@ -7,6 +7,7 @@ use Rattle.labelcore.specs.OptionValues.{OptionValues}
 use Rattle.linear.specs.declared.linear.QuietZones.{QuietZones}
 use Rattle.filter.specs.Output.{image_of, message_of, is_refusal, status_of, text_of}
 use Rattle.filter.specs.Filter.{StopsInLine, TookLines}
+use Rattle.filter.specs.Run.{IsPassedOn, Stays}
 use Rattle.filter.specs.Line.{CountsFault, FailsInLine, FlushesImagesFirst}
 use Rattle.device.specs.Lines.{lines, ended_lines, open_line, unless_empty}
 use Rattle.filter.specs.Symbol.{Symbol}
@@ -74,3 +75,8 @@ pub record FlushesBoth {O E T : Type 0} (out : Ghosts O) (err : Ghosts E) (out_o
   pub flushed : FlushesImagesFirst (out.is_flushed out_old) (out.is_flushed out_new)
       (err.is_flushed err_old) (err.is_flushed err_new) r
   pub counts : CountsFault (out.failures out_old) (out.failures out_new) (err.failures err_old) (err.failures err_new) r
+
+-- after a fault, where it was not the sink of the images that failed, what is buffered is passed on
+abbrev pub PassesAfter : (left : List ℕ) (old new : ℕ) → RunFault → Type 0
+PassesAfter left old new WriteOut = Stays old new
+PassesAfter left old new other = IsPassedOn left old new

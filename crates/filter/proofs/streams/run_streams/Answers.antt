@@ -6,7 +6,7 @@ use Rattle.device.specs.Private.Joined.{Appends_joined}
 use Rattle.device.specs.Private.Passed.{PassesOn_joined}
 use Rattle.device.specs.Streams.{writer_of}
 use Rattle.device.specs.declared.streams.StdSink.{StdSink}
-use Rattle.filter.proofs.RunLaws.{RunStops-by}
+use Rattle.filter.proofs.RunLaws.{RunRaises-passed, RunStops-by}
 use Rattle.filter.proofs.streams.run_streams.Goals as goal
 
 -- A buffer before a writer of std that took a text, and then no more. The states and what is buffered in each are
@@ -26,6 +26,7 @@ returns-in-Err-clause-stops g c =
       h.0,
       h.1,
       RunStops-by c.args.options _ _ _
-          (λ text taken. passed_on g.W.Write.contents _ _ _ _ _ _ text taken c.pass_on.ensures.passes.bytes) h.0
+          (λ text taken. passed_on g.W.Write.contents _ _ _ _ _ _ text taken c.pass_on_after.ensures.bytes) h.0
           c.in-Err.fault h.2,
+      RunRaises-passed _ _ _ _ _ _ _ _ h.0 c.in-Err.fault c.pass_on_after.ensures.passes h.3,
     )

@@ -5,7 +5,7 @@ use Rattle.std.proofs.lemmas.List.{append-nil}
 use Rattle.std.proofs.lemmas.Result.{err_from_is_err_and}
 use Rattle.filter.proofs.FilterLaws.{TookPiece-none, TookPiece-append, StopsInPiece-append, TookLines-ended}
 use Rattle.filter.proofs.FilterLaws.{StopsInLine-lines}
-use Rattle.filter.specs.Run.{RunsWhole, RunStops, RunRaises}
+use Rattle.filter.specs.Run.{RunsWhole, RunStops, RunRaises, Stays}
 use Rattle.filter.proofs.ReadLaws.{images_of_text_read}
 use Rattle.filter.proofs.RunLaws.{ends_err, ends_ok, gave_end, RunStops-in_line, RunStops-between, TookPiece-sent, TookLines-finish}
 use Rattle.filter.proofs.RunLaws.{RunStops-finish, RunRaises-line, FlushedImagesAtMost-neither}
@@ -107,7 +107,7 @@ returns-then-count-eq0-clause-stops g c =
     {Q = λ fault. (text : List ℕ) × g.S.Source.gave c.args.source.now c.read.new.self text
     × RunStops c.args.options (g.O.Sink.took c.args.out.now c.finish.new.out)
     (g.E.Sink.took c.args.err.now c.finish.new.err) text fault
-    × RunRaises text (g.S.Source.failures c.args.source.now) (g.S.Source.failures c.read.new.self)
+    × RunRaises Stays text (g.S.Source.failures c.args.source.now) (g.S.Source.failures c.read.new.self)
     (g.O.Sink.failures c.args.out.now) (g.O.Sink.failures c.finish.new.out)
     (g.E.Sink.failures c.args.err.now) (g.E.Sink.failures c.finish.new.err) fault}
     c.finish.result (c.finish.ensures.ends c.args.options h.given h.after)
