@@ -123,6 +123,10 @@ length_two_digits : length (code128_row (codes "42")) ≡ 46
 unfolding character_widths
 length_two_digits = refl
 
+read_two_digits : read_code128 (code128_row (codes "42")) ≡ Some (codes "42")
+unfolding character_widths
+read_two_digits = refl
+
 -- `code128 12345`: an odd digit is left over in set C
 values_five_digits : values_of (codes "12345") ≡ 105 ∷ 12 ∷ 34 ∷ 100 ∷ 21 ∷ []
 unfolding values_of
