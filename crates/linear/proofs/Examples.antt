@@ -1,6 +1,6 @@
 -- Worked symbols, computed from the definitions: EAN and UPC (ISO/IEC 15420), then Code 128 (ISO/IEC 15417).
 use Rattle.std.specs.Prelude.{◌≡◌, refl, true, false, Some, None, Ok, Err, codes, length, map, replicate, ◌+◌, ◌++◌, ℕ}
-use Rattle.std.specs.Prelude.{List, [], ◌∷◌, ◌*◌, sum_by}
+use Rattle.std.specs.Prelude.{List, [], ◌∷◌, ◌*◌, sum_by, Bool, Option, not, take, drop, flat_map}
 use Rattle.std.specs.List.{enumerate_from, range_with_len}
 use Rattle.linear.specs.declared.refusal.Refusal.TheVariants.{NotADigit, WrongNumberOfDigits, WrongCheckDigit}
 use Rattle.linear.specs.declared.refusal.Refusal.TheVariants.{DataTooLong, NotAscii}
@@ -13,7 +13,9 @@ use Rattle.linear.specs.Tables.{rows, number_set_a, left_half_sets, character_wi
 use Rattle.linear.specs.Ean.{pattern, normal_guard, centre_guard, ean8_row, ean13_row, upca_row}
 use Rattle.linear.specs.EanReading.{read_ean8, read_ean13, read_upca}
 use Rattle.linear.specs.CodeSets.{start_value, start_set, data_values}
-use Rattle.linear.specs.Code128.{bars_and_spaces, characters, full_code128, check_value, code128_row}
+use Rattle.linear.specs.declared.switching.CodeSet.{CodeSet}
+use Rattle.linear.specs.Code128.{bars_and_spaces, characters, character_modules, full_code128, check_value, with_check}
+use Rattle.linear.specs.Code128.{code128_row}
 use Rattle.linear.specs.Code128Reading.{meaning, text, change, shift, none, read_code128}
 
 -- `ean8 7351353`
@@ -121,6 +123,10 @@ length_two_digits : length (code128_row (codes "42")) ≡ 46
 unfolding character_widths
 length_two_digits = refl
 
+read_two_digits : read_code128 (code128_row (codes "42")) ≡ Some (codes "42")
+unfolding character_widths
+read_two_digits = refl
+
 -- `code128 12345`: an odd digit is left over in set C
 values_five_digits : values_of (codes "12345") ≡ 105 ∷ 12 ∷ 34 ∷ 100 ∷ 21 ∷ []
 unfolding values_of
@@ -202,6 +208,76 @@ nothing_upca = refl
 
 nothing_code128 : read_code128 [] ≡ None
 nothing_code128 = refl
+
+-- ---- what is not read
+
+-- a row whose module at a place has the other colour
+changed : ℕ → List Bool → List Bool
+changed place row = take place row ++ (map not (take 1 (drop place row)) ++ drop (place + 1) row)
+
+-- what is read where one of these modules is changed
+read_changed : (List Bool → Option (List ℕ)) → List Bool → List ℕ → List (Option (List ℕ))
+read_changed read row places = map (λ place. read (changed place row)) places
+
+-- each module of the guards (ISO/IEC 15420, guard patterns): the first three, the five in the middle, the last three
+wrong_guards_ean8 : read_changed read_ean8 (ean8_row (codes "73513537"))
+    (range_with_len 0 3 ++ (range_with_len 31 5 ++ range_with_len 64 3)) ≡ replicate 11 None
+unfolding read_changed changed number_set_a
+wrong_guards_ean8 = refl
+
+wrong_guards_ean13 : read_changed read_ean13 (ean13_row (codes "4006381333931"))
+    (range_with_len 0 3 ++ (range_with_len 45 5 ++ range_with_len 92 3)) ≡ replicate 11 None
+unfolding read_changed changed left_half_sets number_set_a
+wrong_guards_ean13 = refl
+
+-- a module more at the end, and one less
+wrong_lengths : map read_ean8 ((ean8_row (codes "73513537") ++ (false ∷ []))
+    ∷ take 66 (ean8_row (codes "73513537")) ∷ []) ≡ None ∷ None ∷ []
+unfolding number_set_a
+wrong_lengths = refl
+
+-- a group that is no digit of set A in the left half, and none of set C in the right one
+wrong_groups : read_changed read_ean8 (ean8_row (codes "73513537")) (3 ∷ 63 ∷ []) ≡ None ∷ None ∷ []
+unfolding read_changed changed number_set_a
+wrong_groups = refl
+
+wrong_checks : (read_ean8 (ean8_row (codes "73513530")) ≡ None) × (read_ean13 (ean13_row (codes "4006381333932")) ≡ None)
+    × (read_upca (upca_row (codes "036000291453")) ≡ None)
+unfolding left_half_sets number_set_a
+wrong_checks = (refl, refl, refl)
+
+-- a UPC-A symbol is an EAN-13 symbol whose first digit is 0
+not_upca : read_upca (ean13_row (codes "4006381333931")) ≡ None
+unfolding left_half_sets number_set_a
+not_upca = refl
+
+-- the row of values, the last of them in the place of the stop character
+row_of : List ℕ → List Bool
+row_of values = flat_map character_modules values
+
+-- `1` in set B: start 104, value 17, check 18 and stop 106 (ISO/IEC 15417, symbol structure); another check value, no
+-- start character, and another stop character
+wrong_characters : map (λ values. read_code128 (row_of values)) ((104 ∷ 17 ∷ 18 ∷ 106 ∷ []) ∷ (104 ∷ 17 ∷ 19 ∷ 106 ∷ [])
+    ∷ (17 ∷ 17 ∷ 34 ∷ 106 ∷ []) ∷ (104 ∷ 17 ∷ 18 ∷ 18 ∷ []) ∷ []) ≡ Some (codes "1") ∷ None ∷ None ∷ None ∷ []
+unfolding row_of character_widths
+wrong_characters = refl
+
+-- a module more at the end and one less, a group that is no character, and each of the two last modules changed
+wrong_rows : (map read_code128 ((code128_row (codes "1") ++ (false ∷ [])) ∷ take 45 (code128_row (codes "1")) ∷ []) ≡
+    None ∷ None ∷ []) × (read_changed read_code128 (code128_row (codes "1")) (11 ∷ 44 ∷ 45 ∷ []) ≡ None ∷ None ∷ None ∷ [])
+unfolding read_changed changed character_widths
+wrong_rows = (refl, refl)
+
+-- the data of values after the start of a set, with their check value
+data_of : CodeSet → List ℕ → Option (List ℕ)
+data_of set values = read_code128 (row_of (with_check set values ++ (106 ∷ [])))
+
+-- nothing after a shift, a shift or a change of set after one, and a value without a meaning in set B and in set C
+-- (ISO/IEC 15417, code sets)
+wrong_values : map (data_of B) ((98 ∷ []) ∷ (98 ∷ 98 ∷ 65 ∷ []) ∷ (98 ∷ 99 ∷ 12 ∷ []) ∷ (96 ∷ []) ∷ (99 ∷ 102 ∷ []) ∷ []) ≡
+    replicate 5 None
+unfolding data_of row_of character_widths
+wrong_values = refl
 
 -- ---- the tables, row by row, as Zint 2.11.1 draws them
 
