@@ -18,6 +18,63 @@ use Rattle.linear.specs.Code128.{bars_and_spaces, characters, character_modules,
 use Rattle.linear.specs.Code128.{code128_row}
 use Rattle.linear.specs.Code128Reading.{meaning, text, change, shift, none, read_code128}
 
+-- ---- the tables, row by row, as Zint 2.11.1 draws them
+
+-- a guard, module by module (ISO/IEC 15420, guard patterns)
+guards : (normal_guard ≡ true ∷ false ∷ true ∷ []) × (centre_guard ≡ false ∷ true ∷ false ∷ true ∷ false ∷ [])
+guards = (refl, refl)
+
+-- the widths of a digit's modules in set A, light first, in the left halves of EAN-8 symbols (ISO/IEC 15420, symbol
+-- characters)
+widths_in_a : map (pattern number_set.A) (range_with_len 0 10) ≡
+    map (λ widths. bars_and_spaces false (map digit_value widths))
+    (rows (codes "3211 2221 2122 1411 1132 1231 1114 1312 1213 3112"))
+unfolding number_set_a
+widths_in_a = refl
+
+-- in set B, in the left halves of EAN-13 symbols
+widths_in_b : map (pattern number_set.B) (range_with_len 0 10) ≡
+    map (λ widths. bars_and_spaces false (map digit_value widths))
+    (rows (codes "1123 1222 2212 1141 2311 1321 4111 2131 3121 2113"))
+unfolding number_set_a
+widths_in_b = refl
+
+-- in set C, dark first, in right halves
+widths_in_c : map (pattern number_set.C) (range_with_len 0 10) ≡
+    map (λ widths. bars_and_spaces true (map digit_value widths))
+    (rows (codes "3211 2221 2122 1411 1132 1231 1114 1312 1213 3112"))
+unfolding number_set_a
+widths_in_c = refl
+
+-- the sets of digits 3 to 7 of an EAN-13 symbol, after a 2nd digit in set A, for the first digits 0 to 9
+sets_of_left_halves : left_half_sets ≡ map (λ letters. 65 ∷ letters)
+    (rows (codes "AAAAA ABABB ABBAB ABBBA BAABB BBAAB BBBAA BABAB BABBA BBABA"))
+unfolding left_half_sets
+sets_of_left_halves = refl
+
+-- the modules of each value: 0 to 99, 105 and 106 in the symbols of two digits, 103 in that of bytes 1 and 2, 104 in
+-- that of `ab`, 101 in that of `ab` and bytes 1 to 3, 100 in that of `1234ab`, 102 in the GS1 symbol of
+-- `[01]12345678901231`
+modules_of_values : characters ≡ map modules (rows (
+    codes "11011001100 11001101100 11001100110 10010011000 10010001100 10001001100 10011001000 10011000100 " ++
+    codes "10001100100 11001001000 11001000100 11000100100 10110011100 10011011100 10011001110 10111001100 " ++
+    codes "10011101100 10011100110 11001110010 11001011100 11001001110 11011100100 11001110100 11101101110 " ++
+    codes "11101001100 11100101100 11100100110 11101100100 11100110100 11100110010 11011011000 11011000110 " ++
+    codes "11000110110 10100011000 10001011000 10001000110 10110001000 10001101000 10001100010 11010001000 " ++
+    codes "11000101000 11000100010 10110111000 10110001110 10001101110 10111011000 10111000110 10001110110 " ++
+    codes "11101110110 11010001110 11000101110 11011101000 11011100010 11011101110 11101011000 11101000110 " ++
+    codes "11100010110 11101101000 11101100010 11100011010 11101111010 11001000010 11110001010 10100110000 " ++
+    codes "10100001100 10010110000 10010000110 10000101100 10000100110 10110010000 10110000100 10011010000 " ++
+    codes "10011000010 10000110100 10000110010 11000010010 11001010000 11110111010 11000010100 10001111010 " ++
+    codes "10100111100 10010111100 10010011110 10111100100 10011110100 10011110010 11110100100 11110010100 " ++
+    codes "11110010010 11011011110 11011110110 11110110110 10101111000 10100011110 10001011110 10111101000 " ++
+    codes "10111100010 11110101000 11110100010 10111011110 10111101110 11101011110 11110101110 11010000100 " ++
+    codes "11010010000 11010011100 1100011101011"))
+unfolding character_widths
+modules_of_values = refl
+
+-- ---- symbols
+
 -- `ean8 7351353`
 sum_ean8 : weighted_sum (codes "7351353") ≡ 63
 sum_ean8 = refl
@@ -278,61 +335,6 @@ wrong_values : map (data_of B) ((98 ∷ []) ∷ (98 ∷ 98 ∷ 65 ∷ []) ∷ (9
     replicate 5 None
 unfolding data_of row_of character_widths
 wrong_values = refl
-
--- ---- the tables, row by row, as Zint 2.11.1 draws them
-
--- a guard, module by module (ISO/IEC 15420, guard patterns)
-guards : (normal_guard ≡ true ∷ false ∷ true ∷ []) × (centre_guard ≡ false ∷ true ∷ false ∷ true ∷ false ∷ [])
-guards = (refl, refl)
-
--- the widths of a digit's modules in set A, light first, in the left halves of EAN-8 symbols (ISO/IEC 15420, symbol
--- characters)
-widths_in_a : map (pattern number_set.A) (range_with_len 0 10) ≡
-    map (λ widths. bars_and_spaces false (map digit_value widths))
-    (rows (codes "3211 2221 2122 1411 1132 1231 1114 1312 1213 3112"))
-unfolding number_set_a
-widths_in_a = refl
-
--- in set B, in the left halves of EAN-13 symbols
-widths_in_b : map (pattern number_set.B) (range_with_len 0 10) ≡
-    map (λ widths. bars_and_spaces false (map digit_value widths))
-    (rows (codes "1123 1222 2212 1141 2311 1321 4111 2131 3121 2113"))
-unfolding number_set_a
-widths_in_b = refl
-
--- in set C, dark first, in right halves
-widths_in_c : map (pattern number_set.C) (range_with_len 0 10) ≡
-    map (λ widths. bars_and_spaces true (map digit_value widths))
-    (rows (codes "3211 2221 2122 1411 1132 1231 1114 1312 1213 3112"))
-unfolding number_set_a
-widths_in_c = refl
-
--- the sets of digits 3 to 7 of an EAN-13 symbol, after a 2nd digit in set A, for the first digits 0 to 9
-sets_of_left_halves : left_half_sets ≡ map (λ letters. 65 ∷ letters)
-    (rows (codes "AAAAA ABABB ABBAB ABBBA BAABB BBAAB BBBAA BABAB BABBA BBABA"))
-unfolding left_half_sets
-sets_of_left_halves = refl
-
--- the modules of each value: 0 to 99, 105 and 106 in the symbols of two digits, 103 in that of bytes 1 and 2, 104 in
--- that of `ab`, 101 in that of `ab` and bytes 1 to 3, 100 in that of `1234ab`, 102 in the GS1 symbol of
--- `[01]12345678901231`
-modules_of_values : characters ≡ map modules (rows (
-    codes "11011001100 11001101100 11001100110 10010011000 10010001100 10001001100 10011001000 10011000100 " ++
-    codes "10001100100 11001001000 11001000100 11000100100 10110011100 10011011100 10011001110 10111001100 " ++
-    codes "10011101100 10011100110 11001110010 11001011100 11001001110 11011100100 11001110100 11101101110 " ++
-    codes "11101001100 11100101100 11100100110 11101100100 11100110100 11100110010 11011011000 11011000110 " ++
-    codes "11000110110 10100011000 10001011000 10001000110 10110001000 10001101000 10001100010 11010001000 " ++
-    codes "11000101000 11000100010 10110111000 10110001110 10001101110 10111011000 10111000110 10001110110 " ++
-    codes "11101110110 11010001110 11000101110 11011101000 11011100010 11011101110 11101011000 11101000110 " ++
-    codes "11100010110 11101101000 11101100010 11100011010 11101111010 11001000010 11110001010 10100110000 " ++
-    codes "10100001100 10010110000 10010000110 10000101100 10000100110 10110010000 10110000100 10011010000 " ++
-    codes "10011000010 10000110100 10000110010 11000010010 11001010000 11110111010 11000010100 10001111010 " ++
-    codes "10100111100 10010111100 10010011110 10111100100 10011110100 10011110010 11110100100 11110010100 " ++
-    codes "11110010010 11011011110 11011110110 11110110110 10101111000 10100011110 10001011110 10111101000 " ++
-    codes "10111100010 11110101000 11110100010 10111011110 10111101110 11101011110 11110101110 11010000100 " ++
-    codes "11010010000 11010011100 1100011101011"))
-unfolding character_widths
-modules_of_values = refl
 
 -- ---- limits
 
