@@ -1,21 +1,24 @@
 -- The multiples of a polynomial in tables, and what the code writes, as lists.
-use Rattle.std.proofs.Common.{◌≡◌, ℕ, zero, suc, ◌+◌, ◌*◌, ◌/◌, ◌%◌, ◌^◌, ◌<◌, List, [], ◌∷◌, ◌++◌, length, take, drop}
+use Rattle.std.proofs.Common.{◌≡◌, ℕ, zero, suc, ◌+◌, ◌-◌, ◌*◌, ◌/◌, ◌%◌, ◌^◌, ◌<◌, List, [], ◌∷◌, ◌++◌, length, take, drop}
 use Rattle.std.proofs.Common.{get_or, set, refl, sym, ap, ◌∙◌, arith, eqb-true, true, ◌==◌}
 use Rattle.std.specs.Prelude.{bit_xor, All}
 use Rattle.std.specs.Int.Bits.{xor_comm, xor_shifted}
-use Rattle.std.proofs.lemmas.List.{append_assoc, replicate-append-replicate, take_more, take_more_set}
+use Rattle.std.proofs.lemmas.List.{append_assoc, drop-replicate, get_or-take, length-take-le}
+use Rattle.std.proofs.lemmas.List.{replicate-append-replicate, take_more, take_more_set}
 use Rattle.std.proofs.lemmas.List.Elements.{All-head, All-tail}
 use Rattle.gf256.specs.BinaryPolynomial.{binary_product, binary_remainder}
 use Rattle.gf256.specs.Field.{field_product, IsElement}
-use Rattle.gf256.specs.ErrorCorrection.{next_register}
+use Rattle.gf256.specs.ErrorCorrection.{IsEcCodewordCount, generator, next_register}
 use Rattle.gf256.specs.Polynomial.{polynomial_sum, scalar_multiple}
-use Rattle.gf256.specs.Private.{zeros}
+use Rattle.gf256.specs.Private.{IsRegister, padded_generator, zeros}
 use Rattle.gf256.proofs.AllBelowLaws.{all_below, all_below-at}
 use Rattle.gf256.proofs.DistributivityLaws.{field_product-xor_left, field_product-zero_left, field_product-zero_right}
 use Rattle.gf256.proofs.FieldLaws.{field_product-assoc, field_product-two_small}
 use Rattle.gf256.proofs.EvaluationLaws.{field_product-one_left}
 use Rattle.gf256.proofs.PolynomialSumLaws.{polynomial_sum-comm}
 use Rattle.gf256.proofs.DivisionLaws.{next_register-append_zeros}
+use Rattle.gf256.proofs.GeneratorLaws.{length-low_of, low_of}
+use Rattle.std.proofs.Math.Seq.{drop-append-add}
 
 -- one coefficient more of a polynomial that a loop writes
 pub write_more : (written whole : List ℕ) (j c : ℕ) → j < length written → j < length whole
@@ -112,7 +115,7 @@ multiple-parts f p h elements =
     (xor_comm (f % 16) (f / 16 * 2 ^ 4) ∙ xor_shifted (f / 16) 4 (f % 16) (omega arith) ∙ whole)
 
 -- one codeword more in a register with zeros behind it
-pub next_register-padded : (low register : List ℕ) (codeword n : ℕ) → 0 < length low → length register ≡ length low
+next_register-padded : (low register : List ℕ) (codeword n : ℕ) → 0 < length low → length register ≡ length low
     → polynomial_sum (drop 1 (register ++ zeros (suc n)))
     (scalar_multiple (bit_xor (get_or register 0 0) codeword) (low ++ zeros n)) ++ zeros 1
     ≡ next_register low register codeword ++ zeros (suc n)
@@ -126,3 +129,28 @@ next_register-padded low (r ∷ rs) codeword n some long =
     ∙ sym (next_register-append_zeros low rs r codeword n (omega arith)))
     ∙ append_assoc next (zeros n) (zeros 1)
     ∙ ap (λ l. next ++ l) (replicate-append-replicate {A = ℕ} n 1 0 ∙ ap zeros one_more)
+
+-- the same for the 33 places that the code has
+pub register-shifted : (k : ℕ) (register : List ℕ) (codeword : ℕ) → IsEcCodewordCount k → length register ≡ 33
+    → IsRegister k register
+    → polynomial_sum (drop 1 register) (scalar_multiple (bit_xor (get_or register 0 0) codeword) (padded_generator k))
+    ++ drop 32 register
+    ≡ next_register (drop 1 (generator k)) (take k register) codeword ++ zeros (33 - k)
+unfolding padded_generator low_of
+register-shifted k register codeword few places padded =
+    let front = take k register in
+    let low = drop 1 (generator k) in
+    let long : length front ≡ k = length-take-le k register (omega (arith, places, few.1)) in
+    let long_low : length low ≡ k = length-low_of k in
+    let first : get_or register 0 0 ≡ get_or front 0 0 = sym (get_or-take k register 0 0 few.0) in
+    let at_last : 32 ≡ length front + (32 - k) = omega (arith, long, few.1) in
+    let one : 33 - k - (32 - k) ≡ 1 = omega (arith, few.1) in
+    let more : 33 - k ≡ suc (32 - k) = omega (arith, few.1) in
+    let last : drop 32 register ≡ zeros 1 =
+    ap (λ l. drop 32 l) padded ∙ ap (λ n. drop n (front ++ zeros (33 - k))) at_last
+    ∙ drop-append-add front (zeros (33 - k)) (32 - k) ∙ drop-replicate (32 - k) (33 - k) 0 ∙ ap zeros one in
+    let whole : register ≡ front ++ zeros (suc (32 - k)) = padded ∙ ap (λ n. front ++ zeros n) more in
+    (λ i. polynomial_sum (drop 1 (whole i))
+    (scalar_multiple (bit_xor (first i) codeword) (low ++ zeros (32 - k))) ++ last i)
+    ∙ next_register-padded low front codeword (32 - k) (omega (arith, long_low, few.0)) (long ∙ sym long_low)
+    ∙ ap (λ n. next_register low front codeword ++ zeros n) (sym more)
