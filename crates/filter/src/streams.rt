@@ -1,11 +1,11 @@
 //! A run from a reader to a writer, as the program makes it.
-ghost use Rattle.std.specs.Prelude.{◌≡◌, ℕ, true, List, [], ◌++◌, Some, IfOk, IfErr, OnOk};
-ghost use Rattle.std.specs.Io.KnownBytes.{Appends, Consumes, IsAtEnd};
+ghost use Rattle.std.specs.Prelude.{◌≡◌, true, [], ◌++◌, OnOk};
+ghost use Rattle.std.specs.Io.KnownBytes.{Appends};
 ghost use Rattle.device.specs.Buffered.{buffered_bytes, sink_of};
 ghost use Rattle.device.specs.Streams.{reader_of, writer_of};
-ghost use Rattle.filter.specs.Line.{FlushedImagesAtMost};
 ghost use Rattle.filter.specs.Private.LineEnd.{PassesAfter};
-ghost use Rattle.filter.specs.Run.{RunsWhole, RunStops, RunRaises, IsPassedOn};
+ghost use Rattle.filter.specs.Run.{IsAllOf, IsPassedOn, Produces, Runs};
+ghost use Rattle.filter.specs.Script.{taken};
 
 use crate::status::{RunFault, Status};
 use crate::whole_run::run;
@@ -27,36 +27,14 @@ pub fn run_streams<R: Read, W: Write, E: Sink>(
     out: &mut Buffered<StdSink<W>>,
     err: &mut E,
 ) -> Result<Status, RunFault>
-    ensures whole { (bytes : List ℕ) → R.remaining (reader_of source.old) ≡ Some bytes
-        → IfOk result (RunsWhole options (λ text. text ≡ bytes)
-        (λ stream. Appends (W.contents (writer_of (sink_of out.old)))
+    ensures runs { Runs (⟦<StdSource<R> as Source>⟧) (⟦<Buffered<StdSink<W>> as Sink>⟧) E.Sink
+        (IsPassedOn (buffered_bytes out.new)) options source.old source.new out.old out.new err.old err.new result }
+    ensures whole { OnOk result (Produces options (IsAllOf (R.remaining (reader_of source.old)))
+        (taken (λ stream. Appends (W.contents (writer_of (sink_of out.old)))
         (W.contents (writer_of (sink_of out.new))) (buffered_bytes out.old ++ stream))
-        (E.took err.old err.new)) }
-    ensures nothing_left { OnOk result (IsAtEnd (R.remaining (reader_of source.new))) }
-    ensures nothing_buffered { OnOk result (buffered_bytes out.new ≡ []) }
-    ensures flushed { OnOk result ((⟦<StdSink<W> as Sink>⟧.is_flushed (sink_of out.new) ≡ true)
-        × (E.is_flushed err.new ≡ true)) }
-    ensures stops { IfErr result (λ fault. (text : List ℕ)
-        × Consumes (R.remaining (reader_of source.old)) (R.remaining (reader_of source.new)) text
-        × RunStops options (⟦<Buffered<StdSink<W>> as Sink>⟧.took out.old out.new)
-        (E.took err.old err.new) text fault
-        × RunRaises (IsPassedOn (buffered_bytes out.new)) text (⟦<StdSource<R> as Source>⟧.failures source.old)
-        (⟦<StdSource<R> as Source>⟧.failures source.new)
-        (⟦<Buffered<StdSink<W>> as Sink>⟧.failures out.old) (⟦<Buffered<StdSink<W>> as Sink>⟧.failures out.new)
-        (E.failures err.old) (E.failures err.new) fault) }
-    ensures order { IfErr result (FlushedImagesAtMost
-        (⟦<Buffered<StdSink<W>> as Sink>⟧.is_flushed out.old) (⟦<Buffered<StdSink<W>> as Sink>⟧.is_flushed out.new)
-        (E.is_flushed err.old) (E.is_flushed err.new)) }
-    ensures ended { OnOk result (⟦<StdSource<R> as Source>⟧.at_end source.new ≡ true) }
-    ensures no_failure { OnOk result
-        ((⟦<StdSource<R> as Source>⟧.failures source.new ≡ ⟦<StdSource<R> as Source>⟧.failures source.old)
-        × (⟦<Buffered<StdSink<W>> as Sink>⟧.failures out.new ≡ ⟦<Buffered<StdSink<W>> as Sink>⟧.failures out.old)
-        × (E.failures err.new ≡ E.failures err.old)) }
-    ensures any_bytes { IfOk result (RunsWhole options
-        (Consumes (R.remaining (reader_of source.old)) (R.remaining (reader_of source.new)))
-        (λ stream. Appends (W.contents (writer_of (sink_of out.old)))
-        (W.contents (writer_of (sink_of out.new))) (buffered_bytes out.old ++ stream))
-        (E.took err.old err.new)) }
+        (E.took err.old err.new)) result) }
+    ensures reaches { OnOk result ((buffered_bytes out.new ≡ [])
+        × (⟦<StdSink<W> as Sink>⟧.is_flushed (sink_of out.new) ≡ true)) }
 {
     match run(options, source, out, err) {
         Ok(status) => {

@@ -1,21 +1,47 @@
--- What the sinks take at the end of a line (docs/SPECIFICATION.md, Lines).
-use Rattle.std.specs.Prelude.{◌≡◌, ℕ, Bool, true, List, [], Result, MatchResult}
+-- What two sinks did in a call: what they took of a script, their counts of failures, their flush marks
+-- (docs/SPECIFICATION.md, The filter as a library).
+-- Why: `Took`, `Stops`, `Sends`: what `feed`, `finish` and `run` promise of their sinks.
+use Rattle.std.specs.Prelude.{◌≡◌, ◌≢◌, ℕ, Bool, true, List, ◌∷◌, ◌++◌, Result, MatchResult}
 use Rattle.device.specs.Device.{Begins, Rises, Unflushed}
 use Rattle.device.specs.declared.sink.Sink.{Ghosts}
 use Rattle.labelcore.specs.OptionValues.{OptionValues}
-use Rattle.labelcore.specs.LineItem.{Outcome}
-use Rattle.filter.specs.Symbol.{Symbol}
-use Rattle.filter.specs.Output.{image_of, message_of}
+use Rattle.filter.specs.Output.{Event, Channel, Images, Messages, bytes_for, sent}
 use Rattle.filter.specs.declared.status.RunFault.{RunFault}
 use Rattle.filter.specs.declared.status.RunFault.TheVariants.{WriteOut, WriteMessages}
 
--- the sink that failed took a beginning of its text, and the other took nothing
-abbrev pub FailsInLine : OptionValues → (took_out took_err : List ℕ → Type 0) (number : ℕ) → Outcome Symbol → RunFault
-    → Type 0
-FailsInLine options took_out took_err number outcome WriteOut = Begins took_out (image_of options outcome) × took_err []
-FailsInLine options took_out took_err number outcome WriteMessages =
-    took_out [] × Begins took_err (message_of number outcome)
-FailsInLine options took_out took_err number outcome other = ⊥
+-- what each of the sinks took
+abbrev pub taken : (out err : List ℕ → Type 0) → Channel → List ℕ → Type 0
+taken out err Images = out
+taken out err Messages = err
+
+-- each sink took its bytes of the events
+abbrev pub Took : OptionValues → (took : Channel → List ℕ → Type 0) → List Event → Type 0
+Took options took events = (channel : Channel) → took channel (sent options channel events)
+
+-- the fault of a sink
+abbrev pub fault_of : Channel → RunFault
+fault_of Images = WriteOut
+fault_of Messages = WriteMessages
+
+-- A sink failed in one of the events. Each sink took its bytes of the events before that one, and the sink that failed
+-- took a beginning of its bytes of that one too.
+pub record Stops (options : OptionValues) (took : Channel → List ℕ → Type 0) (events : List Event) (fault : RunFault)
+    : Type 0 where
+  pub failed : Channel
+  pub fault_is : fault ≡ fault_of failed
+  pub done : List Event
+  pub event : Event
+  pub later : List Event
+  pub cut : events ≡ done ++ event ∷ later
+  pub own : Begins (λ bytes. took failed (sent options failed done ++ bytes)) (bytes_for options failed event)
+  pub others : (channel : Channel) → channel ≢ failed → took channel (sent options channel done)
+
+-- a call that sends what one script has after another: at `Ok` all of it, and at `Err` a sink failed in it
+pub record Sends {T : Type 0} (options : OptionValues) (took : Channel → List ℕ → Type 0) (before after : List Event)
+    (r : Result T RunFault) : Type 0 where
+  pub added : List Event
+  pub grown : after ≡ before ++ added
+  pub sends : MatchResult r (λ _. Took options took added) (Stops options took added)
 
 -- the count of failures of the sink that failed rises, and no other
 abbrev pub RaisesOneCount : (out_old out_new err_old err_new : ℕ) → RunFault → Type 0
