@@ -214,6 +214,13 @@ unfolding chosen_version chosen_segments best_within first_segments alphanumeric
     data_codewords block_lengths groups_of block_table
 versions_asked_for = refl
 
+-- eight letters have 76 bits, which version 1-H lacks: the search begins at the version that is asked for
+versions_of_letters : (map (λ lowest. chosen_version lowest H (codes "abcdefgh")) (1 ∷ 2 ∷ 3 ∷ []) ≡
+    Some 2 ∷ Some 2 ∷ Some 3 ∷ []) × (chosen_version 1 H (codes "abcdefg") ≡ Some 1)
+unfolding chosen_version chosen_segments best_within first_segments alphanumeric_characters alphanumeric_value
+    data_codewords block_lengths groups_of block_table
+versions_of_letters = (refl, refl)
+
 -- numbers that no digits, characters or bytes have are not read
 largest_digits : (digits_at 1 (bits_of 4 9) ≡ Some (codes "9", []))
     × (digits_at 2 (bits_of 7 99) ≡ Some (codes "99", []))
