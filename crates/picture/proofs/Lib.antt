@@ -9,6 +9,7 @@ pub mod LetterLaws
 pub mod LineLaws
 pub mod PbmLaws
 pub mod RasterLaws
+pub mod RepeatedLaws
 pub mod SampleLaws
 pub mod ShortLineLaws
 pub mod WritingLaws

@@ -1,11 +1,15 @@
 //! The rows of a grid that is narrow enough to keep one of them: each row is rendered once for all that equal it.
-ghost use Rattle.std.specs.Prelude.{◌≡◌, ℕ, ◌+◌, ◌^◌, ◌<◌, ◌≤◌, ◌++◌, List, length, take};
+ghost use Rattle.std.specs.Prelude.{◌+◌, ◌*◌, ◌^◌, ◌<◌, ◌≤◌, length, max, take};
 ghost use Rattle.device.specs.Writing.{WritesText};
-ghost use Rattle.picture.specs.Private.Rows.{repeated, row_text, rows_text};
+ghost use Rattle.picture.specs.Private.Rows.{EndsWith, repeated, row_text, rows_text};
 
 use crate::grid::Grid;
 use crate::rows::{PIECE, PIECE_ROOM, PixelText};
 use device::{IoFault, Sink, write_whole};
+
+/// The bytes of rows that are repeated at once: one long copy takes less than many short ones, and a short one has a
+/// place in the buffer more often.
+const BLOCK: usize = 4096;
 
 /// Writes the rows of the grid, and keeps each at the front of `kept` for the rows that equal it.
 ///
@@ -46,23 +50,61 @@ fn write_equal_rows<T: PixelText, S: Sink>(
         (repeated count (row_text T.text T.row_end (take width kept.now))) result }
 {
     write_row::<T, S>(kept, width, sink)?;
-    for _again in 1..count {
+    let at_once = rows_at_once(T::row_len(width));
+    let mut written = 1;
+    while written < count {
+        let rows = at_once.min(written).min(count - written);
+        repeat_rows::<T, S>(kept, width, rows, sink)?;
+        written += rows;
+    }
+    Ok(())
+}
+
+/// Returns how many rows are repeated at once where the text of one has `len` bytes: as many as have `BLOCK` bytes, and
+/// at least one.
+fn rows_at_once(len: usize) -> usize
+    ensures some { 0 < result }
+    ensures most { result * len ≤ max 4096 len }
+{
+    (BLOCK / len.max(1)).max(1)
+}
+
+/// Writes the row of `width` pixels at the front of `kept` `count` times, after it was written as often. The sink
+/// repeats these rows at once where it still has them, else one by one.
+fn repeat_rows<T: PixelText, S: Sink>(
+    kept: &[bool],
+    width: usize,
+    count: usize,
+    sink: &mut S,
+) -> Result<(), IoFault>
+    requires some { 0 < count }
+    requires fits { width + 80 ≤ length kept.now }
+    requires last { EndsWith S.took sink.old
+        (repeated count (row_text T.text T.row_end (take width kept.now))) }
+    requires short { length (repeated count (row_text T.text T.row_end (take width kept.now))) < 2 ^ 64 }
+    ensures { WritesText S.Sink sink.old sink.new
+        (repeated count (row_text T.text T.row_end (take width kept.now))) result }
+{
+    if sink.repeat(count * T::row_len(width)) {
+        return Ok(());
+    }
+    for _again in 0..count {
         repeat_row::<T, S>(kept, width, sink)?;
     }
     Ok(())
 }
 
-/// Writes the row of `width` pixels at the front of `kept`, which was written last. Where the sink still has its text,
-/// the sink repeats it.
+/// Writes the row of `width` pixels at the front of `kept`, which was written last. The sink repeats it where it still
+/// has it.
 fn repeat_row<T: PixelText, S: Sink>(
     kept: &[bool],
     width: usize,
     sink: &mut S,
 ) -> Result<(), IoFault>
-    requires { width + 80 ≤ length kept.now }
-    ensures { let row = row_text T.text T.row_end (take width kept.now) in
-        (first : S) (before : List ℕ) → S.took first sink.old (before ++ row)
-        → WritesText S.Sink sink.old sink.new row result }
+    requires fits { width + 80 ≤ length kept.now }
+    requires last { EndsWith S.took sink.old (row_text T.text T.row_end (take width kept.now)) }
+    ensures { WritesText S.Sink sink.old sink.new
+        (row_text T.text T.row_end (take width kept.now)) result }
 {
     if sink.repeat(T::row_len(width)) {
         return Ok(());

@@ -1,8 +1,7 @@
 //! Plain PBM files, pbm(5).
-ghost use Rattle.std.specs.Prelude.{◌≡◌, ◌+◌, ◌<◌, ◌≤◌, Some, ◌++◌, ◌∷◌, [], length, map};
+ghost use Rattle.std.specs.Prelude.{◌≡◌, ◌+◌, ◌<◌, ◌≤◌, Some, ◌++◌, [], length, map};
 ghost use Rattle.device.specs.Writing.{WritesText};
 ghost use Rattle.picture.specs.Reading.{pbm_pixels, raster};
-ghost use Rattle.device.specs.Lines.{LF};
 ghost use Rattle.picture.specs.Text.{pbm_digit, pbm_header, pbm_text};
 
 use crate::grid::Grid;

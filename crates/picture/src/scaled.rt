@@ -52,8 +52,8 @@ impl<G: Grid> Grid for Scaled<G> {
     }
 }
 
-/// Repeats each of the first `width` pixels `scale` times. For the usual scales the compiler knows how wide a square is,
-/// and fills it at once.
+/// Repeats each of the first `width` pixels `scale` times. The usual scales are constants in the calls, so that the
+/// compiler fills a pixel's columns at once.
 fn spread(pixels: &mut [bool], width: usize, scale: usize)
     requires some { 1 ≤ scale }
     requires whole { length pixels.old ≡ width * scale }

@@ -16,6 +16,10 @@ row_text piece_text row_end row = flat_map (λ k. piece_text (piece row k)) (bel
 abbrev pub repeated : ℕ → List ℕ → List ℕ
 repeated n text = flat_map (λ _. text) (below n)
 
+-- a sink that took the text last, since some earlier state
+abbrev pub EndsWith : {S : Type 0} → (S → S → List ℕ → Type 0) → S → List ℕ → Type 0
+EndsWith {S} took now text = (first : S) × ((before : List ℕ) × took first now (before ++ text))
+
 -- the text of the rows of a picture
 abbrev pub rows_text : (List Bool → List ℕ) → List ℕ → Picture → List ℕ
 rows_text piece_text row_end p = flat_map (λ y. row_text piece_text row_end (pixel_row p y)) (below p.height)

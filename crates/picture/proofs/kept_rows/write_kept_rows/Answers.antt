@@ -1,6 +1,5 @@
-use Rattle.std.proofs.Common.{◌≡◌, ◌+◌, ◌≤◌, ◌<◌, ◌++◌, ◌∙◌, ℕ, suc, zero, Bool, List, ap, refl, subst, sym}
+use Rattle.std.proofs.Common.{◌≡◌, ◌+◌, ◌++◌, ◌∙◌, ℕ, Bool, List, ap, refl, subst, sym}
 use Rattle.std.proofs.Common.{arith, flat_map, take, drop, length, length-append, length-drop}
-use Rattle.std.specs.List.{range_with_len}
 use Rattle.std.proofs.lemmas.List.{take_at}
 use Rattle.std.proofs.lemmas.List.FromFn.{length-map-range_with_len}
 use Rattle.device.proofs.WritingLaws.{HasWritten, HasWritten-none, HasWritten-more, WritesText-fails, WritesText-whole}
@@ -8,21 +7,13 @@ use Rattle.picture.specs.Picture.{AreEqualRows, Picture}
 use Rattle.picture.specs.Private.Rows.{repeated, row_text}
 use Rattle.picture.specs.Text.{below, pixel_row}
 use Rattle.picture.proofs.GridLaws.{pixel_row-equal}
+use Rattle.picture.proofs.RepeatedLaws.{same_texts}
 use Rattle.picture.proofs.WritingLaws.{flat_map-below_add, flat_map-below_front}
 use Rattle.picture.proofs.kept_rows.write_kept_rows.Goals as goal
 
 -- a row that was read is as long as the picture is wide
 length-row : (p : Picture) (y : ℕ) (row : List Bool) → row ≡ pixel_row p y → length row ≡ p.width
 length-row p y row read = ap length read ∙ length-map-range_with_len (λ x. p.dark x y) 0 p.width
-
--- one text for each of n numbers, from a or from y on
-same_texts : (f : ℕ → List ℕ) (text : List ℕ) (a y n : ℕ) → ((k : ℕ) → y ≤ k → k < y + n → text ≡ f k)
-    → flat_map (λ _. text) (range_with_len a n) ≡ flat_map f (range_with_len y n)
-same_texts f text a y zero same = refl
-same_texts f text a y (suc n) same =
-    ap (λ (t : List ℕ). t ++ flat_map (λ _. text) (range_with_len (a + 1) n)) (same y (omega arith) (omega arith))
-    ∙ ap (λ (t : List ℕ). f y ++ t)
-    (same_texts f text (a + 1) (y + 1) n (λ k low high. same k (omega arith) (omega arith)))
 
 -- the texts of the rows before y, and of the `count` rows from y on, which equal row y
 module _ (text : List Bool → List ℕ) (p : Picture) (y count width : ℕ) (row rest : List Bool) (wide : width ≡ p.width)
