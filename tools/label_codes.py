@@ -99,7 +99,7 @@ def check_digits(digits: str, arguments: argparse.Namespace) -> None:
 
 
 def symbology_of(digits: str, arguments: argparse.Namespace) -> str:
-    """Returns the symbology of a number by its digits; raises RowError where none has so many, or two may be meant."""
+    """Returns the symbology of a number by its digits; raises RowError where none has that number, or two may be meant."""
     count, missing = len(digits), 1 if arguments.without_check_digit else 0
     lengths = {length - missing: symbology for symbology, length in LENGTHS.items()}
     if digits[0] == "0" and count == 8 - missing or arguments.fill_zeros and count == 7 and is_right(digits):

@@ -363,13 +363,17 @@ def ods_rows(archive: ZipFile, sheet: int) -> Iterator[Row]:
         if tag == "table" or sheets != sheet + 1:
             continue
         values: List[str] = []
+        place = 0
         for of_cell, lines in cells:
-            rows, columns = (int(of_cell.get(f"number-{what}-spanned", 1)) for what in ("rows", "columns"))
-            if rows > 1 or columns > 1:
-                merges.append(Merge(number, number + rows - 1, len(values), len(values) + columns - 1))
+            if "number-rows-spanned" in of_cell:
+                rows, columns = int(of_cell["number-rows-spanned"]), int(of_cell.get("number-columns-spanned", 1))
+                if rows > 1 or columns > 1:
+                    merges.append(Merge(number, number + rows - 1, place, place + columns - 1))
             cell = ods_cell(of_cell, "\n".join(plain(line) for _, line in lines))
             repeat = int(of_cell.get("number-columns-repeated", 1))
-            values.extend([cell] * min(repeat, MOST_COLUMNS - len(values) + (1 if cell else 0)))
+            if cell:
+                values.extend([""] * (place - len(values)) + [cell] * min(repeat, MOST_COLUMNS + 1))
+            place = min(place + repeat, MOST_COLUMNS)
         repeat = int(attributes.get("number-rows-repeated", 1))
         is_hidden = attributes.get("visibility", "visible") != "visible"
         if is_hidden or any(values) or merges:
