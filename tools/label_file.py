@@ -6,8 +6,10 @@ complete; each other one belongs to the next line. Lines without such remarks ar
 
 import json
 import re
+import sys
 from dataclasses import dataclass, field
-from typing import Any, Optional
+from pathlib import Path
+from typing import Any, Iterator, Optional
 
 from label_command import ToolError
 
@@ -58,10 +60,14 @@ class Content:
     left_out_count: int = 0
 
 
-def lines_of(data: bytes) -> list[bytes]:
+def lines_of(data: bytes) -> Iterator[bytes]:
     """The lines of a file as labels(1) counts them: LF ends a line, and nothing else does."""
-    lines = data.split(b"\n")
-    return lines if lines[-1] else lines[:-1]
+    start = 0
+    while (end := data.find(b"\n", start)) >= 0:
+        yield data[start:end]
+        start = end + 1
+    if start < len(data):
+        yield data[start:]
 
 
 def is_skipped(line: bytes) -> bool:
@@ -125,9 +131,7 @@ def table_of(found: dict[str, Any], where: str) -> str:
     return str(found.get("table", ""))
 
 
-def end_part(
-    content: Content, found: dict[str, Any], count: Optional[int], table: str, name: str, where: str
-) -> None:
+def end_part(content: Content, found: dict[str, Any], count: Optional[int], table: str, name: str, where: str) -> None:
     """Takes the last object of a part, which has `count` lines."""
     rows, left_out = found.get("left_out", []), found.get("left_out_count", 0)
     is_good = found.pop("end") == 1 and not set(found) - {"lines", "left_out", "left_out_count"}
@@ -174,7 +178,8 @@ def label_of(line: bytes, number: int, table: str, found: dict[str, Any], has_es
     if len(data) == DIGITS_WITHOUT_CHECK.get(symbology) and data.isdigit():
         data += check_digit(data)
     title, text = found.get("title", "").strip(), (part.strip() for part in found.get("text", ()))
-    price, copies = found.get("price", "").strip(), found.get("copies", 1)
+    # interned: many labels have the same price
+    price, copies = sys.intern(found.get("price", "").strip()), found.get("copies", 1)
     return Label(number, symbology, data, table, found.get("row", 0), title, tuple(filter(None, text)), price, copies)
 
 
@@ -187,3 +192,16 @@ def check_digit(digits: bytes) -> bytes:
     """The check digit of EAN and UPC (ISO/IEC 15420): weights 3, 1, 3, .. from the right."""
     total = sum((value - 48) * (1 if place % 2 else 3) for place, value in enumerate(reversed(digits)))
     return b"%d" % (-total % 10)
+
+
+def read_input(path: Optional[str]) -> tuple[str, bytes]:
+    """The name and the bytes of a file, or of standard input where it is None or `-`; raises ToolError if it is empty."""
+    if path not in (None, "-"):
+        name, data = str(path), Path(str(path)).read_bytes()
+    elif sys.stdin is None:
+        raise ToolError("standard input is closed")
+    else:
+        name, data = "standard input", sys.stdin.buffer.read()
+    if not data:
+        raise FileError(f"{name} is empty: nothing is printed")
+    return name, data

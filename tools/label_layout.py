@@ -6,10 +6,10 @@ From the top: title, bars, digits, text; the price is beside the bars, or below 
 import math
 from dataclasses import dataclass, field
 from itertools import product
-from typing import Iterable, Iterator, NamedTuple, Optional
+from typing import Iterator, NamedTuple, Optional
 
 from label_file import Label
-from label_stock import Sheet
+from label_stock import Sheet, size_text
 
 MILLIMETRES_AN_INCH = 25.4
 POINTS_AN_INCH = 72
@@ -219,7 +219,9 @@ class Planner:
         total = self.title_height(titles) + gap if titles else 0
         total += self.digits_height(group.symbology, way.module)
         total += need.text_lines * self.points(LINE * TEXT) + gap if need.text_lines else 0
-        return total + (0 if way.beside or not group.price_height else scaled(group.price_height, way) + gap)
+        return total + (
+            0 if way.beside or not group.price_height else scaled(group.price_height, way.price_size) + gap
+        )
 
     def title_height(self, lines: int) -> int:
         """The height of a title of so many lines."""
@@ -240,15 +242,16 @@ class Planner:
         width = CODE128_LOWEST * need.width * way.module if not symbology.digits else 0
         return max(self.dots(symbology.nominal if way.is_nominal else symbology.lowest), math.ceil(width))
 
+    def fits_across(self, way: Way, need: Need) -> bool:
+        """Whether the bars and the price of a label are not wider than its cell."""
+        width, price = need.width * way.module, scaled(need.price, way.price_size)
+        return (width + price if way.beside else max(width, price)) <= self.width
+
     def fits(self, group: Group, way: Way, need: Need) -> bool:
         """Whether a label fits its cell in this way."""
-        bars, width, price = self.least_bars(group.symbology, way, need), need.width * way.module, 0
-        if need.price:
-            price = scaled(need.price, way)
-        across = width + price if way.beside else max(width, price)
-        if way.beside and price and scaled(group.price_height, way) > bars:
-            return False
-        return across <= self.width and self.others(group, way, need) + bars <= self.height
+        bars = self.least_bars(group.symbology, way, need)
+        is_lower = way.beside and scaled(group.price_height, way.price_size) > bars
+        return self.fits_across(way, need) and not is_lower and self.others(group, way, need) + bars <= self.height
 
     def choose(self, group: Group) -> list[Need]:
         """Gives each label of a group its layout: the first that fits all, or else most; returns what nothing fits."""
@@ -270,6 +273,66 @@ class Planner:
             left = [need for need in left if need not in set(fitting)]
         return []
 
+    def reasons(self, group: Group, left: list[Need]) -> Iterator[tuple[str, list[Need]]]:
+        """Why labels do not fit, and what would, for those for which it is the same."""
+        causes: dict[str, list[Need]] = {}
+        for need in left:
+            causes.setdefault(self.cause(group, need), []).append(need)
+        for cause, needs in causes.items():
+            worst = Need(*(max(values) for values in zip(*needs)))
+            yield self.reason(group, cause, worst), needs
+
+    def cause(self, group: Group, need: Need) -> str:
+        """What of a label does not fit first: its module, its bars, its price or its height."""
+        modules = self.modules(group.symbology)
+        if not modules:
+            return "module"
+        if min(modules) * need.width > self.width:
+            return "bars"
+        return "price" if scaled(need.price, PRICE_SIZES[-1]) > self.width else "height"
+
+    def reason(self, group: Group, cause: str, need: Need) -> str:
+        """Why labels do not fit, and what would."""
+        symbology, dot = group.symbology, 1 / self.dots_a_millimetre
+        of_label = size_text((self.width * dot, self.height * dot))
+        if cause == "module":
+            what = "the nearest to --module" if self.wished_module else "none"
+            limits = f"{symbology.smallest:g} to {LARGEST_MODULE:g} mm"
+            return f"{symbology.title} needs modules of {limits}; of whole dots at {self.dpi} dpi {what} is"
+        module = min(self.modules(symbology))
+        if cause == "bars":
+            wide = need.width * module * dot
+            shorter = "" if symbology.digits else ", shorter data"
+            smaller = ", a smaller --module" if self.wished_module else ""
+            return (
+                f"{symbology.title} is {wide:.1f} mm wide with modules of {module * dot:.3f} mm, "
+                f"and the label takes {of_label}: take a larger label{shorter}{smaller}"
+            )
+        if cause == "price":
+            return (
+                f"the price is {scaled(need.price, PRICE_SIZES[-1]) * dot:.1f} mm wide, and the label takes {of_label}"
+            )
+        return self.height_reason(group, need, of_label)
+
+    def height_reason(self, group: Group, need: Need, of_label: str) -> str:
+        """Why labels are too high, and what would fit."""
+        ways = [way for way in self.ways(group.symbology) if self.fits_across(way, need)]
+        least = min(self.others(group, way, need) + self.least_bars(group.symbology, way, need) for way in ways)
+        room = max(self.height - self.others(group, way, need) for way in ways) / self.dots_a_millimetre
+        lower = f", or lower bars by --height {math.floor(room)}" if group.symbology.nominal and room >= 1 else ""
+        high = least / self.dots_a_millimetre
+        return (
+            f"{group.symbology.title} with its texts is {high:.1f} mm high, and the label takes {of_label}: "
+            f"take a larger label, less text{lower}"
+        )
+
+    def warning(self, group: Group) -> str:
+        """What is to be said of bars that are lower than the standard has them; nothing where they are not."""
+        symbology, height = group.symbology, self.wished_height
+        if not height or not symbology.digits or height >= symbology.lowest:
+            return ""
+        return f"bars of {height:g} mm: {symbology.title} has at least {symbology.lowest:g} mm, and a till may not read it"
+
     def layout(self, group: Group, way: Way, needs: list[Need]) -> Layout:
         """The layout of labels that all fit in one way."""
         others = max(self.others(group, way, need) for need in needs)
@@ -288,7 +351,7 @@ class Planner:
             bars=bars,
             digits=self.digits_height(group.symbology, way.module),
             text_line=self.points(LINE * TEXT),
-            price=scaled(group.price_height, way),
+            price=scaled(group.price_height, way.price_size),
         )
 
 
@@ -297,7 +360,7 @@ def text_lines(label: Label) -> int:
     return sum(1 + part.count("\n") for part in label.text)
 
 
-def scaled(length: int, way: Way) -> int:
-    """A length of a price that was measured at the largest size, at the size of a way; hinting may add 2 %."""
-    is_largest = way.price_size == PRICE_SIZES[0]
-    return length if is_largest else math.ceil(1.02 * length * way.price_size / PRICE_SIZES[0]) + 1
+def scaled(length: int, size: int) -> int:
+    """A length of a price that was measured at the largest size, at another one; hinting may add 2 %."""
+    is_largest = size == PRICE_SIZES[0] or not length
+    return length if is_largest else math.ceil(1.02 * length * size / PRICE_SIZES[0]) + 1

@@ -62,6 +62,11 @@ def run_labels(data: bytes, words: list[str]) -> tuple[list[Modules], dict[int, 
     return pictures, {int(match[1]): match[2] for match in found if match}
 
 
+def bytes_a_row(width: int) -> int:
+    """The bytes of a row of so many dots or modules."""
+    return (width + 7) // 8
+
+
 def split_pictures(stream: IO[bytes]) -> Iterator[bytes]:
     """Each picture of a stream of plain PBM, without its first line."""
     rest = b""
@@ -78,7 +83,7 @@ def modules_of(picture: bytes) -> Modules:
     if not sides:
         return Modules(0, 0, b"")
     width, height = int(sides[1]), int(sides[2])
-    pixels, size = picture[sides.end() :].replace(b"\n", b""), (width + 7) // 8
+    pixels, size = picture[sides.end() :].replace(b"\n", b""), bytes_a_row(width)
     if not width or len(pixels) != width * height:
         return Modules(0, 0, b"")
     rows = (pixels[start : start + width] for start in range(0, width * height, width))

@@ -6,7 +6,7 @@ from functools import cache
 from pathlib import Path
 from typing import Iterator, NamedTuple, Optional
 
-from label_command import ToolError
+from label_command import ArgumentsError, ToolError
 
 TEMPLATES = Path("/usr/share/libglabels-3.0/templates")
 # millimetres of each unit; a length without one is in points
@@ -67,20 +67,20 @@ def grid_sheet(
     places = [(left + column * step_x, top + row * step_y) for row in range(rows) for column in range(columns)]
     sheet = Sheet(page, cell, places)
     if sheet.beyond() > 0.001:
-        raise ToolError(f"{sheet}: the cells leave the page by {sheet.beyond():.2f} mm")
+        raise ArgumentsError(f"{sheet}: the cells leave the page by {sheet.beyond():.2f} mm")
     return sheet
 
 
 def stock_sheet(name: str) -> Sheet:
-    """The sheet of a part by its name, such as `Avery L7160` or `l7160`; raises ToolError where there is none."""
+    """The sheet of a part by its name, such as `Avery L7160` or `l7160`; raises ArgumentsError where there is none."""
     wanted = plain(name)
     named = [part for part in parts() if wanted in (plain(part.brand + part.name), plain(part.name))]
     exact = [part for part in named if wanted == plain(part.brand + part.name)] or named
     if len({part.brand for part in exact}) > 1:
         brands = ", ".join(sorted({f"{part.brand} {part.name}" for part in exact}))
-        raise ToolError(f"--stock {name}: several makers have it: {brands}")
+        raise ArgumentsError(f"--stock {name}: several makers have it: {brands}")
     if not exact:
-        raise ToolError(f"--stock {name}: no such stock: --list-stock WORD lists what there is")
+        raise ArgumentsError(f"--stock {name}: no such stock: --list-stock WORD lists what there is")
     return sheet_of(exact[0])
 
 
@@ -143,20 +143,22 @@ def sheet_of(part: Part) -> Sheet:
     while part.equal_to is not None:
         same = [one for one in parts() if (one.brand, one.name) == (part.brand, part.equal_to)]
         if not same or part.equal_to in followed:
-            raise ToolError(f"--stock {label}: glabels does not say its sizes")
+            raise ArgumentsError(f"--stock {label}: glabels does not say its sizes")
         part = same[0]
         followed.add(part.name)
     cell = next((child for child in part.element if child.tag.startswith("Label-")), None)
     if cell is None or cell.tag != "Label-rectangle":
         shape = "unknown" if cell is None else cell.tag.removeprefix("Label-")
-        raise ToolError(f"--stock {label}: its labels are no rectangles ({shape}): no label is laid out for them")
+        raise ArgumentsError(f"--stock {label}: its labels are no rectangles ({shape}): no label is laid out for them")
     size = part.element.get("size", "")
     page = page_sizes().get(size) or (length(part.element, "width"), length(part.element, "height"))
     layouts = [child for child in cell if child.tag == "Layout"]
     places = sorted((place for layout in layouts for place in places_of(layout)), key=lambda place: place[::-1])
     sheet = Sheet(page, (length(cell, "width"), length(cell, "height")), places)
     if not places or not min(sheet.cell) or sheet.beyond() > MOST_BEYOND:
-        raise ToolError(f"--stock {label}: glabels has it larger than its page: give --columns, --rows and --cell")
+        raise ArgumentsError(
+            f"--stock {label}: glabels has it larger than its page: give --columns, --rows and --cell"
+        )
     return sheet
 
 
