@@ -20,6 +20,7 @@ except (ImportError, ValueError) as error:
     raise ToolError(f"{error}: apt-get install python3-gi-cairo gir1.2-pango-1.0") from error
 
 SCALE, LEFT, MIDDLE = Pango.SCALE, Pango.Alignment.LEFT, Pango.Alignment.CENTER
+show, trace = PangoCairo.show_layout, PangoCairo.layout_path
 DARK, INSET = re.compile("1+"), 0.01
 # what shows a control character of Code 128
 SHOWN = {code: 0x2400 + code for code in range(32)} | {127: 0x2421}
@@ -142,10 +143,10 @@ class Pen:
         y = max(box.top - ink.y, min(y, box.top + box.height - ink.height - ink.y))
         canvas.move_to(x, y)
         if font in self.outlines:
-            PangoCairo.layout_path(canvas, style)
+            trace(canvas, style)
             canvas.fill()
         else:
-            PangoCairo.show_layout(canvas, style)
+            show(canvas, style)
         return bool(style.is_ellipsized())
 
     def draw_modules(self, canvas: Any, label: Label, box: Box) -> None:

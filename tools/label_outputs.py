@@ -1,6 +1,5 @@
 """The forms in which labels go out: PDF, SVG, PNG, PBM, and ZPL and ESC/POS for label and receipt printers."""
 
-import mmap
 import os
 import re
 import stat
@@ -12,7 +11,7 @@ import zlib
 from datetime import datetime, timezone
 from io import BytesIO
 from pathlib import Path
-from typing import Any, Iterator, Union
+from typing import IO, Any, Iterator
 
 import cairo
 
@@ -35,7 +34,6 @@ XREF_HEAD = re.compile(rb"xref\n0 ([0-9]+)\n")
 QUIET, BETWEEN = 2.0, 0.2
 
 Page = list[tuple[Label, Box]]
-Buffer = Union[bytes, mmap.mmap]
 
 
 class Progress:
@@ -132,11 +130,11 @@ class Press:
                 progress.add(len(page))
             surface.finish()
             file.flush()
-            with mmap.mmap(file.fileno(), 0, access=mmap.ACCESS_READ) as data:
-                if is_whole(data) or self.pen.outlines:
-                    with signals.hold():
-                        write_or_take_back(output, data)
-                    return
+            if is_whole(file.fileno()) or self.pen.outlines:
+                file.seek(0)
+                with signals.hold():
+                    copy_or_take_back(file, output)
+                return
         self.pen.outlines = {self.pen.font, self.pen.digits_font}
         self.write_pdf(labels, output, signals, progress)
 
@@ -154,49 +152,49 @@ class Press:
             progress.add(label.copies)
 
 
-def write_all(output: int, data: Buffer) -> None:
+def write_all(output: int, data: bytes) -> None:
     """Writes all of some bytes."""
-    with memoryview(data) as rest:
-        done = 0
-        while done < len(rest):
-            done += os.write(output, rest[done : done + (1 << 20)])
+    done = 0
+    while done < len(data):
+        done += os.write(output, data[done:])
 
 
-def write_or_take_back(output: int, data: Buffer) -> None:
-    """Writes all of some bytes; a file that does not take all of them gets none."""
+def copy_or_take_back(file: IO[bytes], output: int) -> None:
+    """Writes all of a file; another file that does not take all of it gets nothing."""
     state = os.fstat(output)
     try:
-        write_all(output, data)
+        while data := file.read(1 << 20):
+            write_all(output, data)
     except OSError:
         if stat.S_ISREG(state.st_mode):
             os.ftruncate(output, state.st_size)
         raise
 
 
-def is_whole(pdf: Buffer) -> bool:
+def is_whole(file: int) -> bool:
     """Whether each object of a PDF is where its table has it; Cairo leaves out fonts that it cannot embed."""
-    end = XREF.search(pdf[-99:])
-    table = int(end[1]) if end else 0
-    head = XREF_HEAD.match(pdf[table : table + 99])
-    for number in range(1, int(head[1]) if head else 0):
-        entry, name = table + len(head[0]) + 20 * number if head else 0, b"%d 0 obj" % number
-        place = int(pdf[entry : entry + 10])
-        if pdf[place : place + len(name)] != name:
-            return False
-    return head is not None
+    end = XREF.search(os.pread(file, 99, max(0, os.fstat(file).st_size - 99)))
+    head = XREF_HEAD.match(os.pread(file, 99, int(end[1]))) if end else None
+    if not end or not head:
+        return False
+    count = int(head[1])
+    table = os.pread(file, 20 * count, int(end[1]) + len(head[0]))
+    names = ((int(table[20 * number : 20 * number + 10]), b"%d 0 obj" % number) for number in range(1, count))
+    return all(os.pread(file, len(name), place) == name for place, name in names)
 
 
 def embeds(family: str) -> bool:
     """Whether the letters of a font, bold ones too, can be text in a PDF."""
-    file = BytesIO()
-    surface = cairo.PDFSurface(file, 99, 99)
-    canvas = cairo.Context(surface)
-    for weight in (cairo.FontWeight.NORMAL, cairo.FontWeight.BOLD):
-        canvas.select_font_face(family, cairo.FontSlant.NORMAL, weight)
+    with tempfile.TemporaryFile() as file:
+        surface = cairo.PDFSurface(file, 99, 99)
+        canvas = cairo.Context(surface)
         canvas.move_to(9, 9)
-        canvas.show_text("0A")
-    surface.finish()
-    return is_whole(file.getvalue())
+        for weight in (cairo.FontWeight.NORMAL, cairo.FontWeight.BOLD):
+            canvas.select_font_face(family, cairo.FontSlant.NORMAL, weight)
+            canvas.show_text("0A")
+        surface.finish()
+        file.flush()
+        return is_whole(file.fileno())
 
 
 def pbm(dots: Dots, _: float) -> bytes:
