@@ -1,14 +1,16 @@
--- The state of a filter in its input, and what it does to its sinks (docs/SPECIFICATION.md, The filter as a library).
--- Why: `FilterState`: what a `Filter` keeps, as a contract sees it; `IsAfter`, `TookPiece`, `StopsInPiece`,
--- `StopsInFinish`: the contracts of `Filter`; `TookLines`, `StopsInLine`: parts of the last three and of `RunStops`.
-use Rattle.std.specs.Prelude.{◌≡◌, ℕ, ◌+◌, ◌-◌, ◌^◌, min, Bool, false, ◌⊎◌, List, ◌∷◌, ◌++◌, length, Result}
-use Rattle.std.specs.Prelude.{All, ◌<◌, MatchResult}
+-- The state of a filter, and what a call does to its two sinks (docs/SPECIFICATION.md, The filter as a library).
+-- Why: `FilterState`, `IsAfter`: what a `Filter` keeps, and what it was fed; `Took`, `Stops`, `Sends`: what `feed`,
+-- `finish` and `run` promise of their sinks.
+use Rattle.std.specs.Prelude.{◌≡◌, ℕ, ◌-◌, ◌^◌, ◌<◌, min, All, Bool, true, false, List, ◌∷◌, ◌++◌, length, Result, Ok, Err}
+use Rattle.std.specs.Prelude.{MatchResult}
+use Rattle.device.specs.Device.{Begins, Rises, Unflushed}
+use Rattle.device.specs.Lines.{ended_lines, open_line}
+use Rattle.device.specs.declared.sink.Sink.{Ghosts}
 use Rattle.labelcore.specs.HeldLine.{HeldLine, held_line}
-use Rattle.device.specs.Lines.{lines, ended_lines, open_line, unless_empty}
 use Rattle.labelcore.specs.OptionValues.{OptionValues, IsInRange}
-use Rattle.filter.specs.Output.{outcome, images, messages_after, line_number, status_of}
-use Rattle.filter.specs.Line.{FailsInLine}
+use Rattle.filter.specs.Output.{Event, Channel, Images, Messages, bytes_for, ended_script, sent, status_of}
 use Rattle.filter.specs.declared.status.RunFault.{RunFault}
+use Rattle.filter.specs.declared.status.RunFault.TheVariants.{WriteOut, WriteMessages}
 use Rattle.filter.specs.declared.status.Status.{Status}
 
 -- what a filter keeps between pieces
@@ -26,60 +28,66 @@ pub record IsAfter (options : OptionValues) (state : FilterState) (text : List �
   pub bytes : All (λ b. b < 256) text
   pub line : state.line ≡ held_line (open_line text)
   pub line_count : state.line_count ≡ min (length (ended_lines text)) (2 ^ 64 - 1)
-  pub status_is : state.status ≡ status_of options (ended_lines text)
+  pub status_is : state.status ≡ status_of (ended_script options text)
   pub is_spent : state.is_spent ≡ false
 
--- the sinks took the images and the messages of these lines; `before` lines come before these
-pub record TookLines (options : OptionValues) (took_out took_err : List ℕ → Type 0) (before : ℕ) (lines : List (List ℕ))
+-- what each of the sinks took
+abbrev pub taken : (out err : List ℕ → Type 0) → Channel → List ℕ → Type 0
+taken out err Images = out
+taken out err Messages = err
+
+-- each sink took its bytes of the events
+abbrev pub Took : OptionValues → (took : Channel → List ℕ → Type 0) → List Event → Type 0
+Took options took events = (channel : Channel) → took channel (sent options channel events)
+
+-- the fault of a sink
+abbrev pub fault_of : Channel → RunFault
+fault_of Images = WriteOut
+fault_of Messages = WriteMessages
+
+-- the other sink
+abbrev pub other : Channel → Channel
+other Images = Messages
+other Messages = Images
+
+-- A sink failed in one of the events. Each sink took its bytes of the events before that one, and the sink that failed
+-- took a beginning of its bytes of that one too.
+pub record Stops (options : OptionValues) (took : Channel → List ℕ → Type 0) (events : List Event) (fault : RunFault)
     : Type 0 where
-  pub out : took_out (images options lines)
-  pub err : took_err (messages_after options before lines)
+  pub failed : Channel
+  pub fault_is : fault ≡ fault_of failed
+  pub done : List Event
+  pub event : Event
+  pub later : List Event
+  pub cut : events ≡ done ++ event ∷ later
+  pub own : Begins (λ bytes. took failed (sent options failed done ++ bytes)) (bytes_for options failed event)
+  pub others : took (other failed) (sent options (other failed) done)
 
--- a sink failed in one of these lines: the images and messages of the lines before that one are whole; of its own the
--- sink took a beginning
-pub record StopsInLine (options : OptionValues) (took_out took_err : List ℕ → Type 0) (before : ℕ)
-    (lines : List (List ℕ)) (fault : RunFault) : Type 0 where
-  pub earlier : List (List ℕ)
-  pub line : List ℕ
-  pub later : List (List ℕ)
-  pub cut : lines ≡ earlier ++ line ∷ later
-  pub wrote : FailsInLine options (λ bytes. took_out (images options earlier ++ bytes))
-      (λ bytes. took_err (messages_after options before earlier ++ bytes))
-      (line_number (before + length earlier)) (outcome options line) fault
+-- a call that sends what one script has after another: at `Ok` all of it, and at `Err` a sink failed in it
+pub record Sends {T : Type 0} (options : OptionValues) (took : Channel → List ℕ → Type 0) (before after : List Event)
+    (r : Result T RunFault) : Type 0 where
+  pub added : List Event
+  pub grown : after ≡ before ++ added
+  pub sends : MatchResult r (λ _. Took options took added) (Stops options took added)
 
--- the sinks took the images and the messages of the lines that the piece ends
-pub record TookPiece (options : OptionValues) (took_out took_err : List ℕ → Type 0) (text piece : List ℕ) : Type 0 where
-  pub added : List (List ℕ)
-  pub grown : ended_lines (text ++ piece) ≡ ended_lines text ++ added
-  pub took : TookLines options took_out took_err (length (ended_lines text)) added
+-- The counts of failures of the images' sink, `o`, and of the messages' sink, `e`: at `Ok` none rises, at `Err` that of the
+-- sink that failed.
+abbrev pub CountsFault : {T : Type 0} → (o o' e e' : ℕ) → Result T RunFault → Type 0
+CountsFault o o' e e' (Ok x) = (o' ≡ o) × (e' ≡ e)
+CountsFault o o' e e' (Err WriteOut) = Rises o o' × (e' ≡ e)
+CountsFault o o' e e' (Err WriteMessages) = (o' ≡ o) × Rises e e'
+CountsFault o o' e e' (Err fault) = ⊥
 
--- a sink failed in one of the lines that the piece ends
-pub record StopsInPiece (options : OptionValues) (took_out took_err : List ℕ → Type 0) (text piece : List ℕ)
-    (fault : RunFault) : Type 0 where
-  pub added : List (List ℕ)
-  pub grown : ended_lines (text ++ piece) ≡ ended_lines text ++ added
-  pub stops : StopsInLine options took_out took_err (length (ended_lines text)) added fault
+-- The flush marks of both: at `Ok` both sinks are flushed; at `Err` none is that was not before, but for the images where
+-- the messages failed, since they are flushed first.
+abbrev pub FlushesImagesFirst : {T : Type 0} → (o o' e e' : Bool) → Result T RunFault → Type 0
+FlushesImagesFirst o o' e e' (Ok x) = (o' ≡ true) × (e' ≡ true)
+FlushesImagesFirst o o' e e' (Err WriteMessages) = Unflushed e e'
+FlushesImagesFirst o o' e e' (Err fault) = Unflushed o o' × Unflushed e e'
 
--- a sink failed in the last line, which no LF ends, or in a flush after it
-abbrev pub StopsInFinish : OptionValues → (took_out took_err : List ℕ → Type 0) (text : List ℕ) → RunFault → Type 0
-StopsInFinish options took_out took_err text fault =
-    StopsInLine options took_out took_err (length (ended_lines text)) (unless_empty (open_line text)) fault
-    ⊎ TookLines options took_out took_err (length (ended_lines text)) (unless_empty (open_line text))
-
--- a piece after this text: at `Ok` the filter has been fed both,
--- and the sinks took the images and the messages of the lines that the piece ends;
--- at `Err` a sink failed in one of these lines
-abbrev pub FeedsPiece : {T : Type 0} → OptionValues → FilterState
-    → (took_out took_err : List ℕ → Type 0) (text piece : List ℕ) → Result T RunFault → Type 0
-FeedsPiece options new took_out took_err text piece r =
-    MatchResult r (λ _. IsAfter options new (text ++ piece) × TookPiece options took_out took_err text piece)
-    (StopsInPiece options took_out took_err text piece)
-
--- the end of this text: at `Ok` the status is that of the text's lines, and the sinks took the image and the message
--- of the line that no LF ends, if there is one; at `Err` a sink failed in that line or in a flush
-abbrev pub EndsInput : OptionValues → (took_out took_err : List ℕ → Type 0) (text : List ℕ) → Result Status RunFault
-    → Type 0
-EndsInput options took_out took_err text r =
-    MatchResult r (λ status. (status ≡ status_of options (lines text))
-    × TookLines options took_out took_err (length (ended_lines text)) (unless_empty (open_line text)))
-    (StopsInFinish options took_out took_err text)
+-- a call that flushes nothing: the count of the sink that failed rises, and a sink that is flushed now was so before
+pub record FlushesNeither {O E T : Type 0} (out : Ghosts O) (err : Ghosts E) (o o' : O) (e e' : E) (r : Result T RunFault)
+    : Type 0 where
+  pub counts : CountsFault (out.failures o) (out.failures o') (err.failures e) (err.failures e') r
+  pub out_unflushed : Unflushed (out.is_flushed o) (out.is_flushed o')
+  pub err_unflushed : Unflushed (err.is_flushed e) (err.is_flushed e')

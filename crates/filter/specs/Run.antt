@@ -1,51 +1,56 @@
--- A run over a whole input: the headline, and what was written where the run stops before the end
--- (docs/SPECIFICATION.md, The filter as a library).
--- Why: `RunsWhole`: the contract of `run`.
--- Why: `RunStops`, `RunRaises`: the contract of `run`.
-use Rattle.std.specs.Prelude.{◌≡◌, ℕ, ◌-◌, ◌^◌, ◌≤◌, ◌⊎◌, List, length}
+-- A run over a whole input: the headline (docs/SPECIFICATION.md, The filter as a library).
+-- Why: `Produces`, `Runs`: the contracts of `run` and `run_streams`.
+use Rattle.std.specs.Prelude.{◌≡◌, ℕ, ◌-◌, ◌^◌, ◌≤◌, ◌⊎◌, true, List, [], length, Result, Ok, Err, IfOk, OnOk}
 use Rattle.device.specs.Device.{Rises}
+use Rattle.device.specs.declared.sink.Sink.{Ghosts as SinkGhosts}
+use Rattle.device.specs.declared.source.Source.{Ghosts as SourceGhosts}
 use Rattle.labelcore.specs.OptionValues.{OptionValues}
-use Rattle.device.specs.Lines.{lines, ended_lines}
-use Rattle.filter.specs.Output.{drawn_symbols, images, messages_after, status_of}
-use Rattle.filter.specs.Readback.{AreRead, cut}
-use Rattle.filter.specs.declared.status.Status.{Status}
-use Rattle.filter.specs.Filter.{TookLines, StopsInLine}
+use Rattle.filter.specs.Output.{Channel, ended_script, script, status_of}
+use Rattle.filter.specs.Readback.{ReadsBack}
+use Rattle.filter.specs.Filter.{FlushesImagesFirst, Took, Stops, taken}
 use Rattle.filter.specs.declared.status.RunFault.{RunFault}
 use Rattle.filter.specs.declared.status.RunFault.TheVariants.{Read, WriteOut, WriteMessages, Spent}
+use Rattle.filter.specs.declared.status.Status.{Status}
 
--- A whole run. The sinks took the images and the messages of the lines of the one text that the source gave, and the
--- status is theirs. In the stream of the images there is one for each line that is drawn, in order, and each is read as
--- the full data of its line.
-pub record RunsWhole (options : OptionValues) (gave took_out took_err : List ℕ → Type 0) (status : Status)
-    : Type 0 where
+-- What the sinks took of a text: at `Ok` all that its script sends. At `Err` a sink failed in the script; or, where a read
+-- failed, they took all that is sent of the ended lines.
+abbrev pub TookText : OptionValues → (took : Channel → List ℕ → Type 0) (text : List ℕ) → Result Status RunFault → Type 0
+TookText options took text (Ok status) = Took options took (script options text)
+TookText options took text (Err Read) = Took options took (ended_script options text)
+TookText options took text (Err fault) = Stops options took (script options text) fault
+
+-- Of the one text that the source gave, the sinks took what its script sends, and the status is the script's. And what
+-- the script sends reads back.
+pub record Produces (options : OptionValues) (gave : List ℕ → Type 0) (took : Channel → List ℕ → Type 0)
+    (r : Result Status RunFault) : Type 0 where
   pub text : List ℕ
   pub given : gave text
-  pub out : took_out (images options (lines text))
-  pub err : took_err (messages_after options 0 (lines text))
-  pub status_is : status ≡ status_of options (lines text)
-  pub read : AreRead options.format options.scale (cut options.format (images options (lines text)))
-      (drawn_symbols options (lines text))
+  pub sends : TookText options took text r
+  pub status : IfOk r (λ status. status ≡ status_of (script options text))
+  pub read : ReadsBack options (script options text)
 
--- a sink failed in one of the text's lines, or in a flush after them
-abbrev pub StopsInText : OptionValues → (took_out took_err : List ℕ → Type 0) (text : List ℕ) → RunFault → Type 0
-StopsInText options took_out took_err text fault = StopsInLine options took_out took_err 0 (lines text)
-    fault ⊎ TookLines options took_out took_err 0 (lines text)
+-- what was buffered was passed on, and nothing of it is left; or that failed too, and the count of failures rises
+abbrev pub IsPassedOn : (left : List ℕ) (old new : ℕ) → Type 0
+IsPassedOn left old new = ((new ≡ old) × (left ≡ [])) ⊎ Rises old new
 
--- what the sinks took where the run stopped, of the text that the source gave
-abbrev pub RunStops : OptionValues → (took_out took_err : List ℕ → Type 0) (text : List ℕ) → RunFault → Type 0
-RunStops options took_out took_err text Read = TookLines options took_out took_err 0 (ended_lines text)
-RunStops options took_out took_err text WriteOut = StopsInText options took_out took_err text WriteOut
-RunStops options took_out took_err text WriteMessages = StopsInText options took_out took_err text WriteMessages
-RunStops options took_out took_err text Spent = ⊥
+-- The counts of failures of the source, `s`, the images' sink, `o`, and the messages' sink, `e`: at `Ok` none rises, at
+-- `Err` that of the device that failed. None does where the run made 2^64 - 1 reads, and so the text has at least that
+-- many bytes. `images` says what becomes of the images' count where another device failed.
+abbrev pub RunCounts : (images : ℕ → ℕ → Type 0) (s s' o o' e e' : ℕ) → Result Status RunFault → List ℕ → Type 0
+RunCounts images s s' o o' e e' (Ok status) text = (s' ≡ s) × (o' ≡ o) × (e' ≡ e)
+RunCounts images s s' o o' e e' (Err Read) text =
+    (Rises s s' ⊎ ((s' ≡ s) × (2 ^ 64 - 1 ≤ length text))) × images o o' × (e' ≡ e)
+RunCounts images s s' o o' e e' (Err WriteOut) text = (s' ≡ s) × Rises o o' × (e' ≡ e)
+RunCounts images s s' o o' e e' (Err WriteMessages) text = (s' ≡ s) × images o o' × Rises e e'
+RunCounts images s s' o o' e e' (Err Spent) text = ⊥
 
--- the count of failures of the device that failed rises, and no other; none does where the run made 2^64 - 1 reads, and
--- so the text has at least that many bytes
-abbrev pub RunRaises : (text : List ℕ) (source_old source_new out_old out_new err_old err_new : ℕ) → RunFault → Type 0
-RunRaises text source_old source_new out_old out_new err_old err_new Read =
-    (Rises source_old source_new ⊎ ((source_new ≡ source_old) × (2 ^ 64 - 1 ≤ length text)))
-    × (out_new ≡ out_old) × (err_new ≡ err_old)
-RunRaises text source_old source_new out_old out_new err_old err_new WriteOut =
-    (source_new ≡ source_old) × Rises out_old out_new × (err_new ≡ err_old)
-RunRaises text source_old source_new out_old out_new err_old err_new WriteMessages =
-    (source_new ≡ source_old) × (out_new ≡ out_old) × Rises err_old err_new
-RunRaises text source_old source_new out_old out_new err_old err_new Spent = ⊥
+-- One statement of a run, from the states of a source and two sinks before it to those after it: what it produces of
+-- what the source gave, whose counts of failures rise, that at `Ok` the source is at its end, and which sinks are flushed.
+pub record Runs {S O E : Type 0} (source : SourceGhosts S) (out : SinkGhosts O) (err : SinkGhosts E)
+    (images : ℕ → ℕ → Type 0) (options : OptionValues) (s s' : S) (o o' : O) (e e' : E)
+    (r : Result Status RunFault) : Type 0 where
+  pub produces : Produces options (λ text. source.gave s s' text × RunCounts images (source.failures s)
+      (source.failures s') (out.failures o) (out.failures o') (err.failures e) (err.failures e') r text)
+      (taken (out.took o o') (err.took e e')) r
+  pub ended : OnOk r ((source.at_end s' ≡ true) × source.ends s')
+  pub flushed : FlushesImagesFirst (out.is_flushed o) (out.is_flushed o') (err.is_flushed e) (err.is_flushed e') r

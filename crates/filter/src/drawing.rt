@@ -9,7 +9,7 @@ ghost use Rattle.qrdata.specs.Fewest.{chosen_segments};
 ghost use Rattle.filter.specs.Drawing.{DrawsOutcome};
 ghost use Rattle.filter.specs.Output.{image_of, text_of};
 ghost use Rattle.filter.specs.Readback.{IsRead};
-ghost use Rattle.filter.specs.Private.LineEnd.{beside, image_in};
+ghost use Rattle.filter.specs.Private.{beside, image_in};
 ghost use Rattle.filter.specs.Symbol.{linear_symbol, qr_modules, quiet_zone, symbol_of};
 
 use device::{IoFault, Sink};
