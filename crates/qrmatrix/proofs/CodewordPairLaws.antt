@@ -17,7 +17,7 @@ use Rattle.qrmatrix.specs.Square.{value_at}
 use Rattle.qrmatrix.specs.Private.Squares.{WritesTwo}
 use Rattle.qrmatrix.specs.Private.CodewordPairs.{ArePairs, ShowsTwo}
 use Rattle.qrmatrix.proofs.UnderMaskLaws.{flip_light}
-use Rattle.qrmatrix.proofs.RowBitsLaws.{and_bit, shr_bit, mod_bit, above_bit}
+use Rattle.qrmatrix.proofs.RowBitsLaws.{and_bit, shr_bit, mod_bit, above_bit, no_bit}
 
 and_all : (b : Bool) → (b && true) ≡ b
 and_all true = refl
@@ -83,17 +83,6 @@ two_shown codewords pairs i h p =
 
 -- ---- two modules of a row
 
--- two bits of a row are ones
-pub two_set : (w x : ℕ) → bit_and (w / 2 ^ x) 3 ≡ 3 → (bit w x ≡ true) × (bit w (x + 1) ≡ true)
-two_set w x e =
-    let none : 0 + x ≡ x = omega arith in
-    let one : 1 + x ≡ x + 1 = omega arith in (
-      ap (bit w) (sym none) ∙ sym (shr_bit w x 0) ∙ sym (and_all (bit (w / 2 ^ x) 0)) ∙ sym (and_bit (w / 2 ^ x) 3 0)
-          ∙ ap (λ z. bit z 0) e,
-      ap (bit w) (sym one) ∙ sym (shr_bit w x 1) ∙ sym (and_all (bit (w / 2 ^ x) 1)) ∙ sym (and_bit (w / 2 ^ x) 3 1)
-          ∙ ap (λ z. bit z 1) e,
-    )
-
 -- the bits of a number below 4 that is moved up
 up_bit : (two x a : ℕ) → two < 4 → x + 1 < 57 → a < 64 → x ≤ a → bit (two * 2 ^ x % 2 ^ 64) a ≡ bit two (a - x)
 up_bit two x a h l la g =
@@ -143,6 +132,36 @@ moved two x a h l =
                 rw (ne_eqb a x ne, ne_eqb a (x + 1) ne') (above_bit two 2 (a - x) h z)
           ]
         ]
+
+-- two bits of a row, each under a one of the number 3 moved up
+under_both : (w x c : ℕ) → x + 1 < 57 → bit (3 * 2 ^ x % 2 ^ 64) c ≡ true
+    → bit w c ≡ bit (bit_and w (3 * 2 ^ x % 2 ^ 64)) c
+under_both w x c h e =
+    sym (and_all (bit w c)) ∙ ap (λ z. bit w c && z) (sym e) ∙ sym (and_bit w (3 * 2 ^ x % 2 ^ 64) c)
+
+both_low : (x : ℕ) → x + 1 < 57 → bit (3 * 2 ^ x % 2 ^ 64) x ≡ true
+both_low x h = moved 3 x x (omega arith) h ∙ rw (eq-eqb x x refl) refl
+
+both_high : (x : ℕ) → x + 1 < 57 → bit (3 * 2 ^ x % 2 ^ 64) (x + 1) ≡ true
+both_high x h =
+    let ne : x + 1 ≢ x = λ e. omega arith in
+    moved 3 x (x + 1) (omega arith) h ∙ rw (ne_eqb (x + 1) x ne, eq-eqb (x + 1) (x + 1) refl) refl
+
+-- two bits of a row are ones
+pub both_set : (w x : ℕ) → x + 1 < 57 → bit_and w (3 * 2 ^ x % 2 ^ 64) ≡ 3 * 2 ^ x % 2 ^ 64
+    → (bit w x ≡ true) × (bit w (x + 1) ≡ true)
+both_set w x h e = (
+  under_both w x x h (both_low x h) ∙ ap (λ z. bit z x) e ∙ both_low x h,
+  under_both w x (x + 1) h (both_high x h) ∙ ap (λ z. bit z (x + 1)) e ∙ both_high x h,
+)
+
+-- two bits of a row are zeros
+pub both_clear : (w x : ℕ) → x + 1 < 57 → bit_and w (3 * 2 ^ x % 2 ^ 64) ≡ 0
+    → (bit w x ≡ false) × (bit w (x + 1) ≡ false)
+both_clear w x h e = (
+  under_both w x x h (both_low x h) ∙ ap (λ z. bit z x) e ∙ no_bit 0 x (bit_at-zero x),
+  under_both w x (x + 1) h (both_high x h) ∙ ap (λ z. bit z (x + 1)) e ∙ no_bit 0 (x + 1) (bit_at-zero (x + 1)),
+)
 
 -- two values are written on light modules
 -- `old` and `new` are the square before and after the flip in place_two, the only caller; the four facts are three

@@ -289,6 +289,22 @@ module _ {v : ℕ} (codewords : List ℕ) (old : ℕ → ℕ → Bool) (marked :
       l.row_inside l.untimed l.has marked o n h refl marks w1 k1 in
       subst (λ z. Placed v codewords old (value_at o) h z) (row_done (side_of v) s t) second
 
+  -- none of the two modules of the row is free
+  pub placed_neither : Computed v → (m : List (List Bool)) (i : ℕ)
+      → Placed v codewords old (value_at m) i (2 * side_of v * s + 2 * t)
+      → (value_at marked (right - 1) y ≡ false) × (value_at marked (right - 1 + 1) y ≡ false)
+      → Placed v codewords old (value_at m) i (2 * side_of v * s + 2 * (t + 1))
+  placed_neither c m i p taken =
+      let r = right_key v s t right y at in
+      let l = left_key v s t right y at in
+      let e : right - 1 + 1 ≡ right = right_positive v s t right y at in
+      let first = step_taken v c codewords old (value_at m) i (2 * side_of v * s + 2 * t) right y p r.inside r.row_inside
+      r.untimed r.has
+      (sym (marks.inside right y r.inside r.row_inside) ∙ ap (λ z. value_at marked z y) (sym e) ∙ taken.1) in
+      let second = step_taken v c codewords old (value_at m) i (2 * side_of v * s + 2 * t + 1) (right - 1) y first l.inside
+      l.row_inside l.untimed l.has (sym (marks.inside (right - 1) y l.inside l.row_inside) ∙ taken.0) in
+      subst (λ z. Placed v codewords old (value_at m) i z) (row_done (side_of v) s t) second
+
   -- the two modules of the row at once, where both are free
   -- `place`, the only caller, has m and i by its loop, o and `two` by two calls, and a fact by each call, its loop and
   -- its test

@@ -183,14 +183,6 @@ begins_bit w (suc i) l =
     )
     (or_none (not (beq (bit w i) (bit w (suc i)))))
 
-pub found_light : (f w i : ℕ) → w < 2 ^ 64 → i < 64
-    → bit (bit_and f (bit_not w64 w)) i ≡ (bit f i && beq (bit w i) false)
-found_light f w i h l = and_bit f (bit_not w64 w) i
-    ∙ ap (λ z. bit f i && z) (not_bit w i h l ∙ sym (beq_false (bit w i)))
-
-pub found_dark : (f w i : ℕ) → bit (bit_and f w) i ≡ (bit f i && beq (bit w i) true)
-found_dark f w i = and_bit f w i ∙ ap (λ z. bit f i && z) (sym (beq_true (bit w i)))
-
 -- all places at first
 pub all_bit : (i : ℕ) → i < 64 → bit (2 ^ 64 - 1) i ≡ true
 all_bit i l = low_bit 64 i ∙ lt-ltb i 64 l

@@ -1,14 +1,16 @@
 -- Windows of lines by bits of rows.
-use Rattle.std.proofs.Common.{◌≡◌, ℕ, ◌+◌, ◌-◌, ◌/◌, ◌^◌, ◌<◌, ◌≤◌, refl, sym, ap, ◌∙◌, arith, Bool, true}
+use Rattle.std.proofs.Common.{◌≡◌, ℕ, ◌+◌, ◌-◌, ◌<◌, ◌≤◌, refl, sym, ap, ◌∙◌, arith, Bool, true}
 use Rattle.std.proofs.Common.{false, cond, ◌&&◌, add-zero, add-one}
 use Rattle.std.specs.Bool.{beq}
+use Rattle.std.specs.Prelude.{not, ◌||◌}
+use Rattle.std.proofs.lemmas.Bool.{and_parts}
 use Rattle.qrmatrix.specs.Private.Counting.{sum_below, count_below, one_if}
 use Rattle.qrmatrix.specs.Bits.{bit}
 use Rattle.qrmatrix.specs.Penalty.{run_penalty, is_uniform, begins_run}
 use Rattle.qrmatrix.specs.Penalty.{window_points}
 use Rattle.qrmatrix.proofs.PenaltySumLaws.{run_penalty-sum}
 use Rattle.qrmatrix.proofs.SumLaws.{sum_below_same}
-use Rattle.qrmatrix.proofs.RowBitsLaws.{shr_bit}
+use Rattle.qrmatrix.proofs.RowBitsLaws.{same_beq}
 use Rattle.qrmatrix.proofs.RowSumLaws.{sum_exchanged}
 
 beq_self : (b : Bool) → beq b b ≡ true
@@ -38,17 +40,54 @@ pub count_same : (n : ℕ) (p q : ℕ → Bool) → ((i : ℕ) → i < n → p i
 count_same n p q h = sum_below_same n (λ i. one_if (p i)) (λ i. one_if (q i)) (λ i l. ap one_if (h i l))
 
 pub row_windows : (w u b n : ℕ) → n ≤ 57
-    → ((i : ℕ) → i < 64 → bit u i ≡ (((beq (bit (w / 2 ^ 1) i) (bit w i) && beq (bit (w / 2 ^ 2) i) (bit w i))
-    && beq (bit (w / 2 ^ 3) i) (bit w i)) && beq (bit (w / 2 ^ 4) i) (bit w i)))
+    → ((i : ℕ) → i < 64 → bit u i ≡ is_uniform (bit w) i 5)
     → ((i : ℕ) → i < 64 → bit b i ≡ begins_run (bit w) i)
     → sum_below (n - 4) (λ i. cond (bit u i) (1 + cond (bit b i) 2 0) 0) ≡ run_penalty n (bit w)
 row_windows w u b n l uniform begins =
     rw (run_penalty-sum n (bit w))
     (sum_below_same (n - 4) (λ i. cond (bit u i) (1 + cond (bit b i) 2 0) 0) (window_points (bit w)) (λ i h.
     let s : i < 64 = omega arith in
-    window_same (bit u i) (is_uniform (bit w) i 5) (bit b i) (begins_run (bit w) i)
-    (uniform i s ∙ rw (shr_bit w 1 i, shr_bit w 2 i, shr_bit w 3 i, shr_bit w 4 i) (sym (uniform_five (bit w) i)))
-    (begins i s)))
+    window_same (bit u i) (is_uniform (bit w) i 5) (bit b i) (begins_run (bit w) i) (uniform i s) (begins i s)))
+
+both : (Bool → Bool) → Bool
+both p = p true && p false
+
+both_at : (p : Bool → Bool) → both p ≡ true → (b : Bool) → p b ≡ true
+unfolding both
+both_at p h true = (and_parts (p true) (p false) h).0
+both_at p h false = (and_parts (p true) (p false) h).1
+
+-- no change among five modules
+steady : Bool → Bool → Bool → Bool → Bool → Bool
+steady a b c d e = not ((not (beq a b) || not (beq b c)) || (not (beq c d) || not (beq d e)))
+
+as_the_first : Bool → Bool → Bool → Bool → Bool → Bool
+as_the_first a b c d e = ((beq b a && beq c a) && beq d a) && beq e a
+
+same_steady : Bool → Bool → Bool → Bool → Bool → Bool
+same_steady a b c d e = beq (steady a b c d e) (as_the_first a b c d e)
+
+-- computed for all colours of five modules
+all_steady : both (λ a. both (λ b. both (λ c. both (λ d. both (same_steady a b c d))))) ≡ true
+unfolding both same_steady steady as_the_first
+all_steady = refl
+
+steady_is : (a b c d e : Bool) → steady a b c d e ≡ as_the_first a b c d e
+unfolding same_steady
+steady_is a b c d e =
+    same_beq _ _ (both_at (same_steady a b c d) (both_at (λ d. both (same_steady a b c d))
+    (both_at (λ c. both (λ d. both (same_steady a b c d)))
+    (both_at (λ b. both (λ c. both (λ d. both (same_steady a b c d))))
+    (both_at (λ a. both (λ b. both (λ c. both (λ d. both (same_steady a b c d))))) all_steady a) b) c) d) e)
+
+-- a row has no change among the five modules from place i
+pub row_steady : (w i : ℕ) → not ((not (beq (bit w i) (bit w (i + 1))) || not (beq (bit w (i + 1)) (bit w (i + 2))))
+    || (not (beq (bit w (i + 2)) (bit w (i + 3))) || not (beq (bit w (i + 3)) (bit w (i + 4)))))
+    ≡ is_uniform (bit w) i 5
+unfolding steady as_the_first
+row_steady w i =
+    steady_is (bit w i) (bit w (i + 1)) (bit w (i + 2)) (bit w (i + 3)) (bit w (i + 4))
+    ∙ sym (uniform_five (bit w) i)
 
 pub column_windows : (m : ℕ → ℕ → Bool) (u b y n : ℕ) → n ≤ 57
     → ((x : ℕ) → x < 64 → bit u x ≡ (((beq (m x (y + 1)) (m x y) && beq (m x (y + 2)) (m x y))

@@ -1,5 +1,5 @@
 //! The placement of the codewords: a cursor goes along the strips and counts the free modules, both modules of a
-//! strip's row at once where both are free.
+//! strip's row at once where both are free, and passes a row over where none is.
 ghost use Rattle.std.specs.Prelude.{◌≡◌, ℕ, ◌+◌, ◌*◌, ◌^◌, ◌<◌, true, false};
 ghost use Rattle.std.specs.Prelude.{IsTrue, IsFalse, List, length};
 ghost use Rattle.qrdata.specs.Versions.{side_of};
@@ -82,7 +82,17 @@ fn are_free(free: &Square, x: usize, y: usize) -> bool
     ensures { IsTrue result → (value_at free.now x y ≡ true)
         × (value_at free.now (x + 1) y ≡ true) }
 {
-    (free.row(y) >> x) & 3 == 3
+    let both = 3 << x;
+    (free.row(y) & both) == both
+}
+
+/// Returns whether one of the modules at column `x` and at the next one is free.
+fn is_one_free(free: &Square, x: usize, y: usize) -> bool
+    requires { (x + 1 < SIDE) × (y < SIDE) }
+    ensures { IsFalse result → (value_at free.now x y ≡ false)
+        × (value_at free.now (x + 1) y ≡ false) }
+{
+    (free.row(y) & (3 << x)) != 0
 }
 
 /// Writes two bits on light modules, the lower one at column `x` and the other one at the next.
@@ -118,7 +128,7 @@ pub fn place(version: Version, codewords: &Codewords, free: &Square, modules: &m
             if are_free(free, right - 1, y) {
                 place_two(two_bits(&pairs, i), modules, right - 1, y);
                 i += 2;
-            } else {
+            } else if is_one_free(free, right - 1, y) {
                 i = place_module(codewords, free, modules, right, y, i);
                 i = place_module(codewords, free, modules, right - 1, y, i);
             }

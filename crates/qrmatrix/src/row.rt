@@ -3,7 +3,7 @@ ghost use Rattle.std.specs.Prelude.{◌≡◌, ℕ, ◌+◌, ◌-◌, ◌*◌, �
 ghost use Rattle.std.specs.Bool.{beq};
 ghost use Rattle.qrmatrix.specs.Private.Counting.{sum_below, count_below};
 ghost use Rattle.qrmatrix.specs.Bits.{bit};
-ghost use Rattle.qrmatrix.specs.Penalty.{begins_run};
+ghost use Rattle.qrmatrix.specs.Penalty.{begins_run, is_uniform};
 ghost use Rattle.qrmatrix.specs.Private.PenaltyParts.{is_finder, is_light};
 
 use crate::square::SIDE;
@@ -41,6 +41,15 @@ pub fn agreeing_five(a: u64, b: u64, c: u64, d: u64, e: u64) -> u64
         && beq (bit d i) (bit a i)) && beq (bit e i) (bit a i)) }
 {
     agreeing(a, b) & agreeing(a, c) & agreeing(a, d) & agreeing(a, e)
+}
+
+/// Returns the places of a row from which five modules have the same colour.
+pub fn uniform_five(row_bits: u64) -> u64
+    ensures { (i : ℕ) → i < 64 → bit result i ≡ is_uniform (bit row_bits) i 5 }
+{
+    let changes = row_bits ^ (row_bits >> 1);
+    let changes_of_two = changes | (changes >> 1);
+    !(changes_of_two | (changes_of_two >> 2))
 }
 
 /// Returns the places at which seven rows, one after the other, have the modules of a finder pattern.

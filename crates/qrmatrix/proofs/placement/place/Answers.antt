@@ -2,12 +2,12 @@ use Rattle.std.proofs.Common.{◌≡◌, ◌-◌, ◌*◌, ◌/◌, arith, ap, s
 use Rattle.qrdata.specs.Versions.{side_of}
 use Rattle.qrmatrix.specs.Square.{value_at}
 use Rattle.qrmatrix.specs.Private.CodewordPairs.{ArePairs}
-use Rattle.qrmatrix.proofs.CursorLaws.{AtRow, AtRow-reached, Placed-moved, placed_none, placed_pair, placed_two}
+use Rattle.qrmatrix.proofs.CursorLaws.{AtRow, AtRow-reached, Placed-moved, placed_neither, placed_none, placed_pair, placed_two}
 use Rattle.qrmatrix.proofs.CursorLaws.{light_ahead}
 use Rattle.qrmatrix.proofs.VersionLaws.{computed}
 use Rattle.qrmatrix.proofs.RankLaws.{outside_at, below_at}
 use Rattle.qrmatrix.proofs.placement.place.Goals as goal
-use Rattle.qrmatrix.proofs.placement.place.Goals.{then-are_free, else-are_free}
+use Rattle.qrmatrix.proofs.placement.place.Goals.{then-are_free, else-are_free+then-is_one_free, else-are_free+else-is_one_free}
 
 pub loop-strip-init : goal.loop-strip-init
 loop-strip-init c =
@@ -41,12 +41,15 @@ loop-t-preserved c =
             (placed_two _ _ c.args.free.now c.requires.marked at known c.loop-t.modules
             w.place_two.new.modules c.loop-t.i w.two_bits.result i.placed (c.are_free.ensures w.if-are_free.true)
             (w.two_bits.ensures.bits _ i.pairs) w.place_two.ensures) (ap value_at w.modules-is) w.i-is
-        | else-are_free w ↦ Placed-moved
+        | else-are_free+then-is_one_free w ↦ Placed-moved
             (placed_pair _ _ c.args.free.now c.requires.marked at known c.loop-t.modules
-            w.place_module-i.new.modules w.place_module-i-else-are_free.new.modules c.loop-t.i w.place_module-i.result
-            w.place_module-i-else-are_free.result i.placed w.place_module-i.ensures.placed w.place_module-i.ensures.kept
-            w.place_module-i-else-are_free.ensures.placed w.place_module-i-else-are_free.ensures.kept)
+            w.place_module-i.new.modules w.place_module-i-then-is_one_free.new.modules c.loop-t.i w.place_module-i.result
+            w.place_module-i-then-is_one_free.result i.placed w.place_module-i.ensures.placed w.place_module-i.ensures.kept
+            w.place_module-i-then-is_one_free.ensures.placed w.place_module-i-then-is_one_free.ensures.kept)
             (ap value_at w.modules-is) w.i-is
+        | else-are_free+else-is_one_free w ↦ Placed-moved
+            (placed_neither _ _ c.args.free.now c.requires.marked at known c.loop-t.modules c.loop-t.i i.placed
+            (w.is_one_free.ensures w.if-is_one_free.false)) (ap value_at w.modules-is) w.i-is
       ];
       pairs = i.pairs;
       width = i.width;
