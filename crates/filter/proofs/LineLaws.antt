@@ -1,5 +1,5 @@
 -- A line's outcome, by what is returned for its symbol or its refusal.
-use Rattle.std.proofs.Common.{◌≡◌, ℕ, List, [], ◌∷◌, Result, Ok, Err, refl, ap}
+use Rattle.std.proofs.Common.{◌≡◌, ℕ, List, [], ◌∷◌, Ok, Err, refl, ap}
 use Rattle.labelcore.specs.OptionValues.{OptionValues}
 use Rattle.labelcore.specs.LineItem.{Outcome, skipped, refused, drawn, item}
 use Rattle.labelcore.specs.declared.fault.Fault.{Fault}

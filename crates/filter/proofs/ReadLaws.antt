@@ -2,12 +2,12 @@
 use Rattle.std.specs.List.{AllByRecursion, flat_map}
 use Rattle.std.specs.Prelude.{All, IfOk}
 use Rattle.std.proofs.Common.{◌≡◌, ℕ, ◌+◌, ◌*◌, ◌^◌, ◌<◌, ◌≤◌, List, [], ◌∷◌, ◌++◌, map, Some, refl, ap, arith, Result}
-use Rattle.std.proofs.Common.{Ok, Err, append_assoc, subst, sym}
+use Rattle.std.proofs.Common.{Ok, Err, subst}
 use Rattle.std.proofs.Math.Nat.{mul-pos, mul-le-mul_right}
 use Rattle.std.proofs.lemmas.List.Elements.{All-from_recursion, recursion_from_All, All-map, All-weaker}
 use Rattle.device.specs.Lines.{lines}
 use Rattle.device.proofs.LinesLaws.{AllOf-lines}
-use Rattle.labelcore.specs.LineItem.{Outcome, skipped, refused, drawn, outcome_of}
+use Rattle.labelcore.specs.LineItem.{skipped, refused, drawn, outcome_of}
 use Rattle.labelcore.specs.OptionValues.{OptionValues}
 use Rattle.labelcore.specs.declared.fault.Fault.{Fault}
 use Rattle.labelcore.specs.declared.options.Format.{Format}

@@ -1,6 +1,5 @@
-use Rattle.std.proofs.Common.{◌≡◌, ◌∙◌, ℕ, [], ◌∷◌, ap, refl, sym, subst}
+use Rattle.std.proofs.Common.{◌∙◌, ℕ, [], ap, refl, sym, subst}
 use Rattle.labelcore.specs.ItemView.{item_seen}
-use Rattle.labelcore.specs.LineItem.{refused}
 use Rattle.filter.specs.Filter.{CountsFault, taken}
 use Rattle.filter.specs.Output.{Images, image_of, of_line, outcome_of_item}
 use Rattle.filter.proofs.LineLaws.{drawn_message, drawn_status, outcome-item, refused_outcome, refused_status}
