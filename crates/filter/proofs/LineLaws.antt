@@ -1,16 +1,18 @@
 -- A line's outcome, by what is returned for its symbol or its refusal.
-use Rattle.std.proofs.Common.{◌≡◌, ℕ, List, [], ◌∷◌, Result, Ok, Err, refl, ap}
+use Rattle.std.proofs.Common.{◌≡◌, ℕ, List, [], ◌∷◌, Ok, Err, refl, ap, sym}
 use Rattle.labelcore.specs.OptionValues.{OptionValues}
-use Rattle.labelcore.specs.LineItem.{Outcome, skipped, refused, drawn, item}
+use Rattle.labelcore.specs.LineItem.{Outcome, Request, skipped, refused, drawn, item}
 use Rattle.labelcore.specs.declared.fault.Fault.{Fault}
 use Rattle.filter.specs.Drawing.{refusal_of}
 use Rattle.filter.specs.Output.{message_of, of_line, outcome, outcome_of_item, status_of}
 use Rattle.filter.specs.Symbol.{Symbol}
 use Rattle.filter.specs.declared.status.Status.TheVariants.{Clean, Refused}
 
-pub outcome-item : (options : OptionValues) (line : List ℕ) → outcome options line ≡ outcome_of_item (item options line)
+-- what is drawn of a line, by its item
+pub outcome-seen : (options : OptionValues) (line : List ℕ) (seen : Outcome Request) → seen ≡ item options line
+    → outcome options line ≡ outcome_of_item seen
 unfolding outcome
-outcome-item options line = refl
+outcome-seen options line seen same = ap outcome_of_item (sym same)
 
 -- a line that is not refused
 pub drawn_status : (number : ℕ) (o : Outcome Symbol) → refusal_of o ≡ Ok tt → Clean ≡ status_of (of_line number o ∷ [])

@@ -2,12 +2,12 @@
 use Rattle.std.specs.List.{AllByRecursion, flat_map}
 use Rattle.std.specs.Prelude.{All, IfOk}
 use Rattle.std.proofs.Common.{◌≡◌, ℕ, ◌+◌, ◌*◌, ◌^◌, ◌<◌, ◌≤◌, List, [], ◌∷◌, ◌++◌, map, Some, refl, ap, arith, Result}
-use Rattle.std.proofs.Common.{Ok, Err, append_assoc, subst, sym}
+use Rattle.std.proofs.Common.{Ok, Err, subst}
 use Rattle.std.proofs.Math.Nat.{mul-pos, mul-le-mul_right}
 use Rattle.std.proofs.lemmas.List.Elements.{All-from_recursion, recursion_from_All, All-map, All-weaker}
 use Rattle.device.specs.Lines.{lines}
 use Rattle.device.proofs.LinesLaws.{AllOf-lines}
-use Rattle.labelcore.specs.LineItem.{Outcome, skipped, refused, drawn, outcome_of}
+use Rattle.labelcore.specs.LineItem.{skipped, refused, drawn, outcome_of}
 use Rattle.labelcore.specs.OptionValues.{OptionValues}
 use Rattle.labelcore.specs.declared.fault.Fault.{Fault}
 use Rattle.labelcore.specs.declared.options.Format.{Format}
@@ -29,19 +29,13 @@ use Rattle.filter.specs.Symbol.{Symbol, quiet_zone, symbol_of}
 use Rattle.filter.proofs.ReadableLaws.{IsReadable, HasReadable, symbol_readable, outcome_readable}
 
 -- the quiet zones are narrow
-zone_columns : (symbology : Symbology) → (quiet_zone symbology).left + (quiet_zone symbology).right ≤ 20
-zone_columns Ean13 = omega arith
-zone_columns Ean8 = omega arith
-zone_columns UpcA = omega arith
-zone_columns Code128 = omega arith
-zone_columns Qr = omega arith
-
-zone_rows : (symbology : Symbology) → (quiet_zone symbology).top + (quiet_zone symbology).bottom ≤ 8
-zone_rows Ean13 = omega arith
-zone_rows Ean8 = omega arith
-zone_rows UpcA = omega arith
-zone_rows Code128 = omega arith
-zone_rows Qr = omega arith
+zone_small : (symbology : Symbology) → ((quiet_zone symbology).left + (quiet_zone symbology).right ≤ 20)
+    × ((quiet_zone symbology).top + (quiet_zone symbology).bottom ≤ 8)
+zone_small Ean13 = (omega arith, omega arith)
+zone_small Ean8 = (omega arith, omega arith)
+zone_small UpcA = (omega arith, omega arith)
+zone_small Code128 = (omega arith, omega arith)
+zone_small Qr = (omega arith, omega arith)
 
 small_sum : (a b c : ℕ) → a + c ≤ 20 → b ≤ 1815 → a + b + c ≤ 1840
 small_sum a b c few narrow = omega arith
@@ -66,9 +60,9 @@ module _ (options : OptionValues) (range : AreInRange options) where
   drawable symbol h =
       let zone = quiet_zone symbol.symbology in
       let wide : zone.left + symbol.modules.width + zone.right ≤ 1840 =
-      small_sum zone.left symbol.modules.width zone.right (zone_columns symbol.symbology) (omega (arith, h.columns)) in
+      small_sum zone.left symbol.modules.width zone.right (zone_small symbol.symbology).0 (omega (arith, h.columns)) in
       let tall : zone.top + symbol.modules.height + zone.bottom ≤ 1840 =
-      small_sum zone.top symbol.modules.height zone.bottom (omega (arith, zone_rows symbol.symbology))
+      small_sum zone.top symbol.modules.height zone.bottom (omega (arith, (zone_small symbol.symbology).1))
       (omega (arith, h.rows)) in
       record {
         some = mul-pos (some_sum zone.left symbol.modules.width zone.right h.some_columns) range.scale_low;

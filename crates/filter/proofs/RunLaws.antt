@@ -1,17 +1,17 @@
 -- From the calls of a filter to a run over a whole input.
-use Rattle.std.proofs.Common.{◌≡◌, ◌≢◌, ℕ, Result, Ok, Err, List, [], ◌∷◌, ◌++◌, Bool, subst, sym, ◌∙◌, take, refl}
+use Rattle.std.proofs.Common.{◌≡◌, ◌≢◌, ℕ, Result, Ok, Err, List, ◌∷◌, ◌++◌, Bool, subst, sym, ◌∙◌, take, refl}
 use Rattle.std.specs.Prelude.{MatchResult, OnOk}
 use Rattle.std.proofs.lemmas.List.{append-nil}
 use Rattle.device.specs.Device.{Rises, Unflushed}
 use Rattle.labelcore.specs.OptionValues.{OptionValues}
-use Rattle.filter.specs.Filter.{CountsFault, FlushesImagesFirst, Stops, Took, fault_of, taken}
+use Rattle.filter.specs.Filter.{CountsFault, FlushesImagesFirst, Stops, Took, fault_of}
 use Rattle.filter.specs.Output.{Channel, Event, Images, Messages, ended_script, script}
 use Rattle.filter.specs.Run.{TookText, RunCounts, IsPassedOn}
 use Rattle.filter.specs.declared.status.RunFault.{RunFault}
 use Rattle.filter.specs.declared.status.RunFault.TheVariants.{Read, WriteOut, WriteMessages, Spent}
 use Rattle.filter.specs.declared.status.Status.{Status}
 use Rattle.filter.proofs.OutputLaws.{some_later}
-use Rattle.filter.proofs.ScriptLaws.{Sends-whole, Stops-by, Stops-longer, Took-by}
+use Rattle.filter.proofs.ScriptLaws.{Stops-by, Stops-longer, Took-by}
 
 -- where the call returned, a fact
 pub at_ok : {T E : Type 0} {P : Type 0} (r : Result T E) → P → OnOk r P

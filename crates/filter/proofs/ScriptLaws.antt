@@ -81,6 +81,11 @@ module _ (options : OptionValues) where
       others = widen (other s.failed) (sent options (other s.failed) s.done) s.others;
     }
 
+  -- a call that sends all of a script
+  pub Sends-all : {T : Type 0} {took : Channel → List ℕ → Type 0} {r : Result T RunFault} (events : List Event)
+      → MatchResult r (λ _. Took options took events) (Stops options took events) → Sends options took [] events r
+  Sends-all events s = record { added = events; grown = refl; sends = s }
+
   -- a line's or a flush's part of a script
   pub Sends-ok : {T U : Type 0} {took : Channel → List ℕ → Type 0} {events : List Event} {x : T} (y : U)
       (before after : List Event) → after ≡ before ++ events → Sends {T = T} options took [] events (Ok x)

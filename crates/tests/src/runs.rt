@@ -1,4 +1,5 @@
 //! Worked labels, devices, hostile use: the filter as a whole.
+mod after_a_fault;
 mod buffered_output;
 mod device_rows;
 mod entry_points;

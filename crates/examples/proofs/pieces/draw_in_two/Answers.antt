@@ -1,8 +1,8 @@
-use Rattle.std.proofs.Common.{◌≡◌, ◌∙◌, ◌<◌, ℕ, List, All, [], ◌∷◌, ◌++◌, Ok, Err, arith, refl, subst, sym}
+use Rattle.std.proofs.Common.{◌∙◌, ◌<◌, All, [], ◌++◌, Ok, Err, arith, refl, subst, sym}
 use Rattle.std.proofs.lemmas.List.Elements.{All-append, All-from_get_or}
 use Rattle.std.proofs.lemmas.Result.{err_from_is_err_and}
 use Rattle.filter.specs.Output.{ended_script, script}
-use Rattle.filter.specs.Filter.{CountsFault, Stops, Took, taken}
+use Rattle.filter.specs.Filter.{Stops, Took, taken}
 use Rattle.filter.proofs.OutputLaws.{ended_script-nil, ended_script-more}
 use Rattle.filter.proofs.ReadLaws.{script_of_text_read}
 use Rattle.filter.proofs.RunLaws.{CountsFault-after, Stops-later, TookText-sinks}
