@@ -1,7 +1,7 @@
 //! Generator polynomials and the error correction codewords of a block (ISO/IEC 18004, 7.5.2 and annex A).
 ghost use Rattle.gf256.specs.Field.{alpha, field_power};
-ghost use Rattle.gf256.specs.ErrorCorrection.{AreEcCodewords, IsEcCodewordCount, EcCodewordsAreRemainder};
-ghost use Rattle.gf256.specs.ErrorCorrection.{RemaindersHaveRoots, generator, next_register};
+ghost use Rattle.gf256.specs.ErrorCorrection.{AreEcCodewords, IsEcCodewordCount, generator};
+ghost use Rattle.gf256.specs.ErrorCorrection.{next_register};
 ghost use Rattle.gf256.specs.Polynomial.{polynomial_sum, scalar_multiple};
 ghost use Rattle.gf256.specs.Private.{HasPlaces, zeros};
 ghost use Rattle.std.specs.Prelude.{◌≡◌, ◌<◌, ℕ, ◌∷◌, ◌++◌, drop, length, map};
@@ -101,10 +101,3 @@ fn add_multiple(logarithm: u8, logarithms: &[u8], register: &mut [u8])
         register[j] ^= product_of_powers(logarithm, logarithms[j]);
     }
 }
-
-/// Proves, for crates above, that the error correction codewords of the definition are a remainder by the generator
-/// polynomial, and that a block followed by a remainder is a multiple of it. It does nothing when it runs.
-pub fn ec_codewords_are_sound()
-    ensures remainder { EcCodewordsAreRemainder }
-    ensures roots { RemaindersHaveRoots }
-{}

@@ -2,7 +2,7 @@
 mod listings;
 mod thresholds;
 
-use linear::{Code128, Ean8, Ean13, Linear, Refusal, Row, UpcA, coding_laws};
+use linear::{Code128, Ean8, Ean13, Linear, Refusal, Row, UpcA};
 use std::process::Abort;
 
 /// Draws data over an old row. Returns what the symbology returned, and the row.
@@ -171,5 +171,4 @@ fn quiet_zones_and_laws(rt: HostRuntime) {
             && has_quiet_zones::<UpcA>(9, 9)
             && has_quiet_zones::<Code128>(10, 10)
     );
-    coding_laws();
 }

@@ -4,10 +4,7 @@ ghost use Rattle.std.specs.Prelude.{◌≤◌};
 use crate::layers::support::{flushes, gives, gives_none, takes, takes_some};
 use crate::runs::support::{DEFAULT, LOW, Named};
 use device::{FailAt, MemSink, MemSource};
-use labelcore::{
-    Fault, Format, Item, LineBuf, Options, Scratch, Symbology, first_bad_settings, items_of_lines,
-    lines_of_texts, parse, units_of_data, write_fault,
-};
+use labelcore::{Fault, Format, Item, LineBuf, Options, Scratch, Symbology, parse, write_fault};
 use qrdata::Level;
 use std::process::Abort;
 
@@ -66,7 +63,6 @@ fn lines_are_held(rt: HostRuntime) {
             && !long_line(b'a', 1099).is_too_long()
             && long_line(b'a', 1100).is_too_long()
     );
-    lines_of_texts();
 }
 
 /// The first byte of a line, how many letters follow it, and why the line is refused; a comment is skipped.
@@ -183,9 +179,6 @@ const DRAWN: &[(Named, &[u8], Symbology, Named, &[u8])] = &[
 
 #[test]
 fn lines_are_drawn(rt: HostRuntime) {
-    items_of_lines();
-    first_bad_settings();
-    units_of_data();
     for (given, line, symbology, own, data) in DRAWN {
         let mut scratch = Scratch::new();
         let line = held(line);

@@ -5,7 +5,7 @@ mod widths;
 
 use crate::runs::support::{has_lines_of, line_ends};
 use device::MemSink;
-use picture::{Bars, Framed, Grid, QuietZone, Scaled, reading_laws, write_ascii, write_pbm};
+use picture::{Bars, Framed, Grid, QuietZone, Scaled, write_ascii, write_pbm};
 
 /// The modules of the symbol of `ean8 7351353`.
 const EAN8_MODULES: &[u8; 67] =
@@ -132,7 +132,6 @@ fn larger_pixels_are_asked(rt: HostRuntime) {
     pixels[8] = true;
     pixels[9] = true;
     assert!(rt; has_row(&scaled, 5, &pixels));
-    reading_laws();
 }
 
 /// Whether a sink of up to `limit` bytes, which takes `piece` bytes a call, gets the beginning of a grid's plain PBM,
