@@ -9,11 +9,13 @@ mod ascii;
 mod bars;
 mod framed;
 mod grid;
+mod kept_rows;
 mod matrix;
 mod pbm;
 mod quiet_zone;
 mod rows;
 mod scaled;
+mod wide_rows;
 
 pub use ascii::write_ascii;
 pub use bars::Bars;
