@@ -178,6 +178,21 @@ cells_of_two_colours : map (λ place. sample (changed cells place) 2 beside) (ra
 unfolding sample changed
 cells_of_two_colours = refl
 
+-- cells below one another, a light one and then a light and a dark module
+abbrev above : QuietZone
+above = record { left = 0; right = 0; top = 1; bottom = 0 }
+
+abbrev column : Raster
+column = record { width = 2; height = 6; rows = replicate 4 (replicate 2 false) ++ replicate 2 (replicate 2 true) }
+
+column_sampled : sample column 2 above ≡ Some ((false ∷ []) ∷ (true ∷ []) ∷ [])
+unfolding sample
+column_sampled = refl
+
+column_of_two_colours : map (λ place. sample (changed column place) 2 above) (range_with_len 0 12) ≡ replicate 12 None
+unfolding sample changed
+column_of_two_colours = refl
+
 -- a width or a height that is no multiple of the scale, and a picture that is smaller than its quiet zone
 abbrev light : ℕ → ℕ → Raster
 light width height = record { width = width; height = height; rows = replicate height (replicate width false) }
