@@ -133,7 +133,7 @@ class Believed(InCopy):
         begin = text.index("    ensures ", text.index("pub fn run_streams"))
         self.change("crates/filter/src/streams.rt", text[begin : text.index("    ensures ", begin + 1)], "")
         status, said = self.check()
-        self.assertEqual((status, "contract `run_streams`" in said), (1, True), said)
+        self.assertEqual((status, "is not what the files give" in said), (1, True), said)
 
     def test_a_definition_that_is_gone(self):
         self.change("crates/labelcore/specs/HeldLine.antt", "pub line_limit :", "pub line_bound :")
