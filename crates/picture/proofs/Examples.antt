@@ -217,6 +217,24 @@ one_row : map (λ texts. common_row (rows_of texts)) ((codes "101" ∷ codes "10
     Some (true ∷ false ∷ true ∷ []) ∷ None ∷ None ∷ None ∷ None ∷ []
 one_row = refl
 
+-- ---- quiet zones
+
+-- a picture of two by three pixels with another width on each side, and one that is dark beyond its own size too
+abbrev four_widths : QuietZone
+four_widths = record { left = 1; right = 2; top = 3; bottom = 1 }
+
+in_quiet_zones : map (λ (dark : ℕ → ℕ → Bool).
+    raster (with_quiet_zone (record { width = 2; height = 3; dark = dark }) four_widths))
+    (value_at (rows_of (codes "10" ∷ codes "01" ∷ codes "11" ∷ [])) ∷ (λ x y. true) ∷ []) ≡
+    map (λ texts. record { width = 5; height = 7; rows = rows_of texts })
+    ((codes "00000" ∷ codes "00000" ∷ codes "00000" ∷ codes "01000" ∷ codes "00100" ∷ codes "01100" ∷ codes "00000" ∷ [])
+    ∷ (codes "00000" ∷ codes "00000" ∷ codes "00000" ∷ codes "01100" ∷ codes "01100" ∷ codes "01100" ∷ codes "00000" ∷ [])
+    ∷ [])
+in_quiet_zones = refl
+
+beside_bars : (bars (true ∷ []) 1).dark 1 0 ≡ false
+beside_bars = refl
+
 -- light beside the picture
 beside_pixels : map (λ y. value_at (raster (bars (true ∷ []) 1)).rows 1 y) (0 ∷ 1 ∷ []) ≡ false ∷ false ∷ []
 beside_pixels = refl

@@ -1,6 +1,6 @@
 -- Modules of QR symbols one by one (ISO/IEC 18004, 6.3, 7.7, 7.9 and 7.10): what each is there for, the order of
 -- placement, and symbols with one wrong module, which are not read.
-use Rattle.std.specs.Prelude.{◌≡◌, ℕ, ◌+◌, ◌-◌, ◌*◌, ◌^◌, ◌==◌, nat_lt, refl, Bool, true, false, List, [], ◌∷◌, ◌++◌, map}
+use Rattle.std.specs.Prelude.{◌≡◌, ℕ, ◌+◌, ◌-◌, ◌*◌, ◌/◌, ◌%◌, ◌^◌, ◌==◌, nat_lt, refl, Bool, true, false, List, [], ◌∷◌, ◌++◌, map}
 use Rattle.std.specs.Prelude.{Option, None, Some, codes, slice_index, slice_set, bit_xor, replicate, if◌then◌else◌, zip}
 use Rattle.std.specs.List.{range_with_len}
 use Rattle.gf256.specs.BinaryPolynomial.{binary_remainder}
@@ -248,6 +248,19 @@ both_formats_changed : map (λ (p : (ℕ × ℕ) × (ℕ × ℕ)). format (chang
     replicate 15 None
 unfolding format rows copies changed
 both_formats_changed = refl
+
+-- the rows with the bits of a number changed in both copies
+laid : ℕ → List ((ℕ × ℕ) × (ℕ × ℕ)) → List ℕ → List ℕ
+laid number [] rows = rows
+laid number (p ∷ ps) rows =
+    laid (number / 2) ps (if number % 2 == 1 then changed (changed rows p.0) p.1 else rows)
+
+-- format information of each level (Annex C) in place of the symbol's own, 0x2183
+formats_of_levels : map (λ n. format (laid (bit_xor 0x2183 n) (zip copies.0 copies.1) rows))
+    (0x6318 ∷ 0x77C4 ∷ 0x4AA0 ∷ 0x355F ∷ 0x0255 ∷ 0x19D0 ∷ []) ≡
+    Some (L, 5) ∷ Some (L, 0) ∷ Some (M, 7) ∷ Some (Q, 0) ∷ Some (H, 5) ∷ Some (H, 3) ∷ []
+unfolding format rows copies changed laid
+formats_of_levels = refl
 
 -- the modules of two copies of version information in version 7: bit i is in row i / 3 above and in column i / 3 at the
 -- left (ISO/IEC 18004, 7.10)
