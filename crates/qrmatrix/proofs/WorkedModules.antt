@@ -197,8 +197,10 @@ shown places = map (λ p. shows_functions 2 Q 5 (modules_of (changed rows p))) p
 -- each ring of the three finder patterns and their separators
 finders_changed : shown (
     (3, 3) ∷ (2, 3) ∷ (1, 3) ∷ (0, 3) ∷ (7, 3) ∷ (3, 7) ∷ (0, 0) ∷ (6, 6) ∷ (7, 7) ∷ (21, 3) ∷ (21, 2) ∷ (21, 5) ∷
-    (24, 3) ∷ (17, 3) ∷ (21, 7) ∷ (24, 0) ∷ (17, 7) ∷ (3, 21) ∷ (4, 21) ∷ (5, 21) ∷ (3, 24) ∷ (3, 17) ∷ (7, 21) ∷ (0,
-    24) ∷ (7, 17) ∷ []) ≡ replicate 25 false
+    (24, 3) ∷ (17, 3) ∷ (21, 7) ∷ (24, 0) ∷ (17, 7) ∷ (3, 21) ∷ (4, 21) ∷ (5, 21) ∷ (3, 24) ∷ (3, 17) ∷ (7, 21) ∷ (
+      0,
+      24,
+    ) ∷ (7, 17) ∷ []) ≡ replicate 25 false
 unfolding shown rows modules_of changed shows_functions fixed_module role format_information binary_remainder
 finders_changed = refl
 
@@ -226,10 +228,13 @@ not_as_told = (refl, refl, refl)
 -- the places of bits 0 to 14 in the first copy and in the second one (ISO/IEC 18004, 7.9)
 copies : List (ℕ × ℕ) × List (ℕ × ℕ)
 copies = (
-    (8, 0) ∷ (8, 1) ∷ (8, 2) ∷ (8, 3) ∷ (8, 4) ∷ (8, 5) ∷ (8, 7) ∷ (8, 8) ∷ (7, 8) ∷ (5, 8) ∷ (4, 8) ∷ (3, 8) ∷ (2, 8)
-    ∷ (1, 8) ∷ (0, 8) ∷ [],
-    (24, 8) ∷ (23, 8) ∷ (22, 8) ∷ (21, 8) ∷ (20, 8) ∷ (19, 8) ∷ (18, 8) ∷ (17, 8) ∷ (8, 18) ∷ (8, 19) ∷ (8, 20) ∷ (8,
-    21) ∷ (8, 22) ∷ (8, 23) ∷ (8, 24) ∷ [])
+  (8, 0) ∷ (8, 1) ∷ (8, 2) ∷ (8, 3) ∷ (8, 4) ∷ (8, 5) ∷ (8, 7) ∷ (8, 8) ∷ (7, 8) ∷ (5, 8) ∷ (4, 8) ∷ (3, 8) ∷ (2, 8)
+      ∷ (1, 8) ∷ (0, 8) ∷ [],
+  (24, 8) ∷ (23, 8) ∷ (22, 8) ∷ (21, 8) ∷ (20, 8) ∷ (19, 8) ∷ (18, 8) ∷ (17, 8) ∷ (8, 18) ∷ (8, 19) ∷ (8, 20) ∷ (
+    8,
+    21,
+  ) ∷ (8, 22) ∷ (8, 23) ∷ (8, 24) ∷ [],
+)
 
 format : List ℕ → Option (Level × ℕ)
 unfolding modules_of read_format number_of binary_remainder
