@@ -577,16 +577,22 @@ class Hostile(WorkbookTest):
     def test_huge_cells_rows_and_nesting_take_no_memory(self) -> None:
         size = 60_000_000
         bombs = {
-            "a cell": (rows(["EAN"], ["x" * size]), "has a cell of more than 131068 characters"),
+            "a cell": (
+                rows(["EAN"], ["x" * size]),
+                "has more than 16384 columns, 131068 characters in a cell, or elements 100 deep",
+            ),
             "a tag": (f'<row r="1" x="{"x" * size}"/>', "has an element of more than 2 MB"),
             "cells": (
                 f'<row r="1">{"<c/>" * (size // 4)}</row>',
-                "has more than 16384 columns, or elements more than 100 deep",
+                "has more than 16384 columns, 131068 characters in a cell, or elements 100 deep",
             ),
-            "depth": ("<a>" * (size // 3), "has more than 16384 columns, or elements more than 100 deep"),
+            "depth": (
+                "<a>" * (size // 3),
+                "has more than 16384 columns, 131068 characters in a cell, or elements 100 deep",
+            ),
             "texts": (
                 f"<row><c><is>{'<t/>' * (size // 4)}</is></c></row>",
-                "has a cell of more than 131068 characters",
+                "has more than 16384 columns, 131068 characters in a cell, or elements 100 deep",
             ),
             "column": (
                 f'<row r="1">{cell("EAN", "XFE1")}</row>',
@@ -622,7 +628,10 @@ class Hostile(WorkbookTest):
         long = f'<table:table-row table:number-rows-repeated="1000000000">{ods_cell("x")}</table:table-row>'
         self.refused(ods(table(["EAN"], end=long)), f"{limits} 2")
         spaces = ods_cell("<text:s text:c='1000000000'/>")
-        self.refused(ods(table(["EAN"], [spaces])), "has a cell of more than 131068 characters")
+        self.refused(
+            ods(table(["EAN"], [spaces])),
+            "has more than 16384 columns, 131068 characters in a cell, or elements 100 deep",
+        )
 
     def test_more_merged_cells_than_a_sheet_has(self) -> None:
         merges = "".join(f'<mergeCell ref="A{row}:B1000000"/>' for row in range(1, 300))
