@@ -39,9 +39,11 @@ TRUTH = Fault("has a truth value (TRUE, FALSE): write it as text")
 SAVE_AGAIN = "open it in the spreadsheet and save it again"
 
 Attributes = Dict[str, str]
-Cell = Tuple[Attributes, List[Tuple[str, str]]]  # the elements of text in a cell, each with its name
+Texts = List[Tuple[str, str]]  # the elements of text in a cell, each with its name
+Cell = Tuple[Attributes, Texts]
 Record = Tuple[str, Attributes, List[Cell]]
 Names = Sequence[str]
+NumberOf = Callable[[str, int], Number]  # of a value and the number of its style
 
 
 class Sheet(NamedTuple):
@@ -266,9 +268,7 @@ def formats_of(archive: ZipFile, path: str) -> List[str]:
     return styles
 
 
-def xlsx_rows(
-    archive: ZipFile, path: str, strings: List[str], number_of: Callable[[str, int], Number]
-) -> Iterator[Row]:
+def xlsx_rows(archive: ZipFile, path: str, strings: List[str], number_of: NumberOf) -> Iterator[Row]:
     """Yields the rows of a sheet of .xlsx; the merged cells are below the rows in the file, and are read first."""
     coming = merges_of(archive, path)
     merges: List[Merge] = []
@@ -301,9 +301,7 @@ def merges_of(archive: ZipFile, path: str) -> List[Merge]:
     return sorted(merges, reverse=True)
 
 
-def xlsx_cell(
-    attributes: Attributes, texts: List[Tuple[str, str]], strings: List[str], number_of: Callable[[str, int], Number]
-) -> str:
+def xlsx_cell(attributes: Attributes, texts: Texts, strings: List[str], number_of: NumberOf) -> str:
     """Returns a cell by its type, and its value, if there is one."""
     kind = attributes.get("t", "n")
     values = [text for tag, text in texts if tag != "f"]
