@@ -39,7 +39,7 @@ class Completion(unittest.TestCase):
         self.assertEqual(self.proposed("labels", "--height", ""), [])
 
     def test_options_of_the_tools(self) -> None:
-        self.assertEqual(self.proposed("label-table", "--de"), ["--delimiter"])
+        self.assertEqual(self.proposed("label-table", "--deci"), ["--decimal"])
         self.assertEqual(self.proposed("label-sheet", "--ca"), ["--captions"])
         self.assertEqual(self.proposed("label-zpl", "-"), ["--help"])
         self.assertEqual(self.proposed("label-zpl", ""), [])
