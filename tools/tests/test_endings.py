@@ -231,7 +231,7 @@ class Signals(unittest.TestCase):
                     runs = []
 
     def stopped(self, run: subprocess.Popen, reader: int, size: int, number: int) -> bytes:
-        """The output of a run that gets a signal after so many bytes of it were read."""
+        """The output of a run that gets a signal after `size` bytes of it were read."""
         found = b""
         while len(found) < size and (part := os.read(reader, min(4096, size - len(found)))):
             found += part
