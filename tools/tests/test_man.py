@@ -30,12 +30,12 @@ class Pages(unittest.TestCase):
                 self.assertEqual(done.stdout + done.stderr, "", page)
 
     def test_each_tool_is_named_and_each_option_described(self) -> None:
-        self.assertIn("label-zpl", TOOLS)
+        self.assertIn("label-print", TOOLS)
         for tool in TOOLS:
             text = text_of(page_of(tool))
             name = re.search(r"^\.SH NAME\n(.*?)^\.SH", text, re.DOTALL | re.MULTILINE)
             self.assertIn(tool, name.group(1) if name else "", tool)
-            usage = support.run_here(tool, "--help").stdout.decode()
+            usage = support.run(tool, "--help").stdout.decode()
             options = set(re.findall(r"(?<![\w-])--[a-z][a-z-]*", usage))
             self.assertIn("--help", options, tool)
             self.assertEqual([option for option in options if option not in text], [], tool)
