@@ -16,8 +16,7 @@
 # the table says, or where a table lacks a row, has one that is no number, or one that is not measured here. A
 # row that takes more than 5 % less is no failure: a note says that the table is out of date.
 #
-# Status 2: bad arguments, no such program, or a count that failed. Status 77: valgrind is not installed, nothing was
-# counted.
+# Status 2: bad arguments, no such program, no valgrind, or a count that failed.
 # shellcheck disable=SC2016  # names of rows have backticks
 set -euo pipefail
 shopt -s inherit_errexit
@@ -26,7 +25,7 @@ usage() { sed -n '/^# usage: /,/^#$/s/^# \{0,1\}//p' "$0" | sed '/^$/d'; }
 
 stop() {
     echo "$0: $1" >&2
-    exit "${2:-2}"
+    exit 2
 }
 
 top=$(cd "$(dirname "$0")/.." && pwd)
@@ -53,7 +52,7 @@ done
 
 has() { command -v "$1" > /dev/null; }
 
-has valgrind || stop "skipped, nothing was counted: not installed: valgrind" 77
+has valgrind || stop 'not installed: valgrind'
 labels=${labels:-$top/crates/labels/out/labels}
 if ! [ -f "$labels" ] || ! [ -x "$labels" ]; then
     stop "$labels is no program: run 'rt run < /dev/null' in crates/labels, or name another one"

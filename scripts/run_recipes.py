@@ -15,11 +15,10 @@ runs in labels.1 alone, since those of the other man pages name files and printe
 A block ```sh kit calls the kit, which proves for minutes, and may print anything. It runs with --kit alone, in a fresh
 clone of what is committed, README.md first, and the other pages with the program that it builds.
 
-Besides, the pictures that RECIPES.md makes must be those of docs/pictures, pixel for pixel; each link from one file of
-the repository to another must lead to a file and a heading; mandoc and groff must find nothing in the man pages; and
-each option of a help text must be in its man page and in the completion, where there is one. The last line is `N of N
-as printed`; where one is not, the status is 1. Where a third-party program of the pages is missing, the script names
-it and ends with status 77. Bad arguments and a program that is not there end with status 2.
+Besides, the pictures that RECIPES.md makes must be those of docs/pictures, pixel for pixel, and each link from one
+file of the repository to another must lead to a file and a heading. The last line is `N of N as printed`; where one is
+not, the status is 1. The packages of scripts/packages.txt have what the pages call. Bad arguments and a program that
+is not there end with status 2.
 """
 
 import argparse
@@ -31,24 +30,16 @@ import sys
 import tempfile
 import time
 from pathlib import Path
-from typing import Dict, Iterator, List, NamedTuple, Optional, Tuple
+from typing import Dict, List, NamedTuple, Optional
 
 TOP = Path(__file__).resolve().parent.parent
 PROGRAM = "crates/labels/out/labels"
 PAGES = ("README.md", "docs/INPUT.md", "docs/PRINTING.md", "docs/RECIPES.md")
 FOLDERS = ("man", "completions", "tools", "docs", "scripts")
-THIRD_PARTY = (
-    *("man", "mandoc", "groff", "bash", "awk", "csplit", "pv", "parallel"),
-    *("pamfile", "pbmtext", "pngtopnm", "pnmpad", "pnmtopng", "pnmtops"),
-    *("zbarimg", "pdfinfo", "pdftoppm"),
-)
 SECONDS = 3600
-SKIPPED = 77
 PROMPT, CONTINUED = "$ ", "> "
 
-# the man page of each tool; the tools that have none of their own share one
-MAN_PAGES = {"labels": "labels.1", "label-sheet": "label-sheet.1", "label-table": "label-table.1"}
-SHARED_MAN_PAGE = "label-tools.1"
+MAIN_MAN_PAGE = "labels.1"
 
 BLOCK = re.compile(r"^```(sh|sh kit)\n(.*?)^```\n(?:\n*^```text\n(.*?)^```$)?", re.MULTILINE | re.DOTALL)
 ANY_BLOCK = re.compile(r"^```.*?^```$", re.MULTILINE | re.DOTALL)
@@ -149,6 +140,7 @@ class Run:
         else:
             for part in FOLDERS:
                 shutil.copytree(TOP / part, work / part, ignore=shutil.ignore_patterns("__pycache__"))
+            shutil.copy(TOP / "CHANGELOG.md", work)
         (work / PROGRAM).parent.mkdir(parents=True, exist_ok=True)
         for name in ("bin", "home"):
             (folder / name).mkdir()
@@ -200,40 +192,13 @@ class Run:
                 self.judge(is_good, f"{page.relative_to(TOP)}: a link to {path}#{anchor} leads nowhere")
 
     def try_man_pages(self) -> None:
-        """Lets mandoc and groff read each man page, and runs its examples."""
+        """Runs the examples of each man page."""
         for page in sorted((TOP / "man").glob("*.1")):
-            for arguments in (
-                ["mandoc", "-Tlint", "-W", "warning"],
-                ["groff", "-ww", "-man", "-z"],
-                ["groff", "-ww", "-man", "-Tascii", "-z"],
-            ):
-                ran = subprocess.run([*arguments, page], capture_output=True, text=True)
-                self.judge(not ran.stdout + ran.stderr, f"{' '.join(arguments)} {page}:\n{ran.stdout}{ran.stderr}")
             blocks = examples_of(page)
-            if page.name != MAN_PAGES["labels"]:
+            if page.name != MAIN_MAN_PAGE:
                 blocks = [block for block in blocks if block.printed is not None]
-            if blocks or page.name == MAN_PAGES["labels"]:
+            if blocks or page.name == MAIN_MAN_PAGE:
                 self.try_page(f"man/{page.name}", blocks)
-
-    def try_options(self) -> None:
-        """Looks for each option of each help text in the man page and in the completion."""
-        for name, program in self.programs():
-            text = subprocess.run([program, "--help"], capture_output=True, text=True).stdout
-            options = set(re.findall(r"--[a-z][a-z-]*", text))
-            self.judge(bool(options), f"{name} --help names no option")
-            page = TOP / "man" / MAN_PAGES.get(name, SHARED_MAN_PAGE)
-            places = [page, *(TOP / "completions").glob(f"{name}.bash")]
-            for place in places:
-                told = place.read_text(encoding="utf-8").replace("\\-", "-") if place.exists() else ""
-                missing = sorted(option for option in options if option not in told)
-                self.judge(not missing, f"{name}: {', '.join(missing)} not in {place.relative_to(TOP)}")
-
-    def programs(self) -> Iterator[Tuple[str, Path]]:
-        """The program and the tools, each by its name."""
-        if self.program:
-            yield "labels", self.program
-        for tool in sorted((TOP / "tools").glob("label-*")):
-            yield tool.name, tool
 
 
 def parse_arguments() -> argparse.Namespace:
@@ -255,16 +220,11 @@ def parse_arguments() -> argparse.Namespace:
 
 def main() -> int:
     arguments = parse_arguments()
-    missing = [program for program in THIRD_PARTY if shutil.which(program) is None]
-    if missing:
-        print(f"skipped: not installed: {', '.join(missing)}")
-        return SKIPPED
     run = Run(arguments.program, arguments.kit, arguments.times)
     for page in PAGES:
         run.try_page(page, blocks_of(page, arguments.kit))
     run.try_man_pages()
     run.try_links()
-    run.try_options()
     print(f"{run.good} of {run.count} as printed")
     return 0 if run.good == run.count else 1
 

@@ -4,8 +4,10 @@ Offsets into a text and into its `blanked` form are the same, so what is found i
 """
 
 import argparse
+import glob
 import os
 import re
+import sys
 from dataclasses import dataclass, field
 
 TOP = os.path.dirname(os.path.dirname(os.path.abspath(__file__)))
@@ -36,10 +38,21 @@ def program_given(description):
     return program
 
 
+def top_given(description):
+    """The top of the repository that the option --top names, or else that of this script."""
+    parser = argparse.ArgumentParser(description=description, formatter_class=argparse.RawDescriptionHelpFormatter)
+    parser.add_argument("--top", default=TOP, metavar="FOLDER", help="the repository (that of this script)")
+    return parser.parse_args().top
+
+
 def crates_of(top):
-    """The crates of crates.txt, in its order."""
+    """The crates of crates.txt, in its order. Stops where one has no code, or a folder with code is not listed."""
     with open(os.path.join(top, "crates.txt"), encoding="utf-8") as lines:
-        return [line.partition(":")[0].strip() for line in lines if line.strip() and not line.startswith("#")]
+        listed = [line.partition(":")[0].strip() for line in lines if line.strip() and not line.startswith("#")]
+    there = {path.split(os.sep)[-2] for path in glob.glob(os.path.join(top, "crates", "*", "src"))}
+    if there != {*listed} or not listed:
+        sys.exit(f"crates.txt and the folders crates/*/src differ in: {' '.join(sorted(there ^ {*listed})) or 'none'}")
+    return listed
 
 
 def read(path):
