@@ -13,7 +13,7 @@ file that is not there makes the file. An example without a prompt has to end wi
 runs in labels.1 alone, since those of the other man pages name files and printers of the reader.
 
 A block ```sh kit calls the kit, which proves for minutes, and may print anything. It runs with --kit alone, in a fresh
-clone of what is committed, README.md first, and the other pages with the program that it builds.
+clone of what is committed, README.md first, and the other pages with the program that it builds. The gate is left out.
 
 Besides, the pictures that RECIPES.md makes must be those of docs/pictures, pixel for pixel, and each link from one
 file of the repository to another must lead to a file and a heading. The last line is `N of N as printed`; where one is
@@ -66,7 +66,7 @@ def blocks_of(page: str, with_kit: bool) -> List[Block]:
     return [
         Block(commands, None if kind == "sh kit" else printed, False)
         for kind, commands, printed in blocks
-        if with_kit or kind != "sh kit"
+        if kind != "sh kit" or with_kit and commands != ".ci/run\n"
     ]
 
 

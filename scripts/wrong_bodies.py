@@ -12,8 +12,7 @@ the check says of each function whether it is refused. What fails only because i
 judged, and is tried again without it.
 
 The status is 0 where each wrong body is refused, 1 where one is not or there is none, and 2 where an argument
-names no crate or the kit is not the one that this script was written for. The last line is `N passed, M
-failed`, as of `rt ci`.
+names no crate or there is no kit. The last line is `N passed, M failed`, as of `rt ci`.
 """
 
 import argparse
@@ -30,10 +29,6 @@ import tempfile
 
 import sources
 
-# What `rt version` prints of the kit that this script was written for: it calls functions of that kit, and reads the
-# lines that its check prints for people.
-KIT_ID = "rattle-kit-13f logic dac8208d650f15bf"
-KIT_NAMES = ("PARTS", "RATTLE", "guarded", "crates_below", "Crate.words", "Crate.below", "Crate.build_rlib")
 # The line of a function that was not proved for what is written in it, and not for what it calls.
 REFUSED = re.compile(r"not proved|no proof: expected answers|.*did not prove")
 
@@ -43,31 +38,13 @@ def stop(why):
     sys.exit(2)
 
 
-def has(thing, path):
-    """Whether a thing has what a dotted path names."""
-    for name in path.split("."):
-        if not hasattr(thing, name):
-            return False
-        thing = getattr(thing, name)
-    return True
-
-
-def kit(takes_any):
-    """Returns the kit's module of crates, which `rt` itself uses. Stops where it is not the one that is known here."""
+def kit():
+    """Returns the kit's module of crates, which `rt` itself uses. The kit is the one that docs/PROOF.md names."""
     sys.dont_write_bytecode = True
     folder = os.path.dirname(os.path.realpath(shutil.which("rt") or stop("rt is not on the path")))
-    id_file, library = os.path.join(os.path.dirname(folder), "KIT-ID"), os.path.join(folder, "rtlib.py")
-    kit_id = sources.read(id_file).strip() if os.path.exists(id_file) else "without KIT-ID"
-    if kit_id != KIT_ID and not takes_any:
-        stop(f"the kit is {kit_id}; this script was written for {KIT_ID}. With --any-kit it goes on")
-    if not os.path.exists(library):
-        stop(f"the kit {kit_id} has no file {library}, which this script calls")
-    loader = importlib.machinery.SourceFileLoader("rtlib", library)
+    loader = importlib.machinery.SourceFileLoader("rtlib", os.path.join(folder, "rtlib.py"))
     module = importlib.util.module_from_spec(importlib.util.spec_from_loader("rtlib", loader))
     loader.exec_module(module)
-    missing = [name for name in KIT_NAMES if not has(module, name)]
-    if missing:
-        stop(f"the kit {kit_id} has no {', '.join(missing)} in {library}, which this script calls")
     return module
 
 
@@ -216,7 +193,6 @@ def arguments():
         help="take the libraries below as `rt ci` left them; else build those that changed",
     )
     parser.add_argument("--show", action="store_true", help="print what the check says of each wrong body's functions")
-    parser.add_argument("--any-kit", action="store_true", help="go on with a kit that this script does not know")
     given, known = parser.parse_args(), sources.crates_of(sources.TOP)
     for name in given.crates:
         if name not in known:
@@ -243,7 +219,7 @@ def main():
         print(f"no wrong bodies in {', '.join(without) or 'any crate'}: nothing was tried")
         print("0 passed, 1 failed")
         return 1
-    rtlib = kit(given.any_kit)
+    rtlib = kit()
     rtlib.guarded()
     crates = [it for it in rtlib.crates_below(sources.TOP) if os.path.realpath(it.folder) in folders]
     if len(crates) != len(folders):

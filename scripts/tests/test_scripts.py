@@ -235,13 +235,7 @@ class Believed(unittest.TestCase):
 
 
 class WrongBodies(InFolder):
-    """No crate passes unseen, and no kit but the known one is called."""
-
-    def fake_kit(self, kit_id, library):
-        write(self.path("bin", "rt"), "#!/bin/sh\n", is_program=True)
-        write(self.path("bin", "rtlib.py"), library)
-        write(self.path("KIT-ID"), kit_id + "\n")
-        return {"PATH": f"{self.path('bin')}:{os.environ['PATH']}"}
+    """No crate passes unseen."""
 
     def test_misspelled_crate(self):
         status, said = run("wrong_bodies.py", "labelcor")
@@ -252,16 +246,6 @@ class WrongBodies(InFolder):
         status, said = run("wrong_bodies.py", "labels")
         self.assertEqual(status, 1)
         self.assertIn("no wrong bodies in labels", said)
-
-    def test_another_kit(self):
-        status, said = run("wrong_bodies.py", "gf256", **self.fake_kit("some other kit", "PARTS = ()\n"))
-        self.assertEqual(status, 2)
-        self.assertIn("the kit is some other kit", said)
-
-    def test_another_kit_that_lacks_what_is_called(self):
-        status, said = run("wrong_bodies.py", "--any-kit", "gf256", **self.fake_kit("some other kit", "PARTS = ()\n"))
-        self.assertEqual(status, 2)
-        self.assertIn("has no RATTLE", said)
 
     def test_no_kit(self):
         status, said = run("wrong_bodies.py", "gf256", PATH=self.bare_path())
@@ -306,47 +290,27 @@ class Instructions(InFolder):
         arguments = ("--check", "--table", self.path("table.md"), self.program)
         return run("instructions.sh", *arguments, **self.environment, **more)
 
-    def test_as_in_the_table(self):
-        status, said = self.check()
-        self.assertEqual(status, 0, said)
-        self.assertIn("EAN-13: 20,000 in the table, 20,000 measured, +0.0 %", said)
-        self.assertIn("11 rows, 0 failed", said)
-
-    def test_five_in_a_hundred_more_pass(self):
-        self.assertEqual(self.check(EACH="21000")[0], 0)
-
-    def test_six_in_a_hundred_more(self):
-        status, said = self.check(EACH="21200")
-        self.assertEqual(status, 1)
-        self.assertIn("FAILS EAN-13: 20,000 in the table, 21,200 measured, +6.0 %", said)
-
-    def test_less(self):
-        status, said = self.check(EACH="10000")
-        self.assertEqual(status, 0)
-        self.assertIn("note: the table is out of date: EAN-13", said)
-
-    def test_more_writes(self):
-        status, said = self.check(WRITES="3")
-        self.assertEqual(status, 1)
-        self.assertIn("FAILS writes of 1,000 EAN-13 labels", said)
-
-    def test_row_missing(self):
-        write(self.path("table.md"), re.sub(r"\| QR, 600 digits.*\n", "", self.table))
-        status, said = self.check()
-        self.assertEqual(status, 1)
-        self.assertIn("FAILS QR, 600 digits, level L: the table has no such row", said)
-
-    def test_row_that_is_no_number(self):
-        write(self.path("table.md"), re.sub(r"(\| QR, 600 digits, level L \|) [\d,]+", r"\1 many", self.table))
-        status, said = self.check()
-        self.assertEqual(status, 1)
-        self.assertIn("FAILS QR, 600 digits, level L: the table has many", said)
-
-    def test_row_that_is_not_measured(self):
-        write(self.path("table.md"), self.table.replace("| EAN-13 |", "| EAN-99 | 1 | - | - | - |\n| EAN-13 |"))
-        status, said = self.check()
-        self.assertEqual(status, 1)
-        self.assertIn("FAILS EAN-99", said)
+    def test_rows(self):
+        """What is measured, beside a table, gives a status and a line."""
+        digits = "QR, 600 digits, level L"
+        gone = re.sub(rf"\| {digits}.*\n", "", self.table)
+        no_number = re.sub(rf"(\| {digits} \|) [\d,]+", r"\1 many", self.table)
+        more = self.table.replace("| EAN-13 |", "| EAN-99 | 1 | - | - | - |\n| EAN-13 |")
+        for table, environment, status, wanted in (
+            (self.table, {}, 0, "EAN-13: 20,000 in the table, 20,000 measured, +0.0 %"),
+            (self.table, {}, 0, "11 rows, 0 failed"),
+            (self.table, {"EACH": "21000"}, 0, "11 rows, 0 failed"),
+            (self.table, {"EACH": "21200"}, 1, "FAILS EAN-13: 20,000 in the table, 21,200 measured, +6.0 %"),
+            (self.table, {"EACH": "10000"}, 0, "note: the table is out of date: EAN-13"),
+            (self.table, {"WRITES": "3"}, 1, "FAILS writes of 1,000 EAN-13 labels"),
+            (gone, {}, 1, f"FAILS {digits}: the table has no such row"),
+            (no_number, {}, 1, f"FAILS {digits}: the table has many"),
+            (more, {}, 1, "FAILS EAN-99"),
+        ):
+            with self.subTest(wanted):
+                write(self.path("table.md"), table)
+                found, said = self.check(**environment)
+                self.assertEqual((found, wanted in said), (status, True), said)
 
     def test_program_that_draws_nothing(self):
         write(self.program, "#!/bin/sh\n", is_program=True)
@@ -434,6 +398,9 @@ class SmallTree(InFolder):
     def setUp(self):
         super().setUp()
         write(self.path("crates.txt"), "# all\nsmall:\n")
+        self.fill()
+
+    def fill(self):
         self.plant("src/lib.rt", LIBRARY)
         self.plant("src/other.rt", OTHER)
         self.plant("specs/Words.antt", SPEC)
@@ -454,74 +421,59 @@ class Unused(SmallTree):
         self.assertTrue(last.endswith(f": {len(lines)} unused"), said)
         return lines
 
-    def assert_found(self, wanted):
-        lines = self.found()
-        self.assertEqual(len(lines), 1, lines)
-        self.assertIn(wanted, lines[0])
-
     def test_all_is_used(self):
         self.assertEqual(self.found(), [])
-
-    def test_lemma(self):
-        self.plant("proofs/Lemmas.antt", LEMMAS + NEVER_USED)
-        self.assert_found("proofs/Lemmas.antt:10: nothing uses the lemma never")
-
-    def test_lemma_that_calls_itself(self):
-        self.plant("proofs/Lemmas.antt", LEMMAS + NEVER_USED.replace("never n = n", "never n = never n"))
-        self.assert_found("nothing uses the lemma never")
-
-    def test_lemma_of_an_unused_lemma(self):
-        self.plant("proofs/Lemmas.antt", LEMMAS + NEVER_USED + "\nabove : ℕ → ℕ\nabove n = never n\n")
-        self.assertEqual(len(self.found()), 2)
-
-    def test_lemma_that_only_its_import_names(self):
-        self.plant("proofs/Lemmas.antt", LEMMAS + NEVER_USED)
-        self.plant("proofs/double/Answers.antt", ANSWERS.replace("{twice-sum}", "{twice-sum, never}"))
-        self.assertEqual(len(self.found()), 2)
-
-    def test_worked_values(self):
         self.plant("proofs/Tables.antt", WORKED)
         self.assertEqual(self.found(), [])
 
-    def test_lemma_of_a_file_that_nothing_cites(self):
-        self.plant("proofs/Tables.antt", WORKED + NEVER_USED)
-        self.assert_found("nothing uses the lemma never")
-
-    def test_worked_value_of_a_file_that_is_cited(self):
-        self.plant("proofs/Lemmas.antt", LEMMAS + "\npub twice-nil : twice 0 ≡ 0\ntwice-nil = refl\n")
-        self.assert_found("nothing uses the lemma twice-nil")
-
-    def test_definition(self):
-        self.plant("specs/Words.antt", SPEC + NEVER_USED)
-        self.assert_found("specs/Words.antt:9: nothing uses the definition never")
-
-    def test_definition_that_only_a_comment_names(self):
-        self.plant("specs/Words.antt", SPEC + NEVER_USED + "\n-- never\n")
-        self.assert_found("nothing uses the definition never")
-
-    def test_imported_name_of_the_logic(self):
-        self.plant("proofs/Lemmas.antt", LEMMAS.replace("◌+◌, refl", "◌+◌, ◌*◌, refl"))
-        self.assert_found("proofs/Lemmas.antt:2: the imported name ◌*◌ is not used")
-
-    def test_imported_name_of_a_contract(self):
-        self.plant("src/lib.rt", LIBRARY.replace("◌≡◌, ◌+◌", "◌≡◌, ◌+◌, ◌*◌"))
-        self.assert_found("src/lib.rt:2: the imported name ◌*◌ is not used")
-
-    def test_imported_name_that_only_code_has(self):
-        self.plant("src/lib.rt", LIBRARY.replace("◌≡◌, ◌+◌", "◌≡◌, ◌+◌, added"))
-        self.assert_found("the imported name added is not used")
-
-    def test_imported_name_of_the_code(self):
-        self.plant("src/lib.rt", LIBRARY.replace("use std::io::Write;", "use std::io::{ErrorKind, Write};"))
-        self.assert_found("src/lib.rt:5: the imported name ErrorKind is not used")
-
-    def test_private_function(self):
-        self.plant("src/other.rt", OTHER + "\nfn lonely() {\n    lonely()\n}\n")
-        self.assert_found("src/other.rt:7: nothing calls the function lonely")
-
-    def test_public_function(self):
-        self.plant("src/lib.rt", LIBRARY.replace("    half(double(2));\n", "    double(2);\n"))
-        self.assert_found("nothing calls the function half")
+    def test_what_nothing_uses(self):
+        lemmas, answers, library, spec = (
+            "proofs/Lemmas.antt",
+            "proofs/double/Answers.antt",
+            "src/lib.rt",
+            "specs/Words.antt",
+        )
+        calls_itself = NEVER_USED.replace("never n = n", "never n = never n")
+        lemma = "nothing uses the lemma never"
+        for changes, wanted in (
+            ({lemmas: LEMMAS + NEVER_USED}, [f"{lemmas}:10: {lemma}"]),
+            ({lemmas: LEMMAS + calls_itself}, [lemma]),
+            ({lemmas: LEMMAS + NEVER_USED + "\nabove : ℕ → ℕ\nabove n = never n\n"}, [lemma, "the lemma above"]),
+            (
+                {lemmas: LEMMAS + NEVER_USED, answers: ANSWERS.replace("{twice-sum}", "{twice-sum, never}")},
+                [lemma, f"{answers}:1: the imported name never is not used"],
+            ),
+            ({"proofs/Tables.antt": WORKED + NEVER_USED}, [lemma]),
+            ({lemmas: LEMMAS + "\npub twice-nil : twice 0 ≡ 0\ntwice-nil = refl\n"}, ["the lemma twice-nil"]),
+            ({spec: SPEC + NEVER_USED}, [f"{spec}:9: nothing uses the definition never"]),
+            ({spec: SPEC + NEVER_USED + "\n-- never\n"}, ["the definition never"]),
+            (
+                {lemmas: LEMMAS.replace("◌+◌, refl", "◌+◌, ◌*◌, refl")},
+                [f"{lemmas}:2: the imported name ◌*◌ is not used"],
+            ),
+            ({library: LIBRARY.replace("◌≡◌, ◌+◌", "◌≡◌, ◌+◌, ◌*◌")}, [f"{library}:2: the imported name ◌*◌"]),
+            ({library: LIBRARY.replace("◌≡◌, ◌+◌", "◌≡◌, ◌+◌, added")}, ["the imported name added is not used"]),
+            (
+                {library: LIBRARY.replace("io::Write;", "io::{ErrorKind, Write};")},
+                [f"{library}:5: the imported name ErrorKind"],
+            ),
+            (
+                {"src/other.rt": OTHER + "\nfn lonely() {\n    lonely()\n}\n"},
+                ["src/other.rt:7: nothing calls the function lonely"],
+            ),
+            (
+                {library: LIBRARY.replace("    half(double(2));\n", "    double(2);\n")},
+                ["nothing calls the function half"],
+            ),
+        ):
+            with self.subTest(wanted):
+                for file, text in changes.items():
+                    self.plant(file, text)
+                lines = self.found()
+                self.assertEqual(len(lines), len(wanted), lines)
+                self.assertEqual([it for it in wanted if not any(it in line for line in lines)], [], lines)
+                shutil.rmtree(self.path("crates"))
+                self.fill()
 
     def test_nothing_to_look_at(self):
         write(self.path("crates.txt"), "")
