@@ -1,14 +1,15 @@
 #!/usr/bin/env python3
-"""What has to be believed: every definition that the clause `whole` of the filter's `run` rests on.
+"""What has to be believed: every definition that the contract of the program's own call rests on.
 
-With no option it prints the list in reading order, and how many lines each crate and each kind has. --write
-makes the lists of docs/DEFINITIONS.md anew. --check makes them anew, and compares the whole page with what
---write would leave: status 1, and the differences, where a name, a description or a number of lines is not the
-one that the files give. It compares the number of lines that README.md gives too.
+With no option it prints how many lines each crate and each kind has. --write makes the lists of docs/DEFINITIONS.md
+anew. --check makes them anew, and compares the whole page with what --write would leave: status 1, and the
+differences, where a name, a description or a number of lines is not the one that the files give. It compares the
+number of lines that README.md gives too.
 
-The first list of the page has the definitions of the headline, the second the other definitions of specs/, but for
-the modules whose name begins with Private: only contracts inside a crate cite these. The third list has what
-contracts speak by and is no definition: traits, types and views of the code.
+The first list of the page has the definitions that the call rests on, the second the other definitions of specs/, but
+for the modules whose name begins with Private: only contracts inside a crate cite these. The third list has what
+contracts speak by and is no definition: the contract itself, traits, types and views of the code. The number in
+README.md counts the first list and what the third one has of the call.
 
 The first comment of a file says what the file is about. Lines `-- Why: ` after it say what its definitions follow,
 a clause of a standard or a page: names between backticks, a colon, and the clause. The page has each `Why: ` in the
@@ -33,9 +34,9 @@ from dataclasses import dataclass
 import declared
 import sources
 
-ROOT = ("filter", "Run", "RunsWhole")
-# The function whose clause it is, and its file: the head of the function names what the headline speaks of.
-HEADLINE = ("filter", "whole_run", "run")
+# The program's own call: its crate, its file and its name.
+CALL = ("filter", "streams", "run_streams")
+PROGRAM = "labels"
 # The crates in the order in which a reader meets them, from the headline down.
 CRATES = ["filter", "labelcore", "device", "picture", "linear", "qrmatrix", "qrdata", "gf256", "command"]
 # The crates on whose contracts no other crate rests.
@@ -176,13 +177,9 @@ def rests_on(files, file, definition):
     return [one for one in found if one is not None and one is not definition]
 
 
-def believed(files):
-    """The definitions that the headline rests on, and the code's own types, each in reading order."""
-    crate, module, name = ROOT
-    if (crate, module) not in files or name not in files[crate, module].of_name:
-        sys.exit(f"no definition {name} in crates/{crate}/specs/{module}.antt")
-    reached, types, waiting = [], [], [files[crate, module].of_name[name]]
-    seen = set()
+def believed(files, roots):
+    """The definitions that these rest on, and the code's own types, each in reading order."""
+    reached, types, seen, waiting = [], [], set(), list(roots)
     while waiting:
         one = waiting.pop(0)
         key = one if isinstance(one, tuple) else one.key
@@ -267,32 +264,39 @@ def types_named(files, definitions):
 
 @dataclass
 class Lists:
-    """What the page lists: definitions of the headline and others, items of code of the headline and others."""
+    """What the page lists: definitions that the call rests on and others, items of code of the call and others."""
 
     files: dict
     reached: list
     others: list
-    code_of_headline: list
+    code_of_call: list
     other_code: list
 
 
+def is_named(item, words):
+    """Whether an item of the code is named: of members the trait and the type."""
+    return all(name in words for name in item.name.split(" for "))
+
+
 def read_lists(top):
-    files = read_files(top)
-    reached, types = believed(files)
+    files, call = read_files(top), declared.contract_of(top, *CALL)
+    if call is None:
+        sys.exit(f"no function {CALL[2]} in crates/{CALL[0]}/src/{CALL[1]}.rt")
+    program = os.path.join(top, "crates", PROGRAM, "src")
+    if not any(f"{CALL[2]}(" in sources.read(path) for path in sources.files_below(program, ".rt")):
+        sys.exit(f"crates/{PROGRAM} does not call {CALL[2]}: CALL in scripts/believed.py names the call that it makes")
+    words, of_call, count = set(re.findall(r"\w+", "\n".join(call.text))), [call], 0
+    while count != len(of_call):
+        # What a trait, a view or members say names more definitions, and these more types.
+        count = len(of_call)
+        roots = [find(files, *it) for item in of_call for it in item.definitions if it[0] in CRATES]
+        reached, types = believed(files, [it for it in roots if it is not None])
+        named = declared.named_in(types)
+        items = declared.code_items(top, CRATES, named)
+        of_call = [call, *(it for it in items if (it.crate, it.file, it.name) in named or is_named(it, words))]
     rest = others(files, reached)
-    in_headline = declared.named_in(types)
-    items = declared.code_items(top, CRATES, in_headline | declared.named_in(types_named(files, rest)))
-    names = declared.names_in_head(top, *HEADLINE)
-    if names is None:
-        sys.exit(f"no function {HEADLINE[2]} in crates/{HEADLINE[0]}/src/{HEADLINE[1]}.rt")
-
-    def is_of_headline(item):
-        if item.kind in ("trait", "view"):
-            return item.name in names
-        return (item.crate, item.file, item.name) in in_headline
-
-    other_items = [one for one in items if not is_of_headline(one)]
-    return Lists(files, reached, rest, [one for one in items if is_of_headline(one)], other_items)
+    every = declared.code_items(top, CRATES, named | declared.named_in(types_named(files, rest)))
+    return Lists(files, reached, rest, of_call, [it for it in every if it not in of_call])
 
 
 def counts_of_code(items):
@@ -321,7 +325,7 @@ def code_part(heading, items):
 
 def list_texts(lists):
     """The text of each list of the page, by its name."""
-    code = code_part("Of the headline", lists.code_of_headline)
+    code = code_part("Of the program's call", lists.code_of_call)
     code += code_part("Of other public contracts", lists.other_code)
     return {
         "believed": part(lists.files, lists.reached),
@@ -359,41 +363,30 @@ def check_page(page, lists):
     return False
 
 
+def lines_to_believe(lists):
+    return lines_of(lists.reached) + sum(item.lines for item in lists.code_of_call)
+
+
 def check_readme(readme, lists):
-    """Whether README.md gives the number of lines of the headline's definitions."""
-    found, lines = README_NUMBER.search(readme), lines_of(lists.reached)
+    """Whether README.md gives the number of lines that have to be believed."""
+    found, lines = README_NUMBER.search(readme), lines_to_believe(lists)
     if not found:
-        print(f"README.md does not give the number of lines of definitions, as '{lines:,} lines of [definitions]'")
+        print(f"README.md does not give the number of lines to be believed, as '{lines:,} lines of [definitions]'")
     elif found.group(1) != f"{lines:,}":
-        print(f"README.md says {found.group(1)} lines of definitions; specs/ has {lines:,}")
+        print(f"README.md says {found.group(1)} lines of definitions; the files have {lines:,}")
     return bool(found) and found.group(1) == f"{lines:,}"
 
 
-def print_definitions(lists):
-    for crate, modules in by_file(lists.reached):
-        for module, definitions in modules.items():
-            print(f"crates/{crate}/specs/{module.replace('.', '/')}.antt: {lists.files[crate, module].about}")
-            for one in definitions:
-                print(f"    {one.key[2]}: {one.comment}")
-    print("\nTypes, traits and views of the code among them:")
-    for one in lists.code_of_headline:
-        print(f"    {one.kind} {one.name} (crates/{one.crate}/src/{one.file}.rt, {one.lines} lines)")
-
-
 def print_counts(lists):
-    print("\nLines, without blank lines and comments:")
+    print("Lines, without blank lines and comments:")
     for crate, modules in by_file(lists.reached):
         here = [one for definitions in modules.values() for one in definitions]
         print(f"    {crate}: {len(here)} definitions, {lines_of(here)} lines")
-    total, file_count = lines_of(lists.reached), len({one.key[:2] for one in lists.reached})
-    print(f"    in all: {len(lists.reached)} definitions, {total} lines in {file_count} files")
-    print(f"    of the code: {counts_of_code(lists.code_of_headline)}")
-    every = [one for file in lists.files.values() for one in file.order]
-    private = lines_of(every) - total - lines_of(lists.others)
-    rest = lists.others
-    print(f"    what other public contracts speak of: {len(rest)} definitions, {lines_of(rest)} lines")
+    print(f"    in all: {len(lists.reached)} definitions, {lines_of(lists.reached)} lines")
+    print(f"    of the code: {counts_of_code(lists.code_of_call)}")
+    print(f"    to be believed: {lines_to_believe(lists)} lines")
+    print(f"    what other public contracts speak of: {len(lists.others)} definitions, {lines_of(lists.others)} lines")
     print(f"        of the code: {counts_of_code(lists.other_code)}")
-    print(f"    definitions of private contracts: {private} lines")
 
 
 def arguments():
@@ -417,7 +410,6 @@ def main():
         is_readme_right = check_readme(sources.read(os.path.join(given.top, "README.md")), lists)
         return 0 if is_page_right and is_readme_right else 1
     else:
-        print_definitions(lists)
         print_counts(lists)
     return 0
 

@@ -6,7 +6,8 @@
 - Members: what the names of a trait mean for a type, the ghost members of its `impl`.
 - A constant that definitions name.
 
-A trait, a view or members count where the crate's lib.rt names the trait and the type for callers.
+A trait, a view or members count where the crate's lib.rt names the trait and the type for callers. What an item states
+is its text without bodies; the lines `ghost use` of its file say which definitions it names.
 """
 
 import os
@@ -15,19 +16,25 @@ from dataclasses import dataclass
 
 import sources
 
-KINDS = ("trait", "type", "view", "members", "constant")
+KINDS = ("contract", "trait", "type", "view", "members", "constant")
 
 
 @dataclass(frozen=True)
 class CodeItem:
-    """A trait, type, view or constant: its crate, the file in src/ without its ending, and how many lines it has."""
+    """A trait, type, view or constant: its crate, the file in src/ without its ending, its description, its lines, and
+    the definitions that they name, as (crate, module, name)."""
 
     kind: str
     name: str
     crate: str
     file: str
-    lines: int
     about: str
+    text: tuple
+    definitions: tuple
+
+    @property
+    def lines(self):
+        return len(self.text)
 
 
 def exported(top, crate):
@@ -46,17 +53,25 @@ def statement(item):
     return sources.code_lines(text)
 
 
-def ghost_members(item):
-    """The ghost members of an `impl`, as items."""
-    return [inner for inner in sources.items_of(item.body) if inner.kind == "ghost"]
+def ghost_members(item, names):
+    """The ghost members of an `impl` that say something, as items: those that private lemmas prove are laws."""
+    members = [inner for inner in sources.items_of(item.body) if inner.kind == "ghost"]
+    return [it for it in members if not any(of[1].startswith("Private") for of in definitions_in([it.text], names))]
 
 
-def lines_of_members(item):
-    return sum(len(sources.code_lines(inner.text)) for inner in ghost_members(item))
+def ghost_names(text):
+    """The definitions that a file of code brings in: (crate, module, name) by the names that it uses."""
+    found = {}
+    for crate, module, names in re.findall(r"ghost use Rattle\.(\w+)\.specs\.([\w.]+)\.\{([^}]*)\};", text):
+        for name, _, other in (it.strip().partition(" as ") for it in names.split(",")):
+            found[other or name] = (crate, module, name)
+    return found
 
 
-def member_names(item):
-    return [re.match(r"(?:pub\s+)?ghost\s+(\w+)", inner.head).group(1) for inner in ghost_members(item)]
+def definitions_in(lines, names):
+    """The definitions that lines name, each once, in the order of the text."""
+    words = re.findall(r"◌\S+◌|[^\W\d][\w']*(?:-[\w']+)*", "\n".join(lines))
+    return tuple(dict.fromkeys(names[word] for word in words if word in names))
 
 
 def from_other_crates(items, all_public):
@@ -65,35 +80,37 @@ def from_other_crates(items, all_public):
     return {name for line in lines for name in re.findall(r"\w+", line)} & all_public
 
 
-def of_impl(crate, file, item, types, traits):
-    """What an `impl` adds: a view of a type, or the members of a trait for a type."""
+def of_impl(item, types, traits, names):
+    """What an `impl` adds: a view of a type, or the members of a trait for a type. (kind, name, description, lines)"""
     match = re.match(r"(\w+)(?:<.*>)? for (\w+)", item.name)
-    if not match or match.group(2) not in types or not ghost_members(item):
+    members = ghost_members(item, names)
+    if not match or match.group(2) not in types or not members:
         return
     trait, name = match.groups()
-    lines = lines_of_members(item)
+    lines = [line for inner in members for line in sources.code_lines(inner.text)]
     if trait == "Model":
         value = re.search(r"ghost Value = \{ (.*?) \}", item.body)
-        yield CodeItem("view", name, crate, file, lines, f"what contracts see of `{name}`: `{value.group(1)}`")
+        yield "view", name, f"what contracts see of `{name}`: `{value.group(1)}`", lines
     elif trait in traits:
-        about = ", ".join(f"`{member}`" for member in member_names(item))
-        yield CodeItem("members", f"{trait} for {name}", crate, file, lines, about)
+        given = [re.match(r"(?:pub\s+)?ghost\s+(\w+)", inner.head).group(1) for inner in members]
+        yield "members", f"{trait} for {name}", ", ".join(f"`{member}`" for member in given), lines
 
 
 def of_file(crate, file, text, public, all_public, named):
     """The items of a file of code: traits and views for callers, and the types and constants in `named`."""
     items = sources.items_of(text)
-    types = public | from_other_crates(items, all_public)
+    types, names = public | from_other_crates(items, all_public), ghost_names(text)
+    kinds = {"enum": "type", "struct": "type", "const": "constant"}
     for item in items:
-        lines = len(sources.code_lines(item.text))
+        found = []
         if item.kind == "trait" and item.name in public:
-            yield CodeItem("trait", item.name, crate, file, len(statement(item)), item.docs)
-        elif item.kind in ("enum", "struct") and (crate, file, item.name) in named:
-            yield CodeItem("type", item.name, crate, file, lines, item.docs)
-        elif item.kind == "const" and (crate, file, item.name) in named:
-            yield CodeItem("constant", item.name, crate, file, lines, item.docs)
+            found = [("trait", item.name, item.docs, statement(item))]
+        elif item.kind in kinds and (crate, file, item.name) in named:
+            found = [(kinds[item.kind], item.name, item.docs, sources.code_lines(item.text))]
         elif item.kind == "impl":
-            yield from of_impl(crate, file, item, types, all_public)
+            found = of_impl(item, types, all_public, names)
+        for kind, name, about, lines in found:
+            yield CodeItem(kind, name, crate, file, about, tuple(lines), definitions_in(lines, names))
 
 
 def named_in(declared):
@@ -122,10 +139,12 @@ def code_items(top, crates, named):
     return items
 
 
-def names_in_head(top, crate, file, function):
-    """The names in the head of a function: its bounds, what it takes and returns. None where it is gone."""
+def contract_of(top, crate, file, function):
+    """The contract of a function, its head and its clauses, as an item. None where it is gone."""
     path = os.path.join(top, "crates", crate, "src", f"{file}.rt")
-    for item in sources.items_of(sources.read(path)) if os.path.exists(path) else []:
+    text = sources.read(path) if os.path.exists(path) else ""
+    for item in sources.items_of(text):
         if item.kind == "fn" and item.name == function:
-            return set(re.findall(r"\w+", item.head))
+            lines = sources.code_lines(item.head) + [it for _, clause in item.clauses for it in sources.code_lines(clause)]
+            return CodeItem("contract", function, crate, file, item.docs, tuple(lines), definitions_in(lines, ghost_names(text)))
     return None

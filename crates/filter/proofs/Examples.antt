@@ -1,6 +1,22 @@
 -- Worked rows and the limits of a run, computed.
-use Rattle.std.proofs.Common.{◌≡◌, ℕ, List, [], ◌∷◌, map, refl, None, Err, codes, false}
-use Rattle.labelcore.specs.declared.options.Format.TheVariants.{Pbm}
+use mathlib.Core.Bool.{xor}
+use Rattle.std.proofs.Common.{◌≡◌, ℕ, List, [], ◌∷◌, map, refl, None, Some, Err, codes, false, Bool, ◌++◌, drop}
+use Rattle.std.specs.Prelude.{◌==◌, slice_set, slice_index_or}
+use Rattle.device.specs.Lines.{lines, ended_lines, open_line}
+use Rattle.gf256.specs.BinaryPolynomial.{binary_product, binary_remainder}
+use Rattle.gf256.specs.Field.{field_product, field_power}
+use Rattle.gf256.specs.Polynomial.{evaluate}
+use Rattle.qrdata.specs.Bits.{bits_of, codewords_of, number_of}
+use Rattle.qrdata.specs.Reading.{number_at, digits_at, segment_at, segments_at, deinterleaving, data_in}
+use Rattle.qrdata.specs.Segments.{byte_bits}
+use Rattle.qrdata.specs.Versions.{total_codewords, ec_codewords_per_block, data_codewords, block_lengths, block_table}
+use Rattle.qrdata.specs.Versions.{groups_of}
+use Rattle.qrmatrix.specs.Functions.{fixed_module, is_free, role}
+use Rattle.qrmatrix.specs.Information.{format_information, version_information}
+use Rattle.qrmatrix.specs.Masks.{is_flipped}
+use Rattle.qrmatrix.specs.Reading.{read_bits, read_format, read_matrix, shows_functions, shows_version, walk}
+use Rattle.picture.specs.Reading.{pbm_pixels, ascii_pixels, sample}
+use Rattle.labelcore.specs.declared.options.Format.TheVariants.{Pbm, Ascii}
 use Rattle.qrdata.specs.declared.level.Level.TheVariants.{M}
 use Rattle.labelcore.specs.OptionValues.{OptionValues}
 use Rattle.std.specs.Fmt.{digits}
@@ -12,6 +28,7 @@ use Rattle.labelcore.specs.declared.symbology.Symbology.TheVariants.{Ean13, Ean8
 use Rattle.picture.specs.declared.quiet_zone.QuietZone.{QuietZone}
 use Rattle.filter.specs.declared.status.Status.TheVariants.{Clean, Refused}
 use Rattle.filter.specs.Symbol.{Symbol, symbol_of, quiet_zone}
+use Rattle.filter.specs.Readback.{read_image, read_modules}
 use Rattle.filter.specs.Output.{drawn_symbols, outcome, images, line_number, messages_after, status_of}
 
 abbrev settings : OptionValues
@@ -73,3 +90,55 @@ statuses : map (status_of settings) ([] ∷ (codes "#" ∷ []) ∷ (codes "pdf x
     ∷ []) ≡ Clean ∷ Clean ∷ Refused ∷ Refused ∷ []
 unfolding status_of outcome symbol_of request head_read symbology_named line_limit
 statuses = refl
+
+-- ---- reading
+
+-- modules written as rows of 0 and 1
+shown : List (List ℕ) → List (List Bool)
+shown texts = map (λ text. map (λ c. c == 49) text) texts
+
+-- the row of `ean8 7351353`, of which all rows of a symbol are copies
+ean8_row : List ℕ
+ean8_row = codes "1010111011011110101100010011001010101000010100111010000101000100101"
+
+ean8_read : map (read_modules Ean8) (shown (ean8_row ∷ ean8_row ∷ []) ∷ shown (ean8_row ∷ (48 ∷ drop 1 ean8_row) ∷ [])
+    ∷ [] ∷ []) ≡ Some (codes "73513537") ∷ None ∷ None ∷ []
+unfolding shown ean8_row number_set_a
+ean8_read = refl
+
+-- the image of `ean8 7351353`: it reads in its own format, scale and symbology alone
+image : List ℕ
+image = codes "P1\n81 1\n0000000101011101101111010110001001100101010100001010011101000010100010\n01010000000\n"
+
+image_read : (read_image Pbm 1 Ean8 image ≡ Some (codes "73513537")) × (read_image Ascii 1 Ean8 image ≡ None)
+    × (read_image Pbm 2 Ean8 image ≡ None) × (read_image Pbm 1 UpcA image ≡ None)
+unfolding read_image image pbm_pixels ascii_pixels sample lines ended_lines open_line number_set_a
+image_read = (refl, refl, refl, refl)
+
+-- a dark pixel in the quiet zone
+dark_beside : read_image Pbm 1 Ean8
+    (codes "P1\n81 1\n1000000101011101101111010110001001100101010100001010011101000010100010\n01010000000\n") ≡ None
+unfolding read_image pbm_pixels sample lines ended_lines open_line
+dark_beside = refl
+
+-- ISO/IEC 18004, Annex I: 01234567 in version 1-M, and a row that is a module longer than the others
+qr_rows : List (List ℕ)
+qr_rows =
+    codes "111111100101101111111" ∷ codes "100000100111101000001" ∷ codes "101110101000001011101"
+    ∷ codes "101110101100001011101" ∷ codes "101110101011101011101" ∷ codes "100000101000101000001"
+    ∷ codes "111111101010101111111" ∷ codes "000000001001100000000" ∷ codes "101111100100101111100"
+    ∷ codes "000101011010100101100" ∷ codes "001000110101010011111" ∷ codes "000010000100000111100"
+    ∷ codes "000111111001010010000" ∷ codes "000000001011111001100" ∷ codes "111111100110101100000"
+    ∷ codes "100000101011111000101" ∷ codes "101110101000100101100" ∷ codes "101110101100100100000"
+    ∷ codes "101110101011010010100" ∷ codes "100000100000000110110" ∷ codes "111111101111010010100" ∷ []
+
+qr_read : read_modules Qr (shown qr_rows) ≡ Some (codes "01234567")
+unfolding shown qr_rows read_matrix xor total_codewords read_format shows_version shows_functions read_bits walk codewords_of
+    number_of fixed_module role is_free is_flipped format_information version_information binary_remainder bits_of
+    byte_bits ec_codewords_per_block data_codewords block_lengths groups_of block_table evaluate field_power
+    field_product binary_product number_at digits_at segment_at segments_at deinterleaving data_in
+qr_read = refl
+
+no_square : read_modules Qr (shown (slice_set qr_rows 20 (slice_index_or qr_rows 20 [] ++ codes "0"))) ≡ None
+unfolding shown qr_rows
+no_square = refl

@@ -1,6 +1,6 @@
 -- Worked symbols, computed from the definitions: EAN and UPC (ISO/IEC 15420), then Code 128 (ISO/IEC 15417).
 use Rattle.std.specs.Prelude.{◌≡◌, refl, true, false, Some, None, Ok, Err, codes, length, map, replicate, ◌+◌, ◌++◌, ℕ}
-use Rattle.std.specs.Prelude.{List, [], ◌∷◌, ◌*◌, sum_by}
+use Rattle.std.specs.Prelude.{List, [], ◌∷◌, ◌*◌, sum_by, Bool, Option, not, take, drop, flat_map}
 use Rattle.std.specs.List.{enumerate_from, range_with_len}
 use Rattle.linear.specs.declared.refusal.Refusal.TheVariants.{NotADigit, WrongNumberOfDigits, WrongCheckDigit}
 use Rattle.linear.specs.declared.refusal.Refusal.TheVariants.{DataTooLong, NotAscii}
@@ -13,8 +13,67 @@ use Rattle.linear.specs.Tables.{rows, number_set_a, left_half_sets, character_wi
 use Rattle.linear.specs.Ean.{pattern, normal_guard, centre_guard, ean8_row, ean13_row, upca_row}
 use Rattle.linear.specs.EanReading.{read_ean8, read_ean13, read_upca}
 use Rattle.linear.specs.CodeSets.{start_value, start_set, data_values}
-use Rattle.linear.specs.Code128.{bars_and_spaces, characters, full_code128, check_value, code128_row}
+use Rattle.linear.specs.declared.switching.CodeSet.{CodeSet}
+use Rattle.linear.specs.Code128.{bars_and_spaces, characters, character_modules, full_code128, check_value, with_check}
+use Rattle.linear.specs.Code128.{code128_row}
 use Rattle.linear.specs.Code128Reading.{meaning, text, change, shift, none, read_code128}
+
+-- ---- the tables, row by row, as Zint 2.11.1 draws them
+
+-- a guard, module by module (ISO/IEC 15420, guard patterns)
+guards : (normal_guard ≡ true ∷ false ∷ true ∷ []) × (centre_guard ≡ false ∷ true ∷ false ∷ true ∷ false ∷ [])
+guards = (refl, refl)
+
+-- the widths of a digit's modules in set A, light first, in the left halves of EAN-8 symbols (ISO/IEC 15420, symbol
+-- characters)
+widths_in_a : map (pattern number_set.A) (range_with_len 0 10) ≡
+    map (λ widths. bars_and_spaces false (map digit_value widths))
+    (rows (codes "3211 2221 2122 1411 1132 1231 1114 1312 1213 3112"))
+unfolding number_set_a
+widths_in_a = refl
+
+-- in set B, in the left halves of EAN-13 symbols
+widths_in_b : map (pattern number_set.B) (range_with_len 0 10) ≡
+    map (λ widths. bars_and_spaces false (map digit_value widths))
+    (rows (codes "1123 1222 2212 1141 2311 1321 4111 2131 3121 2113"))
+unfolding number_set_a
+widths_in_b = refl
+
+-- in set C, dark first, in right halves
+widths_in_c : map (pattern number_set.C) (range_with_len 0 10) ≡
+    map (λ widths. bars_and_spaces true (map digit_value widths))
+    (rows (codes "3211 2221 2122 1411 1132 1231 1114 1312 1213 3112"))
+unfolding number_set_a
+widths_in_c = refl
+
+-- the sets of digits 3 to 7 of an EAN-13 symbol, after a 2nd digit in set A, for the first digits 0 to 9
+sets_of_left_halves : left_half_sets ≡ map (λ letters. 65 ∷ letters)
+    (rows (codes "AAAAA ABABB ABBAB ABBBA BAABB BBAAB BBBAA BABAB BABBA BBABA"))
+unfolding left_half_sets
+sets_of_left_halves = refl
+
+-- the modules of each value: 0 to 99, 105 and 106 in the symbols of two digits, 103 in that of bytes 1 and 2, 104 in
+-- that of `ab`, 101 in that of `ab` and bytes 1 to 3, 100 in that of `1234ab`, 102 in the GS1 symbol of
+-- `[01]12345678901231`
+modules_of_values : characters ≡ map modules (rows (
+    codes "11011001100 11001101100 11001100110 10010011000 10010001100 10001001100 10011001000 10011000100 " ++
+    codes "10001100100 11001001000 11001000100 11000100100 10110011100 10011011100 10011001110 10111001100 " ++
+    codes "10011101100 10011100110 11001110010 11001011100 11001001110 11011100100 11001110100 11101101110 " ++
+    codes "11101001100 11100101100 11100100110 11101100100 11100110100 11100110010 11011011000 11011000110 " ++
+    codes "11000110110 10100011000 10001011000 10001000110 10110001000 10001101000 10001100010 11010001000 " ++
+    codes "11000101000 11000100010 10110111000 10110001110 10001101110 10111011000 10111000110 10001110110 " ++
+    codes "11101110110 11010001110 11000101110 11011101000 11011100010 11011101110 11101011000 11101000110 " ++
+    codes "11100010110 11101101000 11101100010 11100011010 11101111010 11001000010 11110001010 10100110000 " ++
+    codes "10100001100 10010110000 10010000110 10000101100 10000100110 10110010000 10110000100 10011010000 " ++
+    codes "10011000010 10000110100 10000110010 11000010010 11001010000 11110111010 11000010100 10001111010 " ++
+    codes "10100111100 10010111100 10010011110 10111100100 10011110100 10011110010 11110100100 11110010100 " ++
+    codes "11110010010 11011011110 11011110110 11110110110 10101111000 10100011110 10001011110 10111101000 " ++
+    codes "10111100010 11110101000 11110100010 10111011110 10111101110 11101011110 11110101110 11010000100 " ++
+    codes "11010010000 11010011100 1100011101011"))
+unfolding character_widths
+modules_of_values = refl
+
+-- ---- symbols
 
 -- `ean8 7351353`
 sum_ean8 : weighted_sum (codes "7351353") ≡ 63
@@ -121,6 +180,10 @@ length_two_digits : length (code128_row (codes "42")) ≡ 46
 unfolding character_widths
 length_two_digits = refl
 
+read_two_digits : read_code128 (code128_row (codes "42")) ≡ Some (codes "42")
+unfolding character_widths
+read_two_digits = refl
+
 -- `code128 12345`: an odd digit is left over in set C
 values_five_digits : values_of (codes "12345") ≡ 105 ∷ 12 ∷ 34 ∷ 100 ∷ 21 ∷ []
 unfolding values_of
@@ -203,60 +266,75 @@ nothing_upca = refl
 nothing_code128 : read_code128 [] ≡ None
 nothing_code128 = refl
 
--- ---- the tables, row by row, as Zint 2.11.1 draws them
+-- ---- what is not read
 
--- a guard, module by module (ISO/IEC 15420, guard patterns)
-guards : (normal_guard ≡ true ∷ false ∷ true ∷ []) × (centre_guard ≡ false ∷ true ∷ false ∷ true ∷ false ∷ [])
-guards = (refl, refl)
+-- a row whose module at a place has the other colour
+changed : ℕ → List Bool → List Bool
+changed place row = take place row ++ (map not (take 1 (drop place row)) ++ drop (place + 1) row)
 
--- the widths of a digit's modules in set A, light first, in the left halves of EAN-8 symbols (ISO/IEC 15420, symbol
--- characters)
-widths_in_a : map (pattern number_set.A) (range_with_len 0 10) ≡
-    map (λ widths. bars_and_spaces false (map digit_value widths))
-    (rows (codes "3211 2221 2122 1411 1132 1231 1114 1312 1213 3112"))
+-- what is read where one of these modules is changed
+read_changed : (List Bool → Option (List ℕ)) → List Bool → List ℕ → List (Option (List ℕ))
+read_changed read row places = map (λ place. read (changed place row)) places
+
+-- each module of the guards (ISO/IEC 15420, guard patterns): the first three, the five in the middle, the last three
+wrong_guards_ean8 : read_changed read_ean8 (ean8_row (codes "73513537"))
+    (range_with_len 0 3 ++ (range_with_len 31 5 ++ range_with_len 64 3)) ≡ replicate 11 None
+unfolding read_changed changed number_set_a
+wrong_guards_ean8 = refl
+
+wrong_guards_ean13 : read_changed read_ean13 (ean13_row (codes "4006381333931"))
+    (range_with_len 0 3 ++ (range_with_len 45 5 ++ range_with_len 92 3)) ≡ replicate 11 None
+unfolding read_changed changed left_half_sets number_set_a
+wrong_guards_ean13 = refl
+
+-- a module more at the end, and one less
+wrong_lengths : map read_ean8 ((ean8_row (codes "73513537") ++ (false ∷ []))
+    ∷ take 66 (ean8_row (codes "73513537")) ∷ []) ≡ None ∷ None ∷ []
 unfolding number_set_a
-widths_in_a = refl
+wrong_lengths = refl
 
--- in set B, in the left halves of EAN-13 symbols
-widths_in_b : map (pattern number_set.B) (range_with_len 0 10) ≡
-    map (λ widths. bars_and_spaces false (map digit_value widths))
-    (rows (codes "1123 1222 2212 1141 2311 1321 4111 2131 3121 2113"))
-unfolding number_set_a
-widths_in_b = refl
+-- a group that is no digit of set A in the left half, and none of set C in the right one
+wrong_groups : read_changed read_ean8 (ean8_row (codes "73513537")) (3 ∷ 63 ∷ []) ≡ None ∷ None ∷ []
+unfolding read_changed changed number_set_a
+wrong_groups = refl
 
--- in set C, dark first, in right halves
-widths_in_c : map (pattern number_set.C) (range_with_len 0 10) ≡
-    map (λ widths. bars_and_spaces true (map digit_value widths))
-    (rows (codes "3211 2221 2122 1411 1132 1231 1114 1312 1213 3112"))
-unfolding number_set_a
-widths_in_c = refl
+wrong_checks : (read_ean8 (ean8_row (codes "73513530")) ≡ None) × (read_ean13 (ean13_row (codes "4006381333932")) ≡ None)
+    × (read_upca (upca_row (codes "036000291453")) ≡ None)
+unfolding left_half_sets number_set_a
+wrong_checks = (refl, refl, refl)
 
--- the sets of digits 3 to 7 of an EAN-13 symbol, after a 2nd digit in set A, for the first digits 0 to 9
-sets_of_left_halves : left_half_sets ≡ map (λ letters. 65 ∷ letters)
-    (rows (codes "AAAAA ABABB ABBAB ABBBA BAABB BBAAB BBBAA BABAB BABBA BBABA"))
-unfolding left_half_sets
-sets_of_left_halves = refl
+-- a UPC-A symbol is an EAN-13 symbol whose first digit is 0
+not_upca : read_upca (ean13_row (codes "4006381333931")) ≡ None
+unfolding left_half_sets number_set_a
+not_upca = refl
 
--- the modules of each value: 0 to 99, 105 and 106 in the symbols of two digits, 103 in that of bytes 1 and 2, 104 in
--- that of `ab`, 101 in that of `ab` and bytes 1 to 3, 100 in that of `1234ab`, 102 in the GS1 symbol of
--- `[01]12345678901231`
-modules_of_values : characters ≡ map modules (rows (
-    codes "11011001100 11001101100 11001100110 10010011000 10010001100 10001001100 10011001000 10011000100 " ++
-    codes "10001100100 11001001000 11001000100 11000100100 10110011100 10011011100 10011001110 10111001100 " ++
-    codes "10011101100 10011100110 11001110010 11001011100 11001001110 11011100100 11001110100 11101101110 " ++
-    codes "11101001100 11100101100 11100100110 11101100100 11100110100 11100110010 11011011000 11011000110 " ++
-    codes "11000110110 10100011000 10001011000 10001000110 10110001000 10001101000 10001100010 11010001000 " ++
-    codes "11000101000 11000100010 10110111000 10110001110 10001101110 10111011000 10111000110 10001110110 " ++
-    codes "11101110110 11010001110 11000101110 11011101000 11011100010 11011101110 11101011000 11101000110 " ++
-    codes "11100010110 11101101000 11101100010 11100011010 11101111010 11001000010 11110001010 10100110000 " ++
-    codes "10100001100 10010110000 10010000110 10000101100 10000100110 10110010000 10110000100 10011010000 " ++
-    codes "10011000010 10000110100 10000110010 11000010010 11001010000 11110111010 11000010100 10001111010 " ++
-    codes "10100111100 10010111100 10010011110 10111100100 10011110100 10011110010 11110100100 11110010100 " ++
-    codes "11110010010 11011011110 11011110110 11110110110 10101111000 10100011110 10001011110 10111101000 " ++
-    codes "10111100010 11110101000 11110100010 10111011110 10111101110 11101011110 11110101110 11010000100 " ++
-    codes "11010010000 11010011100 1100011101011"))
-unfolding character_widths
-modules_of_values = refl
+-- the row of values, the last of them in the place of the stop character
+row_of : List ℕ → List Bool
+row_of values = flat_map character_modules values
+
+-- `1` in set B: start 104, value 17, check 18 and stop 106 (ISO/IEC 15417, symbol structure); another check value, no
+-- start character, and another stop character
+wrong_characters : map (λ values. read_code128 (row_of values)) ((104 ∷ 17 ∷ 18 ∷ 106 ∷ []) ∷ (104 ∷ 17 ∷ 19 ∷ 106 ∷ [])
+    ∷ (17 ∷ 17 ∷ 34 ∷ 106 ∷ []) ∷ (104 ∷ 17 ∷ 18 ∷ 18 ∷ []) ∷ []) ≡ Some (codes "1") ∷ None ∷ None ∷ None ∷ []
+unfolding row_of character_widths
+wrong_characters = refl
+
+-- a module more at the end and one less, a group that is no character, and each of the two last modules changed
+wrong_rows : (map read_code128 ((code128_row (codes "1") ++ (false ∷ [])) ∷ take 45 (code128_row (codes "1")) ∷ []) ≡
+    None ∷ None ∷ []) × (read_changed read_code128 (code128_row (codes "1")) (11 ∷ 44 ∷ 45 ∷ []) ≡ None ∷ None ∷ None ∷ [])
+unfolding read_changed changed character_widths
+wrong_rows = (refl, refl)
+
+-- the data of values after the start of a set, with their check value
+data_of : CodeSet → List ℕ → Option (List ℕ)
+data_of set values = read_code128 (row_of (with_check set values ++ (106 ∷ [])))
+
+-- nothing after a shift, a shift or a change of set after one, and a value without a meaning in set B and in set C
+-- (ISO/IEC 15417, code sets)
+wrong_values : map (data_of B) ((98 ∷ []) ∷ (98 ∷ 98 ∷ 65 ∷ []) ∷ (98 ∷ 99 ∷ 12 ∷ []) ∷ (96 ∷ []) ∷ (99 ∷ 102 ∷ []) ∷ []) ≡
+    replicate 5 None
+unfolding data_of row_of character_widths
+wrong_values = refl
 
 -- ---- limits
 

@@ -1,12 +1,14 @@
 -- Worked pictures, computed.
-use Rattle.std.specs.Prelude.{◌≡◌, Bool, ◌==◌, List, [], ◌∷◌, ◌++◌, map, length, codes, refl, true, false, Some, None}
-use Rattle.std.specs.Prelude.{replicate, take}
+use Rattle.std.specs.Prelude.{◌≡◌, ℕ, ◌/◌, ◌%◌, Bool, ◌==◌, not, List, [], ◌∷◌, ◌++◌, map, length, codes, refl, true, false}
+use Rattle.std.specs.Prelude.{Option, Some, None, replicate, take, slice_set, slice_index_or}
+use Rattle.std.specs.List.{range_with_len}
 use Rattle.std.specs.Fmt.{digits}
 use Rattle.device.specs.Lines.{lines, ended_lines, open_line}
 use Rattle.picture.specs.Picture.{Picture, bars, with_quiet_zone, enlargement}
 use Rattle.picture.specs.declared.quiet_zone.QuietZone.{QuietZone}
 use Rattle.picture.specs.Text.{pbm_text, ascii_text}
-use Rattle.picture.specs.Reading.{pbm_pixels, ascii_pixels, is_white, raster, pbm_files, ascii_files, sample}
+use Rattle.picture.specs.Reading.{Raster, pbm_pixels, ascii_pixels, is_white, raster, pbm_files, ascii_files, sample}
+use Rattle.picture.specs.Reading.{line_pixels, common_row}
 use Rattle.qrmatrix.specs.Square.{value_at}
 
 -- the modules of the symbol of `ean8 7351353`
@@ -104,6 +106,101 @@ no_pixels : map pbm_pixels (codes "P1\na 1\n1111111111\n"
     ∷ codes "P1\n1 1" ∷ []) ≡ None ∷ None ∷ None ∷ []
 unfolding pbm_pixels lines ended_lines open_line
 no_pixels = refl
+
+-- the digits row by row, as many as the size says, each 0 or 1 (pbm(5)), after `P1` and white space
+abbrev rows_of : List (List ℕ) → List (List Bool)
+rows_of texts = map (λ text. map (λ b. b == 49) text) texts
+
+three_rows : pbm_pixels (codes "P1\n2 3\n110010\n")
+    ≡ Some (record { width = 2; height = 3; rows = rows_of (codes "11" ∷ codes "00" ∷ codes "10" ∷ []) })
+unfolding pbm_pixels lines ended_lines open_line
+three_rows = refl
+
+no_raster : map pbm_pixels (codes "P1\n2 3\n11001\n" ∷ codes "P1\n2 3\n1100101\n" ∷ codes "P1\n2 1\n12\n"
+    ∷ codes "P4\n1 1\n1\n" ∷ codes "P11 1\n1\n" ∷ codes "P1\n11\n1\n" ∷ []) ≡ replicate 6 None
+unfolding pbm_pixels lines ended_lines open_line
+no_raster = refl
+
+-- a text picture has lines of equal length, each of pairs of one letter, and then an empty line
+text_pixels : ascii_pixels (codes "##  ##\n    ##\n\n")
+    ≡ Some (record { width = 3; height = 2; rows = rows_of (codes "101" ∷ codes "001" ∷ []) })
+unfolding ascii_pixels lines ended_lines open_line
+text_pixels = refl
+
+no_text_pixels : map ascii_pixels (codes "##\n####\n\n" ∷ codes "####\n##\n\n" ∷ codes "##\n" ∷ codes "##\n##" ∷ [] ∷ [])
+    ≡ replicate 5 None
+unfolding ascii_pixels lines ended_lines open_line
+no_text_pixels = refl
+
+no_pairs : map line_pixels (codes "# " ∷ codes " #" ∷ codes "00" ∷ codes "###" ∷ codes "##00" ∷ []) ≡ replicate 5 None
+no_pairs = refl
+
+-- three modules in a quiet zone of another width on each side, a pixel for each: in the quiet zone no pixel is dark
+-- (ISO/IEC 18004, 6.3.8)
+abbrev four_sides : QuietZone
+four_sides = record { left = 2; right = 1; top = 1; bottom = 2 }
+
+abbrev framed : Raster
+framed = record {
+  width = 6;
+  height = 4;
+  rows = rows_of (codes "000000" ∷ codes "001010" ∷ codes "000000" ∷ codes "000000" ∷ []);
+}
+
+-- the pixels with one of the other colour, the places counted row by row
+changed : Raster → ℕ → Raster
+changed r place =
+    let x = place % r.width in let y = place / r.width in let row = slice_index_or r.rows y [] in
+    record { width = r.width; height = r.height; rows = slice_set r.rows y (slice_set row x (not (slice_index_or row x false))) }
+
+framed_sampled : sample framed 1 four_sides ≡ Some ((true ∷ false ∷ true ∷ []) ∷ [])
+unfolding sample
+framed_sampled = refl
+
+one_pixel_changed : map (λ place. sample (changed framed place) 1 four_sides) (range_with_len 0 24) ≡
+    replicate 8 None ++ (Some (rows_of (codes "001" ∷ [])) ∷ Some (rows_of (codes "111" ∷ []))
+    ∷ Some (rows_of (codes "100" ∷ [])) ∷ replicate 13 None)
+unfolding sample changed
+one_pixel_changed = refl
+
+-- cells of two by two pixels, a light one and then two modules: each pixel has the colour of its cell
+abbrev beside : QuietZone
+beside = record { left = 1; right = 0; top = 0; bottom = 0 }
+
+abbrev cells : Raster
+cells = record { width = 6; height = 2; rows = replicate 2 (map (λ b. b == 49) (codes "001100")) }
+
+cells_sampled : sample cells 2 beside ≡ Some (rows_of (codes "10" ∷ []))
+unfolding sample
+cells_sampled = refl
+
+cells_of_two_colours : map (λ place. sample (changed cells place) 2 beside) (range_with_len 0 12) ≡ replicate 12 None
+unfolding sample changed
+cells_of_two_colours = refl
+
+-- a width or a height that is no multiple of the scale, and a picture that is smaller than its quiet zone
+abbrev light : ℕ → ℕ → Raster
+light width height = record { width = width; height = height; rows = replicate height (replicate width false) }
+
+abbrev no_zone : QuietZone
+no_zone = record { left = 0; right = 0; top = 0; bottom = 0 }
+
+not_sampled : (sample (light 2 2) 2 no_zone ≡ Some ((false ∷ []) ∷ [])) × (sample (light 3 2) 2 no_zone ≡ None)
+    × (sample (light 2 3) 2 no_zone ≡ None) × (sample (light 2 4) 1 four_sides ≡ None)
+    × (sample (light 6 2) 1 four_sides ≡ None)
+unfolding sample
+not_sampled = (refl, refl, refl, refl, refl)
+
+-- a quiet zone that fills the picture leaves no modules
+zone_alone : (sample (light 3 4) 1 four_sides ≡ Some ([] ∷ [])) × (sample (light 6 3) 1 four_sides ≡ Some [])
+unfolding sample
+zone_alone = (refl, refl)
+
+-- the rows of a linear symbol are one row: rows that differ in a module, or in their length, are none
+one_row : map (λ texts. common_row (rows_of texts)) ((codes "101" ∷ codes "101" ∷ []) ∷ (codes "101" ∷ codes "101"
+    ∷ codes "100" ∷ []) ∷ (codes "101" ∷ codes "001" ∷ codes "101" ∷ []) ∷ (codes "101" ∷ codes "10" ∷ []) ∷ [] ∷ []) ≡
+    Some (true ∷ false ∷ true ∷ []) ∷ None ∷ None ∷ None ∷ None ∷ []
+one_row = refl
 
 -- light beside the picture
 beside_pixels : map (λ y. value_at (raster (bars (true ∷ []) 1)).rows 1 y) (0 ∷ 1 ∷ []) ≡ false ∷ false ∷ []

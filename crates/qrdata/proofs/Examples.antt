@@ -1,6 +1,6 @@
 -- Worked values, computed from the definitions.
 use Rattle.std.proofs.Common.{◌≡◌, ℕ, ◌*◌, Bool, true, false, List, [], ◌∷◌, length, map, refl, Some, None}
-use Rattle.std.specs.Prelude.{codes, replicate, sum, ◌==◌}
+use Rattle.std.specs.Prelude.{codes, replicate, sum, ◌==◌, ◌+◌, ◌++◌, ◌%◌, Option, slice_index, slice_set, take}
 use Rattle.std.specs.List.{range_with_len}
 use Rattle.qrdata.specs.declared.level.Level.{Level}
 use Rattle.qrdata.specs.declared.level.Level.TheVariants.{L, M, Q, H}
@@ -21,39 +21,7 @@ use Rattle.qrdata.specs.Segments.{segments_bits}
 use Rattle.qrdata.specs.Versions.{total_codewords, ec_codewords_per_block, data_codewords, block_lengths}
 use Rattle.qrdata.specs.Versions.{block_table, capacity, groups_of, side_of}
 
--- a symbol of version 1-Q that is known from outside is read
-hello_world_reads : data_in 1 Q (32 ∷ 91 ∷ 11 ∷ 120 ∷ 209 ∷ 114 ∷ 220 ∷ 77 ∷ 67 ∷ 64 ∷ 236 ∷ 17 ∷ 236 ∷ 168 ∷ 72 ∷ 22
-    ∷ 82 ∷ 217 ∷ 54 ∷ 156 ∷ 0 ∷ 46 ∷ 15 ∷ 180 ∷ 122 ∷ 16 ∷ []) ≡ Some (codes "HELLO WORLD")
-unfolding alphanumeric_characters bits_of number_of byte_bits total_codewords ec_codewords_per_block
-    data_codewords
-    block_lengths groups_of block_table evaluate field_power field_product binary_product binary_remainder number_at
-    digits_at characters_at bytes_at segment_at segments_at deinterleaving data_in
-hello_world_reads = refl
-
--- the interleaving of version 5-Q, whose blocks have 15, 15, 16 and 16 codewords
-interleaving-split_by : interleaving (split_by (block_lengths 5 Q) (range_with_len 0 62)) ≡
-    0 ∷ 15 ∷ 30 ∷ 46 ∷ 1 ∷ 16 ∷ 31 ∷ 47 ∷ 2 ∷ 17 ∷ 32 ∷ 48 ∷ 3 ∷ 18 ∷ 33 ∷ 49 ∷ 4 ∷ 19 ∷ 34 ∷ 50 ∷ 5 ∷ 20 ∷ 35 ∷ 51 ∷ 6
-    ∷ 21 ∷ 36 ∷ 52 ∷ 7 ∷ 22 ∷ 37 ∷ 53
-    ∷ 8 ∷ 23 ∷ 38 ∷ 54 ∷ 9 ∷ 24 ∷ 39 ∷ 55 ∷ 10 ∷ 25 ∷ 40 ∷ 56 ∷ 11 ∷ 26 ∷ 41 ∷ 57 ∷ 12 ∷ 27 ∷ 42 ∷ 58 ∷ 13 ∷ 28 ∷ 43
-    ∷ 59 ∷ 14 ∷ 29 ∷ 44 ∷ 60 ∷ 45 ∷ 61 ∷ []
-unfolding block_lengths groups_of block_table split_by interleaving
-interleaving-split_by = refl
-
--- the fewest bits, and ties to the longest first segment
-mixed : chosen_segments 1 (codes "a12345") ≡ segment_of Byte 1 ∷ segment_of Numeric 5 ∷ []
-unfolding alphanumeric_characters alphanumeric_value first_segments best_within chosen_segments
-mixed = refl
-
-tie : chosen_segments 1 (codes "a123") ≡ segment_of Byte 4 ∷ []
-unfolding alphanumeric_characters alphanumeric_value first_segments best_within chosen_segments
-tie = refl
-
-short_digits : chosen_segments 1 (codes "a12b") ≡ segment_of Byte 4 ∷ []
-unfolding alphanumeric_characters alphanumeric_value first_segments best_within chosen_segments
-short_digits = refl
-
-three_segments_cost : cost 1 (segment_of Byte 1 ∷ segment_of Numeric 2 ∷ segment_of Byte 1 ∷ []) ≡ 61
-three_segments_cost = refl
+-- ---- the tables
 
 -- the listing of the standard (ISO/IEC 18004, table 9): for each version the error correction codewords of a block, and
 -- the data codewords of each block
@@ -246,6 +214,13 @@ unfolding chosen_version chosen_segments best_within first_segments alphanumeric
     data_codewords block_lengths groups_of block_table
 versions_asked_for = refl
 
+-- eight letters have 76 bits, which version 1-H lacks: the search begins at the version that is asked for
+versions_of_letters : (map (λ lowest. chosen_version lowest H (codes "abcdefgh")) (1 ∷ 2 ∷ 3 ∷ []) ≡
+    Some 2 ∷ Some 2 ∷ Some 3 ∷ []) × (chosen_version 1 H (codes "abcdefg") ≡ Some 1)
+unfolding chosen_version chosen_segments best_within first_segments alphanumeric_characters alphanumeric_value
+    data_codewords block_lengths groups_of block_table
+versions_of_letters = (refl, refl)
+
 -- numbers that no digits, characters or bytes have are not read
 largest_digits : (digits_at 1 (bits_of 4 9) ≡ Some (codes "9", []))
     × (digits_at 2 (bits_of 7 99) ≡ Some (codes "99", []))
@@ -316,3 +291,91 @@ terminator_in_the_eighth = refl
 terminator_cut : data_codewords_of 2 (replicate 15 true) ≡ 255 ∷ 254 ∷ []
 unfolding data_codewords_of with_terminator with_zeros with_pad_codewords codewords_of number_of
 terminator_cut = refl
+
+-- ---- the choice of segments
+
+-- the fewest bits, and ties to the longest first segment
+mixed : chosen_segments 1 (codes "a12345") ≡ segment_of Byte 1 ∷ segment_of Numeric 5 ∷ []
+unfolding alphanumeric_characters alphanumeric_value first_segments best_within chosen_segments
+mixed = refl
+
+tie : chosen_segments 1 (codes "a123") ≡ segment_of Byte 4 ∷ []
+unfolding alphanumeric_characters alphanumeric_value first_segments best_within chosen_segments
+tie = refl
+
+short_digits : chosen_segments 1 (codes "a12b") ≡ segment_of Byte 4 ∷ []
+unfolding alphanumeric_characters alphanumeric_value first_segments best_within chosen_segments
+short_digits = refl
+
+three_segments_cost : cost 1 (segment_of Byte 1 ∷ segment_of Numeric 2 ∷ segment_of Byte 1 ∷ []) ≡ 61
+three_segments_cost = refl
+
+-- ---- codewords
+
+-- a symbol of version 1-Q that is known from outside is read
+hello_world : List ℕ
+hello_world =
+    32 ∷ 91 ∷ 11 ∷ 120 ∷ 209 ∷ 114 ∷ 220 ∷ 77 ∷ 67 ∷ 64 ∷ 236 ∷ 17 ∷ 236 ∷ 168 ∷ 72 ∷ 22 ∷ 82 ∷ 217 ∷ 54 ∷ 156 ∷ 0 ∷ 46 ∷
+    15 ∷ 180 ∷ 122 ∷ 16 ∷ []
+
+hello_world_reads : data_in 1 Q hello_world ≡ Some (codes "HELLO WORLD")
+unfolding hello_world alphanumeric_characters bits_of number_of byte_bits total_codewords ec_codewords_per_block
+    data_codewords
+    block_lengths groups_of block_table evaluate field_power field_product binary_product binary_remainder number_at
+    digits_at characters_at bytes_at segment_at segments_at deinterleaving data_in
+hello_world_reads = refl
+
+-- the interleaving of version 5-Q, whose blocks have 15, 15, 16 and 16 codewords
+interleaved_5q : List ℕ
+interleaved_5q =
+    0 ∷ 15 ∷ 30 ∷ 46 ∷ 1 ∷ 16 ∷ 31 ∷ 47 ∷ 2 ∷ 17 ∷ 32 ∷ 48 ∷ 3 ∷ 18 ∷ 33 ∷ 49 ∷ 4 ∷ 19 ∷ 34 ∷ 50 ∷ 5 ∷ 20 ∷ 35 ∷ 51 ∷ 6
+    ∷ 21 ∷ 36 ∷ 52 ∷ 7 ∷ 22 ∷ 37 ∷ 53
+    ∷ 8 ∷ 23 ∷ 38 ∷ 54 ∷ 9 ∷ 24 ∷ 39 ∷ 55 ∷ 10 ∷ 25 ∷ 40 ∷ 56 ∷ 11 ∷ 26 ∷ 41 ∷ 57 ∷ 12 ∷ 27 ∷ 42 ∷ 58 ∷ 13 ∷ 28 ∷ 43
+    ∷ 59 ∷ 14 ∷ 29 ∷ 44 ∷ 60 ∷ 45 ∷ 61 ∷ []
+
+interleaving-split_by : interleaving (split_by (block_lengths 5 Q) (range_with_len 0 62)) ≡ interleaved_5q
+unfolding block_lengths groups_of block_table split_by interleaving interleaved_5q
+interleaving-split_by = refl
+
+-- `zint -b 58 --vers=5 --secure=3 --verbose -d "ISO/IEC 18004 BLOCKS 5-Q"` (2.11.1): four blocks, of which the last two
+-- have a data codeword more
+codewords_5q : List ℕ
+codewords_5q =
+    32 ∷ 25 ∷ 17 ∷ 17 ∷ 195 ∷ 103 ∷ 236 ∷ 236 ∷ 70 ∷ 167 ∷ 17 ∷ 17 ∷ 140 ∷ 128 ∷ 236 ∷ 236 ∷ 108 ∷ 236 ∷ 17 ∷ 17 ∷ 225
+    ∷ 17 ∷ 236 ∷ 236 ∷ 32 ∷ 236 ∷ 17 ∷ 17 ∷ 3 ∷ 17 ∷ 236 ∷ 236 ∷ 80 ∷ 236 ∷ 17 ∷ 17 ∷ 0 ∷ 17 ∷ 236 ∷ 236 ∷ 54 ∷ 236 ∷
+    17 ∷ 17 ∷ 16 ∷ 17 ∷ 236 ∷ 236 ∷ 36 ∷ 236 ∷ 17 ∷ 17 ∷ 68 ∷ 17 ∷ 236 ∷ 236 ∷ 116 ∷ 236 ∷ 17 ∷ 17 ∷ 236 ∷ 236 ∷ 189 ∷
+    153 ∷ 135 ∷ 135 ∷ 224 ∷ 253 ∷ 147 ∷ 147 ∷ 171 ∷ 230 ∷ 7 ∷ 7 ∷ 173 ∷ 209 ∷ 41 ∷ 41 ∷ 66 ∷ 215 ∷ 128 ∷ 128 ∷ 214 ∷
+    175 ∷ 150 ∷ 150 ∷ 216 ∷ 84 ∷ 120 ∷ 120 ∷ 134 ∷ 194 ∷ 184 ∷ 184 ∷ 85 ∷ 42 ∷ 37 ∷ 37 ∷ 57 ∷ 229 ∷ 181 ∷ 181 ∷ 138 ∷
+    43 ∷ 205 ∷ 205 ∷ 189 ∷ 174 ∷ 222 ∷ 222 ∷ 224 ∷ 153 ∷ 231 ∷ 231 ∷ 187 ∷ 29 ∷ 8 ∷ 8 ∷ 236 ∷ 166 ∷ 44 ∷ 44 ∷ 77 ∷ 96
+    ∷ 81 ∷ 81 ∷ 159 ∷ 210 ∷ 173 ∷ 173 ∷ 74 ∷ 47 ∷ 80 ∷ 80 ∷ []
+
+-- what is read where the codeword at a place is another one
+read_changed : ℕ → Option (List ℕ)
+unfolding codewords_5q
+read_changed place = data_in 5 Q (slice_set codewords_5q place ((slice_index codewords_5q place + 1) % 256))
+
+four_blocks : data_in 5 Q codewords_5q ≡ Some (codes "ISO/IEC 18004 BLOCKS 5-Q")
+unfolding codewords_5q alphanumeric_characters bits_of number_of byte_bits total_codewords ec_codewords_per_block
+    data_codewords block_lengths groups_of block_table evaluate field_power field_product binary_product
+    binary_remainder number_at digits_at characters_at bytes_at segment_at segments_at deinterleaving data_in
+four_blocks = refl
+
+-- one codeword changed in each block: its first data codeword, its last one, its first error correction codeword, its
+-- last one
+codeword_changed : map read_changed (0 ∷ 57 ∷ 64 ∷ 133 ∷ []) ≡ replicate 4 None
+unfolding read_changed alphanumeric_characters bits_of number_of byte_bits total_codewords ec_codewords_per_block
+    data_codewords block_lengths groups_of block_table evaluate field_power field_product binary_product
+    binary_remainder number_at digits_at characters_at bytes_at segment_at segments_at deinterleaving data_in
+codeword_changed = refl
+
+-- a codeword more than version 1 has, and one less
+wrong_lengths : map (data_in 1 Q) ((hello_world ++ (0 ∷ [])) ∷ take 25 hello_world ∷ []) ≡ None ∷ None ∷ []
+unfolding hello_world alphanumeric_characters bits_of number_of byte_bits total_codewords ec_codewords_per_block
+    data_codewords block_lengths groups_of block_table evaluate field_power field_product binary_product
+    binary_remainder number_at digits_at characters_at bytes_at segment_at segments_at deinterleaving data_in
+wrong_lengths = refl
+
+-- the blocks of version 5-Q taken out of the order that the standard lists (ISO/IEC 18004, 7.6)
+blocks_taken_back : deinterleaving (15 ∷ 15 ∷ 16 ∷ 16 ∷ []) interleaved_5q ≡ split_by (15 ∷ 15 ∷ 16 ∷ 16 ∷ []) (range_with_len 0 62)
+unfolding deinterleaving interleaved_5q split_by
+blocks_taken_back = refl
