@@ -11,7 +11,15 @@ INTERRUPTED = 130
 
 
 class ToolError(Exception):
-    """Why a tool cannot go on: a message without the tool's name."""
+    """Why a tool cannot go on: a message without the tool's name; the tool ends with `status`."""
+
+    status = 1
+
+
+class ArgumentsError(ToolError):
+    """Why arguments are refused that are right by themselves."""
+
+    status = BAD_ARGUMENTS
 
 
 class Parser(argparse.ArgumentParser):
@@ -57,7 +65,7 @@ def main_of(tool: str, function: Callable[[], Optional[int]]) -> NoReturn:
             sys.stdout.flush()
     except ToolError as error:
         complain(tool, str(error))
-        status = 1
+        status = error.status
     except OSError as error:
         complain(tool, f"{error.filename or 'standard output'}: {error.strerror or error}")
         status = 1

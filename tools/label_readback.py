@@ -1,0 +1,50 @@
+"""Reads labels back as they are drawn: the data by zxing-cpp, and each row of dots of the bars by the modules."""
+
+from typing import Any, Optional
+
+from label_command import ToolError
+from label_draw import Dots, Pen, dots_of
+from label_file import Label
+from label_layout import Area, Box, Planner
+from label_run import bytes_a_row
+
+try:
+    import numpy
+    import zxingcpp
+except ImportError as error:
+    raise ToolError(f"{error}: --read-back needs apt-get install python3-zxing-cpp") from error
+
+FORMATS = {"ean13": "EAN13", "ean8": "EAN8", "upca": "UPCA", "code128": "Code128", "qr": "QRCode"}
+
+
+def fault_of(label: Label, pen: Pen, planner: Planner) -> Optional[str]:
+    """What is wrong with a label as it is drawn in its cell; None where it is read back."""
+    area = Area(0, 0, planner.width, planner.height)
+    dots = dots_of(area.width, area.height, lambda canvas: pen.draw(canvas, label, area))
+    bars = next(box for box in label.layout.boxes(label, area) if box.kind == "bars")
+    return fault_in(dots, label, bars)
+
+
+def fault_in(dots: Dots, label: Label, bars: Box) -> Optional[str]:
+    """What is wrong with a label of which these are the dots."""
+    pixels = bits_of(b"".join(dots.rows), dots.width)
+    found = zxingcpp.read_barcode(
+        255 * (1 - pixels),
+        formats=getattr(zxingcpp, FORMATS[label.symbology]),
+        binarizer=zxingcpp.Binarizer.BoolCast,
+    )
+    if found is None:
+        return "the label as drawn is not read"
+    if found.bytes != label.data:
+        return f"the label as drawn is read as {found.bytes!r}"
+    module = bars.width // label.width
+    modules = bits_of(label.modules, label.width).repeat(module, axis=1)
+    wanted = modules.repeat(bars.height // label.height if label.height > 1 else bars.height, axis=0)
+    drawn = pixels[bars.top : bars.top + bars.height, bars.left : bars.left + bars.width]
+    return None if numpy.array_equal(drawn, wanted) else "the bars as drawn are not those of labels"
+
+
+def bits_of(rows: bytes, width: int) -> Any:
+    """The dots of rows of whole bytes, a number 0 or 1 for each."""
+    packed = numpy.frombuffer(rows, dtype=numpy.uint8).reshape(-1, bytes_a_row(width))
+    return numpy.unpackbits(packed, axis=1)[:, :width]
