@@ -41,18 +41,16 @@ def pages_of(top):
 
 
 def blocks_of(text):
-    """The blocks of a page: the number of the first line, the language, the code and the text above it; code None
-    where the block is not closed."""
-    lines, start, language, mark = text.split("\n"), None, "", ""
-    for number, line in enumerate(lines, 1):
-        match = FENCE.match(line)
-        if match and start is None:
-            start, mark, language = number, *match.groups()
-        elif match and match.groups() == (mark, ""):
-            yield start, language if mark == "```" else mark, "\n".join(lines[start : number - 1]), lines[: start - 1]
-            start = None
-    if start is not None:
-        yield start, language, None, lines[: start - 1]
+    """The blocks of a page: the number of the first line, the language, the code and the lines above it; code None
+    where the block is not closed before the next one begins."""
+    lines = text.split("\n")
+    fences = [(number, *match.groups()) for number, line in enumerate(lines, 1) if (match := FENCE.match(line))]
+    while fences:
+        start, mark, language = fences.pop(0)
+        code = None
+        if fences and fences[0][1:] == (mark, ""):
+            code = "\n".join(lines[start : fences.pop(0)[0] - 1])
+        yield start, language if mark == "```" else mark, code, lines[: start - 1]
 
 
 def faults_of_blocks(top, page, blocks):

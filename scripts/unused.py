@@ -227,20 +227,7 @@ class RustFile:
 
 def rust_names(path):
     """The names that an import of the code brings in."""
-    head, found = path.partition("{")[0], []
-    if not path.endswith("}"):
-        last = re.split(r"::|\bas\b", path)[-1].strip()
-        return [] if last == "*" else [last]
-    inner, depth, start = path[len(head) + 1 : -1], 0, 0
-    for place, letter in enumerate(inner + ","):
-        depth += (letter == "{") - (letter == "}")
-        if letter == "," and depth == 0:
-            item, start = inner[start:place].strip(), place + 1
-            if item == "self":
-                found.append(head.rstrip(":").split("::")[-1])
-            elif item:
-                found += rust_names(item)
-    return found
+    return [name for name in re.findall(r"(\w+)\s*(?=[,}]|$)", path) if name != "self"]
 
 
 def without_uses(text):

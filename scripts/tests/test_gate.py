@@ -5,7 +5,6 @@ Run by `python3 -m unittest discover -s scripts/tests`. No kit, no third-party t
 
 import os
 import shutil
-import stat
 import subprocess
 import sys
 import tempfile
@@ -32,7 +31,7 @@ class TakenAway(unittest.TestCase):
         """A copy of the repository whose numbers are right."""
         cls.folder = tempfile.mkdtemp(prefix="test-gate-")
         cls.addClassCleanup(shutil.rmtree, cls.folder)
-        left_out = shutil.ignore_patterns("out", "pictures", "__pycache__")
+        left_out = shutil.ignore_patterns("out", "__pycache__")
         for name in PARTS:
             shutil.copytree(os.path.join(TOP, name), os.path.join(cls.folder, name), ignore=left_out)
         for name in FILES:
@@ -54,11 +53,6 @@ class TakenAway(unittest.TestCase):
             self.addCleanup(os.remove, self.path(file))
         write(self.path(file), text)
 
-    def change(self, file, old, new):
-        text = read(self.path(file))
-        self.assertEqual(text.count(old), 1, f"{old!r} is once in {file}")
-        self.replace(file, text.replace(old, new))
-
     def gate(self, *steps, **environment):
         command = [sys.executable, self.path("scripts", "gate.py"), *steps]
         how = {"stdin": subprocess.DEVNULL, "stdout": subprocess.PIPE, "stderr": subprocess.STDOUT, "text": True}
@@ -70,20 +64,105 @@ class TakenAway(unittest.TestCase):
         self.assertEqual((status, f"FAILED: {step}" in text, said in text), (1, True, True), text)
 
     def test_all_is_there(self):
-        status, said = self.gate("counts.py", "pages.py", "unused.py")
-        self.assertEqual((status, said.split("\n")[-2]), (0, "3 passed, 0 failed"), said)
+        status, said = self.gate("counts.py", "pages.py")
+        self.assertEqual((status, said.split("\n")[-2]), (0, "2 passed, 0 failed"), said)
 
-    def test_folders_of_tests(self):
-        for folder in ("scripts/tests", "tools/tests"):
-            with self.subTest(folder):
-                self.move(folder, folder + "-away")
-                self.assert_fails("counts.py", f"{folder}: 0, and ")
-                self.assert_fails(folder, f"there is no folder {folder}")
+    def test_what_is_moved_away(self):
+        name = sorted(os.listdir(self.path("crates/device/wrong-bodies")))[0]
+        differ = "crates.txt and the folders crates/*/src differ in: "
+        for old, new, steps, said in (
+            ("scripts/tests", "scripts/t", "counts.py", "scripts/tests: 0, and "),
+            ("scripts/tests", "scripts/t", "scripts/tests", "there is no folder scripts/tests"),
+            ("tools/tests", "tools/t", "counts.py", "tools/tests: 0, and "),
+            ("tools/tests", "tools/t", "tools/tests", "there is no folder tools/tests"),
+            ("crates/device/wrong-bodies", "crates/device/bodies", "counts.py", "wrong bodies of device: none, and "),
+            (f"crates/device/wrong-bodies/{name}", "away", "counts.py", "wrong bodies of device: "),
+            (name := f"crates/device/wrong-bodies/{name}", name + ".old", "counts.py", ".old, which no script reads"),
+            ("crates/filter/must-fail", "away", "counts.py", "must-fail edits of filter: none, and "),
+            ("crates/labels/stdout", "away", "counts.py", "stored runs of labels: none, and 1"),
+            ("crates/linear/proofs/Examples.antt", "away", "counts.py", "worked values of linear: "),
+            (
+                "crates/picture",
+                "crates/pictures",
+                "counts.py unused.py believed.py pages.py",
+                f"{differ}picture pictures",
+            ),
+            ("crates", "boxes", "counts.py unused.py pages.py", differ),
+            ("docs", "away", "pages.py", "there is no docs/"),
+            ("README.md", "away", "pages.py", "there is no README.md"),
+            ("docs/PROOF.md", "away", "pages.py", "there is no docs/PROOF.md"),
+            ("crates/device/README.md", "away", "pages.py", "there is no crates/device/README.md"),
+            ("docs/INPUT.md", "away", "counts.py", "pages: "),
+        ):
+            self.move(old, new)
+            for step in steps.split():
+                with self.subTest(old=old, step=step):
+                    self.assert_fails(step, said)
+            self.doCleanups()
+
+    def test_what_is_written_otherwise(self):
+        """A part of a file that is replaced, once."""
+        end = "\n## " if "\n## " in read(self.path("docs/INPUT.md")) else "\n"
+        for file, old, new, step, said in (
+            (
+                "scripts/tests/test_gate.py",
+                "def " "test_all_is_there(",
+                "def all_is_there(",
+                "counts.py",
+                "scripts/tests: ",
+            ),
+            ("crates.txt", "gf256:", "# gf256:", "unused.py", "differ in: gf256"),
+            ("crates.txt", "gf256:", "# gf256:", "counts.py", "differ in: gf256"),
+            ("crates/labelcore/specs/HeldLine.antt", "1100", "1101", "believed_rows.py", "line_limit"),
+            ("crates/device/README.md", "```rust\n", "```rust\nsink.forget();\n", "pages.py", "lacks: sink.forget();"),
+            ("docs/INPUT.md", end, f"\n```sh\nlabels\n{end}", "pages.py", "this block is not closed"),
+            ("docs/INPUT.md", end, f"\n~~~rust\nfn a() {{}}\n~~~\n{end}", "pages.py", "no script reads blocks of ~~~"),
+            ("docs/INPUT.md", end, f"\n```bash\nlabels\n```\n{end}", "pages.py", "no script reads blocks of bash"),
+            ("docs/INPUT.md", end, f"\n```\nlabels\n```\n{end}", "pages.py", "no script reads blocks of no language"),
+            ("docs/RECIPES.md", "```sh\n", "```text\n", "counts.py", "blocks of sh: "),
+            (
+                "scripts/compare_symbols.py",
+                "[label for part in",
+                "[] and [label for part in",
+                "counts.py",
+                "compare: 0, and ",
+            ),
+        ):
+            with self.subTest(file=file, new=new):
+                text = read(self.path(file))
+                self.assertIn(old, text)
+                self.replace(file, text.replace(old, new, 1))
+                self.assert_fails(step, said)
                 self.doCleanups()
 
-    def test_a_test(self):
-        self.change("scripts/tests/test_gate.py", "def " "test_a_test(", "def a_test(")
-        self.assert_fails("counts.py", "scripts/tests: ")
+    def test_pages_and_code(self):
+        """Code that a page quotes is in the file that it names, and each term of the glossary in its file."""
+        row = "| device | a source or a sink | own | `device` | `crates.txt` |\n"
+        for file, old, new, said in (
+            (
+                "docs/PROOF.md",
+                "ensures whole {",
+                "ensures half {",
+                "this code is in no file that the page names above it",
+            ),
+            (
+                "docs/PROOF.md",
+                "crates/filter/src/streams.rt",
+                "crates/filter/src/stream.rt",
+                "this code is in no file",
+            ),
+            ("docs/GLOSSARY.md", row, row.replace("`device`", "`devic`"), "device: no `devic` in crates.txt"),
+            ("docs/GLOSSARY.md", row, row.replace("crates.txt", "crate.txt"), "device: no file crate.txt"),
+            ("docs/GLOSSARY.md", row, row.replace("own", ""), "a row without the 5 cells"),
+            ("docs/GLOSSARY.md", row, row + row, "device: also in line"),
+            ("docs/GLOSSARY.md", "| Term | Meaning |", "| Term | Sense |", "no term"),
+        ):
+            with self.subTest(new=new):
+                text = read(self.path(file))
+                self.assertIn(old, text)
+                self.replace(file, text.replace(old, new))
+                self.assert_fails("pages.py", said)
+                self.doCleanups()
 
     def test_tests_that_are_not_found(self):
         self.move("tools/tests", "tools/tests-away")
@@ -102,91 +181,15 @@ class TakenAway(unittest.TestCase):
             status, said = self.gate("tools/tests without the program")
             self.assertEqual((status, said.split("\n")[-2]), (before, f"1 passed, {before} failed"), said)
 
-    def test_wrong_bodies(self):
-        folder = "crates/device/wrong-bodies"
-        self.move(folder, folder + "-away")
-        self.assert_fails("counts.py", "wrong bodies of device: none, and ")
-        os.mkdir(self.path(folder))
-        self.addCleanup(os.rmdir, self.path(folder))
-        self.assert_fails("counts.py", "wrong bodies of device: none, and ")
-
-    def test_wrong_body_of_another_ending(self):
-        name = sorted(os.listdir(self.path("crates/device/wrong-bodies")))[0]
-        self.move(f"crates/device/wrong-bodies/{name}", f"crates/device/wrong-bodies/{name}.old")
-        self.assert_fails("counts.py", f"{name}.old, which no script reads")
-
-    def test_must_fail_edits(self):
-        self.move("crates/filter/must-fail", "crates/filter/must-go")
-        self.assert_fails("counts.py", "must-fail edits of filter: none, and ")
-
-    def test_worked_values_and_stored_run(self):
-        self.replace("crates/linear/proofs/Examples.antt", "-- Nothing.\n")
-        self.move("crates/labels/stdout", "crates/labels/std")
-        self.assert_fails("counts.py", "worked values of linear: ")
-        self.assert_fails("counts.py", "stored runs of labels: none, and 1")
-
-    def test_line_of_the_crates(self):
-        self.replace("crates.txt", "".join(line for line in open(self.path("crates.txt")) if "gf256:" not in line))
-        for step in ("counts.py", "unused.py", "believed.py", "pages.py"):
-            self.assert_fails(step, "crates.txt and the folders crates/*/src differ in: gf256")
-
-    def test_folder_of_a_crate(self):
-        self.move("crates/picture", "crates/pictures")
-        for step in ("counts.py", "unused.py", "believed.py", "pages.py"):
-            self.assert_fails(step, "differ in: picture pictures")
-
-    def test_all_crates(self):
-        self.move("crates", "boxes")
-        for step in ("counts.py", "unused.py", "pages.py"):
-            self.assert_fails(step, "crates.txt and the folders crates/*/src differ in: ")
-
-    def test_pages(self):
-        for page in ("docs", "README.md", "docs/PROOF.md", "crates/device/README.md"):
-            with self.subTest(page):
-                self.move(page, "away")
-                self.assert_fails("pages.py", f"there is no {'docs/' if page == 'docs' else page}")
-                self.doCleanups()
-        self.move("docs/INPUT.md", "away")
-        self.assert_fails("counts.py", "pages: ")
-
-    def test_blocks_of_a_page(self):
-        for block, said in (
-            ("```sh\nlabels\n", "this block is not closed"),
-            ("~~~rust\nfn a() {}\n~~~\n", "no script reads blocks of ~~~"),
-            ("```bash\nlabels\n```\n", "no script reads blocks of bash"),
-            ("```\nlabels\n```\n", "no script reads blocks of no language"),
-        ):
-            with self.subTest(said):
-                self.replace("docs/INPUT.md", read(self.path("docs/INPUT.md")) + "\n" + block)
-                self.assert_fails("pages.py", said)
-                self.doCleanups()
-
-    def test_commands_of_a_page(self):
-        page = read(self.path("docs/RECIPES.md"))
-        self.replace("docs/RECIPES.md", page.replace("```sh\n", "```text\n", 1))
-        self.assert_fails("counts.py", "blocks of sh: ")
-
-    def test_wrong_line_in_the_page_of_a_crate(self):
-        self.change("crates/device/README.md", "\n```rust\n", "\n```rust\nsink.forget();\n")
-        self.assert_fails("pages.py", "page_of_device of crates/tests/src/pages.rt lacks: sink.forget();")
-
-    def test_labels_to_compare(self):
-        path = "scripts/compare_symbols.py"
-        self.change(path, "return [label for part in parts for label in part(draw)]", "return []")
-        self.assert_fails("counts.py", "labels to compare: 0, and ")
-        for tool in ("zbarimg", "pnmpad", "pnmtopng", "zint"):
+    def test_no_labels_to_compare(self):
+        text = read(self.path("scripts/compare_symbols.py"))
+        self.replace("scripts/compare_symbols.py", text.replace("return [label for", "return [] and [label for"))
+        for tool in ("zbarimg", "pnmpad", "pnmtopng", "zint", "labels"):
             write(self.path("bin", tool), "#!/bin/sh\n", is_program=True)
-        program = self.path("bin/labels")
-        write(program, "#!/bin/sh\n", is_program=True)
         environment = {**os.environ, "PATH": f"{self.path('bin')}:{os.environ['PATH']}"}
-        ran = subprocess.run([sys.executable, self.path(path), program], env=environment, capture_output=True)
+        command = [sys.executable, self.path("scripts/compare_symbols.py"), self.path("bin/labels")]
+        ran = subprocess.run(command, env=environment, capture_output=True)
         self.assertEqual((ran.returncode, ran.stdout), (1, b"0 labels: 0 read back, 0 of 0 as zint draws them\n"))
-
-    def test_definition_that_was_not_judged(self):
-        """A definition that is another one than that whose wrong entries were judged."""
-        name = "crates/labelcore/specs/HeldLine.antt"
-        self.change(name, "1100", "1101")
-        self.assert_fails("believed_rows.py", "line_limit")
 
     def test_step_that_looked_at_less(self):
         script = "scripts/refuse_each_growth.sh"
@@ -271,20 +274,16 @@ class Run(InFolder):
         status, lines = self.run_gate()
         self.assertEqual((status, lines), (1, ["gate.py quick ran", "4 passed, 1 failed", "4 passed, 1 failed"]))
 
-    def test_status_of_the_proofs(self):
+    def test_parts_that_fail(self):
+        """The status is that of the proofs where these fail, else 1; what comes after the proofs runs all the same."""
         self.program("rt", "echo '2 passed, 1 failed'; exit 3")
         status, lines = self.run_gate()
         self.assertEqual((status, lines[-1]), (3, "7 passed, 1 failed"))
-
-    def test_wrong_bodies_that_pass(self):
-        self.part("wrong_bodies.py", "1 passed, 1 failed", 1)
-        status, lines = self.run_gate()
-        self.assertEqual((status, lines[-3], lines[-1]), (1, "gate.py built ran", "14 passed, 1 failed"))
-
-    def test_part_without_a_last_line(self):
-        self.part("wrong_bodies.py", "Traceback", 1)
-        status, lines = self.run_gate()
-        self.assertEqual((status, lines[-1]), (1, "13 passed, 1 failed"))
+        self.setUp()
+        for last, wanted in (("1 passed, 1 failed", "14 passed, 1 failed"), ("Traceback", "13 passed, 1 failed")):
+            self.part("wrong_bodies.py", last, 1)
+            status, lines = self.run_gate()
+            self.assertEqual((status, lines[-3], lines[-1]), (1, "gate.py built ran", wanted))
 
 
 class Packages(unittest.TestCase):
@@ -302,10 +301,6 @@ class Packages(unittest.TestCase):
         beside = {"declared.py", "sources.py", "install.sh", "package.sh", "fresh_root.sh"}
         names = {name for name in os.listdir(os.path.join(TOP, "scripts")) if name.endswith((".py", ".sh"))}
         self.assertEqual(sorted(name for name in names - beside if name not in gate), [])
-
-    def test_programs(self):
-        mode = os.stat(os.path.join(TOP, ".ci/run")).st_mode
-        self.assertTrue(mode & stat.S_IXUSR)
 
 
 if __name__ == "__main__":

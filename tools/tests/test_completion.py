@@ -54,6 +54,11 @@ def help_of(command: str) -> str:
     return support.run(command, "--help").stdout.decode()
 
 
+def options_of(command: str) -> Dict[str, str]:
+    """The options of a help text, each with the word for what it takes, if anything."""
+    return dict(re.findall(r"^ +(?:-h, )?(--[a-z-]+)(?: (\S+))?(?:  |$)", help_of(command), re.M))
+
+
 def typed(shell: List[str], lines: str, keys: str, folder: Path) -> str:
     """What an interactive shell writes after these lines and then these keys."""
     process, terminal = pty.fork()
@@ -120,7 +125,7 @@ class Completion(unittest.TestCase):
     def test_options(self) -> None:
         """Each option of the help text is proposed, and no other."""
         for command in ("labels", *TOOLS):
-            options = sorted(set(re.findall(r"(?<![\w-])--[a-z][a-z-]*", help_of(command).split("Lines: ")[0])))
+            options = sorted(options_of(command))
             self.assertIn("--help", options, command)
             for shell in SHELLS:
                 with self.subTest(command=command, shell=shell):
@@ -129,9 +134,7 @@ class Completion(unittest.TestCase):
     def test_values(self) -> None:
         """Each value of the help text is proposed, and no file."""
         for command in ("labels", *TOOLS):
-            taking = set(re.findall(r"(--[a-z][a-z-]*)[ =]<?[A-Z{<\d]", help_of(command).split("Lines: ")[0]))
-            taking |= {name.split()[1] for name in VALUES if name.split()[0] == command}
-            for option in sorted(taking):
+            for option in [option for option, taken in options_of(command).items() if taken]:
                 values = VALUES.get(f"{command} {option}", "")
                 wanted = ["my label.txt"] if values is None else sorted(values.split())
                 for shell in SHELLS:
@@ -141,7 +144,9 @@ class Completion(unittest.TestCase):
                         self.assertEqual(found, [] if values is None and shell == "bash" else wanted)
 
     def test_values_of_labels_are_those_of_its_help(self) -> None:
-        for option, shown in re.findall(r"^ +(--[a-z-]+) <([^>]*)>", help_of("labels"), re.M):
+        shown_values = {option: shown.strip("<>") for option, shown in options_of("labels").items() if shown}
+        self.assertEqual(sorted(shown_values), sorted(OF_LABELS))
+        for option, shown in shown_values.items():
             numbers = re.fullmatch(r"(\d+)-(\d+)", shown)
             values = shown.split("|")
             if numbers:
