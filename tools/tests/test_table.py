@@ -1,19 +1,22 @@
-"""Tests of tools/label-table: each encoding, delimiter and fault of a table, and what it writes and reports.
+"""Tests of tools/label-table: each encoding, delimiter and fault of a table of text, and what it writes and reports.
 
 The check digits are those of numbers in print: 4006381333931 (a pencil), 9780306406157 (a book), 73513537 (EAN-8) and
-036000291452 (UPC-A).
+036000291452 (UPC-A). What spreadsheets' own files say is in test_table_workbooks.
 """
 
 import functools
+import json
 import re
+import shutil
 import subprocess
 import tempfile
 import time
 import unittest
 from pathlib import Path
-from typing import Dict, List, Sequence, Tuple, Union
+from typing import Any, Dict, List, Sequence, Tuple, Union
 
 import support
+from label_cells import shown
 
 REFUSED = "refused: "
 
@@ -21,6 +24,22 @@ PENCIL = "4006381333931"
 BOOK = "9780306406157"
 SMALL = "73513537"
 SOAP = "036000291452"
+
+Label = Dict[str, Any]
+
+
+def parts_of(output: bytes) -> Tuple[Label, List[Tuple[Label, str]], Label]:
+    """The first remark, each line behind its remark, and the last remark; raises where the output is anything else."""
+    if not output:
+        return {}, [], {}
+    *texts, rest = output.decode("utf-8").split("\n")
+    remarks = [json.loads(text.removeprefix("#")) for text in (texts[0], *texts[1::2])]
+    for text, remark in zip((texts[0], *texts[1::2]), remarks):
+        if text != "#" + json.dumps(remark, ensure_ascii=False, separators=(",", ":")):
+            raise AssertionError(f"not as a remark is written: {text}")
+    if rest or len(texts) % 2 or any(line.startswith("#") for line in texts[2::2]):
+        raise AssertionError(f"no remark before each line, or no line end: {output!r}")
+    return remarks[0], list(zip(remarks[1:-1], texts[2::2])), remarks[-1]
 
 
 class TableTest(unittest.TestCase):
@@ -40,15 +59,32 @@ class TableTest(unittest.TestCase):
         status: int = 0,
         locales: Sequence[str] = (),
     ) -> None:
-        """Runs label-table over standard input, in each locale or else here; compares lines, messages and status."""
+        """Runs label-table over standard input, in each locale or else here; compares lines, messages and status.
+
+        Where there are lines or rows are left out, the output has to be whole: a remark before each line, and at the
+        end how many lines there are and which rows were left out.
+        """
         data = table.encode() if isinstance(table, str) else table
         runs = [functools.partial(support.run, locale=locale) for locale in locales] or [support.run_here]
+        left_out = [int(row) for row in re.findall("^row ([0-9]+): ", "\n".join(problems), re.MULTILINE)]
         for run in runs:
             with self.subTest(run=run, table=data[:60], arguments=arguments):
                 done = run("label-table", *arguments, input=data)
                 self.assertEqual(support.messages(done), [f"label-table: {problem}" for problem in problems])
-                self.assertEqual(done.stdout.decode().splitlines(), list(lines))
+                first, labels, last = parts_of(done.stdout)
+                self.assertEqual([line for _, line in labels], list(lines))
+                if lines or left_out:
+                    self.assertEqual(first, {"labels": 1})
+                    end = {"end": 1, "lines": len(lines), "left_out": left_out[:20], "left_out_count": len(left_out)}
+                    self.assertEqual(last, end)
                 self.assertEqual(done.returncode, status)
+
+    def labels(self, table: Union[str, bytes], *arguments: str) -> List[Label]:
+        """What belongs to each line of a table of which no row is left out."""
+        data = table.encode() if isinstance(table, str) else table
+        done = support.run_here("label-table", *arguments, input=data)
+        self.assertEqual((done.returncode, support.messages(done)), (0, []))
+        return [label for label, _ in parts_of(done.stdout)[1]]
 
     def check_cells(self, arguments: Sequence[str], wanted: Dict[str, str]) -> None:
         """A column of cells, each in quotes, and the line that each gives, or REFUSED and the message for its row."""
@@ -69,41 +105,45 @@ class TableTest(unittest.TestCase):
 
 class Encodings(TableTest):
     TEXT = f"Nummer;Größe;Name\r\n{PENCIL};ß;Käse\r\n{SMALL};ü;Öl €\r\n"
-    ARGUMENTS = ("--code", "Nummer", "--caption", "Größe", "--caption", "Name")
+    ARGUMENTS = ("--code", "Nummer", "--title", "Name", "--text", "Größe")
 
-    def check_captions(self, data: bytes, *arguments: str) -> None:
+    def check_letters(self, data: bytes, *arguments: str) -> None:
         for locale in support.LOCALES:
             with self.subTest(locale=locale, arguments=arguments):
-                captions = self.folder / "captions.txt"
-                wanted = [*self.ARGUMENTS, "--captions", str(captions), *arguments]
-                done = support.run("label-table", *wanted, input=data, locale=locale)
+                done = support.run("label-table", *self.ARGUMENTS, *arguments, input=data, locale=locale)
                 self.assertEqual(support.messages(done), [])
-                self.assertEqual(done.stdout, f"ean13 {PENCIL}\nean8 {SMALL}\n".encode())
-                self.assertEqual(captions.read_text("utf-8"), "ß\tKäse\nü\tÖl €\n")
+                pencil = f'#{{"row":2,"title":"Käse","text":["ß"]}}\nean13 {PENCIL}\n'
+                small = f'#{{"row":3,"title":"Öl €","text":["ü"]}}\nean8 {SMALL}\n'
+                end = '#{"end":1,"lines":2,"left_out":[],"left_out_count":0}\n'
+                self.assertEqual(done.stdout.decode(), '#{"labels":1}\n' + pencil + small + end)
 
     def test_utf8_with_and_without_mark(self) -> None:
-        self.check_captions(self.TEXT.encode("utf-8"))
-        self.check_captions(self.TEXT.encode("utf-8-sig"))
-        self.check_captions(self.TEXT.encode("utf-8-sig"), "--encoding", "UTF-8")
+        self.check_letters(self.TEXT.encode("utf-8"))
+        self.check_letters(self.TEXT.encode("utf-8-sig"))
+        self.check_letters(self.TEXT.encode("utf-8-sig"), "--encoding", "UTF-8")
 
     def test_utf16_with_mark(self) -> None:
-        self.check_captions(b"\xff\xfe" + self.TEXT.encode("utf-16-le"))
-        self.check_captions(b"\xfe\xff" + self.TEXT.encode("utf-16-be"))
-        self.check_captions(b"\xff\xfe" + self.TEXT.encode("utf-16-le"), "--encoding", "utf-16-le")
+        self.check_letters(b"\xff\xfe" + self.TEXT.encode("utf-16-le"))
+        self.check_letters(b"\xfe\xff" + self.TEXT.encode("utf-16-be"))
+        self.check_letters(b"\xff\xfe" + self.TEXT.encode("utf-16-le"), "--encoding", "utf-16-le")
+
+    def test_utf32_with_mark(self) -> None:
+        self.check_letters(b"\xff\xfe\0\0" + self.TEXT.encode("utf-32-le"))
+        self.check_letters(b"\0\0\xfe\xff" + self.TEXT.encode("utf-32-be"))
 
     def test_utf16_without_mark(self) -> None:
-        self.check_captions(self.TEXT.encode("utf-16-le"), "--encoding", "utf-16-le")
-        self.check_captions(self.TEXT.encode("utf-16-be"), "--encoding", "utf-16-be")
+        self.check_letters(self.TEXT.encode("utf-16-le"), "--encoding", "utf-16-le")
+        self.check_letters(self.TEXT.encode("utf-16-be"), "--encoding", "utf-16-be")
         problem = "standard input has zero bytes: save it as UTF-8, or give --encoding utf-16-le or utf-16-be"
         self.check(self.TEXT.encode("utf-16-le"), ["--code", "1"], [], [problem], 1)
 
     def test_one_byte_encodings_when_told(self) -> None:
-        self.check_captions(self.TEXT.encode("cp1252"), "--encoding", "cp1252")
+        self.check_letters(self.TEXT.encode("cp1252"), "--encoding", "cp1252")
         text = self.TEXT.replace("€", "¤").encode("latin-1")
         self.check(text, ["--code", "Nummer", "--encoding", "latin-1"], [f"ean13 {PENCIL}", f"ean8 {SMALL}"])
         self.check(
             "code\nKäse\n".encode("latin-1"),
-            ["--code", "1", "--symbology", "qr", "--encoding", "latin-1"],
+            ["--code", "code", "--symbology", "qr", "--encoding", "latin-1"],
             ["qr Käse"],
         )
 
@@ -112,31 +152,31 @@ class Encodings(TableTest):
         problem = f"standard input is not UTF-8 (byte 0xe4 in line 3 of the file): {fix}"
         self.check(f"code;name\r\n{PENCIL};a\r\n{SMALL};K".encode() + b"\xe4se", ["--code", "1"], [], [problem], 1)
         problem = (
-            "standard input is not UTF-16, or it is cut off: save it as UTF-8, or give the right name to --encoding"
+            "standard input is not UTF-16, or it is cut off: save it as UTF-8, or give --encoding with its right name"
         )
         self.check(b"\xff\xfea", ["--code", "1"], [], [problem], 1)
         problem = (
             "standard input is not CP1252 (byte 0x81 in line 2 of the file): "
-            "save it as UTF-8, or give the right name to --encoding"
+            "save it as UTF-8, or give --encoding with its right name"
         )
         self.check(b"code\n\x81\n", ["--code", "1", "--encoding", "windows-1252"], [], [problem], 1)
 
     def test_encoding_told_that_the_file_contradicts(self) -> None:
-        for encoding in ("latin-1", "cp1252"):
+        for encoding in ("latin-1", "cp1252", "cp850", "mac-roman", "koi8-r", "shift_jis", "gb18030"):
             problem = f"standard input is UTF-8: leave --encoding {encoding} away"
             arguments = ["--code", "code", "--symbology", "qr", "--encoding", encoding]
             self.check("code\nKäse\n", arguments, [], [problem], 2)
             problem = f"standard input begins with the mark of UTF-8: leave --encoding {encoding} away"
             self.check("\ufeffcode\nabc\n", arguments, [], [problem], 2)
-        problem = (
-            "standard input has bytes from 0x80 to 0x9f, which Latin-1 has no letters for: give --encoding cp1252"
-        )
+        problem = "standard input has bytes from 0x80 to 0x9f, no letters of Latin-1: give --encoding cp1252"
         self.check("code\n5 €\n".encode("cp1252"), ["--code", "1", "--encoding", "latin-1"], [], [problem], 1)
 
     def test_files_that_are_no_text(self) -> None:
-        problem = "standard input is a spreadsheet's own file (.xlsx, .ods, .xls): save the table as CSV"
-        for start in (b"PK\x03\x04", b"\xd0\xcf\x11\xe0\xa1\xb1\x1a\xe1"):
-            self.check(start + b"\0\0", ["--code", "1"], [], [problem], 1)
+        problem = "standard input is an old spreadsheet (.xls), or has a password: save it as .xlsx, without one"
+        self.check(b"\xd0\xcf\x11\xe0\xa1\xb1\x1a\xe1\0\0", ["--code", "1"], [], [problem], 1)
+        problem = "standard input is XML or HTML: save the table as .xlsx, .ods or CSV"
+        for start in ("<?xml version='1.0'?><office:document>", "\n<!DOCTYPE html>", "<HTML><table>", "<table><tr>"):
+            self.check(start, ["--code", "1"], [], [problem], 1)
 
 
 class Cells(TableTest):
@@ -176,11 +216,9 @@ class Cells(TableTest):
                 self.check(table, ["--code", "code"], [f"ean13 {PENCIL}", f"ean8 {SMALL}"])
 
     def test_quotes(self) -> None:
-        captions = self.folder / "captions.txt"
         table = f'"name","code"\r\n"soap, ""soft""","{PENCIL}"\r\n5" nail,{SMALL}\r\n'
-        arguments = ["--code", "code", "--caption", "name", "--captions", str(captions)]
-        self.check(table, arguments, [f"ean13 {PENCIL}", f"ean8 {SMALL}"])
-        self.assertEqual(captions.read_bytes(), b'soap, "soft"\n5" nail\n')
+        labels = self.labels(table, "--code", "code", "--title", "name")
+        self.assertEqual(labels, [{"row": 2, "title": 'soap, "soft"'}, {"row": 3, "title": '5" nail'}])
 
     def test_row_numbers_are_those_of_the_spreadsheet(self) -> None:
         table = f'code;note\n{PENCIL};"two\r\nlines\n"\n;x\n{SMALL};y\n73513538;"a\nb"\n'
@@ -195,6 +233,23 @@ class Cells(TableTest):
         self.check(f'code;name\n{PENCIL};"a"b\n{SMALL};c\n', ["--code", "code"], [f"ean8 {SMALL}"], [text_after], 1)
         in_header = f"standard input: {open_quote.replace('row 2', 'row 1')}"
         self.check(f'"code;name\n{SMALL};"a', ["--code", "code"], [], [in_header], 1)
+
+    def test_what_follows_text_after_a_closing_quote_in_another_line_is_left_out(self) -> None:
+        text_after = 'text after a closing quote: write a quote in a quoted cell twice ("")'
+        for row in (f'{PENCIL};"a\nb"c\n{SMALL};d', f'{PENCIL};"a"b;"c\n{SMALL};d\n"\n{SMALL};e'):
+            problem = "a quote is not closed" if "b\"c" in row else text_after
+            problem = f"row 2: {problem}; this row and all below it are left out"
+            self.check(f"code;name\n{row}\n", ["--code", "code"], [], [problem], 1)
+
+    def test_a_cell_beyond_what_python_reads(self) -> None:
+        long = "x" * 131073
+        table = f"code;name\n{SMALL};{long}\n{PENCIL};b\n"
+        self.check(table, ["--code", "code"], [f"ean8 {SMALL}", f"ean13 {PENCIL}"])
+        problem = 'row 2: column 2 ("name") has 131073 characters in the cell, and at most 131068 are read'
+        self.check(table, ["--code", "code", "--text", "name"], [f"ean13 {PENCIL}"], [problem], 1)
+        self.check(
+            f'code;name\n{SMALL};"{long}\n"\n{PENCIL};b\n', ["--code", "1"], [f"ean8 {SMALL}", f"ean13 {PENCIL}"]
+        )
 
     def test_rows_of_other_lengths(self) -> None:
         rows = [f"{PENCIL};a;b", PENCIL, f"{PENCIL};1,20;a;b", f"{SMALL};a;b;;", f"{SMALL};;"]
@@ -222,8 +277,20 @@ class Cells(TableTest):
             "A\t1": title + 'a tab in the cell "A<U+0009>1", which nobody sees',
             "\u200e73513537": title + 'left-to-right mark (U+200E) in the cell "<U+200E>73513537", which nobody sees',
             "A\x1d1": title + 'control character (U+001D) in the cell "A<U+001D>1", which nobody sees',
+            "A\u00a01": title + 'no-break space (U+00A0) in the cell "A<U+00A0>1", which nobody sees',
+            "A\u202f1": title + 'narrow no-break space (U+202F) in the cell "A<U+202F>1", which nobody sees',
+            "A\u30001": title + 'ideographic space (U+3000) in the cell "A<U+3000>1", which nobody sees',
+            "A\u20611": title + 'function application (U+2061) in the cell "A<U+2061>1", which nobody sees',
+            "A\ufe0f1": title + 'variation selector-16 (U+FE0F) in the cell "A\ufe0f1", which nobody sees',
+            "A\U000e01001": title + 'variation selector-17 (U+E0100) in the cell "A\U000e01001", which nobody sees',
+            "A\u31641": title + 'hangul filler (U+3164) in the cell "A\u31641", which nobody sees',
+            "A\u20281": title + "a line end in the cell",
+            "=A1": title + '"=A1", a formula: export its value',
             "K\ufffdse": title + "the sign of a lost letter (U+FFFD) in the cell: export the table again",
-            **{cell: f'{title}"{cell}", {error}' for cell in ("#REF!", "#N/A", "#WERT!", "#DIV/0!", "####")},
+            **{
+                cell: f'{title}"{cell}", {error}'
+                for cell in ("#REF!", "#N/A", "#WERT!", "#DIV/0!", "####", "Err:502", "#ЗНАЧ!")
+            },
         }
         for arguments in ([], ["--symbology", "qr"], ["--symbology", "code128"]):
             self.check_cells(arguments, wanted)
@@ -233,8 +300,8 @@ class Columns(TableTest):
     def test_by_name_and_by_number(self) -> None:
         table = f'name;"the\ncode";2\na;{SMALL};{PENCIL}\n'
         self.check(table, ["--code", "the code"], [f"ean8 {SMALL}"])
-        self.check(table, ["--code", "3"], [f"ean13 {PENCIL}"])
-        self.check(table, ["--code", "2"], [f"ean13 {PENCIL}"])
+        self.check(table, ["--code", "3", "--header"], [f"ean13 {PENCIL}"])
+        self.check(table, ["--code", "2", "--header"], [f"ean13 {PENCIL}"])
         self.check(f" Größe ;x\n{SMALL};a\n", ["--code", "Größe"], [f"ean8 {SMALL}"], locales=support.LOCALES)
         problem = 'no column "Länge"; row 1 has 1 column: 1 "Größe"'
         self.check(f"Größe\n{SMALL}\n", ["--code", "Länge"], [], [problem], 2, support.LOCALES)
@@ -244,9 +311,8 @@ class Columns(TableTest):
         listed = 'row 1 has 2 columns: 1 "code", 2 "name"'
         for column in ("Code", "0", "3", "-1", ""):
             self.check(table, [f"--code={column}"], [], [f'no column "{column}"; {listed}'], 2)
-        arguments = ["--code", "1", "--caption", "size", "--captions", str(self.folder / "captions.txt")]
-        self.check(table, arguments, [], [f'no column "size"; {listed}'], 2)
-        self.assertFalse((self.folder / "captions.txt").exists())
+        for option in ("--title", "--text", "--price", "--copies"):
+            self.check(table, ["--code", "1", option, "size"], [], [f'no column "size"; {listed}'], 2)
 
     def test_column_that_is_there_twice(self) -> None:
         problem = 'columns 1 and 3 are both named "code": give the number of one'
@@ -258,14 +324,35 @@ class Columns(TableTest):
         table = f"{PENCIL};a\n73513538;b\n"
         problem = "row 2: 73513538: the check digit is 8, should be 7"
         self.check(table, ["--code", "1", "--no-header"], [f"ean13 {PENCIL}"], [problem], 1)
+        self.check(f"ean;b\n{SMALL};c\n", ["--code", "1", "--header"], [f"ean8 {SMALL}"])
         problem = 'no column "code"; row 1 has 2 columns; without a header row, give the number'
         self.check(table, ["--code", "code", "--no-header"], [], [problem], 2)
         self.check(table, ["--code", "3", "--no-header"], [], ['no column "3"; row 1 has 2 columns'], 2)
 
-    def test_header_that_is_an_article(self) -> None:
-        problem = "row 1 has a number where the column's name is expected: give --no-header"
-        self.check(f"{PENCIL};a\n{SMALL};b\n", ["--code", "1"], [], [problem], 2)
-        self.check(PENCIL, ["--code", "1"], [], [problem], 2)
+    def test_a_number_where_row_1_may_be_an_article(self) -> None:
+        hint = "give --no-header if that is a code, --header if it is the name of the column"
+        rows = [
+            ([], f"{PENCIL};a\n{SMALL};b\n", PENCIL),
+            ([], PENCIL, PENCIL),
+            ([], "4,00638E+12\tx\n4,00639E+12\ty\n", "4,00638E+12"),
+            ([], f"x;1\n{SMALL};2\n", "1"),
+            (["--symbology", "code128"], "LOT 7\nSHELF-A\n", "LOT 7"),
+            (["--symbology", "code128"], "LOT\nSHELF\n", "LOT"),
+            (["--symbology", "qr"], "https://example.com/a\nx\n", "https://example.com/a"),
+        ]
+        for arguments, table, cell in rows:
+            place = 2 if cell == "1" else 1
+            problem = f'row 1 has "{cell}" in column {place}: {hint}'
+            self.check(table, ["--code", "1", *arguments], [], [problem], 2)
+        self.check("LOT 7\nLOT 8\n", ["--code", "1", "--symbology", "code128", "--header"], ["code128 LOT 8"])
+        lots = ["code128 LOT 7", "code128 LOT 8"]
+        self.check("LOT 7\nLOT 8\n", ["--code", "1", "--symbology", "code128", "--no-header"], lots)
+        for name in ("EAN-13", "GTIN14", "Code 128", "Artikel-Nr."):
+            self.check(f"{name}\n{SMALL}\n", ["--code", "1"], [f"ean8 {SMALL}"])
+
+    def test_a_column_without_a_name_beyond_the_cells_of_a_row(self) -> None:
+        problem = "row 2: column 3 is empty"
+        self.check(f"a;b;\n1;2\n1;2;{SMALL}\n", ["--code", "3"], [f"ean8 {SMALL}"], [problem], 1)
 
     def test_tables_without_rows(self) -> None:
         self.check("", ["--code", "1"], [], ["standard input is empty"], 1)
@@ -275,54 +362,173 @@ class Columns(TableTest):
         self.check("code;name\n;\n", ["--code", "code"], [], [problem], 1)
 
 
-class Captions(TableTest):
-    def test_one_line_for_each_line(self) -> None:
-        captions = self.folder / "captions.txt"
-        rows = [f"{PENCIL}; Käse;1,20 ", "73513538;b;2", f"{SMALL};;", f'{BOOK};"a\nb";3', f"{SOAP};c\td;4"]
-        table = "\n".join(["code;name;price", *rows, f"{SMALL};z;5", ""])
-        problems = [
-            "row 3: 73513538: the check digit is 8, should be 7",
-            'row 5: column 2 ("name") has a line end in the cell',
-            'row 6: column 2 ("name") has a tab in the cell "c<U+0009>d", which nobody sees',
-        ]
-        arguments = ["--code", "code", "--caption", "name", "--caption", "price", "--captions", str(captions)]
-        arguments += ["--delimiter", ";"]
-        self.check(table, arguments, [f"ean13 {PENCIL}", f"ean8 {SMALL}", f"ean8 {SMALL}"], problems, 1)
-        self.assertEqual(captions.read_text("utf-8"), "Käse\t1,20\n\t\nz\t5\n")
-
-    def test_the_column_of_the_codes_as_caption(self) -> None:
-        captions = self.folder / "captions.txt"
-        arguments = ["--code", "code", "--caption", "name", "--caption", "1", "--captions", str(captions)]
-        self.check(
-            f"code;name\n {SOAP[1:]} ;a\n{SMALL};b\n",
-            [*arguments, "--fill-zeros"],
-            [f"ean13 0{SOAP}", f"ean8 {SMALL}"],
+class Texts(TableTest):
+    def test_what_belongs_to_a_line_is_before_it(self) -> None:
+        rows = [f"{PENCIL}; Käse;1,20 ;rot;2", "73513538;b;2;;1", f"{SMALL};;;;0", f"{BOOK};c\td;3;;1"]
+        table = "\n".join(["code;name;price;colour;copies", *rows, ""])
+        done = support.run_here(
+            "label-table",
+            *("--code", "code", "--title", "name", "--text", "colour", "--price", "price", "--copies", "copies"),
+            input=table.encode(),
         )
-        self.assertEqual(captions.read_text("utf-8"), f"a\t0{SOAP}\nb\t{SMALL}\n")
-        self.check(f"code;name\n{BOOK[:-1]};a\n", [*arguments, "--without-check-digit"], [f"ean13 {BOOK[:-1]}"])
-        self.assertEqual(captions.read_text("utf-8"), f"a\t{BOOK}\n")
-        self.check("code;name\nLOT 7;a\n", [*arguments, "--symbology", "code128"], ["code128 LOT 7"])
-        self.assertEqual(captions.read_text("utf-8"), "a\tLOT 7\n")
+        problems = [
+            "label-table: row 3: 73513538: the check digit is 8, should be 7",
+            'label-table: row 5: column 2 ("name") has a tab in the cell "c<U+0009>d", which nobody sees',
+        ]
+        self.assertEqual((done.returncode, support.messages(done)), (1, problems))
+        written = [
+            '#{"labels":1}',
+            '#{"row":2,"title":"Käse","text":["rot"],"price":"1,20","copies":2}',
+            f"ean13 {PENCIL}",
+            '#{"row":4,"copies":0}',
+            f"ean8 {SMALL}",
+            '#{"end":1,"lines":2,"left_out":[3,5],"left_out_count":2}',
+        ]
+        self.assertEqual(done.stdout.decode().split("\n"), [*written, ""])
 
-    def test_file_that_is_in_use(self) -> None:
-        table = self.folder / "table.csv"
-        table.write_text(f"code;name\n{SMALL};a\n")
-        arguments = ["--code", "code", "--caption", "name", "--captions", str(table)]
-        problem = f"label-table: --captions {table} is a file that is read or written already: name another"
-        done = support.run("label-table", *arguments, str(table))
-        self.assertEqual((done.returncode, done.stdout, support.messages(done)), (2, b"", [problem]))
-        self.assertEqual(table.read_text(), f"code;name\n{SMALL};a\n")
+    def test_the_order_of_the_rows_does_not_matter(self) -> None:
+        rows = [f"{PENCIL};pencil", f"{SMALL};eraser", f"{BOOK};book"]
+        titles = {PENCIL: "pencil", SMALL: "eraser", BOOK: "book"}
+        for order in (rows, rows[::-1], [rows[1], "x;y", rows[0]]):
+            table = "\n".join(["code;name", *order])
+            done = support.run_here("label-table", "--code", "code", "--title", "name", input=table.encode())
+            found = {line.split()[1]: label["title"] for label, line in parts_of(done.stdout)[1]}
+            self.assertEqual(found, {code: titles[code] for code in found})
+            self.assertGreater(len(found), 1)
 
-    def test_file_that_cannot_be_written(self) -> None:
-        for name, reason in (("/dev/full", "No space left on device"), (str(self.folder), "Is a directory")):
-            arguments = ["--code", "code", "--caption", "code", "--captions", name]
-            self.check(f"code\n{SMALL}\n", arguments, [], [f"cannot write {name}: {reason}"], 1)
+    def test_the_name_of_the_table(self) -> None:
+        path = self.folder / "Käse 1.csv"
+        path.write_text(f"code\n{SMALL}\n")
+        done = support.run("label-table", "--code", "code", path)
+        self.assertEqual(parts_of(done.stdout)[0], {"labels": 1, "table": str(path)})
+        path = Path(str(self.folder), b"K\xe4se.csv".decode(errors="surrogateescape"))
+        path.write_text(f"code\n{SMALL}\n")
+        done = support.run("label-table", "--code", "code", path)
+        self.assertEqual(parts_of(done.stdout)[0], {"labels": 1, "table": f"{self.folder}/K?se.csv"})
+
+    def test_a_line_end_in_a_text_is_its_next_line(self) -> None:
+        for end in ("\n", "\r\n", "\r"):
+            table = f'code;name;text\n{SMALL};"Pencil {end} 2B{end}";"a{end}{end}b"\n'
+            labels = self.labels(table, "--code", "code", "--title", "name", "--text", "text")
+            self.assertEqual(labels, [{"row": 2, "title": "Pencil\n2B", "text": ["a\nb"]}])
+
+    def test_several_columns(self) -> None:
+        table = f"code;a;b;c\n{SMALL};one;;three\n{PENCIL};;;\n"
+        arguments = [
+            "--title",
+            "c",
+            "--title",
+            "b",
+            "--title",
+            "a",
+            "--text",
+            "a",
+            "--text",
+            "b",
+            "--text",
+            "3",
+            "--text",
+            "c",
+        ]
+        labels = self.labels(table, "--code", "code", *arguments)
+        self.assertEqual(labels, [{"row": 2, "title": "three\none", "text": ["one", "three"]}, {"row": 3}])
+
+    def test_the_column_of_the_codes_as_text(self) -> None:
+        arguments = ["--code", "code", "--text", "name", "--text", "1"]
+        labels = self.labels(f"code;name\n {SOAP[1:]} ;a\n{SMALL};b\n", *arguments, "--fill-zeros")
+        self.assertEqual([label["text"] for label in labels], [["a", f"0{SOAP}"], ["b", SMALL]])
+        labels = self.labels(f"code;name\n{BOOK[:-1]};a\n", *arguments, "--without-check-digit")
+        self.assertEqual(labels[0]["text"], ["a", BOOK])
+        labels = self.labels("code;name\nLOT 7;a\n", *arguments, "--symbology", "code128")
+        self.assertEqual(labels[0]["text"], ["a", "LOT 7"])
+
+    def test_texts_of_every_script_are_taken(self) -> None:
+        for text in (
+            "„Käse“ – …’ €",
+            "Żółć",
+            "Мыло",
+            "日本語",
+            "قلم رصاص",
+            "क्षत्रिय",
+            "^XZ ) Tj",
+            "می\u200cخواهم",
+            "👩\u200d🍳\ufe0f",
+            "x" * 500,
+        ):
+            labels = self.labels(f'code;name\n{SMALL};"{text}"\n', "--code", "code", "--title", "name", "--text", "2")
+            self.assertEqual(labels, [{"row": 2, "title": text, "text": [text]}])
+
+    def test_characters_that_no_text_can_show(self) -> None:
+        names = {
+            "\x1b": "control character (U+001B)",
+            "\x0b": "control character (U+000B)",
+            "\x85": "control character (U+0085)",
+            "\u2028": "line separator (U+2028)",
+            "\u2029": "paragraph separator (U+2029)",
+            "\u202e": "right-to-left override (U+202E)",
+            "\u2066": "left-to-right isolate (U+2066)",
+        }
+        for character, name in names.items():
+            for option in ("--title", "--text"):
+                cell = f"a<U+{ord(character):04X}>b"
+                problem = f'row 2: column 2 ("name") has {name} in the cell "{cell}", which nobody sees'
+                table = f"code;name\n{SMALL};a{character}b\n{PENCIL};c\n"
+                self.check(table, ["--code", "code", option, "name"], [f"ean13 {PENCIL}"], [problem], 1)
+        for cell, problem in (
+            ("#REF!", '"#REF!", which the spreadsheet writes where it has no value to show'),
+            ("=B2", '"=B2", a formula: export its value'),
+        ):
+            problem = f'row 2: column 2 ("name") has {problem}'
+            self.check(f"code;name\n{SMALL};{cell}\n", ["--code", "code", "--title", "name"], [], [problem], 1)
+
+    def test_prices(self) -> None:
+        prices = ("0,80 €", "12.999,00 zł", "1\u202f299,00\u00a0€", "5,– CHF", "$3.99", '="1,20"')
+        table = "code;price\n" + "".join(f'{SMALL};"{price}"\n'.replace('="1,20"', '=""1,20""') for price in prices)
+        done = support.run_here("label-table", "--code", "code", "--price", "price", input=table.encode())
+        found = [label["price"] for label, _ in parts_of(done.stdout)[1]]
+        self.assertEqual(found, ["1,20" if price.startswith("=") else price for price in prices])
+        wanted = {
+            "1,20\n€": "has a line end in the cell, and a price is one line",
+            "1,\u200b20": 'has zero width space (U+200B) in the cell "1,<U+200B>20", which nobody sees',
+            "\u202e02,1": 'has right-to-left override (U+202E) in the cell "<U+202E>02,1", which nobody sees',
+            "#####": 'has "#####", which the spreadsheet writes where it has no value to show',
+        }
+        for price, problem in wanted.items():
+            problem = f'row 2: column 2 ("price") {problem}'
+            self.check(f'code;price\n{SMALL};"{price}"\n', ["--code", "code", "--price", "price"], [], [problem], 1)
+
+    def test_copies(self) -> None:
+        right = {"0": 0, "1": 1, "9999": 9999, "0012": 12, "3,0": 3, "3.00": 3, " 2 ": 2, '=""4""': 4}
+        table = "code;copies\n" + "".join(f'{SMALL};"{cell}"\n' for cell in right)
+        labels = self.labels(table, "--code", "code", "--copies", "copies")
+        self.assertEqual([label["copies"] for label in labels], list(right.values()))
+        for cell in ("", "10000", "-1", "1.5", "1.000", "1,5", "three", "3 x", "1e2", "٣"):
+            problem = f'row 2: column 2 ("copies") is "{cell}": copies are a whole number from 0 to 9999'
+            table = f"code;copies\n{SMALL};{cell}\n{PENCIL};1\n"
+            self.check(table, ["--code", "code", "--copies", "copies"], [f"ean13 {PENCIL}"], [problem], 1)
+
+    def test_a_code_that_is_there_twice(self) -> None:
+        what = "have the same code, 73513537, and another title, text or price"
+        table = f"code;name;text;price\n{SMALL};a;b;1\n{PENCIL};x;b;1\n{SMALL};{{}}\n{SMALL};z;b;1\n"
+        lines = [f"ean8 {SMALL}", f"ean13 {PENCIL}", f"ean8 {SMALL}", f"ean8 {SMALL}"]
+        for cells in ("c;b;1", "a;c;1", "a;b;2", "a;;1"):
+            arguments = ["--code", "code", "--title", "name", "--text", "text", "--price", "price"]
+            self.check(table.format(cells), arguments, lines, [f"rows 2 and 4 {what}"])
+        arguments = ["--code", "code", "--text", "text", "--copies", "price"]
+        self.check(table.format("c;b;2"), arguments, lines)
+
+    def test_the_end_names_twenty_rows_that_are_left_out(self) -> None:
+        table = "code\n" + "x\n" * 30 + f"{SMALL}\n"
+        problem = '"x" is not digits alone: character 1 is "x"'
+        problems = [f"row {row}: {problem}" for row in range(2, 32)]
+        self.check(table, ["--code", "code"], [f"ean8 {SMALL}"], problems, 1)
 
 
 class Numbers(TableTest):
     LENGTHS = "EAN-8 has 8, UPC-A has 12, EAN-13 has 13"
     LOST = "if the spreadsheet has dropped zeros, give --fill-zeros"
     NONE = "if the column has no check digits, give --without-check-digit"
+    CASE = "a GTIN-14 is drawn as ITF-14, which labels does not draw"
 
     def test_auto_goes_by_length(self) -> None:
         wanted = {PENCIL: f"ean13 {PENCIL}", BOOK: f"ean13 {BOOK}", SMALL: f"ean8 {SMALL}", SOAP: f"upca {SOAP}"}
@@ -354,14 +560,13 @@ class Numbers(TableTest):
         self.check_cells(["--symbology", "upca"], {PENCIL: ean13})
 
     def test_other_lengths(self) -> None:
-        case = "a GTIN-14 is drawn as ITF-14, which labels does not draw"
         wanted = {
             "36000291452": f"refused: 36000291452 has 11 digits, {self.LENGTHS}; {self.LOST}",
             "36000291453": f"refused: 36000291453 has 11 digits, {self.LENGTHS}; {self.NONE}",
             "7351353": f"refused: 7351353 has 7 digits, {self.LENGTHS}; {self.NONE}",
             "5": f"refused: 5 has 1 digit, {self.LENGTHS}",
-            "12345678901234": f"refused: 12345678901234 has 14 digits, {self.LENGTHS}; {case}",
-            "10614141543219": f"refused: 10614141543219 has 14 digits, {self.LENGTHS}; {case}",
+            "12345678901234": f"refused: 12345678901234 has 14 digits, {self.LENGTHS}; {self.CASE}",
+            "10614141543219": f"refused: 10614141543219 has 14 digits, {self.LENGTHS}; {self.CASE}",
             "7" * 30: f"refused: {'7' * 17}... has 30 digits, {self.LENGTHS}",
         }
         self.check_cells([], wanted)
@@ -401,6 +606,18 @@ class Numbers(TableTest):
             self.check_cells(["--without-check-digit", "--symbology", symbology], cells)
         self.check_cells(["--without-check-digit"], {**wanted["ean13"], **wanted["ean8"], **wanted["upca"]})
 
+    def test_without_check_digit_a_number_that_has_lost_a_zero_may_have_its_check_digit(self) -> None:
+        # 01234565 and 036000291452 without their first digit: the last one is still their check digit
+        either = "with its check digit: if not, give --symbology"
+        wanted = {
+            "1234565": f"refused: 1234565 may be an EAN-8 {either} ean8",
+            "36000291452": f"refused: 36000291452 may be a UPC-A {either} upca",
+        }
+        self.check_cells(["--without-check-digit"], wanted)
+        for symbology, number in (("ean8", "1234565"), ("upca", "36000291452")):
+            arguments = ["--without-check-digit", "--symbology", symbology]
+            self.check_cells(arguments, {number: f"{symbology} {number}"})
+
     def test_without_check_digit_refuses_a_whole_number(self) -> None:
         fix = "give --without-check-digit only where no number has one"
         for title, number in (("EAN-13", PENCIL), ("EAN-8", SMALL), ("UPC-A", SOAP)):
@@ -408,7 +625,7 @@ class Numbers(TableTest):
             count = len(number)
             problem = f"{number} has {count} digits, and {title} without its check digit has {count - 1}: {fix}"
             self.check_cells(["--symbology", symbology, "--without-check-digit"], {number: f"refused: {problem}"})
-        either = "may be a UPC-A with its check digit: if it is an EAN-13 without one, give --symbology ean13"
+        either = "may be a UPC-A with its check digit: if not, give --symbology ean13"
         wanted = {
             SMALL: f"refused: {SMALL} has 8 digits; without a check digit these have: EAN-8 7, UPC-A 11, EAN-13 12",
             SOAP: f"refused: {SOAP} {either}",
@@ -424,16 +641,101 @@ class Numbers(TableTest):
             wanted = {"4,00638E+12": f"refused: 4,00638E+12: {rest}", "1E10": f"{symbology} 1E10"}
             self.check_cells(["--symbology", symbology], wanted)
 
+    def test_numbers_that_may_have_been_rounded(self) -> None:
+        # 4,00635E+12 written out, with the check digit that is right by chance; 3,60003E+11 as a UPC-A
+        looks = "looks rounded by the spreadsheet: enter it again as text, or give --allow-zeros"
+        self.check_cells([], {"4006350000000": f"refused: 4006350000000 {looks}"})
+        cells = {"4006350000000": "ean13 4006350000000", "20000004": "ean8 20000004"}
+        self.check_cells(["--allow-zeros"], cells)
+        self.check_cells([], {"20000004": f"refused: 20000004 {looks}", "20000103": "ean8 20000103"})
+        self.check_cells(["--fill-zeros"], {"36000300000": f"refused: 0036000300000 {looks}"})
+        arguments = ["--without-check-digit", "--symbology", "ean13"]
+        self.check_cells(
+            arguments, {"400635000000": f"refused: 400635000000 {looks}", "400635100000": "ean13 400635100000"}
+        )
+
+    def test_an_eight_digit_number_with_a_zero_in_front_may_be_a_upc_e(self) -> None:
+        # GS1 General Specifications 1.4: no GTIN-8 begins with 0; 01234565 is the UPC-E of 012345000065
+        may_be = "may be a UPC-E, which labels does not draw; an EAN-8 is --symbology ean8"
+        self.check_cells([], {"01234565": f"refused: 01234565 {may_be}"})
+        self.check_cells(["--fill-zeros"], {cell: f"refused: {cell} {may_be}" for cell in ("01234565", "1234565")})
+        self.check_cells(["--without-check-digit"], {"0123456": f"refused: 0123456 {may_be}"})
+        self.check_cells(["--symbology", "ean8"], {"01234565": "ean8 01234565"})
+        self.check_cells(["--symbology", "ean8", "--fill-zeros"], {"1234565": "ean8 01234565"})
+
+    def test_an_isbn_of_ten_digits(self) -> None:
+        # ISBN 0-306-40615-2 is 978-0-306-40615-7, ISBN 0-8044-2957-X is 978-0-8044-2957-3
+        book, other = "9780306406157", "9780804429573"
+        cells = {
+            "0306406152": book,
+            "0-306-40615-2": book,
+            "0 306 40615 2": book,
+            "080442957X": other,
+            "0-8044-2957-x": other,
+        }
+        wanted = {
+            cell: f"refused: {cell} is an ISBN of ten digits: its EAN-13 is {ean}" for cell, ean in cells.items()
+        }
+        for arguments in ([], ["--fill-zeros"], ["--fill-zeros", "--symbology", "upca"]):
+            self.check_cells(arguments, wanted)
+        # without its zero
+        wanted = {"306406152": f"refused: 306406152 is an ISBN of ten digits: its EAN-13 is {book}"}
+        self.check_cells(["--fill-zeros", "--symbology", "upca"], wanted)
+
+    def test_no_right_isbn_of_ten_digits_becomes_an_ean(self) -> None:
+        cells = []
+        for number in range(100000000, 100001000):
+            total = sum(int(digit) * weight for digit, weight in zip(str(number), range(10, 1, -1)))
+            cells.append(f"{number}{'0123456789X'[-total % 11]}")
+        for arguments in ([], ["--fill-zeros"], ["--fill-zeros", "--symbology", "ean13"]):
+            table = "code\n" + "\n".join(cells)
+            done = support.run_here("label-table", "--code", "code", *arguments, input=table.encode())
+            self.assertEqual(parts_of(done.stdout)[1], [])
+            self.assertEqual(sum("is an ISBN of ten digits" in text for text in support.messages(done)), 1000)
+
+    def test_read_where_the_check_digit_is_right(self) -> None:
+        read = {
+            **{cell: f"ean13 {PENCIL}" for cell in (f"{PENCIL}.0", f"{PENCIL},00", f"'{PENCIL}", f'=""{PENCIL}""')},
+            **{cell: f"ean13 {PENCIL}" for cell in ("4 006381 333931", f"0{PENCIL}", f'=""0{PENCIL}""')},
+            **{cell: f"ean13 {BOOK}" for cell in ("978-0-306-40615-7", "978 0 306 40615 7", "978-0306406157")},
+            "7351 3537": f"ean8 {SMALL}",
+            "0 36000 29145 2": f"upca {SOAP}",
+            "00036000291452": f"ean13 0{SOAP}",
+        }
+        self.check_cells([], read)
+        self.check_cells(["--symbology", "upca"], {"00036000291452": f"upca {SOAP}"})
+        wrong = {
+            f"{PENCIL[:-1]}2.0": "refused: 4006381333932: the check digit is 2, should be 1",
+            "'4006381333932": "refused: 4006381333932: the check digit is 2, should be 1",
+            "978-0-306-40615-8": "refused: 9780306406158: the check digit is 8, should be 7",
+            "04006381333932": f"refused: 04006381333932 has 14 digits, {self.LENGTHS}; {self.CASE}",
+        }
+        self.check_cells([], wrong)
+
+    def test_zeros_in_front_of_an_ean_8(self) -> None:
+        # GS1 General Specifications: a GTIN-8 in a field of 14 or 13 digits has zeros in front
+        problem = "may be an EAN-8 with zeros in front: write its 8 digits, or give --symbology"
+        cells = {"0000073513537": "0000073513537", "00000073513537": "0000073513537", "000073513537": "000073513537"}
+        self.check_cells([], {cell: f"refused: {digits} {problem}" for cell, digits in cells.items()})
+        self.check_cells(["--symbology", "ean13"], {"0000073513537": "ean13 0000073513537"})
+
     def test_not_digits(self) -> None:
         cells = (
-            ("978-0-306-40615-7", 4, '"-"'),
-            ("4 006381 333931", 2, "a space"),
-            ("4006381333931,0", 14, '","'),
+            ("2024-05-17", 5, '"-"'),
+            ("40063-81333931", 6, '"-"'),
+            ("4006381  333931", 8, "a space"),
+            ("4006381333931,5", 14, '","'),
+            ("4.006.381.333.931", 2, '"."'),
             ("400638133393l", 13, '"l"'),
             ("４006381333931", 1, "fullwidth digit four (U+FF14)"),
+            ("978–0306406157", 4, "en dash (U+2013)"),
         )
         problem = 'refused: "{}" is not digits alone: character {} is {}'
         self.check_cells([], {cell: problem.format(cell, place, name) for cell, place, name in cells})
+        for cell in (f"{PENCIL[:-1]}.0", "978-0-306-40615"):
+            place, name = (13, '"."') if cell.endswith(".0") else (4, '"-"')
+            arguments = ["--without-check-digit", "--symbology", "ean13"]
+            self.check_cells(arguments, {cell: problem.format(cell, place, name)})
 
 
 class Data(TableTest):
@@ -448,7 +750,8 @@ class Data(TableTest):
     def test_drawn_though_unmeant(self) -> None:
         space = "has a space before or after the data, which would be drawn: take it away"
         setting = "begins with a setting, which would be drawn: give it by --settings"
-        quotes = "has quotes round the data, which would be drawn: take them away"
+        quotes = "has quotes round the data, which would be drawn: take it away"
+        apostrophe = "has an apostrophe in front, a spreadsheet's sign of text, which would be drawn: take it away"
         wanted = {
             " LOT 7": f'refused: " LOT 7" {space}',
             "LOT 7 ": f'refused: "LOT 7 " {space}',
@@ -460,30 +763,44 @@ class Data(TableTest):
             '""LOT 7""': f'refused: ""LOT 7"" {quotes}',
             "“LOT 7”": f'refused: "“LOT 7”" {quotes}',
             "'LOT 7'": f"refused: \"'LOT 7'\" {quotes}",
+            "'00123": f'refused: "\'00123" {apostrophe}',
+            "=A1": 'refused: column 1 ("code") has "=A1", a formula: export its value',
+            '=""00123""': "{symbology} 00123",
+            '=""say """"hi"""" now""': '{symbology} say "hi" now',
         }
         for symbology in ("code128", "qr"):
-            self.check_cells(["--symbology", symbology], wanted)
+            cells = {cell: result.replace("{symbology}", symbology) for cell, result in wanted.items()}
+            self.check_cells(["--symbology", symbology], cells)
 
-    def test_what_code128_has_not(self) -> None:
-        letter = "is not ASCII: character 2 is latin small letter a with diaeresis (U+00E4); qr takes any letter"
-        wanted = {
-            "Käse": f'refused: "Käse" {letter}',
-            "A" * 81: "refused: the data has 81 characters, Code 128 has at most 80; qr takes more",
-        }
-        self.check_cells(["--symbology", "code128"], wanted)
+    def test_what_labels_refuses_is_left_to_it(self) -> None:
+        self.check_cells(["--symbology", "code128"], {"A" * 81: f"code128 {'A' * 81}", "Käse": "code128 Käse"})
+        self.check_cells(["--symbology", "qr"], {"x" * 2000: f"qr {'x' * 2000}"})
 
-    def test_what_qr_cannot_hold(self) -> None:
-        # ISO/IEC 18004, table 7: version 10 holds 652, 513, 364 or 288 digits, and 271, 213, 151 or 119 bytes
-        for level, digits, size in (("L", 652, 271), ("M", 513, 213), ("Q", 364, 151), ("H", 288, 119)):
-            fix = "give --settings level=L, or shorter data" if level == "M" else "take a lower level, or shorter data"
-            problem = f"refused: the data has {{}} bytes and does not fit a QR of version 10 at level {level}: {fix}"
-            fitting = ("7" * digits, "x" * size)
-            large = ("7" * (digits + 1), "x" * (size + 1), "ß" * (size // 2 + 1))
-            refused = {data: problem.format(len(data.encode())) for data in large}
-            wanted = {**{data: f"qr,level={level} {data}" for data in fitting}, **refused}
-            self.check_cells(["--symbology", "qr", "--settings", f"level={level}"], wanted)
-            if level == "M":
-                self.check_cells(["--symbology", "qr"], {**{data: f"qr {data}" for data in fitting}, **refused})
+    def test_a_delimiter_that_may_be_data_is_asked_for(self) -> None:
+        for symbology in ("code128", "qr"):
+            for delimiter in (";", ","):
+                ask = f"give --delimiter '{delimiter}' if it is between cells, --delimiter none if it is data"
+                table = f"a{delimiter}b\nc{delimiter}d\n"
+                arguments = ["--code", "1", "--no-header", "--symbology", symbology]
+                self.check(table, arguments, [], [f'row 1 has "{delimiter}": {ask}'], 2)
+                whole = [f"{symbology} a{delimiter}b", f"{symbology} c{delimiter}d"]
+                self.check(table, [*arguments, "--delimiter", "none"], whole)
+                self.check(table, [*arguments, "--delimiter", delimiter], [f"{symbology} a", f"{symbology} c"])
+                self.check(table, [*arguments, "--text", "2"], [f"{symbology} a", f"{symbology} c"])
+                self.check(f'"x"{delimiter}b\n', arguments, [f"{symbology} x"])
+        self.check("a\tb\n", ["--code", "1", "--no-header", "--symbology", "qr"], ["qr a"])
+        self.check("Lot;Link\nA;B\n", ["--code", "Lot", "--symbology", "qr"], ["qr A"])
+
+    def test_a_delimiter_that_only_later_rows_have_is_asked_for(self) -> None:
+        for delimiter, name, option in ((";", '";"', "';'"), (",", '","', "','"), ("\t", "a tab", "tab")):
+            ask = f"give --delimiter {option} if it is between cells, --delimiter none if it is data"
+            table = f"code\nLOT 6\nLOT 7{delimiter}Name\n"
+            arguments = ["--code", "code", "--symbology", "code128"]
+            self.check(table, arguments, [], [f"row 1 is one cell, and row 3 has {name}: {ask}"], 2)
+        lines = ["code128 LOT 6", "code128 LOT 7;Name"]
+        self.check("code\nLOT 6\nLOT 7;Name\n", [*arguments, "--delimiter", "none"], lines)
+        self.check('code\nLOT 6\n"LOT 7;Name"\n', arguments, lines)
+        self.check(f"code\n{SMALL}\n", ["--code", "code"], [f"ean8 {SMALL}"])
 
 
 class Arguments(TableTest):
@@ -491,7 +808,7 @@ class Arguments(TableTest):
         for argument in ("--help", "-h"):
             done = support.run("label-table", argument)
             self.assertEqual((done.returncode, done.stderr), (0, b""))
-            for option in ("--code", "--caption ", "--captions", "--symbology", "--settings", "--fill-zeros"):
+            for option in ("--code", "--title", "--text", "--price", "--copies", "--sheet", "--hidden", "--decimal"):
                 self.assertIn(option, done.stdout.decode())
 
     def test_bad_arguments(self) -> None:
@@ -501,13 +818,12 @@ class Arguments(TableTest):
         self.assertEqual(
             support.messages(done)[-1], "label-table: error: the following arguments are required: --code"
         )
-        self.check_usage(["--code"], "argument --code: expected one argument")
+        self.check_usage(["--code"], "argument --code: expected 1 argument")
         self.check_usage(["--code", "1", "--x"], "unrecognized arguments: --x")
         self.check_usage(["--code", "1", "--fill"], "unrecognized arguments: --fill")
         self.check_usage(["--code", "1", "a.csv", "b.csv"], "unrecognized arguments: b.csv")
-        pair = "--caption COLUMN and --captions FILE go together"
-        self.check_usage(["--code", "1", "--caption", "2"], pair)
-        self.check_usage(["--code", "1", "--captions", "x"], pair)
+        signs = "argument --decimal: invalid choice: ';' (choose from ',', '.')"
+        self.check_usage(["--code", "1", "--decimal", ";"], signs)
         self.check_usage(
             ["--code", "1", "--encoding", "x"],
             'argument --encoding: "x" is no name of an encoding, as latin-1 or cp1252',
@@ -517,7 +833,7 @@ class Arguments(TableTest):
             'argument --encoding: "rot13" is no name of an encoding, as latin-1 or cp1252',
         )
         for argument in (";;", "", '"', " ", "ä"):
-            text = f'argument --delimiter: "{argument}" is not one character of ASCII that may cut cells, nor tab'
+            text = f'argument --delimiter: "{argument}" is no character of ASCII that may cut cells, tab or none'
             self.check_usage(["--code", "1", "--delimiter", argument], text)
 
     def test_arguments_that_do_not_go_together(self) -> None:
@@ -529,39 +845,53 @@ class Arguments(TableTest):
         self.check_usage(["--code", "1", "--fill-zeros", "--without-check-digit"], text)
 
     def test_bad_settings(self) -> None:
-        for symbology in ("auto", "ean13", "ean8", "upca", "code128"):
-            arguments = ["--code", "1", "--symbology", symbology, "--settings"]
-            for setting in ("level=H", "scale=3", "height", "", "height 30", "Height=3"):
-                text = f'--settings: setting 1 is "{setting}"; {symbology} knows height, as key=value'
-                self.check_usage([*arguments, setting], text)
-            for value in ("0", "501", "0050", "+5", "", "5 "):
-                text = f'--settings: setting 2, height, is 1 to 500, and not "{value}"'
-                self.check_usage([*arguments, f"height=1,height={value}"], text)
-        arguments = ["--code", "1", "--symbology", "qr", "--settings"]
-        text = '--settings: setting 1 is "height=3"; qr knows level, min-version, mask, as key=value'
-        self.check_usage([*arguments, "height=3"], text)
-        self.check_usage([*arguments, "level=h"], '--settings: setting 1, level, is L, M, Q or H, and not "h"')
-        for value in ("0", "11", "001"):
-            self.check_usage(
-                [*arguments, f"min-version={value}"],
-                f'--settings: setting 1, min-version, is 1 to 10, and not "{value}"',
-            )
-        for value in ("8", "07"):
-            self.check_usage(
-                [*arguments, f"mask={value}"], f'--settings: setting 1, mask, is 0 to 7, or auto, and not "{value}"'
-            )
+        for setting in ("", "height", "height 30", "level=H 123", "level=H,", ",level=H", "level=H\n", "level"):
+            text = f"argument --settings: {shown(setting)} is no setting as key=value, nor several with commas"
+            self.check_usage(["--code", "1", "--symbology", "qr", "--settings", setting], text)
+
+    def test_options_of_the_other_kind_of_table(self) -> None:
+        problem = "standard input is CSV: leave --sheet away"
+        self.check(f"code\n{SMALL}\n", ["--code", "code", "--sheet", "x"], [], [problem], 2)
 
     def test_files(self) -> None:
         table = self.folder / "my table.csv"
         table.write_text(f"code;name\n{SMALL};a\n")
         done = support.run("label-table", "--code", "code", str(table))
-        self.assertEqual((done.returncode, done.stdout, done.stderr), (0, f"ean8 {SMALL}\n".encode(), b""))
+        self.assertEqual((done.returncode, done.stderr), (0, b""))
+        self.assertEqual(parts_of(done.stdout)[1], [({"row": 2}, f"ean8 {SMALL}")])
         done = support.run("label-table", "--code", "code", "nothing.csv", cwd=self.folder)
         problem = ["label-table: nothing.csv: No such file or directory"]
-        self.assertEqual((done.returncode, done.stdout, support.messages(done)), (1, b"", problem))
+        self.assertEqual((done.returncode, done.stdout, support.messages(done)), (3, b"", problem))
         done = support.run("label-table", "--code", "code", str(self.folder))
         problem = [f"label-table: {self.folder}: Is a directory"]
-        self.assertEqual((done.returncode, done.stdout, support.messages(done)), (1, b"", problem))
+        self.assertEqual((done.returncode, done.stdout, support.messages(done)), (3, b"", problem))
+
+    def test_standard_input(self) -> None:
+        (self.folder / "-").write_text(f"code\n{PENCIL}\n")
+        for arguments in ([], ["-"]):
+            done = support.run(
+                "label-table", "--code", "code", *arguments, input=f"code\n{SMALL}\n".encode(), cwd=self.folder
+            )
+            self.assertEqual(parts_of(done.stdout)[:2], ({"labels": 1}, [({"row": 2}, f"ean8 {SMALL}")]))
+        done = support.run("label-table", "--code", "code", "./-", cwd=self.folder)
+        self.assertEqual(parts_of(done.stdout)[1], [({"row": 2}, f"ean13 {PENCIL}")])
+
+    def test_it_finds_its_modules_and_leaves_nothing_behind(self) -> None:
+        tools = self.folder / "tools"
+        shutil.copytree(support.TOOLS, tools, ignore=shutil.ignore_patterns("tests", "__pycache__"))
+        link = self.folder / "link"
+        link.symlink_to(tools / "label-table")
+        self.assertTrue((tools / "label-table").read_bytes().startswith(b"#!/usr/bin/python3\n"))
+        environment = {
+            name: value for name, value in support.environment().items() if name != "PYTHONDONTWRITEBYTECODE"
+        }
+        for safe in ({}, {"PYTHONSAFEPATH": "1"}):
+            command = [str(link), "--code", "code"]
+            done = subprocess.run(
+                command, input=f"code\n{SMALL}\n".encode(), capture_output=True, env={**environment, **safe}, cwd="/"
+            )
+            self.assertEqual((done.returncode, done.stderr), (0, b""))
+        self.assertEqual(list(tools.rglob("__pycache__")), [])
 
     def shell(self, commands: str, data: str) -> Tuple[int, List[str], List[str]]:
         done = subprocess.run(
@@ -577,26 +907,28 @@ class Arguments(TableTest):
         table = f"code\n{SMALL}\n73513538\n"
         row = "label-table: row 3: 73513538: the check digit is 8, should be 7"
         full = "label-table: cannot write the lines: No space left on device"
-        self.assertEqual(self.shell("label-table --code code > /dev/full", table), (1, [], [row, full]))
+        for unbuffered in ("", "export PYTHONUNBUFFERED=1; "):
+            commands = f"{unbuffered}label-table --code code > /dev/full"
+            self.assertEqual(self.shell(commands, table), (3, [], [row, full]))
         closed = "label-table: standard output is closed"
-        self.assertEqual(self.shell("label-table --code code >&-", table), (1, [], [closed]))
-        self.assertEqual(
-            self.shell("label-table --code code <&-", table), (1, [], ["label-table: standard input is closed"])
-        )
+        self.assertEqual(self.shell("label-table --code code >&-", table), (3, [], [closed]))
+        closed = "label-table: standard input is closed"
+        self.assertEqual(self.shell("label-table --code code <&-", table), (3, [], [closed]))
         for error in ("2>&-", "2> /dev/full"):
-            self.assertEqual(self.shell(f"label-table --code code {error}", table), (1, [f"ean8 {SMALL}"], []))
+            status, lines, messages = self.shell(f"label-table --code code {error}", table)
+            self.assertEqual((status, len(lines), messages), (1, 4, []))
 
     def test_reader_that_has_gone(self) -> None:
         commands = '{ label-table --code code; echo "status $?" >&2; } | true'
         status, _, problems = self.shell(commands, "code\n" + f"{SMALL}\n" * 20000)
-        self.assertEqual((status, problems), (0, ["label-table: cannot write the lines: Broken pipe", "status 1"]))
+        self.assertEqual((status, problems), (0, ["label-table: cannot write the lines: Broken pipe", "status 3"]))
 
 
 class WithLabels(TableTest):
     def test_labels_draws_each_line(self) -> None:
         support.labels_program()
         tables = (
-            (["--fill-zeros"], "\n".join(["code", PENCIL, BOOK, SMALL, "36000291452", SOAP])),
+            (["--fill-zeros", "--title", "1"], "\n".join(["code", PENCIL, BOOK, SMALL, "36000291452", SOAP])),
             (["--symbology", "upca", "--settings", "height=30"], f"code\n{SOAP}\n"),
             (["--without-check-digit"], "\n".join(["code", PENCIL[:-1], SMALL[:-1], SOAP[:-1]])),
             (["--symbology", "code128", "--settings", "height=500"], f"code\nLOT 7\nC:\\new\n{'A' * 80}\n"),
@@ -644,7 +976,14 @@ class LongTables(TableTest):
         table = "code;name\n" + f'{PENCIL};"a, b"\n' * 20000
         before = time.monotonic()
         done = support.run("label-table", "--code", "code", input=table.encode())
-        self.assertEqual((done.returncode, done.stdout.count(b"\n"), done.stderr), (0, 20000, b""))
+        self.assertEqual((done.returncode, done.stdout.count(b"\n"), done.stderr), (0, 40002, b""))
+        self.assertLess(time.monotonic() - before, 20)
+
+    def test_many_rows_of_qr_in_seconds(self) -> None:
+        table = "code;name\n" + "".join(f"https://example.com/01/0{PENCIL}/21/{n};x\n" for n in range(20000))
+        before = time.monotonic()
+        done = support.run("label-table", "--code", "code", "--symbology", "qr", input=table.encode())
+        self.assertEqual((done.returncode, done.stdout.count(b"\n"), done.stderr), (0, 40002, b""))
         self.assertLess(time.monotonic() - before, 20)
 
 

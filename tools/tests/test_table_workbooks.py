@@ -1,0 +1,714 @@
+"""Tests of tools/label-table with spreadsheets' own files, .xlsx and .ods: what is read, and what is refused.
+
+The files are made here, part by part, so that each may be as a spreadsheet writes it or as a hostile hand does. What
+number formats show was seen in LibreOffice 7.4 (German) and is what Excel's documentation of its number formats says.
+"""
+
+import io
+import subprocess
+import time
+import unittest
+import zipfile
+from typing import Dict, List, Optional, Sequence, Tuple, Union
+from xml.sax.saxutils import escape, quoteattr
+
+import support
+from test_table import BOOK, PENCIL, SMALL, SOAP, Label, TableTest, parts_of
+
+MAIN = "http://schemas.openxmlformats.org/spreadsheetml/2006/main"
+STRICT = "http://purl.oclc.org/ooxml/spreadsheetml/main"
+KINDS = "http://schemas.openxmlformats.org/officeDocument/2006/relationships"
+RELATIONS = "http://schemas.openxmlformats.org/package/2006/relationships"
+XML = '<?xml version="1.0" encoding="UTF-8" standalone="yes"?>\n'
+ODS_SPACES = " ".join(
+    f'xmlns:{prefix}="urn:oasis:names:tc:opendocument:xmlns:{name}:1.0"'
+    for prefix, name in (
+        *(("office", "office"), ("table", "table"), ("text", "text"), ("style", "style"), ("draw", "drawing")),
+        ("calcext", "calcext"),
+    )
+)
+
+
+def packed(parts: Dict[str, str], method: int = zipfile.ZIP_DEFLATED) -> bytes:
+    """A zip file of these parts."""
+    stream = io.BytesIO()
+    with zipfile.ZipFile(stream, "w", method) as archive:
+        for name, text in parts.items():
+            archive.writestr(name, text)
+    return stream.getvalue()
+
+
+def cell(value: object, reference: str = "", style: int = 0, more: str = "") -> str:
+    """A cell of .xlsx: a number, a text as it is inline, or nothing."""
+    place = (f' r="{reference}"' if reference else "") + (f' s="{style}"' if style else "")
+    if value is None:
+        return f"<c{place}>{more}</c>"
+    if isinstance(value, str):
+        return f'<c{place} t="inlineStr"><is><t xml:space="preserve">{escape(value)}</t></is></c>'
+    return f"<c{place}>{more}<v>{value}</v></c>"
+
+
+def rows(*lines: Sequence[object]) -> str:
+    """Rows of .xlsx, from 1 on; a cell is a value, or XML as it is."""
+    texts = []
+    for number, line in enumerate(lines, 1):
+        cells = [text if str(text).startswith("<c") else cell(text) for text in line]
+        texts.append(f'<row r="{number}">{"".join(map(str, cells))}</row>')
+    return "".join(texts)
+
+
+def xlsx(
+    sheet: str,
+    *others: Tuple[str, str, str],
+    formats: Sequence[Union[str, int]] = (),
+    strings: str = "",
+    before: str = "",
+    after: str = "",
+    date1904: bool = False,
+    namespace: str = MAIN,
+) -> bytes:
+    """An .xlsx file with a sheet of these rows, and others (name, state, rows); style 1 has the first of `formats`."""
+    names = [("Tabelle1", "visible", sheet), *others]
+    listed = "".join(
+        f'<sheet name={quoteattr(name)} sheetId="{number}" state="{state}" r:id="rId{number}"/>'
+        for number, (name, state, _) in enumerate(names, 1)
+    )
+    targets = [(f"rId{number}", "worksheet", f"worksheets/sheet{number}.xml") for number in range(1, len(names) + 1)]
+    targets += [("rIdS", "styles", "styles.xml"), ("rIdT", "sharedStrings", "/xl/sharedStrings.xml")]
+    ids = [str(text) if isinstance(text, int) else str(164 + number) for number, text in enumerate(formats)]
+    codes = "".join(
+        f'<numFmt numFmtId="{number}" formatCode={quoteattr(text)}/>'
+        for number, text in zip(ids, formats)
+        if isinstance(text, str)
+    )
+    styles = "".join(f'<xf numFmtId="{number}"/>' for number in ["0", *ids])
+    parts = {
+        "[Content_Types].xml": XML + "<Types/>",
+        "_rels/.rels": relations([("rId1", "officeDocument", "xl/workbook.xml")]),
+        "xl/workbook.xml": f'{XML}<workbook xmlns="{namespace}" xmlns:r="{KINDS}"><workbookPr date1904="{int(date1904)}"/>'
+        f"<sheets>{listed}</sheets></workbook>",
+        "xl/_rels/workbook.xml.rels": relations(targets),
+        "xl/styles.xml": f'{XML}<styleSheet xmlns="{namespace}"><numFmts>{codes}</numFmts>'
+        f'<cellStyleXfs><xf numFmtId="9"/></cellStyleXfs><cellXfs>{styles}</cellXfs></styleSheet>',
+        "xl/sharedStrings.xml": f'{XML}<sst xmlns="{namespace}">{strings}</sst>',
+    }
+    for number, (_, _, text) in enumerate(names, 1):
+        data = f"<sheetData>{text}</sheetData>"
+        own = (before, after) if number == 1 else ("", "")
+        parts[
+            f"xl/worksheets/sheet{number}.xml"
+        ] = f'{XML}<worksheet xmlns="{namespace}">{own[0]}{data}{own[1]}</worksheet>'
+    return packed(parts)
+
+
+def relations(targets: Sequence[Tuple[str, str, str]]) -> str:
+    """The part of .xlsx that says where other parts are."""
+    listed = "".join(
+        f'<Relationship Id="{name}" Type="{KINDS}/{kind}" Target="{path}"/>' for name, kind, path in targets
+    )
+    return f'{XML}<Relationships xmlns="{RELATIONS}">{listed}</Relationships>'
+
+
+def ods(*sheets: str, styles: str = "", extra: Optional[Dict[str, str]] = None) -> bytes:
+    """An .ods file with these tables."""
+    body = f"<office:body><office:spreadsheet>{''.join(sheets)}</office:spreadsheet></office:body>"
+    content = (
+        f"{XML}<office:document-content {ODS_SPACES}><office:automatic-styles>{styles}</office:automatic-styles>{body}"
+    )
+    parts = {"mimetype": "application/vnd.oasis.opendocument.spreadsheet"}
+    return packed({**parts, "content.xml": f"{content}</office:document-content>", **(extra or {})})
+
+
+def table(*lines: Sequence[str], name: str = "Tabelle1", style: str = "ta1", end: str = "") -> str:
+    """A table of .ods; a cell is a text, or XML as it is."""
+    texts = [
+        text if text.startswith("<") else ods_cell(text) if text else "<table:table-cell/>"
+        for line in lines
+        for text in line
+    ]
+    found = iter(texts)
+    data = "".join(f"<table:table-row>{''.join(next(found) for _ in line)}</table:table-row>" for line in lines)
+    return f'<table:table table:name="{name}" table:style-name="{style}">{data}{end}</table:table>'
+
+
+def ods_cell(text: str, kind: str = "string", more: str = "", before: str = "") -> str:
+    """A cell of .ods with its type, and its text as shown."""
+    lines = "".join(f"<text:p>{line}</text:p>" for line in text.split("\n"))
+    return f'<table:table-cell office:value-type="{kind}" {more}>{before}{lines}</table:table-cell>'
+
+
+class WorkbookTest(TableTest):
+    """Steps that the tests share."""
+
+    def found(self, data: bytes, *arguments: str) -> List[Tuple[Label, str]]:
+        """The labels and lines of a file of which no row is left out."""
+        done = support.run_here("label-table", "--code", "EAN", *arguments, input=data)
+        self.assertEqual((done.returncode, support.messages(done)), (0, []))
+        return parts_of(done.stdout)[1]
+
+    def refused(self, data: bytes, problem: str, *arguments: str, status: int = 1) -> None:
+        """A file of which nothing is written."""
+        done = support.run_here("label-table", "--code", "EAN", *arguments, input=data)
+        self.assertEqual(support.messages(done), [f"label-table: standard input {problem}"])
+        self.assertEqual((done.returncode, done.stdout), (status, b""))
+
+    def check_codes(self, cells: Dict[str, str], symbology: str, formats: Sequence[Union[str, int]] = ()) -> None:
+        """Cells of .xlsx, and of each the line, or `refused: ` and the message for its column."""
+        data = xlsx(rows(["EAN"], *([text] for text in cells)), formats=formats)
+        results = list(enumerate(cells.values(), 2))
+        lines = [result for _, result in results if not result.startswith("refused: ")]
+        problems = [f'row {row}: column 1 ("EAN") {text[9:]}' for row, text in results if text.startswith("refused: ")]
+        self.check(data, ["--code", "EAN", "--symbology", symbology], lines, problems, 1 if problems else 0)
+
+
+class Xlsx(WorkbookTest):
+    def test_a_table(self) -> None:
+        data = xlsx(
+            rows(
+                ["EAN", "Artikel", "Preis", "Stück"],
+                [PENCIL, "Bleistift\n2B", cell(0.8, style=1), 3],
+                [int(SMALL), "Käse „x“ – …", cell(12999, style=1), 0],
+            ),
+            formats=['#,##0.00\\ "€"'],
+        )
+        columns = ["--title", "Artikel", "--price", "Preis", "--copies", "Stück", "--decimal", ","]
+        wanted = [
+            ({"row": 2, "title": "Bleistift\n2B", "price": "0,80 €", "copies": 3}, f"ean13 {PENCIL}"),
+            ({"row": 3, "title": "Käse „x“ – …", "price": "12.999,00 €", "copies": 0}, f"ean8 {SMALL}"),
+        ]
+        self.assertEqual(self.found(data, *columns), wanted)
+        path = self.folder / "articles.zip"
+        path.write_bytes(data)
+        done = support.run("label-table", "--code", "EAN", path)
+        self.assertEqual((done.returncode, parts_of(done.stdout)[0]), (0, {"labels": 1, "table": str(path)}))
+
+    def test_lost_zeros(self) -> None:
+        data = xlsx(rows(["EAN"], [36000291452], [cell(36000291452, style=1)]), formats=["000000000000"])
+        problem = "row 2: 36000291452 has 11 digits, EAN-8 has 8, UPC-A has 12, EAN-13 has 13; "
+        problem += "if the spreadsheet has dropped zeros, give --fill-zeros"
+        self.check(data, ["--code", "EAN"], [f"upca {SOAP}"], [problem], 1)
+
+    def test_numbers_as_codes(self) -> None:
+        formats = ["0.00E+00", "#,##0", "0.00", "dd/mm/yyyy", '"LOT "0', "0_ ;[Red]\\-0\\ ", 14, "0000", "000\\-000"]
+        number = int(PENCIL)
+        lines = {cell(number, style=style): f"ean13 {PENCIL}" for style in (0, 1, 2, 3, 6)}
+        lines["<c><v>4.006381333931E12</v></c>"] = lines["<c><v>4006381333931.0</v></c>"] = f"ean13 {PENCIL}"
+        self.check_codes(lines, "auto", formats)
+        again = "enter it again as text"
+        texts = {
+            cell(7, style=8): "code128 0007",
+            cell(7): "code128 7",
+            cell(7, style=5): f'refused: is a number or a date with the format ""LOT "0": {again}',
+            cell(7, style=9): f'refused: is a number or a date with the format "000\\-000": {again}',
+            cell(45678, style=4): f'refused: is a number or a date with the format "dd/mm/yyyy": {again}',
+            cell(
+                45678, style=7
+            ): "refused: has a number format that depends on the spreadsheet's language: format it as text",
+            cell(1.5): f"refused: is the number 1.5, which is not whole or has too many digits: {again}",
+            cell(10**15): f"refused: is the number {10**15}, which is not whole or has too many digits: {again}",
+        }
+        self.check_codes(texts, "code128", formats)
+
+    def test_cells_that_have_no_value(self) -> None:
+        no_value = "has a formula without a saved value: open the table in the spreadsheet and save it"
+        error = 'has "#REF!", which the spreadsheet writes where it has no value to show'
+        cells = {
+            "<c><f>A1</f></c>": f"refused: {no_value}",
+            "<c><f>A1</f><v></v></c>": f"refused: {no_value}",
+            "<c><f>A1</f><v/></c>": f"refused: {no_value}",
+            '<c t="e"><f>A1</f><v>#REF!</v></c>': f"refused: {error}",
+            '<c t="b"><v>1</v></c>': "refused: has a truth value (TRUE, FALSE): write it as text",
+            '<c t="d"><v>2026-11-25</v></c>': 'refused: has "2026-11-25", which is of a kind that is not read: enter it again as text',
+            f'<c t="str"><f>A1</f><v>{PENCIL}</v></c>': f"ean13 {PENCIL}",
+            f"<c><f>A1</f><v>{PENCIL}</v></c>": f"ean13 {PENCIL}",
+        }
+        self.check_codes(cells, "auto")
+        data = xlsx(rows(["EAN", "Name"], [PENCIL, '<c t="str"><f>A1</f><v></v></c>'], [SMALL, "<c><f>A1</f></c>"]))
+        problem = f'row 3: column 2 ("Name") {no_value}'
+        self.check(data, ["--code", "EAN", "--title", "Name"], [f"ean13 {PENCIL}"], [problem], 1)
+        self.check(data, ["--code", "EAN"], [f"ean13 {PENCIL}", f"ean8 {SMALL}"])
+
+    def test_strings(self) -> None:
+        strings = [
+            "<si><t>EAN</t></si>",
+            "<si><t>Name</t></si>",
+            "<si><r><rPr><b/></rPr><t>Blei</t></r><r><t xml:space='preserve'>stift </t></r></si>",
+            "<si><t>鉛筆</t><rPh sb='0' eb='2'><t>エンピツ</t></rPh><phoneticPr fontId='1'/></si>",
+            "<si><t>a_x000D_\nb_x005F_x000D_ &amp; &lt;</t></si>",
+            "<si><t>_xD83D__xDE00_ _x0041_</t></si>",
+        ]
+        shared = ['<c t="s"><v>{}</v></c>'.format(number) for number in range(6)]
+        data = xlsx(rows(shared[:2], *([PENCIL, text] for text in shared[2:])), strings="".join(strings))
+        done = support.run_here("label-table", "--code", "EAN", "--title", "Name", input=data)
+        titles = [label["title"] for label, _ in parts_of(done.stdout)[1]]
+        self.assertEqual(titles, ["Bleistift", "鉛筆", "a\nb_x000D_ & <", "😀 A"])
+
+    def test_a_wrong_dimension_and_cells_without_references(self) -> None:
+        sheet = rows(["EAN", "Name"], [PENCIL, "a"], [SMALL, "b"], [BOOK, "c"])
+        for text in (sheet, sheet.replace('<row r="3">', "<row>").replace('<row r="4">', "<row>")):
+            found = self.found(xlsx(text, before='<dimension ref="A1:A2"/>'), "--title", "Name")
+            self.assertEqual([(label["row"], label["title"]) for label, _ in found], [(2, "a"), (3, "b"), (4, "c")])
+
+    def test_references(self) -> None:
+        lines = f'<row r="1">{cell("EAN", "AB1")}</row><row r="3">{cell("x", "B3")}{cell(PENCIL, "AB3")}</row>'
+        self.check(xlsx(lines), ["--code", "EAN"], [f"ean13 {PENCIL}"], ["row 2: the row is empty"], 1)
+        again = "open it in the spreadsheet and save it again"
+        self.refused(xlsx(rows(["EAN"]) + rows(["EAN"])), f"has row 1 or a cell of it out of order: {again}")
+        lines = f'<row r="1">{cell("EAN", "B1")}{cell("x", "A1")}</row>'
+        self.refused(xlsx(lines), f"has row 1 or a cell of it out of order: {again}")
+        self.refused(xlsx(f'<row r="1">{cell("EAN", "1")}</row>'), 'has the reference "1", which is no cell')
+
+    def test_prefixes_and_strict_namespaces(self) -> None:
+        sheet = rows(["EAN"], [PENCIL])
+        self.assertEqual(self.found(xlsx(sheet, namespace=STRICT)), [({"row": 2}, f"ean13 {PENCIL}")])
+        prefixed = f'<x:worksheet xmlns:x="{MAIN}"><x:sheetData>{sheet.replace("</", "</x:").replace("<", "<x:")}'
+        prefixed = prefixed.replace("<x:/x:", "</x:").replace("<x:x:", "<x:") + "</x:sheetData></x:worksheet>"
+        parts = {name: text for name, text in unpacked(xlsx(sheet)).items() if "sheet1" not in name}
+        data = packed({**parts, "xl/worksheets/sheet1.xml": prefixed})
+        self.assertEqual(self.found(data), [({"row": 2}, f"ean13 {PENCIL}")])
+
+    def test_empty_rows(self) -> None:
+        lines = '<row r="1"><c t="inlineStr"><is><t>EAN</t></is></c></row>'
+        lines += (
+            f'<row r="4">{cell(PENCIL)}</row><row r="5"/><row r="6">{cell(SMALL)}</row><row r="9"><c s="0"/></row>'
+        )
+        problems = ["row 2: the row is empty, and all to row 3", "row 5: the row is empty"]
+        done = support.run_here("label-table", "--code", "EAN", input=xlsx(lines))
+        self.assertEqual(support.messages(done), [f"label-table: {problem}" for problem in problems])
+        end = {"end": 1, "lines": 2, "left_out": [2, 3, 5], "left_out_count": 3}
+        self.assertEqual(parts_of(done.stdout)[2], end)
+
+    def test_hidden_rows(self) -> None:
+        lines = rows(["EAN"], [PENCIL], [SMALL], [BOOK], [], [SOAP])
+        for number in (3, 5):
+            lines = lines.replace(f'<row r="{number}">', f'<row r="{number}" hidden="1">')
+        lines += '<row r="8" hidden="true"></row>'
+        shown = [f"ean13 {PENCIL}", f"ean13 {BOOK}", f"upca {SOAP}"]
+        note = "1 hidden rows are not printed: give --hidden to print them"
+        self.check(xlsx(lines), ["--code", "EAN"], shown, [note])
+        every = [f"ean13 {PENCIL}", f"ean8 {SMALL}", f"ean13 {BOOK}", f"upca {SOAP}"]
+        self.check(xlsx(lines), ["--code", "EAN", "--hidden"], every, ["row 5: the row is empty"], 1)
+
+    def test_merged_cells(self) -> None:
+        lines = rows(["EAN", "Name"], [PENCIL, "a"], [None, "b"], [SMALL, None], [BOOK, "c"])
+        after = '<mergeCells><mergeCell ref="B4:B5"/><mergeCell ref="A2:A3"/><mergeCell ref="C1:F1"/></mergeCells>'
+        problems = [
+            'row 3: column 1 ("EAN") is merged with row 2: take the merged cells apart',
+            'row 5: column 2 ("Name") is merged with row 4: take the merged cells apart',
+        ]
+        arguments = ["--code", "EAN", "--title", "Name"]
+        self.check(xlsx(lines, after=after), arguments, [f"ean13 {PENCIL}", f"ean8 {SMALL}"], problems, 1)
+        # a word that is cut in two where the part is read piece by piece
+        for padding in range(65536 - 700, 65536 - 400, 7):
+            comment = f"<!--{'x' * padding}-->"
+            data = xlsx(lines, before=comment, after=after)
+            done = support.run_here("label-table", *arguments, input=data)
+            self.assertEqual(len(support.messages(done)), 2, padding)
+
+    def test_several_sheets(self) -> None:
+        first, second = rows(["EAN"], [PENCIL]), rows(["EAN"], [SMALL])
+        others = [("leer", "visible", rows([None])), ("alt", "hidden", second), ("sehr alt", "veryHidden", second)]
+        self.assertEqual(self.found(xlsx(first, *others)), [({"row": 2}, f"ean13 {PENCIL}")])
+        self.assertEqual(self.found(xlsx(rows([None]), ("Neu", "visible", second))), [({"row": 2}, f"ean8 {SMALL}")])
+        for name in ("alt", "sehr alt"):
+            self.assertEqual(self.found(xlsx(first, *others), "--sheet", name), [({"row": 2}, f"ean8 {SMALL}")])
+        data = xlsx(first, *others, ("Preise", "visible", second))
+        self.refused(data, 'has 2 sheets with data: give --sheet with one of "Tabelle1", "Preise"', status=2)
+        self.assertEqual(self.found(data, "--sheet", "Preise"), [({"row": 2}, f"ean8 {SMALL}")])
+        problem = 'has no sheet "preise"; it has "Tabelle1", "leer", "alt", "sehr alt", "Preise"'
+        self.refused(data, problem, "--sheet", "preise", status=2)
+        self.refused(xlsx("", ("x", "visible", "")), "has no visible sheet with data")
+
+    def test_options_of_csv(self) -> None:
+        for option, value in (("--delimiter", ";"), ("--encoding", "cp1252")):
+            self.refused(xlsx(rows(["EAN"], [PENCIL])), f"is no CSV: leave {option} away", option, value, status=2)
+
+    def test_a_number_of_a_column(self) -> None:
+        data = xlsx(rows([PENCIL, "a"], [SMALL, "b"]))
+        self.check(data, ["--code", "1", "--no-header"], [f"ean13 {PENCIL}", f"ean8 {SMALL}"])
+        hint = "give --no-header if that is a code, --header if it is the name of the column"
+        self.check(data, ["--code", "1"], [], [f'row 1 has "{PENCIL}" in column 1: {hint}'], 2)
+
+    def test_openpyxl_writes_what_is_read(self) -> None:
+        try:
+            from openpyxl import Workbook
+        except ImportError:
+            support.skip("openpyxl is not installed")
+        book, stream = Workbook(), io.BytesIO()
+        sheet = book.active
+        for line in (["EAN", "Name", "Price"], [int(PENCIL), "Käse\n2", 1.5], [SMALL, "=A1", 2], [BOOK, "x", 3]):
+            sheet.append(line)
+        sheet["C2"].number_format = "0.00"
+        sheet.row_dimensions[4].hidden = True
+        book.save(stream)
+        arguments = ["--code", "EAN", "--title", "Name", "--price", "Price", "--decimal", "."]
+        done = support.run_here("label-table", *arguments, input=stream.getvalue())
+        label = {"row": 2, "title": "Käse\n2", "price": "1.50"}
+        self.assertEqual(parts_of(done.stdout)[1], [(label, f"ean13 {PENCIL}")])
+        self.assertEqual(
+            [message[13:52] for message in support.messages(done)],
+            ['row 3: column 2 ("Name") has a formula ', "1 hidden rows are not printed: give --h"],
+        )
+
+
+def unpacked(data: bytes) -> Dict[str, str]:
+    """The parts of a zip file."""
+    with zipfile.ZipFile(io.BytesIO(data)) as archive:
+        return {name: archive.read(name).decode() for name in archive.namelist()}
+
+
+class Formats(WorkbookTest):
+    """What a number in a column of text is shown as."""
+
+    def shown(self, value: object, number_format: Union[str, int], *arguments: str, date1904: bool = False) -> str:
+        """The text of a number with a format; where it is refused, the message."""
+        data = xlsx(rows(["EAN", "x"], [PENCIL, cell(value, style=1)]), formats=[number_format], date1904=date1904)
+        done = support.run_here(
+            "label-table", "--code", "EAN", "--text", "x", *(arguments or ("--decimal", ",")), input=data
+        )
+        labels = parts_of(done.stdout)[1]
+        return labels[0][0].get("text", [""])[0] if labels else support.messages(done)[0]
+
+    def test_formats_that_are_shown(self) -> None:
+        accounting = '_-* #,##0.00\\ "€"_-;\\-* #,##0.00\\ "€"_-;_-* "-"??\\ "€"_-;_-@_-'
+        cases = [
+            *((0.8, '#,##0.00\\ "€"', "0,80 €"), (12999, "#,##0.00\\ [$zł-415]", "12.999,00 zł")),
+            *((1234567.891, "#,##0.00", "1.234.567,89"), (1234.5, 4, "1.234,50"), (1234.5, 2, "1234,50")),
+            *((0.8, accounting, "0,80 €"), (-0.8, accounting, "-0,80 €"), (0, accounting, "- €")),
+            *((5, "General", "5"), (1.25, "General", "1,25"), (int(PENCIL), "General", PENCIL), (0.1, "@", "0,1")),
+            *((7, "000", "007"), (7, "0", "7"), (0.5, "0", "1"), (2.5, "0", "3"), (0.4, "#", "")),
+            *((2.675, "0.00", "2,68"), (1.005, "0.00", "1,01"), (0.30000000000000004, "General", "0,3")),
+            *((0.5, "0%", "50%"), (0.1234, 10, "12,34%"), (0.5, "#.##", ",5"), (12.5, "0.0#", "12,5")),
+            *(
+                (-3.5, "0.00;[Red]-0.00", "-3,50"),
+                (-3.5, "0.00", "-3,50"),
+                (-1, "0;(0)", "(1)"),
+                (0, '0;0;"frei"', "frei"),
+            ),
+            *(
+                (5, '0" Stück"', "5 Stück"),
+                (5, "0 \\S\\t", "5 St"),
+                (5, '"a;b" 0', "a;b 5"),
+                (9.9, "€ 0.00", "€ 9,90"),
+            ),
+            *((9.9, "[$€-2] 0.00", "€ 9,90"), (9.9, "[$-407]0.00", "9,90"), (9.9, "[Blue]$0.00", "$9,90")),
+            *((45678, "dd.mm.yyyy", "21.01.2025"), (45678, "d/m/yy", "21/1/25"), (45678, "yyyy-mm-dd", "2025-01-21")),
+            *((45678.9, "dd.mm.yy", "21.01.25"), (61, "d.m.yyyy", "1.3.1900"), (2958465, "d.m.yyyy", "31.12.9999")),
+        ]
+        for value, number_format, text in cases:
+            self.assertEqual(self.shown(value, number_format), text, (value, number_format))
+        self.assertEqual(self.shown(44216, "dd.mm.yyyy", date1904=True), "21.01.2025")
+        self.assertEqual(self.shown(12999.5, "#,##0.00", "--decimal", "."), "12,999.50")
+
+    def test_formats_that_are_not_understood(self) -> None:
+        not_understood = [
+            "# ?/?",
+            "0.00E+00",
+            "h:mm",
+            "[h]:mm",
+            "[>4]0;0",
+            "0.00 EUR",
+            "000-000",
+            '0.00" €',
+            "0 0",
+            "x",
+        ]
+        for number_format in not_understood:
+            problem = f'has the number format "{number_format}", which is not understood: format it as text'
+            self.assertEqual(self.shown(5, number_format), f'label-table: row 2: column 2 ("x") {problem}')
+        for number_format, field in (("d. mmm yyyy", "mmm"), ("dddd", "dddd"), ("[$-F800]dddd\\,\\ d", "dddd")):
+            problem = f'is a date with names of days or months, "{field}", or before March 1900: format it as text'
+            self.assertEqual(self.shown(45678, number_format), f'label-table: row 2: column 2 ("x") {problem}')
+        for value in (60, -1, 2958466):
+            problem = 'is a date with names of days or months, "d", or before March 1900: format it as text'
+            self.assertEqual(self.shown(value, "d"), f'label-table: row 2: column 2 ("x") {problem}')
+        problem = "has a number format that depends on the spreadsheet's language: format it as text"
+        for number in (14, 22, 44, 999):
+            self.assertEqual(self.shown(5, number), f'label-table: row 2: column 2 ("x") {problem}')
+        problem = "is the number 0.333333333333333 without a number of decimals: give it a format such as 0.00"
+        self.assertEqual(self.shown(1 / 3, "General"), f'label-table: row 2: column 2 ("x") {problem}')
+        for value in ("NaN", "1E999", "x"):
+            problem = f'has "{value}", which is no number: format it as text'
+            self.assertEqual(self.raw(value), problem)
+
+    def raw(self, value: str) -> str:
+        data = xlsx(rows(["EAN", "x"], [PENCIL, f"<c><v>{value}</v></c>"]))
+        done = support.run_here("label-table", "--code", "EAN", "--text", "x", input=data)
+        return support.messages(done)[0].removeprefix('label-table: row 2: column 2 ("x") ')
+
+    def test_the_signs_are_said_where_no_option_gives_them(self) -> None:
+        data = xlsx(
+            rows(["EAN", "x"], [PENCIL, cell(1, style=2)], [SMALL, cell(1234.5, style=1)]), formats=["0.00", "0"]
+        )
+        note = 'label-table: numbers are printed as "1234.50": if that is wrong, give --decimal , or --decimal .'
+        for options, messages in (([], [note]), (["--decimal", "."], []), (["--text", "EAN"], [note])):
+            done = support.run("label-table", "--code", "EAN", "--price", "x", *options, input=data, locale="C")
+            self.assertEqual((done.returncode, support.messages(done)), (0, messages))
+        done = support.run("label-table", "--code", "EAN", input=data, locale="C")
+        self.assertEqual((done.returncode, support.messages(done)), (0, []))
+
+
+class Ods(WorkbookTest):
+    def test_a_table(self) -> None:
+        value = f'office:value="{PENCIL}"'
+        price = ods_cell("0,80 €", "currency", 'office:currency="EUR" office:value="0.8"')
+        copies = ods_cell("3", "float", 'office:value="3"')
+        line = [ods_cell("4,01E+12", "float", value), ods_cell("Bleistift\n2B"), price, copies]
+        data = ods(table(["EAN", "Artikel", "Preis", "Stück"], line))
+        columns = ["--title", "Artikel", "--price", "Preis", "--copies", "Stück"]
+        label = {"row": 2, "title": "Bleistift\n2B", "price": "0,80 €", "copies": 3}
+        self.assertEqual(self.found(data, *columns), [(label, f"ean13 {PENCIL}")])
+
+    def test_numbers_as_codes(self) -> None:
+        cells = {
+            ods_cell("0007", "float", 'office:value="7"'): "code128 0007",
+            ods_cell("1.234", "float", 'office:value="1234"'): "code128 1234",
+            ods_cell(
+                "LOT 7", "float", 'office:value="7"'
+            ): 'is the number 7 that is shown as "LOT 7": enter it again as text',
+            ods_cell(
+                "1,50", "float", 'office:value="1.5"'
+            ): "is the number 1.5, which is not whole or has too many digits: enter it again as text",
+            ods_cell(
+                "25.11.26", "date", 'office:date-value="2026-11-25"'
+            ): 'is the date or time that is shown as "25.11.26": enter it again as text',
+            ods_cell(
+                "WAHR", "boolean", 'office:boolean-value="true"'
+            ): "has a truth value (TRUE, FALSE): write it as text",
+            ods_cell(
+                "#NV", "string", 'calcext:value-type="error"'
+            ): 'has "#NV", which the spreadsheet writes where it has no value to show',
+            '<table:table-cell table:formula="of:=[.A1]"/>': "has a formula without a saved value: open the table in the spreadsheet and save it",
+        }
+        lines = [text for text in cells.values() if text.startswith("code128")]
+        problems = [
+            f'row {row}: column 1 ("EAN") {text}' for row, text in enumerate(cells.values(), 2) if text not in lines
+        ]
+        data = ods(table(["EAN"], *([text] for text in cells)))
+        self.check(data, ["--code", "EAN", "--symbology", "code128"], lines, problems, 1)
+        data = ods(table(["EAN", "x"], [PENCIL, list(cells)[4]]))
+        self.assertEqual(self.found(data, "--text", "x")[0][0]["text"], ["25.11.26"])
+
+    def test_what_is_repeated(self) -> None:
+        twice = ods_cell("Seife", more='table:number-columns-repeated="2"')
+        gap = '<table:table-cell table:number-columns-repeated="2"/>'
+        row = f'<table:table-row table:number-rows-repeated="2">{ods_cell(SMALL)}</table:table-row>'
+        empty = '<table:table-row table:number-rows-repeated="{}"><table:table-cell table:number-columns-repeated="{}"/></table:table-row>'
+        lines = table(
+            ["EAN", "a", "b", "c", "d", "e"], [PENCIL, twice, gap, "x"], end=row + empty.format(1048571, 16384)
+        )
+        found = self.found(ods(lines), "--text", "a", "--text", "b", "--text", "c", "--text", "e")
+        self.assertEqual(found[0], ({"row": 2, "text": ["Seife", "Seife", "x"]}, f"ean13 {PENCIL}"))
+        self.assertEqual(found[1:], [({"row": 3}, f"ean8 {SMALL}"), ({"row": 4}, f"ean8 {SMALL}")])
+        lines = table(["EAN"], [PENCIL], end=empty.format(3, 5) + row)
+        problem = "row 3: the row is empty, and all to row 5"
+        done = support.run_here("label-table", "--code", "EAN", input=ods(lines))
+        self.assertEqual((done.returncode, support.messages(done)), (1, [f"label-table: {problem}"]))
+
+    def test_letters(self) -> None:
+        comment = "<office:annotation><dc:date xmlns:dc='x'>2026</dc:date><text:p>Notiz</text:p></office:annotation>"
+        drawn = "<draw:frame><draw:text-box><text:p>Bild</text:p></draw:text-box></draw:frame>"
+        texts = {
+            ods_cell("Bleistift", before=comment): "Bleistift",
+            ods_cell("Bleistift", before=drawn): "Bleistift",
+            ods_cell("a<text:s/>b<text:s text:c='2'/>c"): "a b  c",
+            ods_cell("a<text:line-break/>b"): "a\nb",
+            ods_cell(" a  <text:span>b </text:span> <text:a>c</text:a> "): "a b c",
+            ods_cell("a &amp; b\n\nc"): "a & b\nc",
+        }
+        data = ods(table(["EAN", "x"], *([PENCIL, text] for text in texts)))
+        done = support.run_here("label-table", "--code", "EAN", "--title", "x", input=data)
+        titles = [label["title"] for label, _ in parts_of(done.stdout)[1]]
+        self.assertEqual(titles, list(texts.values()))
+
+    def test_hidden_rows_and_sheets(self) -> None:
+        hidden = '<table:table-row table:visibility="{}" {}>{}</table:table-row>'
+        repeated = 'table:number-rows-repeated="1048500"'
+        lines = hidden.format("filter", "", ods_cell(SMALL)) + hidden.format("collapse", "", ods_cell(BOOK))
+        lines += f"<table:table-row>{ods_cell(SOAP)}</table:table-row>"
+        data = ods(table(["EAN"], [PENCIL], end=lines + hidden.format("collapse", repeated, "<table:table-cell/>")))
+        note = "2 hidden rows are not printed: give --hidden to print them"
+        self.check(data, ["--code", "EAN"], [f"ean13 {PENCIL}", f"upca {SOAP}"], [note])
+        every = [f"ean13 {PENCIL}", f"ean8 {SMALL}", f"ean13 {BOOK}", f"upca {SOAP}"]
+        self.check(data, ["--code", "EAN", "--hidden"], every)
+
+        style = '<style:style style:name="ta2" style:family="table"><style:table-properties table:display="false"/></style:style>'
+        sheets = [table(["EAN"], [PENCIL]), table(["EAN"], [SMALL], name="alt", style="ta2"), table([""], name="leer")]
+        data = ods(*sheets, styles=style)
+        self.check(data, ["--code", "EAN"], [f"ean13 {PENCIL}"])
+        self.check(data, ["--code", "EAN", "--sheet", "alt"], [f"ean8 {SMALL}"])
+        problem = 'has 2 sheets with data: give --sheet with one of "Tabelle1", "alt"'
+        self.refused(ods(*sheets), problem, status=2)
+
+    def test_merged_cells(self) -> None:
+        spanned = ods_cell(PENCIL, more='table:number-rows-spanned="2" table:number-columns-spanned="1"')
+        covered = "<table:covered-table-cell/>"
+        data = ods(table(["EAN", "Name"], [spanned, "a"], [covered, "b"], [SMALL, "c"]))
+        problem = 'row 3: column 1 ("EAN") is merged with row 2: take the merged cells apart'
+        self.check(data, ["--code", "EAN"], [f"ean13 {PENCIL}", f"ean8 {SMALL}"], [problem], 1)
+
+    def test_other_tables_in_the_file(self) -> None:
+        inner = f'<table:table-cell office:value-type="string"><text:p>{PENCIL}</text:p>{table(["x"], ["y"])}</table:table-cell>'
+        links = f"<table:dde-links><table:dde-link>{table(['EAN'], [SMALL])}</table:dde-link></table:dde-links>"
+        self.check(ods(table(["EAN"], [inner]), links), ["--code", "EAN"], [f"ean13 {PENCIL}"])
+
+
+class Hostile(WorkbookTest):
+    """Files that are damaged, of another kind, or made to do harm."""
+
+    SHEET = rows(["EAN"], [PENCIL])
+
+    def changed(self, part: str, old: str, new: str) -> bytes:
+        parts = unpacked(xlsx(self.SHEET))
+        self.assertIn(old, parts[part])
+        return packed({**parts, part: parts[part].replace(old, new)})
+
+    def test_document_types(self) -> None:
+        entities = '<!DOCTYPE x [<!ENTITY a "aaaaaaaaaa"><!ENTITY b "&a;&a;&a;&a;&a;&a;&a;&a;"><!ENTITY c SYSTEM "/etc/passwd">]>'
+        again = "open it in the spreadsheet and save it again"
+        problem = f"has a document type (DOCTYPE), which no spreadsheet writes: {again}"
+        for part in unpacked(xlsx(self.SHEET)):
+            if part != "[Content_Types].xml":
+                self.refused(self.changed(part, XML, XML + entities), problem)
+        content = unpacked(ods(table(["EAN"], [PENCIL])))
+        content["content.xml"] = content["content.xml"].replace(XML, XML + entities).replace(PENCIL, "&b;&c;")
+        self.refused(packed(content), problem)
+
+    def test_huge_parts(self) -> None:
+        stream = io.BytesIO(xlsx(self.SHEET))
+        with zipfile.ZipFile(stream, "a", zipfile.ZIP_DEFLATED) as archive:
+            with archive.open("xl/media/image1.png", "w") as part:
+                for _ in range(260):
+                    part.write(bytes(1 << 20))
+        self.refused(
+            stream.getvalue(), 'has a part of 272629760 bytes, "xl/media/image1.png"; at most 256 MB are read'
+        )
+
+    def test_huge_cells_rows_and_nesting_take_no_memory(self) -> None:
+        size = 60_000_000
+        bombs = {
+            "a cell": (rows(["EAN"], ["x" * size]), "has a cell of more than 131068 characters"),
+            "a tag": (f'<row r="1" x="{"x" * size}"/>', "has an element of more than 2 MB"),
+            "cells": (
+                f'<row r="1">{"<c/>" * (size // 4)}</row>',
+                "has more than 16384 columns, or elements more than 100 deep",
+            ),
+            "depth": ("<a>" * (size // 3), "has more than 16384 columns, or elements more than 100 deep"),
+            "texts": (
+                f"<row><c><is>{'<t/>' * (size // 4)}</is></c></row>",
+                "has a cell of more than 131068 characters",
+            ),
+            "column": (
+                f'<row r="1">{cell("EAN", "XFE1")}</row>',
+                "has more than 1048576 rows, 16384 columns or 256 merged cells that cross row 1",
+            ),
+            "row": (
+                f'<row r="1048577">{cell("EAN")}</row>',
+                "has more than 1048576 rows, 16384 columns or 256 merged cells that cross row 1048577",
+            ),
+        }
+        for name, (sheet, problem) in bombs.items():
+            path = self.folder / "bomb.xlsx"
+            path.write_bytes(xlsx(sheet))
+            limited = [
+                "bash",
+                "-c",
+                'ulimit -v 100000 && exec "$@"',
+                "sh",
+                str(support.TOOLS / "label-table"),
+                "--code",
+                "EAN",
+            ]
+            done = subprocess.run(
+                [*limited, str(path)], capture_output=True, env=support.environment(), timeout=support.SECONDS
+            )
+            self.assertEqual((name, done.stderr.decode()), (name, f"label-table: {path} {problem}\n"))
+            self.assertEqual((done.returncode, done.stdout), (1, b""))
+
+    def test_repeats_of_ods_that_take_no_memory(self) -> None:
+        wide = ods_cell("x", more='table:number-columns-repeated="1000000000"')
+        limits = "has more than 1048576 rows, 16384 columns or 256 merged cells that cross row"
+        self.refused(ods(table(["EAN"], [wide])), f"{limits} 2")
+        long = f'<table:table-row table:number-rows-repeated="1000000000">{ods_cell("x")}</table:table-row>'
+        self.refused(ods(table(["EAN"], end=long)), f"{limits} 2")
+        spaces = ods_cell("<text:s text:c='1000000000'/>")
+        self.refused(ods(table(["EAN"], [spaces])), "has a cell of more than 131068 characters")
+
+    def test_more_merged_cells_than_a_sheet_has(self) -> None:
+        merges = "".join(f'<mergeCell ref="A{row}:B1000000"/>' for row in range(1, 300))
+        data = xlsx(
+            "".join(f'<row r="{row}">{cell("EAN")}</row>' for row in range(1, 300)),
+            after=f"<mergeCells>{merges}</mergeCells>",
+        )
+        limits = "has more than 1048576 rows, 16384 columns or 256 merged cells that cross row 257"
+        self.refused(data, limits)
+
+    def test_files_of_other_kinds(self) -> None:
+        other = "is neither .xlsx nor .ods: save the table as one of these, or as CSV"
+        self.refused(packed({"word/document.xml": "<x/>"}), other)
+        self.refused(packed({"mimetype": "application/vnd.oasis.opendocument.text", "content.xml": "<x/>"}), other)
+        self.refused(packed({"x": "y"}), other)
+        self.refused(packed({}), other)
+        binary = packed({"_rels/.rels": relations([("rId1", "officeDocument", "xl/workbook.bin")])})
+        self.refused(binary, "is a binary workbook (.xlsb): save it as .xlsx")
+        word = packed(
+            {"_rels/.rels": relations([("rId1", "officeDocument", "word/document.xml")]), "word/document.xml": "<w/>"}
+        )
+        self.refused(word, other)
+        manifest = {"META-INF/manifest.xml": "<manifest:encryption-data/>"}
+        self.refused(ods(table(["EAN"]), extra=manifest), "has a password: save it without one")
+        again = "open it in the spreadsheet and save it again"
+        self.refused(
+            packed(unpacked(xlsx(self.SHEET)), zipfile.ZIP_LZMA), f"is packed as no spreadsheet does it: {again}"
+        )
+
+    def test_damaged_files(self) -> None:
+        data = xlsx(self.SHEET)
+        messages = set()
+        for end in range(4, len(data), 97):
+            done = support.run_here("label-table", "--code", "EAN", input=data[:end])
+            self.assertEqual((done.returncode, done.stdout), (1, b""), end)
+            messages.update(support.messages(done))
+        self.assertTrue(
+            all(text.startswith("label-table: standard input is damaged or cut off (") for text in messages)
+        )
+        for part, old, new in (
+            ("xl/workbook.xml", 'r:id="rId1"', 'r:id="rId9"'),
+            ("xl/worksheets/sheet1.xml", "</worksheet>", ""),
+            ("xl/worksheets/sheet1.xml", 'r="2"', 'r="two"'),
+            ("xl/worksheets/sheet1.xml", '<c t="inlineStr">', '<c t="s"><v>7</v></c><c t="inlineStr">'),
+            ("xl/worksheets/sheet1.xml", '<c t="inlineStr">', '<c s="9"><v>7</v></c><c t="inlineStr">'),
+            ("xl/_rels/workbook.xml.rels", "worksheets/sheet1.xml", "../../../etc/passwd"),
+        ):
+            done = support.run_here("label-table", "--code", "EAN", input=self.changed(part, old, new))
+            self.assertEqual((done.returncode, done.stdout), (1, b""), (part, new))
+            self.assertRegex(
+                support.messages(done)[0], "^label-table: standard input is damaged or cut off ", (part, new)
+            )
+
+    def test_each_byte_that_is_changed_ends_with_a_status(self) -> None:
+        data = bytearray(packed(unpacked(xlsx(self.SHEET)), zipfile.ZIP_STORED))
+        for place in range(0, len(data), 41):
+            changed = bytes(data[:place] + bytes([data[place] ^ 0x15]) + data[place + 1 :])
+            done = support.run_here("label-table", "--code", "EAN", input=changed)
+            self.assertIn(done.returncode, (0, 1, 2), place)
+            self.assertFalse(any("Traceback" in text for text in support.messages(done)), place)
+
+
+class LongTables(WorkbookTest):
+    def test_many_rows_in_seconds(self) -> None:
+        lines = rows(["EAN", "Name", "Price"], *([PENCIL, "a", cell(0.5, style=1)] for _ in range(20000)))
+        for data in (
+            xlsx(lines, formats=["0.00"]),
+            ods(table(["EAN", "Name", "Price"], *([PENCIL, "a", "1"] for _ in range(20000)))),
+        ):
+            before = time.monotonic()
+            done = support.run(
+                "label-table", *("--code", "EAN", "--title", "Name", "--price", "Price", "--decimal", ","), input=data
+            )
+            self.assertEqual((done.returncode, done.stdout.count(b"\n"), done.stderr), (0, 40002, b""))
+            self.assertLess(time.monotonic() - before, 40)
+
+
+if __name__ == "__main__":
+    unittest.main()
