@@ -1,10 +1,12 @@
-"""How the tools start and end: their arguments, standard output, messages and statuses."""
+"""How the tools start and end: their arguments, standard output, messages, signals and statuses."""
 
 import argparse
 import os
+import signal
 import sys
+from contextlib import contextmanager
 from io import RawIOBase, TextIOWrapper
-from typing import BinaryIO, Callable, NoReturn, Optional, TextIO
+from typing import BinaryIO, Callable, Iterator, NoReturn, Optional, TextIO
 
 BAD_ARGUMENTS = 2
 INTERRUPTED = 130
@@ -13,13 +15,9 @@ INTERRUPTED = 130
 class ToolError(Exception):
     """Why a tool cannot go on: a message without the tool's name; the tool ends with `status`."""
 
-    status = 1
-
-
-class ArgumentsError(ToolError):
-    """Why arguments are refused that are right by themselves."""
-
-    status = BAD_ARGUMENTS
+    def __init__(self, message: str, status: int = 1) -> None:
+        super().__init__(message)
+        self.status = status
 
 
 class Parser(argparse.ArgumentParser):
@@ -55,12 +53,17 @@ def complain(tool: str, message: str) -> None:
 
 
 def main_of(tool: str, function: Callable[[], Optional[int]]) -> NoReturn:
-    """Runs a tool, and ends with its status (None is 0), or with 1 and a message for ToolError and OSError."""
+    """Runs a tool, and ends with its status (None is 0), or with a message and a status for ToolError and OSError."""
     if sys.stderr is None:  # Python would write messages to standard output, which may be a printer
         sys.stderr = open(os.devnull, "w")
     try:
-        _buffer_standard_output()
-        status = _status_of(function)
+        if sys.stdout is not None and isinstance(sys.stdout.buffer, RawIOBase):
+            # PYTHONUNBUFFERED left it without a buffer: its writes may take a part only
+            sys.stdout = TextIOWrapper(open(sys.stdout.fileno(), "wb", closefd=False), sys.stdout.encoding)
+        try:
+            status = function() or 0
+        except SystemExit as end:  # of argparse, after a help text or bad arguments
+            status = int(end.code or 0)
         if sys.stdout is not None:
             sys.stdout.flush()
     except ToolError as error:
@@ -71,35 +74,45 @@ def main_of(tool: str, function: Callable[[], Optional[int]]) -> NoReturn:
         status = 1
     except KeyboardInterrupt:
         status = INTERRUPTED
-    _drop_unwritten(sys.stdout)
-    _drop_unwritten(sys.stderr)
+    for stream in filter(None, (sys.stdout, sys.stderr)):
+        try:
+            stream.flush()
+        except OSError:  # Python's last flush would change the status to 120
+            _drop(stream)
     sys.exit(status)
-
-
-def _status_of(function: Callable[[], Optional[int]]) -> int:
-    """The status of a tool, which argparse ends by SystemExit after a help text or bad arguments."""
-    try:
-        return function() or 0
-    except SystemExit as end:
-        return int(end.code or 0)
-
-
-def _buffer_standard_output() -> None:
-    """Puts a buffer before standard output where PYTHONUNBUFFERED left it without: its writes may take a part only."""
-    if sys.stdout is not None and isinstance(sys.stdout.buffer, RawIOBase):
-        sys.stdout = TextIOWrapper(open(sys.stdout.fileno(), "wb", closefd=False), sys.stdout.encoding)
-
-
-def _drop_unwritten(stream: Optional[TextIO]) -> None:
-    """Lets Python's last flush of a broken stream pass, which would change the status to 120."""
-    if stream is None:
-        return
-    try:
-        stream.flush()
-    except OSError:
-        _drop(stream)
 
 
 def _drop(stream: TextIO) -> None:
     """Turns a broken stream into one that takes everything and keeps nothing."""
     os.dup2(os.open(os.devnull, os.O_WRONLY), stream.fileno())
+
+
+class Signals:
+    """Takes the signals that end a tool, but for those that it was started to ignore.
+
+    A signal ends the tool at once; inside of hold() it does so at its end, but a second one at once.
+    """
+
+    def __init__(self) -> None:
+        self.is_held, self.taken = False, 0
+        for number in (signal.SIGHUP, signal.SIGINT, signal.SIGTERM):
+            if signal.getsignal(number) != signal.SIG_IGN:
+                signal.signal(number, self.take)
+
+    def take(self, number: int, _: object) -> None:
+        """Ends the tool by a signal, or keeps it for the end of hold()."""
+        if not self.is_held or self.taken:
+            signal.signal(number, signal.SIG_DFL)
+            os.kill(os.getpid(), number)
+        self.taken = number
+
+    @contextmanager
+    def hold(self) -> Iterator[None]:
+        """Holds signals back while something goes out that has to be whole."""
+        self.is_held = True
+        try:
+            yield
+        finally:
+            self.is_held = False
+            if self.taken:
+                self.take(self.taken, None)

@@ -5,7 +5,7 @@ from typing import Any, Optional
 from label_command import ToolError
 from label_draw import Dots, Pen, dots_of
 from label_file import Label
-from label_layout import Area, Box, Planner
+from label_layout import Box, Planner
 from label_run import bytes_a_row
 
 try:
@@ -19,29 +19,22 @@ FORMATS = {"ean13": "EAN13", "ean8": "EAN8", "upca": "UPCA", "code128": "Code128
 
 def fault_of(label: Label, pen: Pen, planner: Planner) -> Optional[str]:
     """What is wrong with a label as it is drawn in its cell; None where it is read back."""
-    area = Area(0, 0, planner.width, planner.height)
+    area = Box(0, 0, planner.width, planner.height)
     dots = dots_of(area.width, area.height, lambda canvas: pen.draw(canvas, label, area))
-    bars = next(box for box in label.layout.boxes(label, area) if box.kind == "bars")
-    return fault_in(dots, label, bars)
+    return fault_in(dots, label, label.layout.boxes(label, area)["bars"])
 
 
 def fault_in(dots: Dots, label: Label, bars: Box) -> Optional[str]:
-    """What is wrong with a label of which these are the dots."""
+    """What is wrong with a label of which these are the dots, where the bars are in a box."""
     pixels = bits_of(b"".join(dots.rows), dots.width)
-    found = zxingcpp.read_barcode(
-        255 * (1 - pixels),
-        formats=getattr(zxingcpp, FORMATS[label.symbology]),
-        binarizer=zxingcpp.Binarizer.BoolCast,
-    )
-    if found is None:
-        return "the label as drawn is not read"
-    if found.bytes != label.data:
-        return f"the label as drawn is read as {found.bytes!r}"
-    module = bars.width // label.width
-    modules = bits_of(label.modules, label.width).repeat(module, axis=1)
-    wanted = modules.repeat(bars.height // label.height if label.height > 1 else bars.height, axis=0)
+    form, binarizer = getattr(zxingcpp, FORMATS[label.symbology]), zxingcpp.Binarizer.BoolCast
+    found = zxingcpp.read_barcode(255 * (1 - pixels), formats=form, binarizer=binarizer)
+    if found is None or found.bytes != label.data:
+        return f"as drawn it is read as {found.bytes!r}" if found else "as drawn it is not read"
+    modules = bits_of(label.modules, label.width).repeat(bars.width // label.width, axis=1)
+    wanted = modules.repeat(bars.height // label.height, axis=0)
     drawn = pixels[bars.top : bars.top + bars.height, bars.left : bars.left + bars.width]
-    return None if numpy.array_equal(drawn, wanted) else "the bars as drawn are not those of labels"
+    return None if numpy.array_equal(drawn, wanted) else "its bars as drawn are not those of labels"
 
 
 def bits_of(rows: bytes, width: int) -> Any:

@@ -1,98 +1,74 @@
 """Sheets of labels: where the cells of a page are, as given or as glabels knows them by their name."""
 
 import re
-import xml.etree.ElementTree as ElementTree
 from functools import cache
 from pathlib import Path
 from typing import Iterator, NamedTuple, Optional
+from xml.etree.ElementTree import Element, parse
 
-from label_command import ArgumentsError, ToolError
+from label_command import BAD_ARGUMENTS, ToolError
 
+Size = tuple[float, float]
 TEMPLATES = Path("/usr/share/libglabels-3.0/templates")
 # millimetres of each unit; a length without one is in points
 UNITS = {"mm": 1.0, "cm": 10.0, "in": 25.4, "pt": 25.4 / 72, "pc": 25.4 / 6, "": 25.4 / 72}
-LENGTH = re.compile(r"\s*([0-9.]+(?:[eE][+-]?[0-9]+)?)\s*([a-z]*)\s*")
-# a grid may leave its page by this, in millimetres: makers round, and no paper is cut as exactly
+LENGTH = re.compile(r"\s*(-?[0-9.]+(?:[eE][+-]?[0-9]+)?)\s*(mm|cm|in|pt|pc|)\s*")
+# a grid may leave its page by so many millimetres: the sizes of makers are rounded
 MOST_BEYOND = 1.0
 
 
 class Sheet(NamedTuple):
     """A page, the size of a cell, and the upper left corner of each cell, in millimetres."""
 
-    page: tuple[float, float]
-    cell: tuple[float, float]
-    places: list[tuple[float, float]]
-
-    def one_cell(self) -> "Sheet":
-        """The sheet that is one cell: a label of a roll, or a picture by itself."""
-        return Sheet(self.cell, self.cell, [(0.0, 0.0)])
+    page: Size
+    cell: Size
+    places: list[Size]
 
     def beyond(self) -> float:
         """By how much the cells leave the page."""
-        right = max(x for x, _ in self.places) + self.cell[0] - self.page[0]
-        bottom = max(y for _, y in self.places) + self.cell[1] - self.page[1]
-        return max(right, bottom, -min(min(place) for place in self.places))
+        ends = (max(x for x, _ in self.places), max(y for _, y in self.places))
+        beyond = [end + cell - page for end, cell, page in zip(ends, self.cell, self.page)]
+        return max(*beyond, *(-min(place) for place in self.places))
 
     def __str__(self) -> str:
-        size = f"{size_text(self.cell)} on {size_text(self.page)}"
-        return f"{len(self.places)} of {size}"
+        return f"{len(self.places)} of {size_text(self.cell)} on {size_text(self.page)}"
 
 
-class Part(NamedTuple):
-    """A part of a maker: what it is called, its shape, and where glabels has it."""
-
-    brand: str
-    name: str
-    element: ElementTree.Element
-    equal_to: Optional[str]
-
-
-def size_text(size: tuple[float, float]) -> str:
+def size_text(size: Size) -> str:
     """A size in words."""
     return f"{size[0]:.4g} by {size[1]:.4g} mm"
 
 
-def grid_sheet(
-    page: tuple[float, float],
-    cell: tuple[float, float],
-    columns: int,
-    rows: int,
-    margin: Optional[tuple[float, float]],
-    gap: tuple[float, float],
-) -> Sheet:
+def grid_sheet(page: Size, cell: Size, columns: int, rows: int, margin: Optional[Size], gap: Size) -> Sheet:
     """The sheet of a grid of cells, in the middle of the page where no margin is given."""
-    extent = [count * cell[i] + (count - 1) * gap[i] for i, count in enumerate((columns, rows))]
-    left, top = margin or ((page[0] - extent[0]) / 2, (page[1] - extent[1]) / 2)
-    step_x, step_y = cell[0] + gap[0], cell[1] + gap[1]
-    places = [(left + column * step_x, top + row * step_y) for row in range(rows) for column in range(columns)]
-    sheet = Sheet(page, cell, places)
+    across, down = cell[0] + gap[0], cell[1] + gap[1]
+    left, top = margin or ((page[0] + gap[0] - columns * across) / 2, (page[1] + gap[1] - rows * down) / 2)
+    sheet = Sheet(page, cell, [(left + x * across, top + y * down) for y in range(rows) for x in range(columns)])
     if sheet.beyond() > 0.001:
-        raise ArgumentsError(f"{sheet}: the cells leave the page by {sheet.beyond():.2f} mm")
+        raise ToolError(f"{sheet}: the cells leave the page by {sheet.beyond():.2f} mm", BAD_ARGUMENTS)
     return sheet
 
 
 def stock_sheet(name: str) -> Sheet:
-    """The sheet of a part by its name, such as `Avery L7160` or `l7160`; raises ArgumentsError where there is none."""
+    """The sheet of a part by its name, such as `Avery L7160` or `l7160`; raises ToolError where there is none."""
     wanted = plain(name)
-    named = [part for part in parts() if wanted in (plain(part.brand + part.name), plain(part.name))]
-    exact = [part for part in named if wanted == plain(part.brand + part.name)] or named
-    if len({part.brand for part in exact}) > 1:
-        brands = ", ".join(sorted({f"{part.brand} {part.name}" for part in exact}))
-        raise ArgumentsError(f"--stock {name}: several makers have it: {brands}")
-    if not exact:
-        raise ArgumentsError(f"--stock {name}: no such stock: --list-stock WORD lists what there is")
-    return sheet_of(exact[0])
+    named = [key for key in parts() if wanted in (plain(key[1]), plain("".join(key)))]
+    found = [key for key in named if plain("".join(key)) == wanted] or named
+    if len(found) != 1:
+        several = "several makers have it: " + ", ".join(map(" ".join, found))
+        hint = several if found else "no such sheet: --list-stock WORD lists what there is"
+        raise ToolError(f"--stock {name}: {hint}", BAD_ARGUMENTS)
+    return sheet_of(found[0])
 
 
-def list_stock(word: str) -> Iterator[str]:
-    """A line for each part whose brand, name or sheet has these words, without those that are not rectangles."""
-    wanted = word.lower().split()
-    for part in parts():
+def list_stock(words: str) -> Iterator[str]:
+    """A line for each part of rectangles whose name or sheet has these words."""
+    for key in parts():
         try:
-            line = f"{part.brand} {part.name}: {sheet_of(part)}"
+            line = f"{' '.join(key)}: {sheet_of(key)}"
         except ToolError:
             continue
-        if all(one in line.lower() or plain(one) and plain(one) in plain(part.brand + part.name) for one in wanted):
+        if all(word in line.lower() or plain(word) in plain("".join(key)) for word in words.lower().split()):
             yield line
 
 
@@ -102,69 +78,56 @@ def plain(name: str) -> str:
 
 
 @cache
-def parts() -> list[Part]:
-    """Every part that glabels knows, by brand and name."""
-    found = {}
-    for path in sorted(TEMPLATES.glob("*.xml")):
-        for element in elements_of(path, "Template"):
-            brand, name = element.get("brand", ""), element.get("part", "")
-            found[brand, name] = Part(brand, name, element, element.get("equiv"))
+def parts() -> dict[tuple[str, str], Element]:
+    """Every part that glabels knows, by its maker and name."""
+    found = [element for path in sorted(TEMPLATES.glob("*.xml")) for element in elements_of(path, "Template")]
     if not found:
-        raise ToolError("sheets by name need the Debian package glabels-data; without it: --columns, --rows, --cell")
-    return [found[key] for key in sorted(found)]
+        raise ToolError("sheets by name need apt-get install glabels-data; else give --columns, --rows and --cell")
+    named = {(element.get("brand", ""), element.get("part", "")): element for element in found}
+    return dict(sorted(named.items(), key=lambda item: item[0]))
 
 
-def elements_of(path: Path, name: str) -> Iterator[ElementTree.Element]:
+def elements_of(path: Path, name: str) -> Iterator[Element]:
     """The elements of this name in a file, whose names are compared, and left, without their namespaces."""
-    for element in ElementTree.parse(path).iter():
+    for element in parse(path).iter():
         element.tag = element.tag.rpartition("}")[2]
         if element.tag == name:
             yield element
 
 
 @cache
-def page_sizes() -> dict[str, tuple[float, float]]:
+def papers() -> dict[str, Size]:
     """The sizes of paper that the parts name."""
-    sizes = elements_of(TEMPLATES / "paper-sizes.xml", "Paper-size")
-    return {size.get("id", ""): (length(size, "width"), length(size, "height")) for size in sizes}
+    return {one.get("id", ""): size_of(one) for one in elements_of(TEMPLATES / "paper-sizes.xml", "Paper-size")}
 
 
-def length(element: ElementTree.Element, name: str) -> float:
-    """A length of an element in millimetres; 0 where there is none."""
-    match = LENGTH.fullmatch(element.get(name) or "0")
-    if not match or match[2] not in UNITS:
-        raise ToolError(f"{TEMPLATES}: {name} is no length: {element.get(name)}")
-    return float(match[1]) * UNITS[match[2]]
+def size_of(element: Element, names: tuple[str, str] = ("width", "height")) -> Size:
+    """Two lengths of an element in millimetres; one that it does not have is 0."""
+    matches = [LENGTH.fullmatch(element.get(name) or "0") for name in names]
+    first, second = (float(match[1]) * UNITS[match[2]] if match else 0.0 for match in matches)
+    return first, second
 
 
-def sheet_of(part: Part) -> Sheet:
-    """The sheet of a part, of which another part may have the sizes."""
-    label, followed = f"{part.brand} {part.name}", {part.name}
-    while part.equal_to is not None:
-        same = [one for one in parts() if (one.brand, one.name) == (part.brand, part.equal_to)]
-        if not same or part.equal_to in followed:
-            raise ArgumentsError(f"--stock {label}: glabels does not say its sizes")
-        part = same[0]
-        followed.add(part.name)
-    cell = next((child for child in part.element if child.tag.startswith("Label-")), None)
-    if cell is None or cell.tag != "Label-rectangle":
-        shape = "unknown" if cell is None else cell.tag.removeprefix("Label-")
-        raise ArgumentsError(f"--stock {label}: its labels are no rectangles ({shape}): no label is laid out for them")
-    size = part.element.get("size", "")
-    page = page_sizes().get(size) or (length(part.element, "width"), length(part.element, "height"))
-    layouts = [child for child in cell if child.tag == "Layout"]
-    places = sorted((place for layout in layouts for place in places_of(layout)), key=lambda place: place[::-1])
-    sheet = Sheet(page, (length(cell, "width"), length(cell, "height")), places)
+def sheet_of(key: tuple[str, str]) -> Sheet:
+    """The sheet of a part; raises ToolError where no label can be laid out for it."""
+    head, part, followed = f"--stock {' '.join(key)}", parts()[key], {key}
+    while same := part.get("equiv"):
+        part = parts().get((key[0], same), part)
+        if (key[0], same) in followed:
+            raise ToolError(f"{head}: glabels does not say its sizes", BAD_ARGUMENTS)
+        followed.add((key[0], same))
+    cell = next(child for child in part if child.tag.startswith("Label-"))
+    if cell.tag != "Label-rectangle":
+        raise ToolError(f"{head}: its labels are no rectangles ({cell.tag.removeprefix('Label-')})", BAD_ARGUMENTS)
+    places = sorted((place for layout in cell.iter("Layout") for place in places_of(layout)), key=lambda at: at[::-1])
+    sheet = Sheet(papers().get(part.get("size", "")) or size_of(part), size_of(cell), places)
     if not places or not min(sheet.cell) or sheet.beyond() > MOST_BEYOND:
-        raise ArgumentsError(
-            f"--stock {label}: glabels has it larger than its page: give --columns, --rows and --cell"
-        )
+        raise ToolError(f"{head}: glabels has it larger than its page: give --columns, --rows, --cell", BAD_ARGUMENTS)
     return sheet
 
 
-def places_of(layout: ElementTree.Element) -> Iterator[tuple[float, float]]:
+def places_of(layout: Element) -> Iterator[Size]:
     """The upper left corner of each cell of a layout."""
-    left, top, step_x, step_y = (length(layout, name) for name in ("x0", "y0", "dx", "dy"))
-    for row in range(int(layout.get("ny", ""))):
-        for column in range(int(layout.get("nx", ""))):
-            yield left + column * step_x, top + row * step_y
+    (left, top), (across, down) = size_of(layout, ("x0", "y0")), size_of(layout, ("dx", "dy"))
+    for row in range(int(layout.get("ny", "0"))):
+        yield from ((left + column * across, top + row * down) for column in range(int(layout.get("nx", "0"))))

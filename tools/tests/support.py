@@ -1,11 +1,12 @@
 """What the tests of the tools share: paths, how a tool is run, and what a test needs from elsewhere.
 
-The tests run from the top of the repository: python3 -m unittest discover -s tools/tests
+The tests run by Debian's Python, which alone sees Cairo and Pango: /usr/bin/python3 -m unittest discover -s tools/tests
 The program `labels` that they draw with is $LABELS, or else crates/labels/out/labels. A test that needs what is not
 there is skipped, with a message; NO_SKIP=1 makes it fail.
 """
 
 import io
+import json
 import os
 import runpy
 import shutil
@@ -13,7 +14,7 @@ import subprocess
 import sys
 import unittest
 from pathlib import Path
-from typing import List, NoReturn, Sequence, Tuple, Union
+from typing import Any, Dict, List, NoReturn, Optional, Sequence, Tuple, Union
 from unittest import mock
 
 TESTS = Path(__file__).resolve().parent
@@ -34,15 +35,15 @@ def run(
     input: bytes = b"",
     locale: str = "C.UTF-8",
     cwd: Union[str, Path, None] = None,
+    **variables: str,
 ) -> "Finished[bytes]":
     """Runs a tool of tools/ (or a program by its whole path) and returns its status, standard output and error."""
-    program = TOOLS / tool
     return subprocess.run(
-        [*([sys.executable] if program.parent == TOOLS else []), str(program), *arguments],
+        [str(TOOLS / tool), *arguments],
         input=input,
         capture_output=True,
         cwd=cwd,
-        env=environment(locale),
+        env={**environment(locale), **variables},
         timeout=SECONDS,
     )
 
@@ -63,10 +64,11 @@ def run_here(tool: str, *arguments: str, input: bytes = b"") -> "Finished[bytes]
 
 
 def environment(locale: str = "C.UTF-8") -> dict:
-    """The environment of a tool under test: LC_ALL alone chooses the language, and tools/ is on the path."""
-    dropped = ("LANG", "LC_", "LABEL_FONT", "PYTHONUNBUFFERED", "PYTHONIOENCODING", "PYTHONUTF8")
+    """The environment of a tool under test: LC_ALL alone chooses the language; tools/ and `labels` are found."""
+    dropped = ("LANG", "LC_", "PYTHONUNBUFFERED", "PYTHONIOENCODING", "PYTHONUTF8", "PYTHONSAFEPATH", "SOURCE_DATE")
     kept = {name: value for name, value in os.environ.items() if not name.startswith(dropped)}
-    return {**kept, "LC_ALL": locale, "PATH": f"{TOOLS}{os.pathsep}{os.environ['PATH']}"}
+    path = f"{TOOLS}{os.pathsep}{os.environ['PATH']}"
+    return {**kept, "LC_ALL": locale, "PATH": path, "LABELS": str(program_path())}
 
 
 def messages(finished: "Finished[bytes]") -> List[str]:
@@ -74,9 +76,14 @@ def messages(finished: "Finished[bytes]") -> List[str]:
     return finished.stderr.decode("utf-8").splitlines()
 
 
+def program_path() -> Path:
+    """Where the program `labels` is, or would be: $LABELS, else crates/labels/out/labels."""
+    return Path(os.environ.get("LABELS") or TOP / "crates/labels/out/labels").resolve()
+
+
 def labels_program() -> Path:
-    """The program `labels`: $LABELS, else crates/labels/out/labels; skips the test where there is none."""
-    program = Path(os.environ.get("LABELS") or TOP / "crates/labels/out/labels").resolve()
+    """The program `labels`; skips the test where there is none."""
+    program = program_path()
     if not os.access(program, os.X_OK):
         skip(f"{program} is not built: run (cd crates/labels && rt run < /dev/null), or set $LABELS")
     return program
@@ -101,9 +108,26 @@ def skip(message: str) -> NoReturn:
     raise AssertionError(message) if os.environ.get("NO_SKIP") else unittest.SkipTest(message)
 
 
-def read_codes(picture: Union[str, Path]) -> List[str]:
-    """What zbarimg reads in a picture, one line of SYMBOLOGY:DATA for each code, sorted; skips where it is missing."""
+def read_codes(*pictures: Union[str, Path]) -> List[str]:
+    """What zbarimg reads in pictures, a line of SYMBOLOGY:DATA for each code; skips where it is missing."""
     needs("zbarimg")
-    command: Sequence[str] = ("zbarimg", "--nodbus", "--quiet", str(picture))
+    command: Sequence[str] = ("zbarimg", "--nodbus", "--quiet", *map(str, pictures))
     done = subprocess.run(command, capture_output=True, timeout=SECONDS)
-    return sorted(done.stdout.decode("utf-8", "replace").splitlines())
+    return done.stdout.decode("utf-8", "replace").splitlines()
+
+
+def ean13(number: int) -> str:
+    """An EAN-13 of a number of up to twelve digits."""
+    digits = f"{number:012}"
+    total = sum(int(digit) * (3 if place % 2 else 1) for place, digit in enumerate(digits))
+    return f"{digits}{-total % 10}"
+
+
+def file_of(labels: Sequence[Tuple[str, Optional[Dict[str, Any]]]], **end: Any) -> bytes:
+    """The file between the tools: lines, and before each the object that belongs to it, with row 2, 3, .."""
+    parts = ['#{"labels":1,"table":"articles.xlsx"}\n']
+    for row, (line, fields) in enumerate(labels, 2):
+        parts.append(f"#{json.dumps({'row': row, **(fields or {})}, ensure_ascii=False)}\n{line}\n")
+    left_out = {"left_out": [], "left_out_count": 0}
+    parts.append(f"#{json.dumps({'end': 1, 'lines': len(labels), **left_out, **end})}\n")
+    return "".join(parts).encode("utf-8")
