@@ -25,8 +25,8 @@ pub record PassesBuffered {S T E : Type 0} (failures : S → ℕ) (is_flushed : 
   pub count : CountsFailure (failures old) (failures new) r
   pub flushed : is_flushed new ≡ is_flushed old
 
--- a sink that repeats takes its last bytes once more: whatever it took up to now, and however many of these bytes were
--- the last of it. One that does not is unchanged.
+-- a sink that repeats takes its last bytes once more: the end of what it took since any earlier state, where that is
+-- long enough. One that does not is unchanged.
 pub record RepeatsBytes {S : Type 0} (failures : S → ℕ) (is_flushed : S → Bool) (took : S → S → List ℕ → Type 0)
     (old new : S) (size : ℕ) (r : Bool) : Type 0 where
   pub bytes : IsTrue r → (before : S) (front last : List ℕ) → length last ≡ size → took before old (front ++ last)

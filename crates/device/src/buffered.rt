@@ -174,7 +174,8 @@ fn put(room: &mut [u8], at: usize, bytes: &[u8])
     room[at..at + bytes.len()].copy_from_slice(bytes);
 }
 
-/// Copies the `count` bytes before the index `at` to that index.
+/// Copies the `count` bytes before the index `at` to that index. Cut in two the slice is copied as a whole; std's
+/// `copy_within` copies byte by byte.
 fn put_again(room: &mut [u8], at: usize, count: usize)
     requires { (count ≤ at) × (at + count ≤ length room.old) }
     ensures { room.new ≡ put_mid at count room.old (slice_range room.old (at - count) at) }

@@ -1,9 +1,7 @@
 //! A run over a text in memory.
-ghost use Rattle.std.specs.Prelude.{◌≡◌, ℕ, List, [], ◌++◌, IfOk, IfErr, OnOk};
-ghost use Rattle.device.specs.Memory.{held_by, left_in};
-ghost use Rattle.filter.specs.Run.{RunsWhole, RunStops};
+ghost use Rattle.filter.specs.Run.{Runs, Stays};
 
-use device::{MemSink, MemSource, Sink};
+use device::{MemSink, MemSource, Sink, Source};
 use filter::{RunFault, Status, run};
 use labelcore::Options;
 
@@ -12,21 +10,14 @@ use labelcore::Options;
 /// # Errors
 ///
 /// Those of [`run`].
-pub fn draw_labels<const N: usize, const M: usize>(
+pub fn draw_labels<'a, const N: usize, const M: usize>(
     options: Options,
-    source: &mut MemSource<'_>,
+    source: &mut MemSource<'a>,
     images: &mut MemSink<N>,
     messages: &mut MemSink<M>,
 ) -> Result<Status, RunFault>
-    ensures whole { IfOk result (RunsWhole options (λ text. left_in source.old ≡ text ++ left_in source.new)
-        (λ stream. held_by images.new ≡ held_by images.old ++ stream)
-        (λ text. held_by messages.new ≡ held_by messages.old ++ text)) }
-    ensures nothing_left { OnOk result (left_in source.new ≡ []) }
-    ensures stops { IfErr result (λ fault. (text : List ℕ) × (left_in source.old ≡ text ++ left_in source.new)
-        × RunStops options (λ stream. held_by images.new ≡ held_by images.old ++ stream)
-        (λ bytes. held_by messages.new ≡ held_by messages.old ++ bytes) text fault) }
-    ensures no_failure { OnOk result (⟦<MemSink<N> as Sink>⟧.failures images.new
-        ≡ ⟦<MemSink<N> as Sink>⟧.failures images.old) }
+    ensures { Runs (⟦<MemSource<'a> as Source>⟧) (⟦<MemSink<N> as Sink>⟧) (⟦<MemSink<M> as Sink>⟧) Stays
+        options source.old source.new images.old images.new messages.old messages.new result }
 {
     run(options, source, images, messages)
 }

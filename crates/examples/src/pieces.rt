@@ -1,10 +1,7 @@
 //! A filter that is fed in two pieces.
-ghost use Rattle.std.specs.Prelude.{◌≡◌, ◌++◌, true, IfOk, OnOk};
-ghost use Rattle.filter.specs.Filter.{TookLines};
-ghost use Rattle.filter.specs.Line.{CountsFault};
-ghost use Rattle.filter.specs.Output.{drawn_symbols, images, status_of};
-ghost use Rattle.filter.specs.Readback.{AreRead, cut};
-ghost use Rattle.device.specs.Lines.{lines};
+ghost use Rattle.std.specs.Prelude.{◌≡◌, ◌++◌};
+ghost use Rattle.filter.specs.Run.{Produces};
+ghost use Rattle.filter.specs.Script.{CountsFault, FlushesImagesFirst, taken};
 
 use device::Sink;
 use filter::{Filter, RunFault, Status};
@@ -23,16 +20,12 @@ pub fn draw_in_two<O: Sink, E: Sink>(
     out: &mut O,
     err: &mut E,
 ) -> Result<Status, RunFault>
-    ensures status { IfOk result
-        (λ status. status ≡ status_of options (lines (first.now ++ second.now))) }
-    ensures draws { OnOk result (TookLines options (O.took out.old out.new) (E.took err.old err.new) 0
-        (lines (first.now ++ second.now))) }
-    ensures read { OnOk result (AreRead options.format options.scale
-        (cut options.format (images options (lines (first.now ++ second.now))))
-        (drawn_symbols options (lines (first.now ++ second.now)))) }
+    ensures produces { Produces options (λ text. text ≡ first.now ++ second.now)
+        (taken (O.took out.old out.new) (E.took err.old err.new)) result }
     ensures counts { CountsFault (O.failures out.old) (O.failures out.new)
         (E.failures err.old) (E.failures err.new) result }
-    ensures flushed { OnOk result ((O.is_flushed out.new ≡ true) × (E.is_flushed err.new ≡ true)) }
+    ensures flushed { FlushesImagesFirst (O.is_flushed out.old) (O.is_flushed out.new)
+        (E.is_flushed err.old) (E.is_flushed err.new) result }
 {
     let mut filter = Filter::new(options);
     filter.feed(first, out, err)?;

@@ -28,8 +28,8 @@ use Rattle.labelcore.specs.declared.symbology.Symbology.TheVariants.{Ean13, Ean8
 use Rattle.picture.specs.declared.quiet_zone.QuietZone.{QuietZone}
 use Rattle.filter.specs.declared.status.Status.TheVariants.{Clean, Refused}
 use Rattle.filter.specs.Symbol.{Symbol, symbol_of, quiet_zone}
+use Rattle.filter.specs.Output.{Images, Messages, drawn_symbols, events_after, line_number, outcome, sent, status_of}
 use Rattle.filter.specs.Readback.{read_image, read_modules}
-use Rattle.filter.specs.Output.{drawn_symbols, outcome, images, line_number, messages_after, status_of}
 
 abbrev settings : OptionValues
 settings = record { format = Pbm; scale = 1; height = 1; level = M; min_version = 1; mask = None; escapes = false }
@@ -37,17 +37,18 @@ settings = record { format = Pbm; scale = 1; height = 1; level = M; min_version 
 abbrev input : List (List ℕ)
 input = codes "ean8 7351353" ∷ codes "pdf x" ∷ codes "#" ∷ codes "ean8 73513530" ∷ []
 
-full_data_of_input : map (λ (l : Symbol). l.full) (drawn_symbols settings input) ≡ codes "73513537" ∷ []
-unfolding drawn_symbols outcome symbol_of request head_read symbology_named line_limit
+full_data_of_input : map (λ (l : Symbol). l.full) (drawn_symbols (events_after settings 0 input)) ≡ codes "73513537" ∷ []
+unfolding drawn_symbols events_after outcome symbol_of request head_read symbology_named line_limit
 full_data_of_input = refl
 
-images_of_input : images settings input
+images_of_input : sent settings Images (events_after settings 0 input)
     ≡ codes "P1\n81 1\n0000000101011101101111010110001001100101010100001010011101000010100010\n01010000000\n"
-unfolding images drawn_symbols outcome symbol_of request head_read symbology_named line_limit digits number_set_a
+unfolding events_after outcome symbol_of request head_read symbology_named line_limit digits number_set_a
 images_of_input = refl
 
-messages_of_input : messages_after settings 0 input ≡ codes "line 2: unknown symbology\nline 4: check digit is 0, should be 7\n"
-unfolding messages_after outcome symbol_of request head_read symbology_named line_limit digits
+messages_of_input : sent settings Messages (events_after settings 0 input)
+    ≡ codes "line 2: unknown symbology\nline 4: check digit is 0, should be 7\n"
+unfolding events_after outcome symbol_of request head_read symbology_named line_limit digits
 messages_of_input = refl
 
 -- the quiet zones: 11 and 7, 7 and 7, 9 and 9 modules (ISO/IEC 15420), 10 on each side (ISO/IEC 15417), 4 on all four
@@ -81,14 +82,15 @@ line_numbers : map line_number (0 ∷ 1 ∷ 18446744073709551613 ∷ 18446744073
     1 ∷ 2 ∷ 18446744073709551614 ∷ 18446744073709551615 ∷ 18446744073709551615 ∷ []
 line_numbers = refl
 
-second_message : messages_after settings 9 (codes "#" ∷ codes "pdf x" ∷ []) ≡ codes "line 11: unknown symbology\n"
-unfolding messages_after outcome symbol_of request head_read symbology_named line_limit digits
+second_message : sent settings Messages (events_after settings 9 (codes "#" ∷ codes "pdf x" ∷ []))
+    ≡ codes "line 11: unknown symbology\n"
+unfolding events_after outcome symbol_of request head_read symbology_named line_limit digits
 second_message = refl
 
 -- the status is `Refused` where a line is refused, and else `Clean`
-statuses : map (status_of settings) ([] ∷ (codes "#" ∷ []) ∷ (codes "pdf x" ∷ []) ∷ (codes "#" ∷ codes "pdf x" ∷ [])
+statuses : map (λ lines. status_of (events_after settings 0 lines)) ([] ∷ (codes "#" ∷ []) ∷ (codes "pdf x" ∷ []) ∷ (codes "#" ∷ codes "pdf x" ∷ [])
     ∷ []) ≡ Clean ∷ Clean ∷ Refused ∷ Refused ∷ []
-unfolding status_of outcome symbol_of request head_read symbology_named line_limit
+unfolding status_of events_after outcome symbol_of request head_read symbology_named line_limit
 statuses = refl
 
 -- ---- reading

@@ -5,3 +5,4 @@ pub mod OutputLaws
 pub mod ReadableLaws
 pub mod ReadLaws
 pub mod RunLaws
+pub mod ScriptLaws

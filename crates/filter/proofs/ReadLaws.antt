@@ -1,8 +1,8 @@
 -- What the definitions draw reads back as the full data of its line, whoever computes it.
-use Rattle.std.specs.List.{AllByRecursion, cons_option, flat_map}
+use Rattle.std.specs.List.{AllByRecursion, flat_map}
 use Rattle.std.specs.Prelude.{All, IfOk}
 use Rattle.std.proofs.Common.{◌≡◌, ℕ, ◌+◌, ◌*◌, ◌^◌, ◌<◌, ◌≤◌, List, [], ◌∷◌, ◌++◌, map, Some, refl, ap, arith, Result}
-use Rattle.std.proofs.Common.{Ok, Err}
+use Rattle.std.proofs.Common.{Ok, Err, append_assoc, subst, sym}
 use Rattle.std.proofs.Math.Nat.{mul-pos, mul-le-mul_right}
 use Rattle.std.proofs.lemmas.List.Elements.{All-from_recursion, recursion_from_All, All-map, All-weaker}
 use Rattle.device.specs.Lines.{lines}
@@ -22,8 +22,10 @@ use Rattle.picture.proofs.AsciiLaws.{ascii_files-flat_map, ascii_pixels-ascii_te
 use Rattle.picture.proofs.CutLaws.{pbm_files-flat_map}
 use Rattle.picture.proofs.PbmLaws.{pbm_pixels-pbm_text}
 use Rattle.picture.proofs.SampleLaws.{sample-raster}
-use Rattle.filter.specs.Output.{outcome, images, drawn_symbols, image_of, picture_of, symbol_in, text_of}
-use Rattle.filter.specs.Readback.{cut, pixels, read_image, AreRead, IsRead}
+use Rattle.filter.specs.Drawing.{image_of}
+use Rattle.filter.specs.Output.{Event, Images, image, refusal, flushes, outcome, events_of, events_after, line_number}
+use Rattle.filter.specs.Output.{script, sent, drawn_symbols, picture_of, text_of}
+use Rattle.filter.specs.Readback.{cut, pixels, read_image, AreRead, IsRead, ReadsBack}
 use Rattle.filter.specs.Symbol.{Symbol, quiet_zone, symbol_of}
 use Rattle.filter.proofs.ReadableLaws.{IsReadable, HasReadable, symbol_readable, outcome_readable}
 
@@ -50,6 +52,21 @@ some_sum a b c some = omega arith
 
 small_product : (a b : ℕ) → a ≤ 1840 → b ≤ 8 → a * b < 2 ^ 64
 small_product a b few scale = let m : a * b ≤ 1840 * b = mul-le-mul_right b few in omega arith
+
+-- the modules of an event's symbol are read; of other events nothing is said
+abbrev EventIsReadable : Event → Type 0
+EventIsReadable (image symbol) = IsReadable symbol
+EventIsReadable other = Unit {0}
+
+-- what holds of each event of two scripts
+all_of_two : (xs ys : List Event) → AllByRecursion EventIsReadable xs → AllByRecursion EventIsReadable ys
+    → AllByRecursion EventIsReadable (xs ++ ys)
+all_of_two [] ys a b = b
+all_of_two (x ∷ xs) ys a b = (a.0, all_of_two xs ys a.1 b)
+
+first_of_two : (xs ys : List Event) → AllByRecursion EventIsReadable (xs ++ ys) → AllByRecursion EventIsReadable xs
+first_of_two [] ys h = tt
+first_of_two (x ∷ xs) ys h = (h.0, first_of_two xs ys h.1)
 
 module _ (options : OptionValues) (range : AreInRange options) where
   drawable : (symbol : Symbol) → IsReadable symbol → IsDrawable (picture_of options symbol)
@@ -113,42 +130,52 @@ module _ (options : OptionValues) (range : AreInRange options) where
   all_read [] all = tt
   all_read (symbol ∷ symbols) all = (image_read options.format symbol all.0, all_read symbols all.1)
 
-  with_readable : (o : Outcome Symbol) → HasReadable o → (symbols : List Symbol) → AllByRecursion IsReadable symbols
-      → AllByRecursion IsReadable (cons_option (symbol_in o) symbols)
-  with_readable skipped r symbols all = all
-  with_readable (refused fault) r symbols all = all
-  with_readable (drawn symbol) r symbols all = (r, all)
-
-  drawn_symbols_readable : (lines : List (List ℕ)) → AllByRecursion AreBytes lines
-      → AllByRecursion IsReadable (drawn_symbols options lines)
+  drawn_symbols_readable : (events : List Event) → AllByRecursion EventIsReadable events
+      → AllByRecursion IsReadable (drawn_symbols events)
   unfolding drawn_symbols
   drawn_symbols_readable [] w = tt
-  drawn_symbols_readable (line ∷ lines) w = with_readable (outcome options line)
-      (outcome_readable options range line w.0) (drawn_symbols options lines) (drawn_symbols_readable lines w.1)
+  drawn_symbols_readable (image symbol ∷ events) w = (w.0, drawn_symbols_readable events w.1)
+  drawn_symbols_readable (refusal number fault ∷ events) w = drawn_symbols_readable events w.1
+  drawn_symbols_readable (flushes ∷ events) w = drawn_symbols_readable events w.1
 
-  texts_are : (symbols : List Symbol) → flat_map (λ symbol. text_of options.format (picture_of options symbol)) symbols
-      ≡ flat_map (text_of options.format) (map (picture_of options) symbols)
-  texts_are [] = refl
-  texts_are (symbol ∷ symbols) =
-      ap (λ (bytes : List ℕ). text_of options.format (picture_of options symbol) ++ bytes) (texts_are symbols)
+  images_are : (events : List Event) → sent options Images events
+      ≡ flat_map (text_of options.format) (map (picture_of options) (drawn_symbols events))
+  unfolding drawn_symbols
+  images_are [] = refl
+  images_are (image symbol ∷ events) =
+      ap (λ (bytes : List ℕ). text_of options.format (picture_of options symbol) ++ bytes) (images_are events)
+  images_are (refusal number fault ∷ events) = images_are events
+  images_are (flushes ∷ events) = images_are events
 
-  images_are : (lines : List (List ℕ)) → images options lines
-      ≡ flat_map (text_of options.format) (map (picture_of options) (drawn_symbols options lines))
-  unfolding images
-  images_are lines = texts_are (drawn_symbols options lines)
-
-  -- the images of lines, cut, are read as the full data of those that are drawn
-  pub images_of_lines_read : (lines : List (List ℕ)) → AllByRecursion AreBytes lines
-      → AreRead options.format options.scale (cut options.format (images options lines)) (drawn_symbols options lines)
-  images_of_lines_read lines w =
-      let symbols = drawn_symbols options lines in
-      let readable = drawn_symbols_readable lines w in
-      rw (images_are lines, stream_cut options.format symbols (All-from_recursion IsReadable symbols readable))
+  -- the images of a script, cut, are read as the full data of its symbols
+  images_of_events_read : (events : List Event) → AllByRecursion EventIsReadable events
+      → AreRead options.format options.scale (cut options.format (sent options Images events)) (drawn_symbols events)
+  images_of_events_read events w =
+      let symbols = drawn_symbols events in
+      let readable = drawn_symbols_readable events w in
+      rw (images_are events, stream_cut options.format symbols (All-from_recursion IsReadable symbols readable))
       (all_read symbols readable)
 
-  -- the images of a text, cut, are read as the full data of its lines that are drawn
-  pub images_of_text_read : (text : List ℕ) → All (λ b. b < 256) text
-      → AreRead options.format options.scale (cut options.format (images options (lines text)))
-      (drawn_symbols options (lines text))
-  images_of_text_read text w = images_of_lines_read (lines text) (AllOf-lines (λ b. b < 256) text
-      (recursion_from_All (λ b. b < 256) text w))
+  events_readable : (number : ℕ) (o : Outcome Symbol) → HasReadable o
+      → AllByRecursion EventIsReadable (events_of number o)
+  events_readable number skipped r = tt
+  events_readable number (refused fault) r = (tt, tt)
+  events_readable number (drawn symbol) r = (r, tt)
+
+  script_readable : (before : ℕ) (lines : List (List ℕ)) → AllByRecursion AreBytes lines
+      → AllByRecursion EventIsReadable (events_after options before lines ++ flushes ∷ [])
+  unfolding events_after
+  script_readable before [] w = (tt, tt)
+  script_readable before (line ∷ lines) w =
+      let first = events_of (line_number before) (outcome options line) in
+      let later = events_after options (before + 1) lines in
+      subst (AllByRecursion EventIsReadable) (sym (append_assoc first later (flushes ∷ [])))
+      (all_of_two first (later ++ flushes ∷ [])
+      (events_readable (line_number before) (outcome options line) (outcome_readable options range line w.0))
+      (script_readable (before + 1) lines w.1))
+
+  -- what the script of a text sends reads back
+  pub script_of_text_read : (text : List ℕ) → All (λ b. b < 256) text → ReadsBack options (script options text)
+  script_of_text_read text w front later cut = images_of_events_read front (first_of_two front later
+      (subst (AllByRecursion EventIsReadable) cut (script_readable 0 (lines text)
+      (AllOf-lines (λ b. b < 256) text (recursion_from_All (λ b. b < 256) text w)))))

@@ -1,8 +1,10 @@
--- The images, the messages and the status of a text, line by line (docs/SPECIFICATION.md, Lines, Statuses).
--- Why: `outcome`, `drawn_symbols`, `images`, `messages_after`, `status_of`: "depend on nothing but options and input,
--- as specified".
+-- What a run sends of a text, line by line, and its status (docs/SPECIFICATION.md, Lines, Statuses).
+-- Why: `outcome`, `events_after`, `script`, `sent`, `status_of`: "depend on nothing but options and input, as
+-- specified".
 use Rattle.std.specs.Prelude.{ℕ, ◌+◌, ◌-◌, ◌^◌, min, Bool, true, false, if◌then◌else◌, Option, Some, None, List, [], ◌∷◌, ◌++◌}
 use Rattle.std.specs.List.{filter_map, flat_map, list_any}
+use Rattle.device.specs.Lines.{lines, ended_lines}
+use Rattle.labelcore.specs.declared.fault.Fault.{Fault}
 use Rattle.labelcore.specs.declared.options.Format.{Format}
 use Rattle.labelcore.specs.declared.options.Format.TheVariants.{Pbm, Ascii}
 use Rattle.labelcore.specs.OptionValues.{OptionValues}
@@ -34,45 +36,66 @@ abbrev pub text_of : Format → Picture → List ℕ
 text_of Pbm p = pbm_text p
 text_of Ascii p = ascii_text p
 
--- the symbol that is drawn, or none
-abbrev pub symbol_in : Outcome Symbol → Option Symbol
-symbol_in (drawn symbol) = Some symbol
-symbol_in other = None
+-- what a run does to its sinks: the image of a symbol, the message of the refused line with a number, and at the end
+-- flushes
+pub data Event : Type 0 where
+  image : Symbol → Event
+  refusal : ℕ → Fault → Event
+  flushes : Event
 
--- the symbols of the lines that are drawn, in order
-unfoldable pub drawn_symbols : OptionValues → List (List ℕ) → List Symbol
-drawn_symbols options lines = filter_map (λ line. symbol_in (outcome options line)) lines
-
--- the image of what is drawn, or nothing
-abbrev pub image_of : OptionValues → Outcome Symbol → List ℕ
-image_of options (drawn symbol) = text_of options.format (picture_of options symbol)
-image_of options other = []
-
--- the message of a refusal, or nothing
-abbrev pub message_of : ℕ → Outcome Symbol → List ℕ
-message_of number (refused fault) = message number fault
-message_of number other = []
-
--- whether the line is refused
-abbrev pub is_refusal : Outcome Symbol → Bool
-is_refusal (refused fault) = true
-is_refusal other = false
+-- what is sent of a line with this number: an image, a message or nothing
+abbrev pub events_of : ℕ → Outcome Symbol → List Event
+events_of number skipped = []
+events_of number (refused fault) = refusal number fault ∷ []
+events_of number (drawn symbol) = image symbol ∷ []
 
 -- the number of the line after `before` lines; it stops at the greatest `u64`
 abbrev pub line_number : ℕ → ℕ
 line_number before = min (before + 1) (2 ^ 64 - 1)
 
--- the images of the symbols of the lines that are drawn, joined
-unfoldable pub images : OptionValues → List (List ℕ) → List ℕ
-images options lines =
-    flat_map (λ symbol. text_of options.format (picture_of options symbol)) (drawn_symbols options lines)
+-- what is sent of lines that come after `before` lines, in order
+unfoldable pub events_after : OptionValues → ℕ → List (List ℕ) → List Event
+events_after options before [] = []
+events_after options before (line ∷ lines) =
+    events_of (line_number before) (outcome options line) ++ events_after options (before + 1) lines
 
--- the messages of lines that come after `before` lines, joined
-unfoldable pub messages_after : OptionValues → ℕ → List (List ℕ) → List ℕ
-messages_after options before [] = []
-messages_after options before (line ∷ lines) = message_of (line_number before) (outcome options line)
-    ++ messages_after options (before + 1) lines
+-- the script of the lines of a text that have ended
+abbrev pub ended_script : OptionValues → List ℕ → List Event
+ended_script options text = events_after options 0 (ended_lines text)
 
--- the status of a run over these lines: whether some line is refused
-unfoldable pub status_of : OptionValues → List (List ℕ) → Status
-status_of options lines = if list_any (λ line. is_refusal (outcome options line)) lines then Refused else Clean
+-- the script of a text: what is sent of its lines, and then the flushes
+abbrev pub script : OptionValues → List ℕ → List Event
+script options text = events_after options 0 (lines text) ++ flushes ∷ []
+
+-- the two sinks
+pub data Channel : Type 0 where
+  Images : Channel
+  Messages : Channel
+
+-- the bytes of an event for a sink
+abbrev pub bytes_for : OptionValues → Channel → Event → List ℕ
+bytes_for options Images (image symbol) = text_of options.format (picture_of options symbol)
+bytes_for options Messages (refusal number fault) = message number fault
+bytes_for options channel other = []
+
+-- the bytes of a script for a sink
+abbrev pub sent : OptionValues → Channel → List Event → List ℕ
+sent options channel events = flat_map (bytes_for options channel) events
+
+-- the symbol that is drawn, or none
+abbrev pub symbol_in : Event → Option Symbol
+symbol_in (image symbol) = Some symbol
+symbol_in other = None
+
+-- the symbols that a script draws, in order
+unfoldable pub drawn_symbols : List Event → List Symbol
+drawn_symbols events = filter_map symbol_in events
+
+-- whether it is a message
+abbrev pub is_refusal : Event → Bool
+is_refusal (refusal number fault) = true
+is_refusal other = false
+
+-- the status of a script: whether some line is refused
+unfoldable pub status_of : List Event → Status
+status_of events = if list_any is_refusal events then Refused else Clean

@@ -1,6 +1,6 @@
 -- Images read back: pbm(5), and the readings of ISO/IEC 15420, 15417 and 18004 with no correction.
--- Why: `read_image`, `AreRead`: "read back by the standards' reading rules".
-use Rattle.std.specs.Prelude.{◌≡◌, ℕ, ◌==◌, Bool, List, length, Option, Some}
+-- Why: `read_image`, `AreRead`, `ReadsBack`: "read back by the standards' reading rules".
+use Rattle.std.specs.Prelude.{◌≡◌, ℕ, ◌==◌, Bool, List, ◌++◌, length, Option, Some}
 use Rattle.std.specs.List.{AllZip, list_all}
 use Rattle.std.specs.Bool.{then_some}
 use Rattle.labelcore.specs.declared.options.Format.{Format}
@@ -14,6 +14,8 @@ use Rattle.qrdata.specs.Reading.{data_in}
 use Rattle.qrmatrix.specs.Reading.{read_matrix}
 use Rattle.qrmatrix.specs.Square.{value_at}
 use Rattle.picture.specs.Reading.{Raster, pbm_files, ascii_files, pbm_pixels, ascii_pixels, sample, common_row}
+use Rattle.labelcore.specs.OptionValues.{OptionValues}
+use Rattle.filter.specs.Output.{Event, Images, drawn_symbols, sent}
 use Rattle.filter.specs.Symbol.{Symbol, quiet_zone}
 
 -- a stream of images, cut into its images
@@ -51,3 +53,9 @@ IsRead format scale image symbol = read_image format scale symbol.symbology imag
 -- there is one image for each symbol, in order, and it reads as the symbol's full data
 unfoldable pub AreRead : Format → ℕ → List (List ℕ) → List Symbol → Type 0
 AreRead format scale images symbols = AllZip (IsRead format scale) images symbols
+
+-- the images that a script sends, cut from their stream, are read as the full data of its symbols; and so are those of
+-- each front of the script
+abbrev pub ReadsBack : OptionValues → List Event → Type 0
+ReadsBack options script = (front later : List Event) → script ≡ front ++ later
+    → AreRead options.format options.scale (cut options.format (sent options Images front)) (drawn_symbols front)

@@ -1,9 +1,10 @@
 //! The filter, fed piece by piece.
-ghost use Rattle.std.specs.Prelude.{◌≡◌, ℕ, true, false, List, [], ◌∷◌, Err, OnErr};
+ghost use Rattle.std.specs.Prelude.{◌≡◌, ℕ, ◌<◌, true, false, All, List, [], ◌∷◌, ◌++◌, Err, IfOk, OnOk, OnErr};
+ghost use Rattle.device.specs.Lines.{lines};
 ghost use Rattle.labelcore.specs.OptionValues.{OptionValues};
-ghost use Rattle.filter.specs.Private.LineEnd.{EndsOpenLine, FlushesBoth};
-ghost use Rattle.filter.specs.Filter.{FilterState, IsAfter, FeedsPiece, EndsInput};
-ghost use Rattle.filter.specs.Line.{CountsFault, FlushesImagesFirst, FlushesNeither};
+ghost use Rattle.filter.specs.Filter.{FilterState, IsAfter};
+ghost use Rattle.filter.specs.Output.{ended_script, events_after, flushes, script, status_of};
+ghost use Rattle.filter.specs.Script.{CountsFault, FlushesImagesFirst, FlushesNeither, Sends, taken};
 
 use crate::line::finish_line;
 use crate::status::{RunFault, Status};
@@ -58,9 +59,11 @@ impl Filter {
         out: &mut O,
         err: &mut E,
     ) -> Result<(), RunFault>
-        ensures feeds { (options : OptionValues) (text : List ℕ) → IsAfter options self.old text
-            → FeedsPiece options self.new (O.took out.old out.new) (E.took err.old err.new)
-            text (byte ∷ []) result }
+        ensures sends { (options : OptionValues) (text : List ℕ) → IsAfter options self.old text
+            → Sends options (taken (O.took out.old out.new) (E.took err.old err.new))
+            (ended_script options text) (ended_script options (text ++ byte ∷ [])) result }
+        ensures after { (options : OptionValues) (text : List ℕ) → IsAfter options self.old text
+            → OnOk result (IsAfter options self.new (text ++ byte ∷ [])) }
         ensures spent { OnErr result (self.new.is_spent ≡ true) }
         ensures sinks { FlushesNeither O.Sink E.Sink out.old out.new err.old err.new result }
     {
@@ -95,9 +98,12 @@ impl Filter {
         out: &mut O,
         err: &mut E,
     ) -> Result<(), RunFault>
-        ensures feeds { (options : OptionValues) (text : List ℕ) → IsAfter options self.old text
-            → FeedsPiece options self.new (O.took out.old out.new) (E.took err.old err.new)
-            text piece.now result }
+        ensures sends { (options : OptionValues) (text : List ℕ) → IsAfter options self.old text
+            → Sends options (taken (O.took out.old out.new) (E.took err.old err.new))
+            (ended_script options text) (ended_script options (text ++ piece.now)) result }
+        ensures after { (options : OptionValues) (text : List ℕ) → IsAfter options self.old text
+            → OnOk result (IsAfter options self.new (text ++ piece.now)) }
+        ensures bytes { All (λ b. b < 256) piece.now }
         ensures sinks { self.old.is_spent ≡ false
             → FlushesNeither O.Sink E.Sink out.old out.new err.old err.new result }
         ensures spent { OnErr result (self.new.is_spent ≡ true) }
@@ -122,8 +128,11 @@ impl Filter {
     /// `WriteOut` where a call of `out` failed, `WriteMessages` where one of `err` did, in that line or in a flush. A
     /// filter that was spent returns `Spent` and calls no sink.
     pub fn finish<O: Sink, E: Sink>(self, out: &mut O, err: &mut E) -> Result<Status, RunFault>
-        ensures ends { (options : OptionValues) (text : List ℕ) → IsAfter options self text
-            → EndsInput options (O.took out.old out.new) (E.took err.old err.new) text result }
+        ensures sends { (options : OptionValues) (text : List ℕ) → IsAfter options self text
+            → Sends options (taken (O.took out.old out.new) (E.took err.old err.new))
+            (ended_script options text) (script options text) result }
+        ensures status { (options : OptionValues) (text : List ℕ) → IsAfter options self text
+            → IfOk result (λ status. status ≡ status_of (script options text)) }
         ensures flushed { FlushesImagesFirst (O.is_flushed out.old) (O.is_flushed out.new)
             (E.is_flushed err.old) (E.is_flushed err.new) result }
         ensures counts { self.is_spent ≡ false
@@ -146,8 +155,11 @@ impl Filter {
         out: &mut O,
         err: &mut E,
     ) -> Result<Status, RunFault>
-        ensures ends { (options : OptionValues) (text : List ℕ) → IsAfter options self.now text
-            → EndsOpenLine options (O.took out.old out.new) (E.took err.old err.new) text result }
+        ensures sends { (options : OptionValues) (text : List ℕ) → IsAfter options self.now text
+            → Sends options (taken (O.took out.old out.new) (E.took err.old err.new))
+            (ended_script options text) (events_after options 0 (lines text)) result }
+        ensures status { (options : OptionValues) (text : List ℕ) → IsAfter options self.now text
+            → IfOk result (λ status. status ≡ status_of (events_after options 0 (lines text))) }
         ensures sinks { FlushesNeither O.Sink E.Sink out.old out.new err.old err.new result }
     {
         if self.line.is_empty() {
@@ -163,7 +175,12 @@ impl Filter {
 
 /// Flushes the images, and then the messages.
 fn flush_both<O: Sink, E: Sink>(out: &mut O, err: &mut E) -> Result<(), RunFault>
-    ensures { FlushesBoth O.Sink E.Sink out.old out.new err.old err.new result }
+    ensures sends { (options : OptionValues)
+        → Sends options (taken (O.took out.old out.new) (E.took err.old err.new)) [] (flushes ∷ []) result }
+    ensures flushed { FlushesImagesFirst (O.is_flushed out.old) (O.is_flushed out.new)
+        (E.is_flushed err.old) (E.is_flushed err.new) result }
+    ensures counts { CountsFault (O.failures out.old) (O.failures out.new)
+        (E.failures err.old) (E.failures err.new) result }
 {
     if out.flush().is_err() {
         return Err(RunFault::WriteOut);

@@ -1,14 +1,12 @@
 //! What is done at the end of a line.
-ghost use Rattle.std.specs.Prelude.{◌≡◌, ℕ, List, []};
+ghost use Rattle.std.specs.Prelude.{◌≡◌, ℕ, List, [], ◌∷◌, IfOk};
 ghost use Rattle.labelcore.specs.HeldLine.{held_line};
 ghost use Rattle.labelcore.specs.ItemView.{item_seen};
 ghost use Rattle.labelcore.specs.LineItem.{HasData, KeepsRun};
-ghost use Rattle.labelcore.specs.Message.{message};
 ghost use Rattle.labelcore.specs.OptionValues.{OptionValues};
 ghost use Rattle.filter.specs.Drawing.{DrawsOutcome};
-ghost use Rattle.filter.specs.Line.{FlushesNeither};
-ghost use Rattle.filter.specs.Output.{outcome, outcome_of_item};
-ghost use Rattle.filter.specs.Private.LineEnd.{LineEnds, MessageEnds};
+ghost use Rattle.filter.specs.Output.{events_of, outcome, outcome_of_item, refusal, status_of};
+ghost use Rattle.filter.specs.Script.{FlushesNeither, Sends, taken};
 
 use crate::drawing::draw;
 use crate::status::{RunFault, Status};
@@ -27,9 +25,11 @@ pub fn finish_line<O: Sink, E: Sink>(
     out: &mut O,
     err: &mut E,
 ) -> Result<Status, RunFault>
-    ensures ends { (text : List ℕ) → line.now ≡ held_line text
-        → LineEnds options.now (O.took out.old out.new) (E.took err.old err.new) number
-        (outcome options.now text) result }
+    ensures sends { (text : List ℕ) → line.now ≡ held_line text
+        → Sends options.now (taken (O.took out.old out.new) (E.took err.old err.new))
+        [] (events_of number (outcome options.now text)) result }
+    ensures status { (text : List ℕ) → line.now ≡ held_line text → IfOk result (λ status.
+        status ≡ status_of (events_of number (outcome options.now text))) }
     ensures sinks { FlushesNeither O.Sink E.Sink out.old out.new err.old err.new result }
 {
     let mut scratch = Scratch::new();
@@ -62,8 +62,10 @@ fn refuse<O: Sink, E: Sink>(
     out: &mut O,
     err: &mut E,
 ) -> Result<Status, RunFault>
-    ensures image { O.took out.old out.new [] }
-    ensures message { MessageEnds (E.took err.old err.new) (message number fault.now) result }
+    ensures sends { (options : OptionValues)
+        → Sends options (taken (O.took out.old out.new) (E.took err.old err.new))
+        [] (refusal number fault.now ∷ []) result }
+    ensures status { IfOk result (λ status. status ≡ Status.Refused) }
     ensures sinks { FlushesNeither O.Sink E.Sink out.old out.new err.old err.new result }
 {
     if out.pass_on().is_err() {

@@ -1,13 +1,15 @@
 //! A run from a reader to a writer, as the program makes it.
-ghost use Rattle.std.specs.Prelude.{◌≡◌, ℕ, true, List, [], ◌++◌, Some, IfOk, IfErr, OnOk};
-ghost use Rattle.std.specs.Io.KnownBytes.{Appends, Consumes, IsAtEnd};
+ghost use Rattle.std.specs.Prelude.{◌≡◌, true, [], ◌++◌, OnOk};
+ghost use Rattle.std.specs.Io.KnownBytes.{Appends};
 ghost use Rattle.device.specs.Buffered.{buffered_bytes, sink_of};
 ghost use Rattle.device.specs.Streams.{reader_of, writer_of};
-ghost use Rattle.filter.specs.Run.{RunsWhole, RunStops};
+ghost use Rattle.filter.specs.Private.LineEnd.{PassesAfter};
+ghost use Rattle.filter.specs.Run.{IsAllOf, IsPassedOn, Produces, Runs};
+ghost use Rattle.filter.specs.Script.{taken};
 
 use crate::status::{RunFault, Status};
 use crate::whole_run::run;
-use device::{Buffered, Sink, StdSink, StdSource};
+use device::{Buffered, Sink, Source, StdSink, StdSource};
 use labelcore::Options;
 use std::io::{Read, Write};
 
@@ -25,19 +27,14 @@ pub fn run_streams<R: Read, W: Write, E: Sink>(
     out: &mut Buffered<StdSink<W>>,
     err: &mut E,
 ) -> Result<Status, RunFault>
-    ensures whole { (bytes : List ℕ) → R.remaining (reader_of source.old) ≡ Some bytes
-        → IfOk result (RunsWhole options (λ text. text ≡ bytes)
-        (λ stream. Appends (W.contents (writer_of (sink_of out.old)))
+    ensures runs { Runs (⟦<StdSource<R> as Source>⟧) (⟦<Buffered<StdSink<W>> as Sink>⟧) E.Sink
+        (IsPassedOn (buffered_bytes out.new)) options source.old source.new out.old out.new err.old err.new result }
+    ensures whole { OnOk result (Produces options (IsAllOf (R.remaining (reader_of source.old)))
+        (taken (λ stream. Appends (W.contents (writer_of (sink_of out.old)))
         (W.contents (writer_of (sink_of out.new))) (buffered_bytes out.old ++ stream))
-        (E.took err.old err.new)) }
-    ensures nothing_left { OnOk result (IsAtEnd (R.remaining (reader_of source.new))) }
-    ensures nothing_buffered { OnOk result (buffered_bytes out.new ≡ []) }
-    ensures flushed { OnOk result ((⟦<StdSink<W> as Sink>⟧.is_flushed (sink_of out.new) ≡ true)
-        × (E.is_flushed err.new ≡ true)) }
-    ensures stops { IfErr result (λ fault. (text : List ℕ)
-        × Consumes (R.remaining (reader_of source.old)) (R.remaining (reader_of source.new)) text
-        × RunStops options (⟦<Buffered<StdSink<W>> as Sink>⟧.took out.old out.new)
-        (E.took err.old err.new) text fault) }
+        (E.took err.old err.new)) result) }
+    ensures reaches { OnOk result ((buffered_bytes out.new ≡ [])
+        × (⟦<StdSink<W> as Sink>⟧.is_flushed (sink_of out.new) ≡ true)) }
 {
     match run(options, source, out, err) {
         Ok(status) => {
@@ -45,9 +42,24 @@ pub fn run_streams<R: Read, W: Write, E: Sink>(
             Ok(status)
         }
         Err(fault) => {
+            pass_on_after(fault, out);
+            Err(fault)
+        }
+    }
+}
+
+/// Passes on the images that are buffered after a fault. Where it was their sink that failed, it does nothing.
+fn pass_on_after<S: Sink>(fault: RunFault, out: &mut Buffered<S>)
+    ensures bytes { ⟦<Buffered<S> as Sink>⟧.took out.old out.new [] }
+    ensures flushed { ⟦<Buffered<S> as Sink>⟧.is_flushed out.new ≡ ⟦<Buffered<S> as Sink>⟧.is_flushed out.old }
+    ensures passes { PassesAfter (buffered_bytes out.new) (⟦<Buffered<S> as Sink>⟧.failures out.old)
+        (⟦<Buffered<S> as Sink>⟧.failures out.new) fault }
+{
+    match fault {
+        RunFault::WriteOut => {}
+        _ => {
             // Its result does not matter: the run has failed already.
             let _ = out.pass_on();
-            Err(fault)
         }
     }
 }

@@ -1,7 +1,5 @@
 //! A run over a whole input.
-ghost use Rattle.std.specs.Prelude.{◌≡◌, ℕ, true, List, OnOk, IfOk, IfErr};
-ghost use Rattle.filter.specs.Line.{FlushesImagesFirst};
-ghost use Rattle.filter.specs.Run.{RunsWhole, RunStops, RunRaises};
+ghost use Rattle.filter.specs.Run.{Runs, Stays};
 
 use crate::filter::Filter;
 use crate::status::{RunFault, Status};
@@ -22,18 +20,8 @@ pub fn run<S: Source, O: Sink, E: Sink>(
     out: &mut O,
     err: &mut E,
 ) -> Result<Status, RunFault>
-    ensures whole { IfOk result (RunsWhole options (S.gave source.old source.new)
-        (O.took out.old out.new) (E.took err.old err.new)) }
-    ensures ended { OnOk result (S.at_end source.new ≡ true) }
-    ensures nothing_left { OnOk result (S.ends source.new) }
-    ensures flushed { FlushesImagesFirst (O.is_flushed out.old) (O.is_flushed out.new)
-        (E.is_flushed err.old) (E.is_flushed err.new) result }
-    ensures no_failure { OnOk result ((S.failures source.new ≡ S.failures source.old)
-        × (O.failures out.new ≡ O.failures out.old) × (E.failures err.new ≡ E.failures err.old)) }
-    ensures stops { IfErr result (λ fault. (text : List ℕ) × S.gave source.old source.new text
-        × RunStops options (O.took out.old out.new) (E.took err.old err.new) text fault
-        × RunRaises text (S.failures source.old) (S.failures source.new) (O.failures out.old)
-        (O.failures out.new) (E.failures err.old) (E.failures err.new) fault) }
+    ensures { Runs S.Source O.Sink E.Sink Stays options source.old source.new out.old out.new
+        err.old err.new result }
 {
     let mut filter = Filter::new(options);
     let mut buffer = [0u8; 4096];

@@ -120,7 +120,7 @@ polynomial_sum-cancel_left s p y p' y' long long' same =
     ∙ polynomial_sum-twice s (polynomial_sum p' y') (omega (arith, long'))
 
 -- a register with zeros behind it, one step on
-next_register-append_zeros : (low rs : List ℕ) (r codeword n : ℕ) → suc (length rs) ≡ length low →
+pub next_register-append_zeros : (low rs : List ℕ) (r codeword n : ℕ) → suc (length rs) ≡ length low →
     next_register low (r ∷ rs) codeword ++ zeros n ≡ polynomial_sum (scalar_multiple
     (bit_xor r codeword) low ++ zeros n) (rs ++ zeros (suc n))
 unfolding next_register

@@ -1,5 +1,7 @@
 -- Definitions that only the contracts of private functions cite: nothing here has to be believed.
-use Rattle.std.specs.Prelude.{◌≡◌, ◌<◌, ℕ, List, length, replicate}
+use Rattle.std.specs.Prelude.{◌≡◌, ◌<◌, ◌-◌, ℕ, List, [], ◌++◌, drop, take, replicate, slice_index_or}
+use Rattle.gf256.specs.ErrorCorrection.{generator}
+use Rattle.gf256.specs.Polynomial.{scalar_multiple}
 
 -- n coefficients 0
 abbrev pub zeros : ℕ → List ℕ
@@ -9,6 +11,14 @@ zeros n = replicate n 0
 abbrev pub field_modulus : ℕ
 field_modulus = 0x11D
 
--- a register has a place for each coefficient of a divisor, and there is at least one
-abbrev pub HasPlaces : List ℕ → List ℕ → Type 0
-HasPlaces coefficients register = (0 < length coefficients) × (length register ≡ length coefficients)
+-- the coefficients of the generator polynomial below its highest, and zeros up to 32 places
+unfoldable pub padded_generator : ℕ → List ℕ
+padded_generator k = drop 1 (generator k) ++ zeros (32 - k)
+
+-- a table of the multiples of a polynomial by the elements 0 to 15
+abbrev pub AreMultiples : List ℕ → List (List ℕ) → Type 0
+AreMultiples polynomial table = (i : ℕ) → i < 16 → slice_index_or table i [] ≡ scalar_multiple i polynomial
+
+-- a register of k codewords in 33 places: zeros follow them
+abbrev pub IsRegister : ℕ → List ℕ → Type 0
+IsRegister k register = register ≡ take k register ++ zeros (33 - k)

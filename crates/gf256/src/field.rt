@@ -21,6 +21,21 @@ pub fn pow_alpha(i: usize) -> u8
     POWERS[i % 255]
 }
 
+/// Returns alpha^logarithm.
+pub(crate) fn power_of(logarithm: u8) -> u8
+    ensures { result ≡ field_power alpha logarithm }
+{
+    POWERS[usize::from(logarithm)]
+}
+
+/// Returns alpha times an element: the product by the polynomial x.
+pub(crate) fn twice(element: u8) -> u8
+    ensures { result ≡ field_product alpha element }
+{
+    let moved = element << 1;
+    if element < 128 { moved } else { moved ^ 0x1D }
+}
+
 /// Returns the product of alpha^i and alpha^j.
 pub(crate) fn product_of_powers(i: u8, j: u8) -> u8
     ensures { result ≡ field_product (field_power alpha i) (field_power alpha j) }

@@ -3,17 +3,27 @@ ghost use Rattle.gf256.specs.Field.{alpha, field_power};
 ghost use Rattle.gf256.specs.ErrorCorrection.{AreEcCodewords, IsEcCodewordCount, EcCodewordsAreRemainder};
 ghost use Rattle.gf256.specs.ErrorCorrection.{RemaindersHaveRoots, generator, next_register};
 ghost use Rattle.gf256.specs.Polynomial.{polynomial_sum, scalar_multiple};
-ghost use Rattle.gf256.specs.Private.{HasPlaces, zeros};
-ghost use Rattle.std.specs.Prelude.{◌≡◌, ◌<◌, ℕ, ◌∷◌, ◌++◌, drop, length, map};
+ghost use Rattle.gf256.specs.Private.{AreMultiples, IsRegister, padded_generator, zeros};
+ghost use Rattle.std.specs.Prelude.{◌≡◌, ◌-◌, ℕ, ◌∷◌, ◌++◌, drop, length, map, take};
 
-use crate::field::{logarithm_of, product_of_powers};
+use crate::field::{power_of, twice};
 use crate::tables::GENERATORS;
 use std::marker::Model;
+
+/// The places of a register: room for 30 error correction codewords, and two vectors of 16 bytes.
+const PLACES: usize = 32;
+
+/// A multiple of a generator polynomial: its coefficients from high to low, but for the highest, and zeros after them.
+type Multiple = [u8; PLACES];
 
 /// The generator polynomial of blocks with a given number of error correction codewords. Clauses see it as that number.
 #[derive(Drop)]
 pub struct Generator {
     count: usize,
+    /// The multiples by the elements 0 to 15.
+    low: [Multiple; 16],
+    /// The multiples by the elements 0, 16, 32 and so on, up to 240.
+    high: [Multiple; 16],
 }
 
 impl Model for Generator {
@@ -21,7 +31,9 @@ impl Model for Generator {
 
     ghost view = { λ g. g.count };
 
-    ghost invariant = { λ g. IsEcCodewordCount g.count };
+    ghost invariant = { λ g. IsEcCodewordCount g.count
+        × AreMultiples (padded_generator g.count) g.low
+        × AreMultiples (scalar_multiple 16 (padded_generator g.count)) g.high };
 }
 
 impl Generator {
@@ -31,7 +43,13 @@ impl Generator {
         requires { IsEcCodewordCount k }
         ensures { result ≡ k }
     {
-        Generator { count: k }
+        let low = multiples_of(&coefficients_of(k));
+        let high = multiples_of(&doubled(&low[8]));
+        Generator {
+            count: k,
+            low,
+            high,
+        }
     }
 
     /// Writes the error correction codewords of a block into `out`, which has room for exactly these. They are the
@@ -41,12 +59,88 @@ impl Generator {
         requires { length out.old ≡ self.now }
         ensures { AreEcCodewords self.now block.now out.new }
     {
-        let logarithms = logarithms_of(self.count);
-        clear(out);
+        let count = self.count;
+        let mut register = [0; PLACES + 1];
         for &codeword in block {
-            shift(logarithms, out, codeword);
+            self.shift(&mut register, codeword);
         }
+        out.copy_from_slice(&register[..count]);
     }
+
+    /// Takes one more codeword into the register of a division. Zeros follow its codewords.
+    fn shift(&self, register: &mut [u8; PLACES + 1], codeword: u8)
+        requires { IsRegister self.now register.old }
+        ensures { register.new ≡ next_register (drop 1 (generator self.now)) (take self.now register.old) codeword
+            ++ zeros (33 - self.now) }
+    {
+        let feedback = usize::from(register[0] ^ codeword);
+        move_up_and_add(
+            register,
+            &self.low[feedback % 16],
+            &self.high[feedback / 16],
+        );
+    }
+}
+
+/// Moves each codeword of the register up by one place, and adds two multiples.
+fn move_up_and_add(register: &mut [u8; PLACES + 1], low: &Multiple, high: &Multiple)
+    ensures { register.new
+        ≡ polynomial_sum (drop 1 register.old) (polynomial_sum low.now high.now) ++ drop 32 register.old }
+{
+    for j in 0..PLACES {
+        register[j] = register[j + 1] ^ low[j] ^ high[j];
+    }
+}
+
+/// Returns the multiples of a polynomial by the elements 0 to 15.
+fn multiples_of(polynomial: &Multiple) -> [Multiple; 16]
+    ensures { AreMultiples polynomial.now result }
+{
+    let mut multiples = [[0; PLACES]; 16];
+    for i in 1..16 {
+        let even = doubled(&multiples[i / 2]);
+        multiples[i] = if i % 2 == 0 {
+            even
+        } else {
+            sum_of(&even, polynomial)
+        };
+    }
+    multiples
+}
+
+/// Returns a polynomial times alpha.
+fn doubled(polynomial: &Multiple) -> Multiple
+    ensures { result ≡ scalar_multiple alpha polynomial.now }
+{
+    let mut product = [0; PLACES];
+    for j in 0..PLACES {
+        product[j] = twice(polynomial[j]);
+    }
+    product
+}
+
+/// Returns the sum of two polynomials.
+fn sum_of(first: &Multiple, second: &Multiple) -> Multiple
+    ensures { result ≡ polynomial_sum first.now second.now }
+{
+    let mut sum = [0; PLACES];
+    for j in 0..PLACES {
+        sum[j] = first[j] ^ second[j];
+    }
+    sum
+}
+
+/// Returns the coefficients of a generator polynomial from high to low, but for the highest, which is 1, and zeros
+/// after them.
+fn coefficients_of(k: usize) -> Multiple
+    requires { IsEcCodewordCount k }
+    ensures { result ≡ padded_generator k }
+{
+    let mut coefficients = [0; PLACES];
+    for (j, logarithm) in logarithms_of(k).iter().enumerate() {
+        coefficients[j] = power_of(*logarithm);
+    }
+    coefficients
 }
 
 /// Returns the logarithms of the coefficients of a generator polynomial, from high to low, but for the highest, which
@@ -59,47 +153,6 @@ fn logarithms_of(k: usize) -> &'static [u8]
     let first = k * (k - 1) / 2;
     let all = &GENERATORS[..];
     &all[first..first + k]
-}
-
-/// Writes zeros over the register.
-fn clear(register: &mut [u8])
-    ensures { register.new ≡ zeros (length register.old) }
-{
-    register.fill(0);
-}
-
-/// Takes one more codeword into the register of a division. The divisor is given by the logarithms of its coefficients
-/// but the highest.
-fn shift(logarithms: &[u8], register: &mut [u8], codeword: u8)
-    requires { HasPlaces logarithms.now register.old }
-    ensures { register.new ≡ next_register (map (field_power alpha) logarithms.now) register.old codeword }
-{
-    let feedback = register[0] ^ codeword;
-    move_up(register);
-    if feedback != 0 {
-        add_multiple(logarithm_of(feedback), logarithms, register);
-    }
-}
-
-/// Moves each codeword of the register up by one place, and writes a 0 into the last.
-fn move_up(register: &mut [u8])
-    requires { 0 < length register.old }
-    ensures { register.new ≡ drop 1 register.old ++ zeros 1 }
-{
-    let last = register.len() - 1;
-    register.copy_within(1.., 0);
-    register[last] = 0;
-}
-
-/// Adds alpha^logarithm times the polynomial whose coefficients have these logarithms.
-fn add_multiple(logarithm: u8, logarithms: &[u8], register: &mut [u8])
-    requires { length register.old ≡ length logarithms.now }
-    ensures { register.new ≡ polynomial_sum register.old
-        (scalar_multiple (field_power alpha logarithm) (map (field_power alpha) logarithms.now)) }
-{
-    for j in 0..logarithms.len() {
-        register[j] ^= product_of_powers(logarithm, logarithms[j]);
-    }
 }
 
 /// Proves, for crates above, that the error correction codewords of the definition are a remainder by the generator

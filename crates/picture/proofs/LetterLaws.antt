@@ -28,24 +28,24 @@ pub digits_more : (ps : List Bool) (i : ℕ) → i < length ps
 digits_more ps i h = ap (map pbm_digit) (take_more ps i false h)
     ∙ map-append pbm_digit (take i ps) (get_or ps i false ∷ [])
 
-pub digits_step : (ps : List Bool) (i b : ℕ) (text : List ℕ) → i < length ps → length ps ≤ 70
-    → b ≡ pbm_digit (get_or ps i false) → text ≡ map pbm_digit (take i ps) ++ replicate (71 - i) 10 →
-    set text i b ≡ map pbm_digit (take (i + 1) ps) ++ replicate (71 - (i + 1)) 10
+pub digits_step : (ps : List Bool) (i b : ℕ) (text : List ℕ) → i < length ps → length ps ≤ 80
+    → b ≡ pbm_digit (get_or ps i false) → text ≡ map pbm_digit (take i ps) ++ replicate (80 - i) 48 →
+    set text i b ≡ map pbm_digit (take (i + 1) ps) ++ replicate (80 - (i + 1)) 48
 digits_step ps i b text h short e so_far =
     let size : length (map pbm_digit (take i ps)) ≡ i = length-map (take i ps) pbm_digit
     ∙ length-take-le i ps (omega arith) in
     ap (λ (t : List ℕ). set t i b) so_far
-    ∙ (put_at (map pbm_digit (take i ps)) 71 i 10 b size (omega arith)
-    ∙ ap (λ (t : List ℕ). t ++ replicate (71 - (i + 1)) 10)
+    ∙ (put_at (map pbm_digit (take i ps)) 80 i 48 b size (omega arith)
+    ∙ ap (λ (t : List ℕ). t ++ replicate (80 - (i + 1)) 48)
     (ap (λ (c : ℕ). map pbm_digit (take i ps) ++ c ∷ []) e ∙ sym (digits_more ps i h)))
 
--- all digits, and a line feed
-pub digits_all : (ps : List Bool) (i : ℕ) (text : List ℕ) → i ≡ 70 → length ps ≡ 70
-    → text ≡ map pbm_digit (take i ps) ++ replicate (71 - i) 10 → text ≡ map pbm_digit ps ++ 10 ∷ []
+-- all digits
+pub digits_all : (ps : List Bool) (i : ℕ) (text : List ℕ) → i ≡ 80 → length ps ≡ 80
+    → text ≡ map pbm_digit (take i ps) ++ replicate (80 - i) 48 → text ≡ map pbm_digit ps
 digits_all ps i text e whole so_far =
-    let one : 71 - i ≡ 1 = omega arith in
-    so_far ∙ (ap (λ (t : List ℕ). t ++ replicate (71 - i) 10) (ap (map pbm_digit) (take_all i ps (omega arith)))
-    ∙ ap (λ (n : ℕ). map pbm_digit ps ++ replicate n 10) one)
+    let none : 80 - i ≡ 0 = omega arith in
+    so_far ∙ (ap (λ (t : List ℕ). t ++ replicate (80 - i) 48) (ap (map pbm_digit) (take_all i ps (omega arith)))
+    ∙ (ap (λ (n : ℕ). map pbm_digit ps ++ replicate n 48) none ∙ append-nil (map pbm_digit ps)))
 
 pub length-letters : (ps : List Bool) → length (flat_map ascii_pixel ps) ≡ 2 * length ps
 length-letters [] = refl
@@ -85,14 +85,13 @@ letters_all ps i text e so_far =
     ∙ take_at (flat_map ascii_pixel ps) (replicate (70 - 2 * i) 32) (2 * length ps) (length-letters ps)
 
 -- a line of the first of these digits
-pub digits_cut : (ps : List Bool) (n : ℕ) → n ≤ length ps
-    → take (n + 1) (set (map pbm_digit ps ++ 10 ∷ []) n 10) ≡ map pbm_digit (take n ps) ++ 10 ∷ []
-digits_cut [] zero h = refl
-digits_cut [] (suc n) h = absurd (omega arith)
+pub digits_cut : (ps : List Bool) (n : ℕ) → n < length ps
+    → take (n + 1) (set (map pbm_digit ps) n 10) ≡ map pbm_digit (take n ps) ++ 10 ∷ []
+digits_cut [] n h = absurd (omega arith)
 digits_cut (p ∷ ps) zero h = refl
 digits_cut (p ∷ ps) (suc n) h =
     let more : suc n + 1 ≡ suc (n + 1) = omega arith in
-    ap (λ (k : ℕ). take k (set (map pbm_digit (p ∷ ps) ++ 10 ∷ []) (suc n) 10)) more
+    ap (λ (k : ℕ). take k (set (map pbm_digit (p ∷ ps)) (suc n) 10)) more
     ∙ ap (λ (t : List ℕ). pbm_digit p ∷ t) (digits_cut ps n (omega arith))
 
 -- a line in two parts

@@ -4,10 +4,12 @@ pub mod CutLaws
 pub mod Examples
 pub mod GridLaws
 pub mod HeaderLaws
+pub mod LengthLaws
 pub mod LetterLaws
 pub mod LineLaws
 pub mod PbmLaws
 pub mod RasterLaws
+pub mod RepeatedLaws
 pub mod SampleLaws
 pub mod ShortLineLaws
 pub mod WritingLaws

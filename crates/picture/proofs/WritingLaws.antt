@@ -21,25 +21,26 @@ range_with_len-add a (suc n) m =
     let next : (a + 1) + n ≡ a + suc n = omega arith in
     rw (more, ← next, range_with_len-add (a + 1) n m) refl
 
+-- the texts of the numbers below n + m
+pub flat_map-below_add : (f : ℕ → List ℕ) (n m : ℕ) → flat_map f (below (n + m))
+    ≡ flat_map f (below n) ++ flat_map f (range_with_len n m)
+flat_map-below_add f n m =
+    ap (flat_map f) (range_with_len-add 0 n m)
+    ∙ (flat_map-append f (below n) (range_with_len (0 + n) m)
+    ∙ ap (λ (k : ℕ). flat_map f (below n) ++ flat_map f (range_with_len k m)) (zero-add n))
+
 -- the text of one number more
 pub flat_map-below_more : (f : ℕ → List ℕ) (n : ℕ) → flat_map f (below (n + 1)) ≡ flat_map f (below n) ++ f n
 flat_map-below_more f n =
-    ap (flat_map f) (range_with_len-add 0 n 1)
-    ∙ (flat_map-append f (below n) (range_with_len (0 + n) 1)
-    ∙ (ap (λ (xs : List ℕ). flat_map f (below n) ++ xs) (append-nil (f (0 + n)))
-    ∙ ap (λ (k : ℕ). flat_map f (below n) ++ f k) (zero-add n)))
+    flat_map-below_add f n 1 ∙ ap (λ (xs : List ℕ). flat_map f (below n) ++ xs) (append-nil (f n))
 
--- the text of the numbers up to k is a front of the whole
-pub flat_map-below_front : (f : ℕ → List ℕ) (k n : ℕ) → k < n
-    → (rest : List ℕ) × (flat_map f (below n) ≡ (flat_map f (below k) ++ f k) ++ rest)
-flat_map-below_front f k n h =
-    let r = n - (k + 1) in
-    let size : n ≡ (k + 1) + r = omega arith in (
-      flat_map f (range_with_len (0 + (k + 1)) r),
-      ap (λ (m : ℕ). flat_map f (below m)) size
-          ∙ (ap (flat_map f) (range_with_len-add 0 (k + 1) r)
-          ∙ (flat_map-append f (below (k + 1)) (range_with_len (0 + (k + 1)) r)
-          ∙ ap (λ (xs : List ℕ). xs ++ flat_map f (range_with_len (0 + (k + 1)) r)) (flat_map-below_more f k))),
+-- the texts of the numbers below n are a front of those below a larger number
+pub flat_map-below_front : (f : ℕ → List ℕ) (n all : ℕ) → n ≤ all
+    → (rest : List ℕ) × (flat_map f (below all) ≡ flat_map f (below n) ++ rest)
+flat_map-below_front f n all h =
+    let size : all ≡ n + (all - n) = omega arith in (
+      flat_map f (range_with_len n (all - n)),
+      ap (λ (m : ℕ). flat_map f (below m)) size ∙ flat_map-below_add f n (all - n),
     )
 
 -- the pixels below x + n
@@ -61,19 +62,19 @@ take_piece row k = let place : 70 * (k + 1) ≡ 70 * k + 70 = omega arith in ap 
     ∙ take_add (70 * k) 70 row
 
 -- all pieces of a row are the row
-all_pieces : (row : List Bool) → take (70 * div_ceil (length row) 70) row ≡ row
+pub all_pieces : (row : List Bool) → take (70 * div_ceil (length row) 70) row ≡ row
 all_pieces row = take_all (70 * div_ceil (length row) 70) row (omega arith)
 
--- a piece of a row at the front of a longer list
-pub piece_held : (room : List Bool) (width k n : ℕ) → 70 * k < width → width ≤ length room → n ≡ min 70 (width - 70 * k)
-    → take n (slice_range room (70 * k) (70 * k + 70)) ≡ piece (take width room) k
-piece_held room width k n some fits size =
+-- a piece of a row at the front of a longer list, from the 80 pixels that begin with it
+pub piece_held : (room : List Bool) (width k n : ℕ) → 70 * k < width → n ≡ min 70 (width - 70 * k)
+    → take n (slice_range room (70 * k) (70 * k + 80)) ≡ piece (take width room) k
+piece_held room width k n some size =
     let x = 70 * k in
     let m = width - x in
     let d = drop x room in
     let whole : width ≡ x + m = omega arith in
-    let left : take n (slice_range room x (x + 70)) ≡ take n d =
-    ap (take n) (between_is room x (x + 70) ∙ drop-take x 70 room) ∙ take-take n 70 d (omega arith) in
+    let left : take n (slice_range room x (x + 80)) ≡ take n d =
+    ap (take n) (between_is room x (x + 80) ∙ drop-take x 80 room) ∙ take-take n 80 d (omega arith) in
     let right : piece (take width room) k ≡ take 70 (take m d) = ap (λ (w : ℕ). take 70 (drop x (take w room))) whole
     ∙ ap (take 70) (drop-take x m room) in
     left ∙ (elim (cases_lt m 70) [
@@ -114,7 +115,7 @@ pbm_rows p (y ∷ ys) =
     rw (append-nil (flat_map (λ k. pbm_piece (piece row k)) (below (div_ceil (length row) 70))), pbm_rows p ys)
     (ap (λ (w : ℕ). flat_map (λ k. pbm_piece (piece row k)) (below (div_ceil w 70)) ++ flat_map (pbm_row p) ys) size)
 
-letters_of_pieces : (row : List Bool) (k : ℕ) → flat_map (λ k. flat_map ascii_pixel (piece row k)) (below k)
+pub letters_of_pieces : (row : List Bool) (k : ℕ) → flat_map (λ k. flat_map ascii_pixel (piece row k)) (below k)
     ≡ flat_map ascii_pixel (take (70 * k) row)
 letters_of_pieces row zero = refl
 letters_of_pieces row (suc k) =

@@ -1,5 +1,5 @@
 -- Loops that write a text in each turn.
-use Rattle.std.proofs.Common.{◌≡◌, ℕ, ◌+◌, ◌<◌, List, ◌++◌, Result, Ok, Err, ap, sym, ◌∙◌, append_assoc, flat_map}
+use Rattle.std.proofs.Common.{◌≡◌, ℕ, ◌+◌, ◌<◌, List, ◌++◌, Result, Ok, Err, ap, sym, ◌∙◌, arith, append_assoc, flat_map}
 use Rattle.std.specs.Result.{IsErr}
 use Rattle.device.specs.Writing.{WritesText}
 use Rattle.device.specs.declared.sink.Sink.{Ghosts}
@@ -24,8 +24,10 @@ module _ {S : Type 0} (sink : Ghosts S) (took_joined : (s t u : S) (xs ys : List
       → k < n → text ≡ flat_map f (below n) ++ end → WritesText {T = U} sink t u next (Err fault)
       → WritesText sink s u text r
   WritesText-below_fails n end text r err h e =
-      let front = flat_map-below_front f k n h in
+      let front = flat_map-below_front f (k + 1) n (omega arith) in
+      let more : flat_map f (below (k + 1)) ≡ flat_map f (below k) ++ next =
+      flat_map-below_more f k ∙ ap (λ (xs : List ℕ). flat_map f (below k) ++ xs) (sym same) in
       let whole : text ≡ (flat_map f (below k) ++ next) ++ (front.0 ++ end) = e
-      ∙ (ap (λ (xs : List ℕ). xs ++ end) front.1 ∙ append_assoc (flat_map f (below k) ++ f k) front.0 end
-      ∙ ap (λ (xs : List ℕ). (flat_map f (below k) ++ xs) ++ (front.0 ++ end)) (sym same)) in
+      ∙ (ap (λ (xs : List ℕ). xs ++ end) front.1 ∙ append_assoc (flat_map f (below (k + 1))) front.0 end
+      ∙ ap (λ (xs : List ℕ). xs ++ (front.0 ++ end)) more) in
       WritesText-fails sink took_joined s t u (flat_map f (below k)) next (front.0 ++ end) text r err whole before

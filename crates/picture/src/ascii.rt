@@ -45,6 +45,10 @@ impl PixelText for AsciiPixels {
     fn row_end() -> &'static [u8] {
         b"\n"
     }
+
+    fn row_len(width: usize) -> usize {
+        2 * width + 1
+    }
 }
 
 /// Writes the letters of at most 35 pixels.

@@ -9,12 +9,14 @@ mod ascii;
 mod bars;
 mod framed;
 mod grid;
+mod kept_rows;
 mod laws;
 mod matrix;
 mod pbm;
 mod quiet_zone;
 mod rows;
 mod scaled;
+mod wide_rows;
 
 pub use ascii::write_ascii;
 pub use bars::Bars;

@@ -27,11 +27,11 @@ const FOUR: &[[bool; 4]; 16] = &[
 ];
 
 /// Returns the bits `x` to `x + 3` of a row.
-fn four_bits(row: u64, x: usize) -> [bool; 4]
+fn four_bits(row: u64, x: usize) -> &'static [bool; 4]
     requires { x < 64 }
-    ensures { (j : ℕ) → j < 4 → slice_index_or result j false ≡ bit row (x + j) }
+    ensures { (j : ℕ) → j < 4 → slice_index_or result.now j false ≡ bit row (x + j) }
 {
-    FOUR[((row >> x) & 15) as usize]
+    &FOUR[((row >> x) & 15) as usize]
 }
 
 impl Grid for Matrix {
@@ -54,11 +54,7 @@ impl Grid for Matrix {
         let fours = pixels.len() / 4;
         for k in 0..fours {
             let x = 4 * k;
-            let four = four_bits(row, x);
-            pixels[x] = four[0];
-            pixels[x + 1] = four[1];
-            pixels[x + 2] = four[2];
-            pixels[x + 3] = four[3];
+            pixels[x..x + 4].copy_from_slice(four_bits(row, x));
         }
         for x in 4 * fours..pixels.len() {
             pixels[x] = (row >> x) & 1 == 1;

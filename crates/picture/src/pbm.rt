@@ -1,12 +1,11 @@
 //! Plain PBM files, pbm(5).
-ghost use Rattle.std.specs.Prelude.{◌≡◌, ◌+◌, ◌<◌, ◌≤◌, Some, ◌++◌, ◌∷◌, [], length, map};
+ghost use Rattle.std.specs.Prelude.{◌≡◌, ◌+◌, ◌<◌, ◌≤◌, Some, ◌++◌, [], length, map};
 ghost use Rattle.device.specs.Writing.{WritesText};
 ghost use Rattle.picture.specs.Reading.{pbm_pixels, raster};
-ghost use Rattle.device.specs.Lines.{LF};
 ghost use Rattle.picture.specs.Text.{pbm_digit, pbm_header, pbm_text};
 
 use crate::grid::Grid;
-use crate::rows::{PixelText, write_rows};
+use crate::rows::{PIECE, PIECE_ROOM, PixelText, write_rows};
 use arrayvec::ArrayVec;
 use device::{IoFault, Sink, write_whole};
 use itoa::Buffer;
@@ -70,15 +69,19 @@ impl PixelText for PbmPixels {
     fn row_end() -> &'static [u8] {
         b""
     }
+
+    fn row_len(width: usize) -> usize {
+        width + width.div_ceil(PIECE)
+    }
 }
 
-/// Returns the digits of 70 pixels, and a line feed.
-fn digits(pixels: &[bool]) -> [u8; 71]
-    requires { length pixels.now ≡ 70 }
-    ensures { result ≡ map pbm_digit pixels.now ++ LF ∷ [] }
+/// Returns the digits of 80 pixels.
+fn digits(pixels: &[bool]) -> [u8; PIECE_ROOM]
+    requires { length pixels.now ≡ 80 }
+    ensures { result ≡ map pbm_digit pixels.now }
 {
-    let mut text = [b'\n'; 71];
-    for i in 0..70 {
+    let mut text = [b'0'; PIECE_ROOM];
+    for i in 0..PIECE_ROOM {
         text[i] = digit(pixels[i]);
     }
     text

@@ -52,23 +52,40 @@ impl<G: Grid> Grid for Scaled<G> {
     }
 }
 
-/// Repeats each of the first `width` pixels `scale` times. It begins with the last, so that none is lost before it is
-/// read.
+/// Repeats each of the first `width` pixels `scale` times. The usual scales are constants in the calls, so that the
+/// compiler fills a pixel's columns at once.
 fn spread(pixels: &mut [bool], width: usize, scale: usize)
     requires some { 1 ≤ scale }
     requires whole { length pixels.old ≡ width * scale }
     ensures { pixels.new ≡ map (λ x. slice_index_or pixels.old (x / scale) false)
         (below (length pixels.old)) }
 {
-    if scale == 1 {
-        return;
+    match scale {
+        1 => {}
+        2 => widen_each(pixels, width, 2),
+        3 => widen_each(pixels, width, 3),
+        4 => widen_each(pixels, width, 4),
+        8 => widen_each(pixels, width, 8),
+        _ => widen_each(pixels, width, scale),
     }
+}
+
+/// Repeats each of the first `width` pixels `scale` times. It begins with the last, so that none is lost before it is
+/// read.
+#[inline(always)]
+fn widen_each(pixels: &mut [bool], width: usize, scale: usize)
+    requires some { 1 ≤ scale }
+    requires whole { length pixels.old ≡ width * scale }
+    ensures { pixels.new ≡ map (λ x. slice_index_or pixels.old (x / scale) false)
+        (below (length pixels.old)) }
+{
     for x in (0..width).rev() {
         widen(pixels, x, scale);
     }
 }
 
 /// Fills the columns of the square of column `x` with the pixel in that column.
+#[inline(always)]
 fn widen(pixels: &mut [bool], x: usize, scale: usize)
     requires some { 1 ≤ scale }
     requires inside { (x + 1) * scale ≤ length pixels.old }

@@ -1,7 +1,7 @@
 -- The best of all choices of some bytes comes no later than any first segment, and is one.
 use Rattle.std.proofs.Common.{◌≡◌, ℕ, ◌*◌, ◌%◌, ◌<◌, ◌≤◌, List, [], ◌∷◌, drop, length, refl, arith, true, inl, inr, ◌⊎◌}
-use Rattle.std.proofs.Common.{sym, ◌∙◌}
-use Rattle.std.specs.Prelude.{nat_le}
+use Rattle.std.proofs.Common.{sym, ◌∙◌, ◌+◌, false, cond}
+use Rattle.std.specs.Prelude.{nat_le, nat_lt}
 use Rattle.std.proofs.lemmas.Bool.{cases_lt, leb-true}
 use Rattle.std.proofs.lemmas.List.Sums.{sum_by-cons}
 use Rattle.qrdata.specs.declared.mode.Mode.{Mode}
@@ -10,10 +10,9 @@ use Rattle.qrdata.specs.declared.mode.Segment.{Segment}
 use Rattle.qrdata.specs.Private.ChoiceView.{ChoiceView}
 use Rattle.qrdata.specs.declared.segmentation.Choices.{Choices}
 use Rattle.qrdata.specs.declared.segmentation.TheConstants.{ABSENT}
-use Rattle.qrdata.specs.Segments.{IsSegmentation, cost, has_character, segment_length}
+use Rattle.qrdata.specs.Segments.{IsSegmentation, cost, has_character, segment_length, segment_of}
 use Rattle.qrdata.specs.Private.Table.{best_choice, better_choice, choices_of, fewest_bits, next_choices}
 use Rattle.qrdata.proofs.RunLaws.{run_byte, run_length, run_nothing, run_tells}
-use Rattle.qrdata.proofs.SmallChoiceLaws.{short_bits}
 use Rattle.qrdata.proofs.ChoiceOrderLaws.{Beats, better-left, better-one, better-right}
 use Rattle.qrdata.proofs.ChoiceClassLaws.{AreBest, AreBest-of, IsNoneOrReal, total}
 
@@ -116,6 +115,15 @@ best_front version bytes choices are =
 fewest_nil : (version : ℕ) → fewest_bits version [] ≡ 0
 unfolding choices_of
 fewest_nil version = refl
+
+-- one byte has at most 28 bits
+pub short_bits : (version : ℕ) (mode : Mode) → segment_length version (segment_of mode 1) ≤ 28
+short_bits version Numeric = elim (nat_lt version 10) as (λ t. 4 + cond t 10 12 + 4 ≤ 28)
+    [ true ↦ omega arith | false ↦ omega arith ]
+short_bits version Alphanumeric = elim (nat_lt version 10) as (λ t. 4 + cond t 9 11 + 6 ≤ 28)
+    [ true ↦ omega arith | false ↦ omega arith ]
+short_bits version Byte = elim (nat_lt version 10) as (λ t. 4 + cond t 8 16 + 8 ≤ 28)
+    [ true ↦ omega arith | false ↦ omega arith ]
 
 pub fewest_bits-le : (version : ℕ) (bytes : List ℕ) → fewest_bits version bytes ≤ 28 * length bytes
 fewest_bits-le version [] = omega (arith, fewest_nil version)

@@ -1,11 +1,11 @@
 -- A table of best first segments, filled from its end, is right in all versions whose character counts are as wide.
-use Rattle.std.proofs.Common.{◌≡◌, ◌≢◌, ℕ, ◌+◌, ◌-◌, ◌<◌, ◌≤◌, List, ◌∷◌, drop, length, get_or, refl, sym, subst, ap}
+use Rattle.std.proofs.Common.{◌≡◌, ℕ, zero, suc, [], ◌++◌, ◌+◌, ◌-◌, ◌<◌, ◌≤◌, List, ◌∷◌, drop, length, get_or, refl, sym, subst, ap}
 use Rattle.std.proofs.Common.{◌∙◌, arith, inl, inr, cond}
 use Rattle.std.specs.Prelude.{slice_get, Some, nat_lt}
-use Rattle.std.proofs.Math.ListN.{set}
 use Rattle.std.proofs.lemmas.Bool.{cases_lt, lt-ltb}
-use Rattle.std.proofs.lemmas.Grind.{get_or-set_at}
-use Rattle.std.proofs.lemmas.List.{drop-drop, drop_all, drop_more, get_or-set_other, length-drop, length-set}
+use Rattle.std.proofs.lemmas.List.{get_or_append_left, length-append}
+use Rattle.std.proofs.Math.Seq.{get_or-append_seam}
+use Rattle.std.proofs.lemmas.List.{drop-drop, drop_all, drop_more, length-drop}
 use Rattle.std.proofs.lemmas.List.Sums.{sum_by-cons}
 use Rattle.std.proofs.lemmas.Option.{slice_get-get_or}
 use Rattle.qrdata.specs.declared.level.Level.{Level}
@@ -14,7 +14,7 @@ use Rattle.qrdata.specs.declared.mode.Segment.{Segment}
 use Rattle.qrdata.specs.Fewest.{chosen_segments}
 use Rattle.qrdata.specs.Private.SmallestPlan.{IsTable, NamesBest, SameWidths}
 use Rattle.qrdata.specs.Segments.{IsSegmentation, cost, segment_length}
-use Rattle.qrdata.specs.Private.Table.{HasFirsts, choices_of, fewest_bits, next_choices, no_choices}
+use Rattle.qrdata.specs.Private.Table.{choices_of, fewest_bits, firsts_of, next_choices, no_choices}
 use Rattle.qrdata.specs.Versions.{capacity}
 use Rattle.qrdata.proofs.BestChoiceLaws.{fewest_bits-le_cost}
 use Rattle.qrdata.proofs.ChoiceLimitLaws.{Agrees-if_fits, widest}
@@ -36,36 +36,48 @@ pub choices_of-none : (version : ℕ) (bytes : List ℕ) → choices_of version 
 unfolding choices_of
 choices_of-none version bytes = rw (drop_all (length bytes) bytes (omega arith)) refl
 
-pub HasFirsts-end : (version : ℕ) (bytes : List ℕ) (firsts : List Segment)
-    → HasFirsts version bytes (length bytes) firsts
-HasFirsts-end version bytes firsts = λ k from to. absurd (omega arith)
+pub firsts_of-none : (version : ℕ) (bytes : List ℕ) → firsts_of version (drop (length bytes) bytes) ≡ []
+unfolding firsts_of
+firsts_of-none version bytes = rw (drop_all (length bytes) bytes (omega arith)) refl
+
+pub length-firsts_of : (version : ℕ) (bytes : List ℕ) → length (firsts_of version bytes) ≡ length bytes
+unfolding firsts_of
+length-firsts_of version [] = refl
+length-firsts_of version (b ∷ bytes) =
+    length-append (firsts_of version bytes) _ ∙ omega (arith, length-firsts_of version bytes)
+
+-- one more first
+pub firsts_of-next : (version : ℕ) (bytes : List ℕ) (place : ℕ) → 0 < place → place ≤ length bytes
+    → firsts_of version (drop place bytes) ++ (choices_of version (drop (place - 1) bytes)).best.segment ∷ []
+    ≡ firsts_of version (drop (place - 1) bytes)
+unfolding firsts_of
+firsts_of-next version bytes place some inside =
+    let next : place - 1 + 1 ≡ place = omega arith in
+    rw (drop_more bytes (place - 1) 0 (omega arith), next) refl
 
 found_is : (firsts : List Segment) (k : ℕ) (first : Segment) → k < length firsts → slice_get firsts k ≡ Some first
     → first ≡ get_or firsts k default_segment
 found_is firsts k first h found = let at_k = slice_get-get_or firsts k default_segment h in cc
 
--- a table that has the firsts from a place on has them from one place earlier, once the first there is set
--- the loop of `fill`, the only caller, has `firsts` and `place` as variables and `s` by a call; the five facts are
--- its test, two parts of its invariant, the sizes, and what its calls ensure
-pub HasFirsts-set : (version : ℕ) (bytes : List ℕ) (firsts : List Segment) (place : ℕ) (s : Segment) → 0 < place
-    → place ≤ length bytes → length bytes ≤ length firsts
-    → s ≡ (choices_of version (drop (place - 1) bytes)).best.segment → HasFirsts version bytes place firsts
-    → HasFirsts version bytes (place - 1) (set firsts (place - 1) s)
-HasFirsts-set version bytes firsts place s some inside room e old = λ k from to first found.
-    let long : length (set firsts (place - 1) s) ≡ length firsts = length-set firsts (place - 1) s in
-    let is = found_is (set firsts (place - 1) s) k first (omega arith) found in
-    elim (cases_lt (place - 1) k) [
-      | inl more ↦
-          let other : k ≢ place - 1 = omega arith in
-          let before : first ≡ get_or firsts k default_segment =
-          is ∙ get_or-set_other firsts (place - 1) k s default_segment other in
-          old k (omega arith) to first (slice_get-get_or firsts k default_segment (omega arith)
-          ∙ ap (λ x. Some x) (sym before))
-      | inr here ↦
-          let same : k ≡ place - 1 = omega arith in
-          let now : first ≡ s = is ∙ get_or-set_at firsts (place - 1) k s default_segment same (omega arith) in
-          rw same (now ∙ e)
-    ]
+-- the first of each rest is behind those of the shorter rests
+get_or-firsts_of : (version : ℕ) (bytes : List ℕ) (k : ℕ) → k < length bytes
+    → get_or (firsts_of version bytes) (length bytes - 1 - k) default_segment
+    ≡ (choices_of version (drop k bytes)).best.segment
+unfolding firsts_of
+get_or-firsts_of version [] k h = absurd (omega arith)
+get_or-firsts_of version (b ∷ bytes) zero h =
+    let firsts = firsts_of version bytes in
+    let first = (choices_of version (b ∷ bytes)).best.segment in
+    let last : suc (length bytes) - 1 - 0 ≡ length firsts = omega (arith, length-firsts_of version bytes) in
+    ap (λ n. get_or (firsts ++ first ∷ []) n default_segment) last
+    ∙ get_or-append_seam firsts first [] default_segment
+get_or-firsts_of version (b ∷ bytes) (suc k) h =
+    let firsts = firsts_of version bytes in
+    let first = (choices_of version (b ∷ bytes)).best.segment in
+    let place : suc (length bytes) - 1 - suc k ≡ length bytes - 1 - k = omega arith in
+    ap (λ n. get_or (firsts ++ first ∷ []) n default_segment) place
+    ∙ get_or_append_left firsts (first ∷ []) default_segment (length bytes - 1 - k)
+    (omega (arith, length-firsts_of version bytes, h)) ∙ get_or-firsts_of version bytes k (omega arith)
 
 -- the capacities of the versions whose character counts are as wide
 capacity_widest : (version : ℕ) (level : Level) → 1 ≤ version → version ≤ 10 → capacity version level ≤ widest version
@@ -100,13 +112,15 @@ fewest_bits-is v w same bytes few fits = (Agrees-if_fits w bytes few fits).bits 
 -- plan_between, the only caller, has the loop's number for v and the highest version for w; one call of `fill`
 -- returns the limit and leaves the table
 pub NamesBest-of : (v w : ℕ) → SameWidths v w → (bytes : List ℕ) (limit : ℕ) (firsts : List Segment)
-    → length bytes ≤ 652 → limit ≤ widest w → HasFirsts w bytes 0 firsts → NamesBest v bytes limit firsts
+    → length bytes ≤ 652 → limit ≤ widest w → firsts ≡ firsts_of w bytes → NamesBest v bytes limit firsts
 NamesBest-of v w same bytes limit firsts few fits known = λ k inside small first found.
     let rest = drop k bytes in
     let agrees = Agrees-if_fits w rest (omega (arith, length-drop k bytes))
     (omega (arith, fewest_bits-below v w same rest)) in
     let whole = agrees.first (omega (arith, length-drop k bytes)) in
-    let is : first ≡ (choices_of w rest).best.segment = known k (omega arith) inside first found in
+    let is : first ≡ (choices_of w rest).best.segment =
+    found_is (firsts_of w bytes) (length bytes - 1 - k) first (omega (arith, length-firsts_of w bytes, inside))
+    (rw known at found) ∙ get_or-firsts_of w bytes k inside in
     rw (chosen_segments-same v w same (drop first.len rest), chosen_segments-same v w same rest, is) whole
 
 -- what a first segment is
@@ -119,13 +133,14 @@ pub record IsNamed (version : ℕ) (bytes : List ℕ) (place limit : ℕ) (s : S
 pub IsNamed-first : {version : ℕ} {bytes : List ℕ} {limit : ℕ} {firsts : List Segment} {place : ℕ}
     → place < length bytes → IsTable version bytes limit firsts
     → cost version (chosen_segments version (drop place bytes)) ≤ limit
-    → IsNamed version bytes place limit (get_or firsts place default_segment)
+    → IsNamed version bytes place limit (get_or firsts (length bytes - 1 - place) default_segment)
 IsNamed-first {version} {bytes} {limit} {firsts} {place} h table fits =
-    let s = get_or firsts place default_segment in
+    let from_end = length bytes - 1 - place in
+    let s = get_or firsts from_end default_segment in
     let first : s ∷ chosen_segments version (drop s.len (drop place bytes))
     ≡ chosen_segments version (drop place bytes) =
     table.named place h fits s
-    (slice_get-get_or firsts place default_segment (omega (arith, table.few, table.size))) in
+    (slice_get-get_or firsts from_end default_segment (omega (arith, h, table.size))) in
     let cut : IsSegmentation version (s ∷ chosen_segments version (drop s.len (drop place bytes))) (drop place bytes) =
     subst (λ (l : List Segment). IsSegmentation version l (drop place bytes)) (sym first)
     (chosen_segments-is version (drop place bytes)) in

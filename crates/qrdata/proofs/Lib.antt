@@ -1,4 +1,5 @@
 pub mod BestChoiceLaws
+pub mod ByteChoiceLaws
 pub mod BestListLaws
 pub mod BitStringLaws
 pub mod BlockLaws

@@ -7,8 +7,8 @@ ghost use Rattle.qrdata.specs.Versions.{IsVersion};
 ghost use Rattle.std.specs.Prelude.{length, ◌≡◌, ◌≤◌, IfErr, IfNone, IfOk, IfSome, ℕ};
 
 use crate::level::Level;
-use crate::mode::{Mode, Segment};
-use crate::segmentation::{MAX_BYTES, fill};
+use crate::mode::Segment;
+use crate::segmentation::{Firsts, MAX_BYTES, fill};
 use crate::version::Version;
 use arrayvec::ArrayVec;
 use std::marker::Model;
@@ -154,15 +154,12 @@ fn plan_between<'a>(lowest: u8, highest: u8, level: Level, bytes: &'a [u8]) -> O
     if 10 * bytes.len() > 24 * widest.data_codewords(level) {
         return None;
     }
-    let mut firsts = [Segment {
-        mode: Mode::Byte,
-        len: 0,
-    }; MAX_BYTES];
+    let mut firsts = Firsts::new();
     let bits = fill(widest, bytes, &mut firsts);
     for number in lowest..highest + 1 {
         let version = Version::of(number);
         if bits <= 8 * version.data_codewords(level) {
-            return Some(plan_of(version, level, bytes, &firsts, bits as u32));
+            return Some(plan_of(version, level, bytes, firsts.as_slice(), bits as u32));
         }
     }
     None
@@ -183,7 +180,7 @@ fn plan_of<'a>(
     let mut segments = ArrayVec::new();
     let mut place = 0;
     while place < bytes.len() {
-        let first = firsts[place];
+        let first = firsts[bytes.len() - 1 - place];
         segments.push(first);
         place += usize::from(first.len);
     }

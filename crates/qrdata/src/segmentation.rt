@@ -1,16 +1,20 @@
-//! A table of the best first segment of each rest of the bytes, filled from the end.
-ghost use Rattle.qrdata.specs.Private.Table.{HasFirsts, IsSmall, AreSmallDigits, AreSmallCharacters, AreSmall};
+//! A table of the best first segment of each rest of the bytes, from the shortest rest to all the bytes.
+ghost use Rattle.qrdata.specs.Private.Table.{IsSmall, AreSmallDigits, AreSmallCharacters, AreSmall};
 ghost use Rattle.qrdata.specs.Private.Table.{absent_characters, absent_choice, absent_digits, better_choice};
-ghost use Rattle.qrdata.specs.Private.Table.{best_choice, fewest_bits, longer_choice, next_characters, next_choices};
-ghost use Rattle.qrdata.specs.Private.Table.{next_digits, no_choices, short_choice};
-ghost use Rattle.std.specs.Prelude.{length, ◌≡◌, ◌^◌, ◌≤◌, ◌<◌};
+ghost use Rattle.qrdata.specs.Private.Table.{best_choice, byte_choices, fewest_bits, firsts_of, longer_choice};
+ghost use Rattle.qrdata.specs.Private.Table.{next_characters, next_choices, next_digits, no_choices, short_choice};
+ghost use Rattle.std.specs.Prelude.{length, ◌≡◌, ◌^◌, ◌≤◌, ◌<◌, []};
 
 use crate::mode::{Mode, Segment, value_of};
 use crate::version::Version;
+use arrayvec::ArrayVec;
 use std::marker::Model;
 
 /// The most bytes that a symbol of version 10 holds: more digits than this have more bits than its data codewords.
 pub(crate) const MAX_BYTES: usize = 652;
+
+/// The first of the best segments of each rest of the bytes, the shortest rest first.
+pub(crate) type Firsts = ArrayVec<Segment, MAX_BYTES>;
 
 /// The bits of an absent choice: more than the best segments of `MAX_BYTES` bytes have.
 const ABSENT: usize = 65536;
@@ -106,6 +110,7 @@ fn absent(mode: Mode) -> Choice
 }
 
 /// Returns the choice of one byte, where the best segments of what comes after it have `after` bits.
+#[inline(always)]
 fn short(version: Version, mode: Mode, after: usize) -> Choice
     requires { after < 2 ^ 20 }
     ensures { result ≡ short_choice version mode after }
@@ -117,6 +122,7 @@ fn short(version: Version, mode: Mode, after: usize) -> Choice
 }
 
 /// Returns a choice with one byte more at the front, which adds `added` bits.
+#[inline(always)]
 fn longer(choice: &Choice, added: usize) -> Choice
     requires choice { IsSmall choice.now }
     requires some { 0 < added }
@@ -131,6 +137,7 @@ fn longer(choice: &Choice, added: usize) -> Choice
 
 /// Returns the choice of fewer bits, of equally many bits that of the longer segment, and of equally long ones the
 /// first.
+#[inline(always)]
 fn better(first: &Choice, second: &Choice) -> Choice
     ensures { result ≡ better_choice first.now second.now }
 {
@@ -143,6 +150,7 @@ fn better(first: &Choice, second: &Choice) -> Choice
 
 /// Returns the choices in numeric mode of a byte and a rest, whose best segments have `after` bits. The second of three
 /// digits adds three bits, and so does the third.
+#[inline(always)]
 #[tactic(auto, unfolding(crate::specs::Private::Table::next_digits))]
 fn with_digit(version: Version, byte: u8, rest: &Digits, after: usize) -> Digits
     requires rest { AreSmallDigits rest.now }
@@ -163,6 +171,7 @@ fn with_digit(version: Version, byte: u8, rest: &Digits, after: usize) -> Digits
 }
 
 /// Returns the choices in alphanumeric mode of a byte and a rest, whose best segments have `after` bits.
+#[inline(always)]
 #[tactic(auto, unfolding(crate::specs::Private::Table::next_characters))]
 fn with_character(version: Version, byte: u8, rest: &Characters, after: usize) -> Characters
     requires rest { AreSmallCharacters rest.now }
@@ -182,6 +191,7 @@ fn with_character(version: Version, byte: u8, rest: &Characters, after: usize) -
 }
 
 /// Returns the best of the choices in all modes.
+#[inline(always)]
 #[tactic(auto, unfolding(crate::specs::Private::Table::best_choice))]
 fn best_of(digits: &Digits, characters: &Characters, bytes: &Choice) -> Choice
     ensures { result ≡ best_choice digits.now characters.now bytes.now }
@@ -193,19 +203,36 @@ fn best_of(digits: &Digits, characters: &Characters, bytes: &Choice) -> Choice
 }
 
 /// Returns the choices of a byte and a rest.
+#[inline(always)]
 #[tactic(auto, unfolding(crate::specs::Private::Table::next_choices))]
 fn with_byte(version: Version, byte: u8, rest: &Choices) -> Choices
     requires { AreSmall rest.now }
     ensures { result ≡ next_choices version byte rest.now }
 {
     let after = rest.best.bits();
+    let bytes = better(&longer(&rest.bytes, 8), &short(version, Mode::Byte, after));
+    if value_of(byte) >= 45 {
+        return only_bytes(bytes);
+    }
     let digits = with_digit(version, byte, &rest.digits, after);
     let characters = with_character(version, byte, &rest.characters, after);
-    let bytes = better(&longer(&rest.bytes, 8), &short(version, Mode::Byte, after));
     let best = best_of(&digits, &characters, &bytes);
     Choices {
         digits,
         characters,
+        bytes,
+        best,
+    }
+}
+
+/// Returns the choices of a byte that only byte mode has, where `bytes` is that in byte mode.
+fn only_bytes(bytes: Choice) -> Choices
+    ensures { result ≡ byte_choices bytes }
+{
+    let best = bytes.copied();
+    Choices {
+        digits: no_digits(),
+        characters: no_characters(),
         bytes,
         best,
     }
@@ -247,21 +274,21 @@ fn without_bytes() -> Choices
     }
 }
 
-/// Fills a table from its end: at each place is the first of the best segments of the bytes from there on. Returns the
-/// bits of the best segments of all the bytes. The limits of the character counts are left out, because no segments
+/// Writes the first of the best segments of each rest of the bytes into an empty table, the shortest rest first. Returns
+/// the bits of the best segments of all the bytes. The limits of the character counts are left out, because no segments
 /// that fit reach them. The time grows with the number of bytes.
-pub(crate) fn fill(version: Version, bytes: &[u8], firsts: &mut [Segment]) -> usize
+pub(crate) fn fill(version: Version, bytes: &[u8], firsts: &mut Firsts) -> usize
     requires few { length bytes.now ≤ MAX_BYTES }
-    requires firsts { length firsts.old ≡ MAX_BYTES }
+    requires empty { firsts.old.items ≡ [] }
     ensures bits { result ≡ fewest_bits version bytes.now }
-    ensures firsts { HasFirsts version bytes.now 0 firsts.new }
+    ensures firsts { firsts.new.items ≡ firsts_of version bytes.now }
 {
     let mut choices = without_bytes();
     let mut place = bytes.len();
     while place > 0 {
         place -= 1;
         choices = with_byte(version, bytes[place], &choices);
-        firsts[place] = choices.best.segment();
+        firsts.push(choices.best.segment());
     }
     choices.best.bits()
 }

@@ -61,36 +61,13 @@ column_windows m u b y n l uniform begins =
     window_same (bit u x) (is_uniform (m x) y 5) (bit b x) (begins_run (m x) y)
     (uniform x s ∙ sym (uniform_five (m x) y)) (begins x s))
 
--- the penalty of columns, window by window
+-- the penalty of the runs of columns, window by window
 pub columns_summed : (n : ℕ) (m : ℕ → ℕ → Bool)
-    → sum_below n (λ x. line_penalty n (m x)) ≡ sum_below (n - 4) (λ y. sum_below n (λ x. window_points (m x) y))
-    + 40 * sum_below (n - 10) (λ y. count_below n (λ x. shows_finder (m x) y))
+    → sum_below n (λ x. run_penalty n (m x)) ≡ sum_below (n - 4) (λ y. sum_below n (λ x. window_points (m x) y))
 columns_summed n m =
-    let each = sum_below_same n (λ x. line_penalty n (m x))
-    (λ x. sum_below (n - 4) (window_points (m x)) + 40 * count_below (n - 10) (shows_finder (m x)))
-    (λ x l. rw (run_penalty-sum n (m x), finder_penalty-count n (m x)) refl) in
-    let both = sum_added n (λ x. sum_below (n - 4) (window_points (m x)))
-    (λ x. 40 * count_below (n - 10) (shows_finder (m x))) in
-    let runs = sum_exchanged n (n - 4) (λ x y. window_points (m x) y) in
-    let scaled = sum_scaled n 40 (λ x. count_below (n - 10) (shows_finder (m x))) in
-    let finders = sum_exchanged n (n - 10) (λ x y. one_if (shows_finder (m x) y)) in
-    each ∙ both ∙ ap (λ z. z + sum_below n (λ x. 40 * count_below (n - 10) (shows_finder (m x)))) runs
-    ∙ ap (λ z. sum_below (n - 4) (λ y. sum_below n (λ x. window_points (m x) y)) + z)
-    (scaled ∙ ap (λ z. 40 * z) finders)
+    sum_below_same n (λ x. run_penalty n (m x)) (λ x. sum_below (n - 4) (window_points (m x)))
+    (λ x l. run_penalty-sum n (m x))
+    ∙ sum_exchanged n (n - 4) (λ x y. window_points (m x) y)
 
 pub sum_next : (n : ℕ) (f : ℕ → ℕ) → sum_below (n + 1) f ≡ sum_below n f + f n
 sum_next n f = rw (add-one n) refl
-
-and_grouped : (f b s : Bool) → ((f && b) && s) ≡ (f && (b && s))
-and_grouped true b s = refl
-and_grouped false b s = refl
-
--- one more module of a pattern is compared
-pub shown_more : (line : ℕ → Bool) (i j : ℕ) (pattern : List Bool) (f r : Bool) → j < length pattern
-    → r ≡ (f && beq (line (i + j)) (get_or pattern j false))
-    → (r && shows line (i + (j + 1)) (drop (j + 1) pattern)) ≡ (f && shows line (i + j) (drop j pattern))
-shown_more line i j pattern f r h e =
-    let d : drop j pattern ≡ get_or pattern j false ∷ drop (suc j) pattern = drop-cons pattern j false h in
-    let next : i + (j + 1) ≡ i + j + 1 = omega arith in
-    rw (e, next, add-one j) (and_grouped f (beq (line (i + j)) (get_or pattern j false))
-    (shows line (i + j + 1) (drop (suc j) pattern)) ∙ ap (λ z. f && shows line (i + j) z) (sym d))

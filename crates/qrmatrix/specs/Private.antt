@@ -5,4 +5,5 @@ pub mod RowBits
 pub mod CodewordPairs
 pub mod FunctionRows
 pub mod Squares
+pub mod PenaltyParts
 pub mod Drawing

@@ -4,6 +4,7 @@ ghost use Rattle.std.specs.Bool.{beq};
 ghost use Rattle.qrmatrix.specs.Private.Counting.{sum_below, count_below};
 ghost use Rattle.qrmatrix.specs.Bits.{bit};
 ghost use Rattle.qrmatrix.specs.Penalty.{begins_run};
+ghost use Rattle.qrmatrix.specs.Private.PenaltyParts.{is_finder, is_light};
 
 use crate::square::SIDE;
 
@@ -42,11 +43,19 @@ pub fn agreeing_five(a: u64, b: u64, c: u64, d: u64, e: u64) -> u64
     agreeing(a, b) & agreeing(a, c) & agreeing(a, d) & agreeing(a, e)
 }
 
-/// Returns the places of `found` at which the row has the colour that is asked for: dark, or else light.
-pub fn found_with(found: u64, row_bits: u64, dark: bool) -> u64
-    ensures { (i : ℕ) → i < 64 → bit result i ≡ (bit found i && beq (bit row_bits i) dark) }
+/// Returns the places at which seven rows, one after the other, have the modules of a finder pattern.
+pub fn finders_in(a: u64, b: u64, c: u64, d: u64, e: u64, f: u64, g: u64) -> u64
+    ensures { (i : ℕ) → i < 64 → bit result i
+        ≡ is_finder (bit a i) (bit b i) (bit c i) (bit d i) (bit e i) (bit f i) (bit g i) }
 {
-    found & if dark { row_bits } else { !row_bits }
+    a & !b & c & d & e & !f & g
+}
+
+/// Returns the places at which four rows are light.
+pub fn light_in(a: u64, b: u64, c: u64, d: u64) -> u64
+    ensures { (i : ℕ) → i < 64 → bit result i ≡ is_light (bit a i) (bit b i) (bit c i) (bit d i) }
+{
+    !a & !b & !c & !d
 }
 
 /// Returns the places of a row at which a run begins.

@@ -1,5 +1,5 @@
 //! A symbol before its mask: what all eight masks share is drawn once.
-ghost use Rattle.std.specs.Prelude.{◌≡◌, ℕ, ◌<◌, List, None};
+ghost use Rattle.std.specs.Prelude.{◌≡◌, ℕ, ◌<◌, ◌≤◌, List, None, IfSome, IfNone};
 ghost use Rattle.qrdata.specs.Versions.{side_of};
 ghost use Rattle.qrmatrix.specs.Private.Drawing.{Draws, DrawsFunctions, Places, ShowsSymbol};
 ghost use Rattle.qrmatrix.specs.MaskChoice.{chosen_mask};
@@ -10,7 +10,7 @@ ghost use Rattle.qrmatrix.specs.Private.Squares.{IsBlank};
 use crate::format::draw_format;
 use crate::function::function_row;
 use crate::mask::apply_mask;
-use crate::penalty::penalty;
+use crate::penalty::{penalty, penalty_below};
 use crate::placement::place;
 use crate::square::Square;
 use qrdata::{Codewords, Level, Version};
@@ -87,8 +87,20 @@ impl Unmasked {
         penalty(&masked.modules, self.version.side())
     }
 
+    /// Returns the penalty of the symbol under a mask where it is below a limit.
+    fn penalty_below(&self, masked: &Masked, limit: u32) -> Option<u32>
+        ensures below { (codewords : List ℕ) → ShowsSymbol self.now codewords masked.now → IfSome result (λ found.
+            (found ≡ Penalty.penalty (side_of self.now.version)
+            (module_at self.now.version self.now.level masked.now.mask codewords)) × (found < limit)) }
+        ensures reached { (codewords : List ℕ) → ShowsSymbol self.now codewords masked.now → IfNone result
+            (limit ≤ Penalty.penalty (side_of self.now.version)
+            (module_at self.now.version self.now.level masked.now.mask codewords)) }
+    {
+        penalty_below(&masked.modules, self.version.side(), limit)
+    }
+
     /// Lays each mask over the modules and keeps the symbol of the lowest penalty, the first of several (ISO/IEC 18004,
-    /// 7.8.1).
+    /// 7.8.1). A symbol is given up as soon as its penalty reaches the lowest one so far.
     pub fn under_best_mask(&self) -> Masked
         ensures mask { (codewords : List ℕ) → Places self.now codewords → result.mask
             ≡ chosen_mask self.now.version self.now.level None codewords }
@@ -100,8 +112,7 @@ impl Unmasked {
         let mut lowest = self.penalty_of(&best);
         for mask in 1..8 {
             let next = self.under(mask);
-            let penalty = self.penalty_of(&next);
-            if penalty < lowest {
+            if let Some(penalty) = self.penalty_below(&next, lowest) {
                 lowest = penalty;
                 best = next;
             }

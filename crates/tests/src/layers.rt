@@ -1,13 +1,11 @@
-//! Worked rows, the standards' listings, plain slow forms, devices that fail: the layers below the filter.
-pub mod bars;
+//! Worked rows, plain slow forms, devices that fail: the layers below the filter.
+mod bars;
 mod buffered_bytes;
-pub mod codewords;
-mod field;
-mod limits;
-pub mod lines;
+mod codewords;
+mod lines;
+mod options;
 pub mod pictures;
 mod segments;
 mod streams;
 pub mod support;
 mod symbols;
-mod versions;

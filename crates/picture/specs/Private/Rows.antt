@@ -1,5 +1,5 @@
 -- The rows of a picture as text, for both kinds of text: private contracts of the writers cite these.
-use Rattle.std.specs.Prelude.{◌≡◌, ◌≤◌, ◌<◌, ℕ, ◌*◌, Bool, List, ◌++◌, length, flat_map, take, drop}
+use Rattle.std.specs.Prelude.{ℕ, ◌*◌, Bool, List, ◌++◌, length, flat_map, take, drop}
 use Rattle.std.specs.Int.{div_ceil}
 use Rattle.picture.specs.Picture.{Picture}
 use Rattle.picture.specs.Text.{below, pixel_row}
@@ -12,10 +12,13 @@ piece row k = take 70 (drop (70 * k) row)
 abbrev pub row_text : (List Bool → List ℕ) → List ℕ → List Bool → List ℕ
 row_text piece_text row_end row = flat_map (λ k. piece_text (piece row k)) (below (div_ceil (length row) 70)) ++ row_end
 
--- each row from y to before `next` has the pixels at the front of `kept`, which has space for a row
-pub record KeepsRows (p : Picture) (y next : ℕ) (kept : List Bool) : Type 0 where
-  pub fits : p.width ≤ length kept
-  pub rows : (k : ℕ) → y ≤ k → k < next → take p.width kept ≡ pixel_row p k
+-- a text n times
+abbrev pub repeated : ℕ → List ℕ → List ℕ
+repeated n text = flat_map (λ _. text) (below n)
+
+-- a sink that took the text last, since some earlier state
+abbrev pub EndsWith : {S : Type 0} → (S → S → List ℕ → Type 0) → S → List ℕ → Type 0
+EndsWith {S} took now text = (first : S) × ((before : List ℕ) × took first now (before ++ text))
 
 -- the text of the rows of a picture
 abbrev pub rows_text : (List Bool → List ℕ) → List ℕ → Picture → List ℕ

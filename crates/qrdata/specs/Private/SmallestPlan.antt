@@ -1,5 +1,5 @@
 -- The plan of the smallest version in a range (ISO/IEC 18004, 7.4.1).
-use Rattle.std.specs.Prelude.{◌≡◌, ℕ, ◌<◌, ◌≤◌, List, ◌∷◌, length, drop, slice_get, Some}
+use Rattle.std.specs.Prelude.{◌≡◌, ℕ, ◌-◌, ◌<◌, ◌≤◌, List, ◌∷◌, length, drop, slice_get, Some}
 use Rattle.qrdata.specs.declared.level.Level.{Level}
 use Rattle.qrdata.specs.declared.mode.Mode.{Mode}
 use Rattle.qrdata.specs.declared.mode.Segment.{Segment}
@@ -36,13 +36,14 @@ NoPlan lowest highest level bytes = (v : ℕ) → lowest ≤ v → v ≤ highest
 abbrev pub NamesBest : (version : ℕ) (bytes : List ℕ) (limit : ℕ) → List Segment → Type 0
 NamesBest version bytes limit firsts =
     (k : ℕ) → k < length bytes → cost version (chosen_segments version (drop k bytes)) ≤ limit
-    → (first : Segment) → slice_get firsts k ≡ Some first
+    → (first : Segment) → slice_get firsts (length bytes - 1 - k) ≡ Some first
     → first ∷ chosen_segments version (drop first.len (drop k bytes)) ≡ chosen_segments version (drop k bytes)
 
--- a table with a place for each byte, which names the best first segments of the bytes and of their rests
+-- a table with a place for each byte, which names the best first segments of the rests of the bytes, the shortest rest
+-- first
 pub record IsTable (version : ℕ) (bytes : List ℕ) (limit : ℕ) (firsts : List Segment) : Type 0 where
   pub few : length bytes ≤ MAX_BYTES
-  pub size : length firsts ≡ MAX_BYTES
+  pub size : length firsts ≡ length bytes
   pub named : NamesBest version bytes limit firsts
 
 -- the segments have `bits` bits, these fit the version, and there is room for the segments in a plan

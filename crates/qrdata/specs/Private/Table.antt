@@ -1,7 +1,7 @@
 -- The best choices of a first segment of each rest of the data, found from its end (the choice of ISO/IEC 18004,
 -- annex J, made in this crate's own way). The limits of the character counts are left out.
-use Rattle.std.specs.Prelude.{◌≡◌, ℕ, suc, ◌+◌, ◌^◌, ◌<◌, ◌≤◌, List, [], ◌∷◌, length, drop, nat_lt, slice_get}
-use Rattle.std.specs.Prelude.{if◌then◌else◌, ◌==◌, ◌&&◌, ◌||◌, Some}
+use Rattle.std.specs.Prelude.{ℕ, suc, ◌+◌, ◌^◌, ◌<◌, ◌≤◌, List, [], ◌∷◌, ◌++◌, nat_lt}
+use Rattle.std.specs.Prelude.{if◌then◌else◌, ◌==◌, ◌&&◌, ◌||◌}
 use Rattle.std.specs.Char.{is_ascii_digit}
 use Rattle.qrdata.specs.Private.ChoiceView.{ChoiceView}
 use Rattle.qrdata.specs.declared.segmentation.Digits.{Digits}
@@ -77,6 +77,15 @@ choices_with_best digits characters byte = record {
   best = best_choice digits characters byte;
 }
 
+-- the choices of a byte that only byte mode has
+abbrev pub byte_choices : ChoiceView → Choices
+byte_choices byte = record {
+  digits = absent_digits;
+  characters = absent_characters;
+  bytes = byte;
+  best = byte;
+}
+
 -- the choices of a byte and a rest
 unfoldable pub next_choices : (version byte : ℕ) → Choices → Choices
 next_choices version byte rest =
@@ -102,11 +111,10 @@ choices_of version (b ∷ bytes) = next_choices version b (choices_of version by
 abbrev pub fewest_bits : (version : ℕ) → List ℕ → ℕ
 fewest_bits version bytes = (choices_of version bytes).best.bits
 
--- from the place `from` on, the table has the best first segment of each rest
-abbrev pub HasFirsts : (version : ℕ) (bytes : List ℕ) (from : ℕ) → List Segment → Type 0
-HasFirsts version bytes from firsts =
-    (k : ℕ) → from ≤ k → k < length bytes → (first : Segment) → slice_get firsts k ≡ Some first
-    → first ≡ (choices_of version (drop k bytes)).best.segment
+-- the first of the best segments of each rest of the bytes, the shortest rest first
+unfoldable pub firsts_of : (version : ℕ) → List ℕ → List Segment
+firsts_of version [] = []
+firsts_of version (b ∷ bytes) = firsts_of version bytes ++ (choices_of version (b ∷ bytes)).best.segment ∷ []
 
 -- there is room for a byte more
 abbrev pub IsSmall : ChoiceView → Type 0
@@ -118,7 +126,8 @@ AreSmallDigits digits = IsSmall digits.none_over × IsSmall digits.one_over × I
 abbrev pub AreSmallCharacters : Characters → Type 0
 AreSmallCharacters characters = IsSmall characters.none_over × IsSmall characters.one_over
 
+-- one byte more has at most 28 bits
 abbrev pub AreSmall : Choices → Type 0
 AreSmall choices =
     AreSmallDigits choices.digits × AreSmallCharacters choices.characters
-    × IsSmall choices.bytes × IsSmall choices.best
+    × IsSmall choices.bytes × (choices.best.bits + 28 < ABSENT)

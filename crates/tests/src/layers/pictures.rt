@@ -3,9 +3,8 @@ ghost use Rattle.std.specs.Prelude.{◌<◌, ◌≤◌};
 
 mod widths;
 
-use crate::runs::support::{has_lines_of, line_ends};
 use device::MemSink;
-use picture::{Bars, Framed, Grid, QuietZone, Scaled, reading_laws, write_ascii, write_pbm};
+use picture::{Bars, Framed, Grid, QuietZone, Scaled, write_ascii, write_pbm};
 
 /// The modules of the symbol of `ean8 7351353`.
 const EAN8_MODULES: &[u8; 67] =
@@ -23,14 +22,6 @@ pub const EAN8_ASCII: &[u8; 164] =
 const EAN8_ZONE: QuietZone = QuietZone {
     left: 7,
     right: 7,
-    top: 0,
-    bottom: 0,
-};
-
-/// The quiet zone of Code 128.
-const CODE128_ZONE: QuietZone = QuietZone {
-    left: 10,
-    right: 10,
     top: 0,
     bottom: 0,
 };
@@ -132,16 +123,15 @@ fn larger_pixels_are_asked(rt: HostRuntime) {
     pixels[8] = true;
     pixels[9] = true;
     assert!(rt; has_row(&scaled, 5, &pixels));
-    reading_laws();
 }
 
 /// Whether a sink of up to `limit` bytes, which takes `piece` bytes a call, gets the beginning of a grid's plain PBM,
 /// and fails if that is not all of it.
 fn writes_pbm(grid: &impl Grid, piece: usize, limit: usize, want: &[u8]) -> bool
     requires piece { 0 < piece }
-    requires limit { limit ≤ 5476 }
+    requires limit { limit ≤ 91 }
 {
-    let mut sink = MemSink::<5476>::new(piece, limit);
+    let mut sink = MemSink::<91>::new(piece, limit);
     let is_written = write_pbm(grid, &mut sink).is_ok();
     let is_whole = want.len() <= limit;
     is_written == is_whole
@@ -172,26 +162,6 @@ fn pbm_of_a_row(rt: HostRuntime) {
     }
 }
 
-/// Seven rows of 70 light pixels, 630 dark ones and 70 light ones, as lines of 70 pixels.
-fn full_lines() -> [u8; 5476] {
-    let mut file = [b'\n'; 5476];
-    file[..9].copy_from_slice(b"P1\n770 7\n");
-    for place in 0..77 {
-        let is_light = place % 11 == 0 || place % 11 == 10;
-        let pixel = if is_light { b'0' } else { b'1' };
-        file[9 + 71 * place..79 + 71 * place].copy_from_slice(&[pixel; 70]);
-    }
-    file
-}
-
-/// `code128 A123456` has 110 modules with its quiet zones: 770 pixels at scale 7.
-#[test]
-fn pbm_of_full_lines(rt: HostRuntime) {
-    let modules = [true; 90];
-    let framed = Framed::new(Bars::new(&modules, 1), CODE128_ZONE);
-    assert!(rt; writes_pbm(&Scaled::new(framed, 7), 4096, 5476, &full_lines()));
-}
-
 /// The row of EAN-8, and two dark and light rows in sinks that are too small.
 #[test]
 fn ascii_of_a_row(rt: HostRuntime) {
@@ -202,20 +172,4 @@ fn ascii_of_a_row(rt: HostRuntime) {
     for limit in 0..11 {
         assert!(rt; writes_ascii(&Bars::new(&pair, 2), 1, limit, b"##  \n##  \n\n"));
     }
-}
-
-/// `ean8 7351353` at scale 8: eight lines of 1,296 letters and an empty line.
-#[test]
-fn ascii_of_large_pixels(rt: HostRuntime) {
-    let modules = ean8_modules();
-    let framed = Framed::new(Bars::new(&modules, 1), EAN8_ZONE);
-    let mut sink = MemSink::<10377>::new(4096, 10377);
-    assert!(rt; write_ascii(&Scaled::new(framed, 8), &mut sink).is_ok());
-    let text = sink.bytes();
-    assert!(rt;
-        text.len() == 10377
-            && text.ends_with(b"\n\n")
-            && line_ends(text) == 9
-            && has_lines_of(text, 1296)
-    );
 }

@@ -2,7 +2,6 @@
 //! character counts.
 ghost use Rattle.std.specs.Prelude.{length, ◌≤◌, ◌<◌};
 
-use crate::layers::codewords::text_of;
 use crate::layers::support::{LEVELS, version};
 use qrdata::{Level, Mode, Plan, Segment, Version, choose};
 use std::process::Abort;
@@ -226,6 +225,18 @@ impl Numbers {
             };
         }
     }
+}
+
+/// The text whose characters are the digits of a number to the base 3, of which `1`, `A` and `a` are the digits.
+fn text_of(number: u32) -> [u8; 6] {
+    let characters = [b'1', b'A', b'a'];
+    let mut text = [b'1'; 6];
+    let mut rest = number;
+    for character in text.iter_mut() {
+        *character = characters[(rest % 3) as usize];
+        rest /= 3;
+    }
+    text
 }
 
 #[test]

@@ -1,35 +1,59 @@
-use Rattle.std.proofs.Common.{◌∙◌, ℕ, ap, refl, sym, subst}
-use Rattle.std.proofs.lemmas.List.{append-nil}
-use Rattle.filter.specs.Line.{CountsFault}
-use Rattle.filter.specs.Output.{image_of, outcome_of_item}
-use Rattle.filter.proofs.LineLaws.{drawn_ends, outcome-item, refused_ends}
+use Rattle.std.proofs.Common.{◌≡◌, ◌∙◌, ℕ, List, [], ap, refl, sym, subst}
 use Rattle.labelcore.specs.ItemView.{item_seen}
+
+use Rattle.filter.specs.Output.{outcome_of_item}
+use Rattle.filter.specs.Script.{CountsFault, taken}
+use Rattle.filter.proofs.LineLaws.{drawn_status, drawn_stops, drawn_took, outcome-item, refused_events, refused_image}
+use Rattle.filter.proofs.LineLaws.{refused_status}
+use Rattle.filter.proofs.ScriptLaws.{none_taken, Sends-append, Sends-none}
 use Rattle.filter.proofs.line.finish_line.Goals as goal
 
-pub returns-in-Ok-Ok-clause-ends : goal.returns-in-Ok-Ok-clause-ends
-returns-in-Ok-Ok-clause-ends g c text at =
+pub returns-in-Ok-Ok-clause-sends : goal.returns-in-Ok-Ok-clause-sends
+returns-in-Ok-Ok-clause-sends g c text at = 
+    let options = c.args.options.now in
+    let h = c.in-Ok-Ok.ensures options c.parse-item.ensures.form in
+    rw (outcome-item options text ∙ ap outcome_of_item (sym (c.parse-item.ensures.item text at))) (record {
+      added = _;
+      grown = refl;
+      sends = drawn_took options _ _ c.args.number (outcome_of_item (item_seen c.parse-item.result))
+          (sym h.refusal ∙ c.in-Ok-Ok.field-0-is) h.writes.bytes (g.met.E.Sink.took_none c.args.err.now);
+    })
+
+pub returns-in-Ok-Ok-clause-status : goal.returns-in-Ok-Ok-clause-status
+returns-in-Ok-Ok-clause-status g c text at =
     let options = c.args.options.now in
     let h = c.in-Ok-Ok.ensures options c.parse-item.ensures.form in
     rw (outcome-item options text ∙ ap outcome_of_item (sym (c.parse-item.ensures.item text at)))
-    (drawn_ends options (g.O.Sink.took c.args.out.now c.draw_item.new.out)
-    (g.E.Sink.took c.args.err.now c.args.err.now) c.args.number (outcome_of_item (item_seen c.parse-item.result))
-    (sym h.refusal ∙ c.in-Ok-Ok.field-0-is) h.writes.bytes (g.met.E.Sink.took_none c.args.err.now))
+    (drawn_status c.args.number (outcome_of_item (item_seen c.parse-item.result))
+    (sym h.refusal ∙ c.in-Ok-Ok.field-0-is))
 
 pub returns-in-Ok-Ok-clause-sinks : goal.returns-in-Ok-Ok-clause-sinks
 returns-in-Ok-Ok-clause-sinks g c =
     let writes = (c.in-Ok-Ok.ensures c.args.options.now c.parse-item.ensures.form).writes in
     record { counts = (writes.count, refl); out_unflushed = writes.unflushed; err_unflushed = λ e. e }
 
-pub returns-in-Ok-Err-clause-ends : goal.returns-in-Ok-Err-clause-ends
-returns-in-Ok-Err-clause-ends g c text at =
+pub returns-in-Ok-Err-clause-sends : goal.returns-in-Ok-Err-clause-sends
+returns-in-Ok-Err-clause-sends g c text at =
     let options = c.args.options.now in
     let o = outcome_of_item (item_seen c.parse-item.result) in
     let h = c.in-Ok-Err.ensures options c.parse-item.ensures.form in
-    let took = g.O.Sink.took c.args.out.now c.refuse.new.out in
-    rw (outcome-item options text ∙ ap outcome_of_item (sym (c.parse-item.ensures.item text at)))
-    (refused_ends options took (g.E.Sink.took c.args.err.now c.refuse.new.err) c.args.number o c.in-Ok-Err.fault
-    c.refuse.result (sym h.refusal ∙ c.in-Ok-Err.field-0-is) (subst took (append-nil (image_of options o))
-    (g.met.O.Sink.took_joined _ _ _ _ _ h.writes.bytes c.refuse.ensures.image)) c.refuse.ensures.message)
+    let refused = sym h.refusal ∙ c.in-Ok-Err.field-0-is in
+    rw (outcome-item options text ∙ ap outcome_of_item (sym (c.parse-item.ensures.item text at)),
+    refused_events c.args.number o c.in-Ok-Err.fault refused)
+    (Sends-append options g.met.O.Sink.took_joined g.met.E.Sink.took_joined c.refuse.result
+    (Sends-none options (tt {0}) (taken (g.O.Sink.took c.args.out.now c.draw_item.new.out)
+    (g.E.Sink.took c.args.err.now c.args.err.now)) [] [] refl
+    (none_taken _ _ (subst (g.O.Sink.took c.args.out.now c.draw_item.new.out) (refused_image options o c.in-Ok-Err.fault refused)
+    h.writes.bytes) (g.met.E.Sink.took_none c.args.err.now))) (c.refuse.ensures.sends options))
+
+pub returns-in-Ok-Err-clause-status : goal.returns-in-Ok-Err-clause-status
+returns-in-Ok-Err-clause-status g c text at =
+    let options = c.args.options.now in
+    let o = outcome_of_item (item_seen c.parse-item.result) in
+    let h = c.in-Ok-Err.ensures options c.parse-item.ensures.form in
+    rw (outcome-item options text ∙ ap outcome_of_item (sym (c.parse-item.ensures.item text at)),
+    refused_events c.args.number o c.in-Ok-Err.fault (sym h.refusal ∙ c.in-Ok-Err.field-0-is),
+    sym (refused_status c.args.number c.in-Ok-Err.fault)) c.refuse.ensures.status
 
 pub returns-in-Ok-Err-clause-sinks : goal.returns-in-Ok-Err-clause-sinks
 returns-in-Ok-Err-clause-sinks g c =
@@ -42,11 +66,16 @@ returns-in-Ok-Err-clause-sinks g c =
       err_unflushed = refuse.err_unflushed;
     }
 
-pub returns-in-Err-clause-ends : goal.returns-in-Err-clause-ends
-returns-in-Err-clause-ends g c text at =
+pub returns-in-Err-clause-sends : goal.returns-in-Err-clause-sends
+returns-in-Err-clause-sends g c text at =
     let options = c.args.options.now in
-    rw (outcome-item options text ∙ ap outcome_of_item (sym (c.parse-item.ensures.item text at)))
-    ((c.in-Err.ensures options c.parse-item.ensures.form).writes.bytes, g.met.E.Sink.took_none c.args.err.now)
+    let h = c.in-Err.ensures options c.parse-item.ensures.form in
+    rw (outcome-item options text ∙ ap outcome_of_item (sym (c.parse-item.ensures.item text at))) (record {
+      added = _;
+      grown = refl;
+      sends = drawn_stops options _ _ c.args.number (outcome_of_item (item_seen c.parse-item.result)) h.fails h.writes.bytes
+          (g.met.E.Sink.took_none c.args.err.now);
+    })
 
 pub returns-in-Err-clause-sinks : goal.returns-in-Err-clause-sinks
 returns-in-Err-clause-sinks g c =

@@ -1,13 +1,45 @@
-use Rattle.std.proofs.Common.{List, ℕ, Option, [], subst}
+use Rattle.std.proofs.Common.{List, ℕ, Option, None, Some, [], ◌++◌, Bool, subst, sym, ap, ◌∙◌}
 use Rattle.std.proofs.lemmas.List.{append-nil}
-use Rattle.std.specs.Io.KnownBytes.{Appends}
+use Rattle.std.specs.Io.KnownBytes.{Appends, Consumes, IsAtEnd}
 use Rattle.device.specs.Passing.{PassesOn}
 use Rattle.device.specs.Private.Joined.{Appends_joined}
 use Rattle.device.specs.Private.Passed.{PassesOn_joined}
 use Rattle.device.specs.Streams.{writer_of}
 use Rattle.device.specs.declared.streams.StdSink.{StdSink}
-use Rattle.filter.proofs.RunLaws.{RunStops-by}
+use Rattle.filter.specs.Output.{script}
+use Rattle.filter.specs.Run.{IsAllOf}
+use Rattle.filter.specs.Script.{FlushedImagesAtMost}
+use Rattle.filter.proofs.RunLaws.{RunRaises-passed, RunStops-by}
+use Rattle.filter.proofs.ScriptLaws.{images_by, Took-by}
 use Rattle.filter.proofs.streams.run_streams.Goals as goal
+
+-- a reader that is at its end gave all that it had
+all_of : (old new : Option (List ℕ)) (text : List ℕ) → Consumes old new text → IsAtEnd new → IsAllOf old text
+all_of None new text gave end = tt
+all_of (Some bytes) None text gave end = absurd gave
+all_of (Some bytes) (Some rest) text gave end =
+    sym (gave ∙ (ap (λ (xs : List ℕ). text ++ xs) end ∙ append-nil text))
+
+pub returns-in-Ok : goal.returns-in-Ok
+returns-in-Ok g c =
+    let h = c.in-Ok.ensures in
+    let p = h.produces in
+    record {
+      runs = record {
+        produces = record { text = p.text; given = p.given; sends = p.sends; status = p.status; read = p.read };
+        ended = h.ended;
+        flushed = h.flushed;
+      };
+      whole = record {
+        text = p.text;
+        given = all_of _ _ p.text p.given.0 h.ended.1;
+        sends = Took-by c.args.options (images_by _ _ _ (λ bytes took. c.reaches.ensures.bytes h.flushed.0 _ _ bytes took))
+            (script c.args.options p.text) p.sends;
+        status = p.status;
+        read = p.read;
+      };
+      reaches = (c.reaches.ensures.buffered h.flushed.0, c.reaches.ensures.below h.flushed.0);
+    }
 
 -- A buffer before a writer of std that took a text, and then no more. The states and what is buffered in each are
 -- arguments, since what a writer has may be unknown.
@@ -20,12 +52,27 @@ passed_on contents s t u a b c text first second =
     (PassesOn_joined _ s t u a b c text []
     (Appends_joined (contents (writer_of s)) (contents (writer_of t)) (contents (writer_of u))) first second)
 
-pub returns-in-Err-clause-stops : goal.returns-in-Err-clause-stops
-returns-in-Err-clause-stops g c =
-    let h = c.in-Err.ensures.stops in (
-      h.0,
-      h.1,
-      RunStops-by c.args.options _ _ _
-          (λ text taken. passed_on g.W.Write.contents _ _ _ _ _ _ text taken c.pass_on.ensures.passes.bytes) h.0
-          c.in-Err.fault h.2,
-    )
+pub returns-in-Err : goal.returns-in-Err
+returns-in-Err g c =
+    let h = c.in-Err.ensures in
+    let p = h.produces in
+    record {
+      runs = record {
+        produces = record {
+          text = p.text;
+          given = (p.given.0, RunRaises-passed _ _ _ _ _ _ _ _ p.text c.in-Err.fault c.pass_on_after.ensures.passes
+              p.given.1);
+          sends = RunStops-by c.args.options (images_by _ _ _ (λ bytes took.
+              passed_on g.W.Write.contents _ _ _ _ _ _ bytes took c.pass_on_after.ensures.bytes)) p.text c.in-Err.fault
+              p.sends;
+          status = tt;
+          read = p.read;
+        };
+        ended = tt;
+        flushed = subst (λ (mark : Bool). FlushedImagesAtMost c.args.out.now.is_flushed mark
+            (g.E.Sink.is_flushed c.args.err.now) (g.E.Sink.is_flushed c.run.new.err) c.in-Err.fault)
+            (sym c.pass_on_after.ensures.flushed) h.flushed;
+      };
+      whole = tt;
+      reaches = tt;
+    }

@@ -1,37 +1,12 @@
-use Rattle.std.proofs.Common.{◌≡◌, ◌+◌, ◌-◌, ◌/◌, ◌∙◌, ◌*◌, ℕ, false, length, zero-mul, ap, sym, arith}
+use Rattle.std.proofs.Common.{◌≡◌, ◌/◌, ◌∙◌, ℕ, false, length, ap, sym, arith}
 use Rattle.std.proofs.Math.ListN.{get_or}
 use Rattle.std.proofs.Math.Nat.{div-one}
 use Rattle.std.proofs.lemmas.List.FromFn.{fill_by_all}
-use Rattle.picture.proofs.GridLaws.{spread_more}
 use Rattle.picture.proofs.scaled.spread.Goals as goal
 
-pub returns-then-scale-eq1 : goal.returns-then-scale-eq1
-returns-then-scale-eq1 c =
+pub returns-in-1 : goal.returns-in-1
+returns-in-1 c =
     let ps = c.args.pixels.now in
     let one : c.args.scale ≡ 1 = omega arith in
     fill_by_all (λ x. get_or ps (x / c.args.scale) false) ps (length ps) false (omega arith)
     (λ k h. sym (ap (λ (n : ℕ). get_or ps (k / n) false) one ∙ ap (λ (n : ℕ). get_or ps n false) (div-one k)))
-
-pub loop-x-preserved : goal.loop-x-preserved
-loop-x-preserved c =
-    let h = c.loop-x.invariant in
-    let s = c.args.scale in
-    let x = c.loop-x.x - 1 in
-    let next : c.loop-x.x ≡ x + 1 = omega arith in
-    let place : c.loop-x.x * s ≡ (x + 1) * s = ap (λ (n : ℕ). n * s) next in
-    let e = c.widen.ensures in
-    record {
-      size = e.size ∙ h.size;
-      done = λ k low inside. spread_more c.args.pixels.now c.loop-x.pixels c.widen.new.pixels x s (omega arith)
-          (λ k low inside. h.done k (omega arith) (omega arith)) (λ k low. h.rest k (omega arith))
-          e.square e.after k low (omega arith);
-      rest = λ k low. e.before k low ∙ h.rest k (omega arith);
-    }
-
-pub returns : goal.returns
-returns c =
-    let first : c.loop-x.x ≡ 0 = omega arith in
-    let none : c.loop-x.x * c.args.scale ≡ 0 = ap (λ (n : ℕ). n * c.args.scale) first ∙ zero-mul c.args.scale in
-    fill_by_all (λ x. get_or c.args.pixels.now (x / c.args.scale) false) c.loop-x.pixels (length c.args.pixels.now)
-    false (omega arith)
-    (λ k h. c.loop-x.invariant.done k (omega arith) (omega arith))

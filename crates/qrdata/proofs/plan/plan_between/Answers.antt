@@ -1,4 +1,4 @@
-use Rattle.std.proofs.Common.{◌≡◌, ◌≤◌, ◌*◌, ◌∙◌, arith, inl, inr, refl}
+use Rattle.std.proofs.Common.{◌≡◌, ◌≤◌, ◌*◌, ◌∙◌, ap, arith, inl, inr, length, refl}
 use Rattle.std.proofs.lemmas.Bool.{cases_lt}
 use Rattle.qrdata.specs.Fewest.{chosen_segments}
 use Rattle.qrdata.specs.Segments.{cost}
@@ -7,6 +7,7 @@ use Rattle.qrdata.specs.Versions.{capacity, data_codewords}
 use Rattle.qrdata.proofs.BoundLaws.{few_segments, third}
 use Rattle.qrdata.proofs.FewestBitsLaws.{chosen_segments-is}
 use Rattle.qrdata.proofs.FirstsTableLaws.{NamesBest-of, capacity_as_wide, fewest_bits-below, fewest_bits-is}
+use Rattle.qrdata.proofs.FirstsTableLaws.{length-firsts_of}
 use Rattle.qrdata.proofs.VersionLaws.{capacity-le, capacity-rising, data_codewords-few}
 use Rattle.qrdata.proofs.plan.plan_between.Goals as goal
 use Rattle.qrdata.proofs.plan.plan_between.Goals.{After-data_codewords-in-loop-number}
@@ -85,17 +86,18 @@ plan_of-requires-clause-table c =
     let number = c.loop-number.number in
     let here = (goal.at.plan_of-requires-clause-table c).After-data_codewords-in-loop-number in
     let known = is_version here in
+    let firsts = c.as_slice.ensures.value ∙ (rw c.of-widest.ensures at c.fill-bits.ensures.firsts) in
     record {
       few = c.requires.few;
-      size = c.fill-bits.auto.firsts;
+      size = ap length firsts ∙ length-firsts_of c.args.highest c.args.bytes.now;
       named = rw c.of-version.ensures (NamesBest-of number c.args.highest (same_widths here) c.args.bytes.now
-          c.fill-bits.result c.fill-bits.new.firsts c.requires.few
+          c.fill-bits.result c.as_slice.result.now c.requires.few
           (omega (
             arith,
             codewords_are here,
             c.if-bits-data_codewords.true,
             capacity_as_wide number c.args.highest c.args.level (same_widths here) known.0 known.1,
-          )) (rw c.of-widest.ensures at c.fill-bits.ensures.firsts));
+          )) firsts);
     }
 
 pub plan_of-requires-clause-bits : goal.plan_of-requires-clause-bits

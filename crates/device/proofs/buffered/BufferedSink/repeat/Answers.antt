@@ -1,6 +1,5 @@
-use Rattle.std.proofs.Common.{ap, arith, refl, subst, sym, ◌+◌, ◌-◌, ◌∙◌, length}
+use Rattle.std.proofs.Common.{arith, refl, subst, sym, ◌+◌}
 use Rattle.std.specs.Prelude.{slice_range}
-use borrow.Rule.Slice.PartMut.{put_mid}
 use Rattle.device.specs.Passing.{PassesOn}
 use Rattle.device.proofs.PassingLaws.{PassesOn-repeated}
 use Rattle.device.proofs.buffered.BufferedSink.repeat.Goals as goal

@@ -1,0 +1,73 @@
+-- A text that is written many times.
+use Rattle.std.proofs.Common.{◌≡◌, ℕ, suc, zero, ◌+◌, ◌-◌, ◌*◌, ◌<◌, ◌≤◌, Bool, true, List, ◌++◌, Ok, refl, ap, sym}
+use Rattle.std.proofs.Common.{subst, ◌∙◌, arith, append_assoc, flat_map, length, length-append}
+use Rattle.std.specs.List.{range_with_len}
+use Rattle.std.proofs.lemmas.Bool.{false≢true}
+use Rattle.device.specs.Sink.{RepeatsBytes}
+use Rattle.device.specs.Writing.{WritesText}
+use Rattle.device.specs.declared.sink.Sink.{Ghosts}
+use Rattle.picture.specs.Private.Rows.{EndsWith, repeated}
+use Rattle.picture.proofs.WritingLaws.{flat_map-below_add, flat_map-below_more}
+
+-- one text for each of n numbers, from a or from y on
+pub same_texts : (f : ℕ → List ℕ) (text : List ℕ) (a y n : ℕ) → ((k : ℕ) → y ≤ k → k < y + n → text ≡ f k)
+    → flat_map (λ _. text) (range_with_len a n) ≡ flat_map f (range_with_len y n)
+same_texts f text a y zero same = refl
+same_texts f text a y (suc n) same =
+    ap (λ (t : List ℕ). t ++ flat_map (λ _. text) (range_with_len (a + 1) n)) (same y (omega arith) (omega arith))
+    ∙ ap (λ (t : List ℕ). f y ++ t)
+    (same_texts f text (a + 1) (y + 1) n (λ k low high. same k (omega arith) (omega arith)))
+
+pub repeated-add : (text : List ℕ) (n m : ℕ) → repeated (n + m) text ≡ repeated n text ++ repeated m text
+repeated-add text n m = flat_map-below_add (λ _. text) n m
+    ∙ ap (λ (t : List ℕ). repeated n text ++ t) (sym (same_texts (λ _. text) text 0 n m (λ k low high. refl)))
+
+pub length-repeated : (text : List ℕ) (n : ℕ) → length (repeated n text) ≡ n * length text
+length-repeated text zero = omega arith
+length-repeated text (suc n) =
+    let next : suc n ≡ n + 1 = omega arith in
+    let more : length (repeated (n + 1) text) ≡ length (repeated n text) + length text =
+    ap length (flat_map-below_more (λ _. text) n) ∙ length-append (repeated n text) text in
+    ap (λ (k : ℕ). length (repeated k text)) next ∙ omega (arith, more, length-repeated text n)
+
+-- a text that was written n times was written m times last
+pub EndsWith-repeated : {S : Type 0} (took : S → S → List ℕ → Type 0) (s t : S) (text : List ℕ) (n m : ℕ) → m ≤ n
+    → took s t (repeated n text) → EndsWith took t (repeated m text)
+EndsWith-repeated took s t text n m few h =
+    let parts : n ≡ (n - m) + m = omega arith in (
+      s,
+      (
+        repeated (n - m) text,
+        subst (took s t) (ap (λ (k : ℕ). repeated k text) parts
+            ∙ repeated-add text (n - m) m) h,
+      ),
+    )
+
+-- a text that was written n times last, and then k times, was written last
+pub EndsWith-more : {S : Type 0} (took : S → S → List ℕ → Type 0) (took_joined : (s t u : S) (xs ys : List ℕ)
+    → took s t xs → took t u ys → took s u (xs ++ ys)) (s t : S) (text : List ℕ) (n k : ℕ) → 0 < n
+    → EndsWith took s (repeated n text) → took s t (repeated k text) → EndsWith took t text
+EndsWith-more took took_joined s t text n k some last more =
+    let before = last.1.0 in
+    let parts : n + k ≡ (n + k - 1) + 1 = omega arith in
+    let texts : repeated n text ++ repeated k text ≡ repeated (n + k - 1) text ++ text = sym (repeated-add text n k)
+    ∙ (ap (λ (m : ℕ). repeated m text) parts ∙ flat_map-below_more (λ _. text) (n + k - 1)) in (
+      last.0,
+      (
+        before ++ repeated (n + k - 1) text,
+        subst (took last.0 t) (append_assoc before (repeated n text)
+            (repeated k text) ∙ (ap (λ (xs : List ℕ). before ++ xs) texts
+            ∙ sym (append_assoc before (repeated (n + k - 1) text) text)))
+            (took_joined last.0 s t (before ++ repeated n text) (repeated k text) last.1.1 more),
+      ),
+    )
+
+-- a repeat writes what the sink took last
+pub WritesText-repeated : {S T E : Type 0} (sink : Ghosts S) (s t : S) (text : List ℕ) (size : ℕ) (r : Bool) (x : T)
+    → r ≡ true → length text ≡ size → EndsWith sink.took s text
+    → RepeatsBytes sink.failures sink.is_flushed sink.took s t size r → WritesText {E = E} sink s t text (Ok x)
+WritesText-repeated sink s t text size r x done whole last h = record {
+  bytes = h.bytes done last.0 last.1.0 text whole last.1.1;
+  count = h.count;
+  unflushed = λ flushed. absurd (false≢true (sym (h.flushed done) ∙ flushed));
+}

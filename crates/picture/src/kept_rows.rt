@@ -1,0 +1,130 @@
+//! The rows of a grid that is narrow enough to keep one of them: each row is rendered once for all that equal it.
+ghost use Rattle.std.specs.Prelude.{◌+◌, ◌*◌, ◌^◌, ◌<◌, ◌≤◌, length, max, take};
+ghost use Rattle.device.specs.Writing.{WritesText};
+ghost use Rattle.picture.specs.Private.Rows.{EndsWith, repeated, row_text, rows_text};
+
+use crate::grid::Grid;
+use crate::rows::{PIECE, PIECE_ROOM, PixelText};
+use device::{IoFault, Sink, write_whole};
+
+/// The bytes of rows that are repeated at once: one long copy takes less than many short ones, and a short one has a
+/// place in the buffer more often.
+const BLOCK: usize = 4096;
+
+/// Writes the rows of the grid, and keeps each at the front of `kept` for the rows that equal it.
+///
+/// # Errors
+///
+/// The sink's error. A beginning of the rows is written then.
+pub fn write_kept_rows<T: PixelText, G: Grid, S: Sink>(
+    grid: &G,
+    kept: &mut [bool],
+    sink: &mut S,
+) -> Result<(), IoFault>
+    requires { (G.picture grid.now).width + 80 ≤ length kept.old }
+    ensures { WritesText S.Sink sink.old sink.new
+        (rows_text T.text T.row_end (G.picture grid.now)) result }
+{
+    let width = grid.width();
+    let height = grid.height();
+    let mut y = 0;
+    while y < height {
+        grid.read_row(y, &mut kept[..width]);
+        let count = grid.equal_rows(y);
+        write_equal_rows::<T, S>(kept, width, count, sink)?;
+        y += count;
+    }
+    Ok(())
+}
+
+/// Writes the row of `width` pixels at the front of `kept`, `count` times.
+fn write_equal_rows<T: PixelText, S: Sink>(
+    kept: &[bool],
+    width: usize,
+    count: usize,
+    sink: &mut S,
+) -> Result<(), IoFault>
+    requires some { 0 < count }
+    requires fits { width + 80 ≤ length kept.now }
+    ensures { WritesText S.Sink sink.old sink.new
+        (repeated count (row_text T.text T.row_end (take width kept.now))) result }
+{
+    write_row::<T, S>(kept, width, sink)?;
+    let at_once = rows_at_once(T::row_len(width));
+    let mut written = 1;
+    while written < count {
+        let rows = at_once.min(written).min(count - written);
+        repeat_rows::<T, S>(kept, width, rows, sink)?;
+        written += rows;
+    }
+    Ok(())
+}
+
+/// Returns how many rows are repeated at once where the text of one has `len` bytes: as many as have `BLOCK` bytes, and
+/// at least one.
+fn rows_at_once(len: usize) -> usize
+    ensures some { 0 < result }
+    ensures most { result * len ≤ max 4096 len }
+{
+    (BLOCK / len.max(1)).max(1)
+}
+
+/// Writes the row of `width` pixels at the front of `kept` `count` times, after it was written as often. The sink
+/// repeats these rows at once where it still has them, else one by one.
+fn repeat_rows<T: PixelText, S: Sink>(
+    kept: &[bool],
+    width: usize,
+    count: usize,
+    sink: &mut S,
+) -> Result<(), IoFault>
+    requires some { 0 < count }
+    requires fits { width + 80 ≤ length kept.now }
+    requires last { EndsWith S.took sink.old
+        (repeated count (row_text T.text T.row_end (take width kept.now))) }
+    requires short { length (repeated count (row_text T.text T.row_end (take width kept.now))) < 2 ^ 64 }
+    ensures { WritesText S.Sink sink.old sink.new
+        (repeated count (row_text T.text T.row_end (take width kept.now))) result }
+{
+    if sink.repeat(count * T::row_len(width)) {
+        return Ok(());
+    }
+    for _again in 0..count {
+        repeat_row::<T, S>(kept, width, sink)?;
+    }
+    Ok(())
+}
+
+/// Writes the row of `width` pixels at the front of `kept`, which was written last. The sink repeats it where it still
+/// has it.
+fn repeat_row<T: PixelText, S: Sink>(
+    kept: &[bool],
+    width: usize,
+    sink: &mut S,
+) -> Result<(), IoFault>
+    requires fits { width + 80 ≤ length kept.now }
+    requires last { EndsWith S.took sink.old (row_text T.text T.row_end (take width kept.now)) }
+    ensures { WritesText S.Sink sink.old sink.new
+        (row_text T.text T.row_end (take width kept.now)) result }
+{
+    if sink.repeat(T::row_len(width)) {
+        return Ok(());
+    }
+    write_row::<T, S>(kept, width, sink)
+}
+
+/// Writes the row of `width` pixels at the front of `kept`.
+fn write_row<T: PixelText, S: Sink>(
+    kept: &[bool],
+    width: usize,
+    sink: &mut S,
+) -> Result<(), IoFault>
+    requires { width + 80 ≤ length kept.now }
+    ensures { WritesText S.Sink sink.old sink.new
+        (row_text T.text T.row_end (take width kept.now)) result }
+{
+    for k in 0..width.div_ceil(PIECE) {
+        let x = PIECE * k;
+        T::write_piece(&kept[x..x + PIECE_ROOM], PIECE.min(width - x), sink)?;
+    }
+    write_whole(T::row_end(), sink)
+}
