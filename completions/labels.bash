@@ -15,8 +15,8 @@ _labels() {
             ;;
         label-table)
             options='--code= --title= --text= --price= --copies= --symbology=auto,ean13,ean8,upca,code128,qr'
-            options+=' --settings= --fill-zeros --without-check-digit --sheet= --decimal= --hidden --delimiter='
-            options+=' --encoding= --header --no-header --help'
+            options+=' --settings= --fill-zeros --without-check-digit --allow-zeros --sheet= --decimal= --hidden'
+            options+=' --delimiter= --encoding= --header --no-header --help'
             ;;
         label-print)
             options='--stock= --list-stock= --paper= --page= --columns= --rows= --cell= --margin= --gap='
@@ -24,7 +24,7 @@ _labels() {
             options+=' --to=pdf,svg,png,pbm,zpl,escpos --each=FILE --dots= --no-cut --font= --digits= --labels='
             options+=' --read-back --help'
             ;;
-        *) options='--help' ;;
+        *) options='--labels= --help' ;;
     esac
     COMPREPLY=()
     for option in $options; do

@@ -16,6 +16,7 @@ complete -c label-table -l symbology -x -a 'auto ean13 ean8 upca code128 qr' -d 
 complete -c label-table -l settings -x -d 'Settings for the head of each line'
 complete -c label-table -l fill-zeros -d 'Put lost zeros back'
 complete -c label-table -l without-check-digit -d 'The numbers have no check digit'
+complete -c label-table -l allow-zeros -d 'Take numbers that end in many zeros'
 complete -c label-table -l sheet -x -d 'Sheet of the workbook'
 complete -c label-table -l decimal -x -d 'Decimal sign of prices'
 complete -c label-table -l hidden -d 'Take hidden rows too'
@@ -48,6 +49,8 @@ complete -c label-print -l font -x -d 'Font of the letters'
 complete -c label-print -l digits -x -d 'Font of the digits'
 complete -c label-print -l labels -x -d 'Options for labels'
 complete -c label-print -l read-back -d 'Read each label back before printing'
+
+complete -c label-lines -l labels -x -d 'Options for labels'
 
 for command in labels label-table label-print label-lines
     complete -c $command -s h -l help -d 'Print help'
