@@ -124,22 +124,6 @@ def code128_of_one_set(draw):
         yield Label("code128", data.encode(), data.encode(), 2 + number % 3, zint=("-b", "CODE128", "-d", data))
 
 
-def qr_by_settings(draw):
-    """QR labels at each level, mask and smallest version, with some data of each kind."""
-    for level in "LMQH":
-        for number in range(24):
-            version, mask = 1 + number % 10, "auto" if number >= 16 else str(number % 8)
-            length = 1 + draw.randrange(40)
-            data = (
-                "".join(draw.choices(DIGITS, k=length)).encode(),
-                "".join(draw.choices(ALPHANUMERIC, k=length)).encode(),
-                bytes(draw.choices(range(0x20, 0x7F), k=length)),
-                b"https://example.com/" + str(draw.randrange(10**12)).encode() + b"/ABC-" + b"x" * number,
-            )[number % 4]
-            head = f"qr,level={level},mask={mask},min-version={version}"
-            yield Label(head, data, data, 2 + number % 3, number % 2 == 1)
-
-
 def qr_of_one_mode(draw):
     """QR labels of one mode: each version with each level and each mask."""
     alphabets = (DIGITS, f"{LETTERS} $%*+-./:", "abcdefghijklmnopqrstuvwxyz!#&()<=>?@[]_{|}~")
@@ -181,7 +165,7 @@ def qr_of_bytes(draw):
 
 def all_labels():
     draw = random.Random(18004)
-    parts = (ean_and_upc, code128, code128_of_one_set, qr_by_settings, qr_of_one_mode, qr_by_capacity, qr_of_bytes)
+    parts = (ean_and_upc, code128, code128_of_one_set, qr_of_one_mode, qr_by_capacity, qr_of_bytes)
     return [label for part in parts for label in part(draw)]
 
 

@@ -89,19 +89,19 @@ try_package() {
     cp "$deb" "$root/labels.deb"
     dpkg-deb --fsys-tarfile "$deb" | tar -t > "$root/paths"
     try 'apt-get install ./labels.deb' inside apt-get install -y ./labels.deb
+    /usr/bin/python3 -c 'import openpyxl, sys
+book = openpyxl.Workbook()
+book.active.append(["EAN", "Artikel", "Preis"])
+book.active.append(["4006381333931", "Bleistift 2B", "0,80 €"])
+book.active.append(["4006381333948", "Bleistift HB", "0,90 €"])
+book.save(sys.argv[1])' "$root/articles.xlsx"
     cat > "$root/try.sh" << 'END'
 set -eu
 mkdir -p /root/shop && cd /root/shop
 case $1 in
     label) echo 'ean8 7351353' | labels | head -n 1 | grep -x P1 ;;
     table)
-        python3 -c 'import openpyxl
-book = openpyxl.Workbook()
-book.active.append(["EAN", "Artikel", "Preis"])
-book.active.append(["4006381333931", "Bleistift 2B", "0,80 €"])
-book.active.append(["4006381333948", "Bleistift HB", "0,90 €"])
-book.save("articles.xlsx")'
-        label-table --code EAN --title Artikel --price Preis articles.xlsx > articles.lines
+        label-table --code EAN --title Artikel --price Preis /articles.xlsx > articles.lines
         [ "$(grep -c '^ean13 ' articles.lines)" = 2 ]
         ;;
     sheet) label-print --stock 'Avery L7160' articles.lines | head -c 5 | grep %PDF- ;;

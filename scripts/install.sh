@@ -138,12 +138,10 @@ uninstall() {
 
 # Says what is still to do.
 print_notes() {
-    local package missing=()
+    local packages
     case :$PATH: in *:"$prefix/bin":*) ;; *) echo "note: $prefix/bin is not on the path" ;; esac
-    while read -r package; do
-        dpkg-query -W -f='${db:Status-Status}' "$package" 2> /dev/null | grep -qx installed || missing+=("$package")
-    done < <(sed -nE 's/^(\S+)\s+\* .*/\1/p' "$top/scripts/packages.txt")
-    [ ${#missing[@]} -eq 0 ] || echo "note: the tools need, on Debian: apt-get install ${missing[*]}"
+    packages=$(sed -nE 's/^(\S+)\s+\* .*/\1/p' "$top/scripts/packages.txt" | paste -sd ' ')
+    echo "note: the tools need, on Debian: apt-get install $packages"
     ! command -v zsh > /dev/null || echo "note: for zsh: fpath=($prefix/share/zsh/site-functions \$fpath)"
 }
 

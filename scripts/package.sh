@@ -102,9 +102,9 @@ Version: $version
 Architecture: amd64
 Maintainer: $maintainer
 Installed-Size: $size
-Depends: $(needed_libraries), python3 (>= 3.11), python3-gi, python3-gi-cairo, gir1.2-pango-1.0, python3-openpyxl
+Depends: $(needed_libraries), python3 (>= 3.11), python3-gi, python3-gi-cairo, gir1.2-pango-1.0
 Recommends: glabels-data, fonts-dejavu-core
-Suggests: fonts-ocr-b, python3-zxing-cpp, bash-completion
+Suggests: fonts-noto-core, fonts-noto-cjk, fonts-ocr-b, python3-zxing-cpp, bash-completion
 Section: text
 Priority: optional
 Description: proved bar codes and QR codes, from tables to printers

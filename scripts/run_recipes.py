@@ -28,7 +28,6 @@ import shutil
 import subprocess
 import sys
 import tempfile
-import time
 from pathlib import Path
 from typing import Dict, List, NamedTuple, Optional
 
@@ -38,8 +37,6 @@ PAGES = ("README.md", "docs/INPUT.md", "docs/PRINTING.md", "docs/RECIPES.md")
 FOLDERS = ("man", "completions", "tools", "docs", "scripts")
 SECONDS = 3600
 PROMPT, CONTINUED = "$ ", "> "
-
-MAIN_MAN_PAGE = "labels.1"
 
 BLOCK = re.compile(r"^```(sh|sh kit)\n(.*?)^```\n(?:\n*^```text\n(.*?)^```$)?", re.MULTILINE | re.DOTALL)
 ANY_BLOCK = re.compile(r"^```.*?^```$", re.MULTILINE | re.DOTALL)
@@ -104,10 +101,9 @@ def pixels(picture: Path) -> bytes:
 class Run:
     """Counts what was tried, and what was as printed."""
 
-    def __init__(self, program: Optional[Path], with_kit: bool, with_times: bool) -> None:
+    def __init__(self, program: Optional[Path], with_kit: bool) -> None:
         self.program = program
         self.with_kit = with_kit
-        self.with_times = with_times
         self.count = self.good = 0
         self.kept = tempfile.TemporaryDirectory()
 
@@ -156,18 +152,9 @@ class Run:
         shown = SHOWN_FILE.fullmatch(block.commands) if block.may_fail else None
         if shown and not (work / shown[1]).exists():
             (work / shown[1]).write_text(block.printed or "", encoding="utf-8")
-        before = time.monotonic()
-        ran = subprocess.run(
-            ["sh", "-c", block.commands],
-            cwd=work,
-            env=environment,
-            stdin=subprocess.DEVNULL,
-            stdout=subprocess.PIPE,
-            stderr=subprocess.STDOUT,
-            timeout=SECONDS,
-        )
-        if self.with_times:
-            print(f"{time.monotonic() - before:7.1f} s  {name}: {block.commands.splitlines()[0]}", flush=True)
+        how = {"cwd": work, "env": environment, "stdin": subprocess.DEVNULL, "timeout": SECONDS}
+        output = {"stdout": subprocess.PIPE, "stderr": subprocess.STDOUT}
+        ran = subprocess.run(["sh", "-c", block.commands], **how, **output)
         printed = DATABAR.sub("", ran.stdout.decode("utf-8", "backslashreplace"))
         is_good = (ran.returncode == 0 or block.may_fail) and block.printed in (None, printed)
         self.judge(is_good, f"{name}: status {ran.returncode} of:\n{block.commands}it printed:\n{printed}")
@@ -195,9 +182,9 @@ class Run:
         """Runs the examples of each man page."""
         for page in sorted((TOP / "man").glob("*.1")):
             blocks = examples_of(page)
-            if page.name != MAIN_MAN_PAGE:
+            if page.name != "labels.1":
                 blocks = [block for block in blocks if block.printed is not None]
-            if blocks or page.name == MAIN_MAN_PAGE:
+            if blocks or page.name == "labels.1":
                 self.try_page(f"man/{page.name}", blocks)
 
 
@@ -206,7 +193,6 @@ def parse_arguments() -> argparse.Namespace:
     parser = argparse.ArgumentParser(description=__doc__, formatter_class=argparse.RawDescriptionHelpFormatter)
     parser.allow_abbrev = False
     parser.add_argument("--kit", action="store_true", help="run the blocks that call the kit too, in a fresh clone")
-    parser.add_argument("--times", action="store_true", help="print the seconds of each block")
     parser.add_argument("program", metavar="PROGRAM", nargs="?", type=Path, help=f"the program ({PROGRAM})")
     arguments = parser.parse_args()
     if arguments.program is None and not arguments.kit:
@@ -220,7 +206,7 @@ def parse_arguments() -> argparse.Namespace:
 
 def main() -> int:
     arguments = parse_arguments()
-    run = Run(arguments.program, arguments.kit, arguments.times)
+    run = Run(arguments.program, arguments.kit)
     for page in PAGES:
         run.try_page(page, blocks_of(page, arguments.kit))
     run.try_man_pages()
