@@ -51,7 +51,7 @@ def is_right(digits: str) -> bool:
 
 
 def number_of(cell: str, arguments: argparse.Namespace) -> Tuple[str, str]:
-    """Returns the symbology and digits of a number, with lost zeros put back; raises RowError where one is not sure."""
+    """Returns the symbology and digits of a number, with lost zeros; raises RowError where they are not sure."""
     digits = cell if arguments.without_check_digit else plain_digits(cell)
     check_digits(digits, arguments)
     if len(digits) == 14 and digits[0] == "0" and is_right(digits) and not arguments.without_check_digit:
@@ -99,7 +99,7 @@ def check_digits(digits: str, arguments: argparse.Namespace) -> None:
 
 
 def symbology_of(digits: str, arguments: argparse.Namespace) -> str:
-    """Returns the symbology of a number by its digits; raises RowError where none has that number, or two may be meant."""
+    """Returns the symbology of a number by its digits; raises RowError where there is none, or two may be meant."""
     count, missing = len(digits), 1 if arguments.without_check_digit else 0
     lengths = {length - missing: symbology for symbology, length in LENGTHS.items()}
     if digits[0] == "0" and count == 8 - missing or arguments.fill_zeros and count == 7 and is_right(digits):

@@ -47,7 +47,11 @@ def rows_of_csv(data: bytes, name: str, columns: List[str], arguments: argparse.
 def decoded(data: bytes, name: str, encoding: Optional[str]) -> str:
     """Returns the text of a table, without a byte order mark; raises TableError or BadArgument with what to do."""
     mark = next((mark_name for mark, mark_name in MARKS.items() if data.startswith(mark)), None)
-    codec = codecs.lookup(encoding).name if encoding else (mark or "UTF-8").lower()
+    try:
+        codec = codecs.lookup(encoding or mark or "UTF-8").name
+        "a".encode(codec)
+    except (LookupError, UnicodeError):
+        raise BadArgument(f'"{encoding}" is no name of an encoding, as latin-1 or cp1252') from None
     if mark and not codec.startswith(mark.lower()):
         raise BadArgument(f"{name} begins with the mark of {mark}: leave --encoding {encoding} away")
     if b"\0" in data and not codec.startswith(("utf-16", "utf-32")):
@@ -63,15 +67,14 @@ def decoded(data: bytes, name: str, encoding: Optional[str]) -> str:
         raise TableError(undecoded(data, name, codec, error)) from None
     if "\0" in text:
         raise TableError(f"{name} has zero characters: it is no table")
-    return text[1:] if text.startswith("\ufeff") else text
+    return text.removeprefix("\ufeff")
 
 
 def is_utf8(data: bytes) -> bool:
     try:
-        data.decode("utf-8")
+        return bool(data.decode("utf-8"))
     except UnicodeDecodeError:
         return False
-    return True
 
 
 def undecoded(data: bytes, name: str, codec: str, error: UnicodeError) -> str:
@@ -80,7 +83,7 @@ def undecoded(data: bytes, name: str, codec: str, error: UnicodeError) -> str:
     if codec.startswith(("utf-16", "utf-32")):
         what += ", or it is cut off"
     elif isinstance(error, UnicodeDecodeError):
-        line = 1 + data[: error.start].replace(b"\r\n", b"\n").replace(b"\r", b"\n").count(b"\n")
+        line = 1 + len(re.findall(b"\r\n|\r|\n", data[: error.start]))
         what += f" (byte 0x{data[error.start]:02x} in line {line} of the file)"
     encoding = "cp1252 for an old file of Windows" if codec == "utf-8" else "with its right name"
     return f"{what}: save it as UTF-8, or give --encoding {encoding}"
@@ -113,9 +116,8 @@ def delimiter_of(text: str, given: Optional[str], columns: List[str], is_free: b
 
 def asked(delimiter: str, what: str) -> BadArgument:
     option = "tab" if delimiter == "\t" else f"'{delimiter}'"
-    return BadArgument(
-        f"{what} {named(delimiter)}: give --delimiter {option} if it is between cells, --delimiter none if it is data"
-    )
+    hint = f"give --delimiter {option} if it is between cells, --delimiter none if it is data"
+    return BadArgument(f"{what} {named(delimiter)}: {hint}")
 
 
 def fitness(text: str, delimiter: str, columns: List[str]) -> Tuple[bool, int]:
@@ -146,17 +148,17 @@ def parsed(text: str, delimiter: str) -> Iterator[Row]:
             return
         except csv.Error as error:
             problem = "a quote is not closed"
-            if reader.line_num == before + 1 and "expected after" in str(error):
+            is_one_line = reader.line_num == before + 1
+            if is_one_line and "expected after" in str(error):
                 problem = 'text after a closing quote: write a quote in a quoted cell twice ("")'
-            if reader.line_num == before + 1 and last[0].count('"') % 2 == 0:
-                yield Row(number, [], problem)
-                continue
-            yield Row(number, [], f"{problem}; this row and all below it are left out")
-            return
+            is_last = not is_one_line or last[0].count('"') % 2 == 1
+            yield Row(number, [], problem + ("; this row and all below it are left out" if is_last else ""))
+            if is_last:
+                return
 
 
 def checked(rows: Iterator[Row]) -> Iterator[Row]:
-    """Yields rows; one with fewer or more cells than the first gets a problem: a cell may be that of another column."""
+    """Yields rows; one with fewer or more cells than the first has a problem: a cell may be that of another column."""
     first: Optional[Row] = None
     fewest = most = 0
     for row in rows:

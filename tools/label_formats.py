@@ -1,13 +1,13 @@
 """Shows a number as the number format of its cell says (ISO/IEC 29500-1, 18.8.31).
 
-Formats that depend on the spreadsheet's language, and those of hours, fractions, conditions and exponents, are refused.
+Formats of hours, fractions, conditions and names of days, and those that depend on the language, are refused.
 """
 
 import re
 from datetime import date, timedelta
-from decimal import ROUND_HALF_UP, Context, Decimal, InvalidOperation
+from decimal import ROUND_HALF_UP, Context, Decimal
 from functools import lru_cache
-from typing import List, Optional, Tuple
+from typing import List, Tuple
 
 from label_cells import RowError, shown
 
@@ -18,17 +18,13 @@ BUILT_IN = {
 }
 SECTION = re.compile(r'((?:"[^"]*"|\\.|[_*].|\[[^\]]*\]|[^;"\\_*\[])*);', re.DOTALL)
 TOKEN = re.compile(
-    r"""(?P<number>General|@|[0\#?][0\#?,]*(?:\.[0\#?]*)?|\.[0\#?]+) | (?P<date>d+|m+|y+) | (?P<percent>%)
+    r"""(?P<number>General|@|[0\#?][0\#?,]*(?:\.[0\#?]*)?(?:E\+0+)?|\.[0\#?]+) | (?P<date>d+|m+|y+) | (?P<percent>%)
       | "(?P<quoted>[^"]*)" | \\(?P<escaped>.) | \[\$(?P<currency>[^\]-]*)(?:-[0-9A-F]*)?\] | (?P<space>_.)
       | (?P<nothing>\*.|\[(?:black|blue|cyan|green|magenta|red|white|yellow|color\ ?[0-9]+)\])
       | (?P<plain>[-+/():!^&'~{}<>=.\ $]|[^\x00-\x7f])""",
     re.IGNORECASE | re.VERBOSE | re.DOTALL,
 )
 SHOWN_KINDS = {"space": ("text", " "), "nothing": ("text", "")}
-# the format of a number that is shown by its digits, with zeros in front, thousands or decimals, and nothing else
-DIGITS = re.compile(
-    r"(?:\[[a-z]+\]|[_*].|\\ | )*(?:(0+)(?:\.0+)?|General|@|[0#?,]+(?:\.[0#?]*)?|[0#.]+E\+0+)(?:[_*].|\\ | )*", re.I
-)
 SIGNIFICANT, EXACT = Context(prec=15), Context(prec=400)  # the digits of a number in a spreadsheet, and of any other
 MOST_DIGITS_OF_GENERAL = 9  # up to here each spreadsheet shows the same, however wide the column is
 FIRST_DAY, LAST_DAY = 61, 2958465  # of those that all spreadsheets count from the same day, and of the year 9999
@@ -42,55 +38,32 @@ class Signs:
         self.decimal, self.thousands, self.first = decimal, thousands, ""
 
 
-def shown_number(number: str, number_format: Optional[str], signs: Signs, from_1904: bool = False) -> str:
+def shown_number(value: Decimal, number_format: str, signs: Signs, from_1904: bool) -> str:
     """Returns a number as its format shows it; raises RowError for a format that is not understood."""
-    value = SIGNIFICANT.plus(value_of(number, number_format))
-    sections = sections_of(str(number_format))
+    value = SIGNIFICANT.plus(value)
+    sections = sections_of(number_format)
     place = 2 if len(sections) > 2 and value == 0 else 1 if len(sections) > 1 and value < 0 else 0
-    is_negative = value < 0 and place == 0
     tokens = sections[place] if sections else []
     kinds = {kind for kind, _ in tokens}
     if not sections or value and not kinds & {"number", "date"} or "date" in kinds and kinds & {"number", "percent"}:
-        raise RowError(
-            f"has the number format {shown(str(number_format))}, which is not understood: format it as text"
-        )
-    if "date" in kinds:
-        is_negative, value = False, value + (DAYS_TO_1904 if from_1904 else 0)
-    else:
-        value = abs(value).scaleb(2 if "percent" in kinds else 0)
-    parts = [
-        by_pattern(value, part, signs) if kind == "number" else by_day(value, part) if kind == "date" else part
-        for kind, part in tokens
-    ]
-    text = "".join(parts).strip()
-    text = f"-{text}" if is_negative and re.search("[1-9]", text) else text
-    if not signs.first and "number" in kinds and (signs.decimal in text or signs.thousands in text):
-        signs.first = text
+        raise not_understood(number_format)
+    size = abs(value).scaleb(2 if "percent" in kinds else 0)
+    day = value + (DAYS_TO_1904 if from_1904 else 0)
+    text = ""
+    for kind, part in tokens:
+        text += by_pattern(size, part, signs) if kind == "number" else by_day(day, part) if kind == "date" else part
+    text = text.strip()
+    if "number" in kinds:
+        text = f"-{text}" if value < 0 and place == 0 and re.search("[1-9]", text) else text
+        signs.first = signs.first or (text if signs.decimal in text or signs.thousands in text else "")
     return text
-
-
-def not_understood(number_format: str) -> RowError:
-    return RowError(f"has the number format {shown(number_format)}, which is not understood: format it as text")
-
-
-def value_of(number: str, number_format: Optional[str]) -> Decimal:
-    """Returns the value of a number; raises RowError for what is none, or has no format."""
-    if number_format is None:
-        raise RowError("has a number format that depends on the spreadsheet's language: format it as text")
-    try:
-        value = Decimal(number)
-    except InvalidOperation:
-        value = Decimal("NaN")
-    if not value.is_finite() or abs(value.adjusted()) > 300:
-        raise RowError(f"has {shown(number)}, which is no number: format it as text")
-    return value
 
 
 @lru_cache(maxsize=256)
 def sections_of(number_format: str) -> List[List[Tuple[str, str]]]:
     """Returns the sections of a format, for positive numbers, negative ones and zero: of each part the kind and text.
 
-    Returns none where a section is not understood. Text that is shown as it is has the kind `text`.
+    Returns none where a section is not understood. Text that is shown as it is has other kinds than number and date.
     """
     sections = []
     found = SECTION.findall(number_format + ";")
@@ -109,16 +82,16 @@ def by_pattern(value: Decimal, pattern: str, signs: Signs) -> str:
         if value >= 10**15 or "." in text and len(text.strip("0.").replace(".", "")) > MOST_DIGITS_OF_GENERAL:
             raise RowError(f"is the number {text} without a number of decimals: give it a format such as 0.00")
         return text.replace(".", signs.decimal)
-    whole_pattern, _, decimals_pattern = pattern.partition(".")
+    whole_pattern, point, decimals_pattern = pattern.partition(".")
     rounded = value.quantize(Decimal(1).scaleb(-len(decimals_pattern)), ROUND_HALF_UP, EXACT)
     whole, _, decimals = f"{rounded:f}".partition(".")
+    needed = len(decimals_pattern.rstrip("#?"))
+    decimals = decimals[:needed] + decimals[needed:].rstrip("0")
+    if "E" in pattern or whole_pattern.endswith(",") or point and not decimals:  # here spreadsheets differ
+        raise not_understood(pattern)
     whole = whole.lstrip("0").zfill(whole_pattern.count("0"))
     if "," in whole_pattern:
         whole = re.sub(r"(?<=[0-9])(?=(?:[0-9]{3})+\Z)", signs.thousands, whole)
-    needed = len(decimals_pattern.rstrip("#?"))
-    decimals = decimals[:needed] + decimals[needed:].rstrip("0")
-    if "." in pattern and not decimals or whole_pattern.endswith(","):
-        raise not_understood(pattern)  # spreadsheets differ, or thousands are left out
     return whole + (signs.decimal + decimals if decimals else "")
 
 
@@ -133,15 +106,20 @@ def by_day(value: Decimal, field: str) -> str:
     return f"{number:0{len(field)}}"[-len(field) :] if len(field) > 1 else str(number)
 
 
-def digits_of(number: str, number_format: Optional[str]) -> str:
+def digits_of(value: Decimal, number_format: str) -> str:
     """Returns the digits of a whole number with the zeros that its format puts in front, without other signs.
 
     Raises RowError where the number is not whole, or is shown with more than digits.
     """
-    value = value_of(number, number_format)
-    match = DIGITS.fullmatch(str(number_format).partition(";")[0])
-    if not match:
-        raise RowError(f"is a number or a date with the format {shown(str(number_format))}: enter it again as text")
+    tokens = [(kind, text) for kind, text in (sections_of(number_format) or [[]])[0] if text.strip()]
+    if [kind for kind, _ in tokens] != ["number"]:
+        raise RowError(f"is a number or a date with the format {shown(number_format)}: enter it again as text")
     if value != value.to_integral_value() or abs(value) >= 10**15:
-        raise RowError(f"is the number {number}, which is not whole or has too many digits: enter it again as text")
-    return f"{value:f}".partition(".")[0].zfill(len(match[1] or ""))
+        raise RowError(f"is the number {value}, which is not whole or has too many digits: enter it again as text")
+    whole_pattern = tokens[0][1].partition(".")[0]
+    zeros = len(whole_pattern) if not whole_pattern.strip("0") else 0
+    return f"{value:f}".partition(".")[0].zfill(zeros)
+
+
+def not_understood(number_format: str) -> RowError:
+    return RowError(f"has the number format {shown(number_format)}, which is not understood: format it as text")

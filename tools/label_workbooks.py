@@ -7,6 +7,7 @@ spreadsheet writes are refused before they take memory.
 import posixpath
 import re
 import zlib
+from decimal import Decimal
 from functools import partial
 from typing import BinaryIO, Callable, Dict, Iterator, List, NamedTuple, Optional, Sequence, Tuple
 from xml.parsers import expat
@@ -27,8 +28,10 @@ SIGNS = {"s": "\x00", "tab": "\x01", "line-break": "\x02"}
 UNSIGNED = {0: " ", 1: "\t", 2: "\n"}
 ESCAPED = re.compile("_x([0-9A-Fa-f]{4})_")
 REFERENCE = re.compile("([A-Z]{1,3})([0-9]{1,7})")
+LARGEST_NUMBER = 10**308
+FORMAT_OF_THE_LANGUAGE = "of the language"
 PLAINLY_SHOWN = re.compile(r"[0-9.,'’\s]+(?:E[+][0-9]+)?")
-DAMAGE = (expat.ExpatError, BadZipFile, zlib.error, EOFError, LookupError, RuntimeError, ValueError)
+DAMAGE = (expat.ExpatError, BadZipFile, zlib.error, EOFError, LookupError, RuntimeError, ValueError, ArithmeticError)
 
 NO_VALUE = Fault("has a formula without a saved value: open the table in the spreadsheet and save it")
 TRUTH = Fault("has a truth value (TRUE, FALSE): write it as text")
@@ -239,10 +242,10 @@ def relations(archive: ZipFile, path: str) -> Dict[str, Tuple[str, str]]:
     }
 
 
-def formats_of(archive: ZipFile, path: str) -> List[Optional[str]]:
-    """Returns the number format of each style of cells; None for one that depends on the spreadsheet's language."""
+def formats_of(archive: ZipFile, path: str) -> List[str]:
+    """Returns the number format of each style of cells."""
     formats = dict(BUILT_IN)
-    styles: List[Optional[str]] = []
+    styles: List[str] = []
     group = ""
     for tag, attributes, _ in read(archive, path, ["numFmt", "cellStyleXfs", "cellXfs", "cellStyles", "xf"]):
         if tag == "numFmt":
@@ -250,7 +253,7 @@ def formats_of(archive: ZipFile, path: str) -> List[Optional[str]]:
         elif tag != "xf":
             group = tag
         elif group == "cellXfs":
-            styles.append(formats.get(attributes.get("numFmtId", "0")))
+            styles.append(formats.get(attributes.get("numFmtId", "0"), FORMAT_OF_THE_LANGUAGE))
     return styles
 
 
@@ -307,8 +310,10 @@ def xlsx_cell(
     return TRUTH if kind == "b" else Fault(reason.format(shown(values[0])))
 
 
-def xlsx_number(formats: List[Optional[str]], signs: Signs, from_1904: bool, value: str, style: int) -> Number:
-    number = Number(value)
+def xlsx_number(formats: List[str], signs: Signs, from_1904: bool, text: str, style: int) -> Number:
+    number, value = Number(text), Decimal(text)
+    if not abs(value) < LARGEST_NUMBER:
+        raise ValueError(f"number {text}")
     number.text = partial(shown_number, value, formats[style], signs, from_1904)
     number.code = partial(digits_of, value, formats[style])
     return number
@@ -406,4 +411,4 @@ def ods_code(kind: str, value: str, text: str) -> str:
     if kind in ("date", "time") or not PLAINLY_SHOWN.fullmatch(text):
         what = "date or time" if kind in ("date", "time") else f"number {value}"
         raise RowError(f"is the {what} that is shown as {shown(text)}: enter it again as text")
-    return digits_of(value, "0")
+    return digits_of(Decimal(value), "0")

@@ -161,6 +161,11 @@ class Encodings(TableTest):
         )
         self.check(b"code\n\x81\n", ["--code", "1", "--encoding", "windows-1252"], [], [problem], 1)
 
+    def test_encodings_that_are_none(self) -> None:
+        for encoding in ("x", "rot13", "base64", "ä"):
+            problem = f'"{encoding}" is no name of an encoding, as latin-1 or cp1252'
+            self.check(f"code\n{SMALL}\n", ["--code", "code", "--encoding", encoding], [], [problem], 2)
+
     def test_encoding_told_that_the_file_contradicts(self) -> None:
         for encoding in ("latin-1", "cp1252", "cp850", "mac-roman", "koi8-r", "shift_jis", "gb18030"):
             problem = f"standard input is UTF-8: leave --encoding {encoding} away"
@@ -237,7 +242,7 @@ class Cells(TableTest):
     def test_what_follows_text_after_a_closing_quote_in_another_line_is_left_out(self) -> None:
         text_after = 'text after a closing quote: write a quote in a quoted cell twice ("")'
         for row in (f'{PENCIL};"a\nb"c\n{SMALL};d', f'{PENCIL};"a"b;"c\n{SMALL};d\n"\n{SMALL};e'):
-            problem = "a quote is not closed" if "b\"c" in row else text_after
+            problem = "a quote is not closed" if 'b"c' in row else text_after
             problem = f"row 2: {problem}; this row and all below it are left out"
             self.check(f"code;name\n{row}\n", ["--code", "code"], [], [problem], 1)
 
@@ -824,14 +829,6 @@ class Arguments(TableTest):
         self.check_usage(["--code", "1", "a.csv", "b.csv"], "unrecognized arguments: b.csv")
         signs = "argument --decimal: invalid choice: ';' (choose from ',', '.')"
         self.check_usage(["--code", "1", "--decimal", ";"], signs)
-        self.check_usage(
-            ["--code", "1", "--encoding", "x"],
-            'argument --encoding: "x" is no name of an encoding, as latin-1 or cp1252',
-        )
-        self.check_usage(
-            ["--code", "1", "--encoding", "rot13"],
-            'argument --encoding: "rot13" is no name of an encoding, as latin-1 or cp1252',
-        )
         for argument in (";;", "", '"', " ", "ä"):
             text = f'argument --delimiter: "{argument}" is no character of ASCII that may cut cells, tab or none'
             self.check_usage(["--code", "1", "--delimiter", argument], text)

@@ -201,9 +201,7 @@ class Xlsx(WorkbookTest):
             cell(7, style=5): f'refused: is a number or a date with the format ""LOT "0": {again}',
             cell(7, style=9): f'refused: is a number or a date with the format "000\\-000": {again}',
             cell(45678, style=4): f'refused: is a number or a date with the format "dd/mm/yyyy": {again}',
-            cell(
-                45678, style=7
-            ): "refused: has a number format that depends on the spreadsheet's language: format it as text",
+            cell(45678, style=7): f'refused: is a number or a date with the format "of the language": {again}',
             cell(1.5): f"refused: is the number 1.5, which is not whole or has too many digits: {again}",
             cell(10**15): f"refused: is the number {10**15}, which is not whole or has too many digits: {again}",
         }
@@ -422,19 +420,11 @@ class Formats(WorkbookTest):
         for value in (60, -1, 2958466):
             problem = 'is a date with names of days or months, "d", or before March 1900: format it as text'
             self.assertEqual(self.shown(value, "d"), f'label-table: row 2: column 2 ("x") {problem}')
-        problem = "has a number format that depends on the spreadsheet's language: format it as text"
+        problem = 'has the number format "of the language", which is not understood: format it as text'
         for number in (14, 22, 44, 999):
             self.assertEqual(self.shown(5, number), f'label-table: row 2: column 2 ("x") {problem}')
         problem = "is the number 0.333333333333333 without a number of decimals: give it a format such as 0.00"
         self.assertEqual(self.shown(1 / 3, "General"), f'label-table: row 2: column 2 ("x") {problem}')
-        for value in ("NaN", "1E999", "x"):
-            problem = f'has "{value}", which is no number: format it as text'
-            self.assertEqual(self.raw(value), problem)
-
-    def raw(self, value: str) -> str:
-        data = xlsx(rows(["EAN", "x"], [PENCIL, f"<c><v>{value}</v></c>"]))
-        done = support.run_here("label-table", "--code", "EAN", "--text", "x", input=data)
-        return support.messages(done)[0].removeprefix('label-table: row 2: column 2 ("x") ')
 
     def test_the_signs_are_said_where_no_option_gives_them(self) -> None:
         data = xlsx(
@@ -676,6 +666,10 @@ class Hostile(WorkbookTest):
             ("xl/workbook.xml", 'r:id="rId1"', 'r:id="rId9"'),
             ("xl/worksheets/sheet1.xml", "</worksheet>", ""),
             ("xl/worksheets/sheet1.xml", 'r="2"', 'r="two"'),
+            *(
+                ("xl/worksheets/sheet1.xml", '<c t="inlineStr">', f"<c><v>{text}</v></c><c>")
+                for text in ("NaN", "1E999", "x")
+            ),
             ("xl/worksheets/sheet1.xml", '<c t="inlineStr">', '<c t="s"><v>7</v></c><c t="inlineStr">'),
             ("xl/worksheets/sheet1.xml", '<c t="inlineStr">', '<c s="9"><v>7</v></c><c t="inlineStr">'),
             ("xl/_rels/workbook.xml.rels", "worksheets/sheet1.xml", "../../../etc/passwd"),

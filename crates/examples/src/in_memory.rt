@@ -1,5 +1,6 @@
 //! A run over a text in memory.
-ghost use Rattle.filter.specs.Run.{Runs, Stays};
+ghost use Rattle.std.specs.Prelude.{◌≡◌};
+ghost use Rattle.filter.specs.Run.{Runs};
 
 use device::{MemSink, MemSource, Sink, Source};
 use filter::{RunFault, Status, run};
@@ -16,7 +17,7 @@ pub fn draw_labels<'a, const N: usize, const M: usize>(
     images: &mut MemSink<N>,
     messages: &mut MemSink<M>,
 ) -> Result<Status, RunFault>
-    ensures { Runs (⟦<MemSource<'a> as Source>⟧) (⟦<MemSink<N> as Sink>⟧) (⟦<MemSink<M> as Sink>⟧) Stays
+    ensures { Runs (⟦<MemSource<'a> as Source>⟧) (⟦<MemSink<N> as Sink>⟧) (⟦<MemSink<M> as Sink>⟧) (λ old new. new ≡ old)
         options source.old source.new images.old images.new messages.old messages.new result }
 {
     run(options, source, images, messages)

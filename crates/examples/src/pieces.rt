@@ -1,7 +1,7 @@
 //! A filter that is fed in two pieces.
 ghost use Rattle.std.specs.Prelude.{◌≡◌, ◌++◌};
 ghost use Rattle.filter.specs.Run.{Produces};
-ghost use Rattle.filter.specs.Script.{CountsFault, FlushesImagesFirst, taken};
+ghost use Rattle.filter.specs.Filter.{CountsFault, FlushesImagesFirst, taken};
 
 use device::Sink;
 use filter::{Filter, RunFault, Status};

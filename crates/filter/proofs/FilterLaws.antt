@@ -9,8 +9,8 @@ use Rattle.device.specs.Lines.{LF, lines, ended_lines, open_line, unless_empty}
 use Rattle.device.proofs.LinesLaws.{ended_lines-nil, open_line-nil, ended_lines-push_lf, ended_lines-push_other}
 use Rattle.device.proofs.LinesLaws.{open_line-push_lf, open_line-push_other}
 use Rattle.filter.specs.Filter.{FilterState, IsAfter}
-use Rattle.filter.specs.Output.{Event, outcome, events_of, ended_script, events_after, line_number, status_of}
-use Rattle.filter.specs.Private.LineEnd.{worst}
+use Rattle.filter.specs.Output.{Event, of_line, outcome, ended_script, events_after, line_number, status_of}
+use Rattle.filter.specs.Private.{worst}
 use Rattle.filter.specs.declared.status.Status.{Status}
 use Rattle.filter.specs.declared.status.Status.TheVariants.{Clean}
 use Rattle.filter.proofs.OutputLaws.{ended_script-nil, ended_script-other, ended_script-lf, lines-none, lines-one}
@@ -59,11 +59,11 @@ module _ (options : OptionValues) where
     -- the end of the line
     pub IsAfter-lf : byte ≡ LF → new.options ≡ old.options → new.line ≡ held_line []
         → new.line_count ≡ line_number (length (ended_lines text)) → new.status ≡ worst old.status
-        (status_of (events_of (line_number (length (ended_lines text))) (outcome options (open_line text))))
+        (status_of (of_line (line_number (length (ended_lines text))) (outcome options (open_line text)) ∷ []))
         → new.is_spent ≡ old.is_spent → IsAfter options new (text ++ byte ∷ [])
     unfolding counted
     IsAfter-lf lf o l n r s =
-        let line = events_of (line_number (length (ended_lines text))) (outcome options (open_line text)) in
+        let line = of_line (line_number (length (ended_lines text))) (outcome options (open_line text)) ∷ [] in
         let text' : text ++ byte ∷ [] ≡ text ++ LF ∷ [] = ap (λ (b : ℕ). text ++ b ∷ []) lf in
         record {
           options_are = o ∙ at.options_are;
@@ -85,10 +85,10 @@ module _ (options : OptionValues) where
   line_number-counts state text at n e = omega (arith, at.line_count)
 
   -- what holds of the line that is held, whichever it is, holds of the open line
-  pub at_line : (P : OptionValues → List Event → Type 0) (state : FilterState) (text : List ℕ) {n : ℕ}
+  pub at_line : (P : OptionValues → Event → Type 0) (state : FilterState) (text : List ℕ) {n : ℕ}
       → IsAfter options state text → n ≡ min (state.line_count + 1) (2 ^ 64 - 1)
-      → ((line : List ℕ) → state.line ≡ held_line line → P state.options (events_of n (outcome state.options line)))
-      → P options (events_of (line_number (length (ended_lines text))) (outcome options (open_line text)))
+      → ((line : List ℕ) → state.line ≡ held_line line → P state.options (of_line n (outcome state.options line)))
+      → P options (of_line (line_number (length (ended_lines text))) (outcome options (open_line text)))
   at_line P state text {n} at counts each =
       let o : state.options ≡ options = at.options_are in
       let m = line_number-counts state text at n counts in
@@ -110,16 +110,16 @@ module _ (options : OptionValues) where
     no_rest e = lines-none options text (unless_empty-nil (open_line text) (sym (ap (λ h. h.bytes) at.line) ∙ e))
 
     pub a_rest : (state.line.bytes ≡ [] → ⊥) → events_after options 0 (lines text) ≡ ended_script options text
-        ++ events_of (line_number (length (ended_lines text))) (outcome options (open_line text))
+        ++ of_line (line_number (length (ended_lines text))) (outcome options (open_line text)) ∷ []
     a_rest n = lines-one options text (unless_empty-line (open_line text) (λ e. n (ap (λ h. h.bytes) at.line ∙ e)))
 
     pub status_of-no_rest : state.line.bytes ≡ [] → state.status ≡ status_of (events_after options 0 (lines text))
     status_of-no_rest e = at.status_is ∙ ap status_of (sym (no_rest e))
 
     pub status_of-rest : (state.line.bytes ≡ [] → ⊥) → worst state.status
-        (status_of (events_of (line_number (length (ended_lines text))) (outcome options (open_line text))))
+        (status_of (of_line (line_number (length (ended_lines text))) (outcome options (open_line text)) ∷ []))
         ≡ status_of (events_after options 0 (lines text))
     status_of-rest n =
-        let line = events_of (line_number (length (ended_lines text))) (outcome options (open_line text)) in
+        let line = of_line (line_number (length (ended_lines text))) (outcome options (open_line text)) ∷ [] in
         ap (λ (s : Status). worst s (status_of line)) at.status_is
         ∙ (sym (status_of-append (ended_script options text) line) ∙ ap status_of (sym (a_rest n)))

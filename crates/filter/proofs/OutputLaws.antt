@@ -7,9 +7,9 @@ use Rattle.std.proofs.lemmas.List.Folds.{list_any-append}
 use Rattle.device.specs.Lines.{LF, lines, ended_lines, open_line, unless_empty}
 use Rattle.device.proofs.LinesLaws.{ended_lines-nil, ended_lines-push_lf, ended_lines-push_other, some_added}
 use Rattle.labelcore.specs.OptionValues.{OptionValues}
-use Rattle.filter.specs.Output.{Event, outcome, events_of, events_after, ended_script, script, flushes, is_refusal, line_number}
+use Rattle.filter.specs.Output.{Event, of_line, outcome, events_after, ended_script, script, flushes, is_refusal, line_number}
 use Rattle.filter.specs.Output.{status_of}
-use Rattle.filter.specs.Private.LineEnd.{worst}
+use Rattle.filter.specs.Private.{worst}
 use Rattle.filter.specs.declared.status.Status.{Status}
 use Rattle.filter.specs.declared.status.Status.TheVariants.{Clean, Refused}
 
@@ -46,21 +46,14 @@ module _ (options : OptionValues) where
   unfolding events_after
   events_after-nil n = refl
 
-  events_after-one : (n : ℕ) (line : List ℕ)
-      → events_after options n (line ∷ []) ≡ events_of (line_number n) (outcome options line)
-  unfolding events_after
-  events_after-one n line = append-nil (events_of (line_number n) (outcome options line))
-
   events_after-append : (n : ℕ) (xs ys : List (List ℕ))
       → events_after options n (xs ++ ys) ≡ events_after options n xs ++ events_after options (n + length xs) ys
   unfolding events_after
   events_after-append n [] ys = ap (λ (k : ℕ). events_after options k ys) (sym (add-zero n))
   events_after-append n (x ∷ xs) ys =
-      let first = events_of (line_number n) (outcome options x) in
       let k : (n + 1) + length xs ≡ n + length (x ∷ xs) = omega arith in
-      ap (λ (es : List Event). first ++ es) (events_after-append (n + 1) xs ys)
-      ∙ (sym (append_assoc first (events_after options (n + 1) xs) (events_after options ((n + 1) + length xs) ys))
-      ∙ ap (λ (j : ℕ). (first ++ events_after options (n + 1) xs) ++ events_after options j ys) k)
+      ap (λ (es : List Event). of_line (line_number n) (outcome options x) ∷ es)
+      (events_after-append (n + 1) xs ys ∙ ap (λ (j : ℕ). events_after options (n + 1) xs ++ events_after options j ys) k)
 
   pub ended_script-nil : ended_script options [] ≡ []
   ended_script-nil = ap (events_after options 0) ended_lines-nil ∙ events_after-nil 0
@@ -79,15 +72,15 @@ module _ (options : OptionValues) where
 
   -- what is sent of the first line after the ended ones
   events_then : (text line : List ℕ) → events_after options 0 (ended_lines text ++ line ∷ []) ≡ ended_script options text
-      ++ events_of (line_number (length (ended_lines text))) (outcome options line)
+      ++ of_line (line_number (length (ended_lines text))) (outcome options line) ∷ []
+  unfolding events_after
   events_then text line = events_after-append 0 (ended_lines text) (line ∷ [])
-      ∙ ap (λ (es : List Event). ended_script options text ++ es)
-      (ap (λ (n : ℕ). events_after options n (line ∷ [])) (zero-add (length (ended_lines text)))
-      ∙ events_after-one (length (ended_lines text)) line)
+      ∙ ap (λ (n : ℕ). ended_script options text ++ of_line (line_number n) (outcome options line) ∷ [])
+      (zero-add (length (ended_lines text)))
 
   pub ended_script-lf : (text : List ℕ) (byte : ℕ) → byte ≡ LF
       → ended_script options (text ++ byte ∷ []) ≡ ended_script options text
-      ++ events_of (line_number (length (ended_lines text))) (outcome options (open_line text))
+      ++ of_line (line_number (length (ended_lines text))) (outcome options (open_line text)) ∷ []
   ended_script-lf text byte lf = ap (λ (b : ℕ). ended_script options (text ++ b ∷ [])) lf
       ∙ (ap (events_after options 0) (ended_lines-push_lf text) ∙ events_then text (open_line text))
 
@@ -103,7 +96,7 @@ module _ (options : OptionValues) where
 
   pub lines-one : (text : List ℕ) → unless_empty (open_line text) ≡ open_line text ∷ []
       → events_after options 0 (lines text) ≡ ended_script options text
-      ++ events_of (line_number (length (ended_lines text))) (outcome options (open_line text))
+      ++ of_line (line_number (length (ended_lines text))) (outcome options (open_line text)) ∷ []
   lines-one text one = ap (events_after options 0) (lines-split text
       ∙ ap (λ (ls : List (List ℕ)). ended_lines text ++ ls) one) ∙ events_then text (open_line text)
 

@@ -22,9 +22,8 @@ use Rattle.picture.proofs.AsciiLaws.{ascii_files-flat_map, ascii_pixels-ascii_te
 use Rattle.picture.proofs.CutLaws.{pbm_files-flat_map}
 use Rattle.picture.proofs.PbmLaws.{pbm_pixels-pbm_text}
 use Rattle.picture.proofs.SampleLaws.{sample-raster}
-use Rattle.filter.specs.Drawing.{image_of}
-use Rattle.filter.specs.Output.{Event, Images, image, refusal, flushes, outcome, events_of, events_after, line_number}
-use Rattle.filter.specs.Output.{script, sent, drawn_symbols, picture_of, text_of}
+use Rattle.filter.specs.Output.{Event, Images, of_line, flushes, events_after, script, sent, drawn_symbols, image_of}
+use Rattle.filter.specs.Output.{picture_of, text_of}
 use Rattle.filter.specs.Readback.{cut, pixels, read_image, AreRead, IsRead, ReadsBack}
 use Rattle.filter.specs.Symbol.{Symbol, quiet_zone, symbol_of}
 use Rattle.filter.proofs.ReadableLaws.{IsReadable, HasReadable, symbol_readable, outcome_readable}
@@ -55,14 +54,8 @@ small_product a b few scale = let m : a * b ≤ 1840 * b = mul-le-mul_right b fe
 
 -- the modules of an event's symbol are read; of other events nothing is said
 abbrev EventIsReadable : Event → Type 0
-EventIsReadable (image symbol) = IsReadable symbol
-EventIsReadable other = Unit {0}
-
--- what holds of each event of two scripts
-all_of_two : (xs ys : List Event) → AllByRecursion EventIsReadable xs → AllByRecursion EventIsReadable ys
-    → AllByRecursion EventIsReadable (xs ++ ys)
-all_of_two [] ys a b = b
-all_of_two (x ∷ xs) ys a b = (a.0, all_of_two xs ys a.1 b)
+EventIsReadable (of_line number outcome) = HasReadable outcome
+EventIsReadable flushes = Unit {0}
 
 first_of_two : (xs ys : List Event) → AllByRecursion EventIsReadable (xs ++ ys) → AllByRecursion EventIsReadable xs
 first_of_two [] ys h = tt
@@ -134,17 +127,19 @@ module _ (options : OptionValues) (range : AreInRange options) where
       → AllByRecursion IsReadable (drawn_symbols events)
   unfolding drawn_symbols
   drawn_symbols_readable [] w = tt
-  drawn_symbols_readable (image symbol ∷ events) w = (w.0, drawn_symbols_readable events w.1)
-  drawn_symbols_readable (refusal number fault ∷ events) w = drawn_symbols_readable events w.1
+  drawn_symbols_readable (of_line number skipped ∷ events) w = drawn_symbols_readable events w.1
+  drawn_symbols_readable (of_line number (refused fault) ∷ events) w = drawn_symbols_readable events w.1
+  drawn_symbols_readable (of_line number (drawn symbol) ∷ events) w = (w.0, drawn_symbols_readable events w.1)
   drawn_symbols_readable (flushes ∷ events) w = drawn_symbols_readable events w.1
 
   images_are : (events : List Event) → sent options Images events
       ≡ flat_map (text_of options.format) (map (picture_of options) (drawn_symbols events))
   unfolding drawn_symbols
   images_are [] = refl
-  images_are (image symbol ∷ events) =
+  images_are (of_line number skipped ∷ events) = images_are events
+  images_are (of_line number (refused fault) ∷ events) = images_are events
+  images_are (of_line number (drawn symbol) ∷ events) =
       ap (λ (bytes : List ℕ). text_of options.format (picture_of options symbol) ++ bytes) (images_are events)
-  images_are (refusal number fault ∷ events) = images_are events
   images_are (flushes ∷ events) = images_are events
 
   -- the images of a script, cut, are read as the full data of its symbols
@@ -156,23 +151,12 @@ module _ (options : OptionValues) (range : AreInRange options) where
       rw (images_are events, stream_cut options.format symbols (All-from_recursion IsReadable symbols readable))
       (all_read symbols readable)
 
-  events_readable : (number : ℕ) (o : Outcome Symbol) → HasReadable o
-      → AllByRecursion EventIsReadable (events_of number o)
-  events_readable number skipped r = tt
-  events_readable number (refused fault) r = (tt, tt)
-  events_readable number (drawn symbol) r = (r, tt)
-
   script_readable : (before : ℕ) (lines : List (List ℕ)) → AllByRecursion AreBytes lines
       → AllByRecursion EventIsReadable (events_after options before lines ++ flushes ∷ [])
   unfolding events_after
   script_readable before [] w = (tt, tt)
   script_readable before (line ∷ lines) w =
-      let first = events_of (line_number before) (outcome options line) in
-      let later = events_after options (before + 1) lines in
-      subst (AllByRecursion EventIsReadable) (sym (append_assoc first later (flushes ∷ [])))
-      (all_of_two first (later ++ flushes ∷ [])
-      (events_readable (line_number before) (outcome options line) (outcome_readable options range line w.0))
-      (script_readable (before + 1) lines w.1))
+      (outcome_readable options range line w.0, script_readable (before + 1) lines w.1)
 
   -- what the script of a text sends reads back
   pub script_of_text_read : (text : List ℕ) → All (λ b. b < 256) text → ReadsBack options (script options text)

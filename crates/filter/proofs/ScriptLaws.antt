@@ -1,11 +1,12 @@
 -- Calls one after another, in one script.
-use Rattle.std.proofs.Common.{◌≡◌, ◌≢◌, ℕ, List, [], ◌∷◌, ◌++◌, Result, Ok, Err, append_assoc, refl, ap, sym, subst, ◌∙◌}
+use Rattle.std.proofs.Common.{◌≡◌, ℕ, List, [], ◌∷◌, ◌++◌, Result, Ok, Err, append_assoc, refl, ap, sym, subst, ◌∙◌}
 use Rattle.std.specs.Prelude.{MatchResult}
 use Rattle.std.proofs.lemmas.Grind.{flat_map-append}
 use Rattle.std.proofs.lemmas.List.{append-nil}
+use Rattle.device.specs.Device.{Begins}
 use Rattle.labelcore.specs.OptionValues.{OptionValues}
-use Rattle.filter.specs.Output.{Event, Channel, Images, Messages, bytes_for, flushes, sent}
-use Rattle.filter.specs.Script.{taken, Took, Stops, Sends, fault_of}
+use Rattle.filter.specs.Filter.{taken, Took, Stops, Sends, fault_of, other}
+use Rattle.filter.specs.Output.{Event, Channel, Images, Messages, bytes_for, sent}
 use Rattle.filter.specs.declared.status.RunFault.{RunFault}
 
 -- two sinks that took nothing
@@ -19,36 +20,34 @@ pub images_by : (out out' err : List ℕ → Type 0) → ((bytes : List ℕ) →
 images_by out out' err widen Images bytes h = widen bytes h
 images_by out out' err widen Messages bytes h = h
 
--- calls one after another, at sinks whose states are O and E
-module _ {O E : Type 0} {out : O → O → List ℕ → Type 0} {err : E → E → List ℕ → Type 0}
-    (out_joined : (s t u : O) (xs ys : List ℕ) → out s t xs → out t u ys → out s u (xs ++ ys))
-    (err_joined : (s t u : E) (xs ys : List ℕ) → err s t xs → err t u ys → err s u (xs ++ ys))
-    (o o' o'' : O) (e e' e'' : E) where
-  joined : (channel : Channel) (xs ys : List ℕ) → taken (out o o') (err e e') channel xs
-      → taken (out o' o'') (err e' e'') channel ys → taken (out o o'') (err e e'') channel (xs ++ ys)
-  joined Images xs ys first second = out_joined o o' o'' xs ys first second
-  joined Messages xs ys first second = err_joined e e' e'' xs ys first second
-
-  -- the second takes nothing
-  pub none_after : ((channel : Channel) → taken (out o' o'') (err e' e'') channel []) → (channel : Channel)
-      (bytes : List ℕ) → taken (out o o') (err e e') channel bytes → taken (out o o'') (err e e'') channel bytes
-  none_after none channel bytes h = subst (taken (out o o'') (err e e'') channel) (append-nil bytes)
-      (joined channel bytes [] h (none channel))
-
 module _ (options : OptionValues) where
-  -- a sink failed before it took a byte
-  pub Stops-first : (took : Channel → List ℕ → Type 0) (failed : Channel) (event : Event) (later : List Event)
-      → ((channel : Channel) → took channel []) → Stops options took (event ∷ later) (fault_of failed)
-  Stops-first took failed event later none = record {
+  -- the bytes of one event
+  pub event_took : (out err : List ℕ → Type 0) (event : Event) → out (bytes_for options Images event)
+      → err (bytes_for options Messages event) → Took options (taken out err) (event ∷ [])
+  event_took out err event image message Images = subst out (sym (append-nil (bytes_for options Images event))) image
+  event_took out err event image message Messages =
+      subst err (sym (append-nil (bytes_for options Messages event))) message
+
+  -- a beginning of the bytes of one event
+  pub event_stops : (took : Channel → List ℕ → Type 0) (failed : Channel) (event : Event) (later : List Event)
+      → Begins (took failed) (bytes_for options failed event) → took (other failed) []
+      → Stops options took (event ∷ later) (fault_of failed)
+  event_stops took failed event later begun none = record {
     failed = failed;
     fault_is = refl;
     done = [];
     event = event;
     later = later;
     cut = refl;
-    own = ([], (bytes_for options failed event, refl), none failed);
-    others = λ channel other. none channel;
+    own = begun;
+    others = none;
   }
+
+  -- a sink failed before it took a byte
+  pub Stops-first : (took : Channel → List ℕ → Type 0) (failed : Channel) (event : Event) (later : List Event)
+      → ((channel : Channel) → took channel []) → Stops options took (event ∷ later) (fault_of failed)
+  Stops-first took failed event later none = event_stops took failed event later
+      ([], (bytes_for options failed event, refl), none failed) (none (other failed))
 
   pub Stops-longer : {took : Channel → List ℕ → Type 0} {events : List Event} {fault : RunFault} (more : List Event)
       → Stops options took events fault → Stops options took (events ++ more) fault
@@ -79,27 +78,21 @@ module _ (options : OptionValues) where
       later = s.later;
       cut = s.cut;
       own = (s.own.0, s.own.1, widen s.failed (sent options s.failed s.done ++ s.own.0) s.own.2);
-      others = λ channel other. widen channel (sent options channel s.done) (s.others channel other);
+      others = widen (other s.failed) (sent options (other s.failed) s.done) s.others;
     }
 
   -- a line's or a flush's part of a script
   pub Sends-ok : {T U : Type 0} {took : Channel → List ℕ → Type 0} {events : List Event} {x : T} (y : U)
       (before after : List Event) → after ≡ before ++ events → Sends {T = T} options took [] events (Ok x)
       → Sends {T = U} options took before after (Ok y)
-  Sends-ok y before after cut s = record {
-    added = s.added;
-    grown = cut ∙ ap (λ (es : List Event). before ++ es) s.grown;
-    sends = s.sends;
-  }
+  Sends-ok y before after cut s =
+      record { added = s.added; grown = cut ∙ ap (λ (es : List Event). before ++ es) s.grown; sends = s.sends }
 
   pub Sends-err : {T U : Type 0} {took : Channel → List ℕ → Type 0} {events : List Event} {fault : RunFault}
       (before after : List Event) → after ≡ before ++ events → Sends {T = T} options took [] events (Err fault)
       → Sends {T = U} options took before after (Err fault)
-  Sends-err before after cut s = record {
-    added = s.added;
-    grown = cut ∙ ap (λ (es : List Event). before ++ es) s.grown;
-    sends = s.sends;
-  }
+  Sends-err before after cut s =
+      record { added = s.added; grown = cut ∙ ap (λ (es : List Event). before ++ es) s.grown; sends = s.sends }
 
   -- a call that failed, in a longer script
   pub Sends-longer : {T : Type 0} {took : Channel → List ℕ → Type 0} {before middle : List Event} {fault : RunFault}
@@ -111,55 +104,40 @@ module _ (options : OptionValues) where
     sends = Stops-longer more s.sends;
   }
 
-  -- flushes of both sinks take nothing
-  pub flushes_took : (out err : List ℕ → Type 0) → out [] → err [] → (channel : Channel)
-      → taken out err channel (sent options channel (flushes ∷ []))
-  flushes_took out err none_out none_err Images = none_out
-  flushes_took out err none_out none_err Messages = none_err
-
   -- a call that sends nothing
   pub Sends-none : {T : Type 0} (x : T) (took : Channel → List ℕ → Type 0) (before after : List Event) → after ≡ before
       → ((channel : Channel) → took channel []) → Sends {T = T} options took before after (Ok x)
   Sends-none x took before after same none =
       record { added = []; grown = same ∙ sym (append-nil before); sends = none }
 
-  -- calls one after another, at sinks whose states are O and E
-  module _ {O E : Type 0} {out : O → O → List ℕ → Type 0} {err : E → E → List ℕ → Type 0}
-      (out_joined : (s t u : O) (xs ys : List ℕ) → out s t xs → out t u ys → out s u (xs ++ ys))
-      (err_joined : (s t u : E) (xs ys : List ℕ) → err s t xs → err t u ys → err s u (xs ++ ys)) where
-    -- the bytes of the events of both
-    after_first : (o o' o'' : O) (e e' e'' : E) (xs : List Event) (channel : Channel) (ys : List Event) (bytes : List ℕ)
+-- calls one after another, at sinks whose states are O and E
+module _ {O E : Type 0} {out : O → O → List ℕ → Type 0} {err : E → E → List ℕ → Type 0}
+    (out_joined : (s t u : O) (xs ys : List ℕ) → out s t xs → out t u ys → out s u (xs ++ ys))
+    (err_joined : (s t u : E) (xs ys : List ℕ) → err s t xs → err t u ys → err s u (xs ++ ys)) where
+  joined : (o o' o'' : O) (e e' e'' : E) (channel : Channel) (xs ys : List ℕ) → taken (out o o') (err e e') channel xs
+      → taken (out o' o'') (err e' e'') channel ys → taken (out o o'') (err e e'') channel (xs ++ ys)
+  joined o o' o'' e e' e'' Images xs ys first second = out_joined o o' o'' xs ys first second
+  joined o o' o'' e e' e'' Messages xs ys first second = err_joined e e' e'' xs ys first second
+
+  module _ (options : OptionValues) where
+    joined_sent : (o o' o'' : O) (e e' e'' : E) (xs : List Event) (channel : Channel) (ys : List Event) (bytes : List ℕ)
         → taken (out o o') (err e e') channel (sent options channel xs)
         → taken (out o' o'') (err e' e'') channel (sent options channel ys ++ bytes)
         → taken (out o o'') (err e e'') channel (sent options channel (xs ++ ys) ++ bytes)
-    after_first o o' o'' e e' e'' xs channel ys bytes h k = subst (taken (out o o'') (err e e'') channel)
+    joined_sent o o' o'' e e' e'' xs channel ys bytes h k = subst (taken (out o o'') (err e e'') channel)
         (sym (ap (λ (bs : List ℕ). bs ++ bytes) (flat_map-append (bytes_for options channel) xs ys)
         ∙ append_assoc (sent options channel xs) (sent options channel ys) bytes))
-        (joined out_joined err_joined o o' o'' e e' e'' channel (sent options channel xs)
-        (sent options channel ys ++ bytes) h k)
+        (joined o o' o'' e e' e'' channel (sent options channel xs) (sent options channel ys ++ bytes) h k)
 
-    both_took : (o o' o'' : O) (e e' e'' : E) (xs : List Event) (channel : Channel) (ys : List Event)
+    joined_events : (o o' o'' : O) (e e' e'' : E) (xs : List Event) (channel : Channel) (ys : List Event)
         → taken (out o o') (err e e') channel (sent options channel xs)
         → taken (out o' o'') (err e' e'') channel (sent options channel ys)
         → taken (out o o'') (err e e'') channel (sent options channel (xs ++ ys))
-    both_took o o' o'' e e' e'' xs channel ys h k = subst (taken (out o o'') (err e e'') channel)
+    joined_events o o' o'' e e' e'' xs channel ys h k = subst (taken (out o o'') (err e e'') channel)
         (sym (flat_map-append (bytes_for options channel) xs ys))
-        (joined out_joined err_joined o o' o'' e e' e'' channel (sent options channel xs) (sent options channel ys) h k)
+        (joined o o' o'' e e' e'' channel (sent options channel xs) (sent options channel ys) h k)
 
-    pub Stops-append : (o o' o'' : O) (e e' e'' : E) (xs : List Event) {ys : List Event} {fault : RunFault}
-        → Took options (taken (out o o') (err e e')) xs → Stops options (taken (out o' o'') (err e' e'')) ys fault
-        → Stops options (taken (out o o'') (err e e'')) (xs ++ ys) fault
-    Stops-append o o' o'' e e' e'' xs h s = record {
-      failed = s.failed;
-      fault_is = s.fault_is;
-      done = xs ++ s.done;
-      event = s.event;
-      later = s.later;
-      cut = ap (λ (es : List Event). xs ++ es) s.cut ∙ sym (append_assoc xs s.done (s.event ∷ s.later));
-      own = (s.own.0, s.own.1, after_first o o' o'' e e' e'' xs s.failed s.done s.own.0 (h s.failed) s.own.2);
-      others = λ channel other. both_took o o' o'' e e' e'' xs channel s.done (h channel) (s.others channel other);
-    }
-
+    -- the events of both calls
     both : (o o' o'' : O) (e e' e'' : E) {T : Type 0} (xs ys : List Event) (r : Result T RunFault)
         → Took options (taken (out o o') (err e e')) xs
         → MatchResult r (λ _. Took options (taken (out o' o'') (err e' e'')) ys)
@@ -167,10 +145,27 @@ module _ (options : OptionValues) where
         → MatchResult r (λ _. Took options (taken (out o o'') (err e e'')) (xs ++ ys))
         (Stops options (taken (out o o'') (err e e'')) (xs ++ ys))
     both o o' o'' e e' e'' xs ys (Ok x) h k =
-        λ channel. both_took o o' o'' e e' e'' xs channel ys (h channel) (k channel)
-    both o o' o'' e e' e'' xs ys (Err fault) h k = Stops-append o o' o'' e e' e'' xs h k
+        λ channel. joined_events o o' o'' e e' e'' xs channel ys (h channel) (k channel)
+    both o o' o'' e e' e'' xs ys (Err fault) h s = record {
+      failed = s.failed;
+      fault_is = s.fault_is;
+      done = xs ++ s.done;
+      event = s.event;
+      later = s.later;
+      cut = ap (λ (es : List Event). xs ++ es) s.cut ∙ sym (append_assoc xs s.done (s.event ∷ s.later));
+      own = (s.own.0, s.own.1, joined_sent o o' o'' e e' e'' xs s.failed s.done s.own.0 (h s.failed) s.own.2);
+      others = joined_events o o' o'' e e' e'' xs (other s.failed) s.done (h (other s.failed)) s.others;
+    }
 
     module _ {o : O} {o' : O} {o'' : O} {e : E} {e' : E} {e'' : E} where
+      -- the second call takes nothing
+      pub Took-then_none : (events : List Event) → Took options (taken (out o o') (err e e')) events → out o' o'' []
+          → err e' e'' [] → Took options (taken (out o o'') (err e e'')) events
+      Took-then_none events h none_out none_err = λ channel.
+          subst (taken (out o o'') (err e e'') channel) (append-nil (sent options channel events))
+          (joined o o' o'' e e' e'' channel (sent options channel events) [] (h channel)
+          (none_taken (out o' o'') (err e' e'') none_out none_err channel))
+
       pub Sends-append : {T U : Type 0} {x : U} (r : Result T RunFault) {before middle after : List Event}
           → Sends {T = U} options (taken (out o o') (err e e')) before middle (Ok x)
           → Sends {T = T} options (taken (out o' o'') (err e' e'')) middle after r

@@ -1,10 +1,16 @@
--- The state of a filter in its input (docs/SPECIFICATION.md, The filter as a library).
--- Why: `FilterState`: what a `Filter` keeps, as a contract sees it; `IsAfter`: what it was fed.
-use Rattle.std.specs.Prelude.{◌≡◌, ℕ, ◌-◌, ◌^◌, ◌<◌, min, All, Bool, false, List, length}
+-- The state of a filter, and what a call does to its two sinks (docs/SPECIFICATION.md, The filter as a library).
+-- Why: `FilterState`, `IsAfter`: what a `Filter` keeps, and what it was fed; `Took`, `Stops`, `Sends`: what `feed`,
+-- `finish` and `run` promise of their sinks.
+use Rattle.std.specs.Prelude.{◌≡◌, ℕ, ◌-◌, ◌^◌, ◌<◌, min, All, Bool, true, false, List, ◌∷◌, ◌++◌, length, Result, Ok, Err}
+use Rattle.std.specs.Prelude.{MatchResult}
+use Rattle.device.specs.Device.{Begins, Rises, Unflushed}
 use Rattle.device.specs.Lines.{ended_lines, open_line}
+use Rattle.device.specs.declared.sink.Sink.{Ghosts}
 use Rattle.labelcore.specs.HeldLine.{HeldLine, held_line}
 use Rattle.labelcore.specs.OptionValues.{OptionValues, IsInRange}
-use Rattle.filter.specs.Output.{ended_script, status_of}
+use Rattle.filter.specs.Output.{Event, Channel, Images, Messages, bytes_for, ended_script, sent, status_of}
+use Rattle.filter.specs.declared.status.RunFault.{RunFault}
+use Rattle.filter.specs.declared.status.RunFault.TheVariants.{WriteOut, WriteMessages}
 use Rattle.filter.specs.declared.status.Status.{Status}
 
 -- what a filter keeps between pieces
@@ -24,3 +30,64 @@ pub record IsAfter (options : OptionValues) (state : FilterState) (text : List �
   pub line_count : state.line_count ≡ min (length (ended_lines text)) (2 ^ 64 - 1)
   pub status_is : state.status ≡ status_of (ended_script options text)
   pub is_spent : state.is_spent ≡ false
+
+-- what each of the sinks took
+abbrev pub taken : (out err : List ℕ → Type 0) → Channel → List ℕ → Type 0
+taken out err Images = out
+taken out err Messages = err
+
+-- each sink took its bytes of the events
+abbrev pub Took : OptionValues → (took : Channel → List ℕ → Type 0) → List Event → Type 0
+Took options took events = (channel : Channel) → took channel (sent options channel events)
+
+-- the fault of a sink
+abbrev pub fault_of : Channel → RunFault
+fault_of Images = WriteOut
+fault_of Messages = WriteMessages
+
+-- the other sink
+abbrev pub other : Channel → Channel
+other Images = Messages
+other Messages = Images
+
+-- A sink failed in one of the events. Each sink took its bytes of the events before that one, and the sink that failed
+-- took a beginning of its bytes of that one too.
+pub record Stops (options : OptionValues) (took : Channel → List ℕ → Type 0) (events : List Event) (fault : RunFault)
+    : Type 0 where
+  pub failed : Channel
+  pub fault_is : fault ≡ fault_of failed
+  pub done : List Event
+  pub event : Event
+  pub later : List Event
+  pub cut : events ≡ done ++ event ∷ later
+  pub own : Begins (λ bytes. took failed (sent options failed done ++ bytes)) (bytes_for options failed event)
+  pub others : took (other failed) (sent options (other failed) done)
+
+-- a call that sends what one script has after another: at `Ok` all of it, and at `Err` a sink failed in it
+pub record Sends {T : Type 0} (options : OptionValues) (took : Channel → List ℕ → Type 0) (before after : List Event)
+    (r : Result T RunFault) : Type 0 where
+  pub added : List Event
+  pub grown : after ≡ before ++ added
+  pub sends : MatchResult r (λ _. Took options took added) (Stops options took added)
+
+-- The counts of failures of the images' sink, `o`, and of the messages' sink, `e`: at `Ok` none rises, at `Err` that of the
+-- sink that failed.
+abbrev pub CountsFault : {T : Type 0} → (o o' e e' : ℕ) → Result T RunFault → Type 0
+CountsFault o o' e e' (Ok x) = (o' ≡ o) × (e' ≡ e)
+CountsFault o o' e e' (Err WriteOut) = Rises o o' × (e' ≡ e)
+CountsFault o o' e e' (Err WriteMessages) = (o' ≡ o) × Rises e e'
+CountsFault o o' e e' (Err fault) = ⊥
+
+-- The flush marks of both: at `Ok` both sinks are flushed; at `Err` none is that was not before, but for the images where
+-- the messages failed, since they are flushed first.
+abbrev pub FlushesImagesFirst : {T : Type 0} → (o o' e e' : Bool) → Result T RunFault → Type 0
+FlushesImagesFirst o o' e e' (Ok x) = (o' ≡ true) × (e' ≡ true)
+FlushesImagesFirst o o' e e' (Err WriteMessages) = Unflushed e e'
+FlushesImagesFirst o o' e e' (Err fault) = Unflushed o o' × Unflushed e e'
+
+-- a call that flushes nothing: the count of the sink that failed rises, and a sink that is flushed now was so before
+pub record FlushesNeither {O E T : Type 0} (out : Ghosts O) (err : Ghosts E) (o o' : O) (e e' : E) (r : Result T RunFault)
+    : Type 0 where
+  pub counts : CountsFault (out.failures o) (out.failures o') (err.failures e) (err.failures e') r
+  pub out_unflushed : Unflushed (out.is_flushed o) (out.is_flushed o')
+  pub err_unflushed : Unflushed (err.is_flushed e) (err.is_flushed e')

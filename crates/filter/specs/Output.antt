@@ -4,7 +4,6 @@
 use Rattle.std.specs.Prelude.{ℕ, ◌+◌, ◌-◌, ◌^◌, min, Bool, true, false, if◌then◌else◌, Option, Some, None, List, [], ◌∷◌, ◌++◌}
 use Rattle.std.specs.List.{filter_map, flat_map, list_any}
 use Rattle.device.specs.Lines.{lines, ended_lines}
-use Rattle.labelcore.specs.declared.fault.Fault.{Fault}
 use Rattle.labelcore.specs.declared.options.Format.{Format}
 use Rattle.labelcore.specs.declared.options.Format.TheVariants.{Pbm, Ascii}
 use Rattle.labelcore.specs.OptionValues.{OptionValues}
@@ -36,18 +35,20 @@ abbrev pub text_of : Format → Picture → List ℕ
 text_of Pbm p = pbm_text p
 text_of Ascii p = ascii_text p
 
--- what a run does to its sinks: the image of a symbol, the message of the refused line with a number, and at the end
--- flushes
-pub data Event : Type 0 where
-  image : Symbol → Event
-  refusal : ℕ → Fault → Event
-  flushes : Event
+-- the image of what is drawn, or nothing
+abbrev pub image_of : OptionValues → Outcome Symbol → List ℕ
+image_of options (drawn symbol) = text_of options.format (picture_of options symbol)
+image_of options other = []
 
--- what is sent of a line with this number: an image, a message or nothing
-abbrev pub events_of : ℕ → Outcome Symbol → List Event
-events_of number skipped = []
-events_of number (refused fault) = refusal number fault ∷ []
-events_of number (drawn symbol) = image symbol ∷ []
+-- the message of a refusal, or nothing
+abbrev pub message_of : ℕ → Outcome Symbol → List ℕ
+message_of number (refused fault) = message number fault
+message_of number other = []
+
+-- what a run does to its sinks: it sends the image or the message of a line with a number, and flushes at the end
+pub data Event : Type 0 where
+  of_line : ℕ → Outcome Symbol → Event
+  flushes : Event
 
 -- the number of the line after `before` lines; it stops at the greatest `u64`
 abbrev pub line_number : ℕ → ℕ
@@ -57,7 +58,7 @@ line_number before = min (before + 1) (2 ^ 64 - 1)
 unfoldable pub events_after : OptionValues → ℕ → List (List ℕ) → List Event
 events_after options before [] = []
 events_after options before (line ∷ lines) =
-    events_of (line_number before) (outcome options line) ++ events_after options (before + 1) lines
+    of_line (line_number before) (outcome options line) ∷ events_after options (before + 1) lines
 
 -- the script of the lines of a text that have ended
 abbrev pub ended_script : OptionValues → List ℕ → List Event
@@ -72,11 +73,11 @@ pub data Channel : Type 0 where
   Images : Channel
   Messages : Channel
 
--- the bytes of an event for a sink
+-- the bytes of an event for a sink: of a line its image or its message
 abbrev pub bytes_for : OptionValues → Channel → Event → List ℕ
-bytes_for options Images (image symbol) = text_of options.format (picture_of options symbol)
-bytes_for options Messages (refusal number fault) = message number fault
-bytes_for options channel other = []
+bytes_for options Images (of_line number outcome) = image_of options outcome
+bytes_for options Messages (of_line number outcome) = message_of number outcome
+bytes_for options channel flushes = []
 
 -- the bytes of a script for a sink
 abbrev pub sent : OptionValues → Channel → List Event → List ℕ
@@ -84,16 +85,16 @@ sent options channel events = flat_map (bytes_for options channel) events
 
 -- the symbol that is drawn, or none
 abbrev pub symbol_in : Event → Option Symbol
-symbol_in (image symbol) = Some symbol
+symbol_in (of_line number (drawn symbol)) = Some symbol
 symbol_in other = None
 
 -- the symbols that a script draws, in order
 unfoldable pub drawn_symbols : List Event → List Symbol
 drawn_symbols events = filter_map symbol_in events
 
--- whether it is a message
+-- whether the line is refused
 abbrev pub is_refusal : Event → Bool
-is_refusal (refusal number fault) = true
+is_refusal (of_line number (refused fault)) = true
 is_refusal other = false
 
 -- the status of a script: whether some line is refused

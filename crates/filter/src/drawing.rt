@@ -6,10 +6,10 @@ ghost use Rattle.labelcore.specs.declared.symbology.Symbology.TheVariants.{Qr};
 ghost use Rattle.linear.specs.declared.limits.TheConstants.{MAX_MODULES};
 ghost use Rattle.picture.specs.Picture.{bars, symbol_picture};
 ghost use Rattle.qrdata.specs.Fewest.{chosen_segments};
-ghost use Rattle.filter.specs.Drawing.{DrawsOutcome, image_of};
-ghost use Rattle.filter.specs.Output.{text_of};
+ghost use Rattle.filter.specs.Drawing.{DrawsOutcome};
+ghost use Rattle.filter.specs.Output.{image_of, text_of};
 ghost use Rattle.filter.specs.Readback.{IsRead};
-ghost use Rattle.filter.specs.Private.LineEnd.{beside, image_in};
+ghost use Rattle.filter.specs.Private.{beside, image_in};
 ghost use Rattle.filter.specs.Symbol.{linear_symbol, qr_modules, quiet_zone, symbol_of};
 
 use device::{IoFault, Sink};

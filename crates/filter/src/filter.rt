@@ -2,9 +2,9 @@
 ghost use Rattle.std.specs.Prelude.{◌≡◌, ℕ, ◌<◌, true, false, All, List, [], ◌∷◌, ◌++◌, Err, IfOk, OnOk, OnErr};
 ghost use Rattle.device.specs.Lines.{lines};
 ghost use Rattle.labelcore.specs.OptionValues.{OptionValues};
-ghost use Rattle.filter.specs.Filter.{FilterState, IsAfter};
+ghost use Rattle.filter.specs.Filter.{CountsFault, FilterState, FlushesImagesFirst, FlushesNeither, IsAfter};
+ghost use Rattle.filter.specs.Filter.{Sends, taken};
 ghost use Rattle.filter.specs.Output.{ended_script, events_after, flushes, script, status_of};
-ghost use Rattle.filter.specs.Script.{CountsFault, FlushesImagesFirst, FlushesNeither, Sends, taken};
 
 use crate::line::finish_line;
 use crate::status::{RunFault, Status};

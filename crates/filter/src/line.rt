@@ -2,11 +2,11 @@
 ghost use Rattle.std.specs.Prelude.{◌≡◌, ℕ, List, [], ◌∷◌, IfOk};
 ghost use Rattle.labelcore.specs.HeldLine.{held_line};
 ghost use Rattle.labelcore.specs.ItemView.{item_seen};
-ghost use Rattle.labelcore.specs.LineItem.{HasData, KeepsRun};
+ghost use Rattle.labelcore.specs.LineItem.{HasData, KeepsRun, refused};
 ghost use Rattle.labelcore.specs.OptionValues.{OptionValues};
 ghost use Rattle.filter.specs.Drawing.{DrawsOutcome};
-ghost use Rattle.filter.specs.Output.{events_of, outcome, outcome_of_item, refusal, status_of};
-ghost use Rattle.filter.specs.Script.{FlushesNeither, Sends, taken};
+ghost use Rattle.filter.specs.Output.{of_line, outcome, outcome_of_item, status_of};
+ghost use Rattle.filter.specs.Filter.{FlushesNeither, Sends, taken};
 
 use crate::drawing::draw;
 use crate::status::{RunFault, Status};
@@ -27,9 +27,9 @@ pub fn finish_line<O: Sink, E: Sink>(
 ) -> Result<Status, RunFault>
     ensures sends { (text : List ℕ) → line.now ≡ held_line text
         → Sends options.now (taken (O.took out.old out.new) (E.took err.old err.new))
-        [] (events_of number (outcome options.now text)) result }
+        [] (of_line number (outcome options.now text) ∷ []) result }
     ensures status { (text : List ℕ) → line.now ≡ held_line text → IfOk result (λ status.
-        status ≡ status_of (events_of number (outcome options.now text))) }
+        status ≡ status_of (of_line number (outcome options.now text) ∷ [])) }
     ensures sinks { FlushesNeither O.Sink E.Sink out.old out.new err.old err.new result }
 {
     let mut scratch = Scratch::new();
@@ -64,7 +64,7 @@ fn refuse<O: Sink, E: Sink>(
 ) -> Result<Status, RunFault>
     ensures sends { (options : OptionValues)
         → Sends options (taken (O.took out.old out.new) (E.took err.old err.new))
-        [] (refusal number fault.now ∷ []) result }
+        [] (of_line number (refused fault.now) ∷ []) result }
     ensures status { IfOk result (λ status. status ≡ Status.Refused) }
     ensures sinks { FlushesNeither O.Sink E.Sink out.old out.new err.old err.new result }
 {

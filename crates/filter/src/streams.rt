@@ -1,11 +1,10 @@
 //! A run from a reader to a writer, as the program makes it.
-ghost use Rattle.std.specs.Prelude.{◌≡◌, true, [], ◌++◌, OnOk};
+ghost use Rattle.std.specs.Prelude.{◌≡◌, ◌≢◌, true, [], ◌++◌, IfSome, OnOk};
 ghost use Rattle.std.specs.Io.KnownBytes.{Appends};
 ghost use Rattle.device.specs.Buffered.{buffered_bytes, sink_of};
 ghost use Rattle.device.specs.Streams.{reader_of, writer_of};
-ghost use Rattle.filter.specs.Private.LineEnd.{PassesAfter};
-ghost use Rattle.filter.specs.Run.{IsAllOf, IsPassedOn, Produces, Runs};
-ghost use Rattle.filter.specs.Script.{taken};
+ghost use Rattle.filter.specs.Run.{IsPassedOn, Produces, Runs};
+ghost use Rattle.filter.specs.Filter.{taken};
 
 use crate::status::{RunFault, Status};
 use crate::whole_run::run;
@@ -29,7 +28,8 @@ pub fn run_streams<R: Read, W: Write, E: Sink>(
 ) -> Result<Status, RunFault>
     ensures runs { Runs (⟦<StdSource<R> as Source>⟧) (⟦<Buffered<StdSink<W>> as Sink>⟧) E.Sink
         (IsPassedOn (buffered_bytes out.new)) options source.old source.new out.old out.new err.old err.new result }
-    ensures whole { OnOk result (Produces options (IsAllOf (R.remaining (reader_of source.old)))
+    ensures whole { OnOk result (Produces options
+        (λ text. IfSome (R.remaining (reader_of source.old)) (λ bytes. text ≡ bytes))
         (taken (λ stream. Appends (W.contents (writer_of (sink_of out.old)))
         (W.contents (writer_of (sink_of out.new))) (buffered_bytes out.old ++ stream))
         (E.took err.old err.new)) result) }
@@ -52,8 +52,9 @@ pub fn run_streams<R: Read, W: Write, E: Sink>(
 fn pass_on_after<S: Sink>(fault: RunFault, out: &mut Buffered<S>)
     ensures bytes { ⟦<Buffered<S> as Sink>⟧.took out.old out.new [] }
     ensures flushed { ⟦<Buffered<S> as Sink>⟧.is_flushed out.new ≡ ⟦<Buffered<S> as Sink>⟧.is_flushed out.old }
-    ensures passes { PassesAfter (buffered_bytes out.new) (⟦<Buffered<S> as Sink>⟧.failures out.old)
-        (⟦<Buffered<S> as Sink>⟧.failures out.new) fault }
+    ensures failed { fault ≡ RunFault.WriteOut → out.new ≡ out.old }
+    ensures passes { fault ≢ RunFault.WriteOut → IsPassedOn (buffered_bytes out.new)
+        (⟦<Buffered<S> as Sink>⟧.failures out.old) (⟦<Buffered<S> as Sink>⟧.failures out.new) }
 {
     match fault {
         RunFault::WriteOut => {}

@@ -1,5 +1,6 @@
 //! A run over a whole input.
-ghost use Rattle.filter.specs.Run.{Runs, Stays};
+ghost use Rattle.std.specs.Prelude.{◌≡◌};
+ghost use Rattle.filter.specs.Run.{Runs};
 
 use crate::filter::Filter;
 use crate::status::{RunFault, Status};
@@ -20,8 +21,8 @@ pub fn run<S: Source, O: Sink, E: Sink>(
     out: &mut O,
     err: &mut E,
 ) -> Result<Status, RunFault>
-    ensures { Runs S.Source O.Sink E.Sink Stays options source.old source.new out.old out.new
-        err.old err.new result }
+    ensures { Runs S.Source O.Sink E.Sink (λ old new. new ≡ old) options source.old source.new
+        out.old out.new err.old err.new result }
 {
     let mut filter = Filter::new(options);
     let mut buffer = [0u8; 4096];

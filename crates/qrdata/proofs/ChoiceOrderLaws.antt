@@ -41,11 +41,6 @@ better_tells c d = elim (cases_lt d.bits c.bits) [
   ]
 ]
 
--- a choice of fewer bits is the better one
-pub better-fewer : (c d : ChoiceView) → d.bits < c.bits → better_choice c d ≡ d
-unfolding better_choice
-better-fewer c d less = rw (lt-ltb d.bits c.bits less) refl
-
 pub better-left : (c d : ChoiceView) (bits len : ℕ) → Beats c bits len → Beats (better_choice c d) bits len
 better-left c d bits len h = elim (better_tells c d) [
   | inl w ↦ rw w.0 (beats_then d.bits c.bits bits d.segment.len c.segment.len len w.1.0 w.1.1 h.0 h.1)

@@ -83,9 +83,9 @@ two_shown codewords pairs i h p =
 
 -- ---- two modules of a row
 
--- two bits of a row are zeros
-pub two_clear : (w x : ℕ) → bit_and (w / 2 ^ x) 3 ≡ 0 → (bit w x ≡ false) × (bit w (x + 1) ≡ false)
-two_clear w x e =
+-- two bits of a row are ones
+pub two_set : (w x : ℕ) → bit_and (w / 2 ^ x) 3 ≡ 3 → (bit w x ≡ true) × (bit w (x + 1) ≡ true)
+two_set w x e =
     let none : 0 + x ≡ x = omega arith in
     let one : 1 + x ≡ x + 1 = omega arith in (
       ap (bit w) (sym none) ∙ sym (shr_bit w x 0) ∙ sym (and_all (bit (w / 2 ^ x) 0)) ∙ sym (and_bit (w / 2 ^ x) 3 0)

@@ -1,6 +1,6 @@
 -- One step of the placement.
 use Rattle.std.proofs.Common.{◌≡◌, ◌≢◌, ℕ, suc, ◌+◌, ◌-◌, ◌*◌, ◌/◌, ◌%◌, ◌<◌, ◌≤◌, refl, sym, ap, subst, ◌∙◌, arith}
-use Rattle.std.proofs.Common.{Bool, true, false, cond, not, List, inl, inr, add-zero}
+use Rattle.std.proofs.Common.{Bool, true, false, cond, List, inl, inr, add-zero}
 use Rattle.std.specs.Prelude.{◌==◌, ◌&&◌, nat_lt, if◌then◌else◌}
 use Rattle.std.proofs.lemmas.Bool.{cases_eq, cases_Bool, eq-eqb, ne_eqb}
 use Rattle.std.proofs.lemmas.Bool.Decides.{nat_tests}
@@ -11,7 +11,7 @@ use Rattle.qrmatrix.specs.Bits.{bit}
 use Rattle.qrmatrix.specs.Square.{value_at}
 use Rattle.qrmatrix.specs.Private.Squares.{WritesAt, WritesTwo}
 use Rattle.qrmatrix.specs.Private.CodewordPairs.{ShowsTwo}
-use Rattle.qrmatrix.specs.Private.Drawing.{MarksFunctions}
+use Rattle.qrmatrix.specs.Private.Drawing.{MarksFree}
 use Rattle.qrmatrix.proofs.VersionLaws.{Computed}
 use Rattle.qrmatrix.proofs.RankLaws.{free_below, free_below_more, free_below_none, rank-free_below, unique}
 
@@ -24,7 +24,7 @@ abbrev pub row_of : ℕ → ℕ → ℕ → ℕ
 row_of n strip t = if strip % 2 == 0 then n - 1 - t else t
 
 -- the first i bits are placed on the free modules with a key below k, the other free modules are light, and no
--- function module is written
+-- other module is written
 pub record Placed (v : ℕ) (codewords : List ℕ) (old new : ℕ → ℕ → Bool) (i k : ℕ) : Type 0 where
   pub counted : i ≡ free_below v k
   pub bounded : i ≤ k
@@ -128,7 +128,7 @@ module _ (v : ℕ) (c : Computed v) (codewords : List ℕ) (old m : ℕ → ℕ 
         rows = λ x y l. unwritten m n a b (codeword_bit codewords i) w x y (λ ex ey. omega arith) ∙ p.rows x y l;
       }
 
-  -- a function module is passed over
+  -- a module that is not free is passed over
   step_taken : is_free v a b ≡ false → Placed v codewords old m i (k + 1)
   step_taken f =
       let more = free_below_more v c a b k la lb ne e in
@@ -150,20 +150,20 @@ module _ (v : ℕ) (c : Computed v) (codewords : List ℕ) (old m : ℕ → ℕ 
       }
 
   -- what `place_module` leaves
-  step_any : (function n : List (List Bool)) (before : List (List Bool)) (j : ℕ) → value_at before ≡ m
-      → MarksFunctions v function
-      → (value_at function a b ≡ false → (j ≡ i + 1) × WritesAt before n a b (codeword_bit codewords i))
-      → (value_at function a b ≡ true → (j ≡ i) × (n ≡ before))
+  step_any : (free n : List (List Bool)) (before : List (List Bool)) (j : ℕ) → value_at before ≡ m
+      → MarksFree v free
+      → (value_at free a b ≡ true → (j ≡ i + 1) × WritesAt before n a b (codeword_bit codewords i))
+      → (value_at free a b ≡ false → (j ≡ i) × (n ≡ before))
       → Placed v codewords old (value_at n) j (k + 1)
-  step_any function n before j em marks written_if kept_if =
+  step_any free n before j em marks written_if kept_if =
       elim (cases_Bool (is_free v a b)) [
         | inl f ↦
-            let here : value_at function a b ≡ false = marks a b la lb ∙ ap not f in
+            let here : value_at free a b ≡ true = marks.inside a b la lb ∙ f in
             let w = written_if here in
             subst (λ z. Placed v codewords old (value_at n) z (k + 1)) (sym w.0)
             (step_free (value_at n) f (subst (λ z. Writes z (value_at n) a b (codeword_bit codewords i)) em w.1))
         | inr f ↦
-            let here : value_at function a b ≡ true = marks a b la lb ∙ ap not f in
+            let here : value_at free a b ≡ false = marks.inside a b la lb ∙ f in
             let w = kept_if here in
             subst (λ z. Placed v codewords old (value_at n) z (k + 1)) (sym w.0)
             (subst (λ z. Placed v codewords old z i (k + 1)) (sym (ap value_at w.1 ∙ em)) (step_taken f))
@@ -182,10 +182,6 @@ placed_none v c codewords m k e light =
       columns = λ x y l. refl;
       rows = λ x y l. refl;
     }
-
-free_from : (b : Bool) → not b ≡ false → b ≡ true
-free_from true h = refl
-free_from false h = sym h
 
 -- a row of a strip, the cursor at its right module
 pub record AtRow (v s t right y : ℕ) : Type 0 where
@@ -260,19 +256,18 @@ Placed-moved {v} {codewords} {old} {m} {n} {i} {j} {k} p same_modules same_count
     subst (λ z. Placed v codewords old n z k) (sym same_count)
     (subst (λ z. Placed v codewords old z i k) (sym same_modules) p)
 
--- The cursor is at a row of a strip of a symbol whose function modules are marked.
-module _ {v : ℕ} (codewords : List ℕ) (old : ℕ → ℕ → Bool) (function : List (List Bool)) {s t right y : ℕ}
-    (marks : MarksFunctions v function) (at : AtRow v s t right y) where
-  -- the two modules of the row that are not marked are free
-  both_free : (value_at function (right - 1) y ≡ false) × (value_at function (right - 1 + 1) y ≡ false)
+-- The cursor is at a row of a strip of a symbol whose free modules are marked.
+module _ {v : ℕ} (codewords : List ℕ) (old : ℕ → ℕ → Bool) (marked : List (List Bool)) {s t right y : ℕ}
+    (marks : MarksFree v marked) (at : AtRow v s t right y) where
+  -- the two modules of the row that are marked are free
+  both_free : (value_at marked (right - 1) y ≡ true) × (value_at marked (right - 1 + 1) y ≡ true)
       → (is_free v right y ≡ true) × (is_free v (right - 1) y ≡ true)
   both_free free =
       let r = right_key v s t right y at in
       let l = left_key v s t right y at in
       let e : right - 1 + 1 ≡ right = right_positive v s t right y at in (
-        free_from (is_free v right y)
-            (sym (marks right y r.inside r.row_inside) ∙ ap (λ z. value_at function z y) (sym e) ∙ free.1),
-        free_from (is_free v (right - 1) y) (sym (marks (right - 1) y l.inside l.row_inside) ∙ free.0),
+        sym (marks.inside right y r.inside r.row_inside) ∙ ap (λ z. value_at marked z y) (sym e) ∙ free.1,
+        sym (marks.inside (right - 1) y l.inside l.row_inside) ∙ free.0,
       )
 
   -- the two modules of the row, one after the other
@@ -280,18 +275,18 @@ module _ {v : ℕ} (codewords : List ℕ) (old : ℕ → ℕ → Bool) (function
   -- h count the bits; each call ensures one fact for a free module and one for another
   pub placed_pair : Computed v → (m n o : List (List Bool)) (i j h : ℕ)
       → Placed v codewords old (value_at m) i (2 * side_of v * s + 2 * t)
-      → (value_at function right y ≡ false → (j ≡ i + 1) × WritesAt m n right y (codeword_bit codewords i))
-      → (value_at function right y ≡ true → (j ≡ i) × (n ≡ m))
-      → (value_at function (right - 1) y ≡ false → (h ≡ j + 1) × WritesAt n o (right - 1) y (codeword_bit codewords j))
-      → (value_at function (right - 1) y ≡ true → (h ≡ j) × (o ≡ n))
+      → (value_at marked right y ≡ true → (j ≡ i + 1) × WritesAt m n right y (codeword_bit codewords i))
+      → (value_at marked right y ≡ false → (j ≡ i) × (n ≡ m))
+      → (value_at marked (right - 1) y ≡ true → (h ≡ j + 1) × WritesAt n o (right - 1) y (codeword_bit codewords j))
+      → (value_at marked (right - 1) y ≡ false → (h ≡ j) × (o ≡ n))
       → Placed v codewords old (value_at o) h (2 * side_of v * s + 2 * (t + 1))
   placed_pair c m n o i j h p w0 k0 w1 k1 =
       let r = right_key v s t right y at in
       let l = left_key v s t right y at in
       let first = step_any v c codewords old (value_at m) i (2 * side_of v * s + 2 * t) right y p r.inside r.row_inside
-      r.untimed r.has function n m j refl marks w0 k0 in
+      r.untimed r.has marked n m j refl marks w0 k0 in
       let second = step_any v c codewords old (value_at n) j (2 * side_of v * s + 2 * t + 1) (right - 1) y first l.inside
-      l.row_inside l.untimed l.has function o n h refl marks w1 k1 in
+      l.row_inside l.untimed l.has marked o n h refl marks w1 k1 in
       subst (λ z. Placed v codewords old (value_at o) h z) (row_done (side_of v) s t) second
 
   -- the two modules of the row at once, where both are free
@@ -299,7 +294,7 @@ module _ {v : ℕ} (codewords : List ℕ) (old : ℕ → ℕ → Bool) (function
   -- its test
   pub placed_two : Computed v → (m o : List (List Bool)) (i two : ℕ)
       → Placed v codewords old (value_at m) i (2 * side_of v * s + 2 * t)
-      → (value_at function (right - 1) y ≡ false) × (value_at function (right - 1 + 1) y ≡ false)
+      → (value_at marked (right - 1) y ≡ true) × (value_at marked (right - 1 + 1) y ≡ true)
       → ShowsTwo two (codeword_bit codewords i) (codeword_bit codewords (i + 1))
       → WritesTwo m o (right - 1) y (bit two 0) (bit two 1)
       → Placed v codewords old (value_at o) (i + 2) (2 * side_of v * s + 2 * (t + 1))
@@ -320,7 +315,7 @@ module _ {v : ℕ} (codewords : List ℕ) (old : ℕ → ℕ → Bool) (function
 
   -- free modules at the cursor are light
   pub light_ahead : (m : List (List Bool)) (i : ℕ) → Placed v codewords old (value_at m) i (2 * side_of v * s + 2 * t)
-      → (value_at function (right - 1) y ≡ false) × (value_at function (right - 1 + 1) y ≡ false)
+      → (value_at marked (right - 1) y ≡ true) × (value_at marked (right - 1 + 1) y ≡ true)
       → (value_at m (right - 1) y ≡ false) × (value_at m (right - 1 + 1) y ≡ false)
   light_ahead m i p free =
       let r = right_key v s t right y at in

@@ -22,6 +22,39 @@ pub record Found (f : ℕ → ℕ) (n k value : ℕ) : Type 0 where
   pub lowest : Lowest f n k
   pub at : value ≡ f k
 
+-- the next number is lower
+pub Found-lower : {f : ℕ → ℕ} {n k value next low : ℕ} → Found f n k value → next ≡ n → low ≡ f n → low < value
+    → Found f (n + 1) next low
+Found-lower {f} {n} {k} {value} {next} {low} found last at less =
+    let e = found.at in
+    record {
+      lowest = record {
+        among = omega arith;
+        lowest = λ j h. elim (cases_eq j n) [
+          | inl same ↦ rw (last, same) (omega arith)
+          | inr ne ↦ rw last (omega (arith, found.lowest.lowest j (omega arith)))
+        ];
+        first = λ j h. rw last (omega (arith, found.lowest.lowest j (omega arith)));
+      };
+      at = rw last at;
+    }
+
+-- the next number is not lower
+pub Found-kept : {f : ℕ → ℕ} {n k value : ℕ} → Found f n k value → value ≤ f n → Found f (n + 1) k value
+Found-kept {f} {n} {k} {value} found more =
+    let e = found.at in
+    record {
+      lowest = record {
+        among = let l = found.lowest.among in omega arith;
+        lowest = λ j h. elim (cases_eq j n) [
+          | inl same ↦ rw same (omega arith)
+          | inr ne ↦ found.lowest.lowest j (omega arith)
+        ];
+        first = found.lowest.first;
+      };
+      at = found.at;
+    }
+
 -- a test of each of the numbers f 0, f 1, ..
 all_mapped : (f : ℕ → ℕ) (p : ℕ → Bool) (a n : ℕ) → ((j : ℕ) → a ≤ j → j < a + n → p (f j) ≡ true)
     → list_all p (map f (range_with_len a n)) ≡ true

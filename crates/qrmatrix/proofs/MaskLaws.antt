@@ -1,22 +1,22 @@
 -- The rows of the masks, 64 bits each.
-use Rattle.std.proofs.Common.{◌≡◌, ℕ, ◌+◌, ◌*◌, ◌%◌, ◌<◌, ◌≤◌, ◌^◌, refl, ap, ◌∙◌, arith, Bool, true, false, not, cond}
-use Rattle.std.proofs.Common.{◌&&◌, List, []}
-use Rattle.std.specs.Prelude.{slice_index_or, ◌==◌, bit_and}
+use Rattle.std.proofs.Common.{◌≡◌, ℕ, ◌+◌, ◌%◌, ◌<◌, ◌≤◌, ◌^◌, refl, sym, ap, ◌∙◌, arith, Bool, true, false, not}
+use Rattle.std.proofs.Common.{◌&&◌, List, [], inl, inr}
+use Rattle.std.specs.Prelude.{slice_index_or, ◌==◌, bit_and, bit_xor, if◌then◌else◌, nat_lt}
 use Rattle.std.specs.Bool.{beq}
 use Rattle.std.specs.Int.{bit_not, w64}
-use Rattle.qrmatrix.specs.declared.mask.TheConstants.{PATTERNS, EVERY_SIXTH}
+use Rattle.qrmatrix.specs.declared.mask.TheConstants.{PATTERNS}
 use Rattle.qrmatrix.specs.Bits.{bit}
 use Rattle.qrmatrix.specs.Masks.{is_flipped}
 use Rattle.qrmatrix.specs.Private.Squares.{flip_if}
 use Rattle.qrmatrix.specs.Square.{value_at}
-use Rattle.qrmatrix.specs.Private.Drawing.{module_under_mask}
-use Rattle.qrmatrix.proofs.PassLaws.{Mapped, row_turned}
+use Rattle.qrmatrix.specs.Private.Drawing.{IsMaskedTo, module_under_mask}
 use Rattle.qrmatrix.proofs.SumLaws.{all_below, all_below_at}
-use Rattle.qrmatrix.proofs.RowBitsLaws.{and_bit, not_bit, same_beq}
+use Rattle.qrmatrix.proofs.RowBitsLaws.{above_bit, and_bit, not_bit, same_beq, xor_bit}
+use Rattle.std.proofs.lemmas.Bool.{cases_eq, cases_lt, eq-eqb, le-ltb, lt-ltb, ne_eqb}
 
 -- the row that the table of patterns gives
 abbrev pub mask_row_bits : ℕ → ℕ → ℕ
-mask_row_bits mask place = slice_index_or (slice_index_or {A = List ℕ} PATTERNS mask []) place 0 * EVERY_SIXTH
+mask_row_bits mask place = slice_index_or (slice_index_or {A = List ℕ} PATTERNS mask []) place 0
 
 is_mask_right : ℕ → ℕ → ℕ → Bool
 is_mask_right mask y x = beq (bit (mask_row_bits mask (y % 12)) x) (is_flipped mask x y)
@@ -35,42 +35,62 @@ bit-mask_row_bits mask y x lm ly lx =
     (all_below_at 8 (λ mask. all_below 57 (λ y. all_below 57
     (is_mask_right mask y))) are_masks_right mask lm) y ly) x lx)
 
-free_flip : (f t b : Bool) → flip_if (not f && t) b ≡ cond f b (flip_if t b)
-free_flip true true b = refl
-free_flip true false b = refl
-free_flip false true b = refl
-free_flip false false b = refl
+masked_bit : (f t b : Bool) → not (beq b (t && f)) ≡ (if f then flip_if t b else b)
+masked_bit true true true = refl
+masked_bit true true false = refl
+masked_bit true false true = refl
+masked_bit true false false = refl
+masked_bit false true true = refl
+masked_bit false true false = refl
+masked_bit false false true = refl
+masked_bit false false false = refl
 
--- one more row under the mask
--- there are four squares: `old` before the pass, `m` and `r` before and after this row, and the function modules;
--- apply_mask, the only caller, has the first fact by its invariant, the next by its call of flip, and proves two on w
-pub masked_row : (n mask row w : ℕ) (old m r function : List (List Bool))
-    → Mapped n old m (module_under_mask mask function old) row 0
-    → ((a b : ℕ) → value_at r a b ≡ flip_if ((b == row) && bit w a) (value_at m a b))
-    → ((a : ℕ) → a < n → bit w a ≡ (not (value_at function a row) && is_flipped mask a row))
-    → ((a : ℕ) → n ≤ a → bit w a ≡ false)
-    → Mapped n old r (module_under_mask mask function old) (row + 1) 0
-masked_row n mask row w old m r function p flipped inside beyond =
-    row_turned n row w old m r (module_under_mask mask function old) p flipped
-    (λ x l. rw (inside x l) (free_flip (value_at function x row) (is_flipped mask x row) (value_at old x row))) beyond
+-- a row of modules that is flipped at the free ones
+pub row_masked : (mask p y : ℕ) (free modules : List (List Bool)) (f w : ℕ) → f < 2 ^ 57
+    → ((x : ℕ) → x < 57 → bit p x ≡ is_flipped mask x y) → ((x : ℕ) → bit f x ≡ value_at free x y)
+    → ((x : ℕ) → bit w x ≡ value_at modules x y) → (x : ℕ)
+    → bit (bit_xor w (bit_and p f)) x ≡ module_under_mask mask free modules x y
+row_masked mask p y free modules f w narrow pattern is_free is_module x =
+    xor_bit w (bit_and p f) x ∙ elim (cases_lt x 57) [
+      | inl l ↦ rw (and_bit p f x, pattern x l, is_free x, is_module x)
+          (masked_bit (value_at free x y) (is_flipped mask x y) (value_at modules x y))
+      | inr g ↦
+          let none : bit f x ≡ false = above_bit f 57 x narrow g in
+          let taken : value_at free x y ≡ false = sym (is_free x) ∙ none in
+          rw (and_bit p f x, none, taken, is_module x) (masked_bit false (bit p x) (value_at modules x y))
+    ]
 
-pub and_turned : (a b : Bool) → (a && (true && b)) ≡ (b && a)
-and_turned true true = refl
-and_turned true false = refl
-and_turned false true = refl
-and_turned false false = refl
+-- one more row is under the mask
+pub masked_more : (last mask w : ℕ) (free modules start m new : List (List Bool))
+    → IsMaskedTo last mask free modules start m
+    → ((x y : ℕ) → value_at new x y ≡ (if y == last then bit w x else value_at m x y))
+    → ((x : ℕ) → bit w x ≡ module_under_mask mask free modules x last)
+    → IsMaskedTo (last + 1) mask free modules start new
+masked_more last mask w free modules start m new before put row x y =
+    put x y ∙ elim (cases_eq y last) [
+      | inl e ↦ rw (eq-eqb y last e, lt-ltb y (last + 1) (omega arith))
+          (row x ∙ ap (λ z. module_under_mask mask free modules x z) (sym e))
+      | inr ne ↦ rw (ne_eqb y last ne) (before x y ∙ ap
+          (λ z. if z then module_under_mask mask free modules x y else value_at start x y) (same ne))
+    ]
+  where
+    same : (y ≡ last → ⊥) → nat_lt y last ≡ nat_lt y (last + 1)
+    same ne = elim (cases_lt y last) [
+      | inl l ↦ rw (lt-ltb y last l, lt-ltb y (last + 1) (omega arith)) refl
+      | inr g ↦ rw (le-ltb y last g, le-ltb y (last + 1) (omega arith)) refl
+    ]
 
-and_none : (a b : Bool) → (a && (false && b)) ≡ false
-and_none true b = refl
-and_none false b = refl
+not_not : (b : Bool) → not (not b) ≡ b
+not_not true = refl
+not_not false = refl
 
-pub and_three : (w l r a : ℕ) → a < 64 → r < 2 ^ 57
-    → bit (bit_and w (bit_and l (bit_not w64 r))) a ≡ (bit w a && (bit l a && not (bit r a)))
-and_three w l r a h k =
-    and_bit w (bit_and l (bit_not w64 r)) a
-    ∙ ap (λ z. bit w a && z) (and_bit l (bit_not w64 r) a ∙ ap (λ z. bit l a && z) (not_bit r a (omega arith) h))
+-- the modules that patterns leave free in a row
+pub left_free : (low taken n x : ℕ) (free : Bool) → taken < 2 ^ 64 → x < n → n ≤ 57 → bit low x ≡ nat_lt x n
+    → bit taken x ≡ not free → bit (bit_and low (bit_not w64 taken)) x ≡ free
+left_free low taken n x free narrow l small is_low is_taken =
+    and_bit low (bit_not w64 taken) x
+    ∙ rw (is_low, lt-ltb x n l, not_bit taken x narrow (omega arith), is_taken) (not_not free)
 
-pub and_beyond : (w l r a : ℕ) → bit l a ≡ false → bit (bit_and w (bit_and l r)) a ≡ false
-and_beyond w l r a h =
-    and_bit w (bit_and l r) a ∙ ap (λ z. bit w a && z) (and_bit l r a ∙ ap (λ z. z && bit r a) h)
-    ∙ and_none (bit w a) (bit r a)
+pub left_beyond : (low taken n x : ℕ) → n ≤ x → bit low x ≡ nat_lt x n
+    → bit (bit_and low (bit_not w64 taken)) x ≡ false
+left_beyond low taken n x g is_low = and_bit low (bit_not w64 taken) x ∙ rw (is_low, le-ltb x n g) refl

@@ -52,8 +52,8 @@ rows_kept n a b old m target p l kept =
     ]
 
 -- one more row is turned over by row bits
--- `old` is the square before the pass, `m` and `r` are before and after this row; it is used twice in draw_format,
--- twice in draw_functions and in masked_row, each time with another target or other row bits
+-- `old` is the square before the pass, `m` and `r` are before and after this row; it is used twice in draw_format and
+-- twice in draw_functions, each time with another target or other row bits
 pub row_turned : (n row w : ℕ) (old m r : List (List Bool)) (target : ℕ → ℕ → Bool) → Mapped n old m target row 0
     → ((a b : ℕ) → value_at r a b ≡ flip_if ((b == row) && bit w a) (value_at m a b))
     → ((a : ℕ) → a < n → flip_if (bit w a) (value_at old a row) ≡ target a row)

@@ -52,6 +52,17 @@ row_written ws w x y value rows narrow ly h a b =
       | inr ne ↦ rw (ne_eqb b y ne, and_right (a == x) false refl) (ap (λ z. bit z a) (get_or-set_other ws y b w 0 ne))
     ])
 
+-- a whole row is written
+pub row_put : (ws : List ℕ) (w y : ℕ) → AreRows ws → w < 2 ^ 57 → y < 57 → (a b : ℕ)
+    → value_at (map low_bits (set ws y w)) a b ≡ (if b == y then bit w a else value_at (map low_bits ws) a b)
+row_put ws w y rows narrow ly a b =
+    let l : y < length ws = let e = rows.count in omega arith in
+    rw (rows_seen ws rows.narrow a b, rows_seen (set ws y w) (All-set (λ w. w < 2 ^ 57) ws y w narrow rows.narrow) a b)
+    (elim (cases_eq b y) [
+      | inl e ↦ rw (e, get_or-set_same ws y w 0 l, eq-eqb y y refl) refl
+      | inr ne ↦ rw (ne_eqb b y ne) (ap (λ z. bit z a) (get_or-set_other ws y b w 0 ne))
+    ])
+
 pub narrow_at : (ws : List ℕ) → All (λ w. w < 2 ^ 57) ws → (y : ℕ) → get_or ws y 0 < 2 ^ 57
 narrow_at [] h y = omega arith
 narrow_at (w ∷ ws) h zero = All-head (λ w. w < 2 ^ 57) w ws h

@@ -1,5 +1,5 @@
 -- The module under a mask: what was drawn for all masks, the format information of this one, and the mask.
-use Rattle.std.proofs.Common.{◌≡◌, ℕ, ◌<◌, refl, ap, Bool, true, false, not, List}
+use Rattle.std.proofs.Common.{◌≡◌, ℕ, ◌<◌, refl, ap, Bool, true, false, List}
 use Rattle.std.specs.Prelude.{unwrap_or, if◌then◌else◌, Option, Some, None, is_none, option_map}
 use Rattle.std.proofs.lemmas.Bool.{both_ways}
 use Rattle.qrdata.specs.declared.level.Level.{Level}
@@ -33,23 +33,22 @@ free_is_light v None h = refl
 -- the module of each role
 -- the proof is by cases of the role, so f, t, chosen and old are values, with facts on those that depend on it;
 -- `under`, the only caller, gives its terms: two modules, the mask and the codeword bit
-shown : (v : ℕ) (level : Level) (mask : ℕ) (r : Option Role) (f t chosen old : Bool) → f ≡ not (is_none r)
+shown : (v : ℕ) (level : Level) (mask : ℕ) (r : Option Role) (f t chosen old : Bool) → f ≡ is_none r
     → (is_none r ≡ true → old ≡ chosen) → (is_none r ≡ false → old ≡ unmasked_module v r)
-    → (if f then flip_if (format_module (format_information level mask) r) old else
-    flip_if t (flip_if (format_module (format_information level mask) r) old))
+    → flip_if (format_module (format_information level mask) r) (if f then flip_if t old else old)
     ≡ unwrap_or (option_map (module_of_role v level mask) r) (xor t chosen)
 shown v level mask (Some (Function b)) f t chosen old e free taken = rw e (taken refl)
 shown v level mask (Some (Format i)) f t chosen old e free taken = rw (e, taken refl) (flip_light _)
 shown v level mask (Some (Version i)) f t chosen old e free taken = rw e (taken refl)
 shown v level mask None f t chosen old e free taken = rw (e, xor-flip_if t chosen) (ap (flip_if t) (free refl))
 
-pub under : {v : ℕ} {level : Level} {mask : ℕ} {codewords : List ℕ} {function old m : List (List Bool)}
-    → IsUnmasked v codewords function old
-    → ShowsFormat v level mask old m → (x y : ℕ) → x < side_of v → y < side_of v
-    → module_under_mask mask function m x y ≡ unwrap_or (fixed_module v level mask x y)
+pub under : {v : ℕ} {level : Level} {mask : ℕ} {codewords : List ℕ} {free modules m new : List (List Bool)}
+    → IsUnmasked v codewords free modules → ShowsFormat v level mask m new → (x y : ℕ) → x < side_of v → y < side_of v
+    → value_at m x y ≡ module_under_mask mask free modules x y
+    → value_at new x y ≡ unwrap_or (fixed_module v level mask x y)
     (xor (is_flipped mask x y) (codeword_bit codewords (rank v x y)))
 unfolding fixed_module is_free
-under {v} {level} {mask} {codewords} {function} {old} {m} u s x y lx ly =
-    rw (s.inside x y lx ly) (shown v level mask (role v x y) (value_at function x y) (is_flipped mask x y)
-    (codeword_bit codewords (rank v x y)) (value_at old x y) (u.marked x y lx ly) (u.free x y lx ly)
+under {v} {level} {mask} {codewords} {free} {modules} {m} {new} u s x y lx ly e =
+    rw (s.inside x y lx ly, e) (shown v level mask (role v x y) (value_at free x y) (is_flipped mask x y)
+    (codeword_bit codewords (rank v x y)) (value_at modules x y) (u.marked.inside x y lx ly) (u.placed x y lx ly)
     (u.taken x y lx ly))

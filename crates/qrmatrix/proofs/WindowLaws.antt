@@ -1,15 +1,15 @@
 -- Windows of lines by bits of rows.
-use Rattle.std.proofs.Common.{◌≡◌, ℕ, suc, ◌+◌, ◌-◌, ◌*◌, ◌/◌, ◌^◌, ◌<◌, ◌≤◌, refl, sym, ap, ◌∙◌, arith, Bool, true}
-use Rattle.std.proofs.Common.{false, cond, ◌&&◌, add-zero, add-one, List, ◌∷◌, drop, drop-cons, length, get_or}
+use Rattle.std.proofs.Common.{◌≡◌, ℕ, ◌+◌, ◌-◌, ◌/◌, ◌^◌, ◌<◌, ◌≤◌, refl, sym, ap, ◌∙◌, arith, Bool, true}
+use Rattle.std.proofs.Common.{false, cond, ◌&&◌, add-zero, add-one}
 use Rattle.std.specs.Bool.{beq}
 use Rattle.qrmatrix.specs.Private.Counting.{sum_below, count_below, one_if}
 use Rattle.qrmatrix.specs.Bits.{bit}
-use Rattle.qrmatrix.specs.Penalty.{run_penalty, line_penalty, is_uniform, begins_run, shows}
-use Rattle.qrmatrix.specs.Penalty.{window_points, shows_finder}
-use Rattle.qrmatrix.proofs.PenaltySumLaws.{run_penalty-sum, finder_penalty-count}
+use Rattle.qrmatrix.specs.Penalty.{run_penalty, is_uniform, begins_run}
+use Rattle.qrmatrix.specs.Penalty.{window_points}
+use Rattle.qrmatrix.proofs.PenaltySumLaws.{run_penalty-sum}
 use Rattle.qrmatrix.proofs.SumLaws.{sum_below_same}
 use Rattle.qrmatrix.proofs.RowBitsLaws.{shr_bit}
-use Rattle.qrmatrix.proofs.RowSumLaws.{sum_added, sum_scaled, sum_exchanged}
+use Rattle.qrmatrix.proofs.RowSumLaws.{sum_exchanged}
 
 beq_self : (b : Bool) → beq b b ≡ true
 beq_self true = refl

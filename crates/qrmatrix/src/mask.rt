@@ -1,53 +1,130 @@
 //! The eight masks, 64 bits a row.
-ghost use Rattle.std.specs.Prelude.{◌≡◌, ℕ, ◌%◌, ◌<◌, ◌≤◌};
+ghost use Rattle.std.specs.Prelude.{◌≡◌, ℕ, ◌+◌, ◌*◌, ◌/◌, ◌%◌, ◌<◌, ◌≤◌, List, Bool};
 ghost use Rattle.qrmatrix.specs.Bits.{bit};
-ghost use Rattle.qrmatrix.specs.Private.Drawing.{module_under_mask};
+ghost use Rattle.qrmatrix.specs.Private.Drawing.{IsMaskedTo};
 ghost use Rattle.qrmatrix.specs.Masks;
-ghost use Rattle.qrmatrix.specs.Square.{value_at};
-ghost use Rattle.qrmatrix.specs.Private.Squares.{SameOutside};
 
-use crate::row::low_ones;
 use crate::square::{SIDE, Square};
 
-/// For each mask, which of the first six modules it flips in each of the first twelve rows. The first module is the
-/// lowest bit. The masks repeat after six columns and twelve rows.
-const PATTERNS: [[u64; 12]; 8] = [
+/// A one in every sixth place.
+const SIXTHS: u64 = 0x0041041041041041;
+
+/// For each mask, which modules it flips in each of the first twelve rows: six columns, the first one the lowest bit,
+/// over and over. The masks repeat after six columns and twelve rows.
+static PATTERNS: [[u64; 12]; 8] = [
     [
-        0b010101, 0b101010, 0b010101, 0b101010, 0b010101, 0b101010, 0b010101, 0b101010, 0b010101,
-        0b101010, 0b010101, 0b101010,
+        0b010101 * SIXTHS,
+        0b101010 * SIXTHS,
+        0b010101 * SIXTHS,
+        0b101010 * SIXTHS,
+        0b010101 * SIXTHS,
+        0b101010 * SIXTHS,
+        0b010101 * SIXTHS,
+        0b101010 * SIXTHS,
+        0b010101 * SIXTHS,
+        0b101010 * SIXTHS,
+        0b010101 * SIXTHS,
+        0b101010 * SIXTHS,
     ],
     [
-        0b111111, 0b000000, 0b111111, 0b000000, 0b111111, 0b000000, 0b111111, 0b000000, 0b111111,
-        0b000000, 0b111111, 0b000000,
+        0b111111 * SIXTHS,
+        0b000000 * SIXTHS,
+        0b111111 * SIXTHS,
+        0b000000 * SIXTHS,
+        0b111111 * SIXTHS,
+        0b000000 * SIXTHS,
+        0b111111 * SIXTHS,
+        0b000000 * SIXTHS,
+        0b111111 * SIXTHS,
+        0b000000 * SIXTHS,
+        0b111111 * SIXTHS,
+        0b000000 * SIXTHS,
     ],
     [
-        0b001001, 0b001001, 0b001001, 0b001001, 0b001001, 0b001001, 0b001001, 0b001001, 0b001001,
-        0b001001, 0b001001, 0b001001,
+        0b001001 * SIXTHS,
+        0b001001 * SIXTHS,
+        0b001001 * SIXTHS,
+        0b001001 * SIXTHS,
+        0b001001 * SIXTHS,
+        0b001001 * SIXTHS,
+        0b001001 * SIXTHS,
+        0b001001 * SIXTHS,
+        0b001001 * SIXTHS,
+        0b001001 * SIXTHS,
+        0b001001 * SIXTHS,
+        0b001001 * SIXTHS,
     ],
     [
-        0b001001, 0b100100, 0b010010, 0b001001, 0b100100, 0b010010, 0b001001, 0b100100, 0b010010,
-        0b001001, 0b100100, 0b010010,
+        0b001001 * SIXTHS,
+        0b100100 * SIXTHS,
+        0b010010 * SIXTHS,
+        0b001001 * SIXTHS,
+        0b100100 * SIXTHS,
+        0b010010 * SIXTHS,
+        0b001001 * SIXTHS,
+        0b100100 * SIXTHS,
+        0b010010 * SIXTHS,
+        0b001001 * SIXTHS,
+        0b100100 * SIXTHS,
+        0b010010 * SIXTHS,
     ],
     [
-        0b000111, 0b000111, 0b111000, 0b111000, 0b000111, 0b000111, 0b111000, 0b111000, 0b000111,
-        0b000111, 0b111000, 0b111000,
+        0b000111 * SIXTHS,
+        0b000111 * SIXTHS,
+        0b111000 * SIXTHS,
+        0b111000 * SIXTHS,
+        0b000111 * SIXTHS,
+        0b000111 * SIXTHS,
+        0b111000 * SIXTHS,
+        0b111000 * SIXTHS,
+        0b000111 * SIXTHS,
+        0b000111 * SIXTHS,
+        0b111000 * SIXTHS,
+        0b111000 * SIXTHS,
     ],
     [
-        0b111111, 0b000001, 0b001001, 0b010101, 0b001001, 0b000001, 0b111111, 0b000001, 0b001001,
-        0b010101, 0b001001, 0b000001,
+        0b111111 * SIXTHS,
+        0b000001 * SIXTHS,
+        0b001001 * SIXTHS,
+        0b010101 * SIXTHS,
+        0b001001 * SIXTHS,
+        0b000001 * SIXTHS,
+        0b111111 * SIXTHS,
+        0b000001 * SIXTHS,
+        0b001001 * SIXTHS,
+        0b010101 * SIXTHS,
+        0b001001 * SIXTHS,
+        0b000001 * SIXTHS,
     ],
     [
-        0b111111, 0b000111, 0b011011, 0b010101, 0b101101, 0b110001, 0b111111, 0b000111, 0b011011,
-        0b010101, 0b101101, 0b110001,
+        0b111111 * SIXTHS,
+        0b000111 * SIXTHS,
+        0b011011 * SIXTHS,
+        0b010101 * SIXTHS,
+        0b101101 * SIXTHS,
+        0b110001 * SIXTHS,
+        0b111111 * SIXTHS,
+        0b000111 * SIXTHS,
+        0b011011 * SIXTHS,
+        0b010101 * SIXTHS,
+        0b101101 * SIXTHS,
+        0b110001 * SIXTHS,
     ],
     [
-        0b010101, 0b111000, 0b110001, 0b101010, 0b000111, 0b001110, 0b010101, 0b111000, 0b110001,
-        0b101010, 0b000111, 0b001110,
+        0b010101 * SIXTHS,
+        0b111000 * SIXTHS,
+        0b110001 * SIXTHS,
+        0b101010 * SIXTHS,
+        0b000111 * SIXTHS,
+        0b001110 * SIXTHS,
+        0b010101 * SIXTHS,
+        0b111000 * SIXTHS,
+        0b110001 * SIXTHS,
+        0b101010 * SIXTHS,
+        0b000111 * SIXTHS,
+        0b001110 * SIXTHS,
     ],
 ];
-
-/// A one in every sixth place.
-const EVERY_SIXTH: u64 = 0x0041041041041041;
 
 /// Returns the modules that a mask flips in the rows `place`, `place` + 12 and so on.
 fn mask_row_bits(mask: u8, place: usize) -> u64
@@ -56,21 +133,41 @@ fn mask_row_bits(mask: u8, place: usize) -> u64
     ensures { (x y : ℕ) → x < SIDE → y < SIDE → y % 12 ≡ place
         → bit result x ≡ Masks.is_flipped mask x y }
 {
-    PATTERNS[usize::from(mask)][place] * EVERY_SIXTH
+    PATTERNS[usize::from(mask)][place]
 }
 
-/// Flips the free modules by the mask.
-pub fn apply_mask(n: usize, mask: u8, function: &Square, modules: &mut Square)
+/// Writes `count` rows from row `first` on, with the free modules flipped by the mask.
+fn write_rows(
+    first: usize,
+    count: usize,
+    mask: u8,
+    free: &Square,
+    modules: &Square,
+    masked: &mut Square,
+)
+    requires first { first % 12 ≡ 0 }
+    requires count { count ≤ 12 }
+    requires inside { first + count ≤ SIDE }
+    requires mask { mask < 8 }
+    ensures { (start : List (List Bool)) → IsMaskedTo first mask free.now modules.now start masked.old
+        → IsMaskedTo (first + count) mask free.now modules.now start masked.new }
+{
+    for place in 0..count {
+        let y = first + place;
+        let flipped = mask_row_bits(mask, place) & free.row(y);
+        masked.put(y, modules.row(y) ^ flipped);
+    }
+}
+
+/// Writes the modules, the free ones flipped by the mask, into the first `n` rows of `masked`: twelve rows at a time,
+/// since the masks repeat after them.
+pub fn write_masked(n: usize, mask: u8, free: &Square, modules: &Square, masked: &mut Square)
     requires side { n ≤ SIDE }
     requires mask { mask < 8 }
-    ensures inside { (x y : ℕ) → x < n → y < n → value_at modules.new x y
-        ≡ module_under_mask mask function.now modules.old x y }
-    ensures outside { SameOutside n modules.old modules.new }
+    ensures { IsMaskedTo n mask free.now modules.now masked.old masked.new }
 {
-    let mut place = 0;
-    for y in 0..n {
-        let free = low_ones(n) & !function.row(y);
-        modules.flip(y, mask_row_bits(mask, place) & free);
-        place = if place == 11 { 0 } else { place + 1 };
+    for block in 0..n / 12 {
+        write_rows(12 * block, 12, mask, free, modules, masked);
     }
+    write_rows(n / 12 * 12, n % 12, mask, free, modules, masked);
 }

@@ -9,7 +9,7 @@ ghost use Rattle.qrmatrix.specs.Bits.{bit};
 ghost use Rattle.qrmatrix.specs.Square.{value_at};
 ghost use Rattle.qrmatrix.specs.Private.Squares.{WritesAt, WritesTwo};
 ghost use Rattle.qrmatrix.specs.Private.CodewordPairs.{ArePairs, ShowsTwo};
-ghost use Rattle.qrmatrix.specs.Private.Drawing.{MarksFunctions, PlacesCodewords};
+ghost use Rattle.qrmatrix.specs.Private.Drawing.{MarksFree, PlacesCodewords};
 
 use crate::square::{SIDE, Square};
 use qrdata::{Codewords, Version};
@@ -30,7 +30,7 @@ fn codeword_bit(codewords: &Codewords, i: usize) -> bool
 /// Places bit `i` on a module, if the module is free, and returns how many bits are placed after that.
 fn place_module(
     codewords: &Codewords,
-    function: &Square,
+    free: &Square,
     modules: &mut Square,
     x: usize,
     y: usize,
@@ -38,15 +38,15 @@ fn place_module(
 ) -> usize
     requires place { (x < SIDE) × (y < SIDE) }
     requires count { i < 2 ^ 32 }
-    ensures free { IsFalse (value_at function.now x y) → (result ≡ i + 1)
+    ensures placed { IsTrue (value_at free.now x y) → (result ≡ i + 1)
         × WritesAt modules.old modules.new x y (Placement.codeword_bit codewords.now.items i) }
-    ensures kept { IsTrue (value_at function.now x y) → (result ≡ i) × (modules.new ≡ modules.old) }
+    ensures kept { IsFalse (value_at free.now x y) → (result ≡ i) × (modules.new ≡ modules.old) }
 {
-    if function.get(x, y) {
-        i
-    } else {
+    if free.get(x, y) {
         modules.set(x, y, codeword_bit(codewords, i));
         i + 1
+    } else {
+        i
     }
 }
 
@@ -77,12 +77,12 @@ fn two_bits(pairs: &[u16; PAIRS], i: usize) -> u64
 }
 
 /// Returns whether the modules at column `x` and at the next one are both free.
-fn are_free(function: &Square, x: usize, y: usize) -> bool
+fn are_free(free: &Square, x: usize, y: usize) -> bool
     requires { (x + 1 < SIDE) × (y < SIDE) }
-    ensures { IsTrue result → (value_at function.now x y ≡ false)
-        × (value_at function.now (x + 1) y ≡ false) }
+    ensures { IsTrue result → (value_at free.now x y ≡ true)
+        × (value_at free.now (x + 1) y ≡ true) }
 {
-    (function.row(y) >> x) & 3 == 0
+    (free.row(y) >> x) & 3 == 3
 }
 
 /// Writes two bits on light modules, the lower one at column `x` and the other one at the next.
@@ -98,8 +98,8 @@ fn place_two(two: u64, modules: &mut Square, x: usize, y: usize)
 
 /// Places the codewords on the free modules, strip after strip from the right, upwards and downwards in turn (ISO/IEC
 /// 18004, 7.7.3).
-pub fn place(version: Version, codewords: &Codewords, function: &Square, modules: &mut Square)
-    requires marked { MarksFunctions version function.now }
+pub fn place(version: Version, codewords: &Codewords, free: &Square, modules: &mut Square)
+    requires marked { MarksFree version free.now }
     requires light { (x y : ℕ) → x < side_of version → y < side_of version
         → is_free version x y ≡ true → value_at modules.old x y ≡ false }
     ensures { PlacesCodewords version codewords.now.items modules.old modules.new }
@@ -115,12 +115,12 @@ pub fn place(version: Version, codewords: &Codewords, function: &Square, modules
         };
         for t in 0..n {
             let y = if strip % 2 == 0 { n - 1 - t } else { t };
-            if are_free(function, right - 1, y) {
+            if are_free(free, right - 1, y) {
                 place_two(two_bits(&pairs, i), modules, right - 1, y);
                 i += 2;
             } else {
-                i = place_module(codewords, function, modules, right, y, i);
-                i = place_module(codewords, function, modules, right - 1, y, i);
+                i = place_module(codewords, free, modules, right, y, i);
+                i = place_module(codewords, free, modules, right - 1, y, i);
             }
         }
     }

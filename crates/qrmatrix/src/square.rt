@@ -79,6 +79,15 @@ impl Square {
         self.rows[y]
     }
 
+    /// Writes the values of row `y`.
+    pub fn put(&mut self, y: usize, row_bits: u64)
+        requires row { y < SIDE }
+        requires row_bits { row_bits < 2 ^ SIDE }
+        ensures { (a b : ℕ) → value_at self.new a b ≡ (if b == y then bit row_bits a else value_at self.old a b) }
+    {
+        self.rows[y] = row_bits;
+    }
+
     /// Turns over the values of row `y` at the places of the ones of `row_bits`.
     pub fn flip(&mut self, y: usize, row_bits: u64)
         requires row { y < SIDE }

@@ -5,25 +5,27 @@ ghost use Rattle.qrmatrix.specs.Private.Drawing.{Draws, DrawsFunctions, Places, 
 ghost use Rattle.qrmatrix.specs.MaskChoice.{chosen_mask};
 ghost use Rattle.qrmatrix.specs.Modules.{module_at};
 ghost use Rattle.qrmatrix.specs.Penalty;
-ghost use Rattle.qrmatrix.specs.Private.Squares.{IsBlank};
+ghost use Rattle.qrmatrix.specs.Private.Squares.{IsBlank, IsWithin};
 
 use crate::format::draw_format;
 use crate::function::function_row;
-use crate::mask::apply_mask;
+use crate::mask::write_masked;
 use crate::penalty::{penalty, penalty_below};
 use crate::placement::place;
+use crate::row::low_ones;
 use crate::square::Square;
 use qrdata::{Codewords, Level, Version};
 
-/// Draws the function patterns on two blank squares: their modules, and those that are dark.
-fn draw_functions(version: Version, function: &mut Square, modules: &mut Square)
-    requires { IsBlank function.old × IsBlank modules.old }
-    ensures { DrawsFunctions version function.new modules.old modules.new }
+/// Draws the function patterns on two blank squares: the modules that they leave free, and those of theirs that are
+/// dark.
+fn draw_functions(version: Version, free: &mut Square, modules: &mut Square)
+    requires { IsBlank free.old × IsBlank modules.old }
+    ensures { DrawsFunctions version free.new modules.old modules.new }
 {
     let n = version.side();
     for y in 0..n {
         let row = function_row(version, y);
-        function.flip(y, row.taken);
+        free.flip(y, low_ones(n) & !row.taken);
         modules.flip(y, row.dark);
     }
 }
@@ -33,8 +35,8 @@ fn draw_functions(version: Version, function: &mut Square, modules: &mut Square)
 pub struct Unmasked {
     version: Version,
     level: Level,
-    /// The modules that the codewords do not choose.
-    function: Square,
+    /// The modules that the codewords choose.
+    free: Square,
     /// The modules that are dark.
     modules: Square,
 }
@@ -48,34 +50,67 @@ pub struct Masked {
     pub modules: Square,
 }
 
+impl Masked {
+    /// Returns a copy.
+    fn copied(&self) -> Masked
+        ensures { result ≡ self.now }
+    {
+        Masked {
+            mask: self.mask,
+            modules: self.modules.copied(),
+        }
+    }
+}
+
 impl Unmasked {
     /// Draws the codewords without a mask.
     pub fn draw(version: Version, level: Level, codewords: &Codewords) -> Unmasked
         ensures { Draws version level codewords.now.items result }
     {
         let mut modules = Square::new();
-        let mut function = Square::new();
-        draw_functions(version, &mut function, &mut modules);
-        place(version, codewords, &function, &mut modules);
+        let mut free = Square::new();
+        draw_functions(version, &mut free, &mut modules);
+        place(version, codewords, &free, &mut modules);
         Unmasked {
             version,
             level,
-            function,
+            free,
             modules,
         }
     }
 
-    /// Lays a mask over a copy of the modules, and draws the format information for it.
+    /// Returns the symbol under a mask.
     pub fn under(&self, mask: u8) -> Masked
         requires { mask < 8 }
         ensures mask { result.mask ≡ mask }
         ensures modules { (codewords : List ℕ) → Places self.now codewords
             → ShowsSymbol self.now codewords result }
+        ensures within { (codewords : List ℕ) → Places self.now codewords
+            → IsWithin (side_of self.now.version) result.modules }
     {
-        let mut modules = self.modules.copied();
-        draw_format(self.version, self.level, mask, &mut modules);
-        apply_mask(self.version.side(), mask, &self.function, &mut modules);
-        Masked { mask, modules }
+        let mut masked = Masked {
+            mask,
+            modules: Square::new(),
+        };
+        self.draw_under(mask, &mut masked);
+        masked
+    }
+
+    /// Draws the symbol under a mask, with the format information for it, over a blank one or over that under another
+    /// mask.
+    fn draw_under(&self, mask: u8, masked: &mut Masked)
+        requires { mask < 8 }
+        ensures mask { masked.new.mask ≡ mask }
+        ensures modules { (codewords : List ℕ) → Places self.now codewords
+            → IsWithin (side_of self.now.version) masked.old.modules → ShowsSymbol self.now codewords masked.new }
+        ensures within { (codewords : List ℕ) → Places self.now codewords
+            → IsWithin (side_of self.now.version) masked.old.modules
+            → IsWithin (side_of self.now.version) masked.new.modules }
+    {
+        let n = self.version.side();
+        write_masked(n, mask, &self.free, &self.modules, &mut masked.modules);
+        draw_format(self.version, self.level, mask, &mut masked.modules);
+        masked.mask = mask;
     }
 
     /// Returns the penalty of the symbol under a mask.
@@ -108,13 +143,14 @@ impl Unmasked {
             → ShowsSymbol self.now codewords result }
         ensures bound { result.mask < 8 }
     {
-        let mut best = self.under(0);
-        let mut lowest = self.penalty_of(&best);
+        let mut next = self.under(0);
+        let mut lowest = self.penalty_of(&next);
+        let mut best = next.copied();
         for mask in 1..8 {
-            let next = self.under(mask);
+            self.draw_under(mask, &mut next);
             if let Some(penalty) = self.penalty_below(&next, lowest) {
                 lowest = penalty;
-                best = next;
+                best = next.copied();
             }
         }
         best

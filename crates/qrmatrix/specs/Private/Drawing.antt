@@ -1,5 +1,5 @@
 -- The square of modules after each step of drawing a symbol (ISO/IEC 18004, 7.7 to 7.9).
-use Rattle.std.specs.Prelude.{◌≡◌, ℕ, ◌<◌, ◌≤◌, ◌^◌, Bool, true, false, not, List, if◌then◌else◌, Option, Some, None}
+use Rattle.std.specs.Prelude.{◌≡◌, ℕ, ◌<◌, ◌≤◌, ◌^◌, Bool, true, false, not, List, if◌then◌else◌, nat_lt, Option, Some, None}
 use Rattle.qrdata.specs.declared.level.Level.{Level}
 use Rattle.qrdata.specs.Versions.{side_of}
 use Rattle.qrmatrix.specs.Bits.{bit}
@@ -15,15 +15,21 @@ use Rattle.qrmatrix.specs.declared.function.PatternRow.{PatternRow}
 use Rattle.qrmatrix.specs.declared.unmasked.Unmasked.{Unmasked}
 use Rattle.qrmatrix.specs.declared.unmasked.Masked.{Masked}
 
--- the square marks the modules that the codewords do not choose
-abbrev pub MarksFunctions : ℕ → List (List Bool) → Type 0
-MarksFunctions v function =
-    (x y : ℕ) → x < side_of v → y < side_of v → value_at function x y ≡ not (is_free v x y)
+-- the square marks the modules that the codewords choose
+pub record MarksFree (v : ℕ) (free : List (List Bool)) : Type 0 where
+  pub inside : (x y : ℕ) → x < side_of v → y < side_of v → value_at free x y ≡ is_free v x y
+  pub outside : (x y : ℕ) → side_of v ≤ x → value_at free x y ≡ false
 
--- a marked module as it is, another with the mask laid over
+-- a marked module with the mask laid over, another as it is
 abbrev pub module_under_mask : ℕ → List (List Bool) → List (List Bool) → ℕ → ℕ → Bool
-module_under_mask mask function modules x y =
-    if value_at function x y then value_at modules x y else flip_if (is_flipped mask x y) (value_at modules x y)
+module_under_mask mask free modules x y =
+    if value_at free x y then flip_if (is_flipped mask x y) (value_at modules x y) else value_at modules x y
+
+-- the rows before `last` are under a mask, and the others are as at the start
+abbrev pub IsMaskedTo : ℕ → ℕ → List (List Bool) → List (List Bool) → List (List Bool) → List (List Bool) → Type 0
+IsMaskedTo last mask free modules start masked =
+    (x y : ℕ) → value_at masked x y
+    ≡ (if nat_lt y last then module_under_mask mask free modules x y else value_at start x y)
 
 -- the module that a role fixes for every level and mask; the format information is light
 abbrev pub unmasked_module : ℕ → Option Role → Bool
@@ -47,9 +53,9 @@ format_module information (Some (Version i)) = false
 format_module information None = false
 
 -- a symbol that has no format information and no mask laid over
-pub record IsUnmasked (v : ℕ) (codewords : List ℕ) (function modules : List (List Bool)) : Type 0 where
-  pub marked : MarksFunctions v function
-  pub free : (x y : ℕ) → x < side_of v → y < side_of v → is_free v x y ≡ true
+pub record IsUnmasked (v : ℕ) (codewords : List ℕ) (free modules : List (List Bool)) : Type 0 where
+  pub marked : MarksFree v free
+  pub placed : (x y : ℕ) → x < side_of v → y < side_of v → is_free v x y ≡ true
       → value_at modules x y ≡ codeword_bit codewords (rank v x y)
   pub taken : (x y : ℕ) → x < side_of v → y < side_of v → is_free v x y ≡ false
       → value_at modules x y ≡ unmasked_module v (role v x y)
@@ -58,7 +64,7 @@ pub record IsUnmasked (v : ℕ) (codewords : List ℕ) (function modules : List 
 
 -- the codewords are placed in a drawing
 abbrev pub Places : Unmasked → List ℕ → Type 0
-Places unmasked codewords = IsUnmasked unmasked.version codewords unmasked.function unmasked.modules
+Places unmasked codewords = IsUnmasked unmasked.version codewords unmasked.free unmasked.modules
 
 -- a drawing of the codewords of a symbol, without a mask
 pub record Draws (v : ℕ) (level : Level) (codewords : List ℕ) (unmasked : Unmasked) : Type 0 where
@@ -84,9 +90,9 @@ pub record PlacesCodewords (v : ℕ) (codewords : List ℕ) (old new : List (Lis
   pub others : (x y : ℕ) → x < side_of v → y < side_of v → is_free v x y ≡ false → value_at new x y ≡ value_at old x y
   pub outside : SameOutside (side_of v) old new
 
--- the function patterns are drawn: the modules that the codewords do not choose are marked, and those of them that are
+-- the function patterns are drawn: the modules that they leave to the codewords are marked, and those of theirs that are
 -- dark are drawn
-pub record DrawsFunctions (v : ℕ) (function old new : List (List Bool)) : Type 0 where
-  pub marked : MarksFunctions v function
+pub record DrawsFunctions (v : ℕ) (free old new : List (List Bool)) : Type 0 where
+  pub marked : MarksFree v free
   pub drawn : (x y : ℕ) → x < side_of v → y < side_of v → value_at new x y ≡ unmasked_module v (role v x y)
   pub outside : SameOutside (side_of v) old new

@@ -1,6 +1,6 @@
 -- The parts of the penalty of a symbol of n by n modules, m x y being the module at column x and row y: that of finder
 -- patterns, and the rest (in the manner of ISO/IEC 18004, 7.8.3).
-use Rattle.std.specs.Prelude.{ℕ, ◌+◌, ◌-◌, ◌*◌, Bool, not, ◌&&◌}
+use Rattle.std.specs.Prelude.{ℕ, ◌+◌, ◌-◌, Bool, not, ◌&&◌}
 use Rattle.qrmatrix.specs.Penalty.{balance_penalty, dark_count, run_penalty, shows_finder, square_penalty}
 use Rattle.qrmatrix.specs.Private.Counting.{count_below, sum_below}
 

@@ -1,4 +1,4 @@
-//! Bytes that are buffered: how many, which calls pass them on, and what a failure leaves.
+//! Bytes that are buffered: how many, which calls pass them on or repeat them, and what a failure leaves.
 use crate::layers::support::{MOST_BUFFERED, flushes, passes_on, takes, takes_none, takes_some};
 use device::{Buffered, FailAt, MemSink, Sink};
 
@@ -14,11 +14,12 @@ fn holds(sink: &Buffered<Counted<8>>, below: &[u8], buffered: &[u8]) -> bool {
 #[derive(Clone, Copy)]
 enum Call {
     Write(&'static [u8]),
+    Repeat(usize),
     PassOn,
     Flush,
 }
 
-/// A call, whether it succeeds, and after it the text of the memory below, what is buffered, and how many calls reached
+/// A call, whether it succeeds or repeats, and after it the text of the memory below, what is buffered, and how many calls reached
 /// the sink below, where a number is given.
 type Step = (Call, bool, &'static [u8], &'static [u8], Option<u64>);
 
@@ -83,6 +84,36 @@ const CALLS: &[(usize, u64, &[Step], u64)] = &[
         ],
         0,
     ),
+    // The last bytes are repeated where all of them are buffered, and only then.
+    (
+        8,
+        0,
+        &[
+            (Call::Repeat(1), false, b"", b"", Some(0)),
+            (Call::Write(b"abc"), true, b"", b"abc", Some(0)),
+            (Call::Repeat(2), true, b"", b"abcbc", Some(0)),
+            (Call::Repeat(6), false, b"", b"abcbc", Some(0)),
+            (Call::PassOn, true, b"abcbc", b"", Some(1)),
+            (Call::Repeat(1), false, b"abcbc", b"", Some(1)),
+            (Call::Write(b"d"), true, b"abcbc", b"d", Some(1)),
+            (Call::Repeat(2), false, b"abcbc", b"d", Some(1)),
+            (Call::Repeat(1), true, b"abcbc", b"dd", Some(1)),
+            (Call::Flush, true, b"abcbcdd", b"", Some(3)),
+        ],
+        0,
+    ),
+    (
+        2,
+        2,
+        &[
+            (Call::Write(b"abcde"), true, b"", b"abcde", None),
+            (Call::PassOn, false, b"ab", b"cde", None),
+            (Call::Repeat(4), false, b"ab", b"cde", None),
+            (Call::Repeat(3), true, b"ab", b"cdecde", None),
+            (Call::Flush, true, b"abcdecde", b"", None),
+        ],
+        0,
+    ),
     // The fourth call is the flush below, at which nothing is buffered any more.
     (
         2,
@@ -104,6 +135,7 @@ fn calls_pass_bytes_on(rt: HostRuntime) {
         for (call, succeeds, below, buffered, calls) in *steps {
             let is_ok = match call {
                 Call::Write(bytes) => takes(&mut sink, bytes),
+                Call::Repeat(count) => sink.repeat(*count),
                 Call::PassOn => passes_on(&mut sink),
                 Call::Flush => flushes(&mut sink),
             };
@@ -154,6 +186,14 @@ fn a_full_room_goes_on_at_the_next_byte(rt: HostRuntime) {
                 && counts(&sink, *count, 0)
         );
     }
+}
+
+#[test]
+fn a_repeat_needs_room(rt: HostRuntime) {
+    let mut sink = Buffered::new(FailAt::new(MemSink::<66000>::new(66000, 66000), 0));
+    assert!(rt; takes_letters(&mut sink, 32_766));
+    assert!(rt; !sink.repeat(3) && counts(&sink, 0, 32_766));
+    assert!(rt; sink.repeat(2) && counts(&sink, 0, 32_768) && !sink.repeat(1));
 }
 
 #[test]

@@ -2,10 +2,10 @@ use Rattle.std.proofs.Common.{◌≡◌, ◌∙◌, ◌<◌, ℕ, List, All, [],
 use Rattle.std.proofs.lemmas.List.Elements.{All-append, All-from_get_or}
 use Rattle.std.proofs.lemmas.Result.{err_from_is_err_and}
 use Rattle.filter.specs.Output.{ended_script, script}
-use Rattle.filter.specs.Script.{CountsFault, Stops, Took, taken}
+use Rattle.filter.specs.Filter.{CountsFault, Stops, Took, taken}
 use Rattle.filter.proofs.OutputLaws.{ended_script-nil, ended_script-more}
 use Rattle.filter.proofs.ReadLaws.{script_of_text_read}
-use Rattle.filter.proofs.RunLaws.{CountsFault-after, RunSends-sinks, RunStops-sink, Stops-later}
+use Rattle.filter.proofs.RunLaws.{CountsFault-after, Stops-later, TookText-sinks}
 use Rattle.filter.proofs.ScriptLaws.{none_taken, Sends-whole, Stops-longer}
 use Rattle.examples.proofs.pieces.draw_in_two.Goals as goal
 
@@ -27,9 +27,9 @@ returns-in_err-feed-clause-produces g c =
     rw (p.1, p.2) (record {
       text = text;
       given = refl;
-      sends = RunStops-sink options took text fault (Stops-later options took text fault
+      sends = TookText-sinks options took text (Err fault) (Stops-later options took text fault
           (subst (λ es. Stops options took es fault) (sym more.1) (Stops-longer options more.0
-          (Sends-whole options g.met.O.Sink.took_joined g.met.E.Sink.took_joined (Err fault) (ended_script options [])
+          (Sends-whole g.met.O.Sink.took_joined g.met.E.Sink.took_joined options (Err fault) (ended_script options [])
           (ended_script options c.args.first.now) none (c.in_err-feed.ensures.sends options [] after)))));
       status = tt;
       read = script_of_text_read options after.range text bytes;
@@ -48,13 +48,13 @@ returns-in_err-feed-2-clause-produces g c =
     (g.E.Sink.took c.args.err.now c.args.err.now))) (sym (ended_script-nil options))
     (none_taken _ _ (g.met.O.Sink.took_none _) (g.met.E.Sink.took_none _)) in
     let fed = c.in_ok-feed.ensures.after options [] after in
-    let before = Sends-whole options g.met.O.Sink.took_joined g.met.E.Sink.took_joined (Ok (tt {0}))
+    let before = Sends-whole g.met.O.Sink.took_joined g.met.E.Sink.took_joined options (Ok (tt {0}))
     (ended_script options []) (ended_script options first) none (c.in_ok-feed.ensures.sends options [] after) in
     rw (p.1, p.2) (record {
       text = text;
       given = refl;
-      sends = RunStops-sink options took text fault (Stops-later options took text fault
-          (Sends-whole options g.met.O.Sink.took_joined g.met.E.Sink.took_joined (Err fault) (ended_script options first)
+      sends = TookText-sinks options took text (Err fault) (Stops-later options took text fault
+          (Sends-whole g.met.O.Sink.took_joined g.met.E.Sink.took_joined options (Err fault) (ended_script options first)
           (ended_script options text) before (c.in_err-feed-2.ensures.sends options first fed)));
       status = tt;
       read = script_of_text_read options after.range text
@@ -72,16 +72,16 @@ returns-clause-produces g c =
     (none_taken _ _ (g.met.O.Sink.took_none _) (g.met.E.Sink.took_none _)) in
     let fed = c.in_ok-feed.ensures.after options [] after in
     let fed_too = c.in_ok-feed-2.ensures.after options first fed in
-    let before = Sends-whole options g.met.O.Sink.took_joined g.met.E.Sink.took_joined (Ok (tt {0}))
+    let before = Sends-whole g.met.O.Sink.took_joined g.met.E.Sink.took_joined options (Ok (tt {0}))
     (ended_script options []) (ended_script options first) none (c.in_ok-feed.ensures.sends options [] after) in
-    let ended = Sends-whole options g.met.O.Sink.took_joined g.met.E.Sink.took_joined (Ok (tt {0}))
+    let ended = Sends-whole g.met.O.Sink.took_joined g.met.E.Sink.took_joined options (Ok (tt {0}))
     (ended_script options first) (ended_script options text) before (c.in_ok-feed-2.ensures.sends options first fed) in
     record {
       text = text;
       given = refl;
-      sends = RunSends-sinks options (taken (g.O.Sink.took c.args.out.now c.finish.new.out)
+      sends = TookText-sinks options (taken (g.O.Sink.took c.args.out.now c.finish.new.out)
           (g.E.Sink.took c.args.err.now c.finish.new.err)) text c.finish.result
-          (Sends-whole options g.met.O.Sink.took_joined g.met.E.Sink.took_joined c.finish.result
+          (Sends-whole g.met.O.Sink.took_joined g.met.E.Sink.took_joined options c.finish.result
           (ended_script options text) (script options text) ended (c.finish.ensures.sends options text fed_too));
       status = c.finish.ensures.status options text fed_too;
       read = script_of_text_read options after.range text fed_too.bytes;

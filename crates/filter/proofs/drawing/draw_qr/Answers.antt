@@ -12,7 +12,6 @@ returns-in_err-write_plan-in-Ok g c =
     let written = c.in_err-write_plan-in-Ok.ensures in
     rw (p.1, version, ← plan.same_bytes) (record {
       writes = record { bytes = written.bytes; count = written.count; unflushed = written.unflushed };
-      fails = tt;
       refusal = tt;
     })
 
@@ -24,6 +23,5 @@ returns-in_ok-write_plan-in-Ok g c =
     let written = c.in_ok-write_plan-in-Ok.ensures in
     rw (version, ← plan.same_bytes) (record {
       writes = record { bytes = written.bytes; count = written.count; unflushed = written.unflushed };
-      fails = tt;
       refusal = refl;
     })

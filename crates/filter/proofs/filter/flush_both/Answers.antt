@@ -1,6 +1,6 @@
 use Rattle.std.proofs.Common.{[], refl}
 use Rattle.filter.specs.Output.{Images, Messages, flushes}
-use Rattle.filter.proofs.ScriptLaws.{flushes_took, none_taken, Stops-first}
+use Rattle.filter.proofs.ScriptLaws.{event_took, none_taken, Stops-first}
 use Rattle.filter.proofs.filter.flush_both.Goals as goal
 
 pub returns-then-is_err-clause-sends : goal.returns-then-is_err-clause-sends
@@ -21,5 +21,5 @@ pub returns-clause-sends : goal.returns-clause-sends
 returns-clause-sends g c options = record {
   added = _;
   grown = refl;
-  sends = flushes_took options _ _ c.flush.ensures.bytes c.flush-2.ensures.bytes;
+  sends = event_took options _ _ flushes c.flush.ensures.bytes c.flush-2.ensures.bytes;
 }

@@ -1,22 +1,24 @@
-use Rattle.std.proofs.Common.{◌≡◌, ◌∙◌, ℕ, List, [], ap, refl, sym, subst}
+use Rattle.std.proofs.Common.{◌≡◌, ◌∙◌, ℕ, [], ◌∷◌, ap, refl, sym, subst}
 use Rattle.labelcore.specs.ItemView.{item_seen}
-
-use Rattle.filter.specs.Output.{outcome_of_item}
-use Rattle.filter.specs.Script.{CountsFault, taken}
-use Rattle.filter.proofs.LineLaws.{drawn_status, drawn_stops, drawn_took, outcome-item, refused_events, refused_image}
-use Rattle.filter.proofs.LineLaws.{refused_status}
-use Rattle.filter.proofs.ScriptLaws.{none_taken, Sends-append, Sends-none}
+use Rattle.labelcore.specs.LineItem.{refused}
+use Rattle.filter.specs.Filter.{CountsFault, taken}
+use Rattle.filter.specs.Output.{Images, image_of, of_line, outcome_of_item}
+use Rattle.filter.proofs.LineLaws.{drawn_message, drawn_status, outcome-item, refused_outcome, refused_status}
+use Rattle.filter.proofs.ScriptLaws.{event_stops, event_took, none_taken, Sends-append, Sends-none}
 use Rattle.filter.proofs.line.finish_line.Goals as goal
 
 pub returns-in-Ok-Ok-clause-sends : goal.returns-in-Ok-Ok-clause-sends
-returns-in-Ok-Ok-clause-sends g c text at = 
+returns-in-Ok-Ok-clause-sends g c text at =
     let options = c.args.options.now in
+    let o = outcome_of_item (item_seen c.parse-item.result) in
     let h = c.in-Ok-Ok.ensures options c.parse-item.ensures.form in
     rw (outcome-item options text ∙ ap outcome_of_item (sym (c.parse-item.ensures.item text at))) (record {
       added = _;
       grown = refl;
-      sends = drawn_took options _ _ c.args.number (outcome_of_item (item_seen c.parse-item.result))
-          (sym h.refusal ∙ c.in-Ok-Ok.field-0-is) h.writes.bytes (g.met.E.Sink.took_none c.args.err.now);
+      sends = event_took options (g.O.Sink.took c.args.out.now c.draw_item.new.out)
+          (g.E.Sink.took c.args.err.now c.args.err.now) (of_line c.args.number o) h.writes.bytes
+          (subst (g.E.Sink.took c.args.err.now c.args.err.now)
+          (drawn_message c.args.number o (sym h.refusal ∙ c.in-Ok-Ok.field-0-is)) (g.met.E.Sink.took_none c.args.err.now));
     })
 
 pub returns-in-Ok-Ok-clause-status : goal.returns-in-Ok-Ok-clause-status
@@ -37,23 +39,24 @@ returns-in-Ok-Err-clause-sends g c text at =
     let options = c.args.options.now in
     let o = outcome_of_item (item_seen c.parse-item.result) in
     let h = c.in-Ok-Err.ensures options c.parse-item.ensures.form in
-    let refused = sym h.refusal ∙ c.in-Ok-Err.field-0-is in
-    rw (outcome-item options text ∙ ap outcome_of_item (sym (c.parse-item.ensures.item text at)),
-    refused_events c.args.number o c.in-Ok-Err.fault refused)
-    (Sends-append options g.met.O.Sink.took_joined g.met.E.Sink.took_joined c.refuse.result
-    (Sends-none options (tt {0}) (taken (g.O.Sink.took c.args.out.now c.draw_item.new.out)
-    (g.E.Sink.took c.args.err.now c.args.err.now)) [] [] refl
-    (none_taken _ _ (subst (g.O.Sink.took c.args.out.now c.draw_item.new.out) (refused_image options o c.in-Ok-Err.fault refused)
-    h.writes.bytes) (g.met.E.Sink.took_none c.args.err.now))) (c.refuse.ensures.sends options))
+    let is = refused_outcome o c.in-Ok-Err.fault (sym h.refusal ∙ c.in-Ok-Err.field-0-is) in
+    let took = g.O.Sink.took c.args.out.now c.draw_item.new.out in
+    rw (outcome-item options text ∙ ap outcome_of_item (sym (c.parse-item.ensures.item text at)) ∙ is)
+    (Sends-append g.met.O.Sink.took_joined g.met.E.Sink.took_joined options c.refuse.result
+    (Sends-none options (tt {0}) (taken took (g.E.Sink.took c.args.err.now c.args.err.now)) [] [] refl
+    (none_taken took _ (subst took (ap (image_of options) is) h.writes.bytes) (g.met.E.Sink.took_none c.args.err.now)))
+    (c.refuse.ensures.sends options))
 
 pub returns-in-Ok-Err-clause-status : goal.returns-in-Ok-Err-clause-status
 returns-in-Ok-Err-clause-status g c text at =
     let options = c.args.options.now in
     let o = outcome_of_item (item_seen c.parse-item.result) in
     let h = c.in-Ok-Err.ensures options c.parse-item.ensures.form in
-    rw (outcome-item options text ∙ ap outcome_of_item (sym (c.parse-item.ensures.item text at)),
-    refused_events c.args.number o c.in-Ok-Err.fault (sym h.refusal ∙ c.in-Ok-Err.field-0-is),
-    sym (refused_status c.args.number c.in-Ok-Err.fault)) c.refuse.ensures.status
+    let is = refused_outcome o c.in-Ok-Err.fault (sym h.refusal ∙ c.in-Ok-Err.field-0-is) in
+    rw (
+      outcome-item options text ∙ ap outcome_of_item (sym (c.parse-item.ensures.item text at)) ∙ is,
+      sym (refused_status c.args.number c.in-Ok-Err.fault),
+    ) c.refuse.ensures.status
 
 pub returns-in-Ok-Err-clause-sinks : goal.returns-in-Ok-Err-clause-sinks
 returns-in-Ok-Err-clause-sinks g c =
@@ -73,8 +76,8 @@ returns-in-Err-clause-sends g c text at =
     rw (outcome-item options text ∙ ap outcome_of_item (sym (c.parse-item.ensures.item text at))) (record {
       added = _;
       grown = refl;
-      sends = drawn_stops options _ _ c.args.number (outcome_of_item (item_seen c.parse-item.result)) h.fails h.writes.bytes
-          (g.met.E.Sink.took_none c.args.err.now);
+      sends = event_stops options _ Images (of_line c.args.number (outcome_of_item (item_seen c.parse-item.result))) []
+          h.writes.bytes (g.met.E.Sink.took_none c.args.err.now);
     })
 
 pub returns-in-Err-clause-sinks : goal.returns-in-Err-clause-sinks

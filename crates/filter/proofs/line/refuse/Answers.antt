@@ -1,14 +1,14 @@
 use Rattle.std.proofs.Common.{[], refl}
-use Rattle.filter.specs.Output.{Images, refusal}
-use Rattle.filter.proofs.LineLaws.{message_stops, message_took}
-use Rattle.filter.proofs.ScriptLaws.{none_taken, Stops-first}
+use Rattle.labelcore.specs.LineItem.{refused}
+use Rattle.filter.specs.Output.{Images, Messages, of_line}
+use Rattle.filter.proofs.ScriptLaws.{event_stops, event_took, none_taken, Stops-first}
 use Rattle.filter.proofs.line.refuse.Goals as goal
 
 pub returns-then-is_err-clause-sends : goal.returns-then-is_err-clause-sends
 returns-then-is_err-clause-sends g c options = record {
   added = _;
   grown = refl;
-  sends = Stops-first options _ Images (refusal c.args.number c.args.fault.now) []
+  sends = Stops-first options _ Images (of_line c.args.number (refused c.args.fault.now)) []
       (none_taken _ _ c.pass_on.ensures.bytes (g.met.E.Sink.took_none _));
 }
 
@@ -16,12 +16,14 @@ pub returns-in-Ok-clause-sends : goal.returns-in-Ok-clause-sends
 returns-in-Ok-clause-sends g c options = record {
   added = _;
   grown = refl;
-  sends = message_took options _ _ c.args.number c.args.fault.now c.pass_on.ensures.bytes c.in-Ok.ensures.bytes;
+  sends = event_took options _ _ (of_line c.args.number (refused c.args.fault.now)) c.pass_on.ensures.bytes
+      c.in-Ok.ensures.bytes;
 }
 
 pub returns-in-Err-clause-sends : goal.returns-in-Err-clause-sends
 returns-in-Err-clause-sends g c options = record {
   added = _;
   grown = refl;
-  sends = message_stops options _ _ c.args.number c.args.fault.now c.pass_on.ensures.bytes c.in-Err.ensures.bytes;
+  sends = event_stops options _ Messages (of_line c.args.number (refused c.args.fault.now)) [] c.in-Err.ensures.bytes
+      c.pass_on.ensures.bytes;
 }

@@ -1,24 +1,18 @@
-use Rattle.std.proofs.Common.{List, ℕ, Option, None, Some, [], ◌++◌, Bool, subst, sym, ap, ◌∙◌}
+use Rattle.std.proofs.Common.{◌≡◌, List, ℕ, Option, Err, [], Bool, refl, subst, sym}
+use Rattle.std.proofs.KnownBytes.{Consumes-whole}
 use Rattle.std.proofs.lemmas.List.{append-nil}
-use Rattle.std.specs.Io.KnownBytes.{Appends, Consumes, IsAtEnd}
+use Rattle.std.specs.Io.KnownBytes.{Appends}
 use Rattle.device.specs.Passing.{PassesOn}
 use Rattle.device.specs.Private.Joined.{Appends_joined}
 use Rattle.device.specs.Private.Passed.{PassesOn_joined}
 use Rattle.device.specs.Streams.{writer_of}
 use Rattle.device.specs.declared.streams.StdSink.{StdSink}
+use Rattle.filter.specs.Filter.{FlushesImagesFirst}
 use Rattle.filter.specs.Output.{script}
-use Rattle.filter.specs.Run.{IsAllOf}
-use Rattle.filter.specs.Script.{FlushedImagesAtMost}
-use Rattle.filter.proofs.RunLaws.{RunRaises-passed, RunStops-by}
+use Rattle.filter.specs.declared.status.Status.{Status}
+use Rattle.filter.proofs.RunLaws.{RunCounts-passed, TookText-by}
 use Rattle.filter.proofs.ScriptLaws.{images_by, Took-by}
 use Rattle.filter.proofs.streams.run_streams.Goals as goal
-
--- a reader that is at its end gave all that it had
-all_of : (old new : Option (List ℕ)) (text : List ℕ) → Consumes old new text → IsAtEnd new → IsAllOf old text
-all_of None new text gave end = tt
-all_of (Some bytes) None text gave end = absurd gave
-all_of (Some bytes) (Some rest) text gave end =
-    sym (gave ∙ (ap (λ (xs : List ℕ). text ++ xs) end ∙ append-nil text))
 
 pub returns-in-Ok : goal.returns-in-Ok
 returns-in-Ok g c =
@@ -32,7 +26,7 @@ returns-in-Ok g c =
       };
       whole = record {
         text = p.text;
-        given = all_of _ _ p.text p.given.0 h.ended.1;
+        given = Consumes-whole _ _ p.text (λ bytes. p.text ≡ bytes) p.given.0 h.ended.1 refl;
         sends = Took-by c.args.options (images_by _ _ _ (λ bytes took. c.reaches.ensures.bytes h.flushed.0 _ _ bytes took))
             (script c.args.options p.text) p.sends;
         status = p.status;
@@ -60,17 +54,20 @@ returns-in-Err g c =
       runs = record {
         produces = record {
           text = p.text;
-          given = (p.given.0, RunRaises-passed _ _ _ _ _ _ _ _ p.text c.in-Err.fault c.pass_on_after.ensures.passes
-              p.given.1);
-          sends = RunStops-by c.args.options (images_by _ _ _ (λ bytes took.
-              passed_on g.W.Write.contents _ _ _ _ _ _ bytes took c.pass_on_after.ensures.bytes)) p.text c.in-Err.fault
-              p.sends;
+          given = (
+            p.given.0,
+            RunCounts-passed _ _ _ _ _ _ _ _ p.text c.in-Err.fault
+                (λ e. let same = c.pass_on_after.ensures.failed e in cc) c.pass_on_after.ensures.passes p.given.1,
+          );
+          sends = TookText-by c.args.options (images_by _ _ _ (λ bytes took.
+              passed_on g.W.Write.contents _ _ _ _ _ _ bytes took c.pass_on_after.ensures.bytes)) p.text
+              (Err c.in-Err.fault) p.sends;
           status = tt;
           read = p.read;
         };
         ended = tt;
-        flushed = subst (λ (mark : Bool). FlushedImagesAtMost c.args.out.now.is_flushed mark
-            (g.E.Sink.is_flushed c.args.err.now) (g.E.Sink.is_flushed c.run.new.err) c.in-Err.fault)
+        flushed = subst (λ (mark : Bool). FlushesImagesFirst {T = Status} c.args.out.now.is_flushed mark
+            (g.E.Sink.is_flushed c.args.err.now) (g.E.Sink.is_flushed c.run.new.err) (Err c.in-Err.fault))
             (sym c.pass_on_after.ensures.flushed) h.flushed;
       };
       whole = tt;

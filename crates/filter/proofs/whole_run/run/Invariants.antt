@@ -2,7 +2,7 @@ use Rattle.std.proofs.Common.{◌≡◌, ◌≤◌, List, ℕ, length}
 use Rattle.device.specs.Device.{Unflushed}
 use Rattle.filter.specs.Filter.{IsAfter}
 use Rattle.filter.specs.Output.{ended_script}
-use Rattle.filter.specs.Script.{Took, taken}
+use Rattle.filter.specs.Filter.{Took, taken}
 use Rattle.filter.proofs.whole_run.run.Given as goal
 
 -- the filter was fed what the source gave so far, and each turn gave a byte or more

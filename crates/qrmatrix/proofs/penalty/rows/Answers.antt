@@ -1,4 +1,4 @@
-use Rattle.std.proofs.Common.{◌≡◌, ◌+◌, ◌-◌, ◌*◌, ◌∙◌, ap, arith, sym}
+use Rattle.std.proofs.Common.{◌≡◌, ◌-◌, ◌*◌, ◌∙◌, ap, arith, sym}
 use Rattle.std.specs.Prelude.{nat_lt, if◌then◌else◌}
 use Rattle.qrmatrix.specs.Private.Counting.{count_below, sum_below}
 use Rattle.qrmatrix.specs.Penalty.{balance_penalty, dark_count, is_one_colour, run_penalty, square_penalty}

@@ -26,7 +26,7 @@ place_two-requires-clause-light c =
     let i = c.loop-t.invariant in
     let at : AtRow v c.loop-strip.strip c.loop-t.t c.if-strip-n.right c.if-strip-eq0.y =
     AtRow-reached i.inside (omega arith) i.right i.width (λ even. omega arith) (λ odd. omega arith) in
-    light_ahead c.args.codewords.now.items _ c.args.function.now c.requires.marked at c.loop-t.modules c.loop-t.i i.placed
+    light_ahead c.args.codewords.now.items _ c.args.free.now c.requires.marked at c.loop-t.modules c.loop-t.i i.placed
     (c.are_free.ensures c.if-are_free.true)
 
 pub loop-t-preserved : goal.loop-t-preserved
@@ -38,14 +38,14 @@ loop-t-preserved c =
     record {
       placed = elim c.if-are_free.branch [
         | then-are_free w ↦ Placed-moved
-            (placed_two _ _ c.args.function.now c.requires.marked at known c.loop-t.modules
+            (placed_two _ _ c.args.free.now c.requires.marked at known c.loop-t.modules
             w.place_two.new.modules c.loop-t.i w.two_bits.result i.placed (c.are_free.ensures w.if-are_free.true)
             (w.two_bits.ensures.bits _ i.pairs) w.place_two.ensures) (ap value_at w.modules-is) w.i-is
         | else-are_free w ↦ Placed-moved
-            (placed_pair _ _ c.args.function.now c.requires.marked at known c.loop-t.modules
+            (placed_pair _ _ c.args.free.now c.requires.marked at known c.loop-t.modules
             w.place_module-i.new.modules w.place_module-i-else-are_free.new.modules c.loop-t.i w.place_module-i.result
-            w.place_module-i-else-are_free.result i.placed w.place_module-i.ensures.free w.place_module-i.ensures.kept
-            w.place_module-i-else-are_free.ensures.free w.place_module-i-else-are_free.ensures.kept)
+            w.place_module-i-else-are_free.result i.placed w.place_module-i.ensures.placed w.place_module-i.ensures.kept
+            w.place_module-i-else-are_free.ensures.placed w.place_module-i-else-are_free.ensures.kept)
             (ap value_at w.modules-is) w.i-is
       ];
       pairs = i.pairs;

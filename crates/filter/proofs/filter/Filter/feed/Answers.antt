@@ -39,7 +39,7 @@ returns-in_err-feed_byte-clause-sends g c options text at =
     (drop (c.loop-byte.byte-index + 1) c.args.piece.now) in
     rw (p.1, p.2) (Sends-longer options _ more.0 (ap (ended_script options)
     (cut_at text c.args.piece.now c.loop-byte.byte-index c.loop-byte-test.true) ∙ more.1)
-    (Sends-append options g.met.O.Sink.took_joined g.met.E.Sink.took_joined _ (h.sends options text at)
+    (Sends-append g.met.O.Sink.took_joined g.met.E.Sink.took_joined options _ (h.sends options text at)
     (c.in_err-feed_byte.ensures.sends options before (h.after options text at))))
 
 pub returns-clause-bytes : goal.returns-clause-bytes
@@ -62,7 +62,7 @@ loop-byte-preserved g c =
           (append_assoc text before _)
           (c.in_ok-feed_byte.ensures.after options (text ++ before) (h.after options text at)));
       sends = λ options text at. rw (more, ← append_assoc)
-          (Sends-append options g.met.O.Sink.took_joined g.met.E.Sink.took_joined _ (h.sends options text at)
+          (Sends-append g.met.O.Sink.took_joined g.met.E.Sink.took_joined options _ (h.sends options text at)
           (c.in_ok-feed_byte.ensures.sends options (text ++ before) (h.after options text at)));
       out_unflushed = λ e. h.out_unflushed (c.in_ok-feed_byte.ensures.sinks.out_unflushed e);
       err_unflushed = λ e. h.err_unflushed (c.in_ok-feed_byte.ensures.sinks.err_unflushed e);

@@ -3,7 +3,7 @@ use Rattle.device.specs.Device.{Unflushed}
 use Rattle.labelcore.specs.OptionValues.{OptionValues}
 use Rattle.filter.specs.Filter.{IsAfter}
 use Rattle.filter.specs.Output.{ended_script}
-use Rattle.filter.specs.Script.{Sends, taken}
+use Rattle.filter.specs.Filter.{Sends, taken}
 use Rattle.filter.proofs.filter.Filter.feed.Given as goal
 
 -- so far the filter was fed the first bytes

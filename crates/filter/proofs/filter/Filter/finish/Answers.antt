@@ -4,7 +4,7 @@ use Rattle.filter.specs.Filter.{FilterState}
 use Rattle.filter.specs.Output.{flushes}
 use Rattle.filter.proofs.FilterLaws.{not_spent}
 use Rattle.filter.proofs.OutputLaws.{status_of-flushes}
-use Rattle.filter.proofs.RunLaws.{FlushedImagesAtMost-neither, FlushesImagesFirst-after, RaisesOneCount-after}
+use Rattle.filter.proofs.RunLaws.{CountsFault-fault, FlushesImagesFirst-fault, FlushesImagesFirst-neither}
 use Rattle.filter.proofs.ScriptLaws.{Sends-append, Sends-err, Sends-longer, Sends-ok}
 use Rattle.filter.proofs.filter.Filter.finish.Goals as goal
 
@@ -27,7 +27,7 @@ returns-in_err-status g c =
     rw (p.1, p.2) (record {
       sends = λ options text at. Sends-longer options _ (flushes ∷ []) refl (c.in_err-status.ensures.sends options text at);
       status = λ options text at. tt;
-      flushed = FlushedImagesAtMost-neither sinks.out_unflushed sinks.err_unflushed c.in_err-status.field-0.0;
+      flushed = FlushesImagesFirst-neither sinks.out_unflushed sinks.err_unflushed c.in_err-status.field-0.0;
       counts = λ e. sinks.counts;
       spent = λ e. absurd (not_spent (is_spent-same c.self.view_is ∙ e) c.if-self.false);
     })
@@ -39,12 +39,11 @@ returns-in_err-flush_both g c =
     let flush = c.in_err-flush_both.ensures in
     let fault = c.in_err-flush_both.field-0.0 in
     rw (p.1, p.2) (record {
-      sends = λ options text at. Sends-append options g.met.O.Sink.took_joined g.met.E.Sink.took_joined (Err fault)
+      sends = λ options text at. Sends-append g.met.O.Sink.took_joined g.met.E.Sink.took_joined options (Err fault)
           (before.sends options text at) (Sends-err options _ _ refl (flush.sends options));
       status = λ options text at. tt;
-      flushed = FlushesImagesFirst-after _ _ before.sinks.out_unflushed before.sinks.err_unflushed (Err fault)
-          flush.flushed;
-      counts = λ e. RaisesOneCount-after _ _ before.sinks.counts.0 before.sinks.counts.1 fault flush.counts;
+      flushed = FlushesImagesFirst-fault _ _ before.sinks.out_unflushed before.sinks.err_unflushed fault flush.flushed;
+      counts = λ e. CountsFault-fault _ _ before.sinks.counts.0 before.sinks.counts.1 fault flush.counts;
       spent = λ e. absurd (not_spent (is_spent-same c.self.view_is ∙ e) c.if-self.false);
     })
 
@@ -53,7 +52,7 @@ returns g c =
     let before = c.in_ok-status.ensures in
     let flush = c.in_ok-flush_both.ensures in
     record {
-      sends = λ options text at. Sends-append options g.met.O.Sink.took_joined g.met.E.Sink.took_joined
+      sends = λ options text at. Sends-append g.met.O.Sink.took_joined g.met.E.Sink.took_joined options
           (Ok c.in_ok-status.status) (before.sends options text at)
           (Sends-ok options c.in_ok-status.status _ _ refl (flush.sends options));
       status = λ options text at. before.status options text at ∙ sym (status_of-flushes _);

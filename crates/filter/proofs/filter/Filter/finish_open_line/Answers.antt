@@ -1,9 +1,9 @@
-use Rattle.std.proofs.Common.{◌≡◌, ◌∙◌, Ok, Err, [], ap, refl, subst, sym}
+use Rattle.std.proofs.Common.{◌≡◌, ◌∙◌, Ok, Err, [], ◌∷◌, ap, refl, subst, sym}
 use Rattle.std.proofs.lemmas.Bool.{false≢true}
 use Rattle.filter.specs.Filter.{FilterState, IsAfter}
 use Rattle.filter.specs.Output.{status_of}
-use Rattle.filter.specs.Private.LineEnd.{worst}
-use Rattle.filter.specs.Script.{Sends, taken}
+use Rattle.filter.specs.Private.{worst}
+use Rattle.filter.specs.Filter.{Sends, taken}
 use Rattle.filter.specs.declared.status.Status.{Status}
 use Rattle.filter.proofs.FilterLaws.{a_rest, at_line, no_rest, status_of-no_rest, status_of-rest}
 use Rattle.filter.proofs.ScriptLaws.{none_taken, Sends-none, Sends-ok, Sends-err}
@@ -24,14 +24,14 @@ pub returns-in-Ok-clause-sends : goal.returns-in-Ok-clause-sends
 returns-in-Ok-clause-sends g c options text at =
     let at' = subst (λ (s : FilterState). IsAfter options s text) (sym c.self.view_is) at in
     Sends-ok options _ _ _ (a_rest options _ text at' (λ e. false≢true (c.if-is_empty.ensures.1 e)))
-    (at_line options (λ own events. Sends own (taken (g.O.Sink.took c.args.out.now c.finish_line.new.out)
-    (g.E.Sink.took c.args.err.now c.finish_line.new.err)) [] events (Ok c.in-Ok.status)) _ text at'
+    (at_line options (λ own event. Sends own (taken (g.O.Sink.took c.args.out.now c.finish_line.new.out)
+    (g.E.Sink.took c.args.err.now c.finish_line.new.err)) [] (event ∷ []) (Ok c.in-Ok.status)) _ text at'
     c.saturating_add-number.ensures c.in-Ok.ensures.sends)
 
 pub returns-in-Ok-clause-status : goal.returns-in-Ok-clause-status
 returns-in-Ok-clause-status g c options text at =
     let at' = subst (λ (s : FilterState). IsAfter options s text) (sym c.self.view_is) at in
-    let status = at_line options (λ own events. c.in-Ok.status ≡ status_of events) _ text at'
+    let status = at_line options (λ own event. c.in-Ok.status ≡ status_of (event ∷ [])) _ text at'
     c.saturating_add-number.ensures c.in-Ok.ensures.status in
     c.worst.ensures ∙ (ap (worst c.self.inside.status) status
     ∙ status_of-rest options _ text at' (λ e. false≢true (c.if-is_empty.ensures.1 e)))
@@ -40,6 +40,6 @@ pub returns-in-Err-clause-sends : goal.returns-in-Err-clause-sends
 returns-in-Err-clause-sends g c options text at =
     let at' = subst (λ (s : FilterState). IsAfter options s text) (sym c.self.view_is) at in
     Sends-err options _ _ (a_rest options _ text at' (λ e. false≢true (c.if-is_empty.ensures.1 e)))
-    (at_line options (λ own events. Sends {T = Status} own (taken (g.O.Sink.took c.args.out.now c.finish_line.new.out)
-    (g.E.Sink.took c.args.err.now c.finish_line.new.err)) [] events (Err c.in-Err.fault)) _ text at'
+    (at_line options (λ own event. Sends {T = Status} own (taken (g.O.Sink.took c.args.out.now c.finish_line.new.out)
+    (g.E.Sink.took c.args.err.now c.finish_line.new.err)) [] (event ∷ []) (Err c.in-Err.fault)) _ text at'
     c.saturating_add-number.ensures c.in-Err.ensures.sends)

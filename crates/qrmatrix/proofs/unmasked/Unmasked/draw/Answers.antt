@@ -16,7 +16,7 @@ returns c =
       same_level = refl;
       placed = record {
         marked = c.draw_functions.ensures.marked;
-        free = c.place.ensures.placed;
+        placed = c.place.ensures.placed;
         taken = λ x y lx ly t. c.place.ensures.others x y lx ly t ∙ c.draw_functions.ensures.drawn x y lx ly;
         columns = λ x y l. c.place.ensures.outside.columns x y l ∙ c.draw_functions.ensures.outside.columns x y l
             ∙ c.new-modules.ensures x y;

@@ -1,6 +1,7 @@
 use Rattle.std.proofs.Common.{ℕ, ◌<◌, List}
 use Rattle.qrdata.specs.Versions.{side_of}
 use Rattle.qrmatrix.specs.Private.Drawing.{Places, ShowsSymbol}
+use Rattle.qrmatrix.specs.Private.Squares.{IsWithin}
 use Rattle.qrmatrix.specs.Modules.{module_at}
 use Rattle.qrmatrix.specs.Penalty.{penalty}
 use Rattle.qrmatrix.proofs.MaskChoiceLaws.{Found}
@@ -12,5 +13,6 @@ invariant-loop-mask l = record {
       → Found (λ k. penalty (side_of l.self.version) (module_at l.self.version l.self.level k codewords)) l.mask
       l.best.mask l.lowest;
   shown : (codewords : List ℕ) → Places l.self codewords → ShowsSymbol l.self codewords l.best;
+  drawn : (codewords : List ℕ) → Places l.self codewords → IsWithin (side_of l.self.version) l.next.modules;
   below : l.best.mask < l.mask;
 }
