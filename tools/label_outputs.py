@@ -8,10 +8,9 @@ import sys
 import tempfile
 import time
 import zlib
-from datetime import datetime, timezone
 from io import BytesIO
 from pathlib import Path
-from typing import IO, Any, Iterator
+from typing import IO, Any, BinaryIO, Iterator, cast
 
 import cairo
 
@@ -88,10 +87,8 @@ class Press:
         if self.form == "svg":
             return cairo.SVGSurface(file, width, height)
         surface = cairo.PDFSurface(file, width, height)
-        # not the time of the run: the same labels give the same bytes
-        epoch = os.environ.get("SOURCE_DATE_EPOCH", "")
-        date = datetime.fromtimestamp(int(epoch), timezone.utc).isoformat() if epoch.isdecimal() else ""
-        surface.set_metadata(cairo.PDF_METADATA_CREATE_DATE, date)
+        # no time of the run: the same labels give the same bytes
+        surface.set_metadata(cairo.PDF_METADATA_CREATE_DATE, "")
         return surface
 
     def document(self, page: Page) -> bytes:
@@ -186,7 +183,7 @@ def is_whole(file: int) -> bool:
 def embeds(family: str) -> bool:
     """Whether the letters of a font, bold ones too, can be text in a PDF."""
     with tempfile.TemporaryFile() as file:
-        surface = cairo.PDFSurface(file, 99, 99)
+        surface = cairo.PDFSurface(cast(BinaryIO, file), 99, 99)
         canvas = cairo.Context(surface)
         canvas.move_to(9, 9)
         for weight in (cairo.FontWeight.NORMAL, cairo.FontWeight.BOLD):

@@ -49,7 +49,7 @@ def dots_of_zpl(job: bytes) -> List[numpy.ndarray]:
 
 
 def rows_of_zpl(data: bytes, size: int) -> List[bytes]:
-    """The rows of a graphic field: hexadecimal digits with counts, `,` and `!` fill a row, `:` repeats the last one."""
+    """The rows of a graphic field: hexadecimal digits with counts; `,` and `!` fill a row, `:` repeats the last."""
     rows: List[bytes] = []
     digits, at = b"", 0
     while at < len(data):
@@ -121,7 +121,7 @@ def pbm_of(dots: numpy.ndarray) -> bytes:
 
 
 def ink_of(dots: numpy.ndarray) -> Tuple[int, int, int, int]:
-    """The left, top, right and bottom of the ink of dots: the last two are behind it; four zeros where there is none."""
+    """The left, top, right and bottom of the ink of dots, the last two behind it; zeros where there is none."""
     rows, columns = dots.any(axis=1).nonzero()[0], dots.any(axis=0).nonzero()[0]
     if not len(rows):
         return 0, 0, 0, 0

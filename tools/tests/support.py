@@ -1,6 +1,6 @@
 """What the tests of the tools share: paths, how a tool is run, and what a test needs from elsewhere.
 
-The tests run by Debian's Python, which alone sees Cairo and Pango: /usr/bin/python3 -m unittest discover -s tools/tests
+The tests run by Debian's Python, which alone sees Cairo: /usr/bin/python3 -m unittest discover -s tools/tests
 The program `labels` that they draw with is $LABELS, or else crates/labels/out/labels. A test that needs what is not
 there is skipped, with a message; NO_SKIP=1 makes it fail.
 """
@@ -12,6 +12,7 @@ import runpy
 import shutil
 import subprocess
 import sys
+import tempfile
 import unittest
 from pathlib import Path
 from typing import Any, Dict, List, NoReturn, Optional, Sequence, Tuple, Union
@@ -131,3 +132,36 @@ def file_of(labels: Sequence[Tuple[str, Optional[Dict[str, Any]]]], **end: Any) 
     left_out = {"left_out": [], "left_out_count": 0}
     parts.append(f"#{json.dumps({'end': 1, 'lines': len(labels), **left_out, **end})}\n")
     return "".join(parts).encode("utf-8")
+
+
+def printed(*arguments: Union[str, Path], input: bytes = b"", **variables: str) -> "Finished[bytes]":
+    """Runs label-print in this process: the same result as of `run`, in a quarter of the time."""
+    tool = str(TOOLS / "label-print")
+    sys.stdout.flush()
+    sys.stderr.flush()
+    kept = os.dup(1), os.dup(2)
+    with tempfile.TemporaryFile() as out, tempfile.TemporaryFile() as err:
+        os.dup2(out.fileno(), 1)
+        os.dup2(err.fileno(), 2)
+        streams = {"stdout": open(1, "w", closefd=False), "stderr": open(2, "w", closefd=False)}
+        changed = {"argv": [tool, *map(str, arguments)], "stdin": io.TextIOWrapper(io.BytesIO(input)), **streams}
+        try:
+            with mock.patch.multiple(sys, **changed), mock.patch.dict(os.environ, {**environment(), **variables}):
+                with mock.patch("label_command.Signals", mock.MagicMock()):
+                    status = status_of(tool)
+        finally:
+            for number, copy in enumerate(kept, 1):
+                os.dup2(copy, number)
+                os.close(copy)
+        out.seek(0)
+        err.seek(0)
+        return Finished([tool, *arguments], status, out.read(), err.read())
+
+
+def status_of(tool: str) -> int:
+    """The status with which a tool ends in this process."""
+    try:
+        runpy.run_path(tool, run_name="__main__")
+    except SystemExit as end:
+        return int(end.code or 0)
+    raise AssertionError(f"{tool} has no end")

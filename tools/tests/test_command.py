@@ -1,28 +1,19 @@
 """How each tool ends, where a stream fails or is closed: label_command, by a small tool, and then every tool."""
 
-import shutil
 import subprocess
+import sys
 import tempfile
 import unittest
-from pathlib import Path
 
 import support
-import label_pictures
-from label_pictures import Picture, blank, plain, raw
 
-SMALL = Picture(3, 2, [b"\xa0", b"\x40"])
-PLAIN, RAW = plain(SMALL), raw(SMALL)
 FULL = "standard output: No space left on device"
 
 # arguments and an input with which each tool writes a message and ends with status 1
 COMPLAINING = {
-    "label-caption": (("text",), b"no picture"),
-    "label-escpos": ((), b"no picture"),
-    "label-fits": (("300", "1", "0.01"), PLAIN),
-    "label-lines": (("/dev/null", "nothing.txt"), b""),
-    "label-sheet": (("--dpi=300", "--columns=1", "--rows=1", "--cell=9x9"), b""),
-    "label-table": (("--code", "1"), b"code\n73513538\n"),
-    "label-zpl": ((), b"no picture"),
+    "label-lines": ((), b"ean8 1\n"),
+    "label-print": (("--paper", "60x40"), b"ean8 1\n"),
+    "label-table": (("--code", "1", "--header"), b"code\n73513538\n"),
 }
 
 
@@ -32,8 +23,7 @@ class Ending(unittest.TestCase):
     SCRIPT = """
 import sys
 sys.path.insert(0, {tools!r})
-from label_command import argument_parser, main_of, standard_output
-from label_pictures import PictureError, pictures_of, write_raw
+from label_command import ToolError, argument_parser, main_of, standard_output
 def function():
     arguments = argument_parser("small-tool", "A tool for this test.").parse_args()
     {body}
@@ -42,7 +32,7 @@ main_of("small-tool", function)
 
     def small_tool(self, body: str, *arguments: str, shell: str = '"$@"', data: bytes = b"") -> tuple[int, bytes, str]:
         script = self.SCRIPT.format(tools=str(support.TOOLS), body=body)
-        command = ["bash", "-c", shell, "sh", shutil.which("python3") or "", "-c", script, *arguments]
+        command = ["bash", "-c", shell, "sh", sys.executable, "-c", script, *arguments]
         done = subprocess.run(command, input=data, capture_output=True, env=support.environment("C"))
         return done.returncode, done.stdout, done.stderr.decode()
 
@@ -51,11 +41,10 @@ main_of("small-tool", function)
         self.assertEqual(self.small_tool("return 1"), (1, b"", ""))
 
     def test_messages(self) -> None:
-        self.assertEqual(self.small_tool("raise PictureError('wrong')"), (1, b"", "small-tool: wrong\n"))
-        missing = "small-tool: nothing.pbm: No such file or directory\n"
-        self.assertEqual(self.small_tool("next(pictures_of('nothing.pbm'))"), (1, b"", missing))
-        folder = "small-tool: /tmp: Is a directory\n"
-        self.assertEqual(self.small_tool("next(pictures_of('/tmp'))"), (1, b"", folder))
+        self.assertEqual(self.small_tool("raise ToolError('wrong')"), (1, b"", "small-tool: wrong\n"))
+        self.assertEqual(self.small_tool("raise ToolError('wrong', 2)"), (2, b"", "small-tool: wrong\n"))
+        missing = "small-tool: nothing.txt: No such file or directory\n"
+        self.assertEqual(self.small_tool("open('nothing.txt')"), (1, b"", missing))
 
     def test_arguments(self) -> None:
         status, out, message = self.small_tool("pass", "--help")
@@ -80,7 +69,7 @@ main_of("small-tool", function)
             ('"$@" > /dev/full 2>&1', b""),
             ('"$@" 2>&- >&-', b""),
         ):
-            ended = self.small_tool("print('fine', flush=True); raise PictureError('wrong')", shell=shell)
+            ended = self.small_tool("print('fine', flush=True); raise ToolError('wrong')", shell=shell)
             self.assertEqual(ended, (1, out, ""), shell)
 
     def test_an_output_without_a_buffer(self) -> None:
@@ -89,12 +78,10 @@ main_of("small-tool", function)
         self.assertEqual(ended, (0, "xä\n".encode(), ""))
 
     def test_a_file_that_takes_a_part(self) -> None:
-        body = "[write_raw(picture, standard_output()) for picture in pictures_of(None)]"
-        data = raw(blank(8, 3000)) * 2
+        body = "[standard_output().write(b'x' * 3000) for _ in range(4)]"
         for unbuffered in ("", "export PYTHONUNBUFFERED=1; "):
             with tempfile.TemporaryDirectory() as folder:
-                shell = f'{unbuffered}ulimit -f 4; "$@" > {folder}/out'
-                ended = self.small_tool(body, data=data, shell=shell)
+                ended = self.small_tool(body, shell=f'{unbuffered}ulimit -f 4; "$@" > {folder}/out')
             self.assertEqual(ended, (1, b"", "small-tool: standard output: File too large\n"))
 
     def test_a_closed_pipe(self) -> None:
@@ -104,21 +91,6 @@ main_of("small-tool", function)
     def test_closed_streams(self) -> None:
         ended = self.small_tool("standard_output()", shell='"$@" >&-')
         self.assertEqual(ended, (1, b"", "small-tool: standard output is closed\n"))
-        ended = self.small_tool("next(pictures_of(None))", shell='"$@" <&-')
-        self.assertEqual(ended, (1, b"", "small-tool: standard input is closed\n"))
-
-    def test_standard_input(self) -> None:
-        for path in (None, "-"):
-            body = f"[write_raw(picture, standard_output()) for picture in pictures_of({path!r})]"
-            self.assertEqual(self.small_tool(body, data=PLAIN + PLAIN), (0, RAW + RAW, ""))
-            message = "small-tool: standard input: label 2: row 1 of 2 is cut off\n"
-            self.assertEqual(self.small_tool(body, data=PLAIN + PLAIN[:8]), (1, RAW, message))
-
-    def test_a_file(self) -> None:
-        with tempfile.TemporaryDirectory() as folder:
-            path = Path(folder, "Käse.pbm")
-            path.write_bytes(PLAIN)
-            self.assertEqual(list(label_pictures.pictures_of(str(path))), [SMALL])
 
 
 class EveryTool(unittest.TestCase):

@@ -25,7 +25,7 @@ def help_of(command: str) -> str:
     """The help text of the program or of a tool."""
     if command == "labels":
         return subprocess.run([support.labels_program(), "--help"], capture_output=True, text=True).stdout
-    return support.run_here(command, "--help").stdout.decode()
+    return support.run(command, "--help").stdout.decode()
 
 
 class Pages(unittest.TestCase):
@@ -37,7 +37,7 @@ class Pages(unittest.TestCase):
                 self.assertEqual(done.stdout + done.stderr, "", page)
 
     def test_each_tool_is_named_and_each_option_described(self) -> None:
-        self.assertIn("label-table", TOOLS)
+        self.assertIn("label-print", TOOLS)
         for tool in ("labels", *TOOLS):
             text = text_of(page_of(tool))
             name = re.search(r"^\.SH NAME\n(.*?)^\.SH", text, re.DOTALL | re.MULTILINE)

@@ -1,0 +1,335 @@
+"""label-print and label-lines from input to end: files that are cut, full disks, closed pipes, signals, streams."""
+
+import json
+import os
+import signal
+import subprocess
+import tempfile
+import time
+import unittest
+import unittest.mock
+from pathlib import Path
+from typing import List, Tuple
+
+import jobs
+import support
+from label_command import ToolError
+from label_file import parse_file
+
+LABELS = [
+    (f"ean13 {support.ean13(400638000000 + number)}", {"title": f"Artikel {number}", "price": "1,80 €"})
+    for number in range(40)
+]
+ROLL = ("--paper", "60x40", "--dpi", "203", "--to")
+HEAD, END = '#{"labels":1,"table":"t.csv"}\n', '#{"end":1,"lines":1,"left_out":[],"left_out_count":0}\n'
+
+
+def setUpModule() -> None:
+    os.environ["LABELS"] = str(support.labels_program())
+
+
+class FileBetween(unittest.TestCase):
+    def test_cut_at_every_byte(self) -> None:
+        """Of a file that is cut anywhere nothing is taken; what is left of it without marks is no label."""
+        data = support.file_of(LABELS[:3])
+        for end in range(len(data)):
+            with self.subTest(end=end):
+                try:
+                    labels, _, _ = parse_file(data[:end], "lines", False)
+                except ToolError:
+                    continue
+                self.assertEqual(labels, [])
+        self.assertEqual(len(parse_file(data, "lines", False)[0]), 3)
+
+    def test_a_cut_file_prints_nothing(self) -> None:
+        data = support.file_of(LABELS[:3])
+        for end in (0, 1, 20, 60, len(data) // 2, len(data) - 60, len(data) - 1):
+            done = support.printed("--stock", "l7160", input=data[:end])
+            self.assertEqual((done.returncode, done.stdout), (1, b""), end)
+            self.assertTrue(done.stderr, end)
+        done = support.printed("--stock", "l7160", input=data[:-60])
+        self.assertIn(
+            b'to print it all the same, take out its lines that begin with #{"labels" and #{"end"', done.stderr
+        )
+
+    def test_parts_one_after_another(self) -> None:
+        """After `cat a b` each part is whole, and its rows are those of its own table."""
+        first, second = support.file_of(LABELS[:2]), support.file_of(LABELS[2:3], left_out=[7], left_out_count=1)
+        labels, left_out, count = parse_file(first + b"qr plain\n" + second.replace(b"articles", b"b"), "lines", False)
+        found = [(label.table, label.row) for label in labels]
+        self.assertEqual(found, [("articles.xlsx", 2), ("articles.xlsx", 3), ("", 0), ("b.xlsx", 2)])
+        self.assertEqual((left_out, count), ([("b.xlsx", 7)], 1))
+        for data in (first[:-60] + second, first + second[:-60], first.split(b"\n", 1)[1]):
+            self.assertRaises(ToolError, parse_file, data, "lines", False)
+
+    def test_remarks_that_are_not_understood(self) -> None:
+        for remark in (
+            '#{"row":2,"colour":"red"}\n',
+            '#{"row":"2"}\n',
+            '#{"row":true}\n',
+            '#{"title":1}\n',
+            '#{"text":"no list"}\n',
+            '#{"text":[1]}\n',
+            '#{"price":"1\\n2"}\n',
+            '#{"title":"a\\u0000b"}\n',
+            '#{"title":"a\\u2028b"}\n',
+            '#{"title":"\\ud800"}\n',
+            '#{"copies":10000}\n',
+            "#{}\n",
+            "#{\n",
+            "#{]\n",
+            '#{"row":2}\n#{"row":3}\n',
+            '#{"row":2}\n' + HEAD,
+        ):
+            with self.subTest(remark=remark):
+                data = f"{HEAD}{remark}ean8 73513537\n{END}".encode()
+                self.assertRaises(ToolError, parse_file, data, "lines", False)
+        for data in (
+            HEAD.replace("1", "2", 1) + "qr a\n" + END,
+            HEAD + "qr a\n" + END.replace('"lines":1', '"lines":2'),
+            HEAD + "qr a\n" + '#{"row":2}\n' + END,
+            HEAD + "qr a\n" + '#{"row":2}\n',
+            HEAD + "qr a\n" + END[:-1],
+            "\ufeff" + HEAD + "qr a\n" + END,
+            END,
+            '#{"row":2}\n',
+        ):
+            with self.subTest(data=data):
+                self.assertRaises(ToolError, parse_file, data.encode(), "lines", False)
+
+    def test_lines_end_at_a_line_feed_alone(self) -> None:
+        fields = {"title": "a\x85b".replace("\x85", "\u00a0"), "text": ["c\nd", " "], "price": " 1 € "}
+        data = f"{HEAD}# of others\r\x0b\x0c\n\n#{json.dumps(fields)}\nqr \x0b\x1c\u2028\n{END}".encode()
+        (label,), _, _ = parse_file(data, "lines", False)
+        self.assertEqual((label.number, label.data.decode()), (5, "\x0b\x1c\u2028"))
+        self.assertEqual((label.title, label.text, label.price, label.copies), ("a\u00a0b", ("c\nd",), "1 €", 1))
+
+    def test_files_and_standard_input(self) -> None:
+        data = support.file_of(LABELS[:2])
+        with tempfile.TemporaryDirectory() as folder:
+            path = Path(folder, "Käse.lines")
+            path.write_bytes(data)
+            outputs = [
+                support.printed(*ROLL, "zpl", path).stdout,
+                support.printed(*ROLL, "zpl", "-", input=data).stdout,
+                support.printed(*ROLL, "zpl", input=data).stdout,
+            ]
+        self.assertTrue(outputs[0] and len(set(outputs)) == 1)
+        done = support.printed(*ROLL, "zpl", "nothing.lines")
+        self.assertEqual((done.returncode, done.stdout), (1, b""))
+        self.assertEqual(support.messages(done), ["label-print: nothing.lines: No such file or directory"])
+
+
+class Running(unittest.TestCase):
+    def ended(self, shell: str, *arguments: str, data: bytes, **variables: str) -> Tuple[int, bytes, str]:
+        """The status, the output and the messages of label-print in a shell, as `"$@"`."""
+        command = ["bash", "-c", shell, "sh", str(support.TOOLS / "label-print"), *arguments]
+        environment = {**support.environment(), **variables}
+        done = subprocess.run(command, input=data, capture_output=True, env=environment, timeout=support.SECONDS)
+        return done.returncode, done.stdout, done.stderr.decode()
+
+    def test_from_any_folder_by_a_link_and_with_a_safe_path(self) -> None:
+        with tempfile.TemporaryDirectory() as folder:
+            link = Path(folder, "label-print")
+            link.symlink_to(support.TOOLS / "label-print")
+            for tool in (link, support.TOOLS / "label-print", link.parent.with_name(link.parent.name) / "label-print"):
+                variables = {"PYTHONSAFEPATH": "1", "HOME": "/nonexistent"}
+                done = support.run(tool, *ROLL, "zpl", input=support.file_of(LABELS[:1]), cwd=folder, **variables)
+                self.assertEqual((done.returncode, done.stderr), (0, b""))
+                self.assertEqual(len(jobs.dots_of_zpl(done.stdout)), 1)
+        self.assertEqual([path for path in support.TOOLS.rglob("__pycache__") if path.parent == support.TOOLS], [])
+
+    def test_a_full_disk(self) -> None:
+        for form in ("pdf", "svg", "png", "pbm", "zpl", "escpos"):
+            ended = self.ended('"$@" > /dev/full', *ROLL, form, data=b"ean8 7351353\n")
+            self.assertEqual(ended, (1, b"", "label-print: standard output: No space left on device\n"), form)
+
+    def test_a_pdf_that_does_not_fit_leaves_nothing(self) -> None:
+        with tempfile.TemporaryDirectory() as folder:
+            shell = f'trap "" XFSZ; ulimit -f 8; "$@" > {folder}/sheet.pdf'
+            data = support.file_of(LABELS)
+            environment = {"TMPDIR": folder}
+            status, _, said = self.ended(shell, "--stock", "l7160", data=data, **environment)
+            self.assertEqual((status, Path(folder, "sheet.pdf").stat().st_size), (1, 0), said)
+            self.assertEqual(os.listdir(folder), ["sheet.pdf"])
+
+    def test_a_closed_pipe_and_closed_streams(self) -> None:
+        data = support.file_of(LABELS)
+        for form in ("pdf", "zpl"):
+            status, out, said = self.ended('"$@" | true; exit "${PIPESTATUS[0]}"', *ROLL, form, data=data)
+            self.assertEqual((status, out, said), (1, b"", "label-print: standard output: Broken pipe\n"), form)
+        self.assertEqual(self.ended('"$@" >&-', *ROLL, "zpl", data=data)[0], 1)
+        self.assertEqual(self.ended('"$@" <&-', *ROLL, "zpl", data=data)[:2], (1, b""))
+        for shell in ('"$@" 2>&-', '"$@" 2> /dev/full'):
+            status, out, said = self.ended(shell, *ROLL, "zpl", data=data + b"ean8 1\n")
+            self.assertEqual((status, len(jobs.dots_of_zpl(out)), said), (1, len(LABELS), ""), shell)
+
+    def test_what_is_missing_is_named_with_its_package(self) -> None:
+        with tempfile.TemporaryDirectory() as folder:
+            for module, package in (("gi", "python3-gi-cairo"), ("zxingcpp", "python3-zxing-cpp")):
+                Path(folder, f"{module}.py").write_text("raise ImportError('No module named here')\n")
+                arguments = (*ROLL, "zpl", "--read-back")
+                ended = self.ended('"$@"', *arguments, data=b"ean8 7351353\n", PYTHONPATH=folder)
+                self.assertEqual(ended[:2], (1, b""))
+                self.assertIn(f"apt-get install {package}", ended[2])
+                self.assertNotIn("Traceback", ended[2])
+                Path(folder, f"{module}.py").unlink()
+
+    def test_progress_on_a_terminal(self) -> None:
+        import pty
+
+        from label_outputs import Progress
+
+        controller, terminal = pty.openpty()
+        with open(terminal, "w") as stream, unittest.mock.patch("sys.stderr", stream):
+            progress = Progress("label-print", 3)
+            progress.add(1)
+            progress.next = 0.0
+            progress.add(1)
+            progress.add(1)
+        self.assertEqual(os.read(controller, 999), b"\rlabel-print: 2 of 3 labels\rlabel-print: 3 of 3 labels\r\n")
+        os.close(controller)
+
+
+class Signals(unittest.TestCase):
+    """A signal at twenty moments of each form: a label is whole or is not there, a document too."""
+
+    MOMENTS = 20
+
+    def test_labels_are_whole(self) -> None:
+        data = support.file_of(LABELS)
+        whole = {form: support.printed(*ROLL, form, input=data).stdout for form in ("zpl", "escpos", "pbm")}
+        decode = {"zpl": jobs.dots_of_zpl, "escpos": jobs.dots_of_escpos, "pbm": jobs.pictures_of_pbm}
+        for form, output in whole.items():
+            seen = set()
+            for moment, found in enumerate(self.outputs(form, data, len(output))):
+                self.assertTrue(output.startswith(found), (form, moment))
+                seen.add(len(decode[form](found)) if found else 0)
+            self.assertGreater(len(seen), 3, form)
+
+    def outputs(self, form: str, data: bytes, size: int) -> List[bytes]:
+        """What goes out where the reader waits after a part, a signal comes, and the reader goes on."""
+        command = [str(support.TOOLS / "label-print"), *ROLL, form]
+        with tempfile.TemporaryDirectory() as folder:
+            path = Path(folder, "lines")
+            path.write_bytes(data)
+            runs = []
+            for moment in range(self.MOMENTS):
+                reader, writer = os.pipe()
+                run = subprocess.Popen(
+                    [*command, str(path)], stdout=writer, stderr=subprocess.PIPE, env=support.environment()
+                )
+                os.close(writer)
+                runs.append((run, reader, size * moment // self.MOMENTS))
+                if len(runs) % 4 == 0 or moment == self.MOMENTS - 1:
+                    yield from [self.stopped(*one, moment) for moment, one in enumerate(runs)]
+                    runs = []
+
+    def stopped(self, run: subprocess.Popen, reader: int, size: int, number: int) -> bytes:
+        """The output of a run that gets a signal after so many bytes of it were read."""
+        found = b""
+        while len(found) < size and (part := os.read(reader, min(4096, size - len(found)))):
+            found += part
+        if run.poll() is None:
+            run.send_signal((signal.SIGTERM, signal.SIGINT, signal.SIGHUP)[number % 3])
+        while part := os.read(reader, 1 << 16):
+            found += part
+        os.close(reader)
+        with run:
+            self.assertIn(run.wait(), (0, -signal.SIGTERM, -signal.SIGINT, -signal.SIGHUP))
+            self.assertEqual(run.stderr.read() if run.stderr else b"", b"")
+        return found
+
+    def test_documents_are_whole_or_not_there(self) -> None:
+        data = support.file_of(LABELS)
+        whole = support.printed("--stock", "l7160", input=data).stdout
+        for moment in range(self.MOMENTS):
+            with tempfile.TemporaryDirectory() as folder:
+                lines, output = Path(folder, "lines"), Path(folder, "sheet.pdf")
+                lines.write_bytes(data)
+                with output.open("wb") as stream:
+                    command = [str(support.TOOLS / "label-print"), "--stock", "l7160", str(lines)]
+                    with subprocess.Popen(command, stdout=stream, env=support.environment()) as run:
+                        time.sleep(0.03 * moment)
+                        run.terminate()
+                self.assertIn(output.read_bytes(), (b"", whole), moment)
+
+    def test_files_of_each_are_whole(self) -> None:
+        data = support.file_of(LABELS)
+        for moment in range(self.MOMENTS // 2):
+            with tempfile.TemporaryDirectory() as folder:
+                lines, files = Path(folder, "lines"), Path(folder, "new")
+                lines.write_bytes(data)
+                command = [str(support.TOOLS / "label-print"), *ROLL, "png", "--each", f"{files}/%d.png", str(lines)]
+                with subprocess.Popen(command, env=support.environment()) as run:
+                    while run.poll() is None and len(list(files.glob("*"))) < moment:
+                        time.sleep(0.002)
+                    run.send_signal(signal.SIGINT)
+                for path in files.glob("*"):
+                    self.assertRegex(path.name, r"^[0-9]+\.png$")
+                    self.assertTrue(path.read_bytes().endswith(b"IEND\xaeB`\x82"), path)
+
+    def test_a_second_signal_ends_it_at_once(self) -> None:
+        reader, writer = os.pipe()
+        lines = support.file_of([(line, {"copies": 99}) for line, _ in LABELS])
+        with tempfile.NamedTemporaryFile() as file:
+            Path(file.name).write_bytes(lines)
+            command = [str(support.TOOLS / "label-print"), *ROLL, "pbm", file.name]
+            with subprocess.Popen(command, stdout=writer, env=support.environment()) as run:
+                os.close(writer)
+                os.read(reader, 1)
+                time.sleep(0.3)  # the pipe is full then
+                run.terminate()
+                time.sleep(0.2)
+                self.assertIsNone(run.poll())
+                run.terminate()
+                self.assertEqual(run.wait(10), -signal.SIGTERM)
+        os.close(reader)
+
+    def test_an_ignored_signal_stays_ignored(self) -> None:
+        command = f'trap "" HUP; {support.TOOLS}/label-print --paper 60x40 --dpi 203 --to zpl & kill -HUP $!; wait $!'
+        done = subprocess.run(
+            ["bash", "-c", f"exec 3<&0; {command.replace('zpl &', 'zpl <&3 &')}"],
+            input=support.file_of(LABELS[:2]),
+            capture_output=True,
+            env=support.environment(),
+        )
+        self.assertEqual((done.returncode, len(jobs.dots_of_zpl(done.stdout))), (0, 2))
+
+
+class Lines(unittest.TestCase):
+    """label-lines: which picture is which line, from a run of its own."""
+
+    def listed(self, data: bytes, *arguments: str) -> Tuple[int, bytes, List[str]]:
+        done = support.run("label-lines", *arguments, input=data)
+        return done.returncode, done.stdout, support.messages(done)
+
+    def test_refused_lines_remarks_and_empty_lines(self) -> None:
+        lines = b"ean8 7351353\n# remark\nean8 x\n\nqr K\xc3\xa4se\r\nqr \xff"
+        said = ["label-lines: line 3: not a digit at byte 1"]
+        self.assertEqual(self.listed(lines), (1, b"1 1 ean8 7351353\n2 5 qr K\xc3\xa4se\r\n3 6 qr \xff\n", said))
+        self.assertEqual(self.listed(b"# none\n"), (0, b"", []))
+
+    def test_options_of_labels(self) -> None:
+        long = b"qr " + b"x" * 150 + b"\n"
+        self.assertEqual(self.listed(long)[0], 0)
+        said = ["label-lines: line 1: data does not fit version 10-H"]
+        self.assertEqual(self.listed(long, "--labels", "--level H"), (1, b"", said))
+
+    def test_as_labels_draws(self) -> None:
+        lines = b"qr a\n\r\n\n#" + b"x" * 1200 + b"\n" + b"y" * 1200 + b"\nqr \x00\n\xe4\nean8 7351353"
+        pictures, _, _ = support.draw(lines, "--height", "1")
+        status, listed, said = self.listed(lines)
+        self.assertEqual((status, listed), (1, b"1 1 qr a\n2 6 qr \x00\n3 8 ean8 7351353\n"))
+        self.assertEqual((pictures.count(b"P1\n"), len(said)), (3, 3))
+
+    def test_endings(self) -> None:
+        done = support.run("label-lines", "nothing.txt")
+        self.assertEqual((done.returncode, done.stdout), (1, b""))
+        self.assertEqual(support.messages(done), ["label-lines: nothing.txt: No such file or directory"])
+        self.assertEqual(self.listed(b"")[:2], (1, b""))
+        self.assertEqual(self.listed(b"qr a\n", "--labels", "--no-such")[:2], (2, b""))
+
+
+if __name__ == "__main__":
+    unittest.main()
