@@ -49,13 +49,14 @@ def run_tests(folder, without_program):
     more = {"NO_SKIP": "", "LABELS": "/not/built"} if without_program else {"NO_SKIP": "1"}
     status, said = run([sys.executable, "-m", "unittest", "discover", "-v", "-b", "-s", folder], **more)
     count = int((re.findall(r"^Ran (\d+) test", said, re.M) or ["0"])[-1])
-    faults = sum(map(int, re.findall(r"\b(?:failures|errors|unexpected successes)=(\d+)", counts.last_line(said))))
-    skipped = re.findall(r"\.\.\. skipped ['\"](.*)['\"]$", said, re.M)
-    left_out = [reason for reason in skipped if without_program and NOT_BUILT in reason]
-    faults += len(skipped) - len(left_out)
-    if not faults and (status or count == len(left_out)):
+    ends = (re.findall(r"^(?:OK|FAILED)(?: \(.*\))?$", said, re.M) or [""])[-1]
+    reasons = re.findall(r"\.\.\. skipped ['\"](.*)['\"]$", said, re.M)
+    left_out = sum(without_program and NOT_BUILT in reason for reason in reasons)
+    faults = sum(map(int, re.findall(r"=(\d+)", ends))) - left_out
+    good = max(count - left_out - faults, 0)
+    if not faults and (status or not ends or not good):
         faults = 1
-    return count - len(left_out) - min(faults, count), faults, said
+    return good, faults, said
 
 
 def files_for(*interpreters):
