@@ -101,9 +101,6 @@ class Item:
     body: str  # what is between the braces; nothing where there are none
     clauses: list = field(default_factory=list)  # of a function: ("requires" or "ensures", its lines)
 
-    def clause_count(self, kind):
-        return sum(1 for one, _ in self.clauses if one == kind)
-
 
 def docs_before(lines):
     """The docstring that ends a list of lines, with attributes between it and the end, as one line."""
@@ -173,8 +170,3 @@ def items_of(text):
 def code_lines(text):
     """The lines of a text that hold code: no blank lines, comments and attributes."""
     return [line for line in text.split("\n") if line.strip() and not line.strip().startswith(("//", "#[", "#!["))]
-
-
-def head_comment(text):
-    """The `//!` lines of a file as one line."""
-    return " ".join(line.removeprefix("//!").strip() for line in text.split("\n") if line.startswith("//!"))

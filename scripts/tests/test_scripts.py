@@ -122,7 +122,7 @@ class Sources(unittest.TestCase):
     def test_clauses_and_docs(self):
         brace, _, named = sources.items_of(CODE)
         self.assertEqual(brace.docs, "A brace.")
-        self.assertEqual([brace.clause_count(kind) for kind in ("requires", "ensures")], [1, 1])
+        self.assertEqual([kind for kind, _ in brace.clauses], ["requires", "ensures"])
         self.assertEqual([item.kind for item in sources.items_of(named.body)], ["ghost", "fn"])
 
     def test_lines(self):
