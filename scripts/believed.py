@@ -1,24 +1,20 @@
 #!/usr/bin/env python3
 """What has to be believed: every definition that the contract of the program's own call rests on.
 
-With no option it prints how many lines each crate and each kind has. --write makes the lists of docs/DEFINITIONS.md
-anew. --check makes them anew, and compares the whole page with what --write would leave: status 1, and the
-differences, where a name, a description or a number of lines is not the one that the files give. It compares the
-number of lines that README.md gives too.
+With no option it prints how many lines there are. --write makes the lists of docs/DEFINITIONS.md anew. --check
+compares the page with what --write would leave, and the number in README.md: status 1 where they differ.
 
-The first list of the page has the definitions that the call rests on, the second the other definitions of specs/, but
-for the modules whose name begins with Private: only contracts inside a crate cite these. The third list has what
-contracts speak by and is no definition: the contract itself, traits, types and views of the code. The number in
-README.md counts the first list and what the third one has of the call.
+The first list has the definitions that the call rests on, the second the other definitions of specs/, but for modules
+whose name begins with Private: contracts inside a crate alone cite these. The third has what contracts speak by and is
+no definition: the contract itself, traits, types and views of the code. README's number counts the first list and what
+the third one has of the call.
 
-The first comment of a file says what the file is about. Lines `-- Why: ` after it say what its definitions follow,
-a clause of a standard or a page: names between backticks, a colon, and the clause. The page has each `Why: ` in the
-list with the definitions that it names.
+The first comment of a file says what the file is about. Lines `-- Why: ` after it say what its definitions follow:
+names between backticks, a colon, and the clause of a standard or a page.
 
-It reads the text of the files in crates/*/specs and crates/*/src; no tool of the kit is needed. A definition is
-a block of lines between blank ones. It rests on each name in it that is defined in its file or imported by a line
-`use`. A name that is bound in a definition and means something else in its file counts as that name: the list may
-be too long because of that, never too short.
+It reads texts alone. A definition is a block of lines between blank ones. It rests on each name in it that is defined
+in its file or imported by a line `use`. A name that is bound in a definition and means something else in its file
+counts as that name: the list may be too long because of that, never too short.
 """
 
 import argparse
@@ -43,9 +39,6 @@ CRATES = ["filter", "labelcore", "device", "picture", "linear", "qrmatrix", "qrd
 AT_THE_TOP = {"labels", "examples", "tests"}
 PAGE = os.path.join("docs", "DEFINITIONS.md")
 README_NUMBER = re.compile(r"([\d,]+)\s+lines\s+of\s+\[definitions\]")
-# The most lines of differences that --check prints.
-SHOWN = 60
-
 NAME = r"[^\W\d][\w']*(?:-[\w']+)*"
 # The names of a `Why: `, before its first colon.
 WHY = re.compile(r"Why: ((?:`[^`]+`,? )*`[^`]+`): ")
@@ -54,14 +47,13 @@ HEAD = re.compile(rf"^(?:(?:abbrev|unfoldable)\s+)?(?:pub\s+)?(?:record\s+|data\
 PATH = re.compile(rf"{NAME}(?:\.{NAME})*")
 
 
+@dataclass(eq=False)
 class Definition:
-    """A block of a file: the name that it defines, the lines, the comment before them."""
+    """A block of a file: the name that it defines, the comment before it, and its lines."""
 
-    def __init__(self, key, comment, lines):
-        self.key, self.comment, self.lines = key, comment, lines
-
-    def text(self):
-        return "\n".join(self.lines)
+    key: tuple  # (crate, module, name)
+    comment: str
+    lines: list
 
 
 class File:
@@ -158,8 +150,8 @@ def find(files, crate, module, name):
 
 def rests_on(files, file, definition):
     """What a definition rests on, in the order of its text."""
-    found = []
-    for path in PATH.findall(definition.text()):
+    found, text = [], "\n".join(definition.lines)
+    for path in PATH.findall(text):
         first, _, rest = path.partition(".")
         if first in file.of_name:
             found.append(file.of_name[first])
@@ -167,7 +159,6 @@ def rests_on(files, file, definition):
             found.append(find(files, *file.names[first]))
         elif first in file.modules and rest:
             found.append(find(files, *file.modules[first], rest.split(".")[0]))
-    text = definition.text()
     for name, target in [(n, t) for n, t in file.names.items() if n.startswith("◌")] + [
         (n, (file.crate, file.module, n)) for n in file.of_name if n.startswith("◌")
     ]:
@@ -254,14 +245,6 @@ def part(files, definitions):
     return "\n".join(out) + "\n"
 
 
-def types_named(files, definitions):
-    """The code's own types and constants that definitions name, each with its crate and module."""
-    found = []
-    for one in definitions:
-        found += [it for it in rests_on(files, files[one.key[0], one.key[1]], one) if isinstance(it, tuple)]
-    return found
-
-
 @dataclass
 class Lists:
     """What the page lists: definitions that the call rests on and others, items of code of the call and others."""
@@ -295,7 +278,8 @@ def read_lists(top):
         items = declared.code_items(top, CRATES, named)
         of_call = [call, *(it for it in items if (it.crate, it.file, it.name) in named or is_named(it, words))]
     rest = others(files, reached)
-    every = declared.code_items(top, CRATES, named | declared.named_in(types_named(files, rest)))
+    of_rest = [it for one in rest for it in rests_on(files, files[one.key[:2]], one) if isinstance(it, tuple)]
+    every = declared.code_items(top, CRATES, named | declared.named_in(of_rest))
     return Lists(files, reached, rest, of_call, [it for it in every if it not in of_call])
 
 
@@ -323,20 +307,12 @@ def code_part(heading, items):
     return "\n".join(out) + "\n"
 
 
-def list_texts(lists):
-    """The text of each list of the page, by its name."""
-    code = code_part("Of the program's call", lists.code_of_call)
-    code += code_part("Of other public contracts", lists.other_code)
-    return {
-        "believed": part(lists.files, lists.reached),
-        "other": part(lists.files, lists.others),
-        "code": code,
-    }
-
-
 def page_anew(page, lists):
     """The page with its lists made anew."""
-    for name, made in list_texts(lists).items():
+    code = code_part("Of the program's call", lists.code_of_call)
+    code += code_part("Of other public contracts", lists.other_code)
+    texts = {"believed": part(lists.files, lists.reached), "other": part(lists.files, lists.others), "code": code}
+    for name, made in texts.items():
         begin, end = f"<!-- {name}: begin -->", f"<!-- {name}: end -->"
         before, found_begin, rest = page.partition(begin)
         _, found_end, after = rest.partition(end)
@@ -349,18 +325,12 @@ def page_anew(page, lists):
 def check_page(page, lists):
     """Whether the page is the one that --write would leave. Prints the first differences."""
     anew = page_anew(page, lists)
-    if anew == page:
-        return True
-    differences = list(
-        difflib.unified_diff(
-            page.split("\n"), anew.split("\n"), f"{PAGE} as it is", f"{PAGE} as the files give it", lineterm="", n=1
-        )
-    )
-    print(*differences[:SHOWN], sep="\n")
-    if len(differences) > SHOWN:
-        print(f"and {len(differences) - SHOWN} more lines")
-    print(f"{PAGE} is not what the files give: scripts/believed.py --write makes its lists anew")
-    return False
+    names = f"{PAGE} as it is", f"{PAGE} as the files give it"
+    differences = list(difflib.unified_diff(page.split("\n"), anew.split("\n"), *names, lineterm="", n=1))
+    if differences:
+        print(*differences[:60], sep="\n")
+        print(f"{PAGE} is not what the files give: scripts/believed.py --write makes its lists anew")
+    return not differences
 
 
 def lines_to_believe(lists):
@@ -369,37 +339,30 @@ def lines_to_believe(lists):
 
 def check_readme(readme, lists):
     """Whether README.md gives the number of lines that have to be believed."""
-    found, lines = README_NUMBER.search(readme), lines_to_believe(lists)
-    if not found:
-        print(f"README.md does not give the number of lines to be believed, as '{lines:,} lines of [definitions]'")
-    elif found.group(1) != f"{lines:,}":
-        print(f"README.md says {found.group(1)} lines of definitions; the files have {lines:,}")
-    return bool(found) and found.group(1) == f"{lines:,}"
+    found, lines = README_NUMBER.search(readme), f"{lines_to_believe(lists):,}"
+    if not found or found.group(1) != lines:
+        print(
+            f"README.md says {found.group(1) if found else 'nothing'}, where '{lines} lines of [definitions]' is right"
+        )
+    return bool(found) and found.group(1) == lines
 
 
 def print_counts(lists):
-    print("Lines, without blank lines and comments:")
     for crate, modules in by_file(lists.reached):
         here = [one for definitions in modules.values() for one in definitions]
-        print(f"    {crate}: {len(here)} definitions, {lines_of(here)} lines")
-    print(f"    in all: {len(lists.reached)} definitions, {lines_of(lists.reached)} lines")
-    print(f"    of the code: {counts_of_code(lists.code_of_call)}")
-    print(f"    to be believed: {lines_to_believe(lists)} lines")
-    print(f"    what other public contracts speak of: {len(lists.others)} definitions, {lines_of(lists.others)} lines")
-    print(f"        of the code: {counts_of_code(lists.other_code)}")
+        print(f"{crate}: {len(here)} definitions, {lines_of(here)} lines")
+    print(f"in all: {len(lists.reached)} definitions, {lines_of(lists.reached)} lines")
+    print(f"of the code: {counts_of_code(lists.code_of_call)}")
+    print(f"to be believed: {lines_to_believe(lists)} lines, without blank lines and comments")
 
 
-def arguments():
+def main():
     parser = argparse.ArgumentParser(description=__doc__, formatter_class=argparse.RawDescriptionHelpFormatter)
     way = parser.add_mutually_exclusive_group()
     way.add_argument("--write", action="store_true", help="make the lists of docs/DEFINITIONS.md anew")
     way.add_argument("--check", action="store_true", help="compare docs/DEFINITIONS.md and README.md with the files")
     parser.add_argument("--top", default=sources.TOP, metavar="FOLDER", help="the repository (that of this script)")
-    return parser.parse_args()
-
-
-def main():
-    given = arguments()
+    given = parser.parse_args()
     lists, path = read_lists(given.top), os.path.join(given.top, PAGE)
     if given.write:
         anew = page_anew(sources.read(path), lists)

@@ -1,13 +1,13 @@
-"""What contracts speak by and is no definition of specs/: traits, types, views and constants of the code.
+"""What contracts speak by and is no definition of specs/: a contract itself, traits, types, views, constants.
 
 - A trait: its members and the clauses of its functions, without the bodies that it gives.
-- A type: an enum or a struct whose variants or fields definitions name.
+- A type: an enum or a struct that definitions name.
 - A view: what contracts see of a type with private fields, its `impl Model`.
 - Members: what the names of a trait mean for a type, the ghost members of its `impl`.
 - A constant that definitions name.
 
-A trait, a view or members count where the crate's lib.rt names the trait and the type for callers. What an item states
-is its text without bodies; the lines `ghost use` of its file say which definitions it names.
+A trait, a view or members count where the crate's lib.rt names the trait and the type for callers. The lines
+`ghost use` of a file say which definitions its items name.
 """
 
 import os
@@ -17,12 +17,14 @@ from dataclasses import dataclass
 import sources
 
 KINDS = ("contract", "trait", "type", "view", "members", "constant")
+OF_CODE = {"enum": "type", "struct": "type", "const": "constant"}
+NAME = re.compile(r"◌\S+◌|[^\W\d][\w']*(?:-[\w']+)*")
 
 
 @dataclass(frozen=True)
 class CodeItem:
-    """A trait, type, view or constant: its crate, the file in src/ without its ending, its description, its lines, and
-    the definitions that they name, as (crate, module, name)."""
+    """An item: its crate, its file in src/ without the ending, its description, its lines, and the definitions that
+    these name, as (crate, module, name)."""
 
     kind: str
     name: str
@@ -44,19 +46,10 @@ def exported(top, crate):
     return {name for line in lines for name in re.findall(r"\w+", line)}
 
 
-def statement(item):
-    """The lines of a trait that state something: members, heads and clauses of functions, and no bodies."""
-    text = item.text
-    for inner in sources.items_of(item.body):
-        if inner.kind == "fn" and inner.body:
-            text = text.replace("{" + inner.body + "}", "")
-    return sources.code_lines(text)
-
-
-def ghost_members(item, names):
-    """The ghost members of an `impl` that say something, as items: those that private lemmas prove are laws."""
-    members = [inner for inner in sources.items_of(item.body) if inner.kind == "ghost"]
-    return [it for it in members if not any(of[1].startswith("Private") for of in definitions_in([it.text], names))]
+def from_other_crates(items, all_public):
+    """The names for callers that a file takes from other crates, by its lines `use`."""
+    lines = [item.text for item in items if item.kind == "use" and re.match(r"use (?!crate|super)", item.text)]
+    return {name for line in lines for name in re.findall(r"\w+", line)} & all_public
 
 
 def ghost_names(text):
@@ -68,22 +61,26 @@ def ghost_names(text):
     return found
 
 
-def definitions_in(lines, names):
-    """The definitions that lines name, each once, in the order of the text."""
-    words = re.findall(r"◌\S+◌|[^\W\d][\w']*(?:-[\w']+)*", "\n".join(lines))
-    return tuple(dict.fromkeys(names[word] for word in words if word in names))
+def item_of(kind, name, crate, file, about, lines, names):
+    definitions = dict.fromkeys(names[word] for word in NAME.findall("\n".join(lines)) if word in names)
+    return CodeItem(kind, name, crate, file, about, tuple(lines), tuple(definitions))
 
 
-def from_other_crates(items, all_public):
-    """The names for callers that a file takes from other crates, by its lines `use`."""
-    lines = [item.text for item in items if item.kind == "use" and re.match(r"use (?!crate|super)", item.text)]
-    return {name for line in lines for name in re.findall(r"\w+", line)} & all_public
+def statement(item):
+    """The lines of a trait that state something: members, heads and clauses of functions, and no bodies."""
+    text = item.text
+    for inner in sources.items_of(item.body):
+        if inner.kind == "fn" and inner.body:
+            text = text.replace("{" + inner.body + "}", "")
+    return sources.code_lines(text)
 
 
 def of_impl(item, types, traits, names):
     """What an `impl` adds: a view of a type, or the members of a trait for a type. (kind, name, description, lines)"""
     match = re.match(r"(\w+)(?:<.*>)? for (\w+)", item.name)
-    members = ghost_members(item, names)
+    # A member that a private lemma proves is a law of the trait, and says nothing more.
+    laws = {name for name, (_, module, _) in names.items() if module.startswith("Private")}
+    members = [it for it in sources.items_of(item.body) if it.kind == "ghost" and not laws & {*NAME.findall(it.text)}]
     if not match or match.group(2) not in types or not members:
         return
     trait, name = match.groups()
@@ -100,29 +97,24 @@ def of_file(crate, file, text, public, all_public, named):
     """The items of a file of code: traits and views for callers, and the types and constants in `named`."""
     items = sources.items_of(text)
     types, names = public | from_other_crates(items, all_public), ghost_names(text)
-    kinds = {"enum": "type", "struct": "type", "const": "constant"}
     for item in items:
         found = []
         if item.kind == "trait" and item.name in public:
             found = [("trait", item.name, item.docs, statement(item))]
-        elif item.kind in kinds and (crate, file, item.name) in named:
-            found = [(kinds[item.kind], item.name, item.docs, sources.code_lines(item.text))]
+        elif item.kind in OF_CODE and (crate, file, item.name) in named:
+            found = [(OF_CODE[item.kind], item.name, item.docs, sources.code_lines(item.text))]
         elif item.kind == "impl":
             found = of_impl(item, types, all_public, names)
         for kind, name, about, lines in found:
-            yield CodeItem(kind, name, crate, file, about, tuple(lines), definitions_in(lines, names))
+            yield item_of(kind, name, crate, file, about, lines, names)
 
 
 def named_in(declared):
     """The types and constants that names of `declared` belong to: (crate, file, name) of (crate, module, name)."""
     found = set()
     for crate, module, name in declared:
-        parts = module.split(".")[1:]
-        if parts[-1] == "TheConstants":
-            found.add((crate, "/".join(parts[:-1]), name))
-        else:
-            parts = [part for part in parts if part != "TheVariants"]
-            found.add((crate, "/".join(parts[:-1]), parts[-1]))
+        *parts, last = [part for part in module.split(".")[1:] if part != "TheVariants"]
+        found.add((crate, "/".join(parts), name if last == "TheConstants" else last))
     return found
 
 
@@ -134,8 +126,7 @@ def code_items(top, crates, named):
         folder = os.path.join(top, "crates", crate, "src")
         for path in sources.files_below(folder, ".rt"):
             file = os.path.relpath(path, folder)[:-3].replace(os.sep, "/")
-            text = sources.read(path)
-            items += of_file(crate, file, text, public[crate], all_public, named)
+            items += of_file(crate, file, sources.read(path), public[crate], all_public, named)
     return items
 
 
@@ -145,6 +136,6 @@ def contract_of(top, crate, file, function):
     text = sources.read(path) if os.path.exists(path) else ""
     for item in sources.items_of(text):
         if item.kind == "fn" and item.name == function:
-            lines = sources.code_lines(item.head) + [it for _, clause in item.clauses for it in sources.code_lines(clause)]
-            return CodeItem("contract", function, crate, file, item.docs, tuple(lines), definitions_in(lines, ghost_names(text)))
+            lines = sources.code_lines("\n".join([item.head, *(clause for _, clause in item.clauses)]))
+            return item_of("contract", function, crate, file, item.docs, lines, ghost_names(text))
     return None

@@ -5,8 +5,9 @@
   use cites it.
 - A lemma of proofs/ is used where an answer, an attribute of the code or a lemma in use cites it. Files that the check
   itself reads (Answers, Invariants and Proof below the folder of a function) use what they cite; of what they define,
-  what is not `pub` has to be cited too. The lemmas of a file whose name has Examples in it are there to be checked,
-  and so are the statements without variables of a file that no other cites: worked values, as those of a standard.
+  what is not `pub` has to be cited too. The lemmas of a file whose name has Examples or Theorems in it are there to be
+  checked, and so are the statements without variables of a file that no other cites: worked values, as those of a
+  standard.
 - An imported name is used where its file, or the `impl` that imports it, has it outside of comments and other
   imports; a name of `ghost use` where a contract, a ghost item or an attribute has it; a trait of ours also where one
   of its functions is called.
@@ -92,7 +93,7 @@ class AnttFile:
             return []
         if "." in self.module and self.module.split(".")[-1] in READ_BY_CHECK:
             return [one for one in self.definitions if one.is_public]
-        if "Examples" in self.module:
+        if re.search("Examples|Theorems", self.module):
             return self.definitions
         if (self.crate, self.part, self.module) in cited_files:
             return []

@@ -1,3 +1,4 @@
 pub mod LinesLaws
 pub mod PassingLaws
 pub mod WritingLaws
+pub mod Theorems

@@ -1,7 +1,7 @@
 //! Generator polynomials and the error correction codewords of a block (ISO/IEC 18004, 7.5.2 and annex A).
 ghost use Rattle.gf256.specs.Field.{alpha, field_power};
-ghost use Rattle.gf256.specs.ErrorCorrection.{AreEcCodewords, IsEcCodewordCount, EcCodewordsAreRemainder};
-ghost use Rattle.gf256.specs.ErrorCorrection.{RemaindersHaveRoots, generator, next_register};
+ghost use Rattle.gf256.specs.ErrorCorrection.{AreEcCodewords, IsEcCodewordCount, generator};
+ghost use Rattle.gf256.specs.ErrorCorrection.{next_register};
 ghost use Rattle.gf256.specs.Polynomial.{polynomial_sum, scalar_multiple};
 ghost use Rattle.gf256.specs.Private.{AreMultiples, IsRegister, padded_generator, zeros};
 ghost use Rattle.std.specs.Prelude.{◌≡◌, ◌-◌, ℕ, ◌∷◌, ◌++◌, drop, length, map, take};
@@ -154,10 +154,3 @@ fn logarithms_of(k: usize) -> &'static [u8]
     let all = &GENERATORS[..];
     &all[first..first + k]
 }
-
-/// Proves, for crates above, that the error correction codewords of the definition are a remainder by the generator
-/// polynomial, and that a block followed by a remainder is a multiple of it. It does nothing when it runs.
-pub fn ec_codewords_are_sound()
-    ensures remainder { EcCodewordsAreRemainder }
-    ensures roots { RemaindersHaveRoots }
-{}

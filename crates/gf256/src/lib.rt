@@ -9,4 +9,4 @@ mod generator;
 mod tables;
 
 pub use field::{mul, pow_alpha};
-pub use generator::{Generator, ec_codewords_are_sound};
+pub use generator::Generator;

@@ -14,3 +14,4 @@ pub mod SwitchingLaws
 pub mod TableLaws
 pub mod ValueRangeLaws
 pub mod ValueReadingLaws
+pub mod Theorems

@@ -1,5 +1,5 @@
 -- The switching rule of Code 128, step by step (in the manner of ISO/IEC 15417's annex on the use of code sets).
--- Why: `ValuesAreWrittenBySteps`, `Writes`, `step`: SPECIFICATION, Code 128, 5; the clause of `coding_laws`.
+-- Why: `ValuesAreWrittenBySteps`, `Writes`, `step`: SPECIFICATION, Code 128, 5; the theorem `coding_laws`.
 use Rattle.std.specs.Prelude.{ℕ, ◌<◌, if◌then◌else◌, List, [], ◌∷◌, ◌++◌, drop, slice_index, All}
 use Rattle.linear.specs.declared.switching.CodeSet.{CodeSet}
 use Rattle.linear.specs.declared.switching.CodeSet.TheVariants.{C}

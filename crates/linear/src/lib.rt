@@ -7,7 +7,6 @@
 mod code128;
 mod digits;
 mod ean;
-mod laws;
 mod limits;
 mod linear;
 mod refusal;
@@ -17,7 +16,6 @@ mod tables;
 
 pub use code128::Code128;
 pub use ean::{Ean8, Ean13, UpcA};
-pub use laws::coding_laws;
 pub use limits::MAX_MODULES;
 pub use linear::{Linear, QuietZones};
 pub use refusal::Refusal;

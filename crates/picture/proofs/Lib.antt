@@ -14,3 +14,4 @@ pub mod SampleLaws
 pub mod ShortLineLaws
 pub mod WritingLaws
 pub mod WritingLoopLaws
+pub mod Theorems

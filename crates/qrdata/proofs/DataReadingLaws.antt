@@ -146,8 +146,8 @@ IsDealtBack-of version level codewords low high w size_is law =
     }
 
 -- what is read of the codewords of a symbol
--- four values and seven facts on them: write_codewords, the only caller, has two facts by `known`, two by
--- ec_codewords_are_sound, two by what it requires itself, and one by the type of its bytes
+-- four values and seven facts on them: write_codewords, the only caller, has two facts by `known`, two by what it
+-- requires itself, and one by the type of its bytes; two are laws of gf256
 pub data_in-symbol_codewords : (version : ℕ) (level : Level) (segments : List Segment) (bytes : List ℕ)
     → 1 ≤ version → version ≤ 10 → AreBytes bytes → IsSegmentation version segments bytes
     → cost version segments ≤ 8 * data_codewords version level

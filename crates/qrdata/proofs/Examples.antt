@@ -214,12 +214,14 @@ unfolding chosen_version chosen_segments best_within first_segments alphanumeric
     data_codewords block_lengths groups_of block_table
 versions_asked_for = refl
 
--- eight letters have 76 bits, which version 1-H lacks: the search begins at the version that is asked for
+-- version 1-H has 72 data bits: eight letters have 76, seven letters 68, four letters and four digits 72; the search
+-- begins at the version that is asked for
 versions_of_letters : (map (λ lowest. chosen_version lowest H (codes "abcdefgh")) (1 ∷ 2 ∷ 3 ∷ []) ≡
     Some 2 ∷ Some 2 ∷ Some 3 ∷ []) × (chosen_version 1 H (codes "abcdefg") ≡ Some 1)
+    × (chosen_version 1 H (codes "abcd1234") ≡ Some 1)
 unfolding chosen_version chosen_segments best_within first_segments alphanumeric_characters alphanumeric_value
     data_codewords block_lengths groups_of block_table
-versions_of_letters = (refl, refl)
+versions_of_letters = (refl, refl, refl)
 
 -- numbers that no digits, characters or bytes have are not read
 largest_digits : (digits_at 1 (bits_of 4 9) ≡ Some (codes "9", []))
@@ -337,6 +339,20 @@ interleaving-split_by : interleaving (split_by (block_lengths 5 Q) (range_with_l
 unfolding block_lengths groups_of block_table split_by interleaving interleaved_5q
 interleaving-split_by = refl
 
+-- a codeword more than version 1 has, and one less
+wrong_lengths : map (data_in 1 Q) ((hello_world ++ (0 ∷ [])) ∷ take 25 hello_world ∷ []) ≡ None ∷ None ∷ []
+unfolding hello_world alphanumeric_characters bits_of number_of byte_bits total_codewords ec_codewords_per_block
+    data_codewords block_lengths groups_of block_table evaluate field_power field_product binary_product
+    binary_remainder number_at digits_at characters_at bytes_at segment_at segments_at deinterleaving data_in
+wrong_lengths = refl
+
+-- the blocks of version 5-Q taken out of the order that the standard lists (ISO/IEC 18004, 7.6)
+blocks_taken_back : deinterleaving (15 ∷ 15 ∷ 16 ∷ 16 ∷ []) interleaved_5q ≡ split_by (15 ∷ 15 ∷ 16 ∷ 16 ∷ []) (range_with_len 0 62)
+unfolding deinterleaving interleaved_5q split_by
+blocks_taken_back = refl
+
+-- ---- four blocks
+
 -- `zint -b 58 --vers=5 --secure=3 --verbose -d "ISO/IEC 18004 BLOCKS 5-Q"` (2.11.1): four blocks, of which the last two
 -- have a data codeword more
 codewords_5q : List ℕ
@@ -367,15 +383,3 @@ unfolding read_changed alphanumeric_characters bits_of number_of byte_bits total
     data_codewords block_lengths groups_of block_table evaluate field_power field_product binary_product
     binary_remainder number_at digits_at characters_at bytes_at segment_at segments_at deinterleaving data_in
 codeword_changed = refl
-
--- a codeword more than version 1 has, and one less
-wrong_lengths : map (data_in 1 Q) ((hello_world ++ (0 ∷ [])) ∷ take 25 hello_world ∷ []) ≡ None ∷ None ∷ []
-unfolding hello_world alphanumeric_characters bits_of number_of byte_bits total_codewords ec_codewords_per_block
-    data_codewords block_lengths groups_of block_table evaluate field_power field_product binary_product
-    binary_remainder number_at digits_at characters_at bytes_at segment_at segments_at deinterleaving data_in
-wrong_lengths = refl
-
--- the blocks of version 5-Q taken out of the order that the standard lists (ISO/IEC 18004, 7.6)
-blocks_taken_back : deinterleaving (15 ∷ 15 ∷ 16 ∷ 16 ∷ []) interleaved_5q ≡ split_by (15 ∷ 15 ∷ 16 ∷ 16 ∷ []) (range_with_len 0 62)
-unfolding deinterleaving interleaved_5q split_by
-blocks_taken_back = refl

@@ -153,7 +153,7 @@ AreBytes-slice bytes each = recursion_from_All (λ b. b < 256) bytes
     (All-from_get_or (λ b. b < 256) bytes 0 (λ i h. each i))
 
 -- a message with all data codewords is cut into blocks that fill a symbol
--- have_blocks, the only caller, has the six facts from four origins: `known`, ec_codewords_are_sound, the type of the
+-- have_blocks, the only caller, has the six facts from four origins: `known`, the laws of gf256, the type of the
 -- message, and what it requires of its length
 pub HasBlocks-message : (version : ℕ) (level : Level) (message : List ℕ) → 1 ≤ version → version ≤ 10
     → EcCodewordsAreRemainder → RemaindersHaveRoots → AreBytes message

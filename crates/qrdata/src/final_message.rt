@@ -44,7 +44,6 @@ fn write_codewords(
     let mut message = Bits::new();
     push_data(version, level, segments, bytes, &mut message);
     write_symbol(version, level, message.codewords.as_slice(), codewords);
-    gf256::ec_codewords_are_sound();
 }
 
 /// Writes the data codewords of the segments.
@@ -66,7 +65,6 @@ fn have_blocks(version: Version, level: Level, message: &[u8])
     requires whole { length message.now ≡ data_codewords version level }
     ensures { HasBlocks version level message.now }
 {
-    gf256::ec_codewords_are_sound();
     version.known();
 }
 

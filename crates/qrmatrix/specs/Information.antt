@@ -1,6 +1,6 @@
 -- The format and version information of a QR symbol as numbers (ISO/IEC 18004, 7.9, 7.10 and Annexes C and D).
 -- Why: `format_information`, `version_information`: 7.9, 7.10, annexes C and D.
--- Why: `FormatInformationIsListed`, `VersionInformationIsListed`: annexes C and D; clauses of `symbol_laws`.
+-- Why: `FormatInformationIsListed`, `VersionInformationIsListed`: annexes C and D; the theorem `symbol_laws`.
 use Rattle.std.specs.Prelude.{◌≡◌, ℕ, ◌+◌, ◌*◌, ◌/◌, ◌^◌, ◌<◌, ◌≤◌, bit_xor, [], ◌∷◌, map}
 use Rattle.std.specs.List.{flat_map, range_with_len}
 use Rattle.gf256.specs.BinaryPolynomial.{binary_product, binary_remainder}

@@ -2,7 +2,6 @@
 ghost use Rattle.std.specs.Prelude.{◌≡◌, ◌+◌, ◌^◌, ◌<◌, ◌≤◌};
 ghost use Rattle.gf256.specs.BinaryPolynomial.{binary_remainder};
 ghost use Rattle.qrmatrix.specs.Information;
-ghost use Rattle.qrmatrix.specs.StandardLists.{AgreesWithLists};
 
 use qrdata::{Level, Version};
 
@@ -56,10 +55,3 @@ pub fn version_information(version: Version) -> u32
     let message = u32::from(version.number()) << 12;
     message + remainder(12, 0x1F25, 6, message)
 }
-
-/// Proves that the definitions compute what the standard lists: the format information of all levels and masks (ISO/IEC
-/// 18004, Annex C), the version information of versions 7 to 10 (Annex D), and the remainder bits (Table 1). It does
-/// nothing when it runs.
-pub fn symbol_laws()
-    ensures { AgreesWithLists }
-{}

@@ -4,10 +4,10 @@ use device::{Buffered, MemSink, MemSource, Sink, write_whole};
 use filter::{Status, run};
 use gf256::Generator;
 use labelcore::{Fault, Format, Item, LineBuf, Options, Scratch, Symbology, parse};
-use linear::{Ean8, Linear, Refusal, Row, coding_laws};
+use linear::{Ean8, Linear, Refusal, Row};
 use picture::{Bars, Framed, QuietZone, Scaled, write_pbm};
 use qrdata::{Codewords, Level, Version, choose, codewords};
-use qrmatrix::{Matrix, symbol_laws};
+use qrmatrix::Matrix;
 use std::test::Fail;
 
 #[test]
@@ -28,7 +28,6 @@ fn page_of_linear(rt: HostRuntime) {
     assert!(rt; Ean8::encode(b"73513530", &mut row) == Err(refusal));
     assert!(rt; row.is_empty());
     assert!(rt; Ean8::QUIET_ZONES.left == 7);
-    coding_laws();
 }
 
 #[test]
@@ -61,7 +60,6 @@ fn page_of_qrmatrix(rt: HostRuntime) {
     codewords(&plan, &mut symbol);
     let matrix = Matrix::draw(plan.version(), plan.level(), None, &symbol);
     assert!(rt; matrix.side() == 21 && matrix.mask() == 0 && matrix.penalty() == 297);
-    symbol_laws();
 }
 
 #[test]

@@ -7,7 +7,7 @@ mod slow;
 use crate::layers::support::LEVELS;
 use arrayvec::ArrayVec;
 use qrdata::{Codewords, Level, Version};
-use qrmatrix::{Matrix, symbol_laws};
+use qrmatrix::Matrix;
 use slow::penalty::penalty;
 use slow::{mask_of_lowest_penalty, modules_under};
 
@@ -67,7 +67,6 @@ const ROW_BITS: [(usize, u64); 4] = [(0, 0x1FDA7F), (6, 0x1FD57F), (20, 0x052F7F
 
 #[test]
 fn draws_the_worked_example(rt: HostRuntime) {
-    symbol_laws();
     let matrix = example(Some(2)).expect(&rt, "26 codewords");
     assert!(rt; matrix.side() == 21 && matrix.mask() == 2);
     for y in 0..21 {

@@ -3,6 +3,7 @@ use Rattle.qrdata.specs.Codewords.{symbol_codewords}
 use Rattle.qrdata.specs.Reading.{data_in}
 use Rattle.qrdata.proofs.DataReadingLaws.{data_in-symbol_codewords, length-read}
 use Rattle.qrdata.proofs.WriterLaws.{AreBytes-slice, length-data}
+use Rattle.gf256.proofs.GeneratorLaws.{IsRemainder-ec_codewords_of, HasRoots-remainder}
 use Rattle.qrdata.proofs.final_message.write_codewords.Goals as goal
 
 pub write_symbol-requires : goal.write_symbol-requires
@@ -24,5 +25,5 @@ returns c =
     rw value (data_in-symbol_codewords version level c.args.segments.now bytes
     c.known.ensures.0 c.known.ensures.1 (AreBytes-slice bytes (λ i. omega (arith, c.type_inv.bytes i)))
     c.requires.cut c.requires.fits
-    c.ec_codewords_are_sound.ensures.remainder c.ec_codewords_are_sound.ensures.roots) in
+    IsRemainder-ec_codewords_of HasRoots-remainder) in
     record { value = value; count = length-read version level written bytes read; read = read }

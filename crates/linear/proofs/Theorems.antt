@@ -1,11 +1,13 @@
+-- What the standards promise of their tables, and the switching rule of Code 128, step by step (ISO/IEC 15420 and 15417,
+-- symbol characters and code sets). No function rests on it.
+use Rattle.linear.specs.CodingLaws.{CodingLaws}
 use Rattle.linear.proofs.CharacterLaws.{character_modules-differs, length-character_modules, length-stop}
 use Rattle.linear.proofs.CharacterLaws.{count_by-character_modules}
 use Rattle.linear.proofs.PatternTableLaws.{pattern-differs}
 use Rattle.linear.proofs.SwitchingLaws.{values_are_written_by_steps}
-use Rattle.linear.proofs.laws.coding_laws.Goals as goal
 
-pub returns : goal.returns
-returns c = record {
+pub coding_laws : CodingLaws
+coding_laws = record {
   patterns_differ = pattern-differs;
   characters_differ = character_modules-differs;
   characters_have_eleven_modules = length-character_modules;
