@@ -151,15 +151,16 @@ class Pen:
 
     def draw_modules(self, canvas: Any, label: Label, box: Box) -> None:
         """Draws the modules of a label, stretched to a box that has a whole number of dots for each."""
-        size, module, down = bytes_a_row(label.width), box.width // label.width, box.height // label.height
+        size, module = bytes_a_row(label.width), box.width // label.width
         rows = [label.modules[start : start + size] for start in range(0, len(label.modules), size)]
+        down = box.height // len(rows)
         if self.has_rectangles:
             for number, row in enumerate(rows):
                 fill(canvas, int.from_bytes(row, "big"), 8 * size, module, box.left, box.top + number * down, down)
             return
         stride = size + -size % 4
         data = memoryview(bytearray(b"".join(row.translate(REVERSED).ljust(stride, b"\0") for row in rows)))
-        mask = cairo.ImageSurface.create_for_data(data, cairo.FORMAT_A1, label.width, label.height, stride)
+        mask = cairo.ImageSurface.create_for_data(data, cairo.FORMAT_A1, label.width, len(rows), stride)
         pattern = cairo.SurfacePattern(mask)
         pattern.set_filter(cairo.Filter.NEAREST)
         canvas.save()

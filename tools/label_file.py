@@ -30,7 +30,8 @@ class Label:
     """A line of labels(1), what belongs to it, and its modules once labels(1) has drawn them.
 
     `data` is the full data, check digit and all; `row` is 0 where no row is known. The picture is `width` by `height`
-    modules, a row of `modules` after another, each in whole bytes; bars have one row.
+    modules, a row of `modules` after another, each in whole bytes; bars have one row there, and a height of 1 where
+    the line sets none.
     """
 
     number: int

@@ -101,7 +101,8 @@ class Layout:
     def boxes(self, label: Label, area: Box) -> dict[str, Box]:
         """The parts of a label in an area."""
         left, top = area.left + (area.width - self.width) // 2, area.top + (area.height - self.height) // 2
-        across, down = label.width * self.way.module, self.bars or label.height * self.way.module
+        across, down = label.width * self.way.module, label.height * self.way.module
+        down = self.bars if self.bars and label.height == 1 else down
         start = left if self.way.is_beside else left + (self.width - across) // 2
         found = {"title": Box(left, top, self.width, self.title)}
         top += self.title + self.gap if self.title else 0
@@ -180,8 +181,8 @@ class Planner:
         return self.digits(group.symbology, way) + sum(height + self.gap for height in heights if height)
 
     def lowest(self, symbology: Symbology, way: Way, need: Need) -> int:
-        """The lowest bars that are allowed; the height of a QR symbol."""
-        if not symbology.nominal:
+        """The lowest bars that are allowed; the height of a QR symbol, and of bars whose line sets one."""
+        if not symbology.nominal or need.height > 1:
             return need.height * way.module
         if self.bars_height:
             return self.dots(self.bars_height)
@@ -205,6 +206,8 @@ class Planner:
             best, fitting = None, list[Need]()
             for way in ways:
                 found = [need for need in left if self.fits(group, way, need)]
+                if found and self.worst(group, way, found) > self.height:  # none has room for all that others need
+                    found = found[:1]
                 if len(found) > len(fitting):
                     best, fitting = way, found
                 if len(found) == len(left):
@@ -217,11 +220,16 @@ class Planner:
             left = [need for need in left if need not in set(fitting)]
         return left
 
+    def worst(self, group: Group, way: Way, needs: list[Need]) -> int:
+        """The height of a label with the highest bars and the highest other parts of some."""
+        lowest = max(self.lowest(group.symbology, way, need) for need in needs)
+        return lowest + max(self.others(group, way, need) for need in needs)
+
     def layout(self, group: Group, way: Way, needs: list[Need]) -> Layout:
         """The layout of labels that all fit in one way."""
         symbology, titles = group.symbology, min(way.title_lines, group.title_lines)
         others = max(self.others(group, way, need) for need in needs)
-        bars = max(self.lowest(symbology, way, need) for need in needs)
+        bars = self.worst(group, way, needs) - others
         if symbology.nominal and not self.bars_height:
             bars = max(bars, min(self.dots(symbology.nominal), self.height - others))
         parts = (self.gap, titles * self.title, bars * bool(symbology.nominal), self.digits(symbology, way), self.text)

@@ -10,7 +10,7 @@ import time
 import zlib
 from io import BytesIO
 from pathlib import Path
-from typing import IO, Any, BinaryIO, Iterator, cast
+from typing import IO, Any, BinaryIO, Iterable, Iterator, Optional, cast
 
 import cairo
 
@@ -74,30 +74,26 @@ class Press:
         """Draws a page; a label with a shortened text is noted."""
         self.shortened.update(label.number for label, area in page if self.pen.draw(canvas, label, area))
 
-    def draw_on(self, surface: Any, page: Page) -> None:
-        """Draws a page of a drawing."""
-        canvas = cairo.Context(surface)
-        canvas.scale(72 / self.pen.dpi, 72 / self.pen.dpi)
-        self.draw(canvas, page)
-        canvas.show_page()
-
-    def surface(self, file: Any) -> Any:
-        """A new drawing whose pages have the size of the paper."""
+    def drawing(self, file: Any, pages: Iterable[Page], progress: Optional[Progress] = None) -> None:
+        """Draws pages of the size of the paper into a file."""
         width, height = (side * 72 / 25.4 for side in self.planner.sheet.page)
-        if self.form == "svg":
-            return cairo.SVGSurface(file, width, height)
-        surface = cairo.PDFSurface(file, width, height)
-        # no time of the run: the same labels give the same bytes
-        surface.set_metadata(cairo.PDF_METADATA_CREATE_DATE, "")
-        return surface
+        surface: Any = (cairo.SVGSurface if self.form == "svg" else cairo.PDFSurface)(file, width, height)
+        if self.form == "pdf":  # without the time of the run the same labels give the same bytes
+            surface.set_metadata(cairo.PDF_METADATA_CREATE_DATE, "")
+        for page in pages:
+            canvas = cairo.Context(surface)
+            canvas.scale(72 / self.pen.dpi, 72 / self.pen.dpi)
+            self.draw(canvas, page)
+            canvas.show_page()
+            if progress:
+                progress.add(len(page))
+        surface.finish()
 
     def document(self, page: Page) -> bytes:
         """A page by itself in a form."""
         if self.form in DRAWN:
             file = BytesIO()
-            surface = self.surface(file)
-            self.draw_on(surface, page)
-            surface.finish()
+            self.drawing(file, [page])
             return file.getvalue()
         width, height = (round(side / self.planner.dot) for side in self.planner.sheet.page)
         dots = dots_of(width, height, lambda canvas: self.draw(canvas, page))
@@ -121,18 +117,14 @@ class Press:
         """Writes one PDF."""
         # Cairo takes no notice of a short write: this file is between it and standard output
         with tempfile.TemporaryFile() as file:
-            surface = self.surface(file)
-            for page in self.pages(labels):
-                self.draw_on(surface, page)
-                progress.add(len(page))
-            surface.finish()
+            self.drawing(file, self.pages(labels), progress)
             file.flush()
             if is_whole(file.fileno()) or self.pen.outlines:
                 file.seek(0)
                 with signals.hold():
                     copy_or_take_back(file, output)
                 return
-        self.pen.outlines = {self.pen.font, self.pen.digits_font}
+        self.pen.outlines, progress.done = {self.pen.font, self.pen.digits_font}, 0
         self.write_pdf(labels, output, signals, progress)
 
     def write_each(self, labels: list[Label], paths: list[Path], signals: Signals, progress: Progress) -> None:

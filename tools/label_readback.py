@@ -32,7 +32,7 @@ def fault_in(dots: Dots, label: Label, bars: Box) -> Optional[str]:
     if found is None or found.bytes != label.data:
         return f"as drawn it is read as {found.bytes!r}" if found else "as drawn it is not read"
     modules = bits_of(label.modules, label.width).repeat(bars.width // label.width, axis=1)
-    wanted = modules.repeat(bars.height // label.height, axis=0)
+    wanted = modules.repeat(bars.height // len(modules), axis=0)
     drawn = pixels[bars.top : bars.top + bars.height, bars.left : bars.left + bars.width]
     return None if numpy.array_equal(drawn, wanted) else "its bars as drawn are not those of labels"
 

@@ -13,7 +13,7 @@ FULL = "standard output: No space left on device"
 COMPLAINING = {
     "label-lines": ((), b"ean8 1\n"),
     "label-print": (("--paper", "60x40"), b"ean8 1\n"),
-    "label-table": (("--code", "1", "--header"), b"code\n73513538\n"),
+    "label-table": (("--code", "1"), b""),
 }
 
 

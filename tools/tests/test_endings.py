@@ -187,7 +187,10 @@ class Running(unittest.TestCase):
             progress.next = 0.0
             progress.add(1)
             progress.add(1)
-        self.assertEqual(os.read(controller, 999), b"\rlabel-print: 2 of 3 labels\rlabel-print: 3 of 3 labels\r\n")
+        shown = b""
+        while not shown.endswith(b"\n"):
+            shown += os.read(controller, 999)
+        self.assertEqual(shown, b"\rlabel-print: 2 of 3 labels\rlabel-print: 3 of 3 labels\r\n")
         os.close(controller)
 
 

@@ -20,7 +20,7 @@ from label_draw import Pen, dots_of
 from label_file import Label, parse_file
 from label_layout import SYMBOLOGIES, Box, Group, Need, Planner, text_lines
 from label_readback import bits_of, fault_in, fault_of
-from label_run import run_labels
+from label_run import bytes_a_row, run_labels
 
 SHELF = [
     (f"ean13 {support.ean13(400638000000 + number)}", {"title": f"Artikel {number}", "price": f"{number},80 €"})
@@ -48,7 +48,8 @@ def planned(data: bytes, cell: Tuple[float, float], dpi: int, *sizes: float) -> 
     planner = Planner(label_stock.Sheet(cell, cell, [(0.0, 0.0)]), dpi, 0.0, *(sizes or (None, None)))
     pen, groups = Pen(dpi, True, "DejaVu Sans", "DejaVu Sans Mono"), {}
     for label, (width, height, modules) in zip(labels, pictures):
-        label.width, label.height, label.modules = width, height, modules
+        label.width, label.height = width, height
+        label.modules = modules[: bytes_a_row(width)] if SYMBOLOGIES[label.symbology].nominal else modules
         group = groups.setdefault(label.symbology, Group(SYMBOLOGIES[label.symbology]))
         group.title_lines = max(group.title_lines, pen.title_lines(label.title, planner.width) if label.title else 0)
         wide, high = pen.price_size(label.price) if label.price else (0, 0)
@@ -197,6 +198,23 @@ class Sizes(unittest.TestCase):
         self.assertEqual(len({label.layout for label in labels}), 1)
         data = support.file_of([("code128 " + "x" * 18, {}), ("code128 x", {"price": "12.999,00 zł"})])
         self.assertTrue(all(label.layout for label in planned(data, (70.0, 24.0), 300)[0]))
+
+    def test_a_line_with_a_height_of_its_own(self) -> None:
+        data = b"code128,height=40 SHELF-7\ncode128 SHELF-7\nean8,height=60 7351353\n"
+        labels, pen, planner = planned(data, (70.0, 40.0), 300)
+        heights = [label.layout.boxes(label, planner.areas[0])["bars"].height for label in labels]
+        modules = [label.layout.way.module for label in labels]
+        self.assertEqual((heights[0], heights[2]), (40 * modules[0], 60 * modules[2]))
+        self.assertEqual(heights[1], planner.dots(15))
+        self.assertEqual([fault_of(label, pen, planner) for label in labels], [None] * 3)
+
+    def test_labels_that_do_not_fit_together(self) -> None:
+        """Each has room by itself, and no one height of bars serves both."""
+        wide, many = "code128 " + "x" * 28, {"text": ["a"] * 3}
+        labels, pen, planner = planned(support.file_of([(wide, {}), ("code128 x", many)]), (100.0, 24.0), 300)
+        for label in labels:
+            self.assertIsNotNone(label.layout)
+            self.look(label, pen, planner)
 
     def test_no_two_boxes_of_ink_overlap(self) -> None:
         texts = [
