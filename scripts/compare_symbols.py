@@ -1,20 +1,17 @@
 #!/usr/bin/env python3
 """Draws some hundred labels with the program `labels`, and compares them with two third-party programs.
 
-zbarimg reads each label back. What it reads must be the full data: the digits with their check digit, or all bytes. A
-reader corrects errors, so it would not see one wrong module of a QR symbol. So zint draws the labels in which the
-standards leave no choice, and its modules must be the same: EAN and UPC; Code 128 data of one code set; QR data of one
-mode, with its version, level and mask given.
+zbarimg reads each label back: it must give the full data, digits with their check digit or all bytes. A reader
+corrects errors, so zint draws the labels in which the standards leave no choice, and its modules must be the same: EAN
+and UPC; Code 128 data of one code set; QR data of one mode, with its version, level and mask given.
 
 The labels are the same in every run: all five symbologies, every error correction level, mask and QR version from 1 to
-10, short data and the longest that fits, data of either length of EAN and UPC, control characters, all 256 bytes, with
-escapes and without, at 2, 3 and 4 pixels a module. For zbarimg each picture goes through Netpbm: pnmpad puts white
-above and below, which a reader wants and a linear label lacks, and pnmtopng makes the PNG.
+10, short data and the longest that fits, control characters, all 256 bytes, with escapes and without, at 2, 3 and 4
+pixels a module. For zbarimg pnmpad puts white above and below, which a linear label lacks, and pnmtopng makes the PNG.
 
 The last line is `N labels: R read back, S of T as zint draws them`. Any other label is printed with its line, and the
-status is then 1, as where there are no labels. Bad arguments, a program that is not there and a missing third-party
-program end with status 2.
-"""
+status is then 1, as where there are no labels. Status 2: bad arguments, no such program, a third-party program
+missing."""
 
 import os
 import random

@@ -69,7 +69,7 @@ remove_folders() {
 # Whether a path is there, also as a link that leads nowhere.
 is_there() { [ -e "$1" ] || [ -L "$1" ]; }
 
-# Copies the file $1 to the new path $2, as another name of the same file where the disk allows that.
+# Copies the file $1 to the new path $2, as a hard link where the disk allows that.
 keep() { cp -a --link "$1" "$2" 2> /dev/null || cp -a "$1" "$2"; }
 
 # Ends a run that did not reach its end: what was moved is put back. It can be done twice.

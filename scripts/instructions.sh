@@ -5,18 +5,15 @@
 #        scripts/instructions.sh --check [--table FILE] [PROGRAM]
 #
 # PROGRAM is crates/labels/out/labels where none is given. Without --check it prints the first two tables of
-# docs/BENCHMARKS.md. The count is valgrind's (callgrind), the same on a busy machine as on an idle one. Of each
-# tool the start of the process is taken off: COUNT (20) equal labels are drawn in one run, and a run over none is
-# subtracted, for zint and GNU barcode one over a single label, for qrencode, which draws one label a run, one
-# that prints its version. So a row says what one label more costs. The second table counts the system calls of
-# one run, without those of a run over no line. Every tool writes to /dev/null.
+# docs/BENCHMARKS.md. The count is valgrind's (callgrind), the same on a busy machine as on an idle one: what one label
+# more costs. From a run over COUNT (20) equal labels one over none is subtracted; for zint and GNU barcode one over a
+# single label; for qrencode, which draws one label a run, one that prints its version. The second table counts the
+# system calls of one run, without those of a run over no line. Every tool writes to /dev/null.
 #
-# With --check it counts for `labels` alone, and compares each row with these tables (or those in FILE): it prints
-# the count of the table, the one measured and the difference. Status 1 where a row takes more than 5 % more than
-# the table says, or where a table lacks a row, has one that is no number, or one that is not measured here. A
-# row that takes more than 5 % less is no failure: a note says that the table is out of date.
-#
-# Status 2: bad arguments, no such program, no valgrind, or a count that failed.
+# --check counts for `labels` alone, and compares each row with these tables (or those in FILE). Status 1 where a row
+# takes more than 5 % more than the table says, or where a table lacks a row, has one that is no number, or one that is
+# not measured here. Where a row takes more than 5 % less a note says that the table is out of date. Status 2: bad
+# arguments, no such program, no valgrind, or a count that failed.
 # shellcheck disable=SC2016  # names of rows have backticks
 set -euo pipefail
 shopt -s inherit_errexit

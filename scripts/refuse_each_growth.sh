@@ -87,18 +87,6 @@ run_refused() {
         < stdin > "$scratch/out" 2> "$scratch/err" || status=$?
 }
 
-# Says what the last run was: whole, refused or bad.
-judge() {
-    if [ "$status" = "$whole_status" ] && cmp -s "$scratch/out" "$scratch/whole_out" &&
-        cmp -s "$scratch/err" "$scratch/whole_err"; then
-        echo whole
-    elif [ "$status" = 3 ] && ! [ -s "$scratch/out" ] && [ "$(cat "$scratch/err")" = 'labels: no memory' ]; then
-        echo refused
-    else
-        echo bad
-    fi
-}
-
 # Refuses each growth of the run by the arguments $1 .., and adds to the counts.
 refuse_each() {
     local growth=0 refused_before=$refused
@@ -110,16 +98,16 @@ refuse_each() {
         run_refused $((growth + 1)) "$@"
         [ -e "$scratch/mark" ] || break
         growth=$((growth + 1))
-        case $(judge) in
-            refused) refused=$((refused + 1)) ;;
-            whole) whole=$((whole + 1)) ;;
-            bad)
-                bad=$((bad + 1))
-                echo "labels $*: growth $growth: status $status, $(wc -c < "$scratch/out") bytes on standard output," \
-                    "on standard error:"
-                cat "$scratch/err"
-                ;;
-        esac
+        if [ "$status" = "$whole_status" ] && cmp -s "$scratch/out" "$scratch/whole_out" &&
+            cmp -s "$scratch/err" "$scratch/whole_err"; then
+            whole=$((whole + 1))
+        elif [ "$status" = 3 ] && ! [ -s "$scratch/out" ] && [ "$(cat "$scratch/err")" = 'labels: no memory' ]; then
+            refused=$((refused + 1))
+        else
+            bad=$((bad + 1))
+            echo "labels $*: growth $growth: status $status, $(wc -c < "$scratch/out") bytes on standard output, and:"
+            cat "$scratch/err"
+        fi
     done
     if [ "$refused" -eq "$refused_before" ]; then
         echo "labels $*: none of $growth growths ended with 'no memory'"

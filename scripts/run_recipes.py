@@ -2,23 +2,21 @@
 """Runs each command of the documents, and compares what it prints.
 
 The pages are README.md, docs/INPUT.md, docs/PRINTING.md, docs/RECIPES.md and the examples of the man pages. PROGRAM is
-crates/labels/out/labels where none is given: the proved program, which `rt run` in crates/labels leaves there.
+crates/labels/out/labels where none is given. A block ```sh holds commands, and the block ```text right after it, if
+there is one, what they print on standard output and standard error together; where there is none, they print nothing.
+A block has to end with status 0. The blocks of a page run in their order, each by its own `sh`, at the top of a new
+copy of the repository's files, with `labels` and the tools on the path, and with a home of their own.
 
-In a page a block ```sh holds commands, and the block ```text right after it, if there is one, what they print on
-standard output and standard error together; where there is none, they print nothing. A block has to end with status 0.
-The blocks of a page run in their order, each by its own `sh`, at the top of a new copy of the repository's files, with
-the program, as `labels`, and the programs of tools on the path, and with a home of their own. In a man page an example
-with prompts `$ ` is a session: each command may end with any status, and what it prints is below it; `$ cat FILE` of a
-file that is not there makes the file. An example without a prompt has to end with status 0 and may print anything; it
-runs in labels.1 alone, since those of the other man pages name files and printers of the reader.
+In a man page an example with prompts `$ ` is a session: each command may end with any status, and what it prints is
+below it; `$ cat FILE` of a file that is not there makes the file. An example without a prompt has to end with status 0
+and may print anything; it runs in labels.1 alone, since those of the other man pages name files of the reader.
 
 A block ```sh kit calls the kit, which proves for minutes, and may print anything. It runs with --kit alone, in a fresh
-clone of what is committed, README.md first, and the other pages with the program that it builds. The gate is left out.
+clone of what is committed, README.md first, and the other pages with the program that it builds; the gate is left out.
 
 Besides, the pictures that RECIPES.md makes must be those of docs/pictures, pixel for pixel, and each link from one
 file of the repository to another must lead to a file and a heading. The last line is `N of N as printed`; where one is
-not, the status is 1. The packages of scripts/packages.txt have what the pages call. Bad arguments and a program that
-is not there end with status 2.
+not, the status is 1.
 """
 
 import argparse
@@ -188,25 +186,15 @@ class Run:
                 self.try_page(f"man/{page.name}", blocks)
 
 
-def parse_arguments() -> argparse.Namespace:
-    """The arguments of the command; ends with status 2 for bad ones."""
+def main() -> int:
     parser = argparse.ArgumentParser(description=__doc__, formatter_class=argparse.RawDescriptionHelpFormatter)
-    parser.allow_abbrev = False
     parser.add_argument("--kit", action="store_true", help="run the blocks that call the kit too, in a fresh clone")
     parser.add_argument("program", metavar="PROGRAM", nargs="?", type=Path, help=f"the program ({PROGRAM})")
     arguments = parser.parse_args()
-    if arguments.program is None and not arguments.kit:
-        arguments.program = TOP / PROGRAM
-    if arguments.program is not None:
-        arguments.program = arguments.program.resolve()
-        if not os.access(arguments.program, os.X_OK) or arguments.program.is_dir():
-            parser.error(f"{arguments.program} is no program: run (cd crates/labels && rt run < /dev/null)")
-    return arguments
-
-
-def main() -> int:
-    arguments = parse_arguments()
-    run = Run(arguments.program, arguments.kit)
+    program = arguments.program or (None if arguments.kit else TOP / PROGRAM)
+    if program and not (program.is_file() and os.access(program, os.X_OK)):
+        parser.error(f"{program} is no program: run (cd crates/labels && rt run < /dev/null)")
+    run = Run(program and program.resolve(), arguments.kit)
     for page in PAGES:
         run.try_page(page, blocks_of(page, arguments.kit))
     run.try_man_pages()

@@ -1,18 +1,18 @@
 #!/usr/bin/env python3
 """Tries the wrong bodies of crates/*/wrong-bodies: the prover must refuse each.
 
-A wrong body is a file like a must-fail edit, with one line more. `refused: FUNCTION` names the function
-whose proof has to fail, by its path below the crate, as a check prints it. `file: FILE` and pairs of `old:
-TEXT` and `new: TEXT` change the code; each TEXT is in the file once. `alone: WHY` keeps it apart from
-others, for example where the proofs of several functions read what it changes.
+A wrong body is a file like a must-fail edit, with one line more. `refused: FUNCTION` names the function whose proof
+has to fail, by its path below the crate. `file: FILE` and pairs of `old: TEXT` and `new: TEXT` change the code; each
+TEXT is in the file once. `alone: WHY` keeps it apart from others, where the proofs of several functions read what it
+changes.
 
-`rt` tries each must-fail edit by a check of the crate. Here one check tries many: a proof reads of other
-functions their contracts alone, so wrong bodies of several functions are put in one copy of the crate, and
-the check says of each function whether it is refused. What fails only because it calls another is not
-judged, and is tried again without it.
+`rt` tries each must-fail edit by a check of the crate. Here one check tries many: a proof reads of other functions
+their contracts alone, so wrong bodies of several functions are put in one copy of the crate, and the check says of
+each function whether it is refused. What fails only because it calls another is not judged, and is tried again without
+it.
 
-The status is 0 where each wrong body is refused, 1 where one is not or there is none, and 2 where an argument
-names no crate or there is no kit. The last line is `N passed, M failed`, as of `rt ci`.
+The status is 0 where each wrong body is refused, 1 where one is not or there is none, and 2 where an argument names no
+crate or there is no kit. The last line is `N passed, M failed`, as of `rt ci`.
 """
 
 import argparse
@@ -155,7 +155,7 @@ def judged(crate, body, said):
     return False if False in answers else None if None in answers else True
 
 
-def try_all(rtlib, crate, shows):
+def try_all(rtlib, crate):
     """Tries the wrong bodies of a crate, and returns how many are refused and a line on each that isn't."""
     left, refused, lines, checks = bodies_of(crate.folder), 0, [], 0
     with tempfile.TemporaryDirectory(prefix="wrong-bodies-kept-") as kept:
@@ -167,8 +167,6 @@ def try_all(rtlib, crate, shows):
             checks += 1
             answers = [(body, judged(crate, body, said)) for body in chosen]
             refused += sum(answer is True for _, answer in answers)
-            for body, name in [(it, name) for it, answer in answers if shows and answer for name in it.functions]:
-                print(f"{crate.name}/{body.name}: {name}: {verdict(crate, said, name)}")
             lines += [f"{body.name}: NOT REFUSED" for body, answer in answers if answer is False]
             if not re.search(r"^only=", said, re.M):
                 lines += ["the check did not reach its end:", *said.split("\n")[:6]]
@@ -192,7 +190,6 @@ def arguments():
         action="store_true",
         help="take the libraries below as `rt ci` left them; else build those that changed",
     )
-    parser.add_argument("--show", action="store_true", help="print what the check says of each wrong body's functions")
     given, known = parser.parse_args(), sources.crates_of(sources.TOP)
     for name in given.crates:
         if name not in known:
@@ -202,14 +199,9 @@ def arguments():
 
 def chosen_crates(names):
     """The folders of the crates that have wrong bodies, the names of those that were asked for and have none."""
-    folders, without = [], []
-    for name in names or sources.crates_of(sources.TOP):
-        folder = os.path.join(sources.TOP, "crates", name)
-        if bodies_of(folder):
-            folders.append(os.path.realpath(folder))
-        elif names:
-            without.append(name)
-    return folders, without
+    paths = {name: os.path.join(sources.TOP, "crates", name) for name in names or sources.crates_of(sources.TOP)}
+    folders = [os.path.realpath(path) for path in paths.values() if bodies_of(path)]
+    return folders, [name for name in names if not bodies_of(paths[name])]
 
 
 def main():
@@ -229,7 +221,7 @@ def main():
             return 1
     crates.sort(key=lambda it: -len(bodies_of(it.folder)))
     with concurrent.futures.ThreadPoolExecutor(len(os.sched_getaffinity(0))) as pool:
-        results = [*pool.map(lambda it: try_all(rtlib, it, given.show), crates)]
+        results = [*pool.map(lambda it: try_all(rtlib, it), crates)]
     failed = [f"{crate.name}/{line}" for crate, (_, lines) in zip(crates, results) for line in lines]
     print(*failed, sep="\n", end="\n" if failed else "")
     print(f"{sum(refused for refused, _ in results)} passed, {len(failed)} failed")

@@ -63,13 +63,24 @@ class TakenAway(unittest.TestCase):
         status, text = self.gate(step, **environment)
         self.assertEqual((status, f"FAILED: {step}" in text, said in text), (1, True, True), text)
 
+    def assert_change_fails(self, file, old, new, step, said):
+        with self.subTest(file=file, new=new):
+            text = read(self.path(file))
+            self.assertIn(old, text)
+            self.replace(file, text.replace(old, new, 1))
+            self.assert_fails(step, said)
+            self.doCleanups()
+
     def test_all_is_there(self):
         status, said = self.gate("counts.py", "pages.py")
         self.assertEqual((status, said.split("\n")[-2]), (0, "2 passed, 0 failed"), said)
 
     def test_what_is_moved_away(self):
         name = sorted(os.listdir(self.path("crates/device/wrong-bodies")))[0]
-        differ = "crates.txt and the folders crates/*/src differ in: "
+        texts, differ = (
+            "counts.py unused.py believed.py pages.py",
+            "crates.txt and the folders crates/*/src differ in: ",
+        )
         for old, new, steps, said in (
             ("scripts/tests", "scripts/t", "counts.py", "scripts/tests: 0, and "),
             ("scripts/tests", "scripts/t", "scripts/tests", "there is no folder scripts/tests"),
@@ -81,12 +92,7 @@ class TakenAway(unittest.TestCase):
             ("crates/filter/must-fail", "away", "counts.py", "must-fail edits of filter: none, and "),
             ("crates/labels/stdout", "away", "counts.py", "stored runs of labels: none, and 1"),
             ("crates/linear/proofs/Examples.antt", "away", "counts.py", "worked values of linear: "),
-            (
-                "crates/picture",
-                "crates/pictures",
-                "counts.py unused.py believed.py pages.py",
-                f"{differ}picture pictures",
-            ),
+            ("crates/picture", "crates/pictures", texts, f"{differ}picture pictures"),
             ("crates", "boxes", "counts.py unused.py pages.py", differ),
             ("docs", "away", "pages.py", "there is no docs/"),
             ("README.md", "away", "pages.py", "there is no README.md"),
@@ -102,15 +108,9 @@ class TakenAway(unittest.TestCase):
 
     def test_what_is_written_otherwise(self):
         """A part of a file that is replaced, once."""
-        end = "\n## " if "\n## " in read(self.path("docs/INPUT.md")) else "\n"
+        tests, labels, end = "scripts/tests/test_gate.py", "scripts/compare_symbols.py", "\n## "
         for file, old, new, step, said in (
-            (
-                "scripts/tests/test_gate.py",
-                "def " "test_all_is_there(",
-                "def all_is_there(",
-                "counts.py",
-                "scripts/tests: ",
-            ),
+            (tests, "def " "test_all_is_there(", "def all_is_there(", "counts.py", "scripts/tests: "),
             ("crates.txt", "gf256:", "# gf256:", "unused.py", "differ in: gf256"),
             ("crates.txt", "gf256:", "# gf256:", "counts.py", "differ in: gf256"),
             ("crates/labelcore/specs/HeldLine.antt", "1100", "1101", "believed_rows.py", "line_limit"),
@@ -120,49 +120,23 @@ class TakenAway(unittest.TestCase):
             ("docs/INPUT.md", end, f"\n```bash\nlabels\n```\n{end}", "pages.py", "no script reads blocks of bash"),
             ("docs/INPUT.md", end, f"\n```\nlabels\n```\n{end}", "pages.py", "no script reads blocks of no language"),
             ("docs/RECIPES.md", "```sh\n", "```text\n", "counts.py", "blocks of sh: "),
-            (
-                "scripts/compare_symbols.py",
-                "[label for part in",
-                "[] and [label for part in",
-                "counts.py",
-                "compare: 0, and ",
-            ),
+            (labels, "[label for part", "[] and [label for part", "counts.py", "compare: 0, and "),
         ):
-            with self.subTest(file=file, new=new):
-                text = read(self.path(file))
-                self.assertIn(old, text)
-                self.replace(file, text.replace(old, new, 1))
-                self.assert_fails(step, said)
-                self.doCleanups()
+            self.assert_change_fails(file, old, new, step, said)
 
     def test_pages_and_code(self):
         """Code that a page quotes is in the file that it names, and each term of the glossary in its file."""
         row = "| device | a source or a sink | own | `device` | `crates.txt` |\n"
         for file, old, new, said in (
-            (
-                "docs/PROOF.md",
-                "ensures whole {",
-                "ensures half {",
-                "this code is in no file that the page names above it",
-            ),
-            (
-                "docs/PROOF.md",
-                "crates/filter/src/streams.rt",
-                "crates/filter/src/stream.rt",
-                "this code is in no file",
-            ),
+            ("docs/PROOF.md", "ensures whole {", "ensures half {", "this code is in no file"),
+            ("docs/PROOF.md", "src/streams.rt", "src/stream.rt", "this code is in no file"),
             ("docs/GLOSSARY.md", row, row.replace("`device`", "`devic`"), "device: no `devic` in crates.txt"),
             ("docs/GLOSSARY.md", row, row.replace("crates.txt", "crate.txt"), "device: no file crate.txt"),
             ("docs/GLOSSARY.md", row, row.replace("own", ""), "a row without the 5 cells"),
             ("docs/GLOSSARY.md", row, row + row, "device: also in line"),
             ("docs/GLOSSARY.md", "| Term | Meaning |", "| Term | Sense |", "no term"),
         ):
-            with self.subTest(new=new):
-                text = read(self.path(file))
-                self.assertIn(old, text)
-                self.replace(file, text.replace(old, new))
-                self.assert_fails("pages.py", said)
-                self.doCleanups()
+            self.assert_change_fails(file, old, new, "pages.py", said)
 
     def test_tests_that_are_not_found(self):
         self.move("tools/tests", "tools/tests-away")

@@ -328,38 +328,27 @@ class Unused(SmallTree):
             "src/lib.rt",
             "specs/Words.antt",
         )
-        calls_itself = NEVER_USED.replace("never n = n", "never n = never n")
-        lemma = "nothing uses the lemma never"
+        calls_itself, other = NEVER_USED.replace("never n = n", "never n = never n"), "src/other.rt"
+        lemma, imported, name = "nothing uses the lemma never", "the imported name", "◌≡◌, ◌+◌"
+        above, nil = "\nabove : ℕ → ℕ\nabove n = never n\n", "\npub twice-nil : twice 0 ≡ 0\ntwice-nil = refl\n"
+        both = {lemmas: LEMMAS + NEVER_USED, answers: ANSWERS.replace("{twice-sum}", "{twice-sum, never}")}
+        error_kind = LIBRARY.replace("io::Write;", "io::{ErrorKind, Write};")
+        uncalled = LIBRARY.replace("    half(double(2));\n", "    double(2);\n")
         for changes, wanted in (
             ({lemmas: LEMMAS + NEVER_USED}, [f"{lemmas}:10: {lemma}"]),
             ({lemmas: LEMMAS + calls_itself}, [lemma]),
-            ({lemmas: LEMMAS + NEVER_USED + "\nabove : ℕ → ℕ\nabove n = never n\n"}, [lemma, "the lemma above"]),
-            (
-                {lemmas: LEMMAS + NEVER_USED, answers: ANSWERS.replace("{twice-sum}", "{twice-sum, never}")},
-                [lemma, f"{answers}:1: the imported name never is not used"],
-            ),
+            ({lemmas: LEMMAS + NEVER_USED + above}, [lemma, "the lemma above"]),
+            (both, [lemma, f"{answers}:1: {imported} never is not used"]),
             ({"proofs/Tables.antt": WORKED + NEVER_USED}, [lemma]),
-            ({lemmas: LEMMAS + "\npub twice-nil : twice 0 ≡ 0\ntwice-nil = refl\n"}, ["the lemma twice-nil"]),
+            ({lemmas: LEMMAS + nil}, ["the lemma twice-nil"]),
             ({spec: SPEC + NEVER_USED}, [f"{spec}:9: nothing uses the definition never"]),
             ({spec: SPEC + NEVER_USED + "\n-- never\n"}, ["the definition never"]),
-            (
-                {lemmas: LEMMAS.replace("◌+◌, refl", "◌+◌, ◌*◌, refl")},
-                [f"{lemmas}:2: the imported name ◌*◌ is not used"],
-            ),
-            ({library: LIBRARY.replace("◌≡◌, ◌+◌", "◌≡◌, ◌+◌, ◌*◌")}, [f"{library}:2: the imported name ◌*◌"]),
-            ({library: LIBRARY.replace("◌≡◌, ◌+◌", "◌≡◌, ◌+◌, added")}, ["the imported name added is not used"]),
-            (
-                {library: LIBRARY.replace("io::Write;", "io::{ErrorKind, Write};")},
-                [f"{library}:5: the imported name ErrorKind"],
-            ),
-            (
-                {"src/other.rt": OTHER + "\nfn lonely() {\n    lonely()\n}\n"},
-                ["src/other.rt:7: nothing calls the function lonely"],
-            ),
-            (
-                {library: LIBRARY.replace("    half(double(2));\n", "    double(2);\n")},
-                ["nothing calls the function half"],
-            ),
+            ({lemmas: LEMMAS.replace("◌+◌, refl", "◌+◌, ◌*◌, refl")}, [f"{lemmas}:2: {imported} ◌*◌ is not used"]),
+            ({library: LIBRARY.replace(name, f"{name}, ◌*◌")}, [f"{library}:2: {imported} ◌*◌"]),
+            ({library: LIBRARY.replace(name, f"{name}, added")}, [f"{imported} added is not used"]),
+            ({library: error_kind}, [f"{library}:5: {imported} ErrorKind"]),
+            ({other: OTHER + "\nfn lonely() {\n    lonely()\n}\n"}, [f"{other}:7: nothing calls the function lonely"]),
+            ({library: uncalled}, ["nothing calls the function half"]),
         ):
             with self.subTest(wanted):
                 for file, text in changes.items():
