@@ -217,13 +217,13 @@ def font_of(family: str, is_bold: bool, size: int) -> Any:
 
 
 def title_text(title: str, lines: int) -> str:
-    """A title in so many lines: what follows is in the last one."""
+    """A title in at most `lines` lines: what follows is in the last one."""
     paragraphs = title.split("\n")
     return "\n".join(filter(None, [*paragraphs[: lines - 1], " ".join(paragraphs[lines - 1 :])]))
 
 
 def fill(canvas: Any, bits: int, size: int, module: int, left: int, top: int, height: int) -> None:
-    """Draws a row of so many modules as rectangles, a bit narrower than their dots: what touches a dot paints it."""
+    """Draws a row of `size` modules as rectangles, a bit narrower than their dots: what touches a dot paints it."""
     for dark in DARK.finditer(f"{bits:0{size}b}"):
         canvas.rectangle(left + dark.start() * module + INSET, top, len(dark[0]) * module - 2 * INSET, height - INSET)
     canvas.fill()
@@ -231,7 +231,7 @@ def fill(canvas: Any, bits: int, size: int, module: int, left: int, top: int, he
 
 @cache
 def guard_bits(size: int, guards: tuple[tuple[int, int], ...]) -> int:
-    """A row of so many modules in which those of the guards are 1."""
+    """A row of `size` modules in which those of the guards are 1."""
     return sum((1 << size - start) - (1 << size - end) for start, end in guards)
 
 

@@ -15,7 +15,7 @@ Modules = tuple[int, int, bytes]
 
 
 def bytes_a_row(width: int) -> int:
-    """The bytes of a row of so many dots or modules."""
+    """The bytes of a row of `width` dots or modules."""
     return (width + 7) // 8
 
 

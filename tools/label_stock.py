@@ -13,7 +13,7 @@ TEMPLATES = Path("/usr/share/libglabels-3.0/templates")
 # millimetres of each unit; a length without one is in points
 UNITS = {"mm": 1.0, "cm": 10.0, "in": 25.4, "pt": 25.4 / 72, "pc": 25.4 / 6, "": 25.4 / 72}
 LENGTH = re.compile(r"\s*(-?[0-9.]+(?:[eE][+-]?[0-9]+)?)\s*(mm|cm|in|pt|pc|)\s*")
-# a grid may leave its page by so many millimetres: the sizes of makers are rounded
+# a grid may leave its page by this length in millimetres: the sizes of makers are rounded
 MOST_BEYOND = 1.0
 
 

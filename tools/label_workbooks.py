@@ -8,7 +8,7 @@ import posixpath
 import re
 import zlib
 from decimal import Decimal
-from functools import partial
+from functools import lru_cache, partial
 from typing import BinaryIO, Callable, Dict, Iterator, List, NamedTuple, Optional, Sequence, Tuple
 from xml.parsers import expat
 from zipfile import ZIP_DEFLATED, ZIP_STORED, BadZipFile, ZipFile
@@ -19,7 +19,8 @@ from label_formats import BUILT_IN, Signs, digits_of, shown_number
 
 MOST_ROWS, MOST_COLUMNS = 1048576, 16384
 LARGEST_PART, PIECE, LONGEST_TAG = 1 << 28, 1 << 16, 1 << 21
-DEEPEST, SHEET_DEPTH = 100, 4  # the deepest element, and a sheet in .ods
+DEEPEST, SHEET_DEPTH, MOST_KINDS = 100, 4, 100  # the deepest element, a sheet in .ods; names of elements with prefixes
+TOO_LARGE = f"has more than {MOST_COLUMNS} columns, {MOST_LETTERS} characters in a cell, or elements {DEEPEST} deep"
 MOST_MERGES = 256  # of those that cross one row
 
 NOT_SHOWN = ("annotation", "rPh", "ruby-text", "shapes")
@@ -38,9 +39,11 @@ TRUTH = Fault("has a truth value (TRUE, FALSE): write it as text")
 SAVE_AGAIN = "open it in the spreadsheet and save it again"
 
 Attributes = Dict[str, str]
-Cell = Tuple[Attributes, List[Tuple[str, str]]]  # the elements of text in a cell, each with its name
+Texts = List[Tuple[str, str]]  # the elements of text in a cell, each with its name
+Cell = Tuple[Attributes, Texts]
 Record = Tuple[str, Attributes, List[Cell]]
 Names = Sequence[str]
+NumberOf = Callable[[str, int], Number]  # of a value and the number of its style
 
 
 class Sheet(NamedTuple):
@@ -114,7 +117,7 @@ class Reader:
             "sign": SIGNS,
             "not shown": NOT_SHOWN,
         }
-        self.kinds = {tag: kind for kind, tags in kinds.items() for tag in tags if tag}
+        self.kinds = {tag: (kind, tag) for kind, tags in kinds.items() for tag in tags if tag}
         self.has_cells = bool(cells)
         self.found: List[Record] = []
         self.row: Record = ("", {}, [])
@@ -122,11 +125,18 @@ class Reader:
         self.pieces: Optional[List[str]] = None
         self.depth = self.ignored = self.cell_depth = self.letters = 0
 
+    def kind_of(self, name: str) -> Tuple[str, str]:
+        """Returns the kind of an element and its local name; keeps it for the name with its prefix."""
+        tag = name.rpartition(":")[2]
+        kind = self.kinds.get(tag, ("", tag))
+        if len(self.kinds) < MOST_KINDS:
+            self.kinds[name] = kind
+        return kind
+
     def start(self, name: str, attributes: Attributes) -> None:
         """Begins an element."""
         self.depth += 1
-        tag = name.rpartition(":")[2]
-        kind = self.kinds.get(tag)
+        kind, tag = self.kinds.get(name) or self.kind_of(name)
         if self.ignored:
             pass
         elif kind == "cell":
@@ -134,7 +144,7 @@ class Reader:
             self.row[2].append(self.cell)
         elif kind == "text" and (tag != "p" or self.depth == self.cell_depth + 1):
             self.pieces = []
-            self.text("")
+            self.letters += 1
         elif kind == "record":
             self.cell, self.letters = ({}, []), 0
             self.row = (tag, local(attributes), [] if self.has_cells else [self.cell])
@@ -144,13 +154,12 @@ class Reader:
             self.ignored = self.depth
         elif kind == "mark":
             self.found.append((tag, local(attributes), []))
-        if self.depth > DEEPEST or len(self.row[2]) > MOST_COLUMNS:
-            raise TableError(f"has more than {MOST_COLUMNS} columns, or elements more than {DEEPEST} deep")
+        if self.depth > DEEPEST or self.letters > MOST_LETTERS or len(self.row[2]) > MOST_COLUMNS:
+            raise TableError(TOO_LARGE)
 
     def end(self, name: str) -> None:
         """Ends an element."""
-        tag = name.rpartition(":")[2]
-        kind = self.kinds.get(tag)
+        kind, tag = self.kinds.get(name) or self.kind_of(name)
         if self.ignored:
             self.ignored = 0 if self.depth == self.ignored else self.ignored
         elif kind == "text" and self.pieces is not None:
@@ -164,9 +173,9 @@ class Reader:
         """Takes text, if it is that of a cell."""
         if self.pieces is not None and not self.ignored:
             self.pieces.append(text)
-            self.letters += len(text) + 1
+            self.letters += len(text)
             if self.letters > MOST_LETTERS:
-                raise TableError(f"has a cell of more than {MOST_LETTERS} characters")
+                raise TableError(TOO_LARGE)
 
     def refuse_document_type(self, *_: object) -> None:
         """Raises TableError: entities of a document type may become any size."""
@@ -195,6 +204,8 @@ def read(
 
 
 def local(attributes: Attributes) -> Attributes:
+    if ":" not in "".join(attributes):
+        return attributes
     return {name.rpartition(":")[2]: value for name, value in attributes.items()}
 
 
@@ -257,9 +268,7 @@ def formats_of(archive: ZipFile, path: str) -> List[str]:
     return styles
 
 
-def xlsx_rows(
-    archive: ZipFile, path: str, strings: List[str], number_of: Callable[[str, int], Number]
-) -> Iterator[Row]:
+def xlsx_rows(archive: ZipFile, path: str, strings: List[str], number_of: NumberOf) -> Iterator[Row]:
     """Yields the rows of a sheet of .xlsx; the merged cells are below the rows in the file, and are read first."""
     coming = merges_of(archive, path)
     merges: List[Merge] = []
@@ -292,9 +301,7 @@ def merges_of(archive: ZipFile, path: str) -> List[Merge]:
     return sorted(merges, reverse=True)
 
 
-def xlsx_cell(
-    attributes: Attributes, texts: List[Tuple[str, str]], strings: List[str], number_of: Callable[[str, int], Number]
-) -> str:
+def xlsx_cell(attributes: Attributes, texts: Texts, strings: List[str], number_of: NumberOf) -> str:
     """Returns a cell by its type, and its value, if there is one."""
     kind = attributes.get("t", "n")
     values = [text for tag, text in texts if tag != "f"]
@@ -324,10 +331,12 @@ def reference_of(reference: str) -> Tuple[int, int]:
     match = REFERENCE.fullmatch(reference)
     if not match:
         raise TableError(f"has the reference {shown(reference)}, which is no cell")
-    place = 0
-    for letter in match[1]:
-        place = 26 * place + ord(letter) - 64
-    return int(match[2]), place - 1
+    return int(match[2]), place_of(match[1])
+
+
+@lru_cache(maxsize=MOST_COLUMNS)
+def place_of(letters: str) -> int:
+    return sum((ord(letter) - 64) * int(26**place) for place, letter in enumerate(reversed(letters))) - 1
 
 
 def is_true(attribute: Optional[str]) -> bool:

@@ -201,12 +201,14 @@ class Signals(unittest.TestCase):
 
     def test_labels_are_whole(self) -> None:
         data = support.file_of(LABELS)
-        whole = {form: support.printed(*ROLL, form, input=data).stdout for form in ("zpl", "escpos", "pbm")}
+        whole = {form: support.run("label-print", *ROLL, form, input=data) for form in ("zpl", "escpos", "pbm")}
         decode = {"zpl": jobs.dots_of_zpl, "escpos": jobs.dots_of_escpos, "pbm": jobs.pictures_of_pbm}
-        for form, output in whole.items():
-            seen = set()
+        for form, done in whole.items():
+            self.assertEqual((done.returncode, done.stderr), (0, b""), form)
+            output, seen = done.stdout, set()
             for moment, found in enumerate(self.outputs(form, data, len(output))):
-                self.assertTrue(output.startswith(found), (form, moment))
+                same = len(os.path.commonprefix([output, found]))
+                self.assertTrue(output.startswith(found), (form, moment, same, found[same - 40 : same + 80]))
                 seen.add(len(decode[form](found)) if found else 0)
             self.assertGreater(len(seen), 3, form)
 
@@ -229,7 +231,7 @@ class Signals(unittest.TestCase):
                     runs = []
 
     def stopped(self, run: subprocess.Popen, reader: int, size: int, number: int) -> bytes:
-        """The output of a run that gets a signal after so many bytes of it were read."""
+        """The output of a run that gets a signal after `size` bytes of it were read."""
         found = b""
         while len(found) < size and (part := os.read(reader, min(4096, size - len(found)))):
             found += part
@@ -245,7 +247,8 @@ class Signals(unittest.TestCase):
 
     def test_documents_are_whole_or_not_there(self) -> None:
         data = support.file_of(LABELS)
-        whole = support.printed("--stock", "l7160", input=data).stdout
+        whole = support.run("label-print", "--stock", "l7160", input=data).stdout
+        self.assertTrue(whole)
         for moment in range(self.MOMENTS):
             with tempfile.TemporaryDirectory() as folder:
                 lines, output = Path(folder, "lines"), Path(folder, "sheet.pdf")

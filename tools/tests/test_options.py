@@ -358,8 +358,10 @@ class Cells(unittest.TestCase):
         support.needs("qpdf")
         for arguments in (("--digits", "OCR B"), ("--font", "OCR B"), ("--font", "Noto Sans CJK JP")):
             done = support.printed("--stock", "l7160", *arguments, input=support.file_of(SHELF))
+            if b"there is no font OCR B" in done.stderr:
+                support.skip("not installed: fonts-ocr-b")
             if b"there is no font" in done.stderr:
-                support.skip(done.stderr.decode())
+                continue  # of fonts-noto-cjk, in place of which fonts-droid-fallback may be installed
             with tempfile.NamedTemporaryFile() as file:
                 Path(file.name).write_bytes(done.stdout)
                 checked = subprocess.run(["qpdf", "--check", file.name], capture_output=True)
@@ -523,6 +525,10 @@ class Stock(unittest.TestCase):
         self.assertLess(label_stock.size_of(layout, ("x0", "y0"))[0], 1e-9)
         followed = [key for key, part in label_stock.parts().items() if part.get("equiv")]
         self.assertGreater(len(followed), 500)
+        several = label_stock.sheet_of(("JAC", "F-3070"))
+        layouts = list(label_stock.parts()["JAC", "F-3070"].iter("Layout"))
+        self.assertGreater(len(layouts), 1)
+        self.assertEqual(len(several.places), sum(int(one.get("nx", 0)) * int(one.get("ny", 0)) for one in layouts))
         same = label_stock.sheet_of(("Avery", "J8160"))
         self.assertEqual(same, label_stock.sheet_of(("Avery", "L7160")))
 

@@ -1,7 +1,7 @@
 """Tests of tools/label-table with spreadsheets' own files, .xlsx and .ods: what is read, and what is refused.
 
 The files are made here, part by part, so that each may be as a spreadsheet writes it or as a hostile hand does. What
-number formats show was seen in LibreOffice 7.4 (German) and is what Excel's documentation of its number formats says.
+number formats show was seen in LibreOffice 7.4 and is what Excel's documentation of its number formats says.
 """
 
 import io
@@ -85,7 +85,8 @@ def xlsx(
     parts = {
         "[Content_Types].xml": XML + "<Types/>",
         "_rels/.rels": relations([("rId1", "officeDocument", "xl/workbook.xml")]),
-        "xl/workbook.xml": f'{XML}<workbook xmlns="{namespace}" xmlns:r="{KINDS}"><workbookPr date1904="{int(date1904)}"/>'
+        "xl/workbook.xml": f'{XML}<workbook xmlns="{namespace}" xmlns:r="{KINDS}">'
+        f'<workbookPr date1904="{int(date1904)}"/>'
         f"<sheets>{listed}</sheets></workbook>",
         "xl/_rels/workbook.xml.rels": relations(targets),
         "xl/styles.xml": f'{XML}<styleSheet xmlns="{namespace}"><numFmts>{codes}</numFmts>'
@@ -209,6 +210,7 @@ class Xlsx(WorkbookTest):
 
     def test_cells_that_have_no_value(self) -> None:
         no_value = "has a formula without a saved value: open the table in the spreadsheet and save it"
+        kind = "is of a kind that is not read: enter it again as text"
         error = 'has "#REF!", which the spreadsheet writes where it has no value to show'
         cells = {
             "<c><f>A1</f></c>": f"refused: {no_value}",
@@ -216,7 +218,7 @@ class Xlsx(WorkbookTest):
             "<c><f>A1</f><v/></c>": f"refused: {no_value}",
             '<c t="e"><f>A1</f><v>#REF!</v></c>': f"refused: {error}",
             '<c t="b"><v>1</v></c>': "refused: has a truth value (TRUE, FALSE): write it as text",
-            '<c t="d"><v>2026-11-25</v></c>': 'refused: has "2026-11-25", which is of a kind that is not read: enter it again as text',
+            '<c t="d"><v>2026-11-25</v></c>': f'refused: has "2026-11-25", which {kind}',
             f'<c t="str"><f>A1</f><v>{PENCIL}</v></c>': f"ean13 {PENCIL}",
             f"<c><f>A1</f><v>{PENCIL}</v></c>": f"ean13 {PENCIL}",
         }
@@ -450,6 +452,7 @@ class Ods(WorkbookTest):
         self.assertEqual(self.found(data, *columns), [(label, f"ean13 {PENCIL}")])
 
     def test_numbers_as_codes(self) -> None:
+        no_value = "has a formula without a saved value: open the table in the spreadsheet and save it"
         cells = {
             ods_cell("0007", "float", 'office:value="7"'): "code128 0007",
             ods_cell("1.234", "float", 'office:value="1234"'): "code128 1234",
@@ -468,7 +471,7 @@ class Ods(WorkbookTest):
             ods_cell(
                 "#NV", "string", 'calcext:value-type="error"'
             ): 'has "#NV", which the spreadsheet writes where it has no value to show',
-            '<table:table-cell table:formula="of:=[.A1]"/>': "has a formula without a saved value: open the table in the spreadsheet and save it",
+            '<table:table-cell table:formula="of:=[.A1]"/>': no_value,
         }
         lines = [text for text in cells.values() if text.startswith("code128")]
         problems = [
@@ -483,7 +486,8 @@ class Ods(WorkbookTest):
         twice = ods_cell("Seife", more='table:number-columns-repeated="2"')
         gap = '<table:table-cell table:number-columns-repeated="2"/>'
         row = f'<table:table-row table:number-rows-repeated="2">{ods_cell(SMALL)}</table:table-row>'
-        empty = '<table:table-row table:number-rows-repeated="{}"><table:table-cell table:number-columns-repeated="{}"/></table:table-row>'
+        empty = '<table:table-row table:number-rows-repeated="{}"><table:table-cell '
+        empty += 'table:number-columns-repeated="{}"/></table:table-row>'
         lines = table(
             ["EAN", "a", "b", "c", "d", "e"], [PENCIL, twice, gap, "x"], end=row + empty.format(1048571, 16384)
         )
@@ -522,7 +526,8 @@ class Ods(WorkbookTest):
         every = [f"ean13 {PENCIL}", f"ean8 {SMALL}", f"ean13 {BOOK}", f"upca {SOAP}"]
         self.check(data, ["--code", "EAN", "--hidden"], every)
 
-        style = '<style:style style:name="ta2" style:family="table"><style:table-properties table:display="false"/></style:style>'
+        style = '<style:style style:name="ta2" style:family="table">'
+        style += '<style:table-properties table:display="false"/></style:style>'
         sheets = [table(["EAN"], [PENCIL]), table(["EAN"], [SMALL], name="alt", style="ta2"), table([""], name="leer")]
         data = ods(*sheets, styles=style)
         self.check(data, ["--code", "EAN"], [f"ean13 {PENCIL}"])
@@ -538,7 +543,8 @@ class Ods(WorkbookTest):
         self.check(data, ["--code", "EAN"], [f"ean13 {PENCIL}", f"ean8 {SMALL}"], [problem], 1)
 
     def test_other_tables_in_the_file(self) -> None:
-        inner = f'<table:table-cell office:value-type="string"><text:p>{PENCIL}</text:p>{table(["x"], ["y"])}</table:table-cell>'
+        inner = f"<text:p>{PENCIL}</text:p>{table(['x'], ['y'])}"
+        inner = f'<table:table-cell office:value-type="string">{inner}</table:table-cell>'
         links = f"<table:dde-links><table:dde-link>{table(['EAN'], [SMALL])}</table:dde-link></table:dde-links>"
         self.check(ods(table(["EAN"], [inner]), links), ["--code", "EAN"], [f"ean13 {PENCIL}"])
 
@@ -554,7 +560,8 @@ class Hostile(WorkbookTest):
         return packed({**parts, part: parts[part].replace(old, new)})
 
     def test_document_types(self) -> None:
-        entities = '<!DOCTYPE x [<!ENTITY a "aaaaaaaaaa"><!ENTITY b "&a;&a;&a;&a;&a;&a;&a;&a;"><!ENTITY c SYSTEM "/etc/passwd">]>'
+        entities = '<!DOCTYPE x [<!ENTITY a "aaaaaaaaaa"><!ENTITY b "&a;&a;&a;&a;&a;&a;&a;&a;">'
+        entities += '<!ENTITY c SYSTEM "/etc/passwd">]>'
         again = "open it in the spreadsheet and save it again"
         problem = f"has a document type (DOCTYPE), which no spreadsheet writes: {again}"
         for part in unpacked(xlsx(self.SHEET)):
@@ -577,16 +584,22 @@ class Hostile(WorkbookTest):
     def test_huge_cells_rows_and_nesting_take_no_memory(self) -> None:
         size = 60_000_000
         bombs = {
-            "a cell": (rows(["EAN"], ["x" * size]), "has a cell of more than 131068 characters"),
+            "a cell": (
+                rows(["EAN"], ["x" * size]),
+                "has more than 16384 columns, 131068 characters in a cell, or elements 100 deep",
+            ),
             "a tag": (f'<row r="1" x="{"x" * size}"/>', "has an element of more than 2 MB"),
             "cells": (
                 f'<row r="1">{"<c/>" * (size // 4)}</row>',
-                "has more than 16384 columns, or elements more than 100 deep",
+                "has more than 16384 columns, 131068 characters in a cell, or elements 100 deep",
             ),
-            "depth": ("<a>" * (size // 3), "has more than 16384 columns, or elements more than 100 deep"),
+            "depth": (
+                "<a>" * (size // 3),
+                "has more than 16384 columns, 131068 characters in a cell, or elements 100 deep",
+            ),
             "texts": (
                 f"<row><c><is>{'<t/>' * (size // 4)}</is></c></row>",
-                "has a cell of more than 131068 characters",
+                "has more than 16384 columns, 131068 characters in a cell, or elements 100 deep",
             ),
             "column": (
                 f'<row r="1">{cell("EAN", "XFE1")}</row>',
@@ -622,7 +635,10 @@ class Hostile(WorkbookTest):
         long = f'<table:table-row table:number-rows-repeated="1000000000">{ods_cell("x")}</table:table-row>'
         self.refused(ods(table(["EAN"], end=long)), f"{limits} 2")
         spaces = ods_cell("<text:s text:c='1000000000'/>")
-        self.refused(ods(table(["EAN"], [spaces])), "has a cell of more than 131068 characters")
+        self.refused(
+            ods(table(["EAN"], [spaces])),
+            "has more than 16384 columns, 131068 characters in a cell, or elements 100 deep",
+        )
 
     def test_more_merged_cells_than_a_sheet_has(self) -> None:
         merges = "".join(f'<mergeCell ref="A{row}:B1000000"/>' for row in range(1, 300))
