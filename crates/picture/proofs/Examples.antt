@@ -178,6 +178,21 @@ cells_of_two_colours : map (λ place. sample (changed cells place) 2 beside) (ra
 unfolding sample changed
 cells_of_two_colours = refl
 
+-- cells below one another, a light one and then a light and a dark module
+abbrev above : QuietZone
+above = record { left = 0; right = 0; top = 1; bottom = 0 }
+
+abbrev column : Raster
+column = record { width = 2; height = 6; rows = replicate 4 (replicate 2 false) ++ replicate 2 (replicate 2 true) }
+
+column_sampled : sample column 2 above ≡ Some ((false ∷ []) ∷ (true ∷ []) ∷ [])
+unfolding sample
+column_sampled = refl
+
+column_of_two_colours : map (λ place. sample (changed column place) 2 above) (range_with_len 0 12) ≡ replicate 12 None
+unfolding sample changed
+column_of_two_colours = refl
+
 -- a width or a height that is no multiple of the scale, and a picture that is smaller than its quiet zone
 abbrev light : ℕ → ℕ → Raster
 light width height = record { width = width; height = height; rows = replicate height (replicate width false) }
@@ -201,6 +216,24 @@ one_row : map (λ texts. common_row (rows_of texts)) ((codes "101" ∷ codes "10
     ∷ codes "100" ∷ []) ∷ (codes "101" ∷ codes "001" ∷ codes "101" ∷ []) ∷ (codes "101" ∷ codes "10" ∷ []) ∷ [] ∷ []) ≡
     Some (true ∷ false ∷ true ∷ []) ∷ None ∷ None ∷ None ∷ None ∷ []
 one_row = refl
+
+-- ---- quiet zones
+
+-- a picture of two by three pixels with another width on each side, and one that is dark beyond its own size too
+abbrev four_widths : QuietZone
+four_widths = record { left = 1; right = 2; top = 3; bottom = 1 }
+
+in_quiet_zones : map (λ (dark : ℕ → ℕ → Bool).
+    raster (with_quiet_zone (record { width = 2; height = 3; dark = dark }) four_widths))
+    (value_at (rows_of (codes "10" ∷ codes "01" ∷ codes "11" ∷ [])) ∷ (λ x y. true) ∷ []) ≡
+    map (λ texts. record { width = 5; height = 7; rows = rows_of texts })
+    ((codes "00000" ∷ codes "00000" ∷ codes "00000" ∷ codes "01000" ∷ codes "00100" ∷ codes "01100" ∷ codes "00000" ∷ [])
+    ∷ (codes "00000" ∷ codes "00000" ∷ codes "00000" ∷ codes "01100" ∷ codes "01100" ∷ codes "01100" ∷ codes "00000" ∷ [])
+    ∷ [])
+in_quiet_zones = refl
+
+beside_bars : (bars (true ∷ []) 1).dark 1 0 ≡ false
+beside_bars = refl
 
 -- light beside the picture
 beside_pixels : map (λ y. value_at (raster (bars (true ∷ []) 1)).rows 1 y) (0 ∷ 1 ∷ []) ≡ false ∷ false ∷ []

@@ -1,6 +1,6 @@
 -- Modules of QR symbols one by one (ISO/IEC 18004, 6.3, 7.7, 7.9 and 7.10): what each is there for, the order of
 -- placement, and symbols with one wrong module, which are not read.
-use Rattle.std.specs.Prelude.{◌≡◌, ℕ, ◌+◌, ◌-◌, ◌*◌, ◌^◌, ◌==◌, nat_lt, refl, Bool, true, false, List, [], ◌∷◌, ◌++◌, map}
+use Rattle.std.specs.Prelude.{◌≡◌, ℕ, ◌+◌, ◌-◌, ◌*◌, ◌/◌, ◌%◌, ◌^◌, ◌==◌, nat_lt, refl, Bool, true, false, List, [], ◌∷◌, ◌++◌, map}
 use Rattle.std.specs.Prelude.{Option, None, Some, codes, slice_index, slice_set, bit_xor, replicate, if◌then◌else◌, zip}
 use Rattle.std.specs.List.{range_with_len}
 use Rattle.gf256.specs.BinaryPolynomial.{binary_remainder}
@@ -197,8 +197,10 @@ shown places = map (λ p. shows_functions 2 Q 5 (modules_of (changed rows p))) p
 -- each ring of the three finder patterns and their separators
 finders_changed : shown (
     (3, 3) ∷ (2, 3) ∷ (1, 3) ∷ (0, 3) ∷ (7, 3) ∷ (3, 7) ∷ (0, 0) ∷ (6, 6) ∷ (7, 7) ∷ (21, 3) ∷ (21, 2) ∷ (21, 5) ∷
-    (24, 3) ∷ (17, 3) ∷ (21, 7) ∷ (24, 0) ∷ (17, 7) ∷ (3, 21) ∷ (4, 21) ∷ (5, 21) ∷ (3, 24) ∷ (3, 17) ∷ (7, 21) ∷ (0,
-    24) ∷ (7, 17) ∷ []) ≡ replicate 25 false
+    (24, 3) ∷ (17, 3) ∷ (21, 7) ∷ (24, 0) ∷ (17, 7) ∷ (3, 21) ∷ (4, 21) ∷ (5, 21) ∷ (3, 24) ∷ (3, 17) ∷ (7, 21) ∷ (
+      0,
+      24,
+    ) ∷ (7, 17) ∷ []) ≡ replicate 25 false
 unfolding shown rows modules_of changed shows_functions fixed_module role format_information binary_remainder
 finders_changed = refl
 
@@ -226,10 +228,13 @@ not_as_told = (refl, refl, refl)
 -- the places of bits 0 to 14 in the first copy and in the second one (ISO/IEC 18004, 7.9)
 copies : List (ℕ × ℕ) × List (ℕ × ℕ)
 copies = (
-    (8, 0) ∷ (8, 1) ∷ (8, 2) ∷ (8, 3) ∷ (8, 4) ∷ (8, 5) ∷ (8, 7) ∷ (8, 8) ∷ (7, 8) ∷ (5, 8) ∷ (4, 8) ∷ (3, 8) ∷ (2, 8)
-    ∷ (1, 8) ∷ (0, 8) ∷ [],
-    (24, 8) ∷ (23, 8) ∷ (22, 8) ∷ (21, 8) ∷ (20, 8) ∷ (19, 8) ∷ (18, 8) ∷ (17, 8) ∷ (8, 18) ∷ (8, 19) ∷ (8, 20) ∷ (8,
-    21) ∷ (8, 22) ∷ (8, 23) ∷ (8, 24) ∷ [])
+  (8, 0) ∷ (8, 1) ∷ (8, 2) ∷ (8, 3) ∷ (8, 4) ∷ (8, 5) ∷ (8, 7) ∷ (8, 8) ∷ (7, 8) ∷ (5, 8) ∷ (4, 8) ∷ (3, 8) ∷ (2, 8)
+      ∷ (1, 8) ∷ (0, 8) ∷ [],
+  (24, 8) ∷ (23, 8) ∷ (22, 8) ∷ (21, 8) ∷ (20, 8) ∷ (19, 8) ∷ (18, 8) ∷ (17, 8) ∷ (8, 18) ∷ (8, 19) ∷ (8, 20) ∷ (
+    8,
+    21,
+  ) ∷ (8, 22) ∷ (8, 23) ∷ (8, 24) ∷ [],
+)
 
 format : List ℕ → Option (Level × ℕ)
 unfolding modules_of read_format number_of binary_remainder
@@ -248,6 +253,19 @@ both_formats_changed : map (λ (p : (ℕ × ℕ) × (ℕ × ℕ)). format (chang
     replicate 15 None
 unfolding format rows copies changed
 both_formats_changed = refl
+
+-- the rows with the bits of a number changed in both copies
+laid : ℕ → List ((ℕ × ℕ) × (ℕ × ℕ)) → List ℕ → List ℕ
+laid number [] rows = rows
+laid number (p ∷ ps) rows =
+    laid (number / 2) ps (if number % 2 == 1 then changed (changed rows p.0) p.1 else rows)
+
+-- format information of each level (Annex C) in place of the symbol's own, 0x2183
+formats_of_levels : map (λ n. format (laid (bit_xor 0x2183 n) (zip copies.0 copies.1) rows))
+    (0x6318 ∷ 0x77C4 ∷ 0x4AA0 ∷ 0x355F ∷ 0x0255 ∷ 0x19D0 ∷ []) ≡
+    Some (L, 5) ∷ Some (L, 0) ∷ Some (M, 7) ∷ Some (Q, 0) ∷ Some (H, 5) ∷ Some (H, 3) ∷ []
+unfolding format rows copies changed laid
+formats_of_levels = refl
 
 -- the modules of two copies of version information in version 7: bit i is in row i / 3 above and in column i / 3 at the
 -- left (ISO/IEC 18004, 7.10)
