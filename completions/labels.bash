@@ -1,39 +1,47 @@
-# Completion of `labels` and its tools for bash: options, the values of those of `labels`, and files.
+# Completion of labels, label-table, label-print and label-lines for bash: options, their values, and files.
 _labels() {
-    local word=${COMP_WORDS[COMP_CWORD]} before=${COMP_WORDS[COMP_CWORD-1]} values=
+    local word=${COMP_WORDS[COMP_CWORD]} before=${COMP_WORDS[COMP_CWORD - 1]} option options values
     # bash cuts --option=value into three words
     if [ "$word" = '=' ]; then
         word=
     elif [ "$before" = '=' ]; then
-        before=${COMP_WORDS[COMP_CWORD-2]}
+        before=${COMP_WORDS[COMP_CWORD - 2]}
     fi
-    case $before in
-        --format) values='pbm ascii' ;;
-        --scale) values='1 2 3 4 5 6 7 8' ;;
-        --level) values='L M Q H' ;;
-        --min-version) values='1 2 3 4 5 6 7 8 9 10' ;;
-        --mask) values='0 1 2 3 4 5 6 7' ;;
-        --height) return ;;
-        *)
-            if [[ $word == -* ]]; then
-                values='--format --scale --height --level --min-version --mask --escapes --help'
-            else
-                compopt -o filenames
-                mapfile -t COMPREPLY < <(compgen -f -- "$word")
-                return
-            fi
+    # An option with its values, with = alone a text of any kind, with =FILE the name of a file.
+    case ${1##*/} in
+        labels)
+            options='--format=pbm,ascii --scale=1,2,3,4,5,6,7,8 --height= --level=L,M,Q,H'
+            options+=' --min-version=1,2,3,4,5,6,7,8,9,10 --mask=0,1,2,3,4,5,6,7 --escapes --help'
             ;;
+        label-table)
+            options='--code= --title= --text= --price= --copies= --symbology=auto,ean13,ean8,upca,code128,qr'
+            options+=' --settings= --fill-zeros --without-check-digit --allow-zeros --sheet= --decimal= --hidden'
+            options+=' --delimiter= --encoding= --header --no-header --help'
+            ;;
+        label-print)
+            options='--stock= --list-stock= --paper= --page= --columns= --rows= --cell= --margin= --gap='
+            options+=' --dpi=203,300,600 --module= --height= --first= --only= --edge= --shift='
+            options+=' --to=pdf,svg,png,pbm,zpl,escpos --each=FILE --dots= --no-cut --font= --digits= --labels='
+            options+=' --read-back --help'
+            ;;
+        *) options='--labels= --help' ;;
     esac
-    mapfile -t COMPREPLY < <(compgen -W "$values" -- "$word")
+    COMPREPLY=()
+    for option in $options; do
+        case $option in
+            "$before=FILE") return ;;
+            "$before="*)
+                compopt +o default
+                values=${option#*=}
+                mapfile -t COMPREPLY < <(compgen -W "${values//,/ }" -- "$word")
+                return
+                ;;
+        esac
+    done
+    # What is no option is a file: readline completes it, whatever is in its name.
+    [[ $word == -* ]] || return
+    for option in $options; do
+        [[ ${option%%=*} != "$word"* ]] || COMPREPLY+=("${option%%=*}")
+    done
 }
-complete -F _labels labels
-
-# the options that a tool's help text names
-_label_tool() {
-    local word=${COMP_WORDS[COMP_CWORD]} options
-    if [[ $word == -* ]]; then
-        options=$("$1" --help 2> /dev/null | grep -o -e '--[a-z][a-z-]*' | sort -u)
-        mapfile -t COMPREPLY < <(compgen -W "$options" -- "$word")
-    fi
-}
-complete -o default -F _label_tool label-caption label-escpos label-fits label-lines label-sheet label-table label-zpl
+complete -o default -F _labels labels label-table label-print label-lines

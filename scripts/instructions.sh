@@ -5,19 +5,15 @@
 #        scripts/instructions.sh --check [--table FILE] [PROGRAM]
 #
 # PROGRAM is crates/labels/out/labels where none is given. Without --check it prints the first two tables of
-# docs/BENCHMARKS.md. The count is valgrind's (callgrind), the same on a busy machine as on an idle one. Of each
-# tool the start of the process is taken off: COUNT (20) equal labels are drawn in one run, and a run over none is
-# subtracted, for zint and GNU barcode one over a single label, for qrencode, which draws one label a run, one
-# that prints its version. So a row says what one label more costs. The second table counts the system calls of
-# one run, without those of a run over no line. Every tool writes to /dev/null.
+# docs/BENCHMARKS.md. The count is valgrind's (callgrind), the same on a busy machine as on an idle one: what one label
+# more costs. From a run over COUNT (20) equal labels one over none is subtracted; for zint and GNU barcode one over a
+# single label; for qrencode, which draws one label a run, one that prints its version. The second table counts the
+# system calls of one run, without those of a run over no line. Every tool writes to /dev/null.
 #
-# With --check it counts for `labels` alone, and compares each row with these tables (or those in FILE): it prints
-# the count of the table, the one measured and the difference. Status 1 where a row takes more than 5 % more than
-# the table says, or where a table lacks a row, has one that is no number, or one that is not measured here. A
-# row that takes more than 5 % less is no failure: a note says that the table is out of date.
-#
-# Status 2: bad arguments, no such program, or a count that failed. Status 77: valgrind is not installed, nothing was
-# counted.
+# --check counts for `labels` alone, and compares each row with these tables (or those in FILE). Status 1 where a row
+# takes more than 5 % more than the table says, or where a table lacks a row, has one that is no number, or one that is
+# not measured here. Where a row takes more than 5 % less a note says that the table is out of date. Status 2: bad
+# arguments, no such program, no valgrind, or a count that failed.
 # shellcheck disable=SC2016  # names of rows have backticks
 set -euo pipefail
 shopt -s inherit_errexit
@@ -26,7 +22,7 @@ usage() { sed -n '/^# usage: /,/^#$/s/^# \{0,1\}//p' "$0" | sed '/^$/d'; }
 
 stop() {
     echo "$0: $1" >&2
-    exit "${2:-2}"
+    exit 2
 }
 
 top=$(cd "$(dirname "$0")/.." && pwd)
@@ -51,9 +47,7 @@ while [ $# -gt 0 ]; do
     shift
 done
 
-has() { command -v "$1" > /dev/null; }
-
-has valgrind || stop "skipped, nothing was counted: not installed: valgrind" 77
+command -v valgrind > /dev/null || stop 'not installed: valgrind'
 labels=${labels:-$top/crates/labels/out/labels}
 if ! [ -f "$labels" ] || ! [ -x "$labels" ]; then
     stop "$labels is no program: run 'rt run < /dev/null' in crates/labels, or name another one"
@@ -86,16 +80,13 @@ calls_of() {
 # The text $1, $2 times, each on a line.
 times() { for ((i = 0; i < $2; i++)); do printf '%s\n' "$1"; done; }
 
-# What one label more costs: the instructions $1 of a run over $3 more labels, less those $2 of a run without them.
-each() { awk -v all="$1" -v start="$2" -v n="$3" 'BEGIN { printf "%d", (all - start) / n + 0.5 }'; }
-
 # A number rounded to hundreds.
 rounded() { awk '{ printf "%d", 100 * int($1 / 100 + 0.5) }'; }
 
 # A number with a comma after its thousands.
 shown() { sed -E ':a; s/^([0-9]+)([0-9]{3})/\1,\2/; ta'; }
 
-# The line $1 under the arguments after it, by labels.
+# What one label more costs by `labels`, of the line $1 under the arguments after it.
 by_labels() {
     local line=$1 all start
     shift
@@ -103,52 +94,26 @@ by_labels() {
     if ! "$labels" "$@" lines > drawn || ! [ -s drawn ]; then stop "$labels draws no label of: $line"; fi
     all=$(instructions_of "$labels" "$@" lines)
     start=$(instructions_of "$labels" "$@" /dev/null)
-    each "$all" "$start" "$count"
+    awk -v all="$all" -v start="$start" -v n="$count" 'BEGIN { printf "%d", (all - start) / n + 0.5 }'
 }
 
-# The data $1 by the command after it, which takes a file of data last: a run over many less a run over one.
-by_file() {
-    local data=$1 all start
-    shift
+# A cell: what one label more of the data $2 costs by the tool $1 under the arguments after it; `-` without any. zint
+# writes its own text of a picture, letters of hexadecimal digits, GNU barcode PostScript, qrencode text.
+cell() {
+    local tool=$1 data=$2 n=$count all start
+    shift 2
+    if [ $# -eq 0 ] || ! command -v "$tool" > /dev/null; then
+        printf -- '-'
+        return
+    fi
     times "$data" 1 > one
     times "$data" $((count + 1)) > many
-    all=$(instructions_of "$@" many)
-    start=$(instructions_of "$@" one)
-    each "$all" "$start" "$count"
-}
-
-# The data $1 under the arguments after it, by zint; its own text of a picture, letters of hexadecimal digits.
-by_zint() { by_file "$1" zint "${@:2}" --batch --dump -i; }
-
-# The data $1 under the arguments after it, by GNU barcode, as PostScript.
-by_barcode() { by_file "$1" barcode "${@:2}" -o /dev/null -i; }
-
-# The data $1 under the arguments after it, by qrencode, as text.
-by_qrencode() {
-    local data=$1 all start
-    shift
-    all=$(instructions_of qrencode "$@" -t ASCII -o /dev/null "$data")
-    start=$(instructions_of qrencode -V)
-    each "$all" "$start" 1
-}
-
-# A cell: the count by tool $1, if it is installed and has arguments for it.
-cell() {
-    if [ $# -gt 2 ] && has "$1"; then "by_$1" "${@:2}" | rounded | shown; else printf -- '-'; fi
-}
-
-# A row of the table: name $1, the line $2 of `labels` and its arguments $3, the data $4, and each tool's arguments.
-print_row() {
-    local name=$1 line=$2 arguments=$3 data=$4 zint=$5 barcode=$6 qrencode=$7
-    local ours
-    # shellcheck disable=SC2086  # these are several arguments
-    {
-        ours=$(by_labels "$line" $arguments | rounded | shown)
-        zint=$(cell zint "$data" $zint)
-        barcode=$(cell barcode "$data" $barcode)
-        qrencode=$(cell qrencode "$data" $qrencode)
-    }
-    printf '| %s | %s | %s | %s | %s |\n' "$name" "$ours" "$zint" "$barcode" "$qrencode"
+    case $tool in
+        zint) all=$(instructions_of zint "$@" --batch --dump -i many) start=$(instructions_of zint "$@" --batch --dump -i one) ;;
+        barcode) all=$(instructions_of barcode "$@" -o /dev/null -i many) start=$(instructions_of barcode "$@" -o /dev/null -i one) ;;
+        qrencode) all=$(instructions_of qrencode "$@" -t ASCII -o /dev/null "$data") start=$(instructions_of qrencode -V) n=1 ;;
+    esac
+    awk -v all="$all" -v start="$start" -v n="$n" 'BEGIN { printf "%d", (all - start) / n + 0.5 }' | rounded | shown
 }
 
 # The rows of both tables: a name, a tab, the number in the column of `labels`.
@@ -187,16 +152,20 @@ compare() {
     fi
 }
 
-# A row of name $1 for the line $2 of `labels` and the arguments $3; for the table the data, the tools' arguments too.
+# A row of name $1 for the line $2 of `labels` and its arguments $3; for the table the data $4, and the arguments of zint,
+# GNU barcode and qrencode.
 row() {
-    local found
-    if [ "$mode" = table ]; then
-        print_row "$@"
-    else
-        # shellcheck disable=SC2086  # these are several arguments
-        found=$(by_labels "$2" $3)
-        compare "$1" "$found"
-    fi
+    local ours
+    # shellcheck disable=SC2086  # these are several arguments
+    {
+        ours=$(by_labels "$2" $3)
+        if [ "$mode" = check ]; then
+            compare "$1" "$ours"
+        else
+            printf '| %s | %s | %s | %s | %s |\n' "$1" "$(rounded <<< "$ours" | shown)" \
+                "$(cell zint "$4" $5)" "$(cell barcode "$4" $6)" "$(cell qrencode "$4" $7)"
+        fi
+    }
 }
 
 # A row of name $1 for the calls $2 of a run over 1,000 EAN-13 labels.
@@ -218,13 +187,6 @@ end_check() {
     [ "$failures" -eq 0 ]
 }
 
-# Which other tools are not installed: their columns are empty.
-name_missing() {
-    local tool missing=()
-    for tool in zint barcode qrencode; do has "$tool" || missing+=("$tool"); done
-    [ ${#missing[@]} -eq 0 ] || echo "$0: not installed, so not counted: ${missing[*]}" >&2
-}
-
 # The first $1 characters of the text $2 over and over.
 front() { awk -v n="$1" -v text="$2" 'BEGIN { while (length(all) < n) all = all text; print substr(all, 1, n) }'; }
 
@@ -235,7 +197,6 @@ long=$(front 600 31415926535897932384)
 digits=$(front 300 31415926535897932384)
 
 if [ "$mode" = table ]; then
-    name_missing
     echo '| Label | labels | zint (`--dump`) | GNU barcode (PostScript) | qrencode (text) |'
     echo '|---|---|---|---|---|'
 fi

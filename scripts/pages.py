@@ -1,76 +1,168 @@
 #!/usr/bin/env python3
-"""Compares the examples of the crates' pages with the code that the gate runs.
+"""Checks the pages against the files that they speak of: README.md, docs/*.md and crates/*/README.md.
 
-usage: scripts/pages.py [--top FOLDER]
+- Each block of code is closed, and its language is one that a script reads: sh, sh kit, text or rust.
+- Code of the crates is quoted as it is: each block of Rust in docs/LIBRARY.md and docs/PROOF.md, and each block of
+  text that begins with a clause (`ensures`), is in a file crates/*.rt that the page names before it, line by line, but
+  for the spaces in front. A block below a line `Not checked:` is left out.
+- Each name in the tables of docs/GLOSSARY.md is in the file beside it, as a whole word.
+- Each crate has a page of at most 40 lines. Each line of a block of Rust in it, but for imports and comments, is a
+  line of the function page_of_NAME in crates/tests/src/pages.rt, in the same order, white space apart.
 
-Each line of a block of Rust in crates/NAME/README.md, but for blank lines and lines `use`, has to be a line of the
-function page_of_NAME in crates/tests/src/pages.rt, in the same order, white space apart. The status is 1 where a line
-is not there, where a crate has no page, or where a page is longer than 40 lines.
+The last line is `N pages, B blocks, T terms, F faults`. The status is 1 where there is a fault, a line for each.
 """
 
-import argparse
+import glob
 import os
 import re
 import sys
 
-NO_EXAMPLE = {"labels", "examples", "tests"}
+import sources
+
+LANGUAGES = {"sh", "sh kit", "text", "rust"}
+QUOTING = ("docs/LIBRARY.md", "docs/PROOF.md")
+GLOSSARY = "docs/GLOSSARY.md"
+COLUMNS = ("Term", "Meaning", "Clause", "Name", "File")
+WITHOUT_EXAMPLE = {"labels", "examples", "tests"}
 LONGEST = 40
+FENCE = re.compile(r"^\s*(`{3,}|~{3,})\s*(.*?)\s*$")
+FILE = re.compile(r"\bcrates/[\w/]+\.rt\b")
+NOT_CHECKED = "Not checked:"
+
+
+def pages_of(top):
+    """The text of each page, by its path below the top."""
+    paths = [os.path.join(top, "README.md"), *sorted(glob.glob(f"{top}/docs/*.md"))]
+    paths += [os.path.join(top, "crates", name, "README.md") for name in sources.crates_of(top)]
+    missing = [path for path in [*paths, *(os.path.join(top, page) for page in QUOTING)] if not os.path.isfile(path)]
+    if missing:
+        sys.exit("\n".join(f"there is no {os.path.relpath(path, top)}" for path in dict.fromkeys(missing)))
+    return {os.path.relpath(path, top): sources.read(path) for path in paths}
+
+
+def blocks_of(text):
+    """The blocks of a page: the number of the first line, the language, the code and the lines above it; code None
+    where the block is not closed before the next one begins."""
+    lines = text.split("\n")
+    fences = [(number, *match.groups()) for number, line in enumerate(lines, 1) if (match := FENCE.match(line))]
+    while fences:
+        start, mark, language = fences.pop(0)
+        code = None
+        if fences and fences[0][1:] == (mark, ""):
+            code = "\n".join(lines[start : fences.pop(0)[0] - 1])
+        yield start, language if mark == "```" else mark, code, lines[: start - 1]
+
+
+def faults_of_blocks(top, page, blocks):
+    """What is wrong with the blocks of a page, each with the number of its line."""
+    for number, language, code, above in blocks:
+        is_quoted = code is not None and (language == "rust" or code.lstrip().startswith("ensures"))
+        if code is None:
+            yield number, "this block is not closed"
+        elif language not in LANGUAGES:
+            yield number, f"no script reads blocks of {language or 'no language'}"
+        elif page in QUOTING and is_quoted and not "\n".join(above).rstrip().endswith(NOT_CHECKED):
+            if not is_in_files(top, code, "\n".join(above)):
+                yield number, "this code is in no file that the page names above it"
+
+
+def stripped(text):
+    """The lines of a text without the spaces around them and without blank lines, each with its line end."""
+    return "".join(f"{line.strip()}\n" for line in text.split("\n") if line.strip())
+
+
+def is_in_files(top, code, above):
+    """Whether code is in one of the files that the text above it names."""
+    paths = [os.path.join(top, name) for name in sorted(set(FILE.findall(above)))]
+    texts = ["\n" + stripped(sources.read(path)) for path in paths if os.path.isfile(path)]
+    return any("\n" + stripped(code) in text for text in texts)
+
+
+def cells_of(line):
+    """The cells of a line of a table, without the spaces around them."""
+    return [cell.strip() for cell in re.split(r"(?<!\\)\|", line.strip())[1:-1]]
+
+
+def terms_of(page):
+    """The rows of a page's tables below a head of the glossary's columns: the number of the line, and its cells."""
+    in_table = False
+    for number, line in enumerate(page.split("\n"), 1):
+        if not line.startswith("|"):
+            in_table = False
+        elif tuple(cells_of(line)) == COLUMNS:
+            in_table = True
+        elif in_table and not re.fullmatch(r"[|\s:-]+", line):
+            yield number, cells_of(line)
+
+
+def fault_of_term(top, cells):
+    """What is wrong with a row of the glossary, or nothing."""
+    if len(cells) != len(COLUMNS) or not all(cells):
+        return f"a row without the {len(COLUMNS)} cells"
+    name, file = (re.fullmatch(r"`([^`]+)`", cell) for cell in cells[3:])
+    if not name or not file:
+        return "the name and the file are each one word between backticks"
+    path = os.path.join(top, file.group(1))
+    if not os.path.isfile(path):
+        return f"{cells[0]}: no file {file.group(1)}"
+    if not re.search(rf"(?<![\w']){re.escape(name.group(1))}(?![\w'])", sources.read(path)):
+        return f"{cells[0]}: no `{name.group(1)}` in {file.group(1)}"
+    return None
+
+
+def faults_of_glossary(top, terms):
+    seen = {}
+    for number, cells in terms:
+        fault = fault_of_term(top, cells)
+        if not fault and cells[0] in seen:
+            fault = f"{cells[0]}: also in line {seen[cells[0]]}"
+        seen.setdefault(cells[0], number)
+        if fault:
+            yield number, fault
+    if not terms:
+        yield 1, "no term"
 
 
 def code_of(text):
-    """Returns the text without white space, and without the commas that a formatter puts last."""
+    """The text without white space, and without the commas that a formatter puts last."""
     return re.sub(r"\s+|,(?=\s*([}\])]|$))", "", text)
 
 
-def example_of(page):
-    """Returns the lines of a page's blocks of Rust that are neither blank nor imports."""
-    blocks = re.findall(r"^```rust\n(.*?)^```", page, re.M | re.S)
-    lines = [line.strip() for block in blocks for line in block.split("\n")]
-    return [line for line in lines if line and not line.startswith(("use ", "//"))]
-
-
-def function_of(tests, name):
-    """Returns the body of a test, or nothing."""
-    found = re.search(rf"^fn page_of_{name}\(.*?^}}", tests, re.M | re.S)
-    return found[0] if found else ""
-
-
-def faults_of(name, page, tests):
-    """Returns a message for each line of the page that the test does not have in its place."""
-    body, place = code_of(function_of(tests, name)), 0
-    faults = []
+def faults_of_example(name, page, blocks, tests):
+    """What is wrong with a crate's page: its length, and each line that its test does not have in its place."""
     if page.count("\n") > LONGEST:
-        faults.append(f"crates/{name}/README.md has {page.count(chr(10))} lines, and at most {LONGEST} are wanted")
-    lines = example_of(page)
-    if not lines and name not in NO_EXAMPLE:
-        faults.append(f"crates/{name}/README.md has no example")
-    for line in lines:
-        found = body.find(code_of(line), place)
-        if found < 0:
-            faults.append(f"crates/{name}/README.md: page_of_{name} of crates/tests/src/pages.rt lacks: {line}")
-        else:
-            place = found + len(code_of(line))
-    return faults
+        yield 1, f"{page.count(chr(10))} lines, and at most {LONGEST} are wanted"
+    function = re.search(rf"^fn page_of_{name}\(.*?^}}", tests, re.M | re.S)
+    body, place, is_empty = code_of(function[0] if function else ""), 0, True
+    for number, language, code, _ in blocks:
+        for line in (code or "").split("\n") if language == "rust" else ():
+            if line.strip() and not line.strip().startswith(("use ", "//")):
+                is_empty, found = False, body.find(code_of(line), place)
+                if found < 0:
+                    yield number, f"page_of_{name} of crates/tests/src/pages.rt lacks: {line.strip()}"
+                else:
+                    place = found + len(code_of(line))
+    if is_empty and name not in WITHOUT_EXAMPLE:
+        yield 1, "no example"
 
 
 def main():
-    parser = argparse.ArgumentParser(description=__doc__, formatter_class=argparse.RawDescriptionHelpFormatter)
-    here = os.path.dirname(os.path.dirname(os.path.abspath(__file__)))
-    parser.add_argument("--top", default=here, help="the top of the repository (this one)")
-    top = parser.parse_args().top
-    with open(f"{top}/crates/tests/src/pages.rt", encoding="utf-8") as file:
-        tests = file.read()
-    names = sorted(name for name in os.listdir(f"{top}/crates") if os.path.isdir(f"{top}/crates/{name}/src"))
-    faults = []
-    for name in names:
-        path = f"{top}/crates/{name}/README.md"
-        if not os.path.exists(path):
-            faults.append(f"crates/{name} has no README.md")
-            continue
-        with open(path, encoding="utf-8") as file:
-            faults += faults_of(name, file.read(), tests)
-    print("\n".join(faults + [f"{len(names)} pages, {len(faults)} faults"]))
+    top = sources.top_given(__doc__)
+    pages = pages_of(top)
+    tests, faults, count = sources.read(os.path.join(top, "crates/tests/src/pages.rt")), [], 0
+    terms = list(terms_of(pages[GLOSSARY]))
+    for page, text in pages.items():
+        blocks = list(blocks_of(text))
+        count += len(blocks)
+        found = list(faults_of_blocks(top, page, blocks))
+        if page == GLOSSARY:
+            found += faults_of_glossary(top, terms)
+        if page.startswith("crates/"):
+            found += faults_of_example(page.split("/")[1], text, blocks, tests)
+        faults += [f"{page}:{number}: {fault}" for number, fault in found]
+    print("\n".join([*faults, f"{len(pages)} pages, {count} blocks, {len(terms)} terms, {len(faults)} faults"]))
     return 1 if faults else 0
 
 
-sys.exit(main())
+if __name__ == "__main__":
+    sys.exit(main())

@@ -2,24 +2,21 @@
 """Runs each command of the documents, and compares what it prints.
 
 The pages are README.md, docs/INPUT.md, docs/PRINTING.md, docs/RECIPES.md and the examples of the man pages. PROGRAM is
-crates/labels/out/labels where none is given: the proved program, which `rt run` in crates/labels leaves there.
+crates/labels/out/labels where none is given. A block ```sh holds commands, and the block ```text right after it, if
+there is one, what they print on standard output and standard error together; where there is none, they print nothing.
+A block has to end with status 0. The blocks of a page run in their order, each by its own `sh`, at the top of a new
+copy of the repository's files, with `labels` and the tools on the path, and with a home of their own.
 
-In a page a block ```sh holds commands, and the block ```text right after it, if there is one, what they print on
-standard output and standard error together; where there is none, they print nothing. A block has to end with status 0.
-The blocks of a page run in their order, each by its own `sh`, at the top of a new copy of the repository's files, with
-the program, as `labels`, and the programs of tools on the path, and with a home of their own. In a man page an example
-with prompts `$ ` is a session: each command may end with any status, and what it prints is below it; `$ cat FILE` of a
-file that is not there makes the file. An example without a prompt has to end with status 0 and may print anything; it
-runs in labels.1 alone, since those of the other man pages name files and printers of the reader.
+In a man page an example with prompts `$ ` is a session: each command may end with any status, and what it prints is
+below it; `$ cat FILE` of a file that is not there makes the file. An example without a prompt has to end with status 0
+and may print anything; it runs in labels.1 alone, since those of the other man pages name files of the reader.
 
 A block ```sh kit calls the kit, which proves for minutes, and may print anything. It runs with --kit alone, in a fresh
-clone of what is committed, README.md first, and the other pages with the program that it builds.
+clone of what is committed, README.md first, and the other pages with the program that it builds; the gate is left out.
 
-Besides, the pictures that RECIPES.md makes must be those of docs/pictures, pixel for pixel; each link from one file of
-the repository to another must lead to a file and a heading; mandoc and groff must find nothing in the man pages; and
-each option of a help text must be in its man page and in the completion, where there is one. The last line is `N of N
-as printed`; where one is not, the status is 1. Where a third-party program of the pages is missing, the script names
-it and ends with status 77. Bad arguments and a program that is not there end with status 2.
+Besides, the pictures that RECIPES.md makes must be those of docs/pictures, pixel for pixel, and each link from one
+file of the repository to another must lead to a file and a heading. The last line is `N of N as printed`; where one is
+not, the status is 1.
 """
 
 import argparse
@@ -29,26 +26,15 @@ import shutil
 import subprocess
 import sys
 import tempfile
-import time
 from pathlib import Path
-from typing import Dict, Iterator, List, NamedTuple, Optional, Tuple
+from typing import Dict, List, NamedTuple, Optional
 
 TOP = Path(__file__).resolve().parent.parent
 PROGRAM = "crates/labels/out/labels"
 PAGES = ("README.md", "docs/INPUT.md", "docs/PRINTING.md", "docs/RECIPES.md")
 FOLDERS = ("man", "completions", "tools", "docs", "scripts")
-THIRD_PARTY = (
-    *("man", "mandoc", "groff", "bash", "awk", "csplit", "pv", "parallel"),
-    *("pamfile", "pbmtext", "pngtopnm", "pnmpad", "pnmtopng", "pnmtops"),
-    *("zbarimg", "pdfinfo", "pdftoppm"),
-)
 SECONDS = 3600
-SKIPPED = 77
 PROMPT, CONTINUED = "$ ", "> "
-
-# the man page of each tool; the tools that have none of their own share one
-MAN_PAGES = {"labels": "labels.1", "label-sheet": "label-sheet.1", "label-table": "label-table.1"}
-SHARED_MAN_PAGE = "label-tools.1"
 
 BLOCK = re.compile(r"^```(sh|sh kit)\n(.*?)^```\n(?:\n*^```text\n(.*?)^```$)?", re.MULTILINE | re.DOTALL)
 ANY_BLOCK = re.compile(r"^```.*?^```$", re.MULTILINE | re.DOTALL)
@@ -75,7 +61,7 @@ def blocks_of(page: str, with_kit: bool) -> List[Block]:
     return [
         Block(commands, None if kind == "sh kit" else printed, False)
         for kind, commands, printed in blocks
-        if with_kit or kind != "sh kit"
+        if kind != "sh kit" or with_kit and commands != ".ci/run\n"
     ]
 
 
@@ -113,10 +99,9 @@ def pixels(picture: Path) -> bytes:
 class Run:
     """Counts what was tried, and what was as printed."""
 
-    def __init__(self, program: Optional[Path], with_kit: bool, with_times: bool) -> None:
+    def __init__(self, program: Optional[Path], with_kit: bool) -> None:
         self.program = program
         self.with_kit = with_kit
-        self.with_times = with_times
         self.count = self.good = 0
         self.kept = tempfile.TemporaryDirectory()
 
@@ -149,6 +134,7 @@ class Run:
         else:
             for part in FOLDERS:
                 shutil.copytree(TOP / part, work / part, ignore=shutil.ignore_patterns("__pycache__"))
+            shutil.copy(TOP / "CHANGELOG.md", work)
         (work / PROGRAM).parent.mkdir(parents=True, exist_ok=True)
         for name in ("bin", "home"):
             (folder / name).mkdir()
@@ -164,18 +150,9 @@ class Run:
         shown = SHOWN_FILE.fullmatch(block.commands) if block.may_fail else None
         if shown and not (work / shown[1]).exists():
             (work / shown[1]).write_text(block.printed or "", encoding="utf-8")
-        before = time.monotonic()
-        ran = subprocess.run(
-            ["sh", "-c", block.commands],
-            cwd=work,
-            env=environment,
-            stdin=subprocess.DEVNULL,
-            stdout=subprocess.PIPE,
-            stderr=subprocess.STDOUT,
-            timeout=SECONDS,
-        )
-        if self.with_times:
-            print(f"{time.monotonic() - before:7.1f} s  {name}: {block.commands.splitlines()[0]}", flush=True)
+        how = {"cwd": work, "env": environment, "stdin": subprocess.DEVNULL, "timeout": SECONDS}
+        output = {"stdout": subprocess.PIPE, "stderr": subprocess.STDOUT}
+        ran = subprocess.run(["sh", "-c", block.commands], **how, **output)
         printed = DATABAR.sub("", ran.stdout.decode("utf-8", "backslashreplace"))
         is_good = (ran.returncode == 0 or block.may_fail) and block.printed in (None, printed)
         self.judge(is_good, f"{name}: status {ran.returncode} of:\n{block.commands}it printed:\n{printed}")
@@ -200,71 +177,28 @@ class Run:
                 self.judge(is_good, f"{page.relative_to(TOP)}: a link to {path}#{anchor} leads nowhere")
 
     def try_man_pages(self) -> None:
-        """Lets mandoc and groff read each man page, and runs its examples."""
+        """Runs the examples of each man page."""
         for page in sorted((TOP / "man").glob("*.1")):
-            for arguments in (
-                ["mandoc", "-Tlint", "-W", "warning"],
-                ["groff", "-ww", "-man", "-z"],
-                ["groff", "-ww", "-man", "-Tascii", "-z"],
-            ):
-                ran = subprocess.run([*arguments, page], capture_output=True, text=True)
-                self.judge(not ran.stdout + ran.stderr, f"{' '.join(arguments)} {page}:\n{ran.stdout}{ran.stderr}")
             blocks = examples_of(page)
-            if page.name != MAN_PAGES["labels"]:
+            if page.name != "labels.1":
                 blocks = [block for block in blocks if block.printed is not None]
-            if blocks or page.name == MAN_PAGES["labels"]:
+            if blocks or page.name == "labels.1":
                 self.try_page(f"man/{page.name}", blocks)
-
-    def try_options(self) -> None:
-        """Looks for each option of each help text in the man page and in the completion."""
-        for name, program in self.programs():
-            text = subprocess.run([program, "--help"], capture_output=True, text=True).stdout
-            options = set(re.findall(r"--[a-z][a-z-]*", text))
-            self.judge(bool(options), f"{name} --help names no option")
-            page = TOP / "man" / MAN_PAGES.get(name, SHARED_MAN_PAGE)
-            places = [page, *(TOP / "completions").glob(f"{name}.bash")]
-            for place in places:
-                told = place.read_text(encoding="utf-8").replace("\\-", "-") if place.exists() else ""
-                missing = sorted(option for option in options if option not in told)
-                self.judge(not missing, f"{name}: {', '.join(missing)} not in {place.relative_to(TOP)}")
-
-    def programs(self) -> Iterator[Tuple[str, Path]]:
-        """The program and the tools, each by its name."""
-        if self.program:
-            yield "labels", self.program
-        for tool in sorted((TOP / "tools").glob("label-*")):
-            yield tool.name, tool
-
-
-def parse_arguments() -> argparse.Namespace:
-    """The arguments of the command; ends with status 2 for bad ones."""
-    parser = argparse.ArgumentParser(description=__doc__, formatter_class=argparse.RawDescriptionHelpFormatter)
-    parser.allow_abbrev = False
-    parser.add_argument("--kit", action="store_true", help="run the blocks that call the kit too, in a fresh clone")
-    parser.add_argument("--times", action="store_true", help="print the seconds of each block")
-    parser.add_argument("program", metavar="PROGRAM", nargs="?", type=Path, help=f"the program ({PROGRAM})")
-    arguments = parser.parse_args()
-    if arguments.program is None and not arguments.kit:
-        arguments.program = TOP / PROGRAM
-    if arguments.program is not None:
-        arguments.program = arguments.program.resolve()
-        if not os.access(arguments.program, os.X_OK) or arguments.program.is_dir():
-            parser.error(f"{arguments.program} is no program: run (cd crates/labels && rt run < /dev/null)")
-    return arguments
 
 
 def main() -> int:
-    arguments = parse_arguments()
-    missing = [program for program in THIRD_PARTY if shutil.which(program) is None]
-    if missing:
-        print(f"skipped: not installed: {', '.join(missing)}")
-        return SKIPPED
-    run = Run(arguments.program, arguments.kit, arguments.times)
+    parser = argparse.ArgumentParser(description=__doc__, formatter_class=argparse.RawDescriptionHelpFormatter)
+    parser.add_argument("--kit", action="store_true", help="run the blocks that call the kit too, in a fresh clone")
+    parser.add_argument("program", metavar="PROGRAM", nargs="?", type=Path, help=f"the program ({PROGRAM})")
+    arguments = parser.parse_args()
+    program = arguments.program or (None if arguments.kit else TOP / PROGRAM)
+    if program and not (program.is_file() and os.access(program, os.X_OK)):
+        parser.error(f"{program} is no program: run (cd crates/labels && rt run < /dev/null)")
+    run = Run(program and program.resolve(), arguments.kit)
     for page in PAGES:
         run.try_page(page, blocks_of(page, arguments.kit))
     run.try_man_pages()
     run.try_links()
-    run.try_options()
     print(f"{run.good} of {run.count} as printed")
     return 0 if run.good == run.count else 1
 

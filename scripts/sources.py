@@ -4,8 +4,10 @@ Offsets into a text and into its `blanked` form are the same, so what is found i
 """
 
 import argparse
+import glob
 import os
 import re
+import sys
 from dataclasses import dataclass, field
 
 TOP = os.path.dirname(os.path.dirname(os.path.abspath(__file__)))
@@ -36,10 +38,21 @@ def program_given(description):
     return program
 
 
+def top_given(description):
+    """The top of the repository that the option --top names, or else that of this script."""
+    parser = argparse.ArgumentParser(description=description, formatter_class=argparse.RawDescriptionHelpFormatter)
+    parser.add_argument("--top", default=TOP, metavar="FOLDER", help="the repository (that of this script)")
+    return parser.parse_args().top
+
+
 def crates_of(top):
-    """The crates of crates.txt, in its order."""
+    """The crates of crates.txt, in its order. Stops where one has no code, or a folder with code is not listed."""
     with open(os.path.join(top, "crates.txt"), encoding="utf-8") as lines:
-        return [line.partition(":")[0].strip() for line in lines if line.strip() and not line.startswith("#")]
+        listed = [line.partition(":")[0].strip() for line in lines if line.strip() and not line.startswith("#")]
+    there = {path.split(os.sep)[-2] for path in glob.glob(os.path.join(top, "crates", "*", "src"))}
+    if there != {*listed} or not listed:
+        sys.exit(f"crates.txt and the folders crates/*/src differ in: {' '.join(sorted(there ^ {*listed})) or 'none'}")
+    return listed
 
 
 def read(path):
@@ -87,9 +100,6 @@ class Item:
     head: str  # up to the body, without clauses
     body: str  # what is between the braces; nothing where there are none
     clauses: list = field(default_factory=list)  # of a function: ("requires" or "ensures", its lines)
-
-    def clause_count(self, kind):
-        return sum(1 for one, _ in self.clauses if one == kind)
 
 
 def docs_before(lines):
@@ -160,8 +170,3 @@ def items_of(text):
 def code_lines(text):
     """The lines of a text that hold code: no blank lines, comments and attributes."""
     return [line for line in text.split("\n") if line.strip() and not line.strip().startswith(("//", "#[", "#!["))]
-
-
-def head_comment(text):
-    """The `//!` lines of a file as one line."""
-    return " ".join(line.removeprefix("//!").strip() for line in text.split("\n") if line.startswith("//!"))

@@ -1,21 +1,19 @@
 #!/usr/bin/env python3
 """Finds what nothing uses in the crates: lemmas, definitions, imported names and functions.
 
-- A definition of specs/ is used where a contract, an attribute of the code, a lemma in use or another definition in
-  use cites it.
-- A lemma of proofs/ is used where an answer, an attribute of the code or a lemma in use cites it. Files that the check
-  itself reads (Answers, Invariants and Proof below the folder of a function) use what they cite; of what they define,
-  what is not `pub` has to be cited too. The lemmas of a file whose name has Examples or Theorems in it are there to be
-  checked, and so are the statements without variables of a file that no other cites: worked values, as those of a
-  standard.
-- An imported name is used where its file, or the `impl` that imports it, has it outside of comments and other
-  imports; a name of `ghost use` where a contract, a ghost item or an attribute has it; a trait of ours also where one
-  of its functions is called.
+- A definition is used where a contract, an attribute of the code, a lemma or another definition in use cites it.
+- A lemma is used where an answer, an attribute of the code or a lemma in use cites it. Files that the check itself
+  reads (Answers, Invariants and Proof below the folder of a function) use what they cite; of what they define, what is
+  not `pub` has to be cited too. The lemmas of a file whose name has Examples or Theorems in it are there to be
+  checked, and so are the statements without variables of a file that no other cites: worked values.
+- An imported name is used where its file, or the `impl` that imports it, has it outside of comments and imports; a
+  name of `ghost use` where a contract, a ghost item or an attribute has it; a trait of ours also where a function of
+  it is called.
 - A function is used where its name is found in code outside of its own body, in its crate or, if it is `pub`, in any.
   Tests, `main` and the functions of an `impl` of a trait are called by others.
 
-It reads text, and needs no tool of the kit. Where two things have one name it may miss one that is unused. The status
-is 1 where something is found, a line for each; else 0, and the last line says how much it looked at.
+It reads text. Where two things have one name it may miss one that is unused. The status is 1 where something is found,
+a line for each; the last line says how much it looked at.
 """
 
 import argparse
@@ -228,20 +226,7 @@ class RustFile:
 
 def rust_names(path):
     """The names that an import of the code brings in."""
-    head, found = path.partition("{")[0], []
-    if not path.endswith("}"):
-        last = re.split(r"::|\bas\b", path)[-1].strip()
-        return [] if last == "*" else [last]
-    inner, depth, start = path[len(head) + 1 : -1], 0, 0
-    for place, letter in enumerate(inner + ","):
-        depth += (letter == "{") - (letter == "}")
-        if letter == "," and depth == 0:
-            item, start = inner[start:place].strip(), place + 1
-            if item == "self":
-                found.append(head.rstrip(":").split("::")[-1])
-            elif item:
-                found += rust_names(item)
-    return found
+    return [name for name in re.findall(r"(\w+)\s*(?=[,}]|$)", path) if name != "self"]
 
 
 def without_uses(text):

@@ -1,19 +1,18 @@
 #!/usr/bin/env python3
 """Tries the wrong bodies of crates/*/wrong-bodies: the prover must refuse each.
 
-A wrong body is a file like a must-fail edit, with one line more. `refused: FUNCTION` names the function
-whose proof has to fail, by its path below the crate, as a check prints it. `file: FILE` and pairs of `old:
-TEXT` and `new: TEXT` change the code; each TEXT is in the file once. `alone: WHY` keeps it apart from
-others, for example where the proofs of several functions read what it changes.
+A wrong body is a file like a must-fail edit, with one line more. `refused: FUNCTION` names the function whose proof
+has to fail, by its path below the crate. `file: FILE` and pairs of `old: TEXT` and `new: TEXT` change the code; each
+TEXT is in the file once. `alone: WHY` keeps it apart from others, where the proofs of several functions read what it
+changes.
 
-`rt` tries each must-fail edit by a check of the crate. Here one check tries many: a proof reads of other
-functions their contracts alone, so wrong bodies of several functions are put in one copy of the crate, and
-the check says of each function whether it is refused. What fails only because it calls another is not
-judged, and is tried again without it.
+`rt` tries each must-fail edit by a check of the crate. Here one check tries many: a proof reads of other functions
+their contracts alone, so wrong bodies of several functions are put in one copy of the crate, and the check says of
+each function whether it is refused. What fails only because it calls another is not judged, and is tried again without
+it.
 
-The status is 0 where each wrong body is refused, 1 where one is not or there is none, and 2 where an argument
-names no crate or the kit is not the one that this script was written for. The last line is `N passed, M
-failed`, as of `rt ci`.
+The status is 0 where each wrong body is refused, 1 where one is not or there is none, and 2 where an argument names no
+crate or there is no kit. The last line is `N passed, M failed`, as of `rt ci`.
 """
 
 import argparse
@@ -30,10 +29,6 @@ import tempfile
 
 import sources
 
-# What `rt version` prints of the kit that this script was written for: it calls functions of that kit, and reads the
-# lines that its check prints for people.
-KIT_ID = "rattle-kit-13f logic dac8208d650f15bf"
-KIT_NAMES = ("PARTS", "RATTLE", "guarded", "crates_below", "Crate.words", "Crate.below", "Crate.build_rlib")
 # The line of a function that was not proved for what is written in it, and not for what it calls.
 REFUSED = re.compile(r"not proved|no proof: expected answers|.*did not prove")
 
@@ -43,31 +38,13 @@ def stop(why):
     sys.exit(2)
 
 
-def has(thing, path):
-    """Whether a thing has what a dotted path names."""
-    for name in path.split("."):
-        if not hasattr(thing, name):
-            return False
-        thing = getattr(thing, name)
-    return True
-
-
-def kit(takes_any):
-    """Returns the kit's module of crates, which `rt` itself uses. Stops where it is not the one that is known here."""
+def kit():
+    """Returns the kit's module of crates, which `rt` itself uses. The kit is the one that docs/PROOF.md names."""
     sys.dont_write_bytecode = True
     folder = os.path.dirname(os.path.realpath(shutil.which("rt") or stop("rt is not on the path")))
-    id_file, library = os.path.join(os.path.dirname(folder), "KIT-ID"), os.path.join(folder, "rtlib.py")
-    kit_id = sources.read(id_file).strip() if os.path.exists(id_file) else "without KIT-ID"
-    if kit_id != KIT_ID and not takes_any:
-        stop(f"the kit is {kit_id}; this script was written for {KIT_ID}. With --any-kit it goes on")
-    if not os.path.exists(library):
-        stop(f"the kit {kit_id} has no file {library}, which this script calls")
-    loader = importlib.machinery.SourceFileLoader("rtlib", library)
+    loader = importlib.machinery.SourceFileLoader("rtlib", os.path.join(folder, "rtlib.py"))
     module = importlib.util.module_from_spec(importlib.util.spec_from_loader("rtlib", loader))
     loader.exec_module(module)
-    missing = [name for name in KIT_NAMES if not has(module, name)]
-    if missing:
-        stop(f"the kit {kit_id} has no {', '.join(missing)} in {library}, which this script calls")
     return module
 
 
@@ -178,7 +155,7 @@ def judged(crate, body, said):
     return False if False in answers else None if None in answers else True
 
 
-def try_all(rtlib, crate, shows):
+def try_all(rtlib, crate):
     """Tries the wrong bodies of a crate, and returns how many are refused and a line on each that isn't."""
     left, refused, lines, checks = bodies_of(crate.folder), 0, [], 0
     with tempfile.TemporaryDirectory(prefix="wrong-bodies-kept-") as kept:
@@ -190,8 +167,6 @@ def try_all(rtlib, crate, shows):
             checks += 1
             answers = [(body, judged(crate, body, said)) for body in chosen]
             refused += sum(answer is True for _, answer in answers)
-            for body, name in [(it, name) for it, answer in answers if shows and answer for name in it.functions]:
-                print(f"{crate.name}/{body.name}: {name}: {verdict(crate, said, name)}")
             lines += [f"{body.name}: NOT REFUSED" for body, answer in answers if answer is False]
             if not re.search(r"^only=", said, re.M):
                 lines += ["the check did not reach its end:", *said.split("\n")[:6]]
@@ -215,8 +190,6 @@ def arguments():
         action="store_true",
         help="take the libraries below as `rt ci` left them; else build those that changed",
     )
-    parser.add_argument("--show", action="store_true", help="print what the check says of each wrong body's functions")
-    parser.add_argument("--any-kit", action="store_true", help="go on with a kit that this script does not know")
     given, known = parser.parse_args(), sources.crates_of(sources.TOP)
     for name in given.crates:
         if name not in known:
@@ -226,14 +199,9 @@ def arguments():
 
 def chosen_crates(names):
     """The folders of the crates that have wrong bodies, the names of those that were asked for and have none."""
-    folders, without = [], []
-    for name in names or sources.crates_of(sources.TOP):
-        folder = os.path.join(sources.TOP, "crates", name)
-        if bodies_of(folder):
-            folders.append(os.path.realpath(folder))
-        elif names:
-            without.append(name)
-    return folders, without
+    paths = {name: os.path.join(sources.TOP, "crates", name) for name in names or sources.crates_of(sources.TOP)}
+    folders = [os.path.realpath(path) for path in paths.values() if bodies_of(path)]
+    return folders, [name for name in names if not bodies_of(paths[name])]
 
 
 def main():
@@ -243,7 +211,7 @@ def main():
         print(f"no wrong bodies in {', '.join(without) or 'any crate'}: nothing was tried")
         print("0 passed, 1 failed")
         return 1
-    rtlib = kit(given.any_kit)
+    rtlib = kit()
     rtlib.guarded()
     crates = [it for it in rtlib.crates_below(sources.TOP) if os.path.realpath(it.folder) in folders]
     if len(crates) != len(folders):
@@ -253,7 +221,7 @@ def main():
             return 1
     crates.sort(key=lambda it: -len(bodies_of(it.folder)))
     with concurrent.futures.ThreadPoolExecutor(len(os.sched_getaffinity(0))) as pool:
-        results = [*pool.map(lambda it: try_all(rtlib, it, given.show), crates)]
+        results = [*pool.map(lambda it: try_all(rtlib, it), crates)]
     failed = [f"{crate.name}/{line}" for crate, (_, lines) in zip(crates, results) for line in lines]
     print(*failed, sep="\n", end="\n" if failed else "")
     print(f"{sum(refused for refused, _ in results)} passed, {len(failed)} failed")

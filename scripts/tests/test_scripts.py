@@ -62,13 +62,12 @@ class InFolder(unittest.TestCase):
         return self.path("bin")
 
 
-class Arguments(unittest.TestCase):
+class Arguments(InFolder):
     """Help ends with status 0 and an unknown argument with usage and status 2, in each script."""
 
     def names(self):
-        own = ["believed.py", "wrong_bodies.py", "read_back.py", "same_modules.py", "unused.py", "contracts.py"]
-        own += ["glossary.py", "plain_words.py", "quoted_code.py"]
-        return [*own, "instructions.sh", "benchmark.sh", "refuse_each_growth.sh"]
+        own = ["believed.py", "believed_rows.py", "compare_symbols.py", "counts.py", "gate.py", "pages.py"]
+        return [*own, "run_recipes.py", "unused.py", "wrong_bodies.py", "instructions.sh", "refuse_each_growth.sh"]
 
     def test_help(self):
         for name in self.names():
@@ -81,8 +80,15 @@ class Arguments(unittest.TestCase):
             self.assertEqual((name, status, "usage: " in said), (name, 2, True))
 
     def test_no_such_program(self):
-        for name in ("read_back.py", "same_modules.py"):
+        for name in ("compare_symbols.py", "run_recipes.py", "refuse_each_growth.sh", "instructions.sh"):
             self.assertEqual(run(name, "/no/such/program")[0], 2, name)
+
+    def test_missing_tool(self):
+        """What a script calls and is not there is named, and is a failure."""
+        path = self.bare_path()
+        for name, tool in (("compare_symbols.py", "zbarimg"), ("instructions.sh", "valgrind")):
+            status, said = run(name, "/bin/true", PATH=path)
+            self.assertEqual((status, f"not installed: {tool}" in said), (2, True), said)
 
 
 CODE = """/// A brace.
@@ -116,7 +122,7 @@ class Sources(unittest.TestCase):
     def test_clauses_and_docs(self):
         brace, _, named = sources.items_of(CODE)
         self.assertEqual(brace.docs, "A brace.")
-        self.assertEqual([brace.clause_count(kind) for kind in ("requires", "ensures")], [1, 1])
+        self.assertEqual([kind for kind, _ in brace.clauses], ["requires", "ensures"])
         self.assertEqual([item.kind for item in sources.items_of(named.body)], ["ghost", "fn"])
 
     def test_lines(self):
@@ -124,13 +130,7 @@ class Sources(unittest.TestCase):
 
 
 class WrongBodies(InFolder):
-    """No crate passes unseen, and no kit but the known one is called."""
-
-    def fake_kit(self, kit_id, library):
-        write(self.path("bin", "rt"), "#!/bin/sh\n", is_program=True)
-        write(self.path("bin", "rtlib.py"), library)
-        write(self.path("KIT-ID"), kit_id + "\n")
-        return {"PATH": f"{self.path('bin')}:{os.environ['PATH']}"}
+    """No crate passes unseen."""
 
     def test_misspelled_crate(self):
         status, said = run("wrong_bodies.py", "labelcor")
@@ -142,47 +142,10 @@ class WrongBodies(InFolder):
         self.assertEqual(status, 1)
         self.assertIn("no wrong bodies in labels", said)
 
-    def test_another_kit(self):
-        status, said = run("wrong_bodies.py", "gf256", **self.fake_kit("some other kit", "PARTS = ()\n"))
-        self.assertEqual(status, 2)
-        self.assertIn("the kit is some other kit", said)
-
-    def test_another_kit_that_lacks_what_is_called(self):
-        status, said = run("wrong_bodies.py", "--any-kit", "gf256", **self.fake_kit("some other kit", "PARTS = ()\n"))
-        self.assertEqual(status, 2)
-        self.assertIn("has no RATTLE", said)
-
     def test_no_kit(self):
         status, said = run("wrong_bodies.py", "gf256", PATH=self.bare_path())
         self.assertEqual(status, 2)
         self.assertIn("rt is not on the path", said)
-
-
-class Skipped(InFolder):
-    """A script that can try nothing, for want of a tool, says which one and ends with 77."""
-
-    def assert_skipped(self, tool, script, *arguments):
-        status, said = run(script, *arguments, PATH=self.bare_path())
-        self.assertEqual((script, status), (script, 77), said)
-        self.assertRegex(said, rf"skipped, nothing was .*: not installed: .*{tool}")
-
-    def test_read_back(self):
-        self.assert_skipped("zbarimg", "read_back.py", "/bin/true")
-
-    def test_same_modules(self):
-        self.assert_skipped("zint", "same_modules.py", "/bin/true")
-
-    def test_instructions(self):
-        self.assert_skipped("valgrind", "instructions.sh", "--check", "/bin/true")
-
-    def test_benchmark(self):
-        self.assert_skipped("qrencode zint barcode", "benchmark.sh", "/bin/true")
-
-    def test_refuse_each_growth(self):
-        self.assert_skipped("cc", "refuse_each_growth.sh")
-
-    def test_refuse_each_growth_by_rt(self):
-        self.assert_skipped("rt", "refuse_each_growth.sh", "--try")
 
 
 VALGRIND = """#!/usr/bin/env bash
@@ -222,47 +185,27 @@ class Instructions(InFolder):
         arguments = ("--check", "--table", self.path("table.md"), self.program)
         return run("instructions.sh", *arguments, **self.environment, **more)
 
-    def test_as_in_the_table(self):
-        status, said = self.check()
-        self.assertEqual(status, 0, said)
-        self.assertIn("EAN-13: 20,000 in the table, 20,000 measured, +0.0 %", said)
-        self.assertIn("11 rows, 0 failed", said)
-
-    def test_five_in_a_hundred_more_pass(self):
-        self.assertEqual(self.check(EACH="21000")[0], 0)
-
-    def test_six_in_a_hundred_more(self):
-        status, said = self.check(EACH="21200")
-        self.assertEqual(status, 1)
-        self.assertIn("FAILS EAN-13: 20,000 in the table, 21,200 measured, +6.0 %", said)
-
-    def test_less(self):
-        status, said = self.check(EACH="10000")
-        self.assertEqual(status, 0)
-        self.assertIn("note: the table is out of date: EAN-13", said)
-
-    def test_more_writes(self):
-        status, said = self.check(WRITES="3")
-        self.assertEqual(status, 1)
-        self.assertIn("FAILS writes of 1,000 EAN-13 labels", said)
-
-    def test_row_missing(self):
-        write(self.path("table.md"), re.sub(r"\| QR, 600 digits.*\n", "", self.table))
-        status, said = self.check()
-        self.assertEqual(status, 1)
-        self.assertIn("FAILS QR, 600 digits, level L: the table has no such row", said)
-
-    def test_row_that_is_no_number(self):
-        write(self.path("table.md"), re.sub(r"(\| QR, 600 digits, level L \|) [\d,]+", r"\1 many", self.table))
-        status, said = self.check()
-        self.assertEqual(status, 1)
-        self.assertIn("FAILS QR, 600 digits, level L: the table has many", said)
-
-    def test_row_that_is_not_measured(self):
-        write(self.path("table.md"), self.table.replace("| EAN-13 |", "| EAN-99 | 1 | - | - | - |\n| EAN-13 |"))
-        status, said = self.check()
-        self.assertEqual(status, 1)
-        self.assertIn("FAILS EAN-99", said)
+    def test_rows(self):
+        """What is measured, beside a table, gives a status and a line."""
+        digits = "QR, 600 digits, level L"
+        gone = re.sub(rf"\| {digits}.*\n", "", self.table)
+        no_number = re.sub(rf"(\| {digits} \|) [\d,]+", r"\1 many", self.table)
+        more = self.table.replace("| EAN-13 |", "| EAN-99 | 1 | - | - | - |\n| EAN-13 |")
+        for table, environment, status, wanted in (
+            (self.table, {}, 0, "EAN-13: 20,000 in the table, 20,000 measured, +0.0 %"),
+            (self.table, {}, 0, "11 rows, 0 failed"),
+            (self.table, {"EACH": "21000"}, 0, "11 rows, 0 failed"),
+            (self.table, {"EACH": "21200"}, 1, "FAILS EAN-13: 20,000 in the table, 21,200 measured, +6.0 %"),
+            (self.table, {"EACH": "10000"}, 0, "note: the table is out of date: EAN-13"),
+            (self.table, {"WRITES": "3"}, 1, "FAILS writes of 1,000 EAN-13 labels"),
+            (gone, {}, 1, f"FAILS {digits}: the table has no such row"),
+            (no_number, {}, 1, f"FAILS {digits}: the table has many"),
+            (more, {}, 1, "FAILS EAN-99"),
+        ):
+            with self.subTest(wanted):
+                write(self.path("table.md"), table)
+                found, said = self.check(**environment)
+                self.assertEqual((found, wanted in said), (status, True), said)
 
     def test_program_that_draws_nothing(self):
         write(self.program, "#!/bin/sh\n", is_program=True)
@@ -350,6 +293,9 @@ class SmallTree(InFolder):
     def setUp(self):
         super().setUp()
         write(self.path("crates.txt"), "# all\nsmall:\n")
+        self.fill()
+
+    def fill(self):
         self.plant("src/lib.rt", LIBRARY)
         self.plant("src/other.rt", OTHER)
         self.plant("specs/Words.antt", SPEC)
@@ -370,278 +316,52 @@ class Unused(SmallTree):
         self.assertTrue(last.endswith(f": {len(lines)} unused"), said)
         return lines
 
-    def assert_found(self, wanted):
-        lines = self.found()
-        self.assertEqual(len(lines), 1, lines)
-        self.assertIn(wanted, lines[0])
-
     def test_all_is_used(self):
         self.assertEqual(self.found(), [])
-
-    def test_lemma(self):
-        self.plant("proofs/Lemmas.antt", LEMMAS + NEVER_USED)
-        self.assert_found("proofs/Lemmas.antt:10: nothing uses the lemma never")
-
-    def test_lemma_that_calls_itself(self):
-        self.plant("proofs/Lemmas.antt", LEMMAS + NEVER_USED.replace("never n = n", "never n = never n"))
-        self.assert_found("nothing uses the lemma never")
-
-    def test_lemma_of_an_unused_lemma(self):
-        self.plant("proofs/Lemmas.antt", LEMMAS + NEVER_USED + "\nabove : ℕ → ℕ\nabove n = never n\n")
-        self.assertEqual(len(self.found()), 2)
-
-    def test_lemma_that_only_its_import_names(self):
-        self.plant("proofs/Lemmas.antt", LEMMAS + NEVER_USED)
-        self.plant("proofs/double/Answers.antt", ANSWERS.replace("{twice-sum}", "{twice-sum, never}"))
-        self.assertEqual(len(self.found()), 2)
-
-    def test_worked_values(self):
         self.plant("proofs/Tables.antt", WORKED)
         self.assertEqual(self.found(), [])
 
-    def test_lemma_of_a_file_that_nothing_cites(self):
-        self.plant("proofs/Tables.antt", WORKED + NEVER_USED)
-        self.assert_found("nothing uses the lemma never")
-
-    def test_worked_value_of_a_file_that_is_cited(self):
-        self.plant("proofs/Lemmas.antt", LEMMAS + "\npub twice-nil : twice 0 ≡ 0\ntwice-nil = refl\n")
-        self.assert_found("nothing uses the lemma twice-nil")
-
-    def test_definition(self):
-        self.plant("specs/Words.antt", SPEC + NEVER_USED)
-        self.assert_found("specs/Words.antt:9: nothing uses the definition never")
-
-    def test_definition_that_only_a_comment_names(self):
-        self.plant("specs/Words.antt", SPEC + NEVER_USED + "\n-- never\n")
-        self.assert_found("nothing uses the definition never")
-
-    def test_imported_name_of_the_logic(self):
-        self.plant("proofs/Lemmas.antt", LEMMAS.replace("◌+◌, refl", "◌+◌, ◌*◌, refl"))
-        self.assert_found("proofs/Lemmas.antt:2: the imported name ◌*◌ is not used")
-
-    def test_imported_name_of_a_contract(self):
-        self.plant("src/lib.rt", LIBRARY.replace("◌≡◌, ◌+◌", "◌≡◌, ◌+◌, ◌*◌"))
-        self.assert_found("src/lib.rt:2: the imported name ◌*◌ is not used")
-
-    def test_imported_name_that_only_code_has(self):
-        self.plant("src/lib.rt", LIBRARY.replace("◌≡◌, ◌+◌", "◌≡◌, ◌+◌, added"))
-        self.assert_found("the imported name added is not used")
-
-    def test_imported_name_of_the_code(self):
-        self.plant("src/lib.rt", LIBRARY.replace("use std::io::Write;", "use std::io::{ErrorKind, Write};"))
-        self.assert_found("src/lib.rt:5: the imported name ErrorKind is not used")
-
-    def test_private_function(self):
-        self.plant("src/other.rt", OTHER + "\nfn lonely() {\n    lonely()\n}\n")
-        self.assert_found("src/other.rt:7: nothing calls the function lonely")
-
-    def test_public_function(self):
-        self.plant("src/lib.rt", LIBRARY.replace("    half(double(2));\n", "    double(2);\n"))
-        self.assert_found("nothing calls the function half")
+    def test_what_nothing_uses(self):
+        lemmas, answers, library, spec = (
+            "proofs/Lemmas.antt",
+            "proofs/double/Answers.antt",
+            "src/lib.rt",
+            "specs/Words.antt",
+        )
+        calls_itself, other = NEVER_USED.replace("never n = n", "never n = never n"), "src/other.rt"
+        lemma, imported, name = "nothing uses the lemma never", "the imported name", "◌≡◌, ◌+◌"
+        above, nil = "\nabove : ℕ → ℕ\nabove n = never n\n", "\npub twice-nil : twice 0 ≡ 0\ntwice-nil = refl\n"
+        both = {lemmas: LEMMAS + NEVER_USED, answers: ANSWERS.replace("{twice-sum}", "{twice-sum, never}")}
+        error_kind = LIBRARY.replace("io::Write;", "io::{ErrorKind, Write};")
+        uncalled = LIBRARY.replace("    half(double(2));\n", "    double(2);\n")
+        for changes, wanted in (
+            ({lemmas: LEMMAS + NEVER_USED}, [f"{lemmas}:10: {lemma}"]),
+            ({lemmas: LEMMAS + calls_itself}, [lemma]),
+            ({lemmas: LEMMAS + NEVER_USED + above}, [lemma, "the lemma above"]),
+            (both, [lemma, f"{answers}:1: {imported} never is not used"]),
+            ({"proofs/Tables.antt": WORKED + NEVER_USED}, [lemma]),
+            ({lemmas: LEMMAS + nil}, ["the lemma twice-nil"]),
+            ({spec: SPEC + NEVER_USED}, [f"{spec}:9: nothing uses the definition never"]),
+            ({spec: SPEC + NEVER_USED + "\n-- never\n"}, ["the definition never"]),
+            ({lemmas: LEMMAS.replace("◌+◌, refl", "◌+◌, ◌*◌, refl")}, [f"{lemmas}:2: {imported} ◌*◌ is not used"]),
+            ({library: LIBRARY.replace(name, f"{name}, ◌*◌")}, [f"{library}:2: {imported} ◌*◌"]),
+            ({library: LIBRARY.replace(name, f"{name}, added")}, [f"{imported} added is not used"]),
+            ({library: error_kind}, [f"{library}:5: {imported} ErrorKind"]),
+            ({other: OTHER + "\nfn lonely() {\n    lonely()\n}\n"}, [f"{other}:7: nothing calls the function lonely"]),
+            ({library: uncalled}, ["nothing calls the function half"]),
+        ):
+            with self.subTest(wanted):
+                for file, text in changes.items():
+                    self.plant(file, text)
+                lines = self.found()
+                self.assertEqual(len(lines), len(wanted), lines)
+                self.assertEqual([it for it in wanted if not any(it in line for line in lines)], [], lines)
+                shutil.rmtree(self.path("crates"))
+                self.fill()
 
     def test_nothing_to_look_at(self):
         write(self.path("crates.txt"), "")
         self.assertEqual(run("unused.py", "--top", self.folder)[0], 1)
-
-
-class Contracts(SmallTree):
-    """Clauses are counted by function, exported and private apart."""
-
-    def test_counts(self):
-        self.plant("src/lib.rt", LIBRARY.replace("pub use other::half;", "pub use other::half;\npub use lib::double;"))
-        status, said = run("contracts.py", "--top", self.folder, "--most", "1")
-        self.assertEqual(status, 0)
-        self.assertIn("| `small` | 2 | 2 | 1.0 | 1 | 2 | 0 | 0.0 | 0 |", said)
-        self.assertIn("| `small::lib::double` | exported | 2 | 1 |", said)
-
-    def test_misspelled_crate(self):
-        self.assertEqual(run("contracts.py", "--top", self.folder, "smal")[0], 2)
-
-
-class Glossary(InFolder):
-    """Each name of the glossary is in the file beside it."""
-
-    HEAD = "| Term | Meaning | Clause | Name | File |\n|---|---|---|---|---|\n"
-    ROW = "| sink | what takes bytes | own | `Sink` | `src/sink.rt` |\n"
-
-    def glossary(self, rows):
-        write(self.path("src", "sink.rt"), "pub trait Sink {}\npub trait Sinks {}\n")
-        write(self.path("docs", "GLOSSARY.md"), f"# Glossary\n\n{self.HEAD}{rows}")
-        return run("glossary.py", "--top", self.folder)
-
-    def test_the_page_of_the_repository(self):
-        status, said = run("glossary.py")
-        self.assertEqual((status, said.split()[-2:]), (0, ["0", "missing"]), said)
-
-    def test_name_that_is_there(self):
-        self.assertEqual(self.glossary(self.ROW), (0, "1 terms, 0 missing\n"))
-
-    def test_name_that_is_missing(self):
-        status, said = self.glossary(self.ROW + "| source | what gives bytes | own | `Source` | `src/sink.rt` |\n")
-        self.assertEqual((status, said.split("\n")[-2]), (1, "2 terms, 1 missing"))
-        self.assertIn("docs/GLOSSARY.md:6: source: no `Source` in src/sink.rt", said)
-
-    def test_name_that_is_only_a_part_of_a_word(self):
-        self.assertEqual(self.glossary("| sink | what takes bytes | own | `Sin` | `src/sink.rt` |\n")[0], 1)
-
-    def test_file_that_is_missing(self):
-        status, said = self.glossary("| sink | what takes bytes | own | `Sink` | `src/sinks.rt` |\n")
-        self.assertEqual((status, "no file src/sinks.rt" in said), (1, True))
-
-    def test_row_without_a_name(self):
-        self.assertEqual(self.glossary("| sink | what takes bytes | own | | `src/sink.rt` |\n")[0], 1)
-
-    def test_row_with_a_cell_too_few(self):
-        self.assertEqual(self.glossary("| sink | what takes bytes | `Sink` | `src/sink.rt` |\n")[0], 1)
-
-    def test_term_twice(self):
-        self.assertEqual(self.glossary(self.ROW + self.ROW)[0], 1)
-
-    def test_no_terms(self):
-        self.assertEqual(self.glossary(""), (1, "0 terms, 0 missing\n"))
-
-
-AVOIDED = [
-    *("it stands", "it comes to", "what a line comes to", "it is told", "it tells", "it answers `Err`", "so many"),
-    *("the least penalty", "the least version", "the mend", "it mends", "dear", "wrong bodies that tell most"),
-    *("tools of other hands", "doors", "rooms", "no count of failures rose", "refused growths of memory end well"),
-    *("a stated function of the input", "beside it stand", "what could not be had", "46 as ever", "none otherwise"),
-    *("labels that stand below one another", "a check digit that is not given is added", "says it in short"),
-    *("parity", "parity codeword", "data words", "format word", "version words", "is_codeword", "IsCodeword"),
-    *("bad words", "held back", "`Held`", "send_on", "engine.rt", "words.rt", "count_bits", "data_words", "RoundTrip"),
-]
-
-
-class PlainWords(InFolder):
-    """Words that prose avoids are found in documents and comments, and not in code."""
-
-    def check(self, name, text, *folders):
-        write(self.path(*name.split("/")), text)
-        return run("plain_words.py", "--top", self.folder, "--check", *folders)
-
-    def test_plain(self):
-        self.assertEqual(self.check("docs/A.md", "At least one line is drawn.\n"), (0, "1 files, 0 found\n"))
-
-    def test_in_documents(self):
-        for name in ("docs/A.md", "docs/DEFINITIONS.md", "README.md", "crates/a/README.md", "man/a.1"):
-            with self.subTest(name):
-                status, said = self.check(name, "One.\nThe rule stands here.\n", name)
-                self.assertEqual((status, said.split("\n")[-2]), (1, "1 files, 1 found"))
-                self.assertIn(f"{name}:2: `stands`, write: is", said)
-
-    def test_over_a_line_end(self):
-        self.assertIn("docs/A.md:1: `the least`", self.check("docs/A.md", "Under the\nleast penalty.\n")[1])
-
-    def test_in_the_code_of_a_page(self):
-        self.assertEqual(self.check("docs/A.md", "```sh\ngrep stands\n```\n")[0], 0)
-
-    def test_in_comments(self):
-        for name, text in (
-            ("crates/a/src/a.rt", "fn a() {} // it answers `Err`\n"),
-            ("crates/a/src/b.rt", "/// What it comes to.\npub fn b() {}\n"),
-            ("crates/a/src/lib.rt", "//! The least penalty.\n"),
-            ("crates/a/specs/A.antt", "-- the parity of it\nx : Type 0\n"),
-            ("scripts/a.py", "x = 1  # so many\n"),
-            ("scripts/b.py", 'def f():\n    """What it tells."""\n'),
-            ("scripts/c.sh", "ls # it is told\n"),
-            ("scripts/d.txt", "# What stands here.\n"),
-            ("tools/a", "#!/bin/sh\n# it comes to this\n"),
-            ("tools/b", "#!/usr/bin/env python3\n# the mend\n"),
-            ("completions/a.bash", "# What it tells.\n"),
-            (".ci/run", "#!/usr/bin/env bash\n# the merge gate stands\n"),
-        ):
-            with self.subTest(name):
-                status, said = self.check(name, text, name)
-                self.assertEqual((status, said.split("\n")[-2]), (1, "1 files, 1 found"))
-                self.assertIn(f"{name}:", said)
-        self.assertEqual(
-            run("plain_words.py", "--top", self.folder, "--check")[1].split("\n")[-2], "12 files, 12 found"
-        )
-
-    def test_in_code(self):
-        for name, text in (
-            ("crates/a/src/a.rt", 'fn tells() { "stands" }\n'),
-            ("crates/a/specs/A.antt", "parity : Type 0\n"),
-            ("scripts/a.py", 'tells = "stands"\n'),
-        ):
-            with self.subTest(name):
-                self.assertEqual(self.check(name, text, name)[0], 0)
-
-    def test_each_word(self):
-        status, said = self.check("docs/A.md", "".join(f"At the front, {text} of it.\n\n" for text in AVOIDED))
-        found = {int(number) for number in re.findall(r"^docs/A\.md:(\d+): ", said, re.M)}
-        self.assertEqual((status, found), (1, {2 * place + 1 for place in range(len(AVOIDED))}))
-
-    def test_words_with_a_right_meaning(self):
-        for text, status in (
-            ("Some answers are in files.\n", 0),
-            ("It is what a run answers.\n", 1),
-            ("It runs. Answers whether it did.\n", 1),
-            ("Status 2: `labels: bad words`.\n", 0),
-            ("Status 2: bad words.\n", 1),
-            ("At least version 2.\n", 0),
-            ("The room for a row.\n", 0),
-        ):
-            with self.subTest(text):
-                self.assertEqual(self.check("docs/A.md", text)[0], status)
-
-    def test_without_check_it_only_lists(self):
-        write(self.path("README.md"), "It stands here.\n")
-        status, said = run("plain_words.py", "--top", self.folder)
-        self.assertEqual((status, "1 files, 1 found" in said), (0, True))
-
-    def test_nothing_to_read(self):
-        self.assertEqual(self.check("data.txt", "It stands.\n"), (1, "0 files, 0 found\n"))
-
-    def test_folder_that_is_not_there(self):
-        self.assertEqual(run("plain_words.py", "--check", "no/such/folder")[0], 2)
-
-
-class QuotedCode(InFolder):
-    """Code in the pages is code of the crates."""
-
-    def pages(self, library, proof=""):
-        write(self.path("crates", "a", "src", "a.rt"), "fn a() {\n    one();\n    two();\n}\n")
-        write(self.path("docs", "LIBRARY.md"), library)
-        write(self.path("docs", "PROOF.md"), proof)
-        return run("quoted_code.py", "--top", self.folder)
-
-    def block(self, code, above="In `crates/a/src/a.rt`:", language="rust"):
-        return f"{above}\n\n```{language}\n{code}\n```\n"
-
-    def test_the_pages_of_the_repository(self):
-        status, said = run("quoted_code.py")
-        self.assertEqual((status, " 0 missing" in said), (0, True), said)
-
-    def test_code_of_the_file(self):
-        self.assertEqual(self.pages(self.block("one();\ntwo();")), (0, "1 blocks, 0 missing, 0 not checked\n"))
-
-    def test_other_code(self):
-        status, said = self.pages(self.block("one();\nthree();"))
-        self.assertEqual((status, said.split(":")[:2]), (1, ["docs/LIBRARY.md", "3"]))
-
-    def test_half_a_line(self):
-        self.assertEqual(self.pages(self.block("ne();"))[0], 1)
-
-    def test_file_that_is_not_named(self):
-        self.assertEqual(self.pages(self.block("one();", "Somewhere:"))[0], 1)
-
-    def test_file_that_is_gone(self):
-        self.assertEqual(self.pages(self.block("one();", "In `crates/a/src/b.rt`:"))[0], 1)
-
-    def test_marked_as_not_checked(self):
-        said = self.pages(self.block("one();") + self.block("three();", "Not checked:"))
-        self.assertEqual(said, (0, "2 blocks, 0 missing, 1 not checked\n"))
-
-    def test_clause(self):
-        clause = self.block("ensures { three }", language="text")
-        self.assertEqual(self.pages(self.block("one();"), clause)[0], 1)
-
-    def test_other_text(self):
-        self.assertEqual(self.pages(self.block("one();"), self.block("a ──▶ b", language="text"))[0], 0)
-
-    def test_no_block(self):
-        self.assertEqual(self.pages("Nothing.\n")[0], 1)
 
 
 if __name__ == "__main__":

@@ -1,53 +1,192 @@
-"""The completion for bash: what it proposes for the arguments so far."""
+"""The completion for bash, fish and zsh: what each shell proposes for a line, compared with the help texts."""
 
+import os
+import pty
 import re
+import select
 import shlex
 import subprocess
+import tempfile
 import unittest
+from pathlib import Path
+from typing import Dict, List, Optional
 
 import support
 
-COMPLETION = support.TOP / "completions/labels.bash"
+COMPLETIONS = support.TOP / "completions"
+SHELLS = ("bash", "fish", "zsh")
+TOOLS = sorted(path.name for path in support.TOOLS.glob("label-*"))
+# What an option of the tools proposes, where that is no text of any kind; None: files.
+VALUES: Dict[str, Optional[str]] = {
+    "label-table --symbology": "auto ean13 ean8 upca code128 qr",
+    "label-print --dpi": "203 300 600",
+    "label-print --to": "pdf svg png pbm zpl escpos",
+    "label-print --each": None,
+}
+NUMBERS = "1 2 3 4 5 6 7 8 9 10"
+OF_LABELS = {
+    "--format": "pbm ascii",
+    "--scale": NUMBERS[:15],
+    "--height": "",
+    "--level": "L M Q H",
+    "--min-version": NUMBERS,
+    "--mask": "0 1 2 3 4 5 6 7",
+}
+VALUES.update({f"labels {option}": values for option, values in OF_LABELS.items()})
+BASH = """
+complete() {{ :; }}; compopt() {{ :; }}
+source {completion}
+COMP_WORDS=({words}) COMP_CWORD={last} COMPREPLY=()
+_labels {command}
+printf '%s\\n' "${{COMPREPLY[@]}}"
+"""
+# Prints what is proposed, and proposes nothing.
+ZSH_LISTS = "compadd() { local -a hits; builtin compadd -O hits \"$@\"; print -rl -- '<'$^hits'>'; return 1 }"
+ZSH = """PROMPT=; unsetopt zle_bracketed_paste; fpath=({completions} $fpath); autoload -Uz compinit; compinit -u -D
+bindkey '^I' complete-word
+"""
+
+
+def help_of(command: str) -> str:
+    """The help text of the program or of a tool."""
+    if command == "labels":
+        return subprocess.run([support.labels_program(), "--help"], capture_output=True, text=True).stdout
+    return support.run(command, "--help").stdout.decode()
+
+
+def options_of(command: str) -> Dict[str, str]:
+    """The options of a help text, each with the word for what it takes, if anything."""
+    return dict(re.findall(r"^ +(?:-h, )?(--[a-z-]+)(?: (\S+))?(?:  |$)", help_of(command), re.M))
+
+
+def typed(shell: List[str], lines: str, keys: str, folder: Path) -> str:
+    """What an interactive shell writes after these lines and then these keys."""
+    process, terminal = pty.fork()
+    if process == 0:
+        os.chdir(folder)
+        os.execvpe(shell[0], shell, {**support.environment(), "TERM": "dumb", "PS1": ""})
+    found, wanted, rest = b"", b"READY", [f"{keys}\x15echo THE''END\n".encode()]
+    # The prompt is written once the keys are read one by one.
+    os.write(terminal, f"{lines}\nPS1=REA''DY\n".encode())
+    try:
+        while select.select([terminal], [], [], support.SECONDS)[0]:
+            found += os.read(terminal, 65536)
+            if wanted in found and rest:
+                found, wanted = b"", b"THEEND"
+                os.write(terminal, rest.pop())
+            elif wanted in found:
+                return found.decode()
+        raise AssertionError(f"{shell[0]} did not answer: {found!r}")
+    finally:
+        os.close(terminal)
+        os.waitpid(process, 0)
+
+
+def by_bash(words: List[str], folder: Path) -> List[str]:
+    script = BASH.format(
+        completion=shlex.quote(str(COMPLETIONS / "labels.bash")),
+        words=shlex.join(words),
+        last=len(words) - 1,
+        command=words[0],
+    )
+    how = {"capture_output": True, "text": True, "cwd": folder, "check": True, "env": support.environment()}
+    return subprocess.run(["bash", "-c", script], **how).stdout.split("\n")  # type: ignore
+
+
+def by_fish(words: List[str], folder: Path) -> List[str]:
+    line = shlex.quote(" ".join(words))
+    script = f"source {shlex.quote(str(COMPLETIONS / 'labels.fish'))}; complete -C {line}"
+    environment = {**support.environment(), "HOME": str(folder)}
+    how = {"capture_output": True, "text": True, "cwd": folder, "check": True, "env": environment}
+    done = subprocess.run(["fish", "--no-config", "-c", script], **how)  # type: ignore
+    return [line.split("\t")[0] for line in done.stdout.split("\n")]
+
+
+def by_zsh(words: List[str], folder: Path) -> List[str]:
+    lines = ZSH.format(completions=shlex.quote(str(COMPLETIONS))) + ZSH_LISTS
+    said = typed(["zsh", "-f", "-i"], lines, " ".join(words) + "\t", folder)
+    return re.findall(r"<([^<>\r\n]*)>", said)
+
+
+def proposed(shell: str, line: str, folder: Path) -> List[str]:
+    """What a shell proposes for the last word of a line."""
+    found = {"bash": by_bash, "fish": by_fish, "zsh": by_zsh}[shell](line.split(" "), folder)
+    return sorted({word.rstrip("= ").replace("\\", "") for word in found if word})
 
 
 class Completion(unittest.TestCase):
-    def proposed(self, *arguments: str) -> list[str]:
-        """What bash proposes for the last of these arguments."""
-        script = f"""
-            complete() {{ :; }}; compopt() {{ :; }}
-            source {shlex.quote(str(COMPLETION))}
-            COMP_WORDS=({shlex.join(arguments)}) COMP_CWORD={len(arguments) - 1} COMPREPLY=()
-            {'_labels' if arguments[0] == 'labels' else '_label_tool'} {arguments[0]}
-            printf '%s\\n' "${{COMPREPLY[@]}}"
-        """
-        done = subprocess.run(["bash", "-c", script], capture_output=True, text=True, env=support.environment())
-        self.assertEqual(done.stderr, "")
-        return sorted(done.stdout.split())
+    def setUp(self) -> None:
+        support.needs(*SHELLS)
+        folder = tempfile.TemporaryDirectory()
+        self.addCleanup(folder.cleanup)
+        self.folder = Path(folder.name)
+        (self.folder / "my label.txt").write_text("")
 
-    def test_options_of_labels(self) -> None:
-        page = (support.TOP / "man/labels.1").read_text(encoding="utf-8").replace("\\-", "-")
-        options = re.findall(r"^\.B[IR]? (?:-h \", \" )?(--[a-z-]+)", page.split(".SH INPUT")[0], re.MULTILINE)
-        self.assertEqual(self.proposed("labels", "-"), sorted({*options, "--help"}))
-        self.assertEqual(self.proposed("labels", "--m"), ["--mask", "--min-version"])
+    def test_options(self) -> None:
+        """Each option of the help text is proposed, and no other."""
+        for command in ("labels", *TOOLS):
+            options = sorted(options_of(command))
+            self.assertIn("--help", options, command)
+            for shell in SHELLS:
+                with self.subTest(command=command, shell=shell):
+                    self.assertEqual(proposed(shell, f"{command} --", self.folder), options)
 
-    def test_values_of_labels(self) -> None:
-        for arguments in (("--level", ""), ("--level", "="), ("--level", "=", "")):
-            self.assertEqual(self.proposed("labels", *arguments), ["H", "L", "M", "Q"])
-        self.assertEqual(self.proposed("labels", "--format", "a"), ["ascii"])
-        self.assertEqual(self.proposed("labels", "--scale", ""), list("12345678"))
-        self.assertEqual(self.proposed("labels", "--mask", ""), list("01234567"))
-        self.assertEqual(self.proposed("labels", "--height", ""), [])
+    def test_values(self) -> None:
+        """Each value of the help text is proposed, and no file."""
+        for command in ("labels", *TOOLS):
+            for option in [option for option, taken in options_of(command).items() if taken]:
+                values = VALUES.get(f"{command} {option}", "")
+                wanted = ["my label.txt"] if values is None else sorted(values.split())
+                for shell in SHELLS:
+                    with self.subTest(command=command, option=option, shell=shell):
+                        found = proposed(shell, f"{command} {option} ", self.folder)
+                        # in bash readline proposes the files
+                        self.assertEqual(found, [] if values is None and shell == "bash" else wanted)
 
-    def test_options_of_the_tools(self) -> None:
-        self.assertEqual(self.proposed("label-table", "--deci"), ["--decimal"])
-        self.assertEqual(self.proposed("label-sheet", "--ca"), ["--captions"])
-        self.assertEqual(self.proposed("label-zpl", "-"), ["--help"])
-        self.assertEqual(self.proposed("label-zpl", ""), [])
+    def test_values_of_labels_are_those_of_its_help(self) -> None:
+        shown_values = {option: shown.strip("<>") for option, shown in options_of("labels").items() if shown}
+        self.assertEqual(sorted(shown_values), sorted(OF_LABELS))
+        for option, shown in shown_values.items():
+            numbers = re.fullmatch(r"(\d+)-(\d+)", shown)
+            values = shown.split("|")
+            if numbers:
+                values = [str(number) for number in range(int(numbers[1]), int(numbers[2]) + 1)]
+            self.assertEqual((OF_LABELS[option] or shown).split(), values if len(values) < 99 else [shown])
+
+    def test_after_an_equals_sign_and_a_letter(self) -> None:
+        self.assertEqual(proposed("bash", "labels --level =", self.folder), ["H", "L", "M", "Q"])
+        self.assertEqual(proposed("bash", "labels --level = H", self.folder), ["H"])
+        for shell in SHELLS:
+            self.assertEqual(proposed(shell, "labels --m", self.folder), ["--mask", "--min-version"], shell)
+            self.assertEqual(proposed(shell, "labels --format a", self.folder), ["ascii"], shell)
+
+    def test_files(self) -> None:
+        """A file name with a space, plain and with a backslash, as the line that the shell then runs."""
+        shells = {
+            "bash": (
+                ["bash", "--norc", "--noprofile", "-i"],
+                f"source {shlex.quote(str(COMPLETIONS / 'labels.bash'))}",
+            ),
+            "zsh": (["zsh", "-f", "-i"], ZSH.format(completions=shlex.quote(str(COMPLETIONS)))),
+        }
+        commands = ("labels", *TOOLS, "label-print --each")
+        for command in [command for command in commands if command.split()[0] in ("labels", *TOOLS)]:
+            name = command.split()[0]
+            for start in ("my", "my\\ l", "'my l"):
+                self.assertIn("my label.txt", proposed("fish", f"{command} {start}", self.folder), command)
+                for shell, (arguments, lines) in shells.items():
+                    with self.subTest(command=command, start=start, shell=shell):
+                        lines_too = f"{lines}\n{name}() {{ printf '<%s>' \"$@\"; }}"
+                        said = typed(arguments, lines_too, f"{command} {start}\t\n", self.folder)
+                        self.assertIn("<my label.txt>", said)
 
     def test_every_tool_has_it(self) -> None:
-        registered = re.search(r"-F _label_tool (.*)", COMPLETION.read_text(encoding="utf-8"))
-        tools = sorted(path.name for path in support.TOOLS.glob("label-*"))
-        self.assertEqual(sorted(registered[1].split()) if registered else [], tools)
+        texts = {path.name: path.read_text(encoding="utf-8") for path in COMPLETIONS.iterdir()}
+        self.assertEqual(sorted(texts), ["_labels", "labels.bash", "labels.fish"])
+        names = " ".join(["labels", *sorted(TOOLS, key=["label-table", "label-print", "label-lines"].index)])
+        self.assertIn(f"-F _labels {names}\n", texts["labels.bash"])
+        self.assertIn(f"for command in {names}\n", texts["labels.fish"])
+        self.assertTrue(texts["_labels"].startswith(f"#compdef {names}\n"))
 
 
 if __name__ == "__main__":

@@ -21,6 +21,13 @@ def page_of(tool: str) -> str:
     return own if (support.TOP / "man" / own).exists() else "label-tools.1"
 
 
+def help_of(command: str) -> str:
+    """The help text of the program or of a tool."""
+    if command == "labels":
+        return subprocess.run([support.labels_program(), "--help"], capture_output=True, text=True).stdout
+    return support.run(command, "--help").stdout.decode()
+
+
 class Pages(unittest.TestCase):
     def test_mandoc_and_groff_find_nothing(self) -> None:
         support.needs("mandoc", "groff")
@@ -31,12 +38,11 @@ class Pages(unittest.TestCase):
 
     def test_each_tool_is_named_and_each_option_described(self) -> None:
         self.assertIn("label-print", TOOLS)
-        for tool in TOOLS:
+        for tool in ("labels", *TOOLS):
             text = text_of(page_of(tool))
             name = re.search(r"^\.SH NAME\n(.*?)^\.SH", text, re.DOTALL | re.MULTILINE)
             self.assertIn(tool, name.group(1) if name else "", tool)
-            usage = support.run(tool, "--help").stdout.decode()
-            options = set(re.findall(r"(?<![\w-])--[a-z][a-z-]*", usage))
+            options = set(re.findall(r"(?<![\w-])--[a-z][a-z-]*", help_of(tool)))
             self.assertIn("--help", options, tool)
             self.assertEqual([option for option in options if option not in text], [], tool)
 

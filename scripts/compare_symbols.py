@@ -1,0 +1,262 @@
+#!/usr/bin/env python3
+"""Draws some hundred labels with the program `labels`, and compares them with two third-party programs.
+
+zbarimg reads each label back: it must give the full data, digits with their check digit or all bytes. A reader
+corrects errors, so zint draws the labels in which the standards leave no choice, and its modules must be the same: EAN
+and UPC; Code 128 data of one code set; QR data of one mode, with its version, level and mask given.
+
+The labels are the same in every run: all five symbologies, every error correction level, mask and QR version from 1 to
+10, short data and the longest that fits, control characters, all 256 bytes, with escapes and without, at 2, 3 and 4
+pixels a module. For zbarimg pnmpad puts white above and below, which a linear label lacks, and pnmtopng makes the PNG.
+
+The last line is `N labels: R read back, S of T as zint draws them`. Any other label is printed with its line, and the
+status is then 1, as where there are no labels. Status 2: bad arguments, no such program, a third-party program
+missing."""
+
+import os
+import random
+import shutil
+import subprocess
+import sys
+import tempfile
+from dataclasses import dataclass
+
+import sources
+
+TOOLS = ("zbarimg", "pnmpad", "pnmtopng", "zint")
+# The reader that zbarimg has for each symbology. It reads UPC-A as the EAN-13 of the same bars.
+READERS = {"ean13": "ean13", "ean8": "ean8", "upca": "ean13", "code128": "code128", "qr": "qrcode"}
+DIGITS = "0123456789"
+LETTERS = "ABCDEFGHIJKLMNOPQRSTUVWXYZ"
+ALPHANUMERIC = f"{DIGITS}{LETTERS} $%*+-./:"
+# The most digits, alphanumeric characters and bytes that versions 1, 5 and 10 hold at each level (ISO/IEC 18004,
+# table 7).
+CAPACITIES = {
+    "L": ((41, 25, 17), (255, 154, 106), (652, 395, 271)),
+    "M": ((34, 20, 14), (202, 122, 84), (513, 311, 213)),
+    "Q": ((27, 16, 11), (144, 87, 60), (364, 221, 151)),
+    "H": ((17, 10, 7), (106, 64, 44), (288, 174, 119)),
+}
+# What versions 1 to 10 hold at level H: all levels hold as much.
+MOST = (
+    (17, 34, 58, 82, 106, 139, 154, 202, 235, 288),
+    (10, 20, 35, 50, 64, 84, 93, 122, 143, 174),
+    (7, 14, 24, 34, 44, 58, 64, 84, 98, 119),
+)
+
+
+@dataclass(frozen=True)
+class Label:
+    """One label: its line's head, the data, what a reader must return, how the run is set, zint's arguments if any."""
+
+    head: str
+    data: bytes
+    full: bytes
+    scale: int
+    escapes: bool = False
+    zint: tuple = ()
+
+    def line(self):
+        return self.head.encode() + b" " + (escaped(self.data) if self.escapes else self.data) + b"\n"
+
+
+def escaped(data):
+    """The data as units of `--escapes`, in each of their forms."""
+    units = []
+    for place, byte in enumerate(data):
+        if byte == 0x5C:
+            units.append(b"\\\\")
+        elif byte == 0x0A and place % 2 == 0:
+            units.append(b"\\n")
+        elif byte < 0x20 or byte >= 0x7F:
+            units.append((b"\\x%02x" if place % 3 else b"\\x%02X") % byte)
+        else:
+            units.append(bytes([byte]))
+    return b"".join(units)
+
+
+def with_check_digit(digits):
+    """The digits and their check digit (ISO/IEC 15420)."""
+    total = sum(int(digit) * (3 if place % 2 == 0 else 1) for place, digit in enumerate(reversed(digits)))
+    return digits + str(-total % 10)
+
+
+def ean_and_upc(draw):
+    """EAN and UPC labels, each length in turn, with every first digit."""
+    for name, length, count, kind in (("ean13", 12, 60, "EANX"), ("ean8", 7, 50, "EANX"), ("upca", 11, 50, "UPCA")):
+        for number in range(count):
+            digits = str(number % 10) + "".join(draw.choices(DIGITS, k=length - 1))
+            full = with_check_digit(digits)
+            data = full if number % 2 else digits
+            read = "0" + full if name == "upca" else full
+            head = name if number % 5 else f"{name},height={30 + number}"
+            yield Label(head, data.encode(), read.encode(), 2 + number % 3, zint=("-b", kind, "-d", digits))
+
+
+def code128(draw):
+    """Code 128 labels: digits, printable text, control characters and mixtures of 1 to 80 bytes."""
+    alphabets = (
+        b"0123456789",
+        bytes(range(0x20, 0x7F)),
+        bytes(range(0x00, 0x60)),
+        bytes(range(0x80)),
+        b"0123456789" * 4 + bytes(range(0x80)),
+        b"abcdefgh\x01\x02",
+        b"ABCDEFGH\x01\x02a",
+    )
+    lengths = (1, 2, 3, 4, 5, 6, 7, 10, 17, 25, 40, 79, 80)
+    for number, (alphabet, length) in enumerate((a, n) for a in alphabets for n in lengths):
+        data = bytes(draw.choices(alphabet, k=length))
+        is_plain = b"\n" not in data and number % 2 == 0
+        yield Label("code128", data, data, 2 + number % 3, not is_plain)
+
+
+def code128_of_one_set(draw):
+    """Code 128 labels of one code set: B without and with lower case, and C."""
+    for number in range(60):
+        letters = LETTERS + " !#$%&()*+,-./:;<=>?@" + ("abcdefghijklmnopqrstuvwxyz{|}~`" if number % 3 == 1 else "")
+        data = "".join(draw.choices(letters, k=1 + number))
+        if number % 3 == 2:
+            data = "".join(draw.choices(DIGITS, k=2 * (2 + number // 2)))
+        yield Label("code128", data.encode(), data.encode(), 2 + number % 3, zint=("-b", "CODE128", "-d", data))
+
+
+def qr_of_one_mode(draw):
+    """QR labels of one mode: each version with each level and each mask."""
+    alphabets = (DIGITS, f"{LETTERS} $%*+-./:", "abcdefghijklmnopqrstuvwxyz!#&()<=>?@[]_{|}~")
+    for version in range(1, 11):
+        for level_number, level in enumerate("LMQH"):
+            for mask in range(8):
+                kind = (version + level_number + mask) % 3
+                length = 1 + draw.randrange(MOST[kind][version - 1])
+                data = "".join(draw.choices(alphabets[kind], k=length))
+                head = f"qr,level={level},min-version={version},mask={mask}"
+                zint = ("-b", "QRCODE", f"--secure={level_number + 1}", f"--vers={version}", f"--mask={mask}")
+                yield Label(head, data.encode(), data.encode(), 2 + mask % 3, zint=(*zint, "-d", data))
+
+
+def qr_by_capacity(draw):
+    """QR labels that fill versions 1, 5 and 10 to the last character, one mode each."""
+    for level, versions in CAPACITIES.items():
+        for number, counts in enumerate(versions):
+            for letters, count in zip((DIGITS, LETTERS, LETTERS.lower()), counts):
+                data = "".join(draw.choices(letters, k=count)).encode()
+                yield Label(f"qr,level={level}", data, data, 2 + number)
+
+
+def qr_of_bytes(draw):
+    """QR labels of any bytes: each of the 256, and mixtures with digits and letters."""
+    for first in range(0, 256, 64):
+        data = bytes(range(first, first + 64))
+        yield Label("qr,level=Q", data, data, 3, True)
+    for number in range(24):
+        parts = [
+            bytes(draw.choices(range(256), k=draw.randrange(1, 12))),
+            "".join(draw.choices(DIGITS, k=draw.randrange(1, 30))).encode(),
+            "".join(draw.choices(ALPHANUMERIC, k=draw.randrange(1, 20))).encode(),
+        ]
+        draw.shuffle(parts)
+        data = b"".join(parts)
+        yield Label(f"qr,level={'LMQH'[number % 4]}", data, data, 2 + number % 3, True)
+
+
+def all_labels():
+    draw = random.Random(18004)
+    parts = (ean_and_upc, code128, code128_of_one_set, qr_of_one_mode, qr_by_capacity, qr_of_bytes)
+    return [label for part in parts for label in part(draw)]
+
+
+def pictures_of(program, labels, *options):
+    """The pictures of a run over these labels: its output, cut before each line `P1`."""
+    lines = b"".join(label.line() for label in labels)
+    ran = subprocess.run([program, *options], input=lines, capture_output=True)
+    pictures = [b"P1\n" + rest for rest in ran.stdout.split(b"P1\n")[1:]]
+    if ran.returncode != 0 or len(pictures) != len(labels):
+        found = f"status {ran.returncode} and {len(pictures)} pictures"
+        sys.exit(f"{len(labels)} labels gave {found}\n{ran.stderr.decode()}")
+    return pictures
+
+
+def write_png(picture, scale, path):
+    """Writes a picture with ten modules of white above and below as PNG."""
+    rows = str(10 * scale)
+    how = {"capture_output": True, "check": True}
+    padded = subprocess.run(["pnmpad", "-white", "-top", rows, "-bottom", rows], input=picture, **how)
+    png = subprocess.run(["pnmtopng", "-quiet"], input=padded.stdout, **how)
+    with open(path, "wb") as file:
+        file.write(png.stdout)
+
+
+def reading_of(path, symbology):
+    """The bytes that zbarimg reads in a file, as the reader of this symbology alone; none where it reads nothing."""
+    command = ["zbarimg", "--nodbus", "--quiet", "-Sdisable", f"-S{READERS[symbology]}.enable", "-Sbinary", path]
+    ran = subprocess.run(command, capture_output=True)
+    # It ends with status 4 where it read nothing.
+    if ran.returncode not in (0, 4):
+        sys.exit(f"zbarimg ended with status {ran.returncode}:\n{ran.stderr.decode()}")
+    return ran.stdout
+
+
+def count_read_back(program, labels, folder):
+    """How many of the labels are read back. Prints each of the others."""
+    good, path = 0, os.path.join(folder, "label.png")
+    for scale, escapes in sorted({(label.scale, label.escapes) for label in labels}):
+        group = [label for label in labels if (label.scale, label.escapes) == (scale, escapes)]
+        options = ["--scale", str(scale)] + (["--escapes"] if escapes else [])
+        for label, picture in zip(group, pictures_of(program, group, *options)):
+            write_png(picture, scale, path)
+            found = reading_of(path, label.head.split(",")[0])
+            good += found == label.full
+            if found != label.full:
+                print(f"scale {scale}, {label.line()!r}: read as {found!r}")
+    return good
+
+
+def rows_of_ours(picture):
+    """The rows of modules of a picture at one pixel a module, without its quiet zone, as texts of 0 and 1."""
+    _, header, rest = picture.split(b"\n", 2)
+    width, height = map(int, header.split())
+    pixels = rest.replace(b"\n", b"").decode()
+    rows = [pixels[start : start + width] for start in range(0, width * height, width)]
+    left = min(row.index("1") for row in rows if "1" in row)
+    right = max(row.rindex("1") for row in rows if "1" in row)
+    # Of a linear symbol all rows are the same; a QR symbol has as much white above and below as at its sides.
+    inner = rows[:1] if len(set(rows)) == 1 else rows[left : height - left]
+    return [row[left : right + 1] for row in inner]
+
+
+def rows_of_zint(arguments, width):
+    """The rows of modules of zint's symbol, of this width, as texts of 0 and 1."""
+    ran = subprocess.run(["zint", "--dump", *arguments], capture_output=True, text=True, check=True)
+    rows = [bin(int("1" + line.replace(" ", ""), 16))[3:] for line in ran.stdout.splitlines()]
+    return [row[:width] for row in rows]
+
+
+def is_same(label, picture):
+    """Whether the picture has the modules of zint's symbol. Prints the label where it has not."""
+    ours = rows_of_ours(picture)
+    zints = rows_of_zint(label.zint, len(ours[0]))
+    if ours != zints:
+        wrong = sum(a != b for row, other in zip(ours, zints) for a, b in zip(row, other))
+        sizes = f"{len(ours[0])} by {len(ours)} and {len(zints[0])} by {len(zints)} modules"
+        print(f"{label.line()!r}: {sizes}, {wrong} differ")
+    return ours == zints
+
+
+def main():
+    program = sources.program_given(__doc__)
+    missing = [tool for tool in TOOLS if shutil.which(tool) is None]
+    if missing:
+        print(f"nothing was compared: not installed: {', '.join(missing)}", file=sys.stderr)
+        return 2
+    labels = all_labels()
+    with_zint = [label for label in labels if label.zint]
+    same = sum(is_same(*pair) for pair in zip(with_zint, pictures_of(program, with_zint)))
+    with tempfile.TemporaryDirectory() as folder:
+        read = count_read_back(program, labels, folder)
+    print(f"{len(labels)} labels: {read} read back, {same} of {len(with_zint)} as zint draws them")
+    return 0 if with_zint and read == len(labels) and same == len(with_zint) else 1
+
+
+if __name__ == "__main__":
+    sys.exit(main())
