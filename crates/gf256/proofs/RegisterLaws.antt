@@ -1,6 +1,6 @@
 -- The multiples of a polynomial in tables, and what the code writes, as lists.
-use Rattle.std.proofs.Common.{◌≡◌, ℕ, zero, suc, ◌+◌, ◌-◌, ◌*◌, ◌/◌, ◌%◌, ◌^◌, ◌<◌, List, [], ◌∷◌, ◌++◌, length, take, drop}
-use Rattle.std.proofs.Common.{get_or, set, refl, sym, ap, ◌∙◌, arith, eqb-true, true, ◌==◌}
+use Rattle.std.proofs.Common.{◌≡◌, ℕ, zero, suc, ◌+◌, ◌-◌, ◌*◌, ◌/◌, ◌%◌, ◌^◌, ◌<◌, List, [], ◌∷◌, ◌++◌, length, take}
+use Rattle.std.proofs.Common.{drop, get_or, set, refl, sym, ap, ◌∙◌, arith, eqb-true, true, ◌==◌}
 use Rattle.std.specs.Prelude.{bit_xor, All}
 use Rattle.std.specs.Int.Bits.{xor_comm, xor_shifted}
 use Rattle.std.proofs.lemmas.List.{append_assoc, drop-replicate, get_or-take, length-take-le}
@@ -47,7 +47,7 @@ unfolding scalar_multiple
 scalar_multiple-zero [] = refl
 scalar_multiple-zero (a ∷ p) = λ i. field_product-zero_left a i ∷ scalar_multiple-zero p i
 
-scalar_multiple-one : (p : List ℕ) → All IsElement p → scalar_multiple 1 p ≡ p
+pub scalar_multiple-one : (p : List ℕ) → All IsElement p → scalar_multiple 1 p ≡ p
 unfolding scalar_multiple
 scalar_multiple-one [] h = refl
 scalar_multiple-one (a ∷ p) h =
@@ -75,25 +75,23 @@ scalar_multiple-append_zeros c [] (suc n) =
     λ i. field_product-zero_right c i ∷ scalar_multiple-append_zeros c [] n i
 scalar_multiple-append_zeros c (a ∷ p) n = ap (λ l. field_product c a ∷ l) (scalar_multiple-append_zeros c p n)
 
--- the multiple by 2 * n
-pub multiple-even : (i : ℕ) (p : List ℕ) → i < 256 → i % 2 ≡ 0 → All IsElement p
-    → scalar_multiple 2 (scalar_multiple (i / 2) p) ≡ scalar_multiple i p
-multiple-even i p h even elements =
-    let twice : i / 2 * 2 % 256 ≡ i = omega arith in
-    scalar_multiple-product 2 (i / 2) p (omega arith) (omega arith) elements
-    ∙ ap (λ c. scalar_multiple c p) (sym (field_product-two_small (i / 2) (omega arith)) ∙ twice)
+pub multiple-even : (i : ℕ) (p : List ℕ) → i < 128 → All IsElement p
+    → scalar_multiple 2 (scalar_multiple i p) ≡ scalar_multiple (2 * i) p
+multiple-even i p h elements =
+    let twice : i * 2 % 256 ≡ 2 * i = omega arith in
+    scalar_multiple-product 2 i p (omega arith) (omega arith) elements
+    ∙ ap (λ c. scalar_multiple c p) (sym (field_product-two_small i h) ∙ twice)
 
--- the multiple by 2 * n + 1
-pub multiple-odd : (i : ℕ) (p : List ℕ) → i < 256 → i % 2 ≡ 1 → All IsElement p
-    → polynomial_sum (scalar_multiple 2 (scalar_multiple (i / 2) p)) p ≡ scalar_multiple i p
-multiple-odd i p h odd elements =
-    let twice : i / 2 * 2 % 256 ≡ i / 2 * 2 ^ 1 = omega arith in
-    let more : i / 2 * 2 ^ 1 + 1 ≡ i = omega arith in
-    ap (λ l. polynomial_sum l p) (scalar_multiple-product 2 (i / 2) p (omega arith) (omega arith) elements)
-    ∙ ap (polynomial_sum (scalar_multiple (field_product 2 (i / 2)) p)) (sym (scalar_multiple-one p elements))
-    ∙ scalar_multiple-sum (field_product 2 (i / 2)) 1 p
-    ∙ ap (λ c. scalar_multiple (bit_xor c 1) p) (sym (field_product-two_small (i / 2) (omega arith)) ∙ twice)
-    ∙ ap (λ c. scalar_multiple c p) (xor_shifted (i / 2) 1 1 (omega arith) ∙ more)
+pub multiple-odd : (i : ℕ) (p : List ℕ) → i < 128 → All IsElement p
+    → polynomial_sum (scalar_multiple 2 (scalar_multiple i p)) p ≡ scalar_multiple (2 * i + 1) p
+multiple-odd i p h elements =
+    let twice : 2 * i ≡ i * 2 ^ 1 = omega arith in
+    let more : i * 2 ^ 1 + 1 ≡ 2 * i + 1 = omega arith in
+    ap (λ l. polynomial_sum l p) (multiple-even i p h elements)
+    ∙ ap (polynomial_sum (scalar_multiple (2 * i) p)) (sym (scalar_multiple-one p elements))
+    ∙ scalar_multiple-sum (2 * i) 1 p
+    ∙ ap (λ c. scalar_multiple (bit_xor c 1) p) twice
+    ∙ ap (λ c. scalar_multiple c p) (xor_shifted i 1 1 (omega arith) ∙ more)
 
 sixteens : all_below (λ i. field_product i 16 == i * 2 ^ 4) 16 ≡ true
 unfolding all_below field_product binary_product binary_remainder

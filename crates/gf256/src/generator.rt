@@ -97,13 +97,11 @@ fn multiples_of(polynomial: &Multiple) -> [Multiple; 16]
     ensures { AreMultiples polynomial.now result }
 {
     let mut multiples = [[0; PLACES]; 16];
-    for i in 1..16 {
-        let even = doubled(&multiples[i / 2]);
-        multiples[i] = if i % 2 == 0 {
-            even
-        } else {
-            sum_of(&even, polynomial)
-        };
+    multiples[1] = *polynomial;
+    for i in 1..8 {
+        let even = doubled(&multiples[i]);
+        multiples[2 * i + 1] = sum_of(&even, polynomial);
+        multiples[2 * i] = even;
     }
     multiples
 }

@@ -42,7 +42,8 @@ unfolding next_choices next_digits next_characters
 byte_choices-is version b rest small none few =
     let short = short_choice version Byte rest.best.bits in
     let byte = better_choice (longer_choice rest.bytes 8) short in
-    let beats = better-right (longer_choice rest.bytes 8) short short.bits 1 (omega arith, λ less. absurd (omega arith)) in
+    let beats = better-right (longer_choice rest.bytes 8) short short.bits 1
+    (omega arith, λ less. absurd (omega arith)) in
     let best : best_choice absent_digits absent_characters byte ≡ byte =
     best_choice-byte byte (omega (arith, beats.0, short_bits version Byte)) in
     let no_character : nat_lt (alphanumeric_value b) 45 ≡ false = le-ltb (alphanumeric_value b) 45 none in

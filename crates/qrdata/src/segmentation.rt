@@ -274,9 +274,9 @@ fn without_bytes() -> Choices
     }
 }
 
-/// Writes the first of the best segments of each rest of the bytes into an empty table, the shortest rest first. Returns
-/// the bits of the best segments of all the bytes. The limits of the character counts are left out, because no segments
-/// that fit reach them. The time grows with the number of bytes.
+/// Writes the first of the best segments of each rest of the bytes into an empty table, the shortest rest first.
+/// Returns the bits of the best segments of all the bytes. The limits of the character counts are left out, because no
+/// segments that fit reach them. The time grows with the number of bytes.
 pub(crate) fn fill(version: Version, bytes: &[u8], firsts: &mut Firsts) -> usize
     requires few { length bytes.now ≤ MAX_BYTES }
     requires empty { firsts.old.items ≡ [] }

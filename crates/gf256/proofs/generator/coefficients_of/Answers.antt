@@ -1,6 +1,6 @@
 use Rattle.std.proofs.Common.{◌≡◌, ◌+◌, ◌-◌, ◌∙◌, ◌++◌, ap, arith, drop, get_or, length, map, sym, take_all}
-use Rattle.std.proofs.lemmas.List.{drop-drop, drop-replicate, drop-set-lt, get_or-map, get_or_append_left, length-append}
-use Rattle.std.proofs.lemmas.List.{length-map, length-set, take-append-drop, take-append-le}
+use Rattle.std.proofs.lemmas.List.{drop-drop, drop-replicate, drop-set-lt, get_or-map, get_or_append_left}
+use Rattle.std.proofs.lemmas.List.{length-append, length-map, length-set, take-append-drop, take-append-le}
 use Rattle.gf256.specs.Field.{alpha, field_power}
 use Rattle.gf256.specs.ErrorCorrection.{generator}
 use Rattle.gf256.specs.Private.{padded_generator, zeros}

@@ -3,7 +3,8 @@ use Rattle.std.proofs.lemmas.List.{length-drop}
 use Rattle.qrdata.specs.declared.segmentation.Choices.{Choices}
 use Rattle.qrdata.specs.Private.Table.{choices_of, next_choices}
 use Rattle.qrdata.proofs.SmallChoiceLaws.{AreSmall-of}
-use Rattle.qrdata.proofs.FirstsTableLaws.{choices_of-next, choices_of-none, firsts_of-next, firsts_of-none, length-firsts_of}
+use Rattle.qrdata.proofs.FirstsTableLaws.{choices_of-next, choices_of-none, firsts_of-next, firsts_of-none}
+use Rattle.qrdata.proofs.FirstsTableLaws.{length-firsts_of}
 use Rattle.qrdata.proofs.segmentation.fill.Goals as goal
 
 pub loop-place-init : goal.loop-place-init

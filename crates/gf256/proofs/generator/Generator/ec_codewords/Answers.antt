@@ -35,7 +35,8 @@ loop-codeword-preserved c =
     let next = next_register low old codeword in
     let few = c.self.invariant.0 in
     let long_low : length low ≡ k = length-low_of k in
-    let long_old : length old ≡ k = length-take-le k c.loop-codeword.register (omega (arith, few.1, c.loop-codeword.invariant.0)) in
+    let long_old : length old ≡ k = length-take-le k c.loop-codeword.register
+    (omega (arith, few.1, c.loop-codeword.invariant.0)) in
     let long : length next ≡ k = length-next_register low old codeword (omega (arith, few.0, long_low))
     (long_old ∙ sym long_low) ∙ long_low in
     let front : take k c.shift.new.register ≡ next =
