@@ -15,9 +15,11 @@ INTERRUPTED = 130
 class ToolError(Exception):
     """Why a tool cannot go on: a message without the tool's name; the tool ends with `status`."""
 
-    def __init__(self, message: str, status: int = 1) -> None:
+    status = 1
+
+    def __init__(self, message: str, status: Optional[int] = None) -> None:
         super().__init__(message)
-        self.status = status
+        self.status = self.status if status is None else status
 
 
 class Parser(argparse.ArgumentParser):
