@@ -346,6 +346,13 @@ unfolding hello_world alphanumeric_characters bits_of number_of byte_bits total_
     binary_remainder number_at digits_at characters_at bytes_at segment_at segments_at deinterleaving data_in
 wrong_lengths = refl
 
+-- the last two codewords changed in one bit: the value at alpha^0 is still 0, and at the other roots it is not
+two_codewords_changed : data_in 1 Q (take 24 hello_world ++ (123 ∷ 17 ∷ [])) ≡ None
+unfolding hello_world alphanumeric_characters bits_of number_of byte_bits total_codewords ec_codewords_per_block
+    data_codewords block_lengths groups_of block_table evaluate field_power field_product binary_product
+    binary_remainder number_at digits_at characters_at bytes_at segment_at segments_at deinterleaving data_in
+two_codewords_changed = refl
+
 -- the blocks of version 5-Q taken out of the order that the standard lists (ISO/IEC 18004, 7.6)
 blocks_taken_back : deinterleaving (15 ∷ 15 ∷ 16 ∷ 16 ∷ []) interleaved_5q ≡ split_by (15 ∷ 15 ∷ 16 ∷ 16 ∷ []) (range_with_len 0 62)
 unfolding deinterleaving interleaved_5q split_by
