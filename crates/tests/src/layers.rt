@@ -2,6 +2,7 @@
 mod bars;
 mod buffered_bytes;
 mod codewords;
+mod field;
 mod lines;
 mod options;
 pub mod pictures;
