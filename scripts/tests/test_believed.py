@@ -168,7 +168,14 @@ class Rows(InCopy):
     def test_as_it_is(self):
         status, said = self.check()
         self.assertEqual(status, 0, said)
-        self.assertRegex(said, r"^\d{4} changes of \d{3} definitions are refused, \d+ mean the same\n$")
+        self.assertRegex(said, r"\n\d{4} changes of \d{3} definitions are refused, \d+ mean the same\n$")
+
+    def test_an_open_definition_that_is_judged(self):
+        self.change(
+            "scripts/believed_rows.txt", "\ndevice/Device ", "\nopen: picture/Reading is_white\ndevice/Device "
+        )
+        status, said = self.check()
+        self.assertEqual((status, "picture/Reading is_white: open, and judged" in said), (1, True), said)
 
     def test_another_definition(self):
         self.change("crates/picture/specs/Reading.antt", "b == 32 || b == 9", "b == 32 || b == 8")
