@@ -12,9 +12,9 @@ the third one has of the call.
 The first comment of a file says what the file is about. Lines `-- Why: ` after it say what its definitions follow:
 names between backticks, a colon, and the clause of a standard or a page.
 
-It reads texts alone. A definition is a block of lines between blank ones. It rests on each name in it that is defined
-in its file or imported by a line `use`. A name that is bound in a definition and means something else in its file
-counts as that name: the list may be too long because of that, never too short.
+It reads texts alone. A definition rests on each name in it that is defined in its file or imported by a line `use`. A
+name that is bound in a definition and means something else in its file counts as that name: the list may be too long
+because of that, never too short.
 """
 
 import argparse
@@ -24,9 +24,9 @@ import os
 import re
 import sys
 import textwrap
-from collections import Counter
 from dataclasses import dataclass
 
+import antt
 import declared
 import sources
 
@@ -39,102 +39,29 @@ CRATES = ["filter", "labelcore", "device", "picture", "linear", "qrmatrix", "qrd
 AT_THE_TOP = {"labels", "examples", "tests"}
 PAGE = os.path.join("docs", "DEFINITIONS.md")
 README_NUMBER = re.compile(r"([\d,]+)\s+lines\s+of\s+\[definitions\]")
-NAME = r"[^\W\d][\w']*(?:-[\w']+)*"
 # The names of a `Why: `, before its first colon.
 WHY = re.compile(r"Why: ((?:`[^`]+`,? )*`[^`]+`): ")
-NO_WORDS = {"infixl", "infixr", "unfolding", "module", "mod"}
-HEAD = re.compile(rf"^(?:(?:abbrev|unfoldable)\s+)?(?:pub\s+)?(?:record\s+|data\s+)?(◌\S+◌|{NAME})(?=[\s:(])")
-PATH = re.compile(rf"{NAME}(?:\.{NAME})*")
 
 
-@dataclass(eq=False)
-class Definition:
-    """A block of a file: the name that it defines, the comment before it, and its lines."""
-
-    key: tuple  # (crate, module, name)
-    comment: str
-    lines: list
-
-
-class File:
-    """A file of specs: what it is about and why, what it brings in, its definitions by every name that they give."""
-
-    def __init__(self, crate, module, text):
-        self.crate, self.module = crate, module
-        self.names, self.modules = {}, {}
-        self.of_name, self.order = {}, []
-        lines = text.split("\n")
-        head = list(itertools.takewhile(lambda line: line.startswith("--"), lines))
-        self.about, *self.whys = paragraphs(head) or [""]
-        block = []
-        for line in lines[len(head) :] + [""]:
-            if line.strip():
-                block.append(line)
-            elif block:
-                self.take(block)
-                block = []
-
-    def take(self, block):
-        """A block: lines `use`, or a definition with its comment."""
-        if block[0].startswith("abbrev mutual"):
-            block = block[1:]
-        if all(line.startswith("  ") for line in block):
-            # Definitions that call one another are indented.
-            block = [line[2:] for line in block]
-        comment = [line.removeprefix("--").strip() for line in block if line.startswith("--")]
-        code = [line for line in block if not line.startswith("--")]
-        for line in (line for line in code if line.startswith("use ")):
-            self.bring_in(line[4:].strip())
-        code = [line for line in code if not line.startswith("use ")]
-        head = next((match for match in map(HEAD.match, code) if match and match.group(1) not in NO_WORDS), None)
-        if not head:
-            return
-        name = head.group(1)
-        definition = Definition((self.crate, self.module, name), " ".join(comment), code)
-        self.order.append(definition)
-        self.of_name[name] = definition
-        if re.match(r"^(?:pub\s+)?data\s", head.string):
-            for line in code[1:]:
-                constructor = re.match(rf"^\s+({NAME})\s*:", line)
-                if constructor:
-                    self.of_name[constructor.group(1)] = definition
-
-    def bring_in(self, path):
-        """A line `use`: names of another file of specs, or the file as a whole."""
-        imported = re.match(r"Rattle\.(\w+)\.specs\.([\w.]+?)\.\{(.*)\}$", path)
-        whole = re.match(rf"Rattle\.(\w+)\.specs\.([\w.]+?)(?:\s+as\s+({NAME}))?$", path)
-        if imported:
-            for item in imported.group(3).split(","):
-                name, _, other = item.strip().partition(" as ")
-                self.names[(other or name).strip()] = (imported.group(1), imported.group(2), name.strip())
-        elif whole:
-            self.modules[whole.group(3) or whole.group(2).split(".")[-1]] = (whole.group(1), whole.group(2))
-
-
-def paragraphs(comment):
-    """The texts of a head comment: what the file is about, and each `Why: `."""
+def about(file):
+    """The texts of the first comment of a file: what it is about, and each `Why: `."""
     texts = []
-    for line in comment:
+    for line in itertools.takewhile(lambda line: line.startswith("--"), file.full.split("\n")):
         text = line.removeprefix("--").strip()
         if not texts or text.startswith("Why: "):
             texts.append(text)
         else:
             texts[-1] += " " + text
-    return texts
+    return texts or [""]
 
 
 def read_files(top):
-    files, unknown = {}, set(sources.crates_of(top)) - {*CRATES} - AT_THE_TOP
+    unknown = set(sources.crates_of(top)) - {*CRATES} - AT_THE_TOP
     if unknown:
         names = ", ".join(sorted(unknown))
         sys.exit(f"crates.txt has {names}: scripts/believed.py has to name it in CRATES or AT_THE_TOP")
-    for crate in CRATES:
-        folder = os.path.join(top, "crates", crate, "specs")
-        for path in sources.files_below(folder, ".antt"):
-            module = os.path.relpath(path, folder)[:-5].replace(os.sep, ".")
-            if os.path.basename(path) != "Lib.antt":
-                files[crate, module] = File(crate, module, sources.read(path))
-    return files
+    files = [file for crate in CRATES for file in antt.files_of(top, crate, "specs")]
+    return {(file.crate, file.module): file for file in files}
 
 
 def find(files, crate, module, name):
@@ -148,23 +75,21 @@ def find(files, crate, module, name):
     return found
 
 
-def rests_on(files, file, definition):
+def rests_on(files, definition):
     """What a definition rests on, in the order of its text."""
-    found, text = [], "\n".join(definition.lines)
-    for path in PATH.findall(text):
+    found, text, file = [], definition.text(), files[definition.key.crate, definition.key.module]
+    targets = {one.name: one.target for one in file.imports if one.target and one.target.part == "specs"}
+    for path in antt.PATH.findall(text):
         first, _, rest = path.partition(".")
         if first in file.of_name:
             found.append(file.of_name[first])
-        elif first in file.names:
-            found.append(find(files, *file.names[first]))
-        elif first in file.modules and rest:
-            found.append(find(files, *file.modules[first], rest.split(".")[0]))
-    for name, target in [(n, t) for n, t in file.names.items() if n.startswith("◌")] + [
-        (n, (file.crate, file.module, n)) for n in file.of_name if n.startswith("◌")
-    ]:
-        sign = name.strip("◌")
-        if f" {sign} " in text or (sign == ">>=" and re.search(r"\bdo\b|←", text)):
-            found.append(find(files, *target))
+        elif first in targets and (targets[first].name or rest):
+            crate, _, module, name = targets[first]
+            found.append(find(files, crate, module, name or rest.split(".")[0]))
+    signs = {**targets, **{name: one.key for name, one in file.of_name.items()}}
+    for name, (crate, _, module, here) in signs.items():
+        if "◌" in name and antt.is_named_in(name, (), text):
+            found.append(find(files, crate, module, here))
     return [one for one in found if one is not None and one is not definition]
 
 
@@ -173,15 +98,14 @@ def believed(files, roots):
     reached, types, seen, waiting = [], [], set(), list(roots)
     while waiting:
         one = waiting.pop(0)
-        key = one if isinstance(one, tuple) else one.key
-        if key in seen:
+        if one in seen:
             continue
-        seen.add(key)
+        seen.add(one)
         if isinstance(one, tuple):
             types.append(one)
-            continue
-        reached.append(one)
-        waiting.extend(rests_on(files, files[key[0], key[1]], one))
+        else:
+            reached.append(one)
+            waiting.extend(rests_on(files, one))
     return reached, types
 
 
@@ -189,7 +113,7 @@ def by_file(reached):
     """The definitions by crate, and in each crate by file, in reading order."""
     groups = {}
     for one in reached:
-        groups.setdefault(one.key[0], {}).setdefault(one.key[1], []).append(one)
+        groups.setdefault(one.key.crate, {}).setdefault(one.key.module, []).append(one)
     return [(crate, groups[crate]) for crate in CRATES if crate in groups]
 
 
@@ -203,14 +127,8 @@ def cell(text):
 
 def others(files, reached):
     """The definitions of specs/ that the headline does not rest on, but for those of private contracts."""
-    keys = {one.key for one in reached}
-    return [
-        one
-        for (_, module), file in files.items()
-        if not module.startswith("Private")
-        for one in file.order
-        if one.key not in keys
-    ]
+    public = [file for (_, module), file in files.items() if not module.startswith("Private")]
+    return [one for file in public for one in file.definitions if one not in reached]
 
 
 def names_in(file, why):
@@ -219,15 +137,14 @@ def names_in(file, why):
     names = set(re.findall(r"`([^`]+)`", match.group(1))) if match else set()
     gone = sorted(names - {*file.of_name})
     if gone or not names:
-        path = f"crates/{file.crate}/specs/{file.module.replace('.', '/')}.antt"
-        sys.exit(f"{path}: '{why[:60]}' names {', '.join(gone) or 'nothing'}: write definitions of this file")
+        sys.exit(f"{file.path}: '{why[:60]}' names {', '.join(gone) or 'nothing'}: write definitions of this file")
     return names
 
 
 def whys_of(file, definitions):
     """Each `Why: ` of a file that names one of these definitions."""
-    here = {one.key[2] for one in definitions}
-    return [why for why in file.whys if names_in(file, why) & here]
+    here = {one.key.name for one in definitions}
+    return [why for why in about(file)[1:] if names_in(file, why) & here]
 
 
 def part(files, definitions):
@@ -236,12 +153,11 @@ def part(files, definitions):
     for crate, modules in by_file(definitions):
         out += ["", f"### `{crate}`"]
         for module, inside in modules.items():
-            about = f"**`{module}`**: {files[crate, module].about}"
-            out += ["", *textwrap.wrap(about, 118, break_long_words=False, break_on_hyphens=False), ""]
-            for why in whys_of(files[crate, module], inside):
-                out += [*textwrap.wrap(why, 118, break_long_words=False, break_on_hyphens=False), ""]
+            file = files[crate, module]
+            for text in ["", f"**`{module}`**: {about(file)[0]}", *whys_of(file, inside)]:
+                out += [*textwrap.wrap(text, 118, break_long_words=False, break_on_hyphens=False), ""]
             out += ["| Definition | What it says |", "|---|---|"]
-            out += [f"| `{one.key[2]}` | {cell(one.comment)} |" for one in inside]
+            out += [f"| `{one.key.name}` | {cell(' '.join(one.comment))} |" for one in inside]
     return "\n".join(out) + "\n"
 
 
@@ -278,23 +194,19 @@ def read_lists(top):
         items = declared.code_items(top, CRATES, named)
         of_call = [call, *(it for it in items if (it.crate, it.file, it.name) in named or is_named(it, words))]
     rest = others(files, reached)
-    of_rest = [it for one in rest for it in rests_on(files, files[one.key[:2]], one) if isinstance(it, tuple)]
+    of_rest = [it for one in rest for it in rests_on(files, one) if isinstance(it, tuple)]
     every = declared.code_items(top, CRATES, named | declared.named_in(of_rest))
     return Lists(files, reached, rest, of_call, [it for it in every if it not in of_call])
 
 
 def counts_of_code(items):
     """How many items of each kind there are, and their lines, in words."""
-    lines = Counter()
-    for one in items:
-        lines[one.kind] += one.lines
-    counts = Counter(one.kind for one in items)
     shown = []
     for kind in declared.KINDS:
-        if counts[kind]:
-            many = kind if kind == "members" or counts[kind] == 1 else f"{kind}s"
-            unit = "line" if lines[kind] == 1 else "lines"
-            shown.append(f"{counts[kind]} {many}, {lines[kind]} {unit}")
+        lines = [one.lines for one in items if one.kind == kind]
+        if lines:
+            many = kind if kind == "members" or len(lines) == 1 else f"{kind}s"
+            shown.append(f"{len(lines)} {many}, {sum(lines)} {'line' if sum(lines) == 1 else 'lines'}")
     return "; ".join(shown)
 
 
@@ -339,12 +251,11 @@ def lines_to_believe(lists):
 
 def check_readme(readme, lists):
     """Whether README.md gives the number of lines that have to be believed."""
-    found, lines = README_NUMBER.search(readme), f"{lines_to_believe(lists):,}"
-    if not found or found.group(1) != lines:
-        print(
-            f"README.md says {found.group(1) if found else 'nothing'}, where '{lines} lines of [definitions]' is right"
-        )
-    return bool(found) and found.group(1) == lines
+    found, right = README_NUMBER.search(readme), f"{lines_to_believe(lists):,}"
+    said = found.group(1) if found else "nothing"
+    if said != right:
+        print(f"README.md says {said}, where '{right} lines of [definitions]' is right")
+    return said == right
 
 
 def print_counts(lists):

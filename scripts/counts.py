@@ -14,10 +14,10 @@ import re
 import subprocess
 import sys
 
+import antt
 import compare_symbols
 import pages
 import sources
-import unused
 
 FILE = "scripts/counts.txt"
 HEAD = "# What the gate looks at. `scripts/counts.py --write` makes this file anew; the gate compares each line.\n"
@@ -47,7 +47,7 @@ def count_tests(top, folder):
     return int(ran.stdout.split()[-1])
 
 
-def counts_of_crate(top, tree, crate):
+def counts_of_crate(top, crate):
     """The names and numbers of a crate: its tests, edits, worked values and stored run."""
     folder = os.path.join(top, "crates", crate)
     code = [sources.blanked(sources.read(path)) for path in sources.files_below(f"{folder}/src", ".rt")]
@@ -58,17 +58,17 @@ def counts_of_crate(top, tree, crate):
         if strange:
             sys.exit(f"crates/{crate}/{name} has {', '.join(strange)}, which no script reads")
         yield f"{what} of {crate}", len(files)
-    proofs = [file for file in tree.antt if (file.crate, file.part) == (crate, "proofs")]
+    proofs = antt.files_of(top, crate, "proofs")
     yield f"worked values of {crate}", sum(one.is_worked() for file in proofs for one in file.definitions)
     yield f"stored runs of {crate}", len(glob.glob(f"{folder}/stdout"))
 
 
 def counts_of_text(top):
     """The names and numbers that the text of the repository gives."""
-    crates, tree = sources.crates_of(top), unused.read_tree(top)
+    crates = sources.crates_of(top)
     yield "crates", len(crates)
     for crate in crates:
-        yield from ((name, number) for name, number in counts_of_crate(top, tree, crate) if number)
+        yield from ((name, number) for name, number in counts_of_crate(top, crate) if number)
     for folder in TESTS:
         yield folder, count_tests(top, folder)
     texts = pages.pages_of(top)

@@ -5,15 +5,11 @@ Run by `python3 -m unittest discover -s scripts/tests`. No kit, no third-party t
 
 import os
 import shutil
-import subprocess
 import sys
-import tempfile
 import unittest
 
-from test_scripts import TOP, InFolder, read, write
+from support import TOP, InCopy, InFolder, read, run_command, write
 
-PARTS = (".ci", "completions", "crates", "docs", "man", "scripts", "tools")
-FILES = ("README.md", "CHANGELOG.md", "crates.txt")
 SKIPPED = """import unittest
 class One(unittest.TestCase):
     def test_one(self):
@@ -23,53 +19,15 @@ class One(unittest.TestCase):
 """
 
 
-class TakenAway(unittest.TestCase):
+class TakenAway(InCopy):
     """Each test takes something away, and a step that runs before the proofs fails for it."""
 
-    @classmethod
-    def setUpClass(cls):
-        """A copy of the repository whose numbers are right."""
-        cls.folder = tempfile.mkdtemp(prefix="test-gate-")
-        cls.addClassCleanup(shutil.rmtree, cls.folder)
-        left_out = shutil.ignore_patterns("out", "__pycache__")
-        for name in PARTS:
-            shutil.copytree(os.path.join(TOP, name), os.path.join(cls.folder, name), ignore=left_out)
-        for name in FILES:
-            shutil.copy(os.path.join(TOP, name), cls.folder)
-
-    def path(self, *names):
-        return os.path.join(self.folder, *names)
-
-    def move(self, old, new):
-        """Renames a file or folder until the end of this test."""
-        os.rename(self.path(old), self.path(new))
-        self.addCleanup(os.rename, self.path(new), self.path(old))
-
-    def replace(self, file, text):
-        """Writes a file until the end of this test."""
-        if os.path.exists(self.path(file)):
-            self.addCleanup(write, self.path(file), read(self.path(file)))
-        else:
-            self.addCleanup(os.remove, self.path(file))
-        write(self.path(file), text)
-
     def gate(self, *steps, **environment):
-        command = [sys.executable, self.path("scripts", "gate.py"), *steps]
-        how = {"stdin": subprocess.DEVNULL, "stdout": subprocess.PIPE, "stderr": subprocess.STDOUT, "text": True}
-        ran = subprocess.run(command, env={**os.environ, **environment}, **how)
-        return ran.returncode, ran.stdout
+        return run_command([sys.executable, self.path("scripts", "gate.py"), *steps], **environment)
 
     def assert_fails(self, step, said, **environment):
         status, text = self.gate(step, **environment)
         self.assertEqual((status, f"FAILED: {step}" in text, said in text), (1, True, True), text)
-
-    def assert_change_fails(self, file, old, new, step, said):
-        with self.subTest(file=file, new=new):
-            text = read(self.path(file))
-            self.assertIn(old, text)
-            self.replace(file, text.replace(old, new, 1))
-            self.assert_fails(step, said)
-            self.doCleanups()
 
     def test_all_is_there(self):
         status, said = self.gate("counts.py", "pages.py")
@@ -109,7 +67,7 @@ class TakenAway(unittest.TestCase):
     def test_what_is_written_otherwise(self):
         """A part of a file that is replaced, once."""
         tests, labels, end = "scripts/tests/test_gate.py", "scripts/compare_symbols.py", "\n## "
-        for file, old, new, step, said in (
+        changes = (
             (tests, "def " "test_all_is_there(", "def all_is_there(", "counts.py", "scripts/tests: "),
             ("crates.txt", "gf256:", "# gf256:", "unused.py", "differ in: gf256"),
             ("crates.txt", "gf256:", "# gf256:", "counts.py", "differ in: gf256"),
@@ -121,13 +79,13 @@ class TakenAway(unittest.TestCase):
             ("docs/INPUT.md", end, f"\n```\nlabels\n```\n{end}", "pages.py", "no script reads blocks of no language"),
             ("docs/RECIPES.md", "```sh\n", "```text\n", "counts.py", "blocks of sh: "),
             (labels, "[label for part", "[] and [label for part", "counts.py", "compare: 0, and "),
-        ):
-            self.assert_change_fails(file, old, new, step, said)
+        )
+        self.assert_changes_fail(changes, self.gate)
 
     def test_pages_and_code(self):
         """Code that a page quotes is in the file that it names, and each term of the glossary in its file."""
         row = "| device | a source or a sink | own | `device` | `crates.txt` |\n"
-        for file, old, new, said in (
+        changes = (
             ("docs/PROOF.md", "ensures whole {", "ensures half {", "this code is in no file"),
             ("docs/PROOF.md", "src/streams.rt", "src/stream.rt", "this code is in no file"),
             ("docs/GLOSSARY.md", row, row.replace("`device`", "`devic`"), "device: no `devic` in crates.txt"),
@@ -135,8 +93,8 @@ class TakenAway(unittest.TestCase):
             ("docs/GLOSSARY.md", row, row.replace("own", ""), "a row without the 5 cells"),
             ("docs/GLOSSARY.md", row, row + row, "device: also in line"),
             ("docs/GLOSSARY.md", "| Term | Meaning |", "| Term | Sense |", "no term"),
-        ):
-            self.assert_change_fails(file, old, new, "pages.py", said)
+        )
+        self.assert_changes_fail(changes, lambda: self.gate("pages.py"))
 
     def test_tests_that_are_not_found(self):
         self.move("tools/tests", "tools/tests-away")
@@ -160,10 +118,9 @@ class TakenAway(unittest.TestCase):
         self.replace("scripts/compare_symbols.py", text.replace("return [label for", "return [] and [label for"))
         for tool in ("zbarimg", "pnmpad", "pnmtopng", "zint", "labels"):
             write(self.path("bin", tool), "#!/bin/sh\n", is_program=True)
-        environment = {**os.environ, "PATH": f"{self.path('bin')}:{os.environ['PATH']}"}
         command = [sys.executable, self.path("scripts/compare_symbols.py"), self.path("bin/labels")]
-        ran = subprocess.run(command, env=environment, capture_output=True)
-        self.assertEqual((ran.returncode, ran.stdout), (1, b"0 labels: 0 read back, 0 of 0 as zint draws them\n"))
+        found = run_command(command, PATH=f"{self.path('bin')}:{os.environ['PATH']}")
+        self.assertEqual(found, (1, "0 labels: 0 read back, 0 of 0 as zint draws them\n"))
 
     def test_step_that_looked_at_less(self):
         script = "scripts/refuse_each_growth.sh"
@@ -206,17 +163,16 @@ class Run(InFolder):
         write(self.path("scripts", name), STUB.format(name=name, last=last, status=status))
 
     def run_gate(self, **environment):
-        inherited = {name: value for name, value in os.environ.items() if name != "CI"}
-        environment = {**inherited, "PATH": f"{self.path('bin')}:{os.environ['PATH']}", **environment}
-        how = {"env": environment, "stdout": subprocess.PIPE, "stderr": subprocess.STDOUT, "text": True}
-        ran = subprocess.run(["bash", self.path(".ci", "run")], cwd="/", **how)
-        return ran.returncode, ran.stdout.rstrip("\n").split("\n")
+        environment = {"CI": "", "PATH": f"{self.path('bin')}:{os.environ['PATH']}", **environment}
+        status, said = run_command(["bash", self.path(".ci", "run")], **environment)
+        return status, said.rstrip("\n").split("\n")
 
     def test_all_passes(self):
         status, lines = self.run_gate()
         parts = [line for line in lines if line.endswith(" ran")]
         wanted = ["gate.py quick ran", "rt ci ran", "wrong_bodies.py --built ran", "gate.py built ran"]
         self.assertEqual((status, lines[-1], parts), (0, "15 passed, 0 failed", wanted))
+        self.assertRegex(lines[-2], r"^\d+\.\d processor minutes$")
 
     def test_missing_package(self):
         """Elsewhere than in a gate that may install it the run ends at once, with the command to type."""
@@ -236,17 +192,14 @@ class Run(InFolder):
 
     def test_no_kit(self):
         os.remove(self.path("bin", "rt"))
-        system = self.bare_path()
-        for tool in ("grep", "sed", "tee", "tail"):
-            if not os.path.exists(os.path.join(system, tool)):
-                os.symlink(shutil.which(tool), os.path.join(system, tool))
-        status, lines = self.run_gate(PATH=system)
+        status, lines = self.run_gate(PATH=f"{self.path('bin')}:{self.bare_path()}")
         self.assertEqual((status, lines), (1, ["rt, the command of the Rattle kit, is not on the path"]))
 
     def test_what_takes_seconds_is_reported_first(self):
         self.part("gate.py", "4 passed, 1 failed", 1)
         status, lines = self.run_gate()
-        self.assertEqual((status, lines), (1, ["gate.py quick ran", "4 passed, 1 failed", "4 passed, 1 failed"]))
+        self.assertEqual((status, lines[0], lines[-1]), (1, "gate.py quick ran", "4 passed, 1 failed"))
+        self.assertNotIn("rt ci ran", lines)
 
     def test_parts_that_fail(self):
         """The status is that of the proofs where these fail, else 1; what comes after the proofs runs all the same."""
@@ -257,7 +210,7 @@ class Run(InFolder):
         for last, wanted in (("1 passed, 1 failed", "14 passed, 1 failed"), ("Traceback", "13 passed, 1 failed")):
             self.part("wrong_bodies.py", last, 1)
             status, lines = self.run_gate()
-            self.assertEqual((status, lines[-3], lines[-1]), (1, "gate.py built ran", wanted))
+            self.assertEqual((status, lines[-4], lines[-1]), (1, "gate.py built ran", wanted))
 
 
 class Packages(unittest.TestCase):
@@ -272,7 +225,7 @@ class Packages(unittest.TestCase):
     def test_each_script_is_a_step_or_is_called(self):
         """No script is in the folder that the gate does not run, but those that its list names."""
         gate = read(os.path.join(TOP, "scripts/gate.py")) + read(os.path.join(TOP, ".ci/run"))
-        beside = {"declared.py", "sources.py", "install.sh", "package.sh", "fresh_root.sh"}
+        beside = {"antt.py", "declared.py", "sources.py", "install.sh", "package.sh", "fresh_root.sh"}
         names = {name for name in os.listdir(os.path.join(TOP, "scripts")) if name.endswith((".py", ".sh"))}
         self.assertEqual(sorted(name for name in names - beside if name not in gate), [])
 

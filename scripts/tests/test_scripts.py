@@ -5,61 +5,15 @@ where a script calls one, a stand-in of a few lines is put on the path.
 """
 
 import importlib
-import os
 import re
 import shutil
-import stat
-import subprocess
 import sys
-import tempfile
 import unittest
 
-TOP = os.path.dirname(os.path.dirname(os.path.dirname(os.path.abspath(__file__))))
-SCRIPTS = os.path.join(TOP, "scripts")
+from support import SCRIPTS, InFolder, run, write
+
 sys.path.insert(0, SCRIPTS)
 sources = importlib.import_module("sources")
-# What the shell scripts call of every system.
-OF_THE_SYSTEM = "bash env dirname realpath mktemp rm sed awk cat grep head cut true".split()
-
-
-def run(script, *arguments, **environment):
-    """A script's status and all that it prints."""
-    path = os.path.join(SCRIPTS, script)
-    command = [sys.executable, path] if script.endswith(".py") else [shutil.which("bash"), path]
-    how = {"stdin": subprocess.DEVNULL, "stdout": subprocess.PIPE, "stderr": subprocess.STDOUT, "text": True}
-    ran = subprocess.run([*command, *arguments], env={**os.environ, **environment}, **how)
-    return ran.returncode, ran.stdout
-
-
-def read(path):
-    with open(path, encoding="utf-8") as file:
-        return file.read()
-
-
-def write(path, text, is_program=False):
-    os.makedirs(os.path.dirname(path), exist_ok=True)
-    with open(path, "w", encoding="utf-8") as file:
-        file.write(text)
-    if is_program:
-        os.chmod(path, os.stat(path).st_mode | stat.S_IXUSR)
-
-
-class InFolder(unittest.TestCase):
-    """A test with a folder of its own."""
-
-    def setUp(self):
-        self.folder = tempfile.mkdtemp(prefix="test-scripts-")
-        self.addCleanup(shutil.rmtree, self.folder)
-
-    def path(self, *names):
-        return os.path.join(self.folder, *names)
-
-    def bare_path(self):
-        """A folder for PATH with what every system has, and no third-party tool."""
-        for tool in OF_THE_SYSTEM:
-            os.makedirs(self.path("bin"), exist_ok=True)
-            os.symlink(shutil.which(tool), self.path("bin", tool))
-        return self.path("bin")
 
 
 class Arguments(InFolder):
@@ -171,7 +125,7 @@ class Instructions(InFolder):
         self.program = self.path("labels")
         write(self.program, "#!/bin/sh\necho drawn\n", is_program=True)
         self.environment = {"PATH": self.bare_path()}
-        write(self.path("bin", "valgrind"), VALGRIND, is_program=True)
+        write(self.path("bare", "valgrind"), VALGRIND, is_program=True)
         write(self.path("table.md"), self.table or self.make_table())
 
     def make_table(self):
@@ -287,8 +241,8 @@ six = refl
 NEVER_USED = "\n-- never used\npub never : ℕ → ℕ\nnever n = n\n"
 
 
-class SmallTree(InFolder):
-    """A repository of one crate, in which all is used."""
+class Unused(InFolder):
+    """What is planted in a repository of one crate and used by nothing is found; what is used is not."""
 
     def setUp(self):
         super().setUp()
@@ -304,10 +258,6 @@ class SmallTree(InFolder):
 
     def plant(self, file, text):
         write(self.path("crates", "small", file), text)
-
-
-class Unused(SmallTree):
-    """What is planted and used by nothing is found; what is used is not."""
 
     def found(self):
         status, said = run("unused.py", "--top", self.folder)

@@ -1,0 +1,102 @@
+"""What the tests of the scripts share: runs of a script, a folder of its own, a copy of the repository."""
+
+import os
+import shutil
+import stat
+import subprocess
+import sys
+import tempfile
+import unittest
+
+TOP = os.path.dirname(os.path.dirname(os.path.dirname(os.path.abspath(__file__))))
+SCRIPTS = os.path.join(TOP, "scripts")
+# What the shell scripts call of every system.
+OF_THE_SYSTEM = "bash env dirname realpath mktemp rm sed awk cat grep head cut true tee tail".split()
+# What a copy of the repository has.
+FOLDERS = (".ci", "completions", "crates", "docs", "man", "scripts", "tools")
+FILES = ("README.md", "CHANGELOG.md", "crates.txt")
+
+
+def run_command(command, **environment):
+    """A command's status and all that it prints."""
+    how = {"stdin": subprocess.DEVNULL, "stdout": subprocess.PIPE, "stderr": subprocess.STDOUT, "text": True}
+    ran = subprocess.run(command, cwd="/", env={**os.environ, **environment}, **how)
+    return ran.returncode, ran.stdout
+
+
+def run(script, *arguments, **environment):
+    """The status of a script of scripts/ and all that it prints."""
+    interpreter = sys.executable if script.endswith(".py") else shutil.which("bash")
+    return run_command([interpreter, os.path.join(SCRIPTS, script), *arguments], **environment)
+
+
+def read(path):
+    with open(path, encoding="utf-8") as file:
+        return file.read()
+
+
+def write(path, text, is_program=False):
+    os.makedirs(os.path.dirname(path), exist_ok=True)
+    with open(path, "w", encoding="utf-8") as file:
+        file.write(text)
+    if is_program:
+        os.chmod(path, os.stat(path).st_mode | stat.S_IXUSR)
+
+
+class InFolder(unittest.TestCase):
+    """A test with a folder of its own."""
+
+    def setUp(self):
+        self.folder = tempfile.mkdtemp(prefix="test-scripts-")
+        self.addCleanup(shutil.rmtree, self.folder)
+
+    def path(self, *names):
+        return os.path.join(self.folder, *names)
+
+    def bare_path(self):
+        """A folder for PATH with what every system has, and no third-party tool."""
+        os.makedirs(self.path("bare"))
+        for tool in OF_THE_SYSTEM:
+            os.symlink(shutil.which(tool), self.path("bare", tool))
+        return self.path("bare")
+
+
+class InCopy(unittest.TestCase):
+    """Tests in a copy of the repository, in which each undoes its changes."""
+
+    @classmethod
+    def setUpClass(cls):
+        cls.folder = tempfile.mkdtemp(prefix="test-copy-")
+        cls.addClassCleanup(shutil.rmtree, cls.folder)
+        for name in FOLDERS:
+            left_out = shutil.ignore_patterns("out", "__pycache__")
+            shutil.copytree(os.path.join(TOP, name), os.path.join(cls.folder, name), ignore=left_out)
+        for name in FILES:
+            shutil.copy(os.path.join(TOP, name), cls.folder)
+
+    def path(self, *names):
+        return os.path.join(self.folder, *names)
+
+    def move(self, old, new):
+        """Renames a file or folder until the end of this test."""
+        os.rename(self.path(old), self.path(new))
+        self.addCleanup(os.rename, self.path(new), self.path(old))
+
+    def replace(self, file, text):
+        """Writes a file until the end of this test."""
+        if os.path.exists(self.path(file)):
+            self.addCleanup(write, self.path(file), read(self.path(file)))
+        else:
+            self.addCleanup(os.remove, self.path(file))
+        write(self.path(file), text)
+
+    def assert_changes_fail(self, changes, fails):
+        """Each change of a file, `new` in the place of the first `old`, makes `fails` end with 1 and say a text."""
+        for file, old, new, *step, said in changes:
+            with self.subTest(file=file, old=old, new=new):
+                text = read(self.path(file))
+                self.assertIn(old, text)
+                self.replace(file, text.replace(old, new, 1))
+                status, printed = fails(*step)
+                self.assertEqual((status, said in printed), (1, True), printed)
+                self.doCleanups()
