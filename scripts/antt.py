@@ -66,7 +66,7 @@ class File:
         # The comment and the lines that belong to the definition after them.
         self.comment, self.before = [], []
         self.full = sources.read(path)
-        blank = OPAQUE.sub(lambda match: " " * len(match.group()), self.full)
+        blank = OPAQUE.sub(lambda match: re.sub(r"[^\n]", " ", match.group()), self.full)
         self.take(zip(self.full.split("\n"), blank.split("\n")))
 
     def take(self, lines):

@@ -1,7 +1,7 @@
 #!/usr/bin/env python3
 """Counts what the gate looks at, and compares it with scripts/counts.txt.
 
-A test, a wrong body or a list of labels that is gone makes nothing fail. So each number stands in that file, and a
+A test, a wrong body or a list of labels that is gone makes nothing fail. So each number is in that file, and a
 change of it is a line of the diff. With no option it compares the numbers that the text of the repository gives: the
 status is 1 where one differs, a line for each. --write makes the file anew; for the last lines of the steps in COUNTED
 it runs these, most of which need the proved program, crates/labels/out/labels.
