@@ -92,14 +92,14 @@ class File:
                 self.before.append(line)
             else:
                 head = HEAD.match(line.strip()) if column == levels[-1] else None
-                if head and head.group(2) not in NO_HEADS and self.begins(head, line, current):
+                if head and head.group(2) not in NO_HEADS and self.begins(head, current):
                     current = self.define(head, number)
                 (current.lines if current else self.rest).append(line)
                 self.take_constructor(current, line)
 
-    def begins(self, head, line, current):
+    def begins(self, head, current):
         """Whether a line that begins with a name begins a definition, and is no further line of the one before."""
-        is_stated = bool(head.group(1)) or re.match(rf"\s*{re.escape(head.group(2))}\s*(:|$|[({{].*:)", line)
+        is_stated = head.group(1) or re.match(r"\s*(:|$|[({].*:)", head.string[head.end() :])
         return bool(is_stated) and not (current and current.key.name == head.group(2))
 
     def define(self, head, number):

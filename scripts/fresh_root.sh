@@ -7,7 +7,8 @@
 # package: installs DEB, draws a label, makes a sheet of `Avery L7160` and a ZPL label from an .xlsx table, reads the
 # manuals, completes in three shells, removes the package, and sees that no path of it is left.
 # gate: a user without the packages is shown the command to type, and a clone of what is committed passes `.ci/run` as
-# root with CI=true, with the kit of this machine beside it, and without what that keeps of earlier proofs.
+# root with CI=true, with the kit of this machine beside it, and without what that keeps of earlier proofs. All that the
+# gate prints is printed, its processor minutes too.
 # --without-proofs runs all but the proofs, over the program crates/labels/out/labels of this clone.
 #
 # MIRROR names the mirror (http://deb.debian.org/debian). The last line is `N passed, M failed`.

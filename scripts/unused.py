@@ -16,6 +16,7 @@ It reads text. Where two things have one name it may miss one that is unused. Th
 a line for each; the last line says how much it looked at.
 """
 
+import functools
 import os
 import re
 import sys
@@ -59,10 +60,12 @@ def line_of(text, start):
     return text[:start].count("\n") + 1
 
 
+@functools.lru_cache(maxsize=None)
 def without_uses(text):
     return RUST_USE.sub(" ", sources.blanked(text))
 
 
+@functools.lru_cache(maxsize=None)
 def ghost_text(text):
     """Of code: contracts, ghost items and attributes."""
     blank, found = without_uses(text), []
