@@ -12,7 +12,7 @@ NAME = r"[^\W\d][\w'⁻¹]*(?:-[\w'⁻¹]+)*"
 PATH = re.compile(rf"{NAME}(?:\.(?:{NAME}|\d+))*")
 OPAQUE = re.compile(r'--[^\n]*|"(?:\\.|[^"\\])*"')
 OPERATOR = r"[^\s:(){}]*◌[^\s:(){}]*"
-HEAD = re.compile(rf"^((?:(?:abbrev|unfoldable|pub|record|data)\s+)*)({OPERATOR}|{NAME})(?=[\s:({{]|$)")
+HEAD = re.compile(rf"^((?:(?:abbrev|unfoldable|pub|record|data|ruleset)\s+)*)({OPERATOR}|{NAME})(?=[\s:({{]|$)")
 CONSTRUCTOR = re.compile(rf"^\s+({NAME})\s*:")
 USE = re.compile(r"^\s*use\s+(.*?)\s*$")
 FIXITY = re.compile(r"\s*infix[lr]?\s")

@@ -28,7 +28,8 @@ use Rattle.labelcore.specs.declared.symbology.Symbology.TheVariants.{Ean13, Ean8
 use Rattle.picture.specs.declared.quiet_zone.QuietZone.{QuietZone}
 use Rattle.filter.specs.declared.status.Status.TheVariants.{Clean, Refused}
 use Rattle.filter.specs.Symbol.{Symbol, symbol_of, quiet_zone}
-use Rattle.filter.specs.Output.{Images, Messages, drawn_symbols, events_after, line_number, outcome, sent, status_of}
+use Rattle.filter.specs.Output.{Images, Messages, drawn_symbols, ended_script, events_after, line_number, outcome}
+use Rattle.filter.specs.Output.{script, sent, status_of}
 use Rattle.filter.specs.Readback.{read_image, read_modules}
 
 abbrev settings : OptionValues
@@ -86,6 +87,17 @@ second_message : sent settings Messages (events_after settings 9 (codes "#" ∷ 
     ≡ codes "line 11: unknown symbology\n"
 unfolding events_after outcome symbol_of request head_read symbology_named line_limit digits
 second_message = refl
+
+-- the first line of a text is line 1; a last line without an end is in the script alone
+unended : List ℕ
+unended = codes "pdf x\n#\nqr"
+
+numbers_in_a_script : (sent settings Messages (script settings unended)
+    ≡ codes "line 1: unknown symbology\nline 3: no data\n")
+    × (sent settings Messages (ended_script settings unended) ≡ codes "line 1: unknown symbology\n")
+unfolding unended events_after outcome symbol_of request head_read symbology_named line_limit digits lines ended_lines
+    open_line
+numbers_in_a_script = (refl, refl)
 
 -- the status is `Refused` where a line is refused, and else `Clean`
 statuses : map (λ lines. status_of (events_after settings 0 lines)) ([] ∷ (codes "#" ∷ []) ∷ (codes "pdf x" ∷ []) ∷ (codes "#" ∷ codes "pdf x" ∷ [])

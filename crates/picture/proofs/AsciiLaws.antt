@@ -15,6 +15,7 @@ use Rattle.picture.specs.Text.{below, ascii_pixel, ascii_row, ascii_text, pixel_
 use Rattle.picture.specs.Reading.{raster, line_pixels, lines_pixels, ascii_pixels, ascii_files}
 use Rattle.picture.proofs.LineLaws.{is_line_feed, has_no_line_feed, lines-line, lines-nil}
 use Rattle.picture.proofs.CutLaws.{whole_lines, cut_after, cut_after-at, cut_after-part}
+use Rattle.picture.proofs.WritingLaws.{line_regrouped}
 
 -- the letters of a row
 abbrev pub letters : Picture → ℕ → List ℕ
@@ -31,15 +32,11 @@ letters_no_line_feed p y (x ∷ xs) =
     list_all-append (λ b. not (is_line_feed b)) (ascii_pixel (p.dark x y)) (flat_map (λ x. ascii_pixel (p.dark x y)) xs)
     ∙ rw (pixel_no_line_feed (p.dark x y), letters_no_line_feed p y xs) refl
 
--- a row, and what follows it
-row_regrouped : (l rest end : List ℕ) → ((l ++ 10 ∷ []) ++ rest) ++ end ≡ l ++ 10 ∷ (rest ++ end)
-row_regrouped l rest end = simp append_assoc
-
 rows_as_lines : (p : Picture) (ys : List ℕ) → lines (flat_map (ascii_row p) ys ++ 10 ∷ [])
     ≡ map (letters p) ys ++ [] ∷ []
 rows_as_lines p [] = lines-line [] [] refl ∙ ap (λ (ls : List (List ℕ)). [] ∷ ls) lines-nil
 rows_as_lines p (y ∷ ys) =
-    ap lines (row_regrouped (letters p y) (flat_map (ascii_row p) ys) (10 ∷ []))
+    ap lines (line_regrouped (letters p y) (flat_map (ascii_row p) ys) (10 ∷ []))
     ∙ (lines-line (letters p y) (flat_map (ascii_row p) ys ++ 10 ∷ []) (letters_no_line_feed p y (below p.width))
     ∙ ap (λ (ls : List (List ℕ)). letters p y ∷ ls) (rows_as_lines p ys))
 
@@ -104,7 +101,7 @@ whole_rows : (p : Picture) (ys : List ℕ) (more : List ℕ)
     ≡ (map (ascii_row p) ys ++ (10 ∷ []) ∷ []) ++ whole_lines more
 whole_rows p [] more = cut_after-at is_line_feed [] 10 more refl
 whole_rows p (y ∷ ys) more =
-    ap whole_lines (ap (λ (t : List ℕ). t ++ more) (row_regrouped (letters p y) (flat_map (ascii_row p) ys) (10 ∷ []))
+    ap whole_lines (ap (λ (t : List ℕ). t ++ more) (line_regrouped (letters p y) (flat_map (ascii_row p) ys) (10 ∷ []))
     ∙ append_assoc (letters p y) (10 ∷ (flat_map (ascii_row p) ys ++ 10 ∷ [])) more)
     ∙ (whole_row p y ((flat_map (ascii_row p) ys ++ 10 ∷ []) ++ more)
     ∙ ap (λ (ls : List (List ℕ)). ascii_row p y ∷ ls) (whole_rows p ys more))

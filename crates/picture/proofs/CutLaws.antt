@@ -1,23 +1,22 @@
 -- Streams of files, cut again.
-use Rattle.std.proofs.Common.{◌≡◌, ℕ, suc, zero, ◌+◌, ◌-◌, ◌%◌, ◌^◌, ◌<◌, Bool, true, false, not, ◌||◌, ◌==◌, ◌⊎◌, inl}
+use Rattle.std.proofs.Common.{◌≡◌, ℕ, ◌^◌, ◌<◌, Bool, true, false, not, ◌||◌, ◌==◌, ◌⊎◌, inl}
 use Rattle.std.proofs.Common.{inr, List, [], ◌∷◌, ◌++◌, map, refl, ap, sym, subst, ◌∙◌, arith, flat_map, decimal}
 use Rattle.std.proofs.Common.{append_assoc, if◌then◌else◌, codes}
 use Rattle.std.specs.Str.{bytes_eq}
 use Rattle.device.specs.Lines.{LF}
-use Rattle.std.specs.List.{list_all, onto_first, concat, range_with_len, AllByRecursion}
+use Rattle.std.specs.List.{list_all, onto_first, concat, AllByRecursion}
 use Rattle.std.specs.Str.Parse.{AllDigits}
 use Rattle.std.proofs.lemmas.List.{append-nil}
 use Rattle.std.proofs.lemmas.List.Folds.{list_all-append}
-use Rattle.std.proofs.lemmas.Bool.{and_parts, not-true, eq-eqb, or_right, ne_eqb}
+use Rattle.std.proofs.lemmas.Bool.{and_parts, not-true, ne_eqb}
 use Rattle.std.proofs.lemmas.Fmt.{decimal_is_IsNumeral}
 use Rattle.std.proofs.lemmas.Str.Parse.{digit_from_value}
 use Rattle.std.proofs.lemmas.List.Elements.{recursion_from_All}
 use Rattle.picture.specs.Picture.{Picture}
 use Rattle.picture.specs.ReadingLaws.{IsDrawable, FilesAreTexts}
-use Rattle.picture.specs.Text.{below, pbm_digit, pbm_header, pbm_text}
-use Rattle.picture.proofs.ColumnLaws.{pbm_line_end, pbm_pixel, pbm_columns, columns_text, texts_by_columns}
-use Rattle.picture.proofs.ColumnLaws.{map_by_columns}
+use Rattle.picture.specs.Text.{below, pbm_digit, pbm_header, pbm_row, pbm_text}
 use Rattle.picture.proofs.LineLaws.{is_line_feed}
+use Rattle.picture.proofs.WritingLaws.{rows_hold}
 use Rattle.picture.specs.Reading.{cut_between, pbm_files}
 
 -- parts with an element before them: it is a part of its own, or the front of the first
@@ -124,9 +123,6 @@ concat-cut_after ends (x ∷ xs) = ap concat (cut_after-cons ends x xs) ∙ conc
 abbrev pub IsWhole : List ℕ → Type 0
 IsWhole text = (front : List ℕ) × (text ≡ front ++ 10 ∷ [])
 
-whole_after : (s t : List ℕ) → IsWhole t → IsWhole (s ++ t)
-whole_after s t h = (s ++ h.0, ap (λ (xs : List ℕ). s ++ xs) h.1 ∙ sym (append_assoc s h.0 (10 ∷ [])))
-
 pub whole_lines-append : (s t : List ℕ) → IsWhole s → whole_lines (s ++ t) ≡ whole_lines s ++ whole_lines t
 whole_lines-append s t h =
     ap (λ (xs : List ℕ). whole_lines (xs ++ t)) h.1
@@ -184,84 +180,55 @@ first_cut text more h (inr m) =
     ∙ ap (λ (files : List (List (List ℕ))). files ++ cut_before is_magic ((80 ∷ 49 ∷ 10 ∷ []) ∷ whole_lines m.0))
     (text_lines text h))
 
-digit_no_P : (dark : Bool) (text : List ℕ) → has_no_P text ≡ true → has_no_P (pbm_digit dark ∷ text) ≡ true
-digit_no_P true text none = none
-digit_no_P false text none = none
-
-end_no_P : (ends : Bool) → has_no_P (if ends then 10 ∷ [] else []) ≡ true
-end_no_P true = refl
-end_no_P false = refl
-
-pixels_no_P : (p : Picture) (y : ℕ) (xs : List ℕ) → has_no_P (flat_map (pbm_pixel p y) xs) ≡ true
-pixels_no_P p y [] = refl
-pixels_no_P p y (x ∷ xs) =
-    digit_no_P (p.dark x y) (pbm_line_end p.width x ++ flat_map (pbm_pixel p y) xs)
-    (list_all-append (λ b. not (b == 80)) (pbm_line_end p.width x) (flat_map (pbm_pixel p y) xs)
-    ∙ rw (end_no_P ((x + 1) % 70 == 0 || x + 1 == p.width), pixels_no_P p y xs) refl)
-
-rows_no_P : (p : Picture) (ys : List ℕ) → has_no_P (flat_map (pbm_columns p) ys) ≡ true
-rows_no_P p [] = refl
-rows_no_P p (y ∷ ys) = list_all-append (λ b. not (b == 80)) (pbm_columns p y) (flat_map (pbm_columns p) ys)
-    ∙ rw (pixels_no_P p y (below p.width), rows_no_P p ys) refl
+pixels_no_P : (line : List Bool) (rest : List ℕ) → has_no_P rest ≡ true
+    → has_no_P (map pbm_digit line ++ 10 ∷ rest) ≡ true
+pixels_no_P [] rest none = none
+pixels_no_P (true ∷ line) rest none = pixels_no_P line rest none
+pixels_no_P (false ∷ line) rest none = pixels_no_P line rest none
 
 digits_no_P : (ds : List ℕ) → AllDigits 10 ds → has_no_P ds ≡ true
 digits_no_P [] all = refl
 digits_no_P (d ∷ ds) all = let range = digit_from_value d all.0 in
     rw (ne_eqb d 80 (λ e. omega arith), digits_no_P ds all.1) refl
 
-pixels_whole : (p : Picture) (y n a : ℕ) → a + suc n ≡ p.width
-    → IsWhole (flat_map (pbm_pixel p y) (range_with_len a (suc n)))
-pixels_whole p y zero a e = (
-  pbm_digit (p.dark a y) ∷ [],
-  rw (or_right ((a + 1) % 70 == 0) (a + 1 == p.width)
-      (eq-eqb (a + 1) p.width (omega arith))) refl,
-)
-pixels_whole p y (suc n) a e = whole_after (pbm_pixel p y a) (flat_map (pbm_pixel p y) (range_with_len (a + 1) (suc n)))
-    (pixels_whole p y n (a + 1) (omega arith))
+-- whole lines, and a line of digits more
+whole_line : (line rest s : List ℕ) → ((s : List ℕ) → IsWhole s → IsWhole (s ++ rest))
+    → IsWhole (s ++ (line ++ 10 ∷ rest))
+whole_line line rest s more =
+    let same : ((s ++ line) ++ 10 ∷ []) ++ rest ≡ s ++ (line ++ 10 ∷ rest) = simp append_assoc in
+    subst IsWhole same (more ((s ++ line) ++ 10 ∷ []) (s ++ line, refl))
 
-row_whole : (p : Picture) (y n : ℕ) → suc n ≡ p.width → IsWhole (pbm_columns p y)
-row_whole p y n e = subst (λ (k : ℕ). IsWhole (flat_map (pbm_pixel p y) (range_with_len 0 k))) e
-    (pixels_whole p y n 0 (omega arith))
-
-whole_rows : (p : Picture) (n : ℕ) (s : List ℕ) (ys : List ℕ) → suc n ≡ p.width → IsWhole s
-    → IsWhole (s ++ flat_map (pbm_columns p) ys)
-whole_rows p n s [] e h = rw (append-nil s) h
-whole_rows p n s (y ∷ ys) e h =
-    subst IsWhole (append_assoc s (pbm_columns p y) (flat_map (pbm_columns p) ys))
-    (whole_rows p n (s ++ pbm_columns p y) ys e (whole_after s (pbm_columns p y) (row_whole p y n e)))
-
-pub IsFile-columns_text : (p : Picture) (n : ℕ) → suc n ≡ p.width → p.width < 2 ^ 64 → p.height < 2 ^ 64
-    → IsFile (columns_text p)
-IsFile-columns_text p n e wide high = record {
-  rest = ((decimal p.width ++ 32 ∷ []) ++ decimal p.height) ++ 10 ∷ [] ++ flat_map (pbm_columns p) (below p.height);
+pub IsFile-pbm_text : (p : Picture) → p.width < 2 ^ 64 → p.height < 2 ^ 64 → IsFile (pbm_text p)
+IsFile-pbm_text p wide high = record {
+  rest = ((decimal p.width ++ 32 ∷ []) ++ decimal p.height) ++ 10 ∷ [] ++ flat_map (pbm_row p) (below p.height);
   begins = refl;
-  whole = whole_rows p n (pbm_header p.width p.height) (below p.height) e
+  whole = rows_hold (λ rest. (s : List ℕ) → IsWhole s → IsWhole (s ++ rest))
+      (λ line rest short more s whole. whole_line (map pbm_digit line) rest s more) p (below p.height)
+      (λ s whole. rw (append-nil s) whole) (pbm_header p.width p.height)
       (80 ∷ 49 ∷ 10 ∷ ((decimal p.width ++ 32 ∷ []) ++ decimal p.height), refl);
   plain = simp (list_all-append (λ b. not (b == 80)))
       (rw (
         digits_no_P (decimal p.width) (decimal_is_IsNumeral p.width wide).0.1,
         digits_no_P (decimal p.height)
             (decimal_is_IsNumeral p.height high).0.1,
-        rows_no_P p (below p.height),
+        rows_hold (λ rest. has_no_P rest ≡ true) (λ line rest short. pixels_no_P line rest) p (below p.height) refl,
       ) refl);
 }
 
-begins_or_ends : (ps : List Picture) → (flat_map columns_text ps ≡ []) ⊎
-    ((rest : List ℕ) × (flat_map columns_text ps ≡ 80 ∷ 49 ∷ 10 ∷ rest))
+begins_or_ends : (ps : List Picture) → (flat_map pbm_text ps ≡ []) ⊎
+    ((rest : List ℕ) × (flat_map pbm_text ps ≡ 80 ∷ 49 ∷ 10 ∷ rest))
 begins_or_ends [] = inl refl
 begins_or_ends (p ∷ ps) = inr (_, refl)
 
 -- a stream of the texts of pictures is cut into these texts
 cut_again : (ps : List Picture) → AllByRecursion IsDrawable ps
-    → pbm_files (flat_map columns_text ps) ≡ map columns_text ps
+    → pbm_files (flat_map pbm_text ps) ≡ map pbm_text ps
 cut_again [] all = refl
 cut_again (p ∷ ps) all =
-    let columns : suc (p.width - 1) ≡ p.width = (let some = all.0.some in omega arith) in
-    let file = IsFile-columns_text p (p.width - 1) columns all.0.wide all.0.high in
-    pbm_files-file (columns_text p) (flat_map columns_text ps) file
-    (first_cut (columns_text p) (flat_map columns_text ps) file (begins_or_ends ps))
-    ∙ ap (λ (xs : List (List ℕ)). columns_text p ∷ xs) (cut_again ps all.1)
+    let file = IsFile-pbm_text p all.0.wide all.0.high in
+    pbm_files-file (pbm_text p) (flat_map pbm_text ps) file
+    (first_cut (pbm_text p) (flat_map pbm_text ps) file (begins_or_ends ps))
+    ∙ ap (λ (xs : List (List ℕ)). pbm_text p ∷ xs) (cut_again ps all.1)
 
 pub pbm_files-flat_map : FilesAreTexts pbm_text pbm_files IsDrawable
-pbm_files-flat_map ps all = ap pbm_files (texts_by_columns ps)
-    ∙ (cut_again ps (recursion_from_All IsDrawable ps all) ∙ sym (map_by_columns ps))
+pbm_files-flat_map ps all = cut_again ps (recursion_from_All IsDrawable ps all)

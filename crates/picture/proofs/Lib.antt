@@ -1,5 +1,4 @@
 pub mod AsciiLaws
-pub mod ColumnLaws
 pub mod CutLaws
 pub mod Examples
 pub mod GridLaws

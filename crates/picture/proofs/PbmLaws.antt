@@ -1,5 +1,5 @@
 -- A plain PBM file reads back as the picture's pixels.
-use Rattle.std.proofs.Common.{◌≡◌, ◌==◌, ℕ, suc, Bool, false, ◌+◌, ◌-◌, ◌^◌, ◌<◌, true, List, [], ◌∷◌, ◌++◌, length}
+use Rattle.std.proofs.Common.{◌≡◌, ◌==◌, ℕ, suc, Bool, false, ◌+◌, true, List, [], ◌∷◌, ◌++◌, length}
 use Rattle.std.proofs.Common.{take}
 use Rattle.std.proofs.Common.{drop, map, flat_map, refl, ap, sym, ◌∙◌, arith, codes, decimal, Some, append_assoc}
 use Rattle.std.specs.List.{prefix_len}
@@ -8,11 +8,9 @@ use Rattle.std.proofs.lemmas.Bool.{eq-eqb, ne_eqb}
 use Rattle.std.proofs.lemmas.List.FromFn.{length-range_with_len}
 use Rattle.picture.specs.Picture.{Picture}
 use Rattle.picture.specs.ReadingLaws.{TextsAreRead, IsDrawable}
-use Rattle.picture.specs.Text.{below, pixel_row, pbm_text}
-use Rattle.picture.proofs.ColumnLaws.{columns_text, pbm_columns, text_by_columns}
-use Rattle.picture.specs.Reading.{is_white, raster, raster_of, pbm_pixels, after_white, leading_number}
-use Rattle.picture.proofs.RasterLaws.{strip, row_digits, strip-pbm_rows, list_all-row_digits, length-row_digits}
-use Rattle.picture.proofs.RasterLaws.{rows-row_digits}
+use Rattle.picture.specs.Text.{below, pixel_row, pbm_digit, pbm_row, pbm_text}
+use Rattle.picture.specs.Reading.{is_white, raster_of, pbm_pixels, after_white, leading_number}
+use Rattle.picture.proofs.RasterLaws.{strip, pixels, strip-pbm_rows, all_digits, length-digits, rows-digits}
 use Rattle.picture.proofs.HeaderLaws.{leading_number-decimal, after_white-decimal}
 use Rattle.picture.proofs.ShortLineLaws.{has_short_lines, short_rows, short_header}
 
@@ -30,10 +28,10 @@ pbm_pixels-steps text first second third fourth rest width height short magic on
     rw (short, magic, one, two, three, four, five) refl
 
 raster_of-digits : (p : Picture) (ys : List ℕ) → p.height ≡ length ys →
-    raster_of p.width p.height (flat_map (row_digits p) ys)
+    raster_of p.width p.height (map pbm_digit (pixels p ys))
     ≡ Some (record { width = p.width; height = p.height; rows = map (pixel_row p) ys })
 raster_of-digits p ys e =
-    rw (e, list_all-row_digits p ys, eq-eqb _ _ (length-row_digits p ys), rows-row_digits p ys) refl
+    rw (e, all_digits (pixels p ys), eq-eqb _ _ (length-digits p ys), rows-digits p ys) refl
 
 -- the text after the white space at its front
 abbrev drop_white : List ℕ → List ℕ
@@ -59,16 +57,18 @@ grouped : (w h body : List ℕ) → ((((80 ∷ 49 ∷ 10 ∷ []) ++ w) ++ (32 �
     ≡ 80 ∷ 49 ∷ 10 ∷ (w ++ 32 ∷ (h ++ 10 ∷ body))
 grouped w h body = simp append_assoc
 
-read_back : (p : Picture) (n : ℕ) → suc n ≡ p.width → p.width < 2 ^ 64 → p.height < 2 ^ 64
-    → pbm_pixels (columns_text p) ≡ Some (raster p)
-read_back p n e wide high =
-    let body = flat_map (pbm_columns p) (below p.height) in
+-- a plain PBM file reads back as the picture's pixels
+pub pbm_pixels-pbm_text : TextsAreRead pbm_text pbm_pixels IsDrawable
+pbm_pixels-pbm_text p h =
+    let wide = h.wide in
+    let high = h.high in
+    let body = flat_map (pbm_row p) (below p.height) in
     let w = decimal p.width in
     let h = decimal p.height in
     let text = 80 ∷ 49 ∷ 10 ∷ (w ++ 32 ∷ (h ++ 10 ∷ body)) in
     let short : has_short_lines text ≡ true =
     ap (λ t. has_short_lines (80 ∷ 49 ∷ 10 ∷ t)) (sym (append_assoc w (32 ∷ h) (10 ∷ body)))
-    ∙ short_header p.width p.height body wide high (short_rows p n (below p.height) e) in
+    ∙ short_header p.width p.height body wide high (short_rows p (below p.height)) in
     ap pbm_pixels (grouped w h body)
     ∙ pbm_pixels-steps text (w ++ 32 ∷ (h ++ 10 ∷ body)) (32 ∷ (h ++ 10 ∷ body)) (h ++ 10 ∷ body) (10 ∷ body)
     (drop_white (10 ∷ body)) p.width p.height
@@ -78,8 +78,3 @@ read_back p n e wide high =
     (after_white-white 10 body refl)
     ∙ ap (raster_of p.width p.height) (strip-drop_white (10 ∷ body) ∙ strip-pbm_rows p (below p.height))
     ∙ raster_of-digits p (below p.height) (sym (length-range_with_len 0 p.height))
-
--- a plain PBM file of some column reads back as the picture's pixels
-pub pbm_pixels-pbm_text : TextsAreRead pbm_text pbm_pixels IsDrawable
-pbm_pixels-pbm_text p h = ap pbm_pixels (text_by_columns p)
-    ∙ read_back p (p.width - 1) (let some = h.some in omega arith) h.wide h.high

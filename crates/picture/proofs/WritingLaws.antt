@@ -1,6 +1,6 @@
 -- The texts of rows, piece by piece.
 use Rattle.std.proofs.Common.{◌≡◌, ℕ, suc, zero, ◌+◌, ◌-◌, ◌*◌, ◌<◌, ◌≤◌, min, Bool, List, [], ◌∷◌, ◌++◌, refl, ap, sym}
-use Rattle.std.proofs.Common.{◌∙◌, arith, append_assoc, flat_map, map, length, take, drop, zero-add, add-zero, inl, inr}
+use Rattle.std.proofs.Common.{subst, ◌∙◌, arith, append_assoc, flat_map, map, length, take, drop, zero-add, add-zero, inl, inr}
 use Rattle.std.specs.Int.{div_ceil}
 use Rattle.std.specs.List.{range_with_len}
 use Rattle.std.specs.Prelude.{slice_range}
@@ -12,7 +12,7 @@ use Rattle.std.proofs.lemmas.Grind.{flat_map-append}
 use Rattle.std.proofs.lemmas.List.FromFn.{length-map-range_with_len}
 use Rattle.picture.specs.Picture.{Picture}
 use Rattle.picture.specs.Private.Rows.{piece, row_text}
-use Rattle.picture.specs.Text.{below, pixel_row, pbm_piece, pbm_row, ascii_pixel, ascii_row}
+use Rattle.picture.specs.Text.{below, pixel_row, pbm_digit, pbm_piece, pbm_row, ascii_pixel, ascii_row}
 
 pub range_with_len-add : (a n m : ℕ) → range_with_len a (n + m) ≡ range_with_len a n ++ range_with_len (a + n) m
 range_with_len-add a zero m = rw (zero-add m, add-zero a) refl
@@ -105,6 +105,27 @@ piece_asked dark width k n some size =
       | inr more ↦ take_at line rest 70 (length-map-range_with_len dark x n ∙ omega arith)
     ]))
 
+-- a line, and what follows it
+pub line_regrouped : (line rest end : List ℕ) → ((line ++ 10 ∷ []) ++ rest) ++ end ≡ line ++ 10 ∷ (rest ++ end)
+line_regrouped line rest end = simp append_assoc
+
+-- what holds of a text with a line of at most 70 pixels before it, where it holds of the text
+module _ (Holds : List ℕ → Type 0) (one_more : (line : List Bool) (rest : List ℕ) → length line ≤ 70 → Holds rest
+    → Holds (map pbm_digit line ++ 10 ∷ rest)) where
+  pieces_hold : (row : List Bool) (ks : List ℕ) (rest : List ℕ) → Holds rest
+      → Holds (flat_map (λ k. pbm_piece (piece row k)) ks ++ rest)
+  pieces_hold row [] rest h = h
+  pieces_hold row (k ∷ ks) rest h =
+      rw (line_regrouped (map pbm_digit (piece row k)) (flat_map (λ k. pbm_piece (piece row k)) ks) rest)
+      (one_more (piece row k) _ (omega (arith, length-take {A = Bool} 70 (drop (70 * k) row)))
+      (pieces_hold row ks rest h))
+
+  -- it holds of the rows
+  pub rows_hold : (p : Picture) (ys : List ℕ) → Holds [] → Holds (flat_map (pbm_row p) ys)
+  rows_hold p [] h = h
+  rows_hold p (y ∷ ys) h =
+      pieces_hold (pixel_row p y) (below (div_ceil p.width 70)) (flat_map (pbm_row p) ys) (rows_hold p ys h)
+
 -- the rows of plain PBM files end with nothing
 pub pbm_rows : (p : Picture) (ys : List ℕ) → flat_map (λ y. row_text pbm_piece [] (pixel_row p y)) ys
     ≡ flat_map (pbm_row p) ys
@@ -115,17 +136,24 @@ pbm_rows p (y ∷ ys) =
     rw (append-nil (flat_map (λ k. pbm_piece (piece row k)) (below (div_ceil (length row) 70))), pbm_rows p ys)
     (ap (λ (w : ℕ). flat_map (λ k. pbm_piece (piece row k)) (below (div_ceil w 70)) ++ flat_map (pbm_row p) ys) size)
 
+-- the first pieces of a row, joined
+pub pieces_joined : (text : List Bool → List ℕ) → text [] ≡ []
+    → ((front more : List Bool) → text (front ++ more) ≡ text front ++ text more)
+    → (row : List Bool) (k : ℕ) → flat_map (λ k. text (piece row k)) (below k) ≡ text (take (70 * k) row)
+pieces_joined text none joined row zero = sym none
+pieces_joined text none joined row (suc k) =
+    let next : suc k ≡ k + 1 = omega arith in
+    subst (λ n. flat_map (λ k. text (piece row k)) (below n) ≡ text (take (70 * n) row)) (sym next)
+    (rw (
+      flat_map-below_more (λ k. text (piece row k)) k,
+      pieces_joined text none joined row k,
+      take_piece row k,
+      joined (take (70 * k) row) (piece row k),
+    ) refl)
+
 pub letters_of_pieces : (row : List Bool) (k : ℕ) → flat_map (λ k. flat_map ascii_pixel (piece row k)) (below k)
     ≡ flat_map ascii_pixel (take (70 * k) row)
-letters_of_pieces row zero = refl
-letters_of_pieces row (suc k) =
-    let next : suc k ≡ k + 1 = omega arith in
-    ap (λ (n : ℕ). flat_map (λ k. flat_map ascii_pixel (piece row k)) (below n)) next
-    ∙ (flat_map-below_more (λ k. flat_map ascii_pixel (piece row k)) k
-    ∙ (ap (λ (t : List ℕ). t ++ flat_map ascii_pixel (piece row k)) (letters_of_pieces row k)
-    ∙ (sym (flat_map-append ascii_pixel (take (70 * k) row) (piece row k))
-    ∙ (ap (flat_map ascii_pixel) (sym (take_piece row k))
-    ∙ ap (λ (n : ℕ). flat_map ascii_pixel (take (70 * n) row)) (sym next)))))
+letters_of_pieces = pieces_joined (flat_map ascii_pixel) refl (flat_map-append ascii_pixel)
 
 letters_of_row : (dark : ℕ → Bool) (xs : List ℕ) → flat_map ascii_pixel (map dark xs)
     ≡ flat_map (λ x. ascii_pixel (dark x)) xs

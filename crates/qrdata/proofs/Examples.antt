@@ -182,6 +182,12 @@ unfolding data_codewords_of with_pad_codewords with_terminator with_zeros codewo
     data_codewords block_lengths groups_of block_table
 annex_i = refl
 
+-- two segments of version 1, joined: the byte `a`, and the digits `12345`
+two_segments : segments_bits 1 (segment_of Byte 1 ∷ segment_of Numeric 5 ∷ []) (codes "a12345")
+    ≡ bits (codes "01000000000101100001" ++ codes "0001000000010100011110110101101")
+unfolding segments_bits numeric_bits byte_bits bits_of bits
+two_segments = refl
+
 -- a terminator has four bits, or as many as are left
 terminators : map (λ n. length (with_terminator 152 (replicate n true))) (41 ∷ 147 ∷ 148 ∷ 149 ∷ 151 ∷ 152 ∷ []) ≡
     45 ∷ 151 ∷ 152 ∷ 152 ∷ 152 ∷ 152 ∷ []
