@@ -150,8 +150,8 @@ dark_modules : dark_count 3 (λ x y. x == y) ≡ 3
 unfolding dark_count
 dark_modules = refl
 
--- a light square of 5 by 5 with a dark corner: four rows and four columns add 3 each, fifteen squares 45, and 4 % of dark
--- modules 90
+-- a light square of 5 by 5 with a dark corner: four rows and four columns add 3 each, fifteen squares 45, and 4 % of
+-- dark modules 90
 dark_corner : penalty 5 (λ x y. x + y == 0) ≡ 12 + 12 + 45 + 90
 unfolding penalty run_penalty finder_penalty square_penalty dark_count balance_penalty
 dark_corner = refl
