@@ -1,37 +1,50 @@
 //! A square of modules as a picture.
-ghost use Rattle.std.specs.Prelude.{◌≡◌, ◌+◌, ◌<◌, ℕ, false, slice_index_or};
+ghost use Rattle.std.specs.Prelude.{◌≡◌, ◌*◌, ◌/◌, ◌%◌, ◌^◌, ◌==◌, bit_and, map, not};
 ghost use Rattle.qrmatrix.specs.Bits.{bit};
 ghost use Rattle.picture.specs.Picture.{symbol_picture};
+ghost use Rattle.picture.specs.Text.{below};
 
 use crate::grid::Grid;
 use qrmatrix::Matrix;
+use std::simd::{u8x8, u8x64};
 
-/// The four bits of each number below 16, the lowest first. It is a reference, so that no call builds the table anew.
-const FOUR: &[[bool; 4]; 16] = &[
-    [false, false, false, false],
-    [true, false, false, false],
-    [false, true, false, false],
-    [true, true, false, false],
-    [false, false, true, false],
-    [true, false, true, false],
-    [false, true, true, false],
-    [true, true, true, false],
-    [false, false, false, true],
-    [true, false, false, true],
-    [false, true, false, true],
-    [true, true, false, true],
-    [false, false, true, true],
-    [true, false, true, true],
-    [false, true, true, true],
-    [true, true, true, true],
+/// For each of the 64 bits of a row, the lowest first, the byte of the row that has it.
+const BYTES: [usize; 64] = [
+    0, 0, 0, 0, 0, 0, 0, 0, 1, 1, 1, 1, 1, 1, 1, 1, 2, 2, 2, 2, 2, 2, 2, 2, 3, 3, 3, 3, 3, 3, 3, 3,
+    4, 4, 4, 4, 4, 4, 4, 4, 5, 5, 5, 5, 5, 5, 5, 5, 6, 6, 6, 6, 6, 6, 6, 6, 7, 7, 7, 7, 7, 7, 7, 7,
 ];
 
-/// Returns the bits `x` to `x + 3` of a row.
-fn four_bits(row: u64, x: usize) -> &'static [bool; 4]
-    requires { x < 64 }
-    ensures { (j : ℕ) → j < 4 → slice_index_or result.now j false ≡ bit row (x + j) }
+/// For each of the 64 bits of a row, its value in its byte.
+const VALUES: [u8; 64] = [
+    1, 2, 4, 8, 16, 32, 64, 128, 1, 2, 4, 8, 16, 32, 64, 128, 1, 2, 4, 8, 16, 32, 64, 128, 1, 2, 4,
+    8, 16, 32, 64, 128, 1, 2, 4, 8, 16, 32, 64, 128, 1, 2, 4, 8, 16, 32, 64, 128, 1, 2, 4, 8, 16,
+    32, 64, 128, 1, 2, 4, 8, 16, 32, 64, 128,
+];
+
+/// Returns the bits of a row, the lowest first.
+fn bits_of(row: u64) -> [bool; 64]
+    ensures { result ≡ map (bit row) (below 64) }
 {
-    &FOUR[((row >> x) & 15) as usize]
+    are_some(bits_in_bytes(row))
+}
+
+/// Returns for each bit of a row, the lowest first, the byte that has it, with the other bits of that byte cleared.
+fn bits_in_bytes(row: u64) -> [u8; 64]
+    ensures { result ≡ map (λ j. bit_and (row / 2 ^ (8 * (j / 8)) % 256) (2 ^ (j % 8))) (below 64) }
+{
+    let bytes = u8x8::from_array(row.to_le_bytes()).swizzle(BYTES);
+    (bytes & u8x64::from_array(VALUES)).to_array()
+}
+
+/// Returns of each value whether it is not 0.
+fn are_some(values: [u8; 64]) -> [bool; 64]
+    ensures { result ≡ map (λ value. not (value == 0)) values }
+{
+    let mut some = [false; 64];
+    for j in 0..64 {
+        some[j] = values[j] != 0;
+    }
+    some
 }
 
 impl Grid for Matrix {
@@ -50,14 +63,8 @@ impl Grid for Matrix {
     }
 
     fn read_row(&self, y: usize, pixels: &mut [bool]) {
-        let row = self.rows()[y];
-        let fours = pixels.len() / 4;
-        for k in 0..fours {
-            let x = 4 * k;
-            pixels[x..x + 4].copy_from_slice(four_bits(row, x));
-        }
-        for x in 4 * fours..pixels.len() {
-            pixels[x] = (row >> x) & 1 == 1;
-        }
+        let row = bits_of(self.rows()[y]);
+        let width = pixels.len();
+        pixels.copy_from_slice(&row[..width]);
     }
 }
