@@ -31,14 +31,6 @@ write_more written whole j c room inside same is =
     take_more_set written j c room ∙ ap (λ l. l ++ c ∷ []) same ∙ ap (λ x. take j whole ++ x ∷ []) is
     ∙ sym (take_more whole j 0 inside)
 
-pub get_or-polynomial_sum : (p q : List ℕ) (j : ℕ) → j < length p → j < length q
-    → get_or (polynomial_sum p q) j 0 ≡ bit_xor (get_or p j 0) (get_or q j 0)
-unfolding polynomial_sum
-get_or-polynomial_sum [] q j h k = absurd (omega arith)
-get_or-polynomial_sum (a ∷ p) [] j h k = absurd (omega arith)
-get_or-polynomial_sum (a ∷ p) (b ∷ q) zero h k = refl
-get_or-polynomial_sum (a ∷ p) (b ∷ q) (suc j) h k = get_or-polynomial_sum p q j (omega arith) (omega arith)
-
 pub get_or-scalar_multiple : (c : ℕ) (p : List ℕ) (j : ℕ) → j < length p
     → get_or (scalar_multiple c p) j 0 ≡ field_product c (get_or p j 0)
 unfolding scalar_multiple
@@ -161,7 +153,7 @@ ec_codewords-padded k codewords few =
     ∙ take_all k ec_codewords (omega (arith, long))
 
 -- an operator on two vectors
-zip2-polynomial_sum : (p q : List ℕ) → length p ≡ length q → zip2 bit_xor p q ≡ polynomial_sum p q
+pub zip2-polynomial_sum : (p q : List ℕ) → length p ≡ length q → zip2 bit_xor p q ≡ polynomial_sum p q
 unfolding polynomial_sum
 zip2-polynomial_sum [] [] same = refl
 zip2-polynomial_sum [] (b ∷ q) same = absurd (omega (arith, same))

@@ -121,11 +121,7 @@ fn doubled(polynomial: &Multiple) -> Multiple
 fn sum_of(first: &Multiple, second: &Multiple) -> Multiple
     ensures { result ≡ polynomial_sum first.now second.now }
 {
-    let mut sum = [0; PLACES];
-    for j in 0..PLACES {
-        sum[j] = first[j] ^ second[j];
-    }
-    sum
+    (u8x32::from_array(*first) ^ u8x32::from_array(*second)).to_array()
 }
 
 /// Returns the coefficients of a generator polynomial from high to low, but for the highest, which is 1, and zeros
