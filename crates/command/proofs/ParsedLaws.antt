@@ -31,8 +31,7 @@ use Rattle.clap.specs.declared.error.Error.{Error}
 use Rattle.clap.specs.declared.error.kind.ErrorKind.TheVariants.{OutOfMemory}
 use Rattle.clap.specs.declared.parser.matches.ArgMatches.{ArgMatches}
 use Rattle.command.specs.Choosing.{Chooses, Refuses}
-use Rattle.command.specs.CommandLine.{Invocation, bad, command_line, help}
-use Rattle.command.specs.CommandLine.{invocation_refused, invocation_by, run}
+use Rattle.command.specs.CommandLine.{command_line, invocation_by, invocation_refused}
 use Rattle.command.specs.Private.Checked.{HoldsNumber, HoldsValues, IsNumberIn}
 use Rattle.command.specs.declared.arguments.ArgumentsFault.{ArgumentsFault}
 use Rattle.command.specs.declared.arguments.ArgumentsFault.TheVariants.{Memory}
@@ -254,24 +253,14 @@ built_well old new (Err e) good is shape = cc
 
 -- ---- what a refused parse returns
 
-pub Chooses-memory : (r : Invocation) → Chooses r (Err Memory)
-Chooses-memory (run s name) = tt
-Chooses-memory help = tt
-Chooses-memory bad = tt
-
-pub refused : (kinds : Kinds) (rows : List Row) (e : Error) (fault : ArgumentsFault) → IsOneAtMost kinds → HasKind kinds e
-    → (kind_of e ≡ OutOfMemory → fault ≡ Memory) → Refuses (invocation_refused (kind_of e)) fault
+-- a parse whose error has one of at most one kind is refused by that kind
+pub refused : (kinds : Kinds) (rows : List Row) (e : Error) (fault : ArgumentsFault) → IsOneAtMost kinds
+    → HasKind kinds e → (kind_of e ≡ OutOfMemory → fault ≡ Memory) → Refuses (invocation_refused (kind_of e)) fault
     → Chooses (invocation_by kinds rows) (Err fault)
 unfolding IsOneAtMost
-refused kinds rows e fault one (inl memory) as_memory other =
-    rw (as_memory memory) (Chooses-memory (invocation_by kinds rows))
+refused kinds rows e fault one (inl memory) as_memory other = rw (as_memory memory) tt
 refused [] rows e fault one (inr among) as_memory other = absurd among
 refused (k ∷ []) rows e fault one (inr (inl is)) as_memory other =
-    Chooses-err (invocation_refused k) fault (subst (λ x. Refuses (invocation_refused x) fault) is other)
-  where
-    Chooses-err : (r : Invocation) (w : ArgumentsFault) → Refuses r w → Chooses r (Err w)
-    Chooses-err (run s name) w h = h
-    Chooses-err help w h = h
-    Chooses-err bad w h = h
+    subst (λ x. Refuses (invocation_refused x) fault) is other
 refused (k ∷ []) rows e fault one (inr (inr never)) as_memory other = absurd never
 refused (k ∷ l ∷ ks) rows e fault one (inr among) as_memory other = absurd one
