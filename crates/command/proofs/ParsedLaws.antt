@@ -4,7 +4,7 @@ use Rattle.std.proofs.Common.{zero, suc, Bool, true, false, List, [], ◌∷◌,
 use Rattle.std.proofs.Common.{arith}
 use Rattle.std.specs.Prelude.{IfSome, Ok, Result, option_map, slice_get, pos, unwrap_or}
 use Rattle.std.specs.Result.{OnOk, is_err}
-use Rattle.std.specs.List.{All, slice_index_or}
+use Rattle.std.specs.List.{All, Any}
 use Rattle.std.specs.Str.{bytes_eq}
 use Rattle.std.specs.Str.Parse.{IsNumeral, starts_with_minus, without_leading_plus}
 use Rattle.std.specs.Borrow.{Bor}
@@ -31,8 +31,7 @@ use Rattle.clap.specs.declared.error.Error.{Error}
 use Rattle.clap.specs.declared.error.kind.ErrorKind.TheVariants.{OutOfMemory}
 use Rattle.clap.specs.declared.parser.matches.ArgMatches.{ArgMatches}
 use Rattle.command.specs.Choosing.{Chooses, Refuses}
-use Rattle.command.specs.CommandLine.{Invocation, bad, command_line, help}
-use Rattle.command.specs.CommandLine.{invocation_refused, invocation_by, run}
+use Rattle.command.specs.CommandLine.{command_line, invocation_by, invocation_refused}
 use Rattle.command.specs.Private.Checked.{HoldsNumber, HoldsValues, IsNumberIn}
 use Rattle.command.specs.declared.arguments.ArgumentsFault.{ArgumentsFault}
 use Rattle.command.specs.declared.arguments.ArgumentsFault.TheVariants.{Memory}
@@ -61,16 +60,14 @@ later true A B b = inr b
 later false A B b = b
 
 -- an argument of this id whose rule has P makes some rule of the id have it
--- the place k, the argument a and four facts on them are the parts of one tuple: in first_read that is PassesArg for
--- one call, HasReading for the other, and the induction on xs changes k
-some_at : (P : Rule → Type 0) (id : Text) (xs : List Arg) (k : ℕ) (a : Arg) → k < length xs → slice_index_or xs k a ≡ a
-    → bytes_eq a.id.now id ≡ true → P (rule_of a) → SomeRule P id (map rule_of xs)
-some_at P id [] k a lt at same p = absurd (omega arith)
-some_at P id (x ∷ xs) zero a lt at same p =
+some_rule : (P : Rule → Type 0) (id : Text) (xs : List Arg)
+    → Any (λ a. (bytes_eq a.id.now id ≡ true) × P (rule_of a)) xs → SomeRule P id (map rule_of xs)
+some_rule P id [] (k, a, inside, at, holds) = absurd (omega arith)
+some_rule P id (x ∷ xs) (zero, a, inside, at, (same, p)) =
     here (bytes_eq x.id.now id) _ _ (ap (λ (y : Arg). bytes_eq y.id.now id) at ∙ same)
     (subst (λ (y : Arg). P (rule_of y)) (sym at) p)
-some_at P id (x ∷ xs) (suc k) a lt at same p = later (bytes_eq x.id.now id) _ _
-    (some_at P id xs k a (omega arith) at same p)
+some_rule P id (x ∷ xs) (suc k, a, inside, at, holds) =
+    later (bytes_eq x.id.now id) _ _ (some_rule P id xs (k, a, omega arith, at, holds))
 
 abbrev pub Accepted : Text → Rule → Type 0
 Accepted v r = Accepts r.ignore_case (parser_of_value r.parser) v
@@ -79,9 +76,12 @@ abbrev pub ReadHow : Reading → Rule → Type 0
 ReadHow how r = reading_by r ≡ how
 
 -- the text that a getter reads is a value that passed a rule of its id, read as such a rule says
-abbrev pub ReadByRules : List Rule → Text → Text → Type 0
-ReadByRules rules id text = (v : Text) × (how : Reading) × (text ≡ read_as how v) × SomeRule (Accepted v) id rules
-    × SomeRule (ReadHow how) id rules
+record ReadByRules (rules : List Rule) (id text : Text) : Type 0 where
+  value : Text
+  how : Reading
+  is : text ≡ read_as how value
+  accepted : SomeRule (Accepted value) id rules
+  read : SomeRule (ReadHow how) id rules
 
 module _ (c : Command) (f : Found) (passes : ValuesPass c f) (no_groups : groups_of c ≡ []) (id : Text)
     (named : id ≡ [] → ⊥) where
@@ -89,17 +89,18 @@ module _ (c : Command) (f : Found) (passes : ValuesPass c f) (no_groups : groups
       → IfSome (option_map (λ s. read_as x.reading s.now) (slice_get x.vals.items 0))
       (ReadByRules (map rule_of (args_of c)) id)
   first_read x e same_x key pass =
-      let no_group : e.1.is_group ≡ true → ⊥ = λ g. elim (pass.3 g) [
+      let (values, filled, counts, groups, reads) = pass in
+      let no_group : e.1.is_group ≡ true → ⊥ = λ g. elim (groups g) [
         | inl empty ↦ named (sym key ∙ empty)
         | inr lots ↦
             let bad : 0 < 0 = rw no_groups at lots in
             absurd (omega arith)
       ] in
-      let all : All (λ v. PassesArg c id v.now) x.vals.items = elim pass.0 [
+      let all : All (λ v. PassesArg c id v.now) x.vals.items = elim values [
         | inl g ↦ absurd (no_group g)
         | inr vals ↦ subst (λ (w : Text). All (λ v. PassesArg c w v.now) x.vals.items) key (rw same_x at vals)
       ] in
-      let how : HasReading c id x.reading = elim pass.4 [
+      let how : HasReading c id x.reading = elim reads [
         | inl g ↦ absurd (no_group g)
         | inr h ↦ subst (λ (y : MatchedArg). HasReading c id y.reading) same_x
             (subst (λ (w : Text). HasReading c w e.1.reading) key h)
@@ -111,23 +112,24 @@ module _ (c : Command) (f : Found) (passes : ValuesPass c f) (no_groups : groups
           (ReadByRules (map rule_of (args_of c)) id)
       go [] all how = tt
       go (v ∷ vs) all how =
-          let p = All-get_or (λ v. PassesArg c id v.now) (v ∷ vs) 0 v (omega arith) all in (
-            v.now,
-            x.reading,
-            refl,
-            some_at (Accepted v.now) id (args_of c) p.0 p.1 p.2 p.3 p.4.0 p.4.1,
-            some_at (ReadHow x.reading) id (args_of c) how.0 how.1 how.2 how.3 how.4.0 how.4.1,
-          )
+          let passes = All-get_or (λ v. PassesArg c id v.now) (v ∷ vs) 0 v (omega arith) all in
+          record {
+            value = v.now;
+            how = x.reading;
+            is = refl;
+            accepted = some_rule (Accepted v.now) id (args_of c) passes;
+            read = some_rule (ReadHow x.reading) id (args_of c) how;
+          }
 
-  pub text_by_rules : IfSome (one_text f id) (ReadByRules (map rule_of (args_of c)) id)
+  text_by_rules : IfSome (one_text f id) (ReadByRules (map rule_of (args_of c)) id)
   text_by_rules = go (matched_of f id) refl
     where
       go : (o : Option MatchedArg) → matched_of f id ≡ o
           → IfSome (one_text f id) (ReadByRules (map rule_of (args_of c)) id)
       go None e = rw e tt
       go (Some x) e =
-          let got = entry_by_id (EntryPasses c) f.entries.items id x passes e in
-          rw e (first_read x got.0 got.1 ((bytes_eq-Decides got.0.0.now id).0 got.2) got.3)
+          let (entry, same, key, pass) = entry_by_id (EntryPasses c) f.entries.items id x passes e in
+          rw e (first_read x entry same ((bytes_eq-Decides entry.0.now id).0 key) pass)
 
 -- ---- numbers
 
@@ -174,8 +176,8 @@ number_holds f id low high read accepted how = go (one_text f id) read
     go : (o : Option Text) → IfSome o (ReadByRules rules id) → IfSome o (IsNumberIn low high)
     go None h = tt
     go (Some text) h =
-        let is : text ≡ without_minus h.0 = h.2 ∙ ap (λ r. read_as r h.0) (sym (how h.1 h.4)) in
-        rw is (signed_number low high h.0 (accepted h.0 h.3))
+        let is : text ≡ without_minus h.value = h.is ∙ ap (λ r. read_as r h.value) (sym (how h.how h.read)) in
+        rw is (signed_number low high h.value (accepted h.value h.accepted))
 
 only : {A : Type 0} → A ⊎ ⊥ → A
 only (inl a) = a
@@ -199,8 +201,8 @@ flag_holds f read = go (one_text f (codes "escapes")) read
         → IfSome o (λ t. (t ≡ codes "true") ⊎ (t ≡ codes "false"))
     go None h = tt
     go (Some text) h =
-        let is : text ≡ h.0 = h.2 ∙ ap (λ r. read_as r h.0) (sym (only h.4)) in
-        rw is (bool_texts h.0 (only h.3))
+        let is : text ≡ h.value = h.is ∙ ap (λ r. read_as r h.value) (sym (only h.read)) in
+        rw is (bool_texts h.value (only h.accepted))
 
 no_items : {X : Type 0} (xs : List X) → is_empty xs ≡ true → xs ≡ []
 no_items [] e = refl
@@ -254,24 +256,14 @@ built_well old new (Err e) good is shape = cc
 
 -- ---- what a refused parse returns
 
-pub Chooses-memory : (r : Invocation) → Chooses r (Err Memory)
-Chooses-memory (run s name) = tt
-Chooses-memory help = tt
-Chooses-memory bad = tt
-
-pub refused : (kinds : Kinds) (rows : List Row) (e : Error) (fault : ArgumentsFault) → IsOneAtMost kinds → HasKind kinds e
-    → (kind_of e ≡ OutOfMemory → fault ≡ Memory) → Refuses (invocation_refused (kind_of e)) fault
+-- a parse whose error has one of at most one kind is refused by that kind
+pub refused : (kinds : Kinds) (rows : List Row) (e : Error) (fault : ArgumentsFault) → IsOneAtMost kinds
+    → HasKind kinds e → (kind_of e ≡ OutOfMemory → fault ≡ Memory) → Refuses (invocation_refused (kind_of e)) fault
     → Chooses (invocation_by kinds rows) (Err fault)
 unfolding IsOneAtMost
-refused kinds rows e fault one (inl memory) as_memory other =
-    rw (as_memory memory) (Chooses-memory (invocation_by kinds rows))
+refused kinds rows e fault one (inl memory) as_memory other = rw (as_memory memory) tt
 refused [] rows e fault one (inr among) as_memory other = absurd among
 refused (k ∷ []) rows e fault one (inr (inl is)) as_memory other =
-    Chooses-err (invocation_refused k) fault (subst (λ x. Refuses (invocation_refused x) fault) is other)
-  where
-    Chooses-err : (r : Invocation) (w : ArgumentsFault) → Refuses r w → Chooses r (Err w)
-    Chooses-err (run s name) w h = h
-    Chooses-err help w h = h
-    Chooses-err bad w h = h
+    subst (λ x. Refuses (invocation_refused x) fault) is other
 refused (k ∷ []) rows e fault one (inr (inr never)) as_memory other = absurd never
 refused (k ∷ l ∷ ks) rows e fault one (inr among) as_memory other = absurd one

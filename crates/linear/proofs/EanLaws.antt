@@ -259,7 +259,7 @@ read_ean13-ean13_row (first ∷ rest) f =
     all_in (drop 6 rest) (All-drop IsAsciiDigit 6 rest d_rest) in
     let halves = read_halves-symbol 6 sets (take 6 rest)
     (drop 6 rest) six long_left long_right d_left d_right digit_in_a_or_b
-    lettered IsAOrB in_a_or_b (left_sets_a_or_b (digit_value first) below) in
+    lettered IsAOrB in_a_or_b (left_sets_a_or_b (digit_value first)) in
     rw (halves, with_first_digit-zipped (digit_value first) rest below long_left, digit_again first d.0)
     (with_check_digit-full 12 (first ∷ rest) f)
 

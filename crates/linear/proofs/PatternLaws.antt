@@ -1,33 +1,26 @@
 -- Laws of the tables of patterns (ISO/IEC 15420, symbol characters): each is a test that is computed over the whole
 -- table once, and then holds at each place.
-use Rattle.std.proofs.Common.{◌≡◌, ℕ, zero, suc, ◌+◌, ◌<◌, Bool, true, false, ◌&&◌, Some, None, Option, List, [], ◌∷◌}
-use Rattle.std.proofs.Common.{length, eqb, refl, arith, ap, sym, ◌∙◌, subst, inl, inr}
-use Rattle.std.specs.Prelude.{option_map, is_none, map, position, ◌⊎◌}
+use Rattle.std.proofs.Common.{◌≡◌, ℕ, ◌+◌, ◌<◌, ◌==◌, Bool, true, false, Some, None, Option, List, [], ◌∷◌, length, eqb}
+use Rattle.std.proofs.Common.{refl, arith, ap, ◌∙◌, subst, inl, inr, zero-add, if◌then◌else◌}
+use Rattle.std.specs.Prelude.{option_map, is_none, map, position, slice_index_or, ◌⊎◌}
 use Rattle.std.specs.Str.{bytes_eq}
-use Rattle.std.specs.List.{AllByRecursion, list_all}
+use Rattle.std.specs.List.{AllByRecursion, list_all, range_with_len}
 use Rattle.std.specs.Option.{option_or}
-use Rattle.std.proofs.lemmas.Bool.{and_parts, cases_eq, false≢true}
+use Rattle.std.proofs.lemmas.Bool.{false≢true}
 use Rattle.std.proofs.lemmas.Bool.Decides.{Decides-eqb}
+use Rattle.std.proofs.lemmas.List.FromFn.{get_or-range_with_len, length-range_with_len}
+use Rattle.std.proofs.lemmas.List.Sums.{AllPass-from_list_all}
 use Rattle.linear.specs.declared.ean.NumberSet.{NumberSet}
 use Rattle.linear.specs.declared.ean.NumberSet.TheVariants.{A, B, C}
 use Rattle.linear.specs.Tables.{number_set_a, left_half_sets}
 use Rattle.linear.specs.Ean.{pattern, left_sets}
 use Rattle.linear.specs.EanReading.{digit_in, digit_in_a_or_b}
 
--- whether a test passes at each number below a bound
-abbrev pub passes_below : (ℕ → Bool) → ℕ → Bool
-passes_below test zero = true
-passes_below test (suc n) = test n && passes_below test n
-
 -- a test that passes at each number below a bound passes at one of them
-pub passes_at : (test : ℕ → Bool) (n k : ℕ) → passes_below test n ≡ true → k < n → test k ≡ true
-passes_at test zero k all h = absurd (omega arith)
-passes_at test (suc n) k all h =
-    let parts = and_parts (test n) (passes_below test n) all in
-    elim (cases_eq k n) [
-      | inl e ↦ subst (λ x. test x ≡ true) (sym e) parts.0
-      | inr ne ↦ passes_at test n k parts.1 (omega arith)
-    ]
+pub passes_at : (test : ℕ → Bool) (n k : ℕ) → list_all test (range_with_len 0 n) ≡ true → k < n → test k ≡ true
+passes_at test n k all below =
+    subst (λ j. test j ≡ true) (get_or-range_with_len 0 n k 0 below ∙ zero-add k)
+    (AllPass-from_list_all test (range_with_len 0 n) all k 0 (omega (arith, length-range_with_len 0 n)))
 
 -- whether there is a value, and it is this one
 abbrev pub is_value : Option ℕ → ℕ → Bool
@@ -96,24 +89,14 @@ position-left_sets digit h =
 abbrev pub IsAOrB : NumberSet → Type 0
 IsAOrB set = (set ≡ A) ⊎ (set ≡ B)
 
-is_a_or_b : NumberSet → Bool
-is_a_or_b A = true
-is_a_or_b B = true
-is_a_or_b C = false
+set_of_letter : (is_a : Bool) → IsAOrB (if is_a then A else B)
+set_of_letter true = inl refl
+set_of_letter false = inr refl
 
-IsAOrB-from_test : (set : NumberSet) → is_a_or_b set ≡ true → IsAOrB set
-unfolding is_a_or_b
-IsAOrB-from_test A h = inl refl
-IsAOrB-from_test B h = inr refl
-IsAOrB-from_test C h = absurd (false≢true h)
+sets_of_letters : (letters : List ℕ)
+    → AllByRecursion IsAOrB (map (λ letter. if letter == 65 then A else B) letters)
+sets_of_letters [] = tt
+sets_of_letters (letter ∷ letters) = (set_of_letter (letter == 65), sets_of_letters letters)
 
-all_from_test : (sets : List NumberSet) → list_all is_a_or_b sets ≡ true → AllByRecursion IsAOrB sets
-all_from_test [] h = tt
-all_from_test (set ∷ sets) h =
-    let parts = and_parts (is_a_or_b set) (list_all is_a_or_b sets) h in
-    (IsAOrB-from_test set parts.0, all_from_test sets parts.1)
-
-pub left_sets_a_or_b : (digit : ℕ) → digit < 10 → AllByRecursion IsAOrB (left_sets digit)
-unfolding left_half_sets is_a_or_b
-left_sets_a_or_b digit h =
-    all_from_test (left_sets digit) (passes_at (λ d. list_all is_a_or_b (left_sets d)) 10 digit refl h)
+pub left_sets_a_or_b : (digit : ℕ) → AllByRecursion IsAOrB (left_sets digit)
+left_sets_a_or_b digit = sets_of_letters (slice_index_or left_half_sets digit [])

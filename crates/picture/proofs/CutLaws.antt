@@ -9,12 +9,12 @@ use Rattle.std.specs.Str.Parse.{AllDigits}
 use Rattle.std.proofs.lemmas.List.{append-nil}
 use Rattle.std.proofs.lemmas.List.Folds.{list_all-append}
 use Rattle.std.proofs.lemmas.Bool.{and_parts, not-true, ne_eqb}
-use Rattle.std.proofs.lemmas.Fmt.{decimal_is_IsNumeral}
 use Rattle.std.proofs.lemmas.Str.Parse.{digit_from_value}
 use Rattle.std.proofs.lemmas.List.Elements.{recursion_from_All}
 use Rattle.picture.specs.Picture.{Picture}
 use Rattle.picture.specs.ReadingLaws.{IsDrawable, FilesAreTexts}
 use Rattle.picture.specs.Text.{below, pbm_digit, pbm_header, pbm_row, pbm_text}
+use Rattle.picture.proofs.HeaderLaws.{digits-decimal}
 use Rattle.picture.proofs.LineLaws.{is_line_feed}
 use Rattle.picture.proofs.WritingLaws.{rows_hold}
 use Rattle.picture.specs.Reading.{cut_between, pbm_files}
@@ -208,9 +208,8 @@ IsFile-pbm_text p wide high = record {
       (80 ∷ 49 ∷ 10 ∷ ((decimal p.width ++ 32 ∷ []) ++ decimal p.height), refl);
   plain = simp (list_all-append (λ b. not (b == 80)))
       (rw (
-        digits_no_P (decimal p.width) (decimal_is_IsNumeral p.width wide).0.1,
-        digits_no_P (decimal p.height)
-            (decimal_is_IsNumeral p.height high).0.1,
+        digits_no_P (decimal p.width) (digits-decimal p.width wide),
+        digits_no_P (decimal p.height) (digits-decimal p.height high),
         rows_hold (λ rest. has_no_P rest ≡ true) (λ line rest short. pixels_no_P line rest) p (below p.height) refl,
       ) refl);
 }

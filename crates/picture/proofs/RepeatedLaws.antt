@@ -34,40 +34,36 @@ length-repeated text (suc n) =
 pub EndsWith-repeated : {S : Type 0} (took : S → S → List ℕ → Type 0) (s t : S) (text : List ℕ) (n m : ℕ) → m ≤ n
     → took s t (repeated n text) → EndsWith took t (repeated m text)
 EndsWith-repeated took s t text n m few h =
-    let parts : n ≡ (n - m) + m = omega arith in (
-      s,
-      (
-        repeated (n - m) text,
-        subst (took s t) (ap (λ (k : ℕ). repeated k text) parts
-            ∙ repeated-add text (n - m) m) h,
-      ),
-    )
+    let parts : n ≡ (n - m) + m = omega arith in
+    record {
+      first = s;
+      before = repeated (n - m) text;
+      whole = subst (took s t) (ap (λ (k : ℕ). repeated k text) parts ∙ repeated-add text (n - m) m) h;
+    }
 
 -- a text that was written n times last, and then k times, was written last
 pub EndsWith-more : {S : Type 0} (took : S → S → List ℕ → Type 0) (took_joined : (s t u : S) (xs ys : List ℕ)
     → took s t xs → took t u ys → took s u (xs ++ ys)) (s t : S) (text : List ℕ) (n k : ℕ) → 0 < n
     → EndsWith took s (repeated n text) → took s t (repeated k text) → EndsWith took t text
 EndsWith-more took took_joined s t text n k some last more =
-    let before = last.1.0 in
     let parts : n + k ≡ (n + k - 1) + 1 = omega arith in
     let texts : repeated n text ++ repeated k text ≡ repeated (n + k - 1) text ++ text = sym (repeated-add text n k)
-    ∙ (ap (λ (m : ℕ). repeated m text) parts ∙ flat_map-below_more (λ _. text) (n + k - 1)) in (
-      last.0,
-      (
-        before ++ repeated (n + k - 1) text,
-        subst (took last.0 t) (append_assoc before (repeated n text)
-            (repeated k text) ∙ (ap (λ (xs : List ℕ). before ++ xs) texts
-            ∙ sym (append_assoc before (repeated (n + k - 1) text) text)))
-            (took_joined last.0 s t (before ++ repeated n text) (repeated k text) last.1.1 more),
-      ),
-    )
+    ∙ (ap (λ (m : ℕ). repeated m text) parts ∙ flat_map-below_more (λ _. text) (n + k - 1)) in
+    record {
+      first = last.first;
+      before = last.before ++ repeated (n + k - 1) text;
+      whole = subst (took last.first t) (append_assoc last.before (repeated n text) (repeated k text)
+          ∙ (ap (λ (xs : List ℕ). last.before ++ xs) texts
+          ∙ sym (append_assoc last.before (repeated (n + k - 1) text) text)))
+          (took_joined last.first s t (last.before ++ repeated n text) (repeated k text) last.whole more);
+    }
 
 -- a repeat writes what the sink took last
 pub WritesText-repeated : {S T E : Type 0} (sink : Ghosts S) (s t : S) (text : List ℕ) (size : ℕ) (r : Bool) (x : T)
     → r ≡ true → length text ≡ size → EndsWith sink.took s text
     → RepeatsBytes sink.failures sink.is_flushed sink.took s t size r → WritesText {E = E} sink s t text (Ok x)
 WritesText-repeated sink s t text size r x done whole last h = record {
-  bytes = h.bytes done last.0 last.1.0 text whole last.1.1;
+  bytes = h.bytes done last.first last.before text whole last.whole;
   count = h.count;
   unflushed = λ flushed. absurd (false≢true (sym (h.flushed done) ∙ flushed));
 }

@@ -6,11 +6,12 @@ use Rattle.std.specs.Str.Parse.{AllDigits}
 use Rattle.std.proofs.lemmas.Bool.{le-leb, ne_eqb}
 use Rattle.std.proofs.lemmas.List.{length-map}
 use Rattle.std.proofs.lemmas.List.Folds.{list_all-append}
-use Rattle.std.proofs.lemmas.Fmt.{decimal_is_IsNumeral, length-decimal-le}
+use Rattle.std.proofs.lemmas.Fmt.{length-decimal-le}
 use Rattle.std.proofs.lemmas.Str.Parse.{digit_from_value}
 use Rattle.device.specs.Lines.{lines}
 use Rattle.picture.specs.Picture.{Picture}
 use Rattle.picture.specs.Text.{pbm_digit, pbm_row}
+use Rattle.picture.proofs.HeaderLaws.{digits-decimal}
 use Rattle.picture.proofs.LineLaws.{is_line_feed, has_no_line_feed, lines-line, lines-nil}
 use Rattle.picture.proofs.WritingLaws.{rows_hold}
 
@@ -47,9 +48,8 @@ short_header width height rest wide high fine =
     (short-line (decimal width ++ 32 ∷ decimal height) rest
     (list_all-append (λ b. not (is_line_feed b)) (decimal width) (32 ∷ decimal height)
     ∙ rw (
-      no_line_feed_digits (decimal width) (decimal_is_IsNumeral width wide).0.1,
-      no_line_feed_digits
-          (decimal height) (decimal_is_IsNumeral height high).0.1,
+      no_line_feed_digits (decimal width) (digits-decimal width wide),
+      no_line_feed_digits (decimal height) (digits-decimal height high),
     ) refl)
     (omega (
       arith,

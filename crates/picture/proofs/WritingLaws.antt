@@ -1,6 +1,7 @@
 -- The texts of rows, piece by piece.
 use Rattle.std.proofs.Common.{◌≡◌, ℕ, suc, zero, ◌+◌, ◌-◌, ◌*◌, ◌<◌, ◌≤◌, min, Bool, List, [], ◌∷◌, ◌++◌, refl, ap, sym}
-use Rattle.std.proofs.Common.{subst, ◌∙◌, arith, append_assoc, flat_map, map, length, take, drop, zero-add, add-zero, inl, inr}
+use Rattle.std.proofs.Common.{subst, ◌∙◌, arith, append_assoc, flat_map, map, length, take, drop, zero-add, add-zero}
+use Rattle.std.proofs.Common.{inl, inr}
 use Rattle.std.specs.Int.{div_ceil}
 use Rattle.std.specs.List.{range_with_len}
 use Rattle.std.specs.Prelude.{slice_range}

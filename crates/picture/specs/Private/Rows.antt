@@ -17,8 +17,10 @@ abbrev pub repeated : ℕ → List ℕ → List ℕ
 repeated n text = flat_map (λ _. text) (below n)
 
 -- a sink that took the text last, since some earlier state
-abbrev pub EndsWith : {S : Type 0} → (S → S → List ℕ → Type 0) → S → List ℕ → Type 0
-EndsWith {S} took now text = (first : S) × ((before : List ℕ) × took first now (before ++ text))
+pub record EndsWith {S : Type 0} (took : S → S → List ℕ → Type 0) (now : S) (text : List ℕ) : Type 0 where
+  pub first : S
+  pub before : List ℕ
+  pub whole : took first now (before ++ text)
 
 -- the text of the rows of a picture
 abbrev pub rows_text : (List Bool → List ℕ) → List ℕ → Picture → List ℕ
