@@ -88,7 +88,7 @@ class Rows(InCopy):
     def test_as_it_is(self):
         status, said = self.check()
         self.assertEqual(status, 0, said)
-        self.assertRegex(said, r"(^|\n)\d{4} changes of \d{3} definitions are refused, \d+ mean the same\n$")
+        self.assertRegex(said, r"^\d{4} changes of \d{3} definitions are refused, \d+ mean the same\n$")
 
     def test_another_comment(self):
         reading = "crates/picture/specs/Reading.antt"

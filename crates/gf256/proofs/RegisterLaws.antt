@@ -1,24 +1,28 @@
 -- The multiples of a polynomial in tables, and what the code writes, as lists.
 use Rattle.std.proofs.Common.{◌≡◌, ℕ, zero, suc, ◌+◌, ◌-◌, ◌*◌, ◌/◌, ◌%◌, ◌^◌, ◌<◌, List, [], ◌∷◌, ◌++◌, length, take}
-use Rattle.std.proofs.Common.{drop, get_or, set, refl, sym, ap, ◌∙◌, arith, eqb-true, true, ◌==◌}
+use Rattle.std.proofs.Common.{drop, get_or, set, refl, sym, ap, ◌∙◌, arith, eqb-true, true, ◌==◌, take_all}
 use Rattle.std.specs.Prelude.{bit_xor, All}
 use Rattle.std.specs.Int.Bits.{xor_comm, xor_shifted}
-use Rattle.std.proofs.lemmas.List.{append_assoc, drop-replicate, get_or-take, length-take-le}
-use Rattle.std.proofs.lemmas.List.{replicate-append-replicate, take_more, take_more_set}
+use Rattle.std.specs.List.{range_with_len}
+use Rattle.std.proofs.lemmas.List.{append_assoc, length-append, replicate-append-replicate, take-append-le}
+use Rattle.std.proofs.lemmas.List.{take_more, take_more_set}
 use Rattle.std.proofs.lemmas.List.Elements.{All-head, All-tail}
+use Rattle.std.proofs.lemmas.Simd.{pick_l-range_with_len}
+use Rattle.std.proofs.Math.Seq.{take-append-add}
+use Rattle.std.specs.Simd.Lanes.{pick_l, zip2}
 use Rattle.gf256.specs.BinaryPolynomial.{binary_product, binary_remainder}
 use Rattle.gf256.specs.Field.{field_product, IsElement}
-use Rattle.gf256.specs.ErrorCorrection.{IsEcCodewordCount, generator, next_register}
+use Rattle.gf256.specs.ErrorCorrection.{IsEcCodewordCount, ec_codewords_of, generator, next_register, register_after}
 use Rattle.gf256.specs.Polynomial.{polynomial_sum, scalar_multiple}
-use Rattle.gf256.specs.Private.{IsRegister, padded_generator, zeros}
+use Rattle.gf256.specs.Private.{padded_generator, zeros}
 use Rattle.gf256.proofs.AllBelowLaws.{all_below, all_below-at}
 use Rattle.gf256.proofs.DistributivityLaws.{field_product-xor_left, field_product-zero_left, field_product-zero_right}
 use Rattle.gf256.proofs.FieldLaws.{field_product-assoc, field_product-two_small}
 use Rattle.gf256.proofs.EvaluationLaws.{field_product-one_left}
+use Rattle.gf256.proofs.PolynomialSumLaws.{length-polynomial_sum, length-zeros, polynomial_sum-assoc}
 use Rattle.gf256.proofs.PolynomialSumLaws.{polynomial_sum-comm}
-use Rattle.gf256.proofs.DivisionLaws.{next_register-append_zeros}
+use Rattle.gf256.proofs.DivisionLaws.{length-next_register, length-register_after, next_register-append_zeros}
 use Rattle.gf256.proofs.GeneratorLaws.{length-low_of, low_of}
-use Rattle.std.proofs.Math.Seq.{drop-append-add}
 
 -- one coefficient more of a polynomial that a loop writes
 pub write_more : (written whole : List ℕ) (j c : ℕ) → j < length written → j < length whole
@@ -112,43 +116,71 @@ multiple-parts f p h elements =
     ∙ ap (λ c. scalar_multiple c p)
     (xor_comm (f % 16) (f / 16 * 2 ^ 4) ∙ xor_shifted (f / 16) 4 (f % 16) (omega arith) ∙ whole)
 
--- one codeword more in a register with zeros behind it
-next_register-padded : (low register : List ℕ) (codeword n : ℕ) → 0 < length low → length register ≡ length low
-    → polynomial_sum (drop 1 (register ++ zeros (suc n)))
-    (scalar_multiple (bit_xor (get_or register 0 0) codeword) (low ++ zeros n)) ++ zeros 1
-    ≡ next_register low register codeword ++ zeros (suc n)
-next_register-padded low [] codeword n some long = absurd (omega arith)
-next_register-padded low (r ∷ rs) codeword n some long =
+-- a register with zeros behind it, where the generator has them too
+next_register-zeros : (low register : List ℕ) (codeword n : ℕ) → 0 < length low → length register ≡ length low
+    → next_register (low ++ zeros n) (register ++ zeros n) codeword ≡ next_register low register codeword ++ zeros n
+unfolding next_register
+next_register-zeros low [] codeword n some long = absurd (omega arith)
+next_register-zeros low (r ∷ rs) codeword n some long =
     let fed = bit_xor r codeword in
-    let next = next_register low (r ∷ rs) codeword in
     let one_more : n + 1 ≡ suc n = omega arith in
-    ap (λ l. polynomial_sum (rs ++ zeros (suc n)) l ++ zeros 1) (scalar_multiple-append_zeros fed low n)
-    ∙ ap (λ l. l ++ zeros 1) (polynomial_sum-comm (rs ++ zeros (suc n)) (scalar_multiple fed low ++ zeros n)
-    ∙ sym (next_register-append_zeros low rs r codeword n (omega arith)))
-    ∙ append_assoc next (zeros n) (zeros 1)
-    ∙ ap (λ l. next ++ l) (replicate-append-replicate {A = ℕ} n 1 0 ∙ ap zeros one_more)
+    let behind : (rs ++ zeros n) ++ 0 ∷ [] ≡ rs ++ zeros (suc n) =
+    append_assoc rs (zeros n) (0 ∷ []) ∙ ap (λ l. rs ++ l) (replicate-append-replicate {A = ℕ} n 1 0 ∙ ap zeros one_more)
+    in
+    (λ i. polynomial_sum (behind i) (scalar_multiple-append_zeros fed low n i))
+    ∙ polynomial_sum-comm (rs ++ zeros (suc n)) (scalar_multiple fed low ++ zeros n)
+    ∙ sym (next_register-append_zeros low rs r codeword n (omega arith))
 
--- the same for the 33 places that the code has
-pub register-shifted : (k : ℕ) (register : List ℕ) (codeword : ℕ) → IsEcCodewordCount k → length register ≡ 33
-    → IsRegister k register
-    → polynomial_sum (drop 1 register) (scalar_multiple (bit_xor (get_or register 0 0) codeword) (padded_generator k))
-    ++ drop 32 register
-    ≡ next_register (drop 1 (generator k)) (take k register) codeword ++ zeros (33 - k)
-unfolding padded_generator low_of
-register-shifted k register codeword few places padded =
-    let front = take k register in
+register_after-zeros : (low register codewords : List ℕ) (n : ℕ) → 0 < length low → length register ≡ length low
+    → register_after (low ++ zeros n) (register ++ zeros n) codewords
+    ≡ register_after low register codewords ++ zeros n
+unfolding register_after
+register_after-zeros low register [] n some long = refl
+register_after-zeros low register (codeword ∷ codewords) n some long =
+    ap (λ l. register_after (low ++ zeros n) l codewords) (next_register-zeros low register codeword n some long)
+    ∙ register_after-zeros low (next_register low register codeword) codewords n some
+    (length-next_register low register codeword some long)
+
+-- the k codewords are in front of the 32 places of a register
+pub ec_codewords-padded : (k : ℕ) (codewords : List ℕ) → IsEcCodewordCount k
+    → take k (register_after (padded_generator k) (zeros 32) codewords) ≡ ec_codewords_of k codewords
+unfolding padded_generator ec_codewords_of low_of
+ec_codewords-padded k codewords few =
     let low = drop 1 (generator k) in
-    let long : length front ≡ k = length-take-le k register (omega (arith, places, few.1)) in
+    let ec_codewords = register_after low (zeros k) codewords in
     let long_low : length low ≡ k = length-low_of k in
-    let first : get_or register 0 0 ≡ get_or front 0 0 = sym (get_or-take k register 0 0 few.0) in
-    let at_last : 32 ≡ length front + (32 - k) = omega (arith, long, few.1) in
-    let one : 33 - k - (32 - k) ≡ 1 = omega (arith, few.1) in
-    let more : 33 - k ≡ suc (32 - k) = omega (arith, few.1) in
-    let last : drop 32 register ≡ zeros 1 =
-    ap (λ l. drop 32 l) padded ∙ ap (λ n. drop n (front ++ zeros (33 - k))) at_last
-    ∙ drop-append-add front (zeros (33 - k)) (32 - k) ∙ drop-replicate (32 - k) (33 - k) 0 ∙ ap zeros one in
-    let whole : register ≡ front ++ zeros (suc (32 - k)) = padded ∙ ap (λ n. front ++ zeros n) more in
-    (λ i. polynomial_sum (drop 1 (whole i))
-    (scalar_multiple (bit_xor (first i) codeword) (low ++ zeros (32 - k))) ++ last i)
-    ∙ next_register-padded low front codeword (32 - k) (omega (arith, long_low, few.0)) (long ∙ sym long_low)
-    ∙ ap (λ n. next_register low front codeword ++ zeros n) (sym more)
+    let same : length (zeros k) ≡ length low = length-zeros k ∙ sym long_low in
+    let some : 0 < length low = omega (arith, long_low, few.0) in
+    let all : k + (32 - k) ≡ 32 = omega (arith, few.1) in
+    let start : zeros 32 ≡ zeros k ++ zeros (32 - k) =
+    sym (replicate-append-replicate {A = ℕ} k (32 - k) 0 ∙ ap zeros all) in
+    let long : length ec_codewords ≡ k = length-register_after low (zeros k) codewords some same ∙ long_low in
+    ap (λ l. take k (register_after (low ++ zeros (32 - k)) l codewords)) start
+    ∙ ap (take k) (register_after-zeros low (zeros k) codewords (32 - k) some same)
+    ∙ take-append-le k ec_codewords (zeros (32 - k)) (omega (arith, long))
+    ∙ take_all k ec_codewords (omega (arith, long))
+
+-- an operator on two vectors
+zip2-polynomial_sum : (p q : List ℕ) → length p ≡ length q → zip2 bit_xor p q ≡ polynomial_sum p q
+unfolding polynomial_sum
+zip2-polynomial_sum [] [] same = refl
+zip2-polynomial_sum [] (b ∷ q) same = absurd (omega (arith, same))
+zip2-polynomial_sum (a ∷ p) [] same = absurd (omega (arith, same))
+zip2-polynomial_sum (a ∷ p) (b ∷ q) same = ap (λ l. bit_xor a b ∷ l) (zip2-polynomial_sum p q (omega (arith, same)))
+
+pub zip2-two_sums : (p low high : List ℕ) → length p ≡ length low → length low ≡ length high
+    → zip2 bit_xor (zip2 bit_xor p low) high ≡ polynomial_sum p (polynomial_sum low high)
+zip2-two_sums p low high same as_high =
+    ap (λ l. zip2 bit_xor l high) (zip2-polynomial_sum p low same)
+    ∙ zip2-polynomial_sum (polynomial_sum p low) high (length-polynomial_sum p low same ∙ as_high)
+    ∙ polynomial_sum-assoc p low high
+
+-- the places 1 to 32 of a register and of a vector of zeros behind it
+pub next_places : (register : List ℕ) → length register ≡ 32
+    → pick_l 0 (register ++ zeros 32) (range_with_len 1 32) ≡ drop 1 register ++ 0 ∷ []
+next_places [] long = absurd (omega (arith, long))
+next_places (r ∷ rs) long =
+    let all = (r ∷ rs) ++ zeros 32 in
+    let one_more : length rs + 1 ≡ 32 = omega (arith, long) in
+    pick_l-range_with_len 0 all 1 32 (omega (arith, long, length-append (r ∷ rs) (zeros 32), length-zeros 32))
+    ∙ ap (λ n. take n (rs ++ zeros 32)) (sym one_more) ∙ take-append-add rs (zeros 32) 1

@@ -1,5 +1,5 @@
 -- Definitions that only the contracts of private functions cite: nothing here has to be believed.
-use Rattle.std.specs.Prelude.{◌≡◌, ◌<◌, ◌-◌, ℕ, List, [], ◌++◌, drop, take, replicate, slice_index_or}
+use Rattle.std.specs.Prelude.{◌≡◌, ◌<◌, ◌-◌, ℕ, List, [], ◌++◌, drop, replicate, slice_index_or}
 use Rattle.gf256.specs.ErrorCorrection.{generator}
 use Rattle.gf256.specs.Polynomial.{scalar_multiple}
 
@@ -18,7 +18,3 @@ padded_generator k = drop 1 (generator k) ++ zeros (32 - k)
 -- a table of the multiples of a polynomial by the elements 0 to 15
 abbrev pub AreMultiples : List ℕ → List (List ℕ) → Type 0
 AreMultiples polynomial table = (i : ℕ) → i < 16 → slice_index_or table i [] ≡ scalar_multiple i polynomial
-
--- a register of k codewords in 33 places: zeros follow them
-abbrev pub IsRegister : ℕ → List ℕ → Type 0
-IsRegister k register = register ≡ take k register ++ zeros (33 - k)

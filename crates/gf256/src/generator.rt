@@ -3,15 +3,22 @@ ghost use Rattle.gf256.specs.Field.{alpha, field_power};
 ghost use Rattle.gf256.specs.ErrorCorrection.{AreEcCodewords, IsEcCodewordCount, generator};
 ghost use Rattle.gf256.specs.ErrorCorrection.{next_register};
 ghost use Rattle.gf256.specs.Polynomial.{polynomial_sum, scalar_multiple};
-ghost use Rattle.gf256.specs.Private.{AreMultiples, IsRegister, padded_generator, zeros};
-ghost use Rattle.std.specs.Prelude.{◌≡◌, ◌-◌, ℕ, ◌∷◌, ◌++◌, drop, length, map, take};
+ghost use Rattle.gf256.specs.Private.{AreMultiples, padded_generator};
+ghost use Rattle.std.specs.Prelude.{◌≡◌, ℕ, [], ◌∷◌, ◌++◌, drop, length, map};
 
 use crate::field::{power_of, twice};
 use crate::tables::GENERATORS;
 use std::marker::Model;
+use std::simd::u8x32;
 
-/// The places of a register: room for 30 error correction codewords, and two vectors of 16 bytes.
+/// The places of a register: room for 30 error correction codewords, and a vector of bytes.
 const PLACES: usize = 32;
+
+/// The place after each place of a vector. The last one is the first place of a second vector.
+const NEXT_PLACES: [usize; PLACES] = [
+    1, 2, 3, 4, 5, 6, 7, 8, 9, 10, 11, 12, 13, 14, 15, 16, 17, 18, 19, 20, 21, 22, 23, 24, 25, 26,
+    27, 28, 29, 30, 31, 32,
+];
 
 /// A multiple of a generator polynomial: its coefficients from high to low, but for the highest, and zeros after them.
 type Multiple = [u8; PLACES];
@@ -60,36 +67,29 @@ impl Generator {
         ensures { AreEcCodewords self.now block.now out.new }
     {
         let count = self.count;
-        let mut register = [0; PLACES + 1];
+        let mut register = u8x32::splat(0);
         for &codeword in block {
-            self.shift(&mut register, codeword);
+            register = self.next(register, codeword);
         }
-        out.copy_from_slice(&register[..count]);
+        out.copy_from_slice(&register.to_array()[..count]);
     }
 
-    /// Takes one more codeword into the register of a division. Zeros follow its codewords.
-    fn shift(&self, register: &mut [u8; PLACES + 1], codeword: u8)
-        requires { IsRegister self.now register.old }
-        ensures { register.new ≡ next_register (drop 1 (generator self.now)) (take self.now register.old) codeword
-            ++ zeros (33 - self.now) }
+    /// Returns the register of a division after one codeword more. Zeros follow its codewords.
+    fn next(&self, register: u8x32, codeword: u8) -> u8x32
+        ensures { result ≡ next_register (padded_generator self.now) register codeword }
     {
         let feedback = usize::from(register[0] ^ codeword);
-        move_up_and_add(
-            register,
-            &self.low[feedback % 16],
-            &self.high[feedback / 16],
-        );
+        let low = u8x32::from_array(self.low[feedback % 16]);
+        let high = u8x32::from_array(self.high[feedback / 16]);
+        moved_up(register) ^ low ^ high
     }
 }
 
-/// Moves each codeword of the register up by one place, and adds two multiples.
-fn move_up_and_add(register: &mut [u8; PLACES + 1], low: &Multiple, high: &Multiple)
-    ensures { register.new
-        ≡ polynomial_sum (drop 1 register.old) (polynomial_sum low.now high.now) ++ drop 32 register.old }
+/// Returns a register whose codewords are moved up by one place, with 0 in the last place.
+fn moved_up(register: u8x32) -> u8x32
+    ensures { result ≡ drop 1 register ++ 0 ∷ [] }
 {
-    for j in 0..PLACES {
-        register[j] = register[j + 1] ^ low[j] ^ high[j];
-    }
+    register.shuffle(u8x32::splat(0), NEXT_PLACES)
 }
 
 /// Returns the multiples of a polynomial by the elements 0 to 15.

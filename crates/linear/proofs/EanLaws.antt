@@ -1,26 +1,25 @@
 -- What is drawn as EAN or UPC is read back (ISO/IEC 15420, symbol formats).
-use Rattle.std.proofs.Common.{◌≡◌, ℕ, ◌+◌, ◌-◌, ◌*◌, ◌<◌, Bool, true, false, cond, Ok, Err, Result, Some, None, Option}
+use Rattle.std.proofs.Common.{◌≡◌, ℕ, ◌+◌, ◌-◌, ◌*◌, ◌<◌, Bool, true, false, Ok, Err, Result, Some, Option}
 use Rattle.std.proofs.Common.{List, [], ◌∷◌, ◌++◌, length, take, drop, refl, sym, ap, subst, ◌∙◌, arith, length-append}
-use Rattle.std.proofs.Common.{append_assoc, eqb, eq-eqb, inl, inr, map, ◌%◌, ◌≤◌, lit≤}
-use Rattle.std.specs.Prelude.{option_map, option_and_then, flat_map, replicate, slice_index, position, All, IfOk, codes}
+use Rattle.std.proofs.Common.{eqb, eq-eqb, inl, inr, map, ◌%◌, ◌≤◌, lit≤}
+use Rattle.std.specs.Prelude.{option_and_then, flat_map, replicate, slice_index, All, IfOk, codes, zip}
 use Rattle.std.specs.Bool.{then_some}
-use Rattle.std.specs.Option.{option_zip}
 use Rattle.std.specs.Result.{result_ok}
 use Rattle.std.specs.Str.{bytes_eq}
 use Rattle.std.specs.Char.{IsAsciiDigit}
 use Rattle.std.specs.List.{AllByRecursion}
 use Rattle.std.proofs.lemmas.Bool.Decides.{nat_tests}
-use Rattle.std.proofs.lemmas.List.{get_or-append_right, length-take-le, length-drop, take-append-drop}
+use Rattle.std.proofs.lemmas.List.{get_or-append_right, length-take-le, length-drop, map-id, take-append-drop}
+use Rattle.std.proofs.lemmas.Simd.{map-map}
+use Rattle.std.proofs.lemmas.Slice.Zip.{firsts-zip, length-zip, seconds-zip}
 use Rattle.std.proofs.lemmas.List.Elements.{All-append, All-take, All-drop, All-from_recursion, recursion_from_All}
 use Rattle.linear.specs.declared.refusal.Refusal.{Refusal}
-use Rattle.linear.specs.declared.refusal.Refusal.TheVariants.{WrongNumberOfDigits, WrongCheckDigit}
 use Rattle.linear.specs.declared.ean.NumberSet.{NumberSet}
 use Rattle.linear.specs.declared.ean.NumberSet.TheVariants.{A, C}
 use Rattle.linear.specs.declared.limits.TheConstants.{MAX_MODULES}
 use Rattle.linear.specs.Drawing.{IsDrawn}
-use Rattle.linear.specs.Digits.{digit_value, weighted_sum, checked_digits, with_check_digit, full_digits, check_digit}
+use Rattle.linear.specs.Digits.{digit_value, weighted_sum, with_check_digit, full_digits, check_digit}
 use Rattle.linear.specs.Modules.{each_group}
-use Rattle.linear.specs.Tables.{left_half_sets}
 use Rattle.linear.specs.Ean.{pattern, patterns, normal_guard, centre_guard, symbol, left_sets, ean8_row, ean13_row}
 use Rattle.linear.specs.Ean.{upca_row}
 use Rattle.linear.specs.EanReading.{digit_in, has_guards, read_halves, digit_in_a_or_b, with_first_digit}
@@ -29,7 +28,7 @@ use Rattle.linear.proofs.PatternLaws.{length-pattern, digit_in-pattern, digit_in
 use Rattle.linear.proofs.PatternLaws.{digit_in_a_or_b-pattern_b, length-left_sets, letter_of, position-left_sets}
 use Rattle.linear.proofs.PatternLaws.{IsAOrB, left_sets_a_or_b}
 use Rattle.linear.proofs.DigitLaws.{IfOk-from_each, IsFull, full_from_Ok}
-use Rattle.linear.proofs.GroupLaws.{take-append, drop-append, drop-append_more}
+use Rattle.linear.proofs.GroupLaws.{take-append, drop-append, drop-append_more, each_group-drawn, length-drawn}
 
 -- digits in number set C
 abbrev pub right_half : List ℕ → List Bool
@@ -51,65 +50,42 @@ digit_in-digit set byte h = digit_in-pattern set (digit_value byte) (digit_below
 
 pub length-right_half : (bytes : List ℕ) → AllByRecursion IsAsciiDigit bytes
     → length (right_half bytes) ≡ 7 * length bytes
-length-right_half [] d = refl
-length-right_half (byte ∷ bytes) d =
-    let first = length-pattern_digit C byte d.0 in
-    let rest = length-right_half bytes d.1 in
-    length-append (pattern C (digit_value byte)) (right_half bytes) ∙ omega arith
+length-right_half = length-drawn 7 (λ byte. pattern C (digit_value byte)) IsAsciiDigit (length-pattern_digit C)
+
+-- each group of the right half is found in set C
+each_group-right_half : (bytes : List ℕ) (after : List Bool) → AllByRecursion IsAsciiDigit bytes
+    → each_group (digit_in C) 7 (length bytes) (right_half bytes ++ after) ≡ Some bytes
+each_group-right_half bytes after d =
+    each_group-drawn 7 (λ byte. pattern C (digit_value byte)) IsAsciiDigit (length-pattern_digit C) (digit_in C)
+    (λ byte. byte) (digit_in-digit C) bytes after d ∙ ap Some (map-id bytes)
+
+-- a digit of a left half beside its set
+abbrev Paired : (NumberSet → Type 0) → NumberSet × ℕ → Type 0
+Paired P pair = P pair.0 × IsAsciiDigit pair.1
+
+all_paired : (P : NumberSet → Type 0) (sets : List NumberSet) (bytes : List ℕ) → AllByRecursion P sets
+    → AllByRecursion IsAsciiDigit bytes → AllByRecursion (Paired P) (zip sets bytes)
+all_paired P [] bytes s d = tt
+all_paired P (set ∷ sets) [] s d = tt
+all_paired P (set ∷ sets) (byte ∷ bytes) s d = ((s.0, d.0), all_paired P sets bytes s.1 d.1)
+
+length-paired : (P : NumberSet → Type 0) (pair : NumberSet × ℕ) → Paired P pair
+    → length (pattern pair.0 (digit_value pair.1)) ≡ 7
+length-paired P pair such = length-pattern_digit pair.0 pair.1 such.1
+
+length-zipped : (sets : List NumberSet) (bytes : List ℕ) → length sets ≡ length bytes
+    → length (zip sets bytes) ≡ length bytes
+length-zipped sets bytes e = length-zip sets bytes ∙ omega arith
+
+any_set : (sets : List NumberSet) → AllByRecursion (λ set. Unit {0}) sets
+any_set [] = tt
+any_set (set ∷ sets) = (tt, any_set sets)
 
 pub length-patterns : (sets : List NumberSet) (bytes : List ℕ) → length sets ≡ length bytes
     → AllByRecursion IsAsciiDigit bytes → length (patterns sets bytes) ≡ 7 * length bytes
-length-patterns [] [] e d = refl
-length-patterns [] (byte ∷ bytes) e d = absurd (omega arith)
-length-patterns (set ∷ sets) [] e d = absurd (omega arith)
-length-patterns (set ∷ sets) (byte ∷ bytes) e d =
-    let first = length-pattern_digit set byte d.0 in
-    let rest = length-patterns sets bytes (omega arith) d.1 in
-    length-append (pattern set (digit_value byte)) (patterns sets bytes) ∙ omega arith
-
--- each group of the right half is found in set C
-pub each_group-right_half : (bytes : List ℕ) (after : List Bool) → AllByRecursion IsAsciiDigit bytes
-    → each_group (digit_in C) 7 (length bytes) (right_half bytes ++ after) ≡ Some bytes
-each_group-right_half [] after d = refl
-each_group-right_half (byte ∷ bytes) after d =
-    let first = pattern C (digit_value byte) in
-    let seven : length first ≡ 7 = length-pattern_digit C byte d.0 in
-    rw (
-      append_assoc first (right_half bytes) after,
-      take-append 7 first (right_half bytes ++ after) seven,
-      drop-append 7 first (right_half bytes ++ after) seven,
-      digit_in-digit C byte d.0,
-      each_group-right_half bytes after d.1,
-    ) refl
-
--- two lists, element by element
-abbrev pub zipped : {Y : Type 0} → (NumberSet → ℕ → Y) → List NumberSet → List ℕ → List Y
-zipped g [] bytes = []
-zipped g (set ∷ sets) [] = []
-zipped g (set ∷ sets) (byte ∷ bytes) = g set byte ∷ zipped g sets bytes
-
--- what a reader finds for each group of a left half, from what it finds for one digit in one of its sets
--- the induction is on the sets and the bytes, with a fact on each and one on their lengths; `found`, `g` and `P`
--- differ: a left half of EAN-8 is in set A, one of EAN-13 in A and B
-pub each_group-patterns : {Y : Type 0} (found : List Bool → Option Y) (g : NumberSet → ℕ → Y) (P : NumberSet → Type 0)
-    → ((set : NumberSet) (byte : ℕ) → P set → IsAsciiDigit byte
-    → found (pattern set (digit_value byte)) ≡ Some (g set byte))
-    → (sets : List NumberSet) (bytes : List ℕ) (after : List Bool) → AllByRecursion P sets
-    → length sets ≡ length bytes → AllByRecursion IsAsciiDigit bytes
-    → each_group found 7 (length bytes) (patterns sets bytes ++ after) ≡ Some (zipped g sets bytes)
-each_group-patterns found g P one [] [] after s e d = refl
-each_group-patterns found g P one [] (byte ∷ bytes) after s e d = absurd (omega arith)
-each_group-patterns found g P one (set ∷ sets) [] after s e d = absurd (omega arith)
-each_group-patterns found g P one (set ∷ sets) (byte ∷ bytes) after s e d =
-    let first = pattern set (digit_value byte) in
-    let seven : length first ≡ 7 = length-pattern_digit set byte d.0 in
-    rw (
-      append_assoc first (patterns sets bytes) after,
-      take-append 7 first (patterns sets bytes ++ after) seven,
-      drop-append 7 first (patterns sets bytes ++ after) seven,
-      one set byte s.0 d.0,
-      each_group-patterns found g P one sets bytes after s.1 (omega arith) d.1,
-    ) refl
+length-patterns sets bytes e d =
+    length-drawn 7 (λ pair. pattern pair.0 (digit_value pair.1)) (Paired (λ set. Unit {0})) (length-paired _)
+    (zip sets bytes) (all_paired _ sets bytes (any_set sets) d) ∙ ap (λ n. 7 * n) (length-zipped sets bytes e)
 
 -- a symbol with halves of n digits
 module _ (n : ℕ) (sets : List NumberSet) (left right : List ℕ) (as_many : length sets ≡ n)
@@ -144,60 +120,52 @@ module _ (n : ℕ) (sets : List NumberSet) (left right : List ℕ) (as_many : le
   has_guards-symbol = rw (from_centre, from_end) refl
 
   pub symbol_right_read : each_group (digit_in C) 7 n (drop (8 + 7 * n) (symbol sets left right)) ≡ Some right
-  symbol_right_read =
-      rw (from_right) (let P : ℕ → Type 0 =
-      λ k. each_group (digit_in C) 7 k (right_half right ++ normal_guard) ≡ Some right in
-      subst P long_right (each_group-right_half right normal_guard digits_right))
+  symbol_right_read = rw from_right
+      (subst (λ k. each_group (digit_in C) 7 k (right_half right ++ normal_guard) ≡ Some right) long_right
+      (each_group-right_half right normal_guard digits_right))
 
-  -- the two halves are read
-  pub read_halves-symbol : {Y : Type 0} (found : List Bool → Option Y) (g : NumberSet → ℕ → Y) (P : NumberSet → Type 0)
-      → ((set : NumberSet) (byte : ℕ) → P set → IsAsciiDigit byte
-      → found (pattern set (digit_value byte)) ≡ Some (g set byte)) → AllByRecursion P sets
-      → read_halves n found (symbol sets left right) ≡ Some (zipped g sets left, right)
-  read_halves-symbol {Y} found g P one in_sets =
+  -- the two halves are read; `found` and `value` differ: a left half of EAN-8 is in set A, one of EAN-13 in A and B
+  pub read_halves-symbol : {Y : Type 0} (found : List Bool → Option Y) (value : NumberSet × ℕ → Y)
+      (P : NumberSet → Type 0) → ((set : NumberSet) (byte : ℕ) → P set → IsAsciiDigit byte
+      → found (pattern set (digit_value byte)) ≡ Some (value (set, byte))) → AllByRecursion P sets
+      → read_halves n found (symbol sets left right) ≡ Some (map value (zip sets left), right)
+  read_halves-symbol found value P one in_sets =
       let after = centre_guard ++ (right_half right ++ normal_guard) in
-      let on_left : each_group found 7 n (drop 3 (symbol sets left right)) ≡ Some (zipped g sets left) =
-      let Q : ℕ → Type 0 = λ k. each_group found 7 k (patterns sets left ++ after)
-      ≡ Some (zipped g sets left) in
-      subst Q long_left (each_group-patterns found g P one sets left after in_sets (as_many
-      ∙ sym long_left) digits_left) in
-      ap (λ b. cond b (option_zip (each_group found 7 n (drop 3 (symbol sets left right)))
-      (each_group (digit_in C) 7 n (drop (8 + 7 * n) (symbol sets left right)))) None) has_guards-symbol
-      ∙ ap (λ o. option_zip o (each_group (digit_in C) 7 n (drop (8 + 7 * n) (symbol sets left right)))) on_left
-      ∙ ap (λ o. option_zip (Some (zipped g sets left)) o) symbol_right_read
+      let on_left : each_group found 7 n (drop 3 (symbol sets left right)) ≡ Some (map value (zip sets left)) =
+      subst (λ k. each_group found 7 k (patterns sets left ++ after) ≡ Some (map value (zip sets left)))
+      (length-zipped sets left (as_many ∙ sym long_left) ∙ long_left)
+      (each_group-drawn 7 (λ pair. pattern pair.0 (digit_value pair.1)) (Paired P) (length-paired P) found value
+      (λ pair such. one pair.0 pair.1 such.0 such.1) (zip sets left) after (all_paired P sets left in_sets digits_left))
+      in
+      rw (has_guards-symbol, on_left, symbol_right_read) refl
+
+pub length-full : (count : ℕ) (full : List ℕ) → IsFull count full → length full ≡ count + 1
+length-full count full f = ap length f.whole ∙ length-append f.digits (f.last ∷ []) ∙ ap (λ k. k + 1) f.long
 
 -- full data has the right check digit
 pub with_check_digit-full : (count : ℕ) (full : List ℕ) → IsFull count full
     → result_ok (with_check_digit count full) ≡ Some full
 with_check_digit-full count full f =
-    let long : length full ≡ count + 1 = ap length f.whole ∙ length-append f.digits (f.last ∷ [])
-    ∙ ap (λ k. k + 1) f.long in
+    let long : length full ≡ count + 1 = length-full count full f in
     let more : eqb (length full) count ≡ false = grind (arith, nat_tests) in
     let at_last : slice_index full count ≡ f.last = ap (λ xs. slice_index xs count) f.whole
     ∙ get_or-append_right f.digits (f.last ∷ []) count count 0 f.long (omega arith)
     ∙ (let z : count - count ≡ 0 = omega arith in ap (λ k. slice_index (f.last ∷ []) k) z) in
     let front : take count full ≡ f.digits = ap (λ xs. take count xs) f.whole
     ∙ take-append count f.digits (f.last ∷ []) f.long in
-    let right : checked_digits (take count full) (slice_index full count) ≡ Ok full =
-    ap (λ xs. checked_digits xs (slice_index full count)) front ∙ ap (checked_digits f.digits) at_last
-    ∙ ap (λ b. cond b (Ok (f.digits ++ f.last ∷ []))
-    (Err (WrongCheckDigit (digit_value f.last) (check_digit f.digits))))
-    (eq-eqb (digit_value f.last) (check_digit f.digits) f.right)
-    ∙ ap Ok (sym f.whole) in
-    let by_length : Bool → Bool → Result (List ℕ) Refusal =
-    λ b d. cond b (Ok (full ++ (48 + check_digit full) ∷ []))
-    (cond d (checked_digits (take count full) (slice_index full count)) (Err (WrongNumberOfDigits (length full)))) in
-    ap (λ b. result_ok (by_length b (eqb (length full) (count + 1)))) more
-    ∙ ap (λ d. result_ok (by_length false d)) (eq-eqb (length full) (count + 1) long) ∙ ap result_ok right
+    rw (
+      more,
+      eq-eqb (length full) (count + 1) long,
+      front,
+      at_last,
+      eq-eqb (digit_value f.last) (check_digit f.digits) f.right,
+    ) (ap Some (sym f.whole))
 
 pub all_full : (count : ℕ) (full : List ℕ) → IsFull count full → All IsAsciiDigit full
 all_full count full f =
     let last : All IsAsciiDigit (f.last ∷ []) = All-from_recursion IsAsciiDigit (f.last ∷ []) (f.last_digit, tt) in
     let P : List ℕ → Type 0 = λ xs. All IsAsciiDigit xs in
     subst P (sym f.whole) (All-append IsAsciiDigit f.digits (f.last ∷ []) f.all last)
-
-pub length-full : (count : ℕ) (full : List ℕ) → IsFull count full → length full ≡ count + 1
-length-full count full f = ap length f.whole ∙ length-append f.digits (f.last ∷ []) ∙ ap (λ k. k + 1) f.long
 
 pub all_in : (full : List ℕ) → All IsAsciiDigit full → AllByRecursion IsAsciiDigit full
 all_in full d = recursion_from_All IsAsciiDigit full d
@@ -206,13 +174,6 @@ all_in full d = recursion_from_All IsAsciiDigit full d
 in_a : (set : NumberSet) (byte : ℕ) → set ≡ A → IsAsciiDigit byte
     → digit_in A (pattern set (digit_value byte)) ≡ Some byte
 in_a set byte e d = rw (e) (digit_in-digit A byte d)
-
-zipped_bytes : (sets : List NumberSet) (bytes : List ℕ) → length sets ≡ length bytes
-    → zipped (λ set byte. byte) sets bytes ≡ bytes
-zipped_bytes [] [] e = refl
-zipped_bytes [] (byte ∷ bytes) e = absurd (omega arith)
-zipped_bytes (set ∷ sets) [] e = absurd (omega arith)
-zipped_bytes (set ∷ sets) (byte ∷ bytes) e = ap (λ xs. byte ∷ xs) (zipped_bytes sets bytes (omega arith))
 
 read_ean8-ean8_row : (full : List ℕ) → IsFull 7 full → read_ean8 (ean8_row full) ≡ Some full
 read_ean8-ean8_row full f =
@@ -225,13 +186,8 @@ read_ean8-ean8_row full f =
     let d_right : AllByRecursion IsAsciiDigit (drop 4 full) =
     all_in (drop 4 full) (All-drop IsAsciiDigit 4 full (all_full 7 full f)) in
     let halves = read_halves-symbol 4 sets (take 4 full) (drop 4 full) refl long_left long_right d_left d_right
-    (digit_in A)
-    (λ set byte. byte) (λ set. set ≡ A) in_a (refl, (refl, (refl, (refl, tt)))) in
-    let whole : zipped (λ set byte. byte) sets (take 4 full) ++ drop 4 full ≡ full =
-    ap (λ xs. xs ++ drop 4 full) (zipped_bytes sets (take 4 full) (sym long_left)) ∙ take-append-drop 4 full in
-    ap (λ o. option_and_then (λ (halves : List ℕ × List ℕ). result_ok (with_check_digit 7
-    (halves.0 ++ halves.1))) o) halves
-    ∙ ap (λ xs. result_ok (with_check_digit 7 xs)) whole ∙ with_check_digit-full 7 full f
+    (digit_in A) (λ pair. pair.1) (λ set. set ≡ A) in_a (refl, (refl, (refl, (refl, tt)))) in
+    rw (halves, seconds-zip sets (take 4 full) long_left, take-append-drop 4 full) (with_check_digit-full 7 full f)
 
 -- a row that was empty, and then is that of the full data
 -- each `encode`, of four symbologies, has its own answer, row and reading, the row before and after, and a fact by each
@@ -266,36 +222,24 @@ in_a_or_b set byte (inr e) d =
     rw (e) (digit_in_a_or_b-pattern_b (digit_value byte) (digit_below byte d)
     ∙ ap (λ (b : ℕ). Some (66, b)) (digit_again byte d))
 
-zipped_letters : (sets : List NumberSet) (bytes : List ℕ) → length sets ≡ length bytes
-    → map (λ (found : ℕ × ℕ). found.0) (zipped (λ set byte. (letter_of set, byte)) sets bytes) ≡ map letter_of sets
-zipped_letters [] [] e = refl
-zipped_letters [] (byte ∷ bytes) e = absurd (omega arith)
-zipped_letters (set ∷ sets) [] e = absurd (omega arith)
-zipped_letters (set ∷ sets) (byte ∷ bytes) e =
-    ap (λ xs. letter_of set ∷ xs) (zipped_letters sets bytes (omega arith))
-
-zipped_seconds : (sets : List NumberSet) (bytes : List ℕ) → length sets ≡ length bytes
-    → map (λ (found : ℕ × ℕ). found.1) (zipped (λ set byte. (letter_of set, byte)) sets bytes) ≡ bytes
-zipped_seconds [] [] e = refl
-zipped_seconds [] (byte ∷ bytes) e = absurd (omega arith)
-zipped_seconds (set ∷ sets) [] e = absurd (omega arith)
-zipped_seconds (set ∷ sets) (byte ∷ bytes) e = ap (λ xs. byte ∷ xs) (zipped_seconds sets bytes (omega arith))
+-- the letter of a digit's set, and the digit
+abbrev lettered : NumberSet × ℕ → ℕ × ℕ
+lettered pair = (letter_of pair.0, pair.1)
 
 -- the first digit and those of the halves
 with_first_digit-zipped : (digit : ℕ) (rest : List ℕ) → digit < 10 → length (take 6 rest) ≡ 6
-    → with_first_digit (zipped (λ set byte. (letter_of set, byte)) (left_sets digit) (take 6 rest), drop 6 rest)
-    ≡ Some ((48 + digit) ∷ rest)
+    → with_first_digit (map lettered (zip (left_sets digit) (take 6 rest)), drop 6 rest) ≡ Some ((48 + digit) ∷ rest)
 with_first_digit-zipped digit rest below long =
     let sets = left_sets digit in
-    let same : length sets ≡ length (take 6 rest) = length-left_sets digit below ∙ sym long in
-    let pairs : List (ℕ × ℕ) = zipped (λ set byte. (letter_of set, byte)) sets (take 6 rest) in
-    let digits : map (λ (found : ℕ × ℕ). found.1) pairs ++ drop 6 rest ≡ rest =
-    ap (λ xs. xs ++ drop 6 rest) (zipped_seconds sets (take 6 rest) same) ∙ take-append-drop 6 rest in
-    let place : position (bytes_eq (map (λ (found : ℕ × ℕ). found.0) pairs)) left_half_sets ≡ Some digit =
-    ap (λ letters. position (bytes_eq letters) left_half_sets) (zipped_letters sets (take 6 rest) same)
-    ∙ position-left_sets digit below in
-    ap (option_map (λ n. (48 + n) ∷ (map (λ (found : ℕ × ℕ). found.1) pairs ++ drop 6 rest))) place
-    ∙ ap (λ xs. Some ((48 + digit) ∷ xs)) digits
+    let pairs = zip sets (take 6 rest) in
+    let same : length (take 6 rest) ≡ length sets = long ∙ sym (length-left_sets digit below) in
+    let letters : map (λ (found : ℕ × ℕ). found.0) (map lettered pairs) ≡ map letter_of sets =
+    map-map (λ (found : ℕ × ℕ). found.0) lettered pairs
+    ∙ (sym (map-map letter_of (λ (pair : NumberSet × ℕ). pair.0) pairs)
+    ∙ ap (map letter_of) (firsts-zip sets (take 6 rest) same)) in
+    let digits : map (λ (found : ℕ × ℕ). found.1) (map lettered pairs) ≡ take 6 rest =
+    map-map (λ (found : ℕ × ℕ). found.1) lettered pairs ∙ seconds-zip sets (take 6 rest) same in
+    rw (letters, digits, position-left_sets digit below, take-append-drop 6 rest) refl
 
 -- thirteen digits with their check digit
 pub read_ean13-ean13_row : (full : List ℕ) → IsFull 12 full → read_ean13 (ean13_row full) ≡ Some full
@@ -315,12 +259,9 @@ read_ean13-ean13_row (first ∷ rest) f =
     all_in (drop 6 rest) (All-drop IsAsciiDigit 6 rest d_rest) in
     let halves = read_halves-symbol 6 sets (take 6 rest)
     (drop 6 rest) six long_left long_right d_left d_right digit_in_a_or_b
-    (λ set byte. (letter_of set, byte)) IsAOrB in_a_or_b (left_sets_a_or_b (digit_value first) below) in
-    let checked_read : Option (List ℕ) → Option (List ℕ) = option_and_then (λ xs. result_ok (with_check_digit 12 xs)) in
-    ap (λ o. checked_read (option_and_then with_first_digit o)) halves
-    ∙ ap checked_read (with_first_digit-zipped (digit_value first) rest below long_left)
-    ∙ ap (λ b. result_ok (with_check_digit 12 (b ∷ rest))) (digit_again first d.0)
-    ∙ with_check_digit-full 12 (first ∷ rest) f
+    lettered IsAOrB in_a_or_b (left_sets_a_or_b (digit_value first) below) in
+    rw (halves, with_first_digit-zipped (digit_value first) rest below long_left, digit_again first d.0)
+    (with_check_digit-full 12 (first ∷ rest) f)
 
 pub ean13_read_back : (bytes : List ℕ) → IfOk (full_digits 12 bytes) (λ full. read_ean13 (ean13_row full) ≡ Some full)
 ean13_read_back bytes =

@@ -130,17 +130,13 @@ pub record IsNamed (version : ℕ) (bytes : List ℕ) (place limit : ℕ) (s : S
   pub next : chosen_segments version (drop place bytes) ≡ s ∷ chosen_segments version (drop (place + s.len) bytes)
   pub small : cost version (chosen_segments version (drop (place + s.len) bytes)) ≤ limit
 
-pub IsNamed-first : {version : ℕ} {bytes : List ℕ} {limit : ℕ} {firsts : List Segment} {place : ℕ}
+pub IsNamed-first : {version : ℕ} {bytes : List ℕ} {limit : ℕ} {firsts : List Segment} {place : ℕ} {s : Segment}
     → place < length bytes → IsTable version bytes limit firsts
     → cost version (chosen_segments version (drop place bytes)) ≤ limit
-    → IsNamed version bytes place limit (get_or firsts (length bytes - 1 - place) default_segment)
-IsNamed-first {version} {bytes} {limit} {firsts} {place} h table fits =
-    let from_end = length bytes - 1 - place in
-    let s = get_or firsts from_end default_segment in
+    → slice_get firsts (length bytes - 1 - place) ≡ Some s → IsNamed version bytes place limit s
+IsNamed-first {version} {bytes} {limit} {firsts} {place} {s} h table fits found =
     let first : s ∷ chosen_segments version (drop s.len (drop place bytes))
-    ≡ chosen_segments version (drop place bytes) =
-    table.named place h fits s
-    (slice_get-get_or firsts from_end default_segment (omega (arith, h, table.size))) in
+    ≡ chosen_segments version (drop place bytes) = table.named place h fits s found in
     let cut : IsSegmentation version (s ∷ chosen_segments version (drop s.len (drop place bytes))) (drop place bytes) =
     subst (λ (l : List Segment). IsSegmentation version l (drop place bytes)) (sym first)
     (chosen_segments-is version (drop place bytes)) in

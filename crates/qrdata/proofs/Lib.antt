@@ -25,6 +25,7 @@ pub mod RunLaws
 pub mod SameWidthLaws
 pub mod SegmentReadingLaws
 pub mod SmallChoiceLaws
+pub mod FirstsLaws
 pub mod FirstsTableLaws
 pub mod VersionSearchLaws
 pub mod VersionLaws

@@ -2,5 +2,6 @@
 pub mod BitsInCodewords
 pub mod Blocks
 pub mod ChoiceView
+pub mod Firsts
 pub mod SmallestPlan
 pub mod Table

@@ -8,6 +8,7 @@
 mod bits;
 mod blocks;
 mod final_message;
+mod firsts;
 mod level;
 mod mode;
 mod plan;

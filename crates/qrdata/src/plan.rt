@@ -6,9 +6,10 @@ ghost use Rattle.qrdata.specs.Segments.{cost};
 ghost use Rattle.qrdata.specs.Versions.{IsVersion};
 ghost use Rattle.std.specs.Prelude.{length, ◌≡◌, ◌≤◌, IfErr, IfNone, IfOk, IfSome, ℕ};
 
+use crate::firsts::{Firsts, MAX_BYTES};
 use crate::level::Level;
 use crate::mode::Segment;
-use crate::segmentation::{Firsts, MAX_BYTES, fill};
+use crate::segmentation::fill;
 use crate::version::Version;
 use arrayvec::ArrayVec;
 use std::marker::Model;
@@ -159,7 +160,7 @@ fn plan_between<'a>(lowest: u8, highest: u8, level: Level, bytes: &'a [u8]) -> O
     for number in lowest..highest + 1 {
         let version = Version::of(number);
         if bits <= 8 * version.data_codewords(level) {
-            return Some(plan_of(version, level, bytes, firsts.as_slice(), bits as u32));
+            return Some(plan_of(version, level, bytes, &firsts, bits as u32));
         }
     }
     None
@@ -170,7 +171,7 @@ fn plan_of<'a>(
     version: Version,
     level: Level,
     bytes: &'a [u8],
-    firsts: &[Segment],
+    firsts: &Firsts,
     bits: u32,
 ) -> Plan<'a>
     requires table { IsTable version bytes.now bits firsts.now }
@@ -180,7 +181,7 @@ fn plan_of<'a>(
     let mut segments = ArrayVec::new();
     let mut place = 0;
     while place < bytes.len() {
-        let first = firsts[bytes.len() - 1 - place];
+        let first = firsts.at(bytes.len() - 1 - place);
         segments.push(first);
         place += usize::from(first.len);
     }

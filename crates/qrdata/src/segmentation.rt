@@ -5,16 +5,10 @@ ghost use Rattle.qrdata.specs.Private.Table.{best_choice, byte_choices, fewest_b
 ghost use Rattle.qrdata.specs.Private.Table.{next_characters, next_choices, next_digits, no_choices, short_choice};
 ghost use Rattle.std.specs.Prelude.{length, ◌≡◌, ◌^◌, ◌≤◌, ◌<◌, []};
 
+use crate::firsts::{Firsts, MAX_BYTES};
 use crate::mode::{Mode, Segment, value_of};
 use crate::version::Version;
-use arrayvec::ArrayVec;
 use std::marker::Model;
-
-/// The most bytes that a symbol of version 10 holds: more digits than this have more bits than its data codewords.
-pub(crate) const MAX_BYTES: usize = 652;
-
-/// The first of the best segments of each rest of the bytes, the shortest rest first.
-pub(crate) type Firsts = ArrayVec<Segment, MAX_BYTES>;
 
 /// The bits of an absent choice: more than the best segments of `MAX_BYTES` bytes have.
 const ABSENT: usize = 65536;
@@ -279,9 +273,9 @@ fn without_bytes() -> Choices
 /// segments that fit reach them. The time grows with the number of bytes.
 pub(crate) fn fill(version: Version, bytes: &[u8], firsts: &mut Firsts) -> usize
     requires few { length bytes.now ≤ MAX_BYTES }
-    requires empty { firsts.old.items ≡ [] }
+    requires empty { firsts.old ≡ [] }
     ensures bits { result ≡ fewest_bits version bytes.now }
-    ensures firsts { firsts.new.items ≡ firsts_of version bytes.now }
+    ensures firsts { firsts.new ≡ firsts_of version bytes.now }
 {
     let mut choices = without_bytes();
     let mut place = bytes.len();

@@ -1,7 +1,7 @@
 -- The tables of QR symbols beside those of other programs: qrencode 4.1.1 (qrspec.c) and what Zint 2.11.1 draws; and
 -- the weights of ISO/IEC 18004, 7.8.3.
 use Rattle.std.proofs.Common.{◌≡◌, ℕ, refl, Bool, true, false, List, [], ◌∷◌, ◌++◌, map, codes}
-use Rattle.std.specs.Prelude.{◌==◌, slice_index_or}
+use Rattle.std.specs.Prelude.{◌==◌, ◌+◌, slice_index_or}
 use Rattle.std.specs.List.{flat_map, range_with_len, slice_split}
 use Rattle.gf256.specs.BinaryPolynomial.{binary_remainder}
 use Rattle.qrdata.specs.declared.level.Level.TheVariants.{L, M, Q, H}
@@ -9,10 +9,12 @@ use Rattle.qrmatrix.specs.Functions.{alignment_coordinates}
 use Rattle.qrmatrix.specs.Information.{format_information, level_indicator, version_information}
 use Rattle.qrmatrix.specs.Masks.{is_flipped}
 use Rattle.qrmatrix.specs.Penalty.{balance_penalty, dark_count, finder_before_light, finder_penalty, run_penalty}
-use Rattle.qrmatrix.specs.Penalty.{square_penalty}
+use Rattle.qrmatrix.specs.Modules.{is_inside}
+use Rattle.qrmatrix.specs.Penalty.{penalty, square_penalty}
 use Rattle.qrmatrix.specs.Placement.{remainder_bits}
 use Rattle.qrmatrix.specs.Reading.{level_of}
 use Rattle.qrmatrix.specs.Square.{value_at}
+use Rattle.qrmatrix.specs.Symbol.{Symbol, is_dark}
 
 -- the centres of alignment of versions 1 to 10; qrencode leaves out the 6 that each list begins with
 centres : map alignment_coordinates (range_with_len 1 10) ≡ [] ∷ map (λ centres. 6 ∷ centres)
@@ -43,6 +45,11 @@ format_informations = refl
 version_informations : map version_information (7 ∷ 8 ∷ 9 ∷ 10 ∷ []) ≡ 0x07c94 ∷ 0x085bc ∷ 0x09a99 ∷ 0x0a4d3 ∷ []
 unfolding version_information binary_remainder
 version_informations = refl
+
+-- that of the highest version (ISO/IEC 18004, annex D)
+highest_version_information : version_information 40 ≡ 0x28c69
+unfolding version_information binary_remainder
+highest_version_information = refl
 
 -- The modules that a mask flips, in the square of 12 by 12 with its upper left module in column 12 and row 30: what
 -- differs between Zint's symbols `--vers=10 --mask=N` and `--mask=0`, and for mask 0 the modules whose column and row
@@ -143,7 +150,28 @@ dark_modules : dark_count 3 (λ x y. x == y) ≡ 3
 unfolding dark_count
 dark_modules = refl
 
+-- a light square of 5 by 5 with a dark corner: four rows and four columns add 3 each, fifteen squares 45, and 4 % of
+-- dark modules 90
+dark_corner : penalty 5 (λ x y. x + y == 0) ≡ 12 + 12 + 45 + 90
+unfolding penalty run_penalty finder_penalty square_penalty dark_count balance_penalty
+dark_corner = refl
+
+-- ---- places
+
 -- light outside of the rows
 outside : (value_at [] 0 0 ≡ false) × (value_at ((true ∷ []) ∷ []) 1 0 ≡ false)
     × (value_at ((true ∷ []) ∷ []) 0 1 ≡ false) × (value_at ((true ∷ []) ∷ []) 0 0 ≡ true)
 outside = (refl, refl, refl, refl)
+
+-- columns and rows from 0 to the one before the side
+insides : (is_inside 21 20 0 ≡ true) × (is_inside 21 0 20 ≡ true) × (is_inside 21 21 0 ≡ false)
+    × (is_inside 21 0 21 ≡ false)
+insides = (refl, refl, refl, refl)
+
+-- a symbol whose only dark module is in column 1 and row 0
+one_dark : Symbol
+one_dark = record { side = 2; mask = 0; rows = (false ∷ true ∷ []) ∷ (false ∷ false ∷ []) ∷ [] }
+
+column_and_row : (is_dark one_dark 1 0 ≡ true) × (is_dark one_dark 0 1 ≡ false)
+unfolding one_dark
+column_and_row = (refl, refl)

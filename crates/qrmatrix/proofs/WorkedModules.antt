@@ -3,6 +3,7 @@
 use Rattle.std.specs.Prelude.{◌≡◌, ℕ, ◌+◌, ◌-◌, ◌*◌, ◌/◌, ◌%◌, ◌^◌, ◌==◌, nat_lt, refl, Bool, true, false, List, [], ◌∷◌, ◌++◌, map}
 use Rattle.std.specs.Prelude.{Option, None, Some, codes, slice_index, slice_set, bit_xor, replicate, if◌then◌else◌, zip}
 use Rattle.std.specs.List.{range_with_len}
+use Rattle.std.specs.Option.{option_map}
 use Rattle.gf256.specs.BinaryPolynomial.{binary_remainder}
 use mathlib.Core.Bool.{xor}
 use Rattle.qrdata.specs.declared.level.Level.{Level}
@@ -10,7 +11,8 @@ use Rattle.qrdata.specs.declared.level.Level.TheVariants.{L, M, Q, H}
 use Rattle.qrdata.specs.Bits.{codewords_of, number_of}
 use Rattle.qrdata.specs.Versions.{side_of, total_codewords}
 use Rattle.qrmatrix.specs.Bits.{bit}
-use Rattle.qrmatrix.specs.Functions.{Role, Function, Format, Version, fixed_module, is_free, role}
+use Rattle.qrmatrix.specs.Functions.{Role, Function, Format, Version, fixed_module, format_bit, is_free, role}
+use Rattle.qrmatrix.specs.Functions.{version_bit}
 use Rattle.qrmatrix.specs.Information.{format_information, version_information}
 use Rattle.qrmatrix.specs.Masks.{is_flipped}
 use Rattle.qrmatrix.specs.Modules.{module_at}
@@ -24,6 +26,42 @@ letter None = 32
 letter (Some (Function dark)) = if dark then 35 else 46
 letter (Some (Format i)) = 97 + i
 letter (Some (Version i)) = 65 + i
+
+-- the bits of the format information in column 8 and in row 8 (ISO/IEC 18004, 7.9), where no other pattern hides a bit
+formats_in_column_8 : map (λ y. letter (option_map Format (format_bit 21 8 y))) (range_with_len 0 21) ≡
+    codes "abcdef gh     ijklmno"
+unfolding letter format_bit
+formats_in_column_8 = refl
+
+formats_in_row_8 : map (λ x. letter (option_map Format (format_bit 21 x 8))) (range_with_len 0 21) ≡
+    codes "onmlkj ih    hgfedcba"
+unfolding letter format_bit
+formats_in_row_8 = refl
+
+-- the bits of the version information in some columns and rows of version 7 (7.10), where no other pattern hides a bit
+version_letters : List ℕ → List ℕ → List (List ℕ)
+unfolding letter version_bit
+version_letters columns rows = map (λ y. map (λ x. letter (option_map Version (version_bit 45 x y))) columns) rows
+
+versions_below : version_letters (range_with_len 0 8) (range_with_len 33 12) ≡
+    codes "        "
+    ∷ codes "ADGJMP  "
+    ∷ codes "BEHKNQ  "
+    ∷ codes "CFILOR  " ∷ replicate 8 (codes "        ")
+unfolding version_letters
+versions_below = refl
+
+versions_beside : version_letters (range_with_len 33 12) (range_with_len 0 8) ≡
+    codes " ABC        "
+    ∷ codes " DEF        "
+    ∷ codes " GHI        "
+    ∷ codes " JKL        "
+    ∷ codes " MNO        "
+    ∷ codes " PQR        " ∷ replicate 2 (codes "            ")
+unfolding version_letters
+versions_beside = refl
+
+-- ---- what each module is there for
 
 letters : ℕ → List (List ℕ)
 unfolding letter role
@@ -105,6 +143,12 @@ letters_of_version_7 : letters 7 ≡
     ∷ []
 unfolding letters
 letters_of_version_7 = refl
+
+-- the highest version with no version information
+none_in_version_6 : map (λ (p : ℕ × ℕ). role 6 p.0 p.1) ((30, 0) ∷ (32, 5) ∷ (0, 30) ∷ (5, 32) ∷ []) ≡
+    replicate 4 None
+unfolding role
+none_in_version_6 = refl
 
 -- ---- a symbol of version 2 at level Q under mask 5, as Zint draws it (`zint -b 58 --vers=2 --secure=3 --mask=5 --verbose
 -- --dump -d "WRONG MODULES"`)
@@ -297,3 +341,8 @@ some_modules : map (λ (p : ℕ × ℕ). module_at 2 Q 5 codewords p.0 p.1) (
     true ∷ true ∷ false ∷ true ∷ false ∷ true ∷ true ∷ false ∷ true ∷ true ∷ true ∷ false ∷ true ∷ true ∷ true ∷ true ∷ false ∷ false ∷ false ∷ []
 unfolding codewords module_at xor fixed_module role rank is_free key is_flipped format_information binary_remainder
 some_modules = refl
+
+-- outside of version 1 too, where the mask alone would give a dark module
+light_outside : map (λ (p : ℕ × ℕ). module_at 1 M 0 [] p.0 p.1) ((21, 9) ∷ (9, 21) ∷ []) ≡ false ∷ false ∷ []
+unfolding module_at xor fixed_module role rank is_free key is_flipped format_information binary_remainder
+light_outside = refl

@@ -4,7 +4,7 @@ use Rattle.qrdata.specs.declared.level.Level.{Level}
 use Rattle.qrdata.specs.declared.mode.Mode.{Mode}
 use Rattle.qrdata.specs.declared.mode.Segment.{Segment}
 use Rattle.qrdata.specs.declared.plan.TheConstants.{MAX_SEGMENTS}
-use Rattle.qrdata.specs.declared.segmentation.TheConstants.{MAX_BYTES}
+use Rattle.qrdata.specs.declared.firsts.TheConstants.{MAX_BYTES}
 use Rattle.qrdata.specs.Fewest.{chosen_segments}
 use Rattle.qrdata.specs.PlanView.{PlanView}
 use Rattle.qrdata.specs.Segments.{cost, count_width}

@@ -86,12 +86,12 @@ plan_of-requires-clause-table c =
     let number = c.loop-number.number in
     let here = (goal.at.plan_of-requires-clause-table c).After-data_codewords-in-loop-number in
     let known = is_version here in
-    let firsts = c.as_slice.ensures.value ∙ (rw c.of-widest.ensures at c.fill-bits.ensures.firsts) in
+    let firsts = rw c.of-widest.ensures at c.fill-bits.ensures.firsts in
     record {
       few = c.requires.few;
       size = ap length firsts ∙ length-firsts_of c.args.highest c.args.bytes.now;
       named = rw c.of-version.ensures (NamesBest-of number c.args.highest (same_widths here) c.args.bytes.now
-          c.fill-bits.result c.as_slice.result.now c.requires.few
+          c.fill-bits.result c.fill-bits.new.firsts c.requires.few
           (omega (
             arith,
             codewords_are here,

@@ -13,23 +13,23 @@ loop-place-init c = (rw c.new-segments.ensures refl, omega arith, omega (arith, 
 
 pub push-requires : goal.push-requires
 push-requires c =
-    let named = IsNamed-first c.loop-place-test.true c.requires.table c.loop-place.invariant.2 in
+    let named = IsNamed-first c.loop-place-test.true c.requires.table c.loop-place.invariant.2 c.at-first.ensures in
     let all = rw named.next at c.loop-place.invariant.0 in
     (lit< tt, omega (arith, ap length all, length-append {A = Segment}, c.requires.bits.short))
 
 pub overflow_add-place : goal.overflow_add-place
 overflow_add-place c =
-    let named = IsNamed-first c.loop-place-test.true c.requires.table c.loop-place.invariant.2 in
+    let named = IsNamed-first c.loop-place-test.true c.requires.table c.loop-place.invariant.2 c.at-first.ensures in
     omega (arith, named.inside, c.requires.table.few, c.from-place.ensures)
 
 pub loop-place-smaller : goal.loop-place-smaller
 loop-place-smaller c =
-    let named = IsNamed-first c.loop-place-test.true c.requires.table c.loop-place.invariant.2 in
+    let named = IsNamed-first c.loop-place-test.true c.requires.table c.loop-place.invariant.2 c.at-first.ensures in
     omega (arith, named.some, named.inside, c.from-place.ensures)
 
 pub loop-place-preserved : goal.loop-place-preserved
 loop-place-preserved c =
-    let named = IsNamed-first c.loop-place-test.true c.requires.table c.loop-place.invariant.2 in (
+    let named = IsNamed-first c.loop-place-test.true c.requires.table c.loop-place.invariant.2 c.at-first.ensures in (
       rw (c.push.ensures.items, c.from-place.ensures, append_assoc) (rw named.next at c.loop-place.invariant.0),
       omega (arith, named.inside, c.from-place.ensures),
       rw c.from-place.ensures named.small,

@@ -1,4 +1,4 @@
-use Rattle.std.proofs.Common.{◌++◌, ◌∷◌, [], lit<, ◌-◌, ◌≡◌, drop, length, get_or, arith, sym, ap, ◌∙◌}
+use Rattle.std.proofs.Common.{◌++◌, ◌∷◌, [], ◌-◌, ◌≡◌, drop, length, get_or, arith, sym, ap, ◌∙◌}
 use Rattle.std.proofs.lemmas.List.{length-drop}
 use Rattle.qrdata.specs.declared.segmentation.Choices.{Choices}
 use Rattle.qrdata.specs.Private.Table.{choices_of, next_choices}
@@ -23,16 +23,14 @@ with_byte-choices-requires c =
 pub push-requires : goal.push-requires
 push-requires c =
     let version = c.args.version in
-    let rest = drop c.loop-place.place c.args.bytes.now in (
-      lit< tt,
-      omega (
-        arith,
-        ap length c.loop-place.invariant.1,
-        length-firsts_of version rest,
-        length-drop c.loop-place.place c.args.bytes.now,
-        c.loop-place-test.true,
-        c.requires.few,
-      ),
+    let rest = drop c.loop-place.place c.args.bytes.now in
+    omega (
+      arith,
+      ap length c.loop-place.invariant.1,
+      length-firsts_of version rest,
+      length-drop c.loop-place.place c.args.bytes.now,
+      c.loop-place-test.true,
+      c.requires.few,
     )
 
 pub loop-place-preserved : goal.loop-place-preserved
@@ -44,7 +42,7 @@ loop-place-preserved c =
     c.loop-place.invariant.2 ∙ choices_of-next version bytes c.loop-place.place c.loop-place-test.true
     c.loop-place.invariant.0) in (
       omega (arith, c.loop-place.invariant.0),
-      c.push.ensures.items ∙ (λ i. c.loop-place.invariant.1 i ++ (c.segment.ensures
+      c.push.ensures ∙ (λ i. c.loop-place.invariant.1 i ++ (c.segment.ensures
           ∙ ap (λ (choices : Choices). choices.best.segment) next) i ∷ [])
           ∙ firsts_of-next version bytes c.loop-place.place c.loop-place-test.true c.loop-place.invariant.0,
       next,

@@ -5,7 +5,7 @@ use Rattle.qrdata.proofs.segmentation.fill.Given as goal
 -- the table is filled from here on, and these are the choices of the bytes from here on
 abbrev pub invariant-loop-place : goal.invariant-loop-place
 invariant-loop-place l = (l.place ≤ length l.bytes)
-    × (l.firsts.items ≡ firsts_of l.version (drop l.place l.bytes))
+    × (l.firsts ≡ firsts_of l.version (drop l.place l.bytes))
     × (l.choices ≡ choices_of l.version (drop l.place l.bytes))
 
 abbrev pub decreases-loop-place : goal.decreases-loop-place

@@ -1,10 +1,10 @@
-use Rattle.std.proofs.Common.{◌≡◌, drop, length, take}
-use Rattle.gf256.specs.ErrorCorrection.{ec_codewords_of, generator, register_after}
-use Rattle.gf256.specs.Private.{IsRegister}
+use Rattle.std.proofs.Common.{◌≡◌, drop}
+use Rattle.gf256.specs.ErrorCorrection.{register_after}
+use Rattle.gf256.specs.Private.{padded_generator, zeros}
 use Rattle.gf256.proofs.generator.Generator.ec_codewords.Given as goal
 
+-- the codewords that are left make of the register what all of them make of zeros
 abbrev pub invariant-loop-codeword : goal.invariant-loop-codeword
 invariant-loop-codeword l =
-    (length l.register ≡ 33) × IsRegister l.self l.register
-    × (register_after (drop 1 (generator l.self)) (take l.self l.register) (drop l.codeword-index l.block)
-    ≡ ec_codewords_of l.self l.block)
+    register_after (padded_generator l.self) l.register (drop l.codeword-index l.block)
+    ≡ register_after (padded_generator l.self) (zeros 32) l.block
