@@ -17,7 +17,6 @@ name that is bound in a definition and means something else in its file counts a
 because of that, never too short.
 """
 
-import argparse
 import difflib
 import itertools
 import os
@@ -268,11 +267,10 @@ def print_counts(lists):
 
 
 def main():
-    parser = argparse.ArgumentParser(description=__doc__, formatter_class=argparse.RawDescriptionHelpFormatter)
+    parser = sources.parser_of(__doc__)
     way = parser.add_mutually_exclusive_group()
     way.add_argument("--write", action="store_true", help="make the lists of docs/DEFINITIONS.md anew")
     way.add_argument("--check", action="store_true", help="compare docs/DEFINITIONS.md and README.md with the files")
-    parser.add_argument("--top", default=sources.TOP, metavar="FOLDER", help="the repository (that of this script)")
     given = parser.parse_args()
     lists, path = read_lists(given.top), os.path.join(given.top, PAGE)
     if given.write:

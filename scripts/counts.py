@@ -7,7 +7,6 @@ status is 1 where one differs, a line for each. --write makes the file anew; for
 it runs these, most of which need the proved program, crates/labels/out/labels.
 """
 
-import argparse
 import glob
 import os
 import re
@@ -101,9 +100,8 @@ def kept(top):
 
 
 def main():
-    parser = argparse.ArgumentParser(description=__doc__, formatter_class=argparse.RawDescriptionHelpFormatter)
+    parser = sources.parser_of(__doc__)
     parser.add_argument("--write", action="store_true", help=f"make {FILE} anew")
-    parser.add_argument("--top", default=sources.TOP, metavar="FOLDER", help="the repository (that of this script)")
     given = parser.parse_args()
     found, wanted = {name: str(number) for name, number in counts_of_text(given.top)}, kept(given.top)
     if given.write:

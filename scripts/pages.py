@@ -147,7 +147,7 @@ def faults_of_example(name, page, blocks, tests):
 
 
 def main():
-    top = sources.top_given(__doc__)
+    top = sources.parser_of(__doc__).parse_args().top
     pages = pages_of(top)
     tests, faults, count = sources.read(os.path.join(top, "crates/tests/src/pages.rt")), [], 0
     terms = list(terms_of(pages[GLOSSARY]))

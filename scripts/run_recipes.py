@@ -19,17 +19,18 @@ file of the repository to another must lead to a file and a heading. The last li
 not, the status is 1.
 """
 
-import argparse
 import os
 import re
 import shutil
 import subprocess
 import sys
 import tempfile
+from collections import namedtuple
 from pathlib import Path
-from typing import Dict, List, NamedTuple, Optional
 
-TOP = Path(__file__).resolve().parent.parent
+import sources
+
+TOP = Path(sources.TOP)
 PROGRAM = "crates/labels/out/labels"
 PAGES = ("README.md", "docs/INPUT.md", "docs/PRINTING.md", "docs/RECIPES.md")
 FOLDERS = ("man", "completions", "tools", "docs", "scripts")
@@ -46,16 +47,11 @@ HEADING = re.compile(r"^#+ (.*)$", re.MULTILINE)
 # zbar's warnings of its reader of another symbology, which are printed in some runs and not in others
 DATABAR = re.compile(r"^WARNING: decoder/databar.*\n(?:\t.*\n)?", re.MULTILINE)
 
-
-class Block(NamedTuple):
-    """Commands, what they print (None where that is not compared), and whether they may fail."""
-
-    commands: str
-    printed: Optional[str]
-    may_fail: bool
+# Commands, what they print (None where that is not compared), and whether they may fail.
+Block = namedtuple("Block", "commands printed may_fail")
 
 
-def blocks_of(page: str, with_kit: bool) -> List[Block]:
+def blocks_of(page, with_kit):
     """The blocks of a page that are to run."""
     blocks = BLOCK.findall((TOP / page).read_text(encoding="utf-8"))
     return [
@@ -65,7 +61,7 @@ def blocks_of(page: str, with_kit: bool) -> List[Block]:
     ]
 
 
-def examples_of(page: Path) -> List[Block]:
+def examples_of(page):
     """The examples of a man page: commands behind a prompt and what they print, or commands alone."""
     environment = {**os.environ, "MANWIDTH": "200", "MAN_KEEP_FORMATTING": ""}
     text = subprocess.run(["man", "-l", page], capture_output=True, check=True, text=True, env=environment).stdout
@@ -85,13 +81,13 @@ def examples_of(page: Path) -> List[Block]:
     return blocks
 
 
-def anchors_of(page: Path) -> List[str]:
+def anchors_of(page):
     """The names by which links lead to the headings of a page."""
     headings = HEADING.findall(ANY_BLOCK.sub("", page.read_text(encoding="utf-8")))
     return [re.sub(r"[^\w\- ]", "", heading.lower()).replace(" ", "-") for heading in headings]
 
 
-def pixels(picture: Path) -> bytes:
+def pixels(picture):
     """The pixels of a PNG; none where it is not there."""
     return subprocess.run(["pngtopnm", picture], capture_output=True).stdout if picture.exists() else b""
 
@@ -99,20 +95,20 @@ def pixels(picture: Path) -> bytes:
 class Run:
     """Counts what was tried, and what was as printed."""
 
-    def __init__(self, program: Optional[Path], with_kit: bool) -> None:
+    def __init__(self, program, with_kit):
         self.program = program
         self.with_kit = with_kit
         self.count = self.good = 0
         self.kept = tempfile.TemporaryDirectory()
 
-    def judge(self, is_good: bool, text: str) -> None:
+    def judge(self, is_good, text):
         """Counts one thing, and prints what is wrong with it."""
         self.count += 1
         self.good += is_good
         if not is_good:
             print(text, flush=True)
 
-    def try_page(self, name: str, blocks: List[Block]) -> None:
+    def try_page(self, name, blocks):
         """Runs the blocks of a page in a new folder, and compares the pictures that they leave there."""
         if not blocks:
             self.judge(False, f"{name}: no block to run")
@@ -127,7 +123,7 @@ class Run:
             if name == "docs/RECIPES.md":
                 self.compare_pictures(work)
 
-    def prepare(self, folder: Path, work: Path) -> Dict[str, str]:
+    def prepare(self, folder, work):
         """Copies the repository's files and the program, and returns the environment of the blocks."""
         if self.with_kit:
             subprocess.run(["git", "clone", "--quiet", TOP, work], check=True)
@@ -145,7 +141,7 @@ class Run:
         path = f"{folder}/bin:{work}/tools:{os.environ['PATH']}"
         return {**environment, "HOME": f"{folder}/home", "PATH": path}
 
-    def try_block(self, name: str, block: Block, work: Path, environment: Dict[str, str]) -> None:
+    def try_block(self, name, block, work, environment):
         """Runs one block, and compares what it prints."""
         shown = SHOWN_FILE.fullmatch(block.commands) if block.may_fail else None
         if shown and not (work / shown[1]).exists():
@@ -157,7 +153,7 @@ class Run:
         is_good = (ran.returncode == 0 or block.may_fail) and block.printed in (None, printed)
         self.judge(is_good, f"{name}: status {ran.returncode} of:\n{block.commands}it printed:\n{printed}")
 
-    def compare_pictures(self, folder: Path) -> None:
+    def compare_pictures(self, folder):
         """Compares the pictures of the documents with those in the folder that have their names."""
         pictures = sorted((TOP / "docs/pictures").iterdir())
         for picture in pictures:
@@ -165,7 +161,7 @@ class Run:
             is_good = bool(wanted) and wanted == pixels(folder / picture.name)
             self.judge(is_good, f"docs/pictures/{picture.name} is not what docs/RECIPES.md makes")
 
-    def try_links(self) -> None:
+    def try_links(self):
         """Looks for the file and the heading of each link between the files of the repository."""
         for page in (TOP / "README.md", *sorted((TOP / "docs").glob("*.md"))):
             text = ANY_BLOCK.sub("", page.read_text(encoding="utf-8"))
@@ -176,7 +172,7 @@ class Run:
                 is_good = target.exists() and (not anchor or anchor in anchors_of(target))
                 self.judge(is_good, f"{page.relative_to(TOP)}: a link to {path}#{anchor} leads nowhere")
 
-    def try_man_pages(self) -> None:
+    def try_man_pages(self):
         """Runs the examples of each man page."""
         for page in sorted((TOP / "man").glob("*.1")):
             blocks = examples_of(page)
@@ -186,8 +182,8 @@ class Run:
                 self.try_page(f"man/{page.name}", blocks)
 
 
-def main() -> int:
-    parser = argparse.ArgumentParser(description=__doc__, formatter_class=argparse.RawDescriptionHelpFormatter)
+def main():
+    parser = sources.parser_of(__doc__, has_top=False)
     parser.add_argument("--kit", action="store_true", help="run the blocks that call the kit too, in a fresh clone")
     parser.add_argument("program", metavar="PROGRAM", nargs="?", type=Path, help=f"the program ({PROGRAM})")
     arguments = parser.parse_args()

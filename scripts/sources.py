@@ -21,9 +21,17 @@ ITEM = re.compile(
 FUNCTION_WORD = re.compile(r"\b(requires|ensures)\b(?:\s+(\w+))?\s*(?=\{)|[\[({;]")
 
 
+def parser_of(description, has_top=True):
+    """A parser of the arguments of a script; --top names the repository, which else is that of this script."""
+    parser = argparse.ArgumentParser(description=description, formatter_class=argparse.RawDescriptionHelpFormatter)
+    if has_top:
+        parser.add_argument("--top", default=TOP, metavar="FOLDER", help="the repository (that of this script)")
+    return parser
+
+
 def program_given(description):
     """The program `labels` that an argument names, the proved one where none does. Stops where it is not there."""
-    parser = argparse.ArgumentParser(description=description, formatter_class=argparse.RawDescriptionHelpFormatter)
+    parser = parser_of(description, has_top=False)
     default = os.path.join(TOP, "crates", "labels", "out", "labels")
     parser.add_argument(
         "program",
@@ -36,13 +44,6 @@ def program_given(description):
     if not os.path.isfile(program) or not os.access(program, os.X_OK):
         parser.error(f"{program} is no program: run `rt run < /dev/null` in crates/labels, or name another one")
     return program
-
-
-def top_given(description):
-    """The top of the repository that the option --top names, or else that of this script."""
-    parser = argparse.ArgumentParser(description=description, formatter_class=argparse.RawDescriptionHelpFormatter)
-    parser.add_argument("--top", default=TOP, metavar="FOLDER", help="the repository (that of this script)")
-    return parser.parse_args().top
 
 
 def crates_of(top):

@@ -198,7 +198,7 @@ def unused_functions(code):
 
 
 def main():
-    logic, code = read_tree(sources.top_given(__doc__))
+    logic, code = read_tree(sources.parser_of(__doc__).parse_args().top)
     functions, function_count = unused_functions(code)
     found = []
     for one in unused_definitions(logic, code):

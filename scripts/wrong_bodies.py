@@ -15,7 +15,6 @@ The status is 0 where each wrong body is refused, 1 where one is not or there is
 crate or there is no kit. The last line is `N passed, M failed`, as of `rt ci`.
 """
 
-import argparse
 import concurrent.futures
 import dataclasses
 import importlib.machinery
@@ -181,7 +180,7 @@ def try_all(rtlib, crate):
 
 
 def arguments():
-    parser = argparse.ArgumentParser(description=__doc__, formatter_class=argparse.RawDescriptionHelpFormatter)
+    parser = sources.parser_of(__doc__, has_top=False)
     parser.add_argument(
         "crates", nargs="*", metavar="CRATE", help="a crate of crates.txt (all that have wrong bodies)"
     )
