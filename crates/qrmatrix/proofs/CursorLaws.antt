@@ -343,3 +343,34 @@ strip_placed v k i j strip codewords start free old new is marks e moves p =
     let ends : 2 * side_of v * strip.number + 2 * strip.n ≡ 2 * side_of v * (k + 1) = rw (e, is.side) (omega arith) in
     subst (Placed v codewords start (value_at new) j) ends
     (moves v start is marks (subst (Placed v codewords start (value_at old) i) begins p))
+
+-- a row without a free module is passed over
+pub row_passed : (strip : Strip) (marked m : List (List Bool)) (codewords : List ℕ) (i t : ℕ) → t < strip.n
+    → value_at marked (strip.x + 1) (row_of strip.n strip.number t) ≡ false
+    → value_at marked strip.x (row_of strip.n strip.number t) ≡ false
+    → MovesOn strip marked codewords m m i t (i + 0) (t + 1)
+row_passed strip marked m codewords i t lt right left =
+    row_placed strip marked m m codewords i t 0 0 lt
+    (λ a b. never (b == row_of strip.n strip.number t) (a == strip.x) (a == strip.x + 1) (value_at m a b))
+    (record {
+      right_bit = λ f. absurd (both_ways _ right f);
+      right_none = λ f. refl;
+      left_bit = λ f. absurd (both_ways _ left f);
+      left_none = λ f. refl;
+      counted = rw (right, left) refl;
+    })
+  where
+    never : (e p q z : Bool) → z ≡ flip_if (e && (if p then bit 0 0 else (if q then bit 0 1 else false))) z
+    never false p q z = refl
+    never true true q z = refl
+    never true false true z = refl
+    never true false false z = refl
+
+-- no module of a row is free where the row's bits are zeros
+pub both_free-none : (free : List (List Bool)) (w x y two : ℕ) → ((x : ℕ) → bit w x ≡ value_at free x y)
+    → bit two 0 ≡ bit w x → bit two 1 ≡ bit w (x + 1) → two ≡ 0
+    → (value_at free x y ≡ false) × (value_at free (x + 1) y ≡ false)
+both_free-none free w x y two bits low high none = (
+  sym (bits x) ∙ sym low ∙ ap (λ z. bit z 0) none,
+  sym (bits (x + 1)) ∙ sym high ∙ ap (λ z. bit z 1) none,
+)

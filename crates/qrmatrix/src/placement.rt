@@ -118,6 +118,9 @@ fn place_row(free: &Square, modules: &mut Square, x: usize, y: usize, bits: u64)
     ensures bound { result ≤ 2 }
 {
     let two = two_at(free.row(y), x);
+    if two == 0 {
+        return 0;
+    }
     modules.flip(y, two_of(two, bits) << x);
     (two as usize + 1) / 2
 }
