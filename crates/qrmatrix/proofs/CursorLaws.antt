@@ -1,51 +1,27 @@
 -- One step of the placement.
-use Rattle.std.proofs.Common.{◌≡◌, ◌≢◌, ℕ, suc, ◌+◌, ◌-◌, ◌*◌, ◌/◌, ◌%◌, ◌<◌, ◌≤◌, refl, sym, ap, subst, ◌∙◌, arith}
+use mathlib.Core.Path.{fun_ext}
+use Rattle.std.proofs.Common.{◌≡◌, ◌≢◌, ℕ, zero, suc, ◌+◌, ◌-◌, ◌*◌, ◌/◌, ◌%◌, ◌<◌, ◌≤◌, refl, sym, ap, subst, ◌∙◌, arith}
 use Rattle.std.proofs.Common.{Bool, true, false, cond, List, inl, inr, add-zero}
 use Rattle.std.specs.Prelude.{◌==◌, ◌&&◌, nat_lt, if◌then◌else◌}
-use Rattle.std.proofs.lemmas.Bool.{cases_eq, cases_Bool, eq-eqb, ne_eqb}
+use Rattle.std.proofs.lemmas.Bool.{both_ways, cases_eq, cases_Bool, eq-eqb, eqb-true, ne_eqb}
 use Rattle.std.proofs.lemmas.Bool.Decides.{nat_tests}
 use Rattle.qrdata.specs.Versions.{side_of}
 use Rattle.qrmatrix.specs.Functions.{is_free}
-use Rattle.qrmatrix.specs.Placement.{key, rank, codeword_bit}
+use Rattle.qrmatrix.specs.Placement.{key, codeword_bit}
 use Rattle.qrmatrix.specs.Bits.{bit}
 use Rattle.qrmatrix.specs.Square.{value_at}
-use Rattle.qrmatrix.specs.Private.Squares.{WritesAt, WritesTwo}
-use Rattle.qrmatrix.specs.Private.CodewordPairs.{ShowsTwo}
+use Rattle.qrmatrix.specs.Private.Squares.{flip_if}
+use Rattle.qrmatrix.specs.Private.Counting.{one_if}
 use Rattle.qrmatrix.specs.Private.Drawing.{MarksFree}
-use Rattle.qrmatrix.proofs.VersionLaws.{Computed}
-use Rattle.qrmatrix.proofs.RankLaws.{free_below, free_below_more, free_below_none, rank-free_below, unique}
-
--- the right column of a strip
-abbrev pub right_column : ℕ → ℕ → ℕ
-right_column n strip = if nat_lt strip ((n - 7) / 2) then n - 1 - 2 * strip else n - 2 - 2 * strip
-
--- the row that a strip reaches t-th
-abbrev pub row_of : ℕ → ℕ → ℕ → ℕ
-row_of n strip t = if strip % 2 == 0 then n - 1 - t else t
-
--- the first i bits are placed on the free modules with a key below k, the other free modules are light, and no
--- other module is written
-pub record Placed (v : ℕ) (codewords : List ℕ) (old new : ℕ → ℕ → Bool) (i k : ℕ) : Type 0 where
-  pub counted : i ≡ free_below v k
-  pub bounded : i ≤ k
-  pub placed : (x y : ℕ) → x < side_of v → y < side_of v → is_free v x y ≡ true → key (side_of v) x y < k
-      → new x y ≡ codeword_bit codewords (rank v x y)
-  pub ahead : (x y : ℕ) → x < side_of v → y < side_of v → is_free v x y ≡ true → k ≤ key (side_of v) x y
-      → new x y ≡ false
-  pub others : (x y : ℕ) → x < side_of v → y < side_of v → is_free v x y ≡ false → new x y ≡ old x y
-  pub columns : (x y : ℕ) → side_of v ≤ x → new x y ≡ old x y
-  pub rows : (x y : ℕ) → side_of v ≤ y → new x y ≡ old x y
+use Rattle.qrmatrix.specs.Private.Placing.{HasBits, IsStrip, MovesOn, Placed, ShowsFree, free_below, right_column, row_of}
+use Rattle.qrmatrix.specs.declared.placement.Strip.{Strip}
+use Rattle.qrmatrix.proofs.UnderMaskLaws.{flip_light}
+use Rattle.qrmatrix.proofs.VersionLaws.{Computed, computed}
+use Rattle.qrmatrix.proofs.RankLaws.{free_below_more, free_below_none, rank-free_below, unique}
 
 -- new is old with a value written
 abbrev Writes : (ℕ → ℕ → Bool) → (ℕ → ℕ → Bool) → ℕ → ℕ → Bool → Type 0
 Writes old new x y value = (a b : ℕ) → new a b ≡ (if (a == x) && (b == y) then value else old a b)
-
--- the row in a strip that goes up, and in one that goes down
-row_up : (side n strip t y : ℕ) → n ≡ side → strip % 2 ≡ 0 → y ≡ n - 1 - t → y ≡ row_of side strip t
-row_up side n strip t y e even is = is ∙ rw (eq-eqb (strip % 2) 0 even) (ap (λ z. z - 1 - t) e)
-
-row_down : (side strip t y : ℕ) → strip % 2 ≢ 0 → y ≡ t → y ≡ row_of side strip t
-row_down side strip t y odd is = is ∙ rw (ne_eqb (strip % 2) 0 odd) refl
 
 row_back : (b : Bool) (n t : ℕ) → t < n → cond b (n - 1 - cond b (n - 1 - t) t) (cond b (n - 1 - t) t) ≡ t
 row_back true n t h = omega arith
@@ -91,6 +67,28 @@ unwritten : (m n : ℕ → ℕ → Bool) (a b : ℕ) (value : Bool) → Writes m
     → n x y ≡ m x y
 unwritten m n a b value w x y ne = w x y ∙ grind (arith, nat_tests)
 
+-- new is old with a value turned over where the test passes
+abbrev FlipsAt : (ℕ → ℕ → Bool) → (ℕ → ℕ → Bool) → ℕ → ℕ → Bool → Type 0
+FlipsAt old new x y value =
+    (a b : ℕ) → new a b ≡ (if (a == x) && (b == y) then flip_if value (old a b) else old a b)
+
+either : (t b : Bool) → (if t then b else b) ≡ b
+either true b = refl
+either false b = refl
+
+light_written : (m : ℕ → ℕ → Bool) (x y a b : ℕ) (value chosen : Bool) → value ≡ chosen → m a b ≡ false
+    → (if (x == a) && (y == b) then flip_if value (m x y) else m x y)
+    ≡ (if (x == a) && (y == b) then chosen else m x y)
+light_written m x y a b value chosen e light =
+    elim (cases_eq x a) [
+      | inr ne ↦ rw (ne_eqb x a ne) refl
+      | inl ex ↦ elim (cases_eq y b) [
+        | inr ne ↦ rw (eq-eqb x a ex, ne_eqb y b ne) refl
+        | inl ey ↦ rw (eq-eqb x a ex, eq-eqb y b ey) (ap (flip_if value) (ap (λ z. m z y) ex ∙ ap (m a) ey ∙ light)
+            ∙ flip_light value ∙ e)
+      ]
+    ]
+
 module _ (v : ℕ) (c : Computed v) (codewords : List ℕ) (old m : ℕ → ℕ → Bool) (i k a b : ℕ)
     (p : Placed v codewords old m i k)
     (la : a < side_of v) (lb : b < side_of v) (ne : a ≢ 6) (e : key (side_of v) a b ≡ k) where
@@ -110,7 +108,6 @@ module _ (v : ℕ) (c : Computed v) (codewords : List ℕ) (old m : ℕ → ℕ 
       let count : free_below v (k + 1) ≡ free_below v k + 1 = ap (free_below v) next ∙ rw f at more in
       record {
         counted = let h = p.counted in omega arith;
-        bounded = let h = p.bounded in omega arith;
         placed = λ x y lx ly free l. elim (cases_eq (key (side_of v) x y) k) [
           | inl same ↦
               let at = unique v c x y a b lx ly free la lb ne (same ∙ sym e) in
@@ -136,7 +133,6 @@ module _ (v : ℕ) (c : Computed v) (codewords : List ℕ) (old m : ℕ → ℕ 
       let count : free_below v (k + 1) ≡ free_below v k + 0 = ap (free_below v) next ∙ rw f at more in
       record {
         counted = let h = p.counted in omega arith;
-        bounded = let h = p.bounded in omega arith;
         placed = λ x y lx ly free l.
             let other : key (side_of v) x y ≢ k =
             λ same. (let at = unique v c x y a b lx ly free la lb ne (same ∙ sym e) in
@@ -149,25 +145,25 @@ module _ (v : ℕ) (c : Computed v) (codewords : List ℕ) (old m : ℕ → ℕ 
         rows = p.rows;
       }
 
-  -- what `place_module` leaves
-  step_any : (free n : List (List Bool)) (before : List (List Bool)) (j : ℕ) → value_at before ≡ m
-      → MarksFree v free
-      → (value_at free a b ≡ true → (j ≡ i + 1) × WritesAt before n a b (codeword_bit codewords i))
-      → (value_at free a b ≡ false → (j ≡ i) × (n ≡ before))
-      → Placed v codewords old (value_at n) j (k + 1)
-  step_any free n before j em marks written_if kept_if =
+  -- a bit is written on a module that is light, or nothing on one that is not free
+  step_bit : (n : ℕ → ℕ → Bool) (value : Bool) → (is_free v a b ≡ true → value ≡ codeword_bit codewords i)
+      → (is_free v a b ≡ false → value ≡ false) → FlipsAt m n a b value
+      → Placed v codewords old n (i + one_if (is_free v a b)) (k + 1)
+  step_bit n value written_if kept_if flips =
       elim (cases_Bool (is_free v a b)) [
         | inl f ↦
-            let here : value_at free a b ≡ true = marks.inside a b la lb ∙ f in
-            let w = written_if here in
-            subst (λ z. Placed v codewords old (value_at n) z (k + 1)) (sym w.0)
-            (step_free (value_at n) f (subst (λ z. Writes z (value_at n) a b (codeword_bit codewords i)) em w.1))
+            subst (λ z. Placed v codewords old n (i + one_if z) (k + 1)) (sym f)
+            (step_free n f (λ x y. flips x y ∙ light_written m x y a b value (codeword_bit codewords i) (written_if f)
+            (p.ahead a b la lb f (let same = e in omega arith))))
         | inr f ↦
-            let here : value_at free a b ≡ false = marks.inside a b la lb ∙ f in
-            let w = kept_if here in
-            subst (λ z. Placed v codewords old (value_at n) z (k + 1)) (sym w.0)
-            (subst (λ z. Placed v codewords old z i (k + 1)) (sym (ap value_at w.1 ∙ em)) (step_taken f))
+            subst (λ z. Placed v codewords old n (i + one_if z) (k + 1)) (sym f)
+            (subst (λ z. Placed v codewords old n z (k + 1)) (sym (add-zero i))
+            (subst (λ z. Placed v codewords old z i (k + 1)) (same_modules n value (kept_if f) flips) (step_taken f)))
       ]
+    where
+      same_modules : (n : ℕ → ℕ → Bool) (value : Bool) → value ≡ false → FlipsAt m n a b value → m ≡ n
+      same_modules n value none flips =
+          fun_ext (λ x. fun_ext (λ y. sym (flips x y ∙ rw none (either ((x == a) && (y == b)) (m x y)))))
 
 -- nothing is placed yet
 pub placed_none : (v : ℕ) → Computed v → (codewords : List ℕ) (m : ℕ → ℕ → Bool) (k : ℕ) → k ≡ 0
@@ -175,7 +171,6 @@ pub placed_none : (v : ℕ) → Computed v → (codewords : List ℕ) (m : ℕ �
 placed_none v c codewords m k e light =
     record {
       counted = sym (ap (free_below v) e ∙ free_below_none v c);
-      bounded = omega arith;
       placed = λ x y lx ly f l. absurd (omega arith);
       ahead = λ x y lx ly f l. light x y lx ly f;
       others = λ x y lx ly f. refl;
@@ -183,162 +178,199 @@ placed_none v c codewords m k e light =
       rows = λ x y l. refl;
     }
 
--- a row of a strip, the cursor at its right module
-pub record AtRow (v s t right y : ℕ) : Type 0 where
-  pub strip : s < (side_of v - 1) / 2
-  pub step : t < side_of v
-  pub column : right ≡ right_column (side_of v) s
-  pub row : y ≡ row_of (side_of v) s t
-
--- the row that a strip reaches in a square of n modules: an even strip goes up, an odd one down
-pub AtRow-reached : {v n s t right y : ℕ} → s < (side_of v - 1) / 2 → t < side_of v
-    → right ≡ right_column (side_of v) s → n ≡ side_of v → (s % 2 ≡ 0 → y ≡ n - 1 - t) → (s % 2 ≢ 0 → y ≡ t)
-    → AtRow v s t right y
-AtRow-reached {v} {n} {s} {t} {right} {y} strip step column width up down =
-    record {
-      strip = strip;
-      step = step;
-      column = column;
-      row = elim (cases_eq (s % 2) 0) [
-        | inl even ↦ row_up (side_of v) n s t y width even (up even)
-        | inr odd ↦ row_down (side_of v) s t y odd (down odd)
-      ];
-    }
-
 -- a module is in the square but not in column 6, and has this key
-pub record HasKey (v x y k : ℕ) : Type 0 where
-  pub inside : x < side_of v
-  pub row_inside : y < side_of v
-  pub untimed : x ≢ 6
-  pub has : key (side_of v) x y ≡ k
+record HasKey (v x y k : ℕ) : Type 0 where
+  inside : x < side_of v
+  row_inside : y < side_of v
+  untimed : x ≢ 6
+  has : key (side_of v) x y ≡ k
 
-key_of_column : (v s t right y c : ℕ) → AtRow v s t right y → c < 2
-    → HasKey v (right - c) y (2 * side_of v * s + 2 * t + c)
-key_of_column v s t right y c at lc =
-    let er = at.column in
-    let ey = at.row in
-    let in_column = column_in v s c at.strip lc in
-    let e : right_column (side_of v) s - c ≡ right - c = ap (λ z. z - c) (sym er) in
+key_of_column : (v x t c : ℕ) (strip : Strip) → IsStrip v strip → t < strip.n → c < 2 → x + c ≡ strip.x + 1
+    → HasKey v x (row_of strip.n strip.number t) (2 * side_of v * strip.number + 2 * t + c)
+key_of_column v x t c strip is lt lc e =
+    let lt' : t < side_of v = let h = is.side in omega arith in
+    let in_column = column_in v strip.number c is.number lc in
+    let ex : right_column (side_of v) strip.number - c ≡ x = let h = is.column in omega arith in
+    let ey : row_of (side_of v) strip.number t ≡ row_of strip.n strip.number t =
+    ap (λ n. row_of n strip.number t) (sym is.side) in
     record {
-      inside = subst (λ z. z < side_of v) e in_column.0;
-      row_inside = subst (λ z. z < side_of v) (sym ey) (row_in v s t at.step);
-      untimed = λ six. in_column.1 (e ∙ six);
-      has = ap (λ z. key (side_of v) z y) (sym e) ∙ ap (key (side_of v) (right_column (side_of v) s - c)) ey
-          ∙ key_at v s t c at.strip lc at.step;
+      inside = subst (λ z. z < side_of v) ex in_column.0;
+      row_inside = subst (λ z. z < side_of v) ey (row_in v strip.number t lt');
+      untimed = λ six. in_column.1 (ex ∙ six);
+      has = ap (λ z. key (side_of v) z (row_of strip.n strip.number t)) (sym ex)
+          ∙ ap (key (side_of v) (right_column (side_of v) strip.number - c)) (sym ey)
+          ∙ key_at v strip.number t c is.number lc lt';
     }
-
--- the right module of a row of a strip, and the left one
-pub right_key : (v s t right y : ℕ) → AtRow v s t right y → HasKey v right y (2 * side_of v * s + 2 * t)
-right_key v s t right y at =
-    let e : right - 0 ≡ right = omega arith in
-    subst (λ z. HasKey v z y (2 * side_of v * s + 2 * t)) e
-    (subst (HasKey v (right - 0) y) (add-zero (2 * side_of v * s + 2 * t))
-    (key_of_column v s t right y 0 at (omega arith)))
-
-pub left_key : (v s t right y : ℕ) → AtRow v s t right y → HasKey v (right - 1) y (2 * side_of v * s + 2 * t + 1)
-left_key v s t right y at = key_of_column v s t right y 1 at (omega arith)
-
--- no strip begins in column 0
-right_positive : (v s t right y : ℕ) → AtRow v s t right y → right - 1 + 1 ≡ right
-right_positive v s t right y at =
-    let a = at.strip in
-    let e = at.column in
-    let some : 0 < right_column (side_of v) s = grind (arith, nat_tests) in
-    omega arith
 
 row_done : (n s t : ℕ) → 2 * n * s + 2 * t + 1 + 1 ≡ 2 * n * s + 2 * (t + 1)
 row_done n s t = omega arith
 
--- the same modules and the same count, by other names
-pub Placed-moved : {v : ℕ} {codewords : List ℕ} {old m n : ℕ → ℕ → Bool} {i j k : ℕ} → Placed v codewords old m i k
-    → n ≡ m → j ≡ i → Placed v codewords old n j k
-Placed-moved {v} {codewords} {old} {m} {n} {i} {j} {k} p same_modules same_count =
-    subst (λ z. Placed v codewords old n z k) (sym same_count)
-    (subst (λ z. Placed v codewords old z i k) (sym same_modules) p)
+-- two values of a row are turned over, and then one of them at a time
+one_by_one : (p q e left right z : Bool) → (p ≡ true → q ≡ true → ⊥)
+    → flip_if (e && (if p then left else (if q then right else false))) z
+    ≡ (if p && e then flip_if left (if q && e then flip_if right z else z) else (if q && e then flip_if right z else z))
+one_by_one true true e left right z h = absurd (h refl refl)
+one_by_one true false true left right z h = refl
+one_by_one true false false left right z h = refl
+one_by_one false true true left right z h = refl
+one_by_one false true false left right z h = refl
+one_by_one false false true left right z h = refl
+one_by_one false false false left right z h = refl
 
--- The cursor is at a row of a strip of a symbol whose free modules are marked.
-module _ {v : ℕ} (codewords : List ℕ) (old : ℕ → ℕ → Bool) (marked : List (List Bool)) {s t right y : ℕ}
-    (marks : MarksFree v marked) (at : AtRow v s t right y) where
-  -- the two modules of the row that are marked are free
-  both_free : (value_at marked (right - 1) y ≡ true) × (value_at marked (right - 1 + 1) y ≡ true)
-      → (is_free v right y ≡ true) × (is_free v (right - 1) y ≡ true)
-  both_free free =
-      let r = right_key v s t right y at in
-      let l = left_key v s t right y at in
-      let e : right - 1 + 1 ≡ right = right_positive v s t right y at in (
-        sym (marks.inside right y r.inside r.row_inside) ∙ ap (λ z. value_at marked z y) (sym e) ∙ free.1,
-        sym (marks.inside (right - 1) y l.inside l.row_inside) ∙ free.0,
-      )
+-- the bits for the two modules of a row, the right one first
+pub record ForRow (right_free left_free right left : Bool) (codewords : List ℕ) (i count : ℕ) : Type 0 where
+  pub right_bit : right_free ≡ true → right ≡ codeword_bit codewords i
+  pub right_none : right_free ≡ false → right ≡ false
+  pub left_bit : left_free ≡ true → left ≡ codeword_bit codewords (i + one_if right_free)
+  pub left_none : left_free ≡ false → left ≡ false
+  pub counted : count ≡ one_if right_free + one_if left_free
 
-  -- the two modules of the row, one after the other
-  -- m, n and o are the square before, between and after two calls of place_module in `place`, the only caller; i, j and
-  -- h count the bits; each call ensures one fact for a free module and one for another
-  pub placed_pair : Computed v → (m n o : List (List Bool)) (i j h : ℕ)
-      → Placed v codewords old (value_at m) i (2 * side_of v * s + 2 * t)
-      → (value_at marked right y ≡ true → (j ≡ i + 1) × WritesAt m n right y (codeword_bit codewords i))
-      → (value_at marked right y ≡ false → (j ≡ i) × (n ≡ m))
-      → (value_at marked (right - 1) y ≡ true → (h ≡ j + 1) × WritesAt n o (right - 1) y (codeword_bit codewords j))
-      → (value_at marked (right - 1) y ≡ false → (h ≡ j) × (o ≡ n))
-      → Placed v codewords old (value_at o) h (2 * side_of v * s + 2 * (t + 1))
-  placed_pair c m n o i j h p w0 k0 w1 k1 =
-      let r = right_key v s t right y at in
-      let l = left_key v s t right y at in
-      let first = step_any v c codewords old (value_at m) i (2 * side_of v * s + 2 * t) right y p r.inside r.row_inside
-      r.untimed r.has marked n m j refl marks w0 k0 in
-      let second = step_any v c codewords old (value_at n) j (2 * side_of v * s + 2 * t + 1) (right - 1) y first l.inside
-      l.row_inside l.untimed l.has marked o n h refl marks w1 k1 in
-      subst (λ z. Placed v codewords old (value_at o) h z) (row_done (side_of v) s t) second
+-- the two modules of a row, one after the other
+-- place_row and place_free have m and o, the square before and after a flip, `two` by a call, and the other facts by
+-- their contracts
+pub row_placed : (strip : Strip) (marked m o : List (List Bool)) (codewords : List ℕ) (i t two count : ℕ)
+    → t < strip.n
+    → ((a b : ℕ) → value_at o a b ≡ flip_if ((b == row_of strip.n strip.number t)
+    && (if a == strip.x then bit two 0 else (if a == strip.x + 1 then bit two 1 else false))) (value_at m a b))
+    → ForRow (value_at marked (strip.x + 1) (row_of strip.n strip.number t))
+    (value_at marked strip.x (row_of strip.n strip.number t)) (bit two 1) (bit two 0) codewords i count
+    → MovesOn strip marked codewords m o i t (i + count) (t + 1)
+row_placed strip marked m o codewords i t two count lt flips bits v start is marks p =
+    let y = row_of strip.n strip.number t in
+    let c = computed v is.least is.most in
+    let k = 2 * side_of v * strip.number + 2 * t in
+    let r = subst (HasKey v (strip.x + 1) y) (add-zero k) (key_of_column v (strip.x + 1) t 0 strip is lt (omega arith)
+    (add-zero (strip.x + 1))) in
+    let l = key_of_column v strip.x t 1 strip is lt (omega arith) refl in
+    let fr = marks.inside (strip.x + 1) y r.inside r.row_inside in
+    let fl = marks.inside strip.x y l.inside l.row_inside in
+    let half : ℕ → ℕ → Bool =
+    λ a b. if (a == strip.x + 1) && (b == y) then flip_if (bit two 1) (value_at m a b) else value_at m a b in
+    let first = step_bit v c codewords start (value_at m) i k (strip.x + 1) y p r.inside r.row_inside r.untimed r.has half
+    (bit two 1) (λ f. bits.right_bit (fr ∙ f)) (λ f. bits.right_none (fr ∙ f)) (λ a b. refl) in
+    let second = step_bit v c codewords start half (i + one_if (is_free v (strip.x + 1) y)) (k + 1) strip.x y first
+    l.inside l.row_inside l.untimed l.has (value_at o) (bit two 0)
+    (λ f. bits.left_bit (fl ∙ f) ∙ ap (λ z. codeword_bit codewords (i + one_if z)) fr) (λ f. bits.left_none (fl ∙ f))
+    (λ a b. flips a b ∙ one_by_one (a == strip.x) (a == strip.x + 1) (b == y) (bit two 0) (bit two 1) (value_at m a b)
+    (λ ea eb. let s = eqb-true a strip.x ea in let s' = eqb-true a (strip.x + 1) eb in omega arith)) in
+    let count_is : i + one_if (is_free v (strip.x + 1) y) + one_if (is_free v strip.x y) ≡ i + count =
+    let h = bits.counted in let hr = ap one_if fr in let hl = ap one_if fl in omega arith in
+    subst (λ z. Placed v codewords start (value_at o) z (2 * side_of v * strip.number + 2 * (t + 1))) count_is
+    (subst (Placed v codewords start (value_at o) (i + one_if (is_free v (strip.x + 1) y) + one_if (is_free v strip.x y)))
+    (row_done (side_of v) strip.number t) second)
 
-  -- none of the two modules of the row is free
-  pub placed_neither : Computed v → (m : List (List Bool)) (i : ℕ)
-      → Placed v codewords old (value_at m) i (2 * side_of v * s + 2 * t)
-      → (value_at marked (right - 1) y ≡ false) × (value_at marked (right - 1 + 1) y ≡ false)
-      → Placed v codewords old (value_at m) i (2 * side_of v * s + 2 * (t + 1))
-  placed_neither c m i p taken =
-      let r = right_key v s t right y at in
-      let l = left_key v s t right y at in
-      let e : right - 1 + 1 ≡ right = right_positive v s t right y at in
-      let first = step_taken v c codewords old (value_at m) i (2 * side_of v * s + 2 * t) right y p r.inside r.row_inside
-      r.untimed r.has
-      (sym (marks.inside right y r.inside r.row_inside) ∙ ap (λ z. value_at marked z y) (sym e) ∙ taken.1) in
-      let second = step_taken v c codewords old (value_at m) i (2 * side_of v * s + 2 * t + 1) (right - 1) y first l.inside
-      l.row_inside l.untimed l.has (sym (marks.inside (right - 1) y l.inside l.row_inside) ∙ taken.0) in
-      subst (λ z. Placed v codewords old (value_at m) i z) (row_done (side_of v) s t) second
+-- the same count and row, by other names
+pub renumbered : (number i j t u : ℕ) {v : ℕ} {codewords : List ℕ} {start m : ℕ → ℕ → Bool} → i ≡ j → t ≡ u
+    → Placed v codewords start m i (2 * side_of v * number + 2 * t)
+    → Placed v codewords start m j (2 * side_of v * number + 2 * u)
+renumbered number i j t u {v} {codewords} {start} {m} ei et p =
+    subst (λ z. Placed v codewords start m z (2 * side_of v * number + 2 * u)) ei
+    (subst (λ z. Placed v codewords start m i (2 * side_of v * number + 2 * z)) et p)
 
-  -- the two modules of the row at once, where both are free
-  -- `place`, the only caller, has m and i by its loop, o and `two` by two calls, and a fact by each call, its loop and
-  -- its test
-  pub placed_two : Computed v → (m o : List (List Bool)) (i two : ℕ)
-      → Placed v codewords old (value_at m) i (2 * side_of v * s + 2 * t)
-      → (value_at marked (right - 1) y ≡ true) × (value_at marked (right - 1 + 1) y ≡ true)
-      → ShowsTwo two (codeword_bit codewords i) (codeword_bit codewords (i + 1))
-      → WritesTwo m o (right - 1) y (bit two 0) (bit two 1)
-      → Placed v codewords old (value_at o) (i + 2) (2 * side_of v * s + 2 * (t + 1))
-  placed_two c m o i two p free shows w =
-      let r = right_key v s t right y at in
-      let l = left_key v s t right y at in
-      let e : right - 1 + 1 ≡ right = right_positive v s t right y at in
-      let half : ℕ → ℕ → Bool = λ a b. if (a == right) && (b == y) then codeword_bit codewords i else value_at m a b in
-      let first = step_free v c codewords old (value_at m) i (2 * side_of v * s + 2 * t) right y p r.inside r.row_inside
-      r.untimed r.has half (both_free free).0 (λ a b. refl) in
-      let wrote : Writes half (value_at o) (right - 1) y (codeword_bit codewords (i + 1)) =
-      λ a b. w a b ∙ rw (shows.low, shows.high, e) refl in
-      let second = step_free v c codewords old half (i + 1) (2 * side_of v * s + 2 * t + 1) (right - 1) y first l.inside
-      l.row_inside l.untimed l.has (value_at o) (both_free free).1 wrote in
-      let count : i + 2 ≡ i + 1 + 1 = omega arith in
-      Placed-moved (subst (λ z. Placed v codewords old (value_at o) (i + 1 + 1) z) (row_done (side_of v) s t) second)
-      refl count
+count_of : (two : ℕ) → two < 4 → (two + 1) / 2 ≡ one_if (bit two 1) + one_if (bit two 0)
+count_of zero l = refl
+count_of (suc zero) l = refl
+count_of (suc (suc zero)) l = refl
+count_of (suc (suc (suc zero))) l = refl
+count_of (suc (suc (suc (suc two)))) l = absurd (omega arith)
 
-  -- free modules at the cursor are light
-  pub light_ahead : (m : List (List Bool)) (i : ℕ) → Placed v codewords old (value_at m) i (2 * side_of v * s + 2 * t)
-      → (value_at marked (right - 1) y ≡ true) × (value_at marked (right - 1 + 1) y ≡ true)
-      → (value_at m (right - 1) y ≡ false) × (value_at m (right - 1 + 1) y ≡ false)
-  light_ahead m i p free =
-      let r = right_key v s t right y at in
-      let l = left_key v s t right y at in
-      let e : right - 1 + 1 ≡ right = right_positive v s t right y at in
-      let kr : 2 * side_of v * s + 2 * t ≤ key (side_of v) right y = let h = r.has in omega arith in
-      let kl : 2 * side_of v * s + 2 * t ≤ key (side_of v) (right - 1) y = let h = l.has in omega arith in (
-        p.ahead (right - 1) y l.inside l.row_inside (both_free free).1 kl,
-        ap (λ z. value_at m z y) e ∙ p.ahead right y r.inside r.row_inside (both_free free).0 kr,
-      )
+-- the first bits of a word for a row
+pub for_row : (right_free left_free : Bool) (free two word i : ℕ) (codewords : List ℕ) → free < 4
+    → ShowsFree two free word → bit free 1 ≡ right_free → bit free 0 ≡ left_free → HasBits 2 word codewords i
+    → ForRow right_free left_free (bit two 1) (bit two 0) codewords i ((free + 1) / 2)
+for_row right_free left_free free two word i codewords few shows er el has =
+    let first : bit word 63 ≡ codeword_bit codewords i = has 0 (omega arith) ∙ ap (codeword_bit codewords) (add-zero i) in
+    let second : bit word 62 ≡ codeword_bit codewords (i + 1) = has 1 (omega arith) in
+    record {
+      right_bit = λ f. shows.right ∙ rw (er, f) first;
+      right_none = λ f. shows.right ∙ rw (er, f) refl;
+      left_bit = λ f. shows.left ∙ rw (el, f, er) (chosen right_free first second);
+      left_none = λ f. shows.left ∙ rw (el, f) refl;
+      counted = count_of free few ∙ rw (er, el) refl;
+    }
+  where
+    chosen : (b : Bool) → bit word 63 ≡ codeword_bit codewords i → bit word 62 ≡ codeword_bit codewords (i + 1)
+        → (if b then bit word 62 else bit word 63) ≡ codeword_bit codewords (i + one_if b)
+    chosen true first second = second
+    chosen false first second = first ∙ ap (codeword_bit codewords) (sym (add-zero i))
+
+-- two bits for a row whose modules are free
+pub for_free_row : (right_free left_free : Bool) (two word i j : ℕ) (codewords : List ℕ) → right_free ≡ true
+    → left_free ≡ true → j < 4 → HasBits 57 word codewords i → bit two 0 ≡ bit word (62 - 2 * j)
+    → bit two 1 ≡ bit word (62 - 2 * j + 1)
+    → ForRow right_free left_free (bit two 1) (bit two 0) codewords (i + 2 * j) 2
+for_free_row right_free left_free two word i j codewords er el l has low high =
+    let first : 62 - 2 * j + 1 ≡ 63 - 2 * j = omega arith in
+    let second : 62 - 2 * j ≡ 63 - (2 * j + 1) = omega arith in
+    let next : i + (2 * j + 1) ≡ i + 2 * j + 1 = omega arith in
+    record {
+      right_bit = λ f. high ∙ ap (bit word) first ∙ has (2 * j) (omega arith);
+      right_none = λ f. absurd (both_ways right_free f er);
+      left_bit = λ f. low ∙ ap (bit word) second ∙ has (2 * j + 1) (omega arith)
+          ∙ ap (codeword_bit codewords) next ∙ ap (λ z. codeword_bit codewords (i + 2 * j + one_if z)) (sym er);
+      left_none = λ f. absurd (both_ways left_free f el);
+      counted = rw (er, el) refl;
+    }
+
+-- both modules of a row are free where the row's bits are ones
+pub both_free : (free : List (List Bool)) (w x y row : ℕ) → ((x : ℕ) → bit w x ≡ value_at free x y) → y ≡ row
+    → bit w x ≡ true → bit w (x + 1) ≡ true → (value_at free x row ≡ true) × (value_at free (x + 1) row ≡ true)
+both_free free w x y row bits e low high = (
+  ap (value_at free x) (sym e) ∙ sym (bits x) ∙ low,
+  ap (value_at free (x + 1)) (sym e) ∙ sym (bits (x + 1)) ∙ high,
+)
+
+-- a strip of a symbol
+pub strip_is : (v n number : ℕ) (strip : Strip) → 1 ≤ v → v ≤ 10 → n ≡ side_of v → number < (side_of v - 1) / 2
+    → strip.n ≡ n → strip.number ≡ number → strip.x + 1 ≡ right_column n number → IsStrip v strip
+strip_is v n number strip least most width l side at column =
+    record {
+      least = least;
+      most = most;
+      side = side ∙ width;
+      number = subst (λ z. z < (side_of v - 1) / 2) (sym at) l;
+      column = column ∙ ap (λ z. right_column z number) width ∙ ap (right_column (side_of v)) (sym at);
+    }
+
+-- a whole strip is placed
+pub strip_placed : (v k i j : ℕ) (strip : Strip) (codewords : List ℕ) (start : ℕ → ℕ → Bool)
+    (free old new : List (List Bool)) → IsStrip v strip → MarksFree v free → strip.number ≡ k
+    → MovesOn strip free codewords old new i 0 j strip.n
+    → Placed v codewords start (value_at old) i (2 * side_of v * k)
+    → Placed v codewords start (value_at new) j (2 * side_of v * (k + 1))
+strip_placed v k i j strip codewords start free old new is marks e moves p =
+    let begins : 2 * side_of v * k ≡ 2 * side_of v * strip.number + 2 * 0 = rw e (omega arith) in
+    let ends : 2 * side_of v * strip.number + 2 * strip.n ≡ 2 * side_of v * (k + 1) = rw (e, is.side) (omega arith) in
+    subst (Placed v codewords start (value_at new) j) ends
+    (moves v start is marks (subst (Placed v codewords start (value_at old) i) begins p))
+
+-- a row without a free module is passed over
+pub row_passed : (strip : Strip) (marked m : List (List Bool)) (codewords : List ℕ) (i t : ℕ) → t < strip.n
+    → value_at marked (strip.x + 1) (row_of strip.n strip.number t) ≡ false
+    → value_at marked strip.x (row_of strip.n strip.number t) ≡ false
+    → MovesOn strip marked codewords m m i t (i + 0) (t + 1)
+row_passed strip marked m codewords i t lt right left =
+    row_placed strip marked m m codewords i t 0 0 lt
+    (λ a b. never (b == row_of strip.n strip.number t) (a == strip.x) (a == strip.x + 1) (value_at m a b))
+    (record {
+      right_bit = λ f. absurd (both_ways _ right f);
+      right_none = λ f. refl;
+      left_bit = λ f. absurd (both_ways _ left f);
+      left_none = λ f. refl;
+      counted = rw (right, left) refl;
+    })
+  where
+    never : (e p q z : Bool) → z ≡ flip_if (e && (if p then bit 0 0 else (if q then bit 0 1 else false))) z
+    never false p q z = refl
+    never true true q z = refl
+    never true false true z = refl
+    never true false false z = refl
+
+-- no module of a row is free where the row's bits are zeros
+pub both_free-none : (free : List (List Bool)) (w x y two : ℕ) → ((x : ℕ) → bit w x ≡ value_at free x y)
+    → bit two 0 ≡ bit w x → bit two 1 ≡ bit w (x + 1) → two ≡ 0
+    → (value_at free x y ≡ false) × (value_at free (x + 1) y ≡ false)
+both_free-none free w x y two bits low high none = (
+  sym (bits x) ∙ sym low ∙ ap (λ z. bit z 0) none,
+  sym (bits (x + 1)) ∙ sym high ∙ ap (λ z. bit z 1) none,
+)

@@ -8,15 +8,10 @@ use Rattle.qrmatrix.specs.Private.Counting.{sum_below, count_below, one_if}
 use Rattle.qrdata.specs.Versions.{side_of}
 use Rattle.qrmatrix.specs.Functions.{is_free}
 use Rattle.qrmatrix.specs.Placement.{key, rank}
+use Rattle.qrmatrix.specs.Private.Placing.{free_below}
 use Rattle.qrmatrix.proofs.SumLaws.{all_below, all_below_at, sum_below_same, sum_below_one, sum_below_zero}
 use Rattle.qrmatrix.proofs.SumLaws.{sum_by-count_by}
 use Rattle.qrmatrix.proofs.VersionLaws.{Computed, is_found, is_below, is_outside, place_column, place_row}
-
--- how many free modules have a key below k
-unfoldable pub free_below : ℕ → ℕ → ℕ
-free_below v k =
-    let n = side_of v in
-    sum_below n (λ y. count_below n (λ x. is_free v x y && nat_lt (key n x y) k))
 
 pub rank-free_below : (v x y : ℕ) → rank v x y ≡ free_below v (key (side_of v) x y)
 unfolding rank free_below

@@ -1,7 +1,7 @@
 -- The bits of rows that operators make.
-use Rattle.std.proofs.Common.{◌≡◌, ◌≢◌, ℕ, zero, suc, ◌+◌, ◌-◌, ◌*◌, ◌/◌, ◌%◌, ◌^◌, ◌<◌, ◌≤◌, refl, sym, ap, ◌∙◌, arith}
+use Rattle.std.proofs.Common.{◌≡◌, ℕ, zero, suc, ◌+◌, ◌-◌, ◌*◌, ◌/◌, ◌%◌, ◌^◌, ◌<◌, ◌≤◌, refl, sym, ap, ◌∙◌, arith}
 use Rattle.std.proofs.Common.{Bool, true, false, not, ◌&&◌, ◌||◌, min, max, inl, inr}
-use Rattle.std.specs.Prelude.{bit_and, bit_or, bit_xor, ◌==◌, nat_lt, if◌then◌else◌}
+use Rattle.std.specs.Prelude.{bit_and, bit_or, bit_xor, ◌==◌, nat_lt}
 use Rattle.std.specs.Bool.{beq}
 use Rattle.std.specs.Int.{bit_at, bit_not, w64}
 use Rattle.std.proofs.lemmas.Bool.{cases_lt, cases_eq, ne_eqb, lt-ltb, le-ltb, eq-eqb}
@@ -87,38 +87,6 @@ one_bit x a h =
       | inl e ↦ rw e (ap (λ z. z == 1) (bit_at-pow_same x) ∙ sym (eq-eqb x x refl))
       | inr ne ↦ ap (λ z. z == 1) (bit_at-pow_other x a ne) ∙ sym (ne_eqb a x ne)
     ])
-
-or_one : (b t : Bool) → (b || t) ≡ (if t then true else b)
-or_one true true = refl
-or_one true false = refl
-or_one false true = refl
-or_one false false = refl
-
-and_not_one : (b t : Bool) → (b && not t) ≡ (if t then false else b)
-and_not_one true true = refl
-and_not_one true false = refl
-and_not_one false true = refl
-and_not_one false false = refl
-
-pub bit_written : (w x a : ℕ) → x < 57 → bit (bit_or w (1 * 2 ^ x % 2 ^ 64)) a ≡ (if a == x then true else bit w a)
-bit_written w x a h =
-    let s : x < 64 = omega arith in
-    or_bit w (1 * 2 ^ x % 2 ^ 64) a ∙ ap (λ z. bit w a || z) (one_bit x a s) ∙ or_one (bit w a) (a == x)
-
-pub bit_cleared : (w x a : ℕ) → w < 2 ^ 57 → x < 57
-    → bit (bit_and w (bit_not w64 (1 * 2 ^ x % 2 ^ 64))) a ≡ (if a == x then false else bit w a)
-bit_cleared w x a b h =
-    let s : x < 64 = omega arith in
-    elim (cases_lt a 64) [
-      | inl l ↦
-          and_bit w (bit_not w64 (1 * 2 ^ x % 2 ^ 64)) a
-          ∙ ap (λ z. bit w a && z) (not_bit (1 * 2 ^ x % 2 ^ 64) a (omega arith) l ∙ ap not (one_bit x a s))
-          ∙ and_not_one (bit w a) (a == x)
-      | inr g ↦
-          let t : 57 ≤ a = omega arith in
-          let ne : a ≢ x = λ e. omega arith in
-          and_bit w (bit_not w64 (1 * 2 ^ x % 2 ^ 64)) a ∙ rw (above_bit w 57 a b t, ne_eqb a x ne) refl
-    ]
 
 -- the low k bits of a number are those of its remainder
 pub mod_bit : (k n i : ℕ) → i < k → bit (n % 2 ^ k) i ≡ bit n i

@@ -3,7 +3,7 @@ use Rattle.std.proofs.Common.{◌≡◌, ℕ, zero, suc, ◌/◌, ◌%◌, ◌^�
 use Rattle.std.proofs.Common.{[], ◌∷◌, get_or, length, inl, inr, set, get_or-set_other, get_or-set_same, ◌&&◌, not}
 use Rattle.std.proofs.Common.{length-set}
 use Rattle.std.specs.Prelude.{map, ◌==◌, All, slice_index, if◌then◌else◌, bit_xor}
-use Rattle.std.proofs.lemmas.Bool.{cases_lt, cases_eq, ne_eqb, eq-eqb, and_right}
+use Rattle.std.proofs.lemmas.Bool.{cases_lt, cases_eq, ne_eqb, eq-eqb}
 use Rattle.std.proofs.lemmas.List.{get_or_past}
 use Rattle.std.proofs.lemmas.List.Elements.{All-head, All-tail, All-set}
 use Rattle.std.proofs.lemmas.List.FromFn.{get_or-map-range_with_len}
@@ -14,7 +14,6 @@ use Rattle.qrmatrix.specs.Private.Squares.{flip_if}
 use Rattle.qrmatrix.proofs.RowBitsLaws.{xor_bit}
 use Rattle.qrmatrix.specs.Bits.{bit}
 use Rattle.qrmatrix.specs.Square.{value_at}
-use Rattle.qrmatrix.specs.Private.Squares.{WritesAt}
 use Rattle.qrmatrix.specs.Private.RowBits.{low_bits, AreRows}
 
 no_bit : (w x : ℕ) → w / 2 ^ x % 2 ≡ 0 → bit w x ≡ false
@@ -27,30 +26,11 @@ row_bits w h x =
       | inr g ↦ get_or_past (low_bits w) x false g ∙ sym (no_bit w x (bit_at_above w 57 x h g))
     ]
 
-and_true : (t value b : Bool) → (if t then value else b) ≡ (if t && true then value else b)
-and_true true value b = refl
-and_true false value b = refl
-
 pub rows_seen : (ws : List ℕ) → All (λ w. w < 2 ^ 57) ws → (x y : ℕ)
     → value_at (map low_bits ws) x y ≡ bit (slice_index ws y) x
 rows_seen [] h x y = sym (no_bit 0 x (bit_at-zero x))
 rows_seen (w ∷ ws) h x zero = row_bits w (All-head (λ w. w < 2 ^ 57) w ws h) x
 rows_seen (w ∷ ws) h x (suc y) = rows_seen ws (All-tail (λ w. w < 2 ^ 57) w ws h) x y
-
--- a row is written
--- Square::set, the only caller, has x, y and the value as arguments, and w by its call of with_bit: two facts are
--- what that call ensures, one is required, and one is the square's invariant
-pub row_written : (ws : List ℕ) (w x y : ℕ) (value : Bool) → AreRows ws → w < 2 ^ 57 → y < 57
-    → ((a : ℕ) → bit w a ≡ (if a == x then value else bit (get_or ws y 0) a))
-    → WritesAt (map low_bits ws) (map low_bits (set ws y w)) x y value
-row_written ws w x y value rows narrow ly h a b =
-    let l : y < length ws = let e = rows.count in omega arith in
-    rw (rows_seen ws rows.narrow a b, rows_seen (set ws y w) (All-set (λ w. w < 2 ^ 57) ws y w narrow rows.narrow) a b)
-    (elim (cases_eq b y) [
-      | inl e ↦ rw (e, get_or-set_same ws y w 0 l, eq-eqb y y refl, h a)
-          (and_true (a == x) value (bit (get_or ws y 0) a))
-      | inr ne ↦ rw (ne_eqb b y ne, and_right (a == x) false refl) (ap (λ z. bit z a) (get_or-set_other ws y b w 0 ne))
-    ])
 
 -- a whole row is written
 pub row_put : (ws : List ℕ) (w y : ℕ) → AreRows ws → w < 2 ^ 57 → y < 57 → (a b : ℕ)

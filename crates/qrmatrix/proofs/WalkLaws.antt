@@ -11,7 +11,8 @@ use Rattle.qrmatrix.specs.Functions.{is_free}
 use Rattle.qrmatrix.specs.Placement.{key, rank, remainder_bits}
 use Rattle.qrmatrix.specs.Reading.{walk}
 use Rattle.qrmatrix.proofs.VersionLaws.{Computed, is_walked}
-use Rattle.qrmatrix.proofs.RankLaws.{free_below, free_below_more, free_below_none, rank-free_below}
+use Rattle.qrmatrix.specs.Private.Placing.{free_below}
+use Rattle.qrmatrix.proofs.RankLaws.{free_below_more, free_below_none, rank-free_below}
 
 -- a place before a list whose numbers count up from j: whether it is kept or not, the numbers count up from i
 -- the proof is by cases of b, so b, r, i and j are values; `along`, the only caller, has long terms for them:

@@ -2,7 +2,7 @@
 -- contract rests on them.
 pub mod Counting
 pub mod RowBits
-pub mod CodewordPairs
+pub mod Placing
 pub mod FunctionRows
 pub mod Squares
 pub mod PenaltyParts

@@ -1,109 +1,225 @@
-//! The placement of the codewords: a cursor goes along the strips and counts the free modules, both modules of a
-//! strip's row at once where both are free, and passes a row over where none is.
-ghost use Rattle.std.specs.Prelude.{◌≡◌, ℕ, ◌+◌, ◌*◌, ◌^◌, ◌<◌, true, false};
-ghost use Rattle.std.specs.Prelude.{IsTrue, IsFalse, List, length};
+//! The placement of the codewords: a cursor goes along the strips and counts the free modules, four rows of a strip at
+//! once where all of their modules are free.
+ghost use Rattle.std.specs.Prelude.{◌≡◌, ℕ, ◌+◌, ◌-◌, ◌*◌, ◌/◌, ◌%◌, ◌<◌, ◌≤◌, true, false, IsTrue, List, Bool, length};
+ghost use Rattle.std.specs.Prelude.{slice_index};
 ghost use Rattle.qrdata.specs.Versions.{side_of};
 ghost use Rattle.qrmatrix.specs.Functions.{is_free};
-ghost use Rattle.qrmatrix.specs.Placement;
 ghost use Rattle.qrmatrix.specs.Bits.{bit};
 ghost use Rattle.qrmatrix.specs.Square.{value_at};
-ghost use Rattle.qrmatrix.specs.Private.Squares.{WritesAt, WritesTwo};
-ghost use Rattle.qrmatrix.specs.Private.CodewordPairs.{ArePairs, ShowsTwo};
+ghost use Rattle.qrmatrix.specs.Private.Placing.{HasBits, IsStrip, MovesOn, MovesRow, ShowsFree, right_column, row_of};
 ghost use Rattle.qrmatrix.specs.Private.Drawing.{MarksFree, PlacesCodewords};
 
 use crate::square::{SIDE, Square};
 use qrdata::{Codewords, Version};
 
-/// The number of pairs of codewords: enough that each module of the largest symbol has a bit.
-const PAIRS: usize = 400;
+/// Room for the codewords and zeros after them: enough that each module of the largest symbol has a bit, and seven
+/// bytes more.
+const ROOM: usize = 408;
 
-/// Returns bit `i` of the codewords, the high bit of each first, and false past their end.
-fn codeword_bit(codewords: &Codewords, i: usize) -> bool
-    ensures { result ≡ Placement.codeword_bit codewords.now.items i }
-{
-    match codewords.get(i / 8) {
-        Some(codeword) => (*codeword >> (7 - i % 8)) & 1 == 1,
-        None => false,
-    }
-}
-
-/// Places bit `i` on a module, if the module is free, and returns how many bits are placed after that.
-fn place_module(
-    codewords: &Codewords,
-    free: &Square,
-    modules: &mut Square,
+/// Two columns of a symbol.
+#[derive(Clone, Copy)]
+struct Strip {
+    /// The modules on a side of the symbol.
+    n: usize,
+    /// How many strips are to its right.
+    number: usize,
+    /// The left one of its columns.
     x: usize,
-    y: usize,
-    i: usize,
-) -> usize
-    requires place { (x < SIDE) × (y < SIDE) }
-    requires count { i < 2 ^ 32 }
-    ensures placed { IsTrue (value_at free.now x y) → (result ≡ i + 1)
-        × WritesAt modules.old modules.new x y (Placement.codeword_bit codewords.now.items i) }
-    ensures kept { IsFalse (value_at free.now x y) → (result ≡ i) × (modules.new ≡ modules.old) }
-{
-    if free.get(x, y) {
-        modules.set(x, y, codeword_bit(codewords, i));
-        i + 1
-    } else {
-        i
+}
+
+impl Strip {
+    /// Makes the strip that has `number` others to its right. No strip has the column of the timing pattern.
+    fn new(n: usize, number: usize) -> Strip
+        requires side { (21 ≤ n) × (n ≤ SIDE) }
+        requires number { number < (n - 1) / 2 }
+        ensures side { result.n ≡ n }
+        ensures number { result.number ≡ number }
+        ensures column { result.x + 1 ≡ right_column n number }
+        ensures inside { result.x + 1 < n }
+    {
+        let right = if number < (n - 7) / 2 {
+            n - 1 - 2 * number
+        } else {
+            n - 2 - 2 * number
+        };
+        Strip {
+            n,
+            number,
+            x: right - 1,
+        }
+    }
+
+    /// Returns the row that the strip reaches after `t` others: one strip goes up, and the next one down.
+    fn row(self, t: usize) -> usize
+        requires { t < self.n }
+        ensures value { result ≡ row_of self.n self.number t }
+        ensures inside { result < self.n }
+    {
+        if self.number % 2 == 0 {
+            self.n - 1 - t
+        } else {
+            t
+        }
     }
 }
 
-/// Returns for each codeword the 16 bits of it and the next one. Zeros follow the last.
-fn codeword_pairs(codewords: &[u8]) -> [u16; PAIRS]
-    requires { length codewords.now < PAIRS }
-    ensures { ArePairs codewords.now result }
+/// Returns the codewords with zeros after them.
+fn with_zeros(codewords: &[u8]) -> [u8; ROOM]
+    requires { length codewords.now ≤ ROOM }
+    ensures { (j : ℕ) → slice_index result j ≡ slice_index codewords.now j }
 {
-    let mut pairs = [0; PAIRS];
-    let count = codewords.len();
-    for i in 1..count {
-        pairs[i - 1] = u16::from(codewords[i - 1]) * 256 + u16::from(codewords[i]);
+    let mut bytes = [0; ROOM];
+    for j in 0..codewords.len() {
+        bytes[j] = codewords[j];
     }
-    if 0 < count {
-        pairs[count - 1] = u16::from(codewords[count - 1]) * 256;
-    }
-    pairs
+    bytes
 }
 
-/// Returns the bits `i` and `i + 1` of the codewords, the first one higher.
-fn two_bits(pairs: &[u16; PAIRS], i: usize) -> u64
-    requires { i < 8 * PAIRS }
-    ensures bits { (codewords : List ℕ) → ArePairs codewords pairs.now
-        → ShowsTwo result (Placement.codeword_bit codewords i) (Placement.codeword_bit codewords (i + 1)) }
+/// Returns the bits of the codewords from bit `i` on, the first one the highest.
+fn bits_from(bytes: &[u8; ROOM], i: usize) -> u64
+    requires { i < 8 * (ROOM - 8) }
+    ensures { HasBits 57 result bytes.now i }
+{
+    let first = i / 8;
+    let mut bits = 0;
+    for j in 0..8 {
+        bits = bits * 256 + u64::from(bytes[first + j]);
+    }
+    bits << (i % 8)
+}
+
+/// Returns bit `x` and, one place higher, the next one.
+fn two_at(bits: u64, x: usize) -> u64
+    requires { x + 1 < 64 }
+    ensures low { bit result 0 ≡ bit bits x }
+    ensures high { bit result 1 ≡ bit bits (x + 1) }
     ensures bound { result < 4 }
 {
-    u64::from((pairs[i / 8] >> (14 - i % 8)) & 3)
+    (bits >> x) & 3
 }
 
-/// Returns whether the modules at column `x` and at the next one are both free.
-fn are_free(free: &Square, x: usize, y: usize) -> bool
+/// Returns the next bits for two modules, the right one first. One that is not free gets none.
+fn two_of(free: u64, bits: u64) -> u64
+    requires { free < 4 }
+    ensures value { ShowsFree result free bits }
+    ensures bound { result < 4 }
+{
+    if free == 3 {
+        bits >> 62
+    } else {
+        free * (bits >> 63)
+    }
+}
+
+/// Places bits on the free modules at column `x` and at the next one, and returns how many.
+fn place_row(free: &Square, modules: &mut Square, x: usize, y: usize, bits: u64) -> usize
     requires { (x + 1 < SIDE) × (y < SIDE) }
-    ensures { IsTrue result → (value_at free.now x y ≡ true)
-        × (value_at free.now (x + 1) y ≡ true) }
+    ensures placed { MovesRow free.now modules.old modules.new x y bits result }
+    ensures bound { result ≤ 2 }
 {
-    let both = 3 << x;
-    (free.row(y) & both) == both
+    let two = two_at(free.row(y), x);
+    if two == 0 {
+        return 0;
+    }
+    modules.flip(y, two_of(two, bits) << x);
+    (two as usize + 1) / 2
 }
 
-/// Returns whether one of the modules at column `x` and at the next one is free.
-fn is_one_free(free: &Square, x: usize, y: usize) -> bool
-    requires { (x + 1 < SIDE) × (y < SIDE) }
-    ensures { IsFalse result → (value_at free.now x y ≡ false)
-        × (value_at free.now (x + 1) y ≡ false) }
+/// Returns whether both modules of the strip are free in row `t` and in the next three that it reaches.
+fn are_four_free(strip: Strip, t: usize, free: &Square) -> bool
+    requires side { strip.n ≤ SIDE }
+    requires column { strip.x + 1 < SIDE }
+    requires row { t + 3 < strip.n }
+    ensures { IsTrue result → (j : ℕ) → j < 4
+        → (value_at free.now strip.x (row_of strip.n strip.number (t + j)) ≡ true)
+        × (value_at free.now (strip.x + 1) (row_of strip.n strip.number (t + j)) ≡ true) }
 {
-    (free.row(y) & (3 << x)) != 0
+    let rows = free.row(strip.row(t))
+        & free.row(strip.row(t + 1))
+        & free.row(strip.row(t + 2))
+        & free.row(strip.row(t + 3));
+    two_at(rows, strip.x) == 3
 }
 
-/// Writes two bits on light modules, the lower one at column `x` and the other one at the next.
-fn place_two(two: u64, modules: &mut Square, x: usize, y: usize)
-    requires bits { two < 4 }
-    requires place { (x + 1 < SIDE) × (y < SIDE) }
-    requires light { (value_at modules.old x y ≡ false)
-        × (value_at modules.old (x + 1) y ≡ false) }
-    ensures { WritesTwo modules.old modules.new x y (bit two 0) (bit two 1) }
+/// Places eight bits on four rows whose modules are free, from row `t` on.
+fn place_free(strip: Strip, t: usize, bits: u64, modules: &mut Square)
+    requires side { strip.n ≤ SIDE }
+    requires column { strip.x + 1 < SIDE }
+    requires row { t + 3 < strip.n }
+    ensures { (free : List (List Bool)) → ((j : ℕ) → j < 4
+        → (value_at free strip.x (row_of strip.n strip.number (t + j)) ≡ true)
+        × (value_at free (strip.x + 1) (row_of strip.n strip.number (t + j)) ≡ true))
+        → (codewords : List ℕ) (i : ℕ) → HasBits 57 bits codewords i
+        → MovesOn strip free codewords modules.old modules.new i t (i + 8) (t + 4) }
 {
-    modules.flip(y, two << x);
+    for j in 0..4 {
+        let two = two_at(bits, 62 - 2 * j);
+        modules.flip(strip.row(t + j), two << strip.x);
+    }
+}
+
+/// Places bits on the free modules of `count` rows, at most four of them, from row `t` on, and returns how many.
+fn place_rows(
+    strip: Strip,
+    t: usize,
+    count: usize,
+    bits: u64,
+    free: &Square,
+    modules: &mut Square,
+) -> usize
+    requires side { strip.n ≤ SIDE }
+    requires column { strip.x + 1 < SIDE }
+    requires row { t + count ≤ strip.n }
+    requires count { count ≤ 4 }
+    ensures placed { (codewords : List ℕ) (i : ℕ) → HasBits 57 bits codewords i
+        → MovesOn strip free.now codewords modules.old modules.new i t (i + result) (t + count) }
+    ensures bound { result ≤ 2 * count }
+{
+    let mut placed = 0;
+    for j in 0..count {
+        placed += place_row(free, modules, strip.x, strip.row(t + j), bits << placed);
+    }
+    placed
+}
+
+/// Places the bits from bit `i` on on four rows of a strip, from row `t` on, and returns how many.
+#[inline(always)]
+fn place_four(strip: Strip, t: usize, bits: u64, free: &Square, modules: &mut Square) -> usize
+    requires side { strip.n ≤ SIDE }
+    requires column { strip.x + 1 < SIDE }
+    requires row { t + 3 < strip.n }
+    ensures placed { (codewords : List ℕ) (i : ℕ) → HasBits 57 bits codewords i
+        → MovesOn strip free.now codewords modules.old modules.new i t (i + result) (t + 4) }
+    ensures bound { result ≤ 8 }
+{
+    if are_four_free(strip, t, free) {
+        place_free(strip, t, bits, modules);
+        8
+    } else {
+        place_rows(strip, t, 4, bits, free, modules)
+    }
+}
+
+/// Places the bits from bit `first` on on a strip, and returns where the next one begins.
+#[inline(always)]
+fn place_strip(
+    strip: Strip,
+    bytes: &[u8; ROOM],
+    free: &Square,
+    modules: &mut Square,
+    first: usize,
+) -> usize
+    requires side { (strip.n ≤ SIDE) × (strip.n % 4 ≡ 1) }
+    requires column { strip.x + 1 < SIDE }
+    requires first { first + 2 * strip.n < 8 * (ROOM - 8) }
+    ensures placed { MovesOn strip free.now bytes.now modules.old modules.new first 0 result strip.n }
+    ensures bound { result ≤ first + 2 * strip.n }
+{
+    let mut i = first;
+    for block in 0..strip.n / 4 {
+        i += place_four(strip, 4 * block, bits_from(bytes, i), free, modules);
+    }
+    i + place_rows(strip, strip.n - 1, 1, bits_from(bytes, i), free, modules)
 }
 
 /// Places the codewords on the free modules, strip after strip from the right, upwards and downwards in turn (ISO/IEC
@@ -115,23 +231,11 @@ pub fn place(version: Version, codewords: &Codewords, free: &Square, modules: &m
     ensures { PlacesCodewords version codewords.now.items modules.old modules.new }
 {
     let n = version.side();
-    let pairs = codeword_pairs(codewords);
+    let bytes = with_zeros(codewords);
     let mut i = 0;
-    for strip in 0..(n - 1) / 2 {
-        let right = if strip < (n - 7) / 2 {
-            n - 1 - 2 * strip
-        } else {
-            n - 2 - 2 * strip
-        };
-        for t in 0..n {
-            let y = if strip % 2 == 0 { n - 1 - t } else { t };
-            if are_free(free, right - 1, y) {
-                place_two(two_bits(&pairs, i), modules, right - 1, y);
-                i += 2;
-            } else if is_one_free(free, right - 1, y) {
-                i = place_module(codewords, free, modules, right, y, i);
-                i = place_module(codewords, free, modules, right - 1, y, i);
-            }
-        }
+    // One strip goes up and one down, so that the compiler knows which.
+    for pair in 0..(n - 1) / 4 {
+        i = place_strip(Strip::new(n, 2 * pair), &bytes, free, modules, i);
+        i = place_strip(Strip::new(n, 2 * pair + 1), &bytes, free, modules, i);
     }
 }

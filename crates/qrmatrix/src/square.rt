@@ -5,7 +5,6 @@ ghost use Rattle.qrmatrix.specs.Bits.{bit};
 ghost use Rattle.qrmatrix.specs.Private.Squares.{flip_if};
 ghost use Rattle.qrmatrix.specs.Private.RowBits.{low_bits, AreRows};
 ghost use Rattle.qrmatrix.specs.Square.{value_at};
-ghost use Rattle.qrmatrix.specs.Private.Squares.{WritesAt};
 
 use std::marker::Model;
 
@@ -24,19 +23,6 @@ impl Model for Square {
     ghost view = { λ s. map low_bits s.rows };
 
     ghost invariant = { λ s. AreRows s.rows };
-}
-
-/// Returns the bits of a row with one bit written.
-fn with_bit(row_bits: u64, x: usize, value: bool) -> u64
-    requires { (row_bits < 2 ^ SIDE) × (x < SIDE) }
-    ensures bits { (a : ℕ) → bit result a ≡ (if a == x then value else bit row_bits a) }
-    ensures bound { result < 2 ^ SIDE }
-{
-    if value {
-        row_bits | (1 << x)
-    } else {
-        row_bits & !(1 << x)
-    }
 }
 
 impl Square {
@@ -60,14 +46,6 @@ impl Square {
         ensures { result ≡ value_at self.now x y }
     {
         (self.rows[y] >> x) & 1 == 1
-    }
-
-    /// Writes the value at column `x` and row `y`.
-    pub fn set(&mut self, x: usize, y: usize, value: bool)
-        requires { (x < SIDE) × (y < SIDE) }
-        ensures { WritesAt self.old self.new x y value }
-    {
-        self.rows[y] = with_bit(self.rows[y], x, value);
     }
 
     /// Returns the bits of row `y`.

@@ -1,5 +1,5 @@
 -- What an operation changes of a square of truth values.
-use Rattle.std.specs.Prelude.{◌≡◌, ◌≤◌, ◌+◌, ℕ, Bool, true, false, not, List, if◌then◌else◌, ◌==◌, ◌&&◌}
+use Rattle.std.specs.Prelude.{◌≡◌, ◌≤◌, ℕ, Bool, true, false, not, List}
 use Rattle.qrmatrix.specs.Modules.{is_inside}
 use Rattle.qrmatrix.specs.Square.{value_at}
 use Rattle.qrmatrix.specs.declared.square.TheConstants.{SIDE}
@@ -8,17 +8,6 @@ use Rattle.qrmatrix.specs.declared.square.TheConstants.{SIDE}
 abbrev pub flip_if : Bool → Bool → Bool
 flip_if true b = not b
 flip_if false b = b
-
--- new is old with a value written at column x and row y
-abbrev pub WritesAt : List (List Bool) → List (List Bool) → ℕ → ℕ → Bool → Type 0
-WritesAt old new x y value =
-    (a b : ℕ) → value_at new a b ≡ (if (a == x) && (b == y) then value else value_at old a b)
-
--- new is old with values written in row y, at column x and at the next one
-abbrev pub WritesTwo : List (List Bool) → List (List Bool) → ℕ → ℕ → Bool → Bool → Type 0
-WritesTwo old new x y value next =
-    (a b : ℕ) → value_at new a b
-    ≡ (if (a == x) && (b == y) then value else (if (a == x + 1) && (b == y) then next else value_at old a b))
 
 -- no value outside of n columns and rows is true
 abbrev pub IsWithin : ℕ → List (List Bool) → Type 0

@@ -1,70 +1,70 @@
-use Rattle.std.proofs.Common.{◌≡◌, ◌-◌, ◌*◌, ◌/◌, arith, ap, subst}
+use Rattle.std.proofs.Common.{◌≡◌, ◌+◌, ◌-◌, ◌*◌, ◌/◌, ◌%◌, ◌∙◌, arith, ap, subst}
+use Rattle.std.specs.Prelude.{slice_index}
 use Rattle.qrdata.specs.Versions.{side_of}
+use Rattle.qrmatrix.specs.Bits.{bit}
+use Rattle.qrmatrix.specs.Placement.{rank}
 use Rattle.qrmatrix.specs.Square.{value_at}
-use Rattle.qrmatrix.specs.Private.CodewordPairs.{ArePairs}
-use Rattle.qrmatrix.proofs.CursorLaws.{AtRow, AtRow-reached, Placed-moved, placed_neither, placed_none, placed_pair, placed_two}
-use Rattle.qrmatrix.proofs.CursorLaws.{light_ahead}
+use Rattle.qrmatrix.specs.Private.Placing.{Placed}
+use Rattle.qrmatrix.proofs.CursorLaws.{placed_none, strip_is, strip_placed}
 use Rattle.qrmatrix.proofs.VersionLaws.{computed}
 use Rattle.qrmatrix.proofs.RankLaws.{outside_at, below_at}
 use Rattle.qrmatrix.proofs.placement.place.Goals as goal
-use Rattle.qrmatrix.proofs.placement.place.Goals.{then-are_free, else-are_free+then-is_one_free, else-are_free+else-is_one_free}
 
-pub loop-strip-init : goal.loop-strip-init
-loop-strip-init c =
+pub loop-pair-init : goal.loop-pair-init
+loop-pair-init c =
     let v = c.args.version in
     record {
-      placed = placed_none v (computed v c.side-n.ensures.known.0 c.side-n.ensures.known.1) c.args.codewords.now.items _
+      placed = placed_none v (computed v c.side-n.ensures.known.0 c.side-n.ensures.known.1) c.with_zeros-bytes.result _
           (2 * side_of v * 0) (omega arith) c.requires.light;
-      pairs = subst
-          (λ codewords. ArePairs codewords c.codeword_pairs-pairs.result) c.deref.ensures.0 c.codeword_pairs-pairs.ensures;
+      bound = omega arith;
       width = c.side-n.ensures.value;
     }
 
-pub place_two-requires-clause-light : goal.place_two-requires-clause-light
-place_two-requires-clause-light c =
+pub loop-pair-preserved : goal.loop-pair-preserved
+loop-pair-preserved c =
     let v = c.args.version in
-    let i = c.loop-t.invariant in
-    let at : AtRow v c.loop-strip.strip c.loop-t.t c.if-strip-n.right c.if-strip-eq0.y =
-    AtRow-reached i.inside (omega arith) i.right i.width (λ even. omega arith) (λ odd. omega arith) in
-    light_ahead c.args.codewords.now.items _ c.args.free.now c.requires.marked at c.loop-t.modules c.loop-t.i i.placed
-    (c.are_free.ensures c.if-are_free.true)
-
-pub loop-t-preserved : goal.loop-t-preserved
-loop-t-preserved c =
-    let known = computed c.args.version c.side-n.ensures.known.0 c.side-n.ensures.known.1 in
-    let i = c.loop-t.invariant in
-    let at : AtRow c.args.version c.loop-strip.strip c.loop-t.t c.if-strip-n.right c.if-strip-eq0.y =
-    AtRow-reached i.inside (omega arith) i.right i.width (λ even. omega arith) (λ odd. omega arith) in
+    let k = 2 * c.loop-pair.pair in
+    let bytes = c.with_zeros-bytes.result in
+    let free = c.args.free.now in
+    let width = c.loop-pair.invariant.width in
+    let bound = c.loop-pair.invariant.bound in
+    let up = c.new in
+    let down = c.new-in-loop-pair in
+    let first = c.place_strip-i in
+    let second = c.place_strip-i-in-loop-pair in
+    let known = c.side-n.ensures.known in
+    let is_up = strip_is v c.side-n.result k up.result known.0 known.1 width (omega arith) up.ensures.side
+    up.ensures.number up.ensures.column in
+    let is_down = strip_is v c.side-n.result (k + 1) down.result known.0 known.1 width (omega arith) down.ensures.side
+    down.ensures.number down.ensures.column in
+    let first_most = first.ensures.bound in
+    let second_most = second.ensures.bound in
+    let side_up = up.ensures.side in
+    let side_down = down.ensures.side in
+    let pairs : 2 * side_of v * (k + 1 + 1) ≡ 2 * side_of v * (2 * (c.loop-pair.pair + 1)) = omega arith in
     record {
-      placed = elim c.if-are_free.branch [
-        | then-are_free w ↦ Placed-moved
-            (placed_two _ _ c.args.free.now c.requires.marked at known c.loop-t.modules
-            w.place_two.new.modules c.loop-t.i w.two_bits.result i.placed (c.are_free.ensures w.if-are_free.true)
-            (w.two_bits.ensures.bits _ i.pairs) w.place_two.ensures) (ap value_at w.modules-is) w.i-is
-        | else-are_free+then-is_one_free w ↦ Placed-moved
-            (placed_pair _ _ c.args.free.now c.requires.marked at known c.loop-t.modules
-            w.place_module-i.new.modules w.place_module-i-then-is_one_free.new.modules c.loop-t.i w.place_module-i.result
-            w.place_module-i-then-is_one_free.result i.placed w.place_module-i.ensures.placed w.place_module-i.ensures.kept
-            w.place_module-i-then-is_one_free.ensures.placed w.place_module-i-then-is_one_free.ensures.kept)
-            (ap value_at w.modules-is) w.i-is
-        | else-are_free+else-is_one_free w ↦ Placed-moved
-            (placed_neither _ _ c.args.free.now c.requires.marked at known c.loop-t.modules c.loop-t.i i.placed
-            (w.is_one_free.ensures w.if-is_one_free.false)) (ap value_at w.modules-is) w.i-is
-      ];
-      pairs = i.pairs;
-      width = i.width;
-      right = i.right;
-      inside = i.inside;
+      placed = subst (Placed v bytes (value_at c.args.modules.now) (value_at second.new.modules) second.result) pairs
+          (strip_placed v (k + 1) first.result second.result down.result bytes (value_at c.args.modules.now) free
+          first.new.modules second.new.modules is_down c.requires.marked down.ensures.number second.ensures.placed
+          (strip_placed v k c.loop-pair.i first.result up.result bytes (value_at c.args.modules.now) free
+          c.loop-pair.modules first.new.modules is_up c.requires.marked up.ensures.number first.ensures.placed
+          c.loop-pair.invariant.placed));
+      bound = omega arith;
+      width = width;
     }
 
 pub returns : goal.returns
 returns c =
     let v = c.args.version in
     let k = computed v c.side-n.ensures.known.0 c.side-n.ensures.known.1 in
-    let n : c.loop-strip.strip ≡ (side_of v - 1) / 2 = omega arith in
-    let placed = c.loop-strip.invariant.placed in
+    let width = c.side-n.ensures.value in
+    let n : 2 * c.loop-pair.pair ≡ (side_of v - 1) / 2 = omega arith in
+    let placed = c.loop-pair.invariant.placed in
     record {
-      placed = λ x y lx ly free. placed.placed x y lx ly free (rw n (below_at v k x y lx ly (outside_at v k x y ly free)));
+      placed = λ x y lx ly free.
+          placed.placed x y lx ly free (rw n (below_at v k x y lx ly (outside_at v k x y ly free)))
+          ∙ ap (λ w. bit w (7 - rank v x y % 8))
+          (c.with_zeros-bytes.ensures (rank v x y / 8) ∙ ap (λ ws. slice_index ws (rank v x y / 8)) c.deref.ensures.0);
       others = placed.others;
       outside = record { columns = placed.columns; rows = placed.rows };
     }

@@ -1,0 +1,202 @@
+-- Bits of words: eight codewords in a word, and two bits of a row.
+use Rattle.std.proofs.Common.{◌≡◌, ◌≢◌, ℕ, zero, suc, ◌+◌, ◌-◌, ◌*◌, ◌/◌, ◌%◌, ◌^◌, ◌<◌, ◌≤◌, refl, sym, ap, ◌∙◌, arith}
+use Rattle.std.proofs.Common.{Bool, true, false, ◌&&◌, List, inl, inr, subst, set, length, get_or-set_same, get_or-set_other}
+use Rattle.std.proofs.Math.ListN.{replicate}
+use Rattle.std.proofs.lemmas.List.{get_or_past}
+use Rattle.std.specs.Prelude.{◌==◌, bit_and, nat_lt, slice_index, if◌then◌else◌}
+use Rattle.std.specs.Int.{bit_at}
+use Rattle.std.proofs.lemmas.Bool.{and_parts, cases_lt, cases_eq, ne_eqb, eq-eqb, le-ltb, lt-ltb}
+use Rattle.std.proofs.lemmas.Nat.{pow_pos, pow-add, mul-le}
+use Rattle.std.proofs.Math.Pow.{pow_mono}
+use Rattle.std.proofs.lemmas.Nat.Bits.{bit_at_cat_high, bit_at_cat_low, bit_at-zero}
+use Rattle.qrmatrix.specs.Bits.{bit}
+use Rattle.qrmatrix.specs.Placement.{codeword_bit}
+use Rattle.qrmatrix.specs.Private.Placing.{HasBits}
+use Rattle.qrmatrix.proofs.RowBitsLaws.{and_bit, shr_bit, mod_bit, above_bit}
+
+and_all : (b : Bool) → (b && true) ≡ b
+and_all true = refl
+and_all false = refl
+
+high_of_pair : (a b i : ℕ) → b < 256 → 8 ≤ i → bit (a * 256 + b) i ≡ bit a (i - 8)
+high_of_pair a b i h l = ap (λ z. z == 1) (bit_at_cat_high a 8 b i h l)
+
+low_of_pair : (a b i : ℕ) → i < 8 → bit (a * 256 + b) i ≡ bit b i
+low_of_pair a b i l = ap (λ z. z == 1) (bit_at_cat_low a 8 b i l)
+
+-- a number moved up
+left_bit : (w k i : ℕ) → i < 64 → k ≤ i → bit (w * 2 ^ k % 2 ^ 64) i ≡ bit w (i - k)
+left_bit w k i l g =
+    let e : w * 2 ^ k ≡ w * 2 ^ k + 0 = omega arith in
+    let p = pow_pos k in
+    mod_bit 64 (w * 2 ^ k) i l ∙ ap (λ z. z == 1) (ap (λ z. bit_at z i) e ∙ bit_at_cat_high w k 0 i p g)
+
+-- ---- eight codewords in a word
+
+-- a word of j codewords, from number `first` on
+pub record HasCodewords (word : ℕ) (codewords : List ℕ) (first j : ℕ) : Type 0 where
+  pub narrow : word < 2 ^ (8 * j)
+  pub shows : (m : ℕ) → m < 8 * j → bit word (8 * j - 1 - m) ≡ codeword_bit codewords (8 * first + m)
+
+pub no_codewords : (codewords : List ℕ) (first : ℕ) → HasCodewords 0 codewords first 0
+no_codewords codewords first = record { narrow = omega arith; shows = λ m l. absurd (omega arith) }
+
+-- one codeword more
+pub codeword_more : (word j first b : ℕ) (codewords : List ℕ) → b < 256 → b ≡ slice_index codewords (first + j)
+    → HasCodewords word codewords first j → HasCodewords (word * 256 + b) codewords first (j + 1)
+codeword_more word j first b codewords h is w =
+    record {
+      narrow =
+          let e : 8 * (j + 1) ≡ 8 * j + 8 = omega arith in
+          let p : 2 ^ (8 * (j + 1)) ≡ 2 ^ (8 * j) * 256 = ap (λ z. 2 ^ z) e ∙ pow-add 2 (8 * j) 8 in
+          let n = w.narrow in
+          subst (λ z. word * 256 + b < z) (sym p) (below_next word (2 ^ (8 * j)) b n h);
+      shows = λ m l. elim (cases_lt m (8 * j)) [
+        | inl before ↦
+            let up : 8 ≤ 8 * (j + 1) - 1 - m = omega arith in
+            let same : 8 * (j + 1) - 1 - m - 8 ≡ 8 * j - 1 - m = omega arith in
+            high_of_pair word b (8 * (j + 1) - 1 - m) h up ∙ ap (bit word) same ∙ w.shows m before
+        | inr from ↦
+            let low : 8 * (j + 1) - 1 - m < 8 = omega arith in
+            let at : 8 * (j + 1) - 1 - m ≡ 7 - (8 * first + m) % 8 = omega arith in
+            let in_codeword : first + j ≡ (8 * first + m) / 8 = omega arith in
+            low_of_pair word b (8 * (j + 1) - 1 - m) low ∙ ap (bit b) at
+            ∙ ap (λ z. bit z (7 - (8 * first + m) % 8)) (is ∙ ap (slice_index codewords) in_codeword)
+      ];
+    }
+  where
+    below_next : (w p b : ℕ) → w < p → b < 256 → w * 256 + b < p * 256
+    below_next w p b l h = omega arith
+
+-- the word from bit i on
+pub word_from : (word i : ℕ) (codewords : List ℕ) → HasCodewords word codewords (i / 8) 8
+    → HasBits 57 (word * 2 ^ (i % 8) % 2 ^ 64) codewords i
+word_from word i codewords w j l =
+    let r = i % 8 in
+    let back : r ≤ 63 - j = omega arith in
+    let m : 63 - j - r ≡ 8 * 8 - 1 - (r + j) = omega arith in
+    let at : 8 * (i / 8) + (r + j) ≡ i + j = omega arith in
+    left_bit word r (63 - j) (omega arith) back ∙ ap (bit word) m ∙ w.shows (r + j) (omega arith)
+    ∙ ap (codeword_bit codewords) at
+
+-- a word without its first bits
+pub bits_after : (count more word i : ℕ) (codewords : List ℕ) → count + more ≤ 57 → HasBits 57 word codewords i
+    → HasBits more (word * 2 ^ count % 2 ^ 64) codewords (i + count)
+bits_after count more word i codewords few has j l =
+    let back : count ≤ 63 - j = omega arith in
+    let at : 63 - j - count ≡ 63 - (count + j) = omega arith in
+    let is : i + (count + j) ≡ i + count + j = omega arith in
+    left_bit word count (63 - j) (omega arith) back ∙ ap (bit word) at ∙ has (count + j) (omega arith)
+    ∙ ap (codeword_bit codewords) is
+
+-- ---- two bits of a word
+
+pub two_low : (w k : ℕ) → bit (bit_and (w / 2 ^ k) 3) 0 ≡ bit w k
+two_low w k =
+    let e : 0 + k ≡ k = omega arith in
+    and_bit (w / 2 ^ k) 3 0 ∙ and_all (bit (w / 2 ^ k) 0) ∙ shr_bit w k 0 ∙ ap (bit w) e
+
+pub two_high : (w k : ℕ) → bit (bit_and (w / 2 ^ k) 3) 1 ≡ bit w (k + 1)
+two_high w k =
+    let e : 1 + k ≡ k + 1 = omega arith in
+    and_bit (w / 2 ^ k) 3 1 ∙ and_all (bit (w / 2 ^ k) 1) ∙ shr_bit w k 1 ∙ ap (bit w) e
+
+-- a bit of four words
+pub in_each : (a b c d x : ℕ) → bit (bit_and (bit_and (bit_and a b) c) d) x ≡ true
+    → (bit a x ≡ true) × (bit b x ≡ true) × (bit c x ≡ true) × (bit d x ≡ true)
+in_each a b c d x h =
+    let last = and_parts (bit (bit_and (bit_and a b) c) x) (bit d x) (sym (and_bit (bit_and (bit_and a b) c) d x) ∙ h) in
+    let third = and_parts (bit (bit_and a b) x) (bit c x) (sym (and_bit (bit_and a b) c x) ∙ last.0) in
+    let first = and_parts (bit a x) (bit b x) (sym (and_bit a b x) ∙ third.0) in
+    (first.0, first.1, third.1, last.1)
+
+-- a fact on each number below four
+pub by_four : (P : ℕ → Type 0) → P 0 → P 1 → P 2 → P 3 → (j : ℕ) → j < 4 → P j
+by_four P a b c d zero l = a
+by_four P a b c d (suc zero) l = b
+by_four P a b c d (suc (suc zero)) l = c
+by_four P a b c d (suc (suc (suc zero))) l = d
+by_four P a b c d (suc (suc (suc (suc j)))) l = absurd (omega arith)
+
+-- ---- two bits of a row
+
+below_bit : (two x a : ℕ) → x + 1 < 57 → a < x → bit (two * 2 ^ x % 2 ^ 64) a ≡ false
+below_bit two x a l h =
+    let e : two * 2 ^ x ≡ two * 2 ^ x + 0 = omega arith in
+    mod_bit 64 (two * 2 ^ x) a (omega arith)
+    ∙ ap (λ z. z == 1) (ap (λ z. bit_at z a) e ∙ bit_at_cat_low two x 0 a h ∙ bit_at-zero a)
+
+pub up_narrow : (two x : ℕ) → two < 4 → x + 1 < 57 → two * 2 ^ x % 2 ^ 64 < 2 ^ 57
+up_narrow two x h l =
+    let small : x ≤ 55 = omega arith in
+    let p : 2 ^ x ≤ 2 ^ 55 = pow_mono small in
+    let few : two ≤ 3 = omega arith in
+    let q : two * 2 ^ x ≤ 3 * 2 ^ 55 = mul-le two (2 ^ x) 3 (2 ^ 55) few p in
+    omega arith
+
+-- which bits of a number below 4 that is moved up are set
+pub moved : (two x a : ℕ) → two < 4 → x + 1 < 57
+    → bit (two * 2 ^ x % 2 ^ 64) a ≡ (if a == x then bit two 0 else (if a == x + 1 then bit two 1 else false))
+moved two x a h l =
+    elim (cases_lt a 57) [
+      | inr g ↦
+          let ne : a ≢ x = λ e. omega arith in
+          let ne' : a ≢ x + 1 = λ e. omega arith in
+          above_bit (two * 2 ^ x % 2 ^ 64) 57 a (up_narrow two x h l) g ∙ rw (ne_eqb a x ne, ne_eqb a (x + 1) ne') refl
+      | inl la ↦ elim (cases_lt a x) [
+        | inl b ↦
+            let ne : a ≢ x = λ e. omega arith in
+            let ne' : a ≢ x + 1 = λ e. omega arith in
+            below_bit two x a l b ∙ rw (ne_eqb a x ne, ne_eqb a (x + 1) ne') refl
+        | inr g ↦ left_bit two x a (omega arith) g ∙ from_here g
+      ]
+    ]
+  where
+    from_here : x ≤ a → bit two (a - x) ≡ (if a == x then bit two 0 else (if a == x + 1 then bit two 1 else false))
+    from_here g =
+        elim (cases_eq a x) [
+          | inl e ↦ let z : a - x ≡ 0 = omega arith in rw (z, eq-eqb a x e) refl
+          | inr ne ↦ elim (cases_eq a (x + 1)) [
+            | inl e ↦ let z : a - x ≡ 1 = omega arith in rw (z, ne_eqb a x ne, eq-eqb a (x + 1) e) refl
+            | inr ne' ↦ let z : 2 ≤ a - x = omega arith in
+                rw (ne_eqb a x ne, ne_eqb a (x + 1) ne') (above_bit two 2 (a - x) h z)
+          ]
+        ]
+
+-- a word of fewer than eight codewords
+pub narrow_word : (word j : ℕ) → word < 2 ^ (8 * j) → j < 8 → word < 2 ^ 56
+narrow_word word j h l =
+    let few : 8 * j ≤ 56 = omega arith in
+    let p : 2 ^ (8 * j) ≤ 2 ^ 56 = pow_mono few in
+    omega arith
+
+-- ---- the codewords with zeros after them
+
+-- the first j codewords, and then zeros
+abbrev pub HasFirst : List ℕ → List ℕ → ℕ → Type 0
+HasFirst bytes codewords j =
+    (k : ℕ) → slice_index bytes k ≡ (if nat_lt k j then slice_index codewords k else 0)
+
+pub zeros : (n k : ℕ) → slice_index (replicate n 0) k ≡ 0
+zeros zero k = refl
+zeros (suc n) zero = refl
+zeros (suc n) (suc k) = zeros n k
+
+pub first_more : (bytes codewords : List ℕ) (j : ℕ) → j < length bytes → HasFirst bytes codewords j
+    → HasFirst (set bytes j (slice_index codewords j)) codewords (j + 1)
+first_more bytes codewords j inside has k =
+    elim (cases_eq k j) [
+      | inl e ↦ rw (e, lt-ltb j (j + 1) (omega arith)) (get_or-set_same bytes j (slice_index codewords j) 0 inside)
+      | inr ne ↦ get_or-set_other bytes j k (slice_index codewords j) 0 ne ∙ has k ∙ elim (cases_lt k j) [
+        | inl l ↦ rw (lt-ltb k j l, lt-ltb k (j + 1) (omega arith)) refl
+        | inr g ↦ rw (le-ltb k j g, le-ltb k (j + 1) (omega arith)) refl
+      ]
+    ]
+
+pub first_all : (bytes codewords : List ℕ) (j : ℕ) → j ≡ length codewords → HasFirst bytes codewords j → (k : ℕ)
+    → slice_index bytes k ≡ slice_index codewords k
+first_all bytes codewords j e has k =
+    has k ∙ elim (cases_lt k j) [
+      | inl l ↦ rw (lt-ltb k j l) refl
+      | inr g ↦ rw (le-ltb k j g) (sym (get_or_past codewords k 0 (omega arith)))
+    ]

@@ -1,0 +1,32 @@
+use Rattle.std.proofs.Common.{◌≡◌, ◌∙◌, ap, sym, ◌+◌, true, add-zero}
+use Rattle.std.proofs.lemmas.Bool.{eqb-true}
+use Rattle.qrmatrix.specs.Bits.{bit}
+use Rattle.qrmatrix.specs.Square.{value_at}
+use Rattle.qrmatrix.specs.Private.Placing.{row_of}
+use Rattle.qrmatrix.proofs.CursorLaws.{both_free}
+use Rattle.qrmatrix.proofs.TwoBitsLaws.{by_four, in_each}
+use Rattle.qrmatrix.proofs.placement.are_four_free.Goals as goal
+
+pub returns : goal.returns
+returns c =
+    λ set.
+    let free = c.args.free.now in
+    let x = c.args.strip.x in
+    let n = c.args.strip.n in
+    let number = c.args.strip.number in
+    let t = c.args.t in
+    let three = eqb-true c.two_at.result 3 set in
+    let low = in_each c.row-2.result c.row-4.result c.row-6.result c.row-8.result x
+    (sym c.two_at.ensures.low ∙ ap (λ z. bit z 0) three) in
+    let high = in_each c.row-2.result c.row-4.result c.row-6.result c.row-8.result (x + 1)
+    (sym c.two_at.ensures.high ∙ ap (λ z. bit z 1) three) in
+    by_four
+    (λ j. (value_at free x (row_of n number (t + j)) ≡ true) × (value_at free (x + 1) (row_of n number (t + j)) ≡ true))
+    (both_free free c.row-2.result x c.row.result (row_of n number (t + 0)) c.row-2.ensures.bits
+    (c.row.ensures.value ∙ ap (row_of n number) (sym (add-zero t))) low.0 high.0)
+    (both_free free c.row-4.result x c.row-3.result (row_of n number (t + 1)) c.row-4.ensures.bits c.row-3.ensures.value
+    low.1 high.1)
+    (both_free free c.row-6.result x c.row-5.result (row_of n number (t + 2)) c.row-6.ensures.bits c.row-5.ensures.value
+    low.2 high.2)
+    (both_free free c.row-8.result x c.row-7.result (row_of n number (t + 3)) c.row-8.ensures.bits c.row-7.ensures.value
+    low.3 high.3)

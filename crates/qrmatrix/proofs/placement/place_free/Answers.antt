@@ -1,0 +1,39 @@
+use Rattle.std.proofs.Common.{◌∙◌, ◌+◌, ◌*◌, refl, arith}
+use Rattle.qrmatrix.proofs.CursorLaws.{for_free_row, renumbered, row_placed}
+use Rattle.qrmatrix.proofs.TwoBitsLaws.{moved, up_narrow}
+use Rattle.qrmatrix.proofs.placement.place_free.Goals as goal
+
+pub loop-j-init : goal.loop-j-init
+loop-j-init c = record {
+  placed = λ free four codewords i has v start is marks p.
+      renumbered c.args.strip.number i (i + 2 * 0) c.args.t (c.args.t + 0) (omega arith) (omega arith) p;
+}
+
+pub flip-requires-clause-row_bits : goal.flip-requires-clause-row_bits
+flip-requires-clause-row_bits c =
+    up_narrow c.two_at-two.result c.args.strip.x c.two_at-two.ensures.bound c.requires.column
+
+pub loop-j-preserved : goal.loop-j-preserved
+loop-j-preserved c = record {
+  placed = λ free four codewords i has v start is marks p.
+      let j = c.loop-j.j in
+      let t = c.args.t + j in
+      let rows = four j (omega arith) in
+      let two = c.two_at-two in
+      renumbered c.args.strip.number (i + 2 * j + 2) (i + 2 * (j + 1)) (t + 1) (c.args.t + (j + 1)) (omega arith)
+      (omega arith)
+      (row_placed c.args.strip free c.loop-j.modules c.flip.new.self codewords (i + 2 * j) t two.result 2 (omega arith)
+      (λ a b. c.flip.ensures a b ∙ rw (
+        moved two.result c.args.strip.x a two.ensures.bound c.requires.column,
+        c.row.ensures.value,
+      )
+      refl)
+      (for_free_row _ _ two.result c.args.bits i j codewords rows.1 rows.0 (omega arith) has two.ensures.low
+      two.ensures.high) v start is marks (c.loop-j.invariant.placed free four codewords i has v start is marks p));
+}
+
+pub returns : goal.returns
+returns c =
+    λ free four codewords i has v start is marks p.
+    renumbered c.args.strip.number (i + 2 * c.loop-j.j) (i + 8) (c.args.t + c.loop-j.j) (c.args.t + 4) (omega arith)
+    (omega arith) (c.loop-j.invariant.placed free four codewords i has v start is marks p)
