@@ -2,7 +2,6 @@ pub mod Examples
 pub mod FilterLaws
 pub mod LineLaws
 pub mod OutputLaws
-pub mod ReadableLaws
 pub mod ReadLaws
 pub mod RunLaws
 pub mod ScriptLaws

@@ -15,16 +15,12 @@ unfolding outcome
 outcome-seen options line seen same = ap outcome_of_item (sym same)
 
 -- a line that is not refused
-pub drawn_status : (number : ℕ) (o : Outcome Symbol) → refusal_of o ≡ Ok tt → Clean ≡ status_of (of_line number o ∷ [])
+pub drawn_line : (number : ℕ) (o : Outcome Symbol) → refusal_of o ≡ Ok tt
+    → ([] ≡ message_of number o) × (Clean ≡ status_of (of_line number o ∷ []))
 unfolding status_of
-drawn_status number skipped e = refl
-drawn_status number (refused fault) e = cc
-drawn_status number (drawn symbol) e = refl
-
-pub drawn_message : (number : ℕ) (o : Outcome Symbol) → refusal_of o ≡ Ok tt → [] ≡ message_of number o
-drawn_message number skipped e = refl
-drawn_message number (refused fault) e = cc
-drawn_message number (drawn symbol) e = refl
+drawn_line number skipped e = (refl, refl)
+drawn_line number (refused fault) e = cc
+drawn_line number (drawn symbol) e = (refl, refl)
 
 -- a line that is refused
 pub refused_outcome : (o : Outcome Symbol) (fault : Fault) → refusal_of o ≡ Err fault → o ≡ refused fault

@@ -5,7 +5,7 @@ use Rattle.std.specs.List.{list_any}
 use Rattle.std.proofs.lemmas.List.{append-nil}
 use Rattle.std.proofs.lemmas.List.Folds.{list_any-append}
 use Rattle.device.specs.Lines.{LF, lines, ended_lines, open_line, unless_empty}
-use Rattle.device.proofs.LinesLaws.{ended_lines-nil, ended_lines-push_lf, ended_lines-push_other, some_added}
+use Rattle.device.proofs.LinesLaws.{ended_lines-nil, ended_lines-push_lf, some_added}
 use Rattle.labelcore.specs.OptionValues.{OptionValues}
 use Rattle.filter.specs.Output.{Event, of_line, outcome, events_after, ended_script, script, flushes, is_refusal, line_number}
 use Rattle.filter.specs.Output.{status_of}
@@ -58,10 +58,6 @@ module _ (options : OptionValues) where
   pub ended_script-nil : ended_script options [] ≡ []
   ended_script-nil = ap (events_after options 0) ended_lines-nil ∙ events_after-nil 0
 
-  pub ended_script-other : (text : List ℕ) (byte : ℕ) → byte ≢ LF
-      → ended_script options (text ++ byte ∷ []) ≡ ended_script options text
-  ended_script-other text byte other = ap (events_after options 0) (ended_lines-push_other text byte other)
-
   -- what is sent of the lines that more bytes end
   pub ended_script-more : (text piece : List ℕ) → (more : List Event)
       × (ended_script options (text ++ piece) ≡ ended_script options text ++ more)
@@ -70,56 +66,40 @@ module _ (options : OptionValues) where
     ap (events_after options 0) s.grown ∙ events_after-append 0 (ended_lines text) s.added,
   )
 
-  -- what is sent of the first line after the ended ones
-  events_then : (text line : List ℕ) → events_after options 0 (ended_lines text ++ line ∷ []) ≡ ended_script options text
-      ++ of_line (line_number (length (ended_lines text))) (outcome options line) ∷ []
+  -- a LF ends the open line
+  pub ended_script-lf : (text : List ℕ) → ended_script options (text ++ LF ∷ [])
+      ≡ ended_script options text ++ of_line (line_number (length (ended_lines text))) (outcome options (open_line text)) ∷ []
   unfolding events_after
-  events_then text line = events_after-append 0 (ended_lines text) (line ∷ [])
-      ∙ ap (λ (n : ℕ). ended_script options text ++ of_line (line_number n) (outcome options line) ∷ [])
-      (zero-add (length (ended_lines text)))
+  ended_script-lf text = ap (events_after options 0) (ended_lines-push_lf text)
+      ∙ (events_after-append 0 (ended_lines text) (open_line text ∷ [])
+      ∙ ap (λ (n : ℕ). ended_script options text ++ of_line (line_number n) (outcome options (open_line text)) ∷ [])
+      (zero-add (length (ended_lines text))))
 
-  pub ended_script-lf : (text : List ℕ) (byte : ℕ) → byte ≡ LF
-      → ended_script options (text ++ byte ∷ []) ≡ ended_script options text
-      ++ of_line (line_number (length (ended_lines text))) (outcome options (open_line text)) ∷ []
-  ended_script-lf text byte lf = ap (λ (b : ℕ). ended_script options (text ++ b ∷ [])) lf
-      ∙ (ap (events_after options 0) (ended_lines-push_lf text) ∙ events_then text (open_line text))
-
-  lines-split : (text : List ℕ) → lines text ≡ ended_lines text ++ unless_empty (open_line text)
+  -- the whole script: the open line is empty, or it ends as if a LF came
+  pub script-ended : (text : List ℕ) → open_line text ≡ [] → script options text ≡ ended_script options text ++ flushes ∷ []
   unfolding lines
-  lines-split text = refl
+  script-ended text none = ap (λ (rest : List ℕ). events_after options 0 (ended_lines text ++ unless_empty rest) ++ flushes ∷ []) none
+      ∙ ap (λ (ls : List (List ℕ)). events_after options 0 ls ++ flushes ∷ []) (append-nil (ended_lines text))
 
-  -- the open line: none, or one
-  pub lines-none : (text : List ℕ) → unless_empty (open_line text) ≡ []
-      → events_after options 0 (lines text) ≡ ended_script options text
-  lines-none text none = ap (events_after options 0) (lines-split text
-      ∙ (ap (λ (ls : List (List ℕ)). ended_lines text ++ ls) none ∙ append-nil (ended_lines text)))
-
-  pub lines-one : (text : List ℕ) → unless_empty (open_line text) ≡ open_line text ∷ []
-      → events_after options 0 (lines text) ≡ ended_script options text
-      ++ of_line (line_number (length (ended_lines text))) (outcome options (open_line text)) ∷ []
-  lines-one text one = ap (events_after options 0) (lines-split text
-      ∙ ap (λ (ls : List (List ℕ)). ended_lines text ++ ls) one) ∙ events_then text (open_line text)
+  pub script-open : (text : List ℕ) → open_line text ≢ [] → script options text ≡ ended_script options (text ++ LF ∷ []) ++ flushes ∷ []
+  unfolding lines
+  script-open text some = ap (λ (ls : List (List ℕ)). events_after options 0 ls ++ flushes ∷ [])
+      (ap (λ (ls : List (List ℕ)). ended_lines text ++ ls) (alone (open_line text) some) ∙ sym (ended_lines-push_lf text)) where
+        alone : (line : List ℕ) → line ≢ [] → unless_empty line ≡ line ∷ []
+        alone [] some = absurd (some refl)
+        alone (byte ∷ bytes) some = refl
 
   -- after the ended lines there is an event, be it the last
-  pub record SomeLater (text : List ℕ) : Type 0 where
-    pub event : Event
-    pub later : List Event
-    pub cut : script options text ≡ ended_script options text ++ event ∷ later
-
-  pub some_later : (text : List ℕ) → SomeLater text
-  some_later text = first_of (events_after options (0 + length (ended_lines text)) (unless_empty (open_line text)))
-      (ap (λ (ls : List (List ℕ)). events_after options 0 ls) (lines-split text)
-      ∙ events_after-append 0 (ended_lines text) (unless_empty (open_line text))) where
-        first_of : (es : List Event) → events_after options 0 (lines text) ≡ ended_script options text ++ es
-            → SomeLater text
-        first_of [] e = record {
-          event = flushes;
-          later = [];
-          cut = ap (λ (xs : List Event). xs ++ flushes ∷ []) (e ∙ append-nil (ended_script options text));
-        }
-        first_of (event ∷ es) e = record {
-          event = event;
-          later = es ++ flushes ∷ [];
-          cut = ap (λ (xs : List Event). xs ++ flushes ∷ []) e
-              ∙ append_assoc (ended_script options text) (event ∷ es) (flushes ∷ []);
-        }
+  pub some_later : (text : List ℕ) → (event : Event) × (later : List Event)
+      × (script options text ≡ ended_script options text ++ event ∷ later)
+  some_later text = by_rest (open_line text) refl where
+    by_rest : (rest : List ℕ) → open_line text ≡ rest → (event : Event) × (later : List Event)
+        × (script options text ≡ ended_script options text ++ event ∷ later)
+    by_rest [] is = (flushes, [], script-ended text is)
+    by_rest (byte ∷ bytes) is =
+        let line = of_line (line_number (length (ended_lines text))) (outcome options (open_line text)) in (
+          line,
+          flushes ∷ [],
+          script-open text (λ none. cc) ∙ (ap (λ (es : List Event). es ++ flushes ∷ [])
+              (ended_script-lf text) ∙ append_assoc (ended_script options text) (line ∷ []) (flushes ∷ [])),
+        )

@@ -7,10 +7,12 @@ use Rattle.device.specs.Device.{Begins}
 use Rattle.labelcore.specs.OptionValues.{OptionValues}
 use Rattle.filter.specs.Filter.{taken, Took, Stops, Sends, fault_of, other}
 use Rattle.filter.specs.Output.{Event, Channel, Images, Messages, bytes_for, sent}
+use Rattle.filter.specs.Private.{SendsEvent}
 use Rattle.filter.specs.declared.status.RunFault.{RunFault}
+use Rattle.filter.specs.declared.status.RunFault.TheVariants.{Read, WriteOut, WriteMessages, Spent}
 
 -- two sinks that took nothing
-pub none_taken : (out err : List ℕ → Type 0) → out [] → err [] → (channel : Channel) → taken out err channel []
+none_taken : (out err : List ℕ → Type 0) → out [] → err [] → (channel : Channel) → taken out err channel []
 none_taken out err none_out none_err Images = none_out
 none_taken out err none_out none_err Messages = none_err
 
@@ -21,33 +23,47 @@ images_by out out' err widen Images bytes h = widen bytes h
 images_by out out' err widen Messages bytes h = h
 
 module _ (options : OptionValues) where
-  -- the bytes of one event
-  pub event_took : (out err : List ℕ → Type 0) (event : Event) → out (bytes_for options Images event)
+  event_took : (out err : List ℕ → Type 0) (event : Event) → out (bytes_for options Images event)
       → err (bytes_for options Messages event) → Took options (taken out err) (event ∷ [])
   event_took out err event image message Images = subst out (sym (append-nil (bytes_for options Images event))) image
   event_took out err event image message Messages =
       subst err (sym (append-nil (bytes_for options Messages event))) message
 
-  -- a beginning of the bytes of one event
-  pub event_stops : (took : Channel → List ℕ → Type 0) (failed : Channel) (event : Event) (later : List Event)
+  event_stops : (took : Channel → List ℕ → Type 0) (failed : Channel) (event : Event)
       → Begins (took failed) (bytes_for options failed event) → took (other failed) []
-      → Stops options took (event ∷ later) (fault_of failed)
-  event_stops took failed event later begun none = record {
+      → Stops options took (event ∷ []) (fault_of failed)
+  event_stops took failed event begun none = record {
     failed = failed;
     fault_is = refl;
     done = [];
     event = event;
-    later = later;
+    later = [];
     cut = refl;
     own = begun;
     others = none;
   }
 
-  -- a sink failed before it took a byte
-  pub Stops-first : (took : Channel → List ℕ → Type 0) (failed : Channel) (event : Event) (later : List Event)
-      → ((channel : Channel) → took channel []) → Stops options took (event ∷ later) (fault_of failed)
-  Stops-first took failed event later none = event_stops took failed event later
-      ([], (bytes_for options failed event, refl), none failed) (none (other failed))
+  -- a call that sends one event of a script
+  pub Sends-event : {T : Type 0} {out err : List ℕ → Type 0} (event : Event) {before after : List Event}
+      (r : Result T RunFault) → after ≡ before ++ event ∷ [] → SendsEvent options out err event r
+      → Sends {T = T} options (taken out err) before after r
+  Sends-event {out = out} {err = err} event (Ok x) grown s =
+      record { added = event ∷ []; grown = grown; sends = event_took out err event s.0 s.1 }
+  Sends-event {out = out} {err = err} event (Err WriteOut) grown s =
+      record { added = event ∷ []; grown = grown; sends = event_stops (taken out err) Images event s.0 s.1 }
+  Sends-event {out = out} {err = err} event (Err WriteMessages) grown s =
+      record { added = event ∷ []; grown = grown; sends = event_stops (taken out err) Messages event s.1 s.0 }
+  Sends-event event (Err Read) grown s = absurd s
+  Sends-event event (Err Spent) grown s = absurd s
+
+  -- a call that sends nothing
+  pub Sends-none : {T : Type 0} (x : T) {out err : List ℕ → Type 0} {before after : List Event} → after ≡ before → out []
+      → err [] → Sends {T = T} options (taken out err) before after (Ok x)
+  Sends-none x {out} {err} {before} same none_out none_err = record {
+    added = [];
+    grown = same ∙ sym (append-nil before);
+    sends = none_taken out err none_out none_err;
+  }
 
   pub Stops-longer : {took : Channel → List ℕ → Type 0} {events : List Event} {fault : RunFault} (more : List Event)
       → Stops options took events fault → Stops options took (events ++ more) fault
@@ -60,6 +76,16 @@ module _ (options : OptionValues) where
     cut = ap (λ (es : List Event). es ++ more) s.cut ∙ append_assoc s.done (s.event ∷ s.later) more;
     own = s.own;
     others = s.others;
+  }
+
+  -- a call that failed, in a longer script
+  pub Sends-longer : {T U : Type 0} {took : Channel → List ℕ → Type 0} {before middle after : List Event} {fault : RunFault}
+      (more : List Event) → after ≡ middle ++ more → Sends {T = T} options took before middle (Err fault)
+      → Sends {T = U} options took before after (Err fault)
+  Sends-longer {before = before} more cut s = record {
+    added = s.added ++ more;
+    grown = cut ∙ (ap (λ (es : List Event). es ++ more) s.grown ∙ append_assoc before s.added more);
+    sends = Stops-longer more s.sends;
   }
 
   -- what took a text took it in another sense too
@@ -81,39 +107,21 @@ module _ (options : OptionValues) where
       others = widen (other s.failed) (sent options (other s.failed) s.done) s.others;
     }
 
-  -- a call that sends all of a script
-  pub Sends-all : {T : Type 0} {took : Channel → List ℕ → Type 0} {r : Result T RunFault} (events : List Event)
-      → MatchResult r (λ _. Took options took events) (Stops options took events) → Sends options took [] events r
-  Sends-all events s = record { added = events; grown = refl; sends = s }
-
-  -- a line's or a flush's part of a script
-  pub Sends-ok : {T U : Type 0} {took : Channel → List ℕ → Type 0} {events : List Event} {x : T} (y : U)
-      (before after : List Event) → after ≡ before ++ events → Sends {T = T} options took [] events (Ok x)
-      → Sends {T = U} options took before after (Ok y)
-  Sends-ok y before after cut s =
-      record { added = s.added; grown = cut ∙ ap (λ (es : List Event). before ++ es) s.grown; sends = s.sends }
-
-  pub Sends-err : {T U : Type 0} {took : Channel → List ℕ → Type 0} {events : List Event} {fault : RunFault}
-      (before after : List Event) → after ≡ before ++ events → Sends {T = T} options took [] events (Err fault)
-      → Sends {T = U} options took before after (Err fault)
-  Sends-err before after cut s =
-      record { added = s.added; grown = cut ∙ ap (λ (es : List Event). before ++ es) s.grown; sends = s.sends }
-
-  -- a call that failed, in a longer script
-  pub Sends-longer : {T : Type 0} {took : Channel → List ℕ → Type 0} {before middle : List Event} {fault : RunFault}
-      (after more : List Event) → after ≡ middle ++ more → Sends {T = T} options took before middle (Err fault)
-      → Sends {T = T} options took before after (Err fault)
-  Sends-longer {before = before} after more cut s = record {
-    added = s.added ++ more;
-    grown = cut ∙ (ap (λ (es : List Event). es ++ more) s.grown ∙ append_assoc before s.added more);
-    sends = Stops-longer more s.sends;
+  both : {T : Type 0} (first second whole : Channel → List ℕ → Type 0) → ((channel : Channel) (xs ys : List ℕ)
+      → first channel xs → second channel ys → whole channel (xs ++ ys)) → (xs ys : List Event) (r : Result T RunFault)
+      → Took options first xs → MatchResult r (λ _. Took options second ys) (Stops options second ys)
+      → MatchResult r (λ _. Took options whole (xs ++ ys)) (Stops options whole (xs ++ ys))
+  both first second whole join xs ys (Ok x) h k = λ channel. rw flat_map-append (join channel _ _ (h channel) (k channel))
+  both first second whole join xs ys (Err fault) h s = record {
+    failed = s.failed;
+    fault_is = s.fault_is;
+    done = xs ++ s.done;
+    event = s.event;
+    later = s.later;
+    cut = ap (λ (es : List Event). xs ++ es) s.cut ∙ sym (append_assoc xs s.done (s.event ∷ s.later));
+    own = (s.own.0, s.own.1, rw (flat_map-append, append_assoc) (join s.failed _ _ (h s.failed) s.own.2));
+    others = rw flat_map-append (join (other s.failed) _ _ (h (other s.failed)) s.others);
   }
-
-  -- a call that sends nothing
-  pub Sends-none : {T : Type 0} (x : T) (took : Channel → List ℕ → Type 0) (before after : List Event) → after ≡ before
-      → ((channel : Channel) → took channel []) → Sends {T = T} options took before after (Ok x)
-  Sends-none x took before after same none =
-      record { added = []; grown = same ∙ sym (append-nil before); sends = none }
 
 -- calls one after another, at sinks whose states are O and E
 module _ {O E : Type 0} {out : O → O → List ℕ → Type 0} {err : E → E → List ℕ → Type 0}
@@ -124,71 +132,24 @@ module _ {O E : Type 0} {out : O → O → List ℕ → Type 0} {err : E → E �
   joined o o' o'' e e' e'' Images xs ys first second = out_joined o o' o'' xs ys first second
   joined o o' o'' e e' e'' Messages xs ys first second = err_joined e e' e'' xs ys first second
 
-  module _ (options : OptionValues) where
-    joined_sent : (o o' o'' : O) (e e' e'' : E) (xs : List Event) (channel : Channel) (ys : List Event) (bytes : List ℕ)
-        → taken (out o o') (err e e') channel (sent options channel xs)
-        → taken (out o' o'') (err e' e'') channel (sent options channel ys ++ bytes)
-        → taken (out o o'') (err e e'') channel (sent options channel (xs ++ ys) ++ bytes)
-    joined_sent o o' o'' e e' e'' xs channel ys bytes h k = subst (taken (out o o'') (err e e'') channel)
-        (sym (ap (λ (bs : List ℕ). bs ++ bytes) (flat_map-append (bytes_for options channel) xs ys)
-        ∙ append_assoc (sent options channel xs) (sent options channel ys) bytes))
-        (joined o o' o'' e e' e'' channel (sent options channel xs) (sent options channel ys ++ bytes) h k)
+  pub Sends-append : (options : OptionValues) {o o' o'' : O} {e e' e'' : E} {T U : Type 0} {x : U} (r : Result T RunFault)
+      {before middle after : List Event} → Sends {T = U} options (taken (out o o') (err e e')) before middle (Ok x)
+      → Sends {T = T} options (taken (out o' o'') (err e' e'')) middle after r
+      → Sends {T = T} options (taken (out o o'') (err e e'')) before after r
+  Sends-append options {o} {o'} {o''} {e} {e'} {e''} r {before} one two = record {
+    added = one.added ++ two.added;
+    grown = two.grown
+        ∙ (ap (λ (es : List Event). es ++ two.added) one.grown ∙ append_assoc before one.added two.added);
+    sends = both options (taken (out o o') (err e e')) (taken (out o' o'') (err e' e''))
+        (taken (out o o'') (err e e'')) (joined o o' o'' e e' e'') one.added two.added r one.sends two.sends;
+  }
 
-    joined_events : (o o' o'' : O) (e e' e'' : E) (xs : List Event) (channel : Channel) (ys : List Event)
-        → taken (out o o') (err e e') channel (sent options channel xs)
-        → taken (out o' o'') (err e' e'') channel (sent options channel ys)
-        → taken (out o o'') (err e e'') channel (sent options channel (xs ++ ys))
-    joined_events o o' o'' e e' e'' xs channel ys h k = subst (taken (out o o'') (err e e'') channel)
-        (sym (flat_map-append (bytes_for options channel) xs ys))
-        (joined o o' o'' e e' e'' channel (sent options channel xs) (sent options channel ys) h k)
-
-    -- the events of both calls
-    both : (o o' o'' : O) (e e' e'' : E) {T : Type 0} (xs ys : List Event) (r : Result T RunFault)
-        → Took options (taken (out o o') (err e e')) xs
-        → MatchResult r (λ _. Took options (taken (out o' o'') (err e' e'')) ys)
-        (Stops options (taken (out o' o'') (err e' e'')) ys)
-        → MatchResult r (λ _. Took options (taken (out o o'') (err e e'')) (xs ++ ys))
-        (Stops options (taken (out o o'') (err e e'')) (xs ++ ys))
-    both o o' o'' e e' e'' xs ys (Ok x) h k =
-        λ channel. joined_events o o' o'' e e' e'' xs channel ys (h channel) (k channel)
-    both o o' o'' e e' e'' xs ys (Err fault) h s = record {
-      failed = s.failed;
-      fault_is = s.fault_is;
-      done = xs ++ s.done;
-      event = s.event;
-      later = s.later;
-      cut = ap (λ (es : List Event). xs ++ es) s.cut ∙ sym (append_assoc xs s.done (s.event ∷ s.later));
-      own = (s.own.0, s.own.1, joined_sent o o' o'' e e' e'' xs s.failed s.done s.own.0 (h s.failed) s.own.2);
-      others = joined_events o o' o'' e e' e'' xs (other s.failed) s.done (h (other s.failed)) s.others;
-    }
-
-    module _ {o : O} {o' : O} {o'' : O} {e : E} {e' : E} {e'' : E} where
-      -- the second call takes nothing
-      pub Took-then_none : (events : List Event) → Took options (taken (out o o') (err e e')) events → out o' o'' []
-          → err e' e'' [] → Took options (taken (out o o'') (err e e'')) events
-      Took-then_none events h none_out none_err = λ channel.
-          subst (taken (out o o'') (err e e'') channel) (append-nil (sent options channel events))
-          (joined o o' o'' e e' e'' channel (sent options channel events) [] (h channel)
-          (none_taken (out o' o'') (err e' e'') none_out none_err channel))
-
-      pub Sends-append : {T U : Type 0} {x : U} (r : Result T RunFault) {before middle after : List Event}
-          → Sends {T = U} options (taken (out o o') (err e e')) before middle (Ok x)
-          → Sends {T = T} options (taken (out o' o'') (err e' e'')) middle after r
-          → Sends {T = T} options (taken (out o o'') (err e e'')) before after r
-      Sends-append r {before} first second = record {
-        added = first.added ++ second.added;
-        grown = second.grown ∙ (ap (λ (es : List Event). es ++ second.added) first.grown
-            ∙ append_assoc before first.added second.added);
-        sends = both o o' o'' e e' e'' first.added second.added r first.sends second.sends;
-      }
-
-      -- from the beginning of a script
-      pub Sends-whole : {T : Type 0} (r : Result T RunFault) (before after : List Event)
-          → Took options (taken (out o o') (err e e')) before
-          → Sends {T = T} options (taken (out o' o'') (err e' e'')) before after r
-          → MatchResult r (λ _. Took options (taken (out o o'') (err e e'')) after)
-          (Stops options (taken (out o o'') (err e e'')) after)
-      Sends-whole r before after h s = subst
-          (λ (es : List Event). MatchResult r (λ _. Took options (taken (out o o'') (err e e'')) es)
-          (Stops options (taken (out o o'') (err e e'')) es)) (sym s.grown)
-          (both o o' o'' e e' e'' before s.added r h s.sends)
+-- where the sink of the images took a text, it took it in another sense too
+pub SendsEvent-by : {T : Type 0} (options : OptionValues) (out out' err : List ℕ → Type 0)
+    → ((bytes : List ℕ) → out bytes → out' bytes) → (event : Event) (r : Result T RunFault)
+    → SendsEvent options out err event r → SendsEvent options out' err event r
+SendsEvent-by options out out' err widen event (Ok x) s = (widen _ s.0, s.1)
+SendsEvent-by options out out' err widen event (Err WriteOut) s = ((s.0.0, s.0.1, widen _ s.0.2), s.1)
+SendsEvent-by options out out' err widen event (Err WriteMessages) s = (widen [] s.0, s.1)
+SendsEvent-by options out out' err widen event (Err Read) s = absurd s
+SendsEvent-by options out out' err widen event (Err Spent) s = absurd s

@@ -2,7 +2,7 @@
 -- Why: `FilterState`, `IsAfter`: what a `Filter` keeps, and what it was fed; `Took`, `Stops`, `Sends`: what `feed`,
 -- `finish` and `run` promise of their sinks.
 use Rattle.std.specs.Prelude.{◌≡◌, ℕ, ◌-◌, ◌^◌, ◌<◌, min, All, Bool, true, false, List, ◌∷◌, ◌++◌, length, Result, Ok, Err}
-use Rattle.std.specs.Prelude.{MatchResult}
+use Rattle.std.specs.Prelude.{◌≢◌, MatchResult, OnOk}
 use Rattle.device.specs.Device.{Begins, Rises, Unflushed}
 use Rattle.device.specs.Lines.{ended_lines, open_line}
 use Rattle.device.specs.declared.sink.Sink.{Ghosts}
@@ -70,6 +70,12 @@ pub record Sends {T : Type 0} (options : OptionValues) (took : Channel → List 
   pub grown : after ≡ before ++ added
   pub sends : MatchResult r (λ _. Took options took added) (Stops options took added)
 
+-- a call of a filter that was fed one text: it feeds it up to another, and sends what the lines that this ends send
+pub record Feeds {T : Type 0} (options : OptionValues) (took : Channel → List ℕ → Type 0) (state : FilterState)
+    (before after : List ℕ) (r : Result T RunFault) : Type 0 where
+  pub sends : Sends options took (ended_script options before) (ended_script options after) r
+  pub is_after : OnOk r (IsAfter options state after)
+
 -- The counts of failures of the images' sink, `o`, and of the messages' sink, `e`: at `Ok` none rises, at `Err` that of the
 -- sink that failed.
 abbrev pub CountsFault : {T : Type 0} → (o o' e e' : ℕ) → Result T RunFault → Type 0
@@ -82,8 +88,7 @@ CountsFault o o' e e' (Err fault) = ⊥
 -- the messages failed, since they are flushed first.
 abbrev pub FlushesImagesFirst : {T : Type 0} → (o o' e e' : Bool) → Result T RunFault → Type 0
 FlushesImagesFirst o o' e e' (Ok x) = (o' ≡ true) × (e' ≡ true)
-FlushesImagesFirst o o' e e' (Err WriteMessages) = Unflushed e e'
-FlushesImagesFirst o o' e e' (Err fault) = Unflushed o o' × Unflushed e e'
+FlushesImagesFirst o o' e e' (Err fault) = (fault ≢ WriteMessages → Unflushed o o') × Unflushed e e'
 
 -- a call that flushes nothing: the count of the sink that failed rises, and a sink that is flushed now was so before
 pub record FlushesNeither {O E T : Type 0} (out : Ghosts O) (err : Ghosts E) (o o' : O) (e e' : E) (r : Result T RunFault)

@@ -6,7 +6,8 @@ ghost use Rattle.labelcore.specs.LineItem.{HasData, KeepsRun, refused};
 ghost use Rattle.labelcore.specs.OptionValues.{OptionValues};
 ghost use Rattle.filter.specs.Drawing.{DrawsOutcome};
 ghost use Rattle.filter.specs.Output.{of_line, outcome, outcome_of_item, status_of};
-ghost use Rattle.filter.specs.Filter.{FlushesNeither, Sends, taken};
+ghost use Rattle.filter.specs.Filter.{FlushesNeither};
+ghost use Rattle.filter.specs.Private.{SendsEvent};
 
 use crate::drawing::draw;
 use crate::status::{RunFault, Status};
@@ -26,8 +27,8 @@ pub fn finish_line<O: Sink, E: Sink>(
     err: &mut E,
 ) -> Result<Status, RunFault>
     ensures sends { (text : List ℕ) → line.now ≡ held_line text
-        → Sends options.now (taken (O.took out.old out.new) (E.took err.old err.new))
-        [] (of_line number (outcome options.now text) ∷ []) result }
+        → SendsEvent options.now (O.took out.old out.new) (E.took err.old err.new)
+        (of_line number (outcome options.now text)) result }
     ensures status { (text : List ℕ) → line.now ≡ held_line text → IfOk result (λ status.
         status ≡ status_of (of_line number (outcome options.now text) ∷ [])) }
     ensures sinks { FlushesNeither O.Sink E.Sink out.old out.new err.old err.new result }
@@ -62,9 +63,8 @@ fn refuse<O: Sink, E: Sink>(
     out: &mut O,
     err: &mut E,
 ) -> Result<Status, RunFault>
-    ensures sends { (options : OptionValues)
-        → Sends options (taken (O.took out.old out.new) (E.took err.old err.new))
-        [] (of_line number (refused fault.now) ∷ []) result }
+    ensures sends { (options : OptionValues) → SendsEvent options (O.took out.old out.new)
+        (E.took err.old err.new) (of_line number (refused fault.now)) result }
     ensures status { IfOk result (λ status. status ≡ Status.Refused) }
     ensures sinks { FlushesNeither O.Sink E.Sink out.old out.new err.old err.new result }
 {

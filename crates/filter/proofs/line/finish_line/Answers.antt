@@ -1,9 +1,9 @@
-use Rattle.std.proofs.Common.{◌∙◌, ℕ, [], ap, refl, sym, subst}
+use Rattle.std.proofs.Common.{◌∙◌, [], ap, refl, sym, subst}
 use Rattle.labelcore.specs.ItemView.{item_seen}
-use Rattle.filter.specs.Filter.{CountsFault, taken}
-use Rattle.filter.specs.Output.{Images, image_of, of_line, outcome_of_item}
-use Rattle.filter.proofs.LineLaws.{drawn_message, drawn_status, outcome-seen, refused_outcome, refused_status}
-use Rattle.filter.proofs.ScriptLaws.{event_stops, event_took, none_taken, Sends-all, Sends-append, Sends-none}
+use Rattle.labelcore.specs.LineItem.{refused}
+use Rattle.filter.specs.Output.{image_of, of_line, outcome_of_item}
+use Rattle.filter.proofs.LineLaws.{drawn_line, outcome-seen, refused_outcome, refused_status}
+use Rattle.filter.proofs.ScriptLaws.{SendsEvent-by}
 use Rattle.filter.proofs.line.finish_line.Goals as goal
 
 pub returns-in-Ok-Ok : goal.returns-in-Ok-Ok
@@ -11,14 +11,13 @@ returns-in-Ok-Ok g c =
     let options = c.args.options.now in
     let o = outcome_of_item (item_seen c.parse-item.result) in
     let h = c.in-Ok-Ok.ensures options c.parse-item.ensures.form in
-    let clean = sym h.refusal ∙ c.in-Ok-Ok.field-0-is in
-    let took = g.E.Sink.took c.args.err.now c.args.err.now in
+    let clean = drawn_line c.args.number o (sym h.refusal ∙ c.in-Ok-Ok.field-0-is) in
     record {
-      sends = λ text at. rw (outcome-seen options text _ (c.parse-item.ensures.item text at))
-          (Sends-all options _ (event_took options _ took (of_line c.args.number o) h.writes.bytes
-          (subst took (drawn_message c.args.number o clean) (g.met.E.Sink.took_none c.args.err.now))));
-      status = λ text at. rw (outcome-seen options text _ (c.parse-item.ensures.item text at))
-          (drawn_status c.args.number o clean);
+      sends = λ text at. rw (outcome-seen options text _ (c.parse-item.ensures.item text at)) (
+        h.writes.bytes,
+        subst (g.E.Sink.took c.args.err.now c.args.err.now) clean.0 (g.met.E.Sink.took_none c.args.err.now),
+      );
+      status = λ text at. rw (outcome-seen options text _ (c.parse-item.ensures.item text at)) clean.1;
       sinks = record { counts = (h.writes.count, refl); out_unflushed = h.writes.unflushed; err_unflushed = λ e. e };
     }
 
@@ -28,21 +27,19 @@ returns-in-Ok-Err g c =
     let o = outcome_of_item (item_seen c.parse-item.result) in
     let h = c.in-Ok-Err.ensures options c.parse-item.ensures.form in
     let is = refused_outcome o c.in-Ok-Err.fault (sym h.refusal ∙ c.in-Ok-Err.field-0-is) in
-    let took = g.O.Sink.took c.args.out.now c.draw_item.new.out in
+    let none = subst (g.O.Sink.took c.args.out.now c.draw_item.new.out) (ap (image_of options) is) h.writes.bytes in
     let refuse = c.refuse.ensures in
     record {
       sends = λ text at. rw (outcome-seen options text _ (c.parse-item.ensures.item text at) ∙ is)
-          (Sends-append g.met.O.Sink.took_joined g.met.E.Sink.took_joined options c.refuse.result
-          (Sends-none options (tt {0}) (taken took (g.E.Sink.took c.args.err.now c.args.err.now)) [] [] refl
-          (none_taken took _ (subst took (ap (image_of options) is) h.writes.bytes)
-          (g.met.E.Sink.took_none c.args.err.now))) (refuse.sends options));
+          (SendsEvent-by options (g.O.Sink.took c.draw_item.new.out c.refuse.new.out) (g.O.Sink.took c.args.out.now c.refuse.new.out)
+          (g.E.Sink.took c.args.err.now c.refuse.new.err) (λ bytes took. g.met.O.Sink.took_joined _ _ _ [] bytes none took)
+          (of_line c.args.number (refused c.in-Ok-Err.fault)) c.refuse.result (refuse.sends options));
       status = λ text at. rw (
         outcome-seen options text _ (c.parse-item.ensures.item text at) ∙ is,
         sym (refused_status c.args.number c.in-Ok-Err.fault),
       ) refuse.status;
       sinks = record {
-        counts = subst (λ (n : ℕ). CountsFault n (g.O.Sink.failures c.refuse.new.out) (g.E.Sink.failures c.args.err.now)
-            (g.E.Sink.failures c.refuse.new.err) c.refuse.result) h.writes.count refuse.sinks.counts;
+        counts = rw h.writes.count at refuse.sinks.counts;
         out_unflushed = λ e. h.writes.unflushed (refuse.sinks.out_unflushed e);
         err_unflushed = refuse.sinks.err_unflushed;
       };
@@ -54,9 +51,7 @@ returns-in-Err g c =
     let writes = (c.in-Err.ensures options c.parse-item.ensures.form).writes in
     record {
       sends = λ text at. rw (outcome-seen options text _ (c.parse-item.ensures.item text at))
-          (Sends-all options _ (event_stops options _ Images
-          (of_line c.args.number (outcome_of_item (item_seen c.parse-item.result))) [] writes.bytes
-          (g.met.E.Sink.took_none c.args.err.now)));
+          (writes.bytes, g.met.E.Sink.took_none c.args.err.now);
       status = λ text at. tt;
       sinks = record { counts = (writes.count, refl); out_unflushed = writes.unflushed; err_unflushed = λ e. e };
     }

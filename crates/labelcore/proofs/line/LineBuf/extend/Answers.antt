@@ -1,6 +1,5 @@
-use Rattle.std.proofs.Common.{◌≡◌, ◌∙◌, ◌++◌, Result, Ok, Err, List, ℕ, arith, rules, length-take}
-use Rattle.std.specs.Prelude.{◌↔◌, IsOk, OnOk}
-use Rattle.labelcore.specs.HeldLine.{HeldLine, held_line}
+use Rattle.std.proofs.Common.{◌∙◌, Result, Ok, Err, ℕ, arith, rules, length-take}
+use Rattle.std.specs.Prelude.{IsOk, OnOk}
 use Rattle.labelcore.proofs.HeldLaws.{extended_all, extended_some}
 use Rattle.labelcore.proofs.line.LineBuf.extend.Goals as goal
 
