@@ -1,17 +1,115 @@
--- A filter's state, line by line.
-use Rattle.std.proofs.Common.{◌≡◌, ◌≢◌, ℕ, ◌+◌, ◌-◌, ◌^◌, min, List, [], ◌∷◌, ◌++◌, length, take, Result}
-use Rattle.std.proofs.Common.{refl, ap, ◌∙◌, arith, append_assoc, length-take}
+-- What more lines add to the script and its status, and to a filter's state.
+use Rattle.std.proofs.Common.{◌≡◌, ◌≢◌, ℕ, ◌+◌, Bool, ◌||◌, true, false, List, [], ◌∷◌, ◌++◌, length, append_assoc}
+use Rattle.std.proofs.Common.{refl, ap, sym, ◌∙◌, arith, add-zero, zero-add, if◌then◌else◌, ◌-◌, ◌^◌, min, take, Result}
+use Rattle.std.proofs.Common.{length-take, subst}
+use Rattle.std.specs.List.{list_any}
+use Rattle.std.proofs.lemmas.List.{append-nil}
+use Rattle.std.proofs.lemmas.List.Folds.{list_any-append}
+use Rattle.device.specs.Lines.{LF, lines, ended_lines, open_line, unless_empty, HasNoLF, IsCut, with_ends}
+use Rattle.device.proofs.LinesLaws.{ended_lines-nil, ended_lines-push_lf, some_added, IsCut-ended_lines}
+use Rattle.device.proofs.LinesLaws.{ended_lines-cut, open_line-cut}
+use Rattle.labelcore.specs.OptionValues.{OptionValues}
+use Rattle.filter.specs.Output.{Event, of_line, outcome, events_after, ended_script, script, flushes, is_refusal}
+use Rattle.filter.specs.Output.{line_number, status_of}
+use Rattle.filter.specs.declared.status.Status.{Status}
+use Rattle.filter.specs.declared.status.Status.TheVariants.{Clean, Refused}
 use Rattle.std.proofs.lemmas.List.Elements.{All-append}
 use Rattle.labelcore.specs.HeldLine.{held_line, line_limit}
-use Rattle.labelcore.specs.OptionValues.{OptionValues}
-use Rattle.device.specs.Lines.{HasNoLF, IsCut, LF, ended_lines, open_line, with_ends}
-use Rattle.device.proofs.LinesLaws.{IsCut-ended_lines, ended_lines-cut, open_line-cut}
-use Rattle.filter.specs.Filter.{FilterState, IsAfter, Sends, taken}
-use Rattle.filter.specs.Output.{ended_script, line_number, of_line, outcome}
-use Rattle.filter.specs.Private.{SendsEvent}
+use Rattle.filter.specs.Filter.{FilterState, IsAfter, Sends, taken, Stops, Took}
 use Rattle.filter.specs.declared.status.RunFault.{RunFault}
-use Rattle.filter.proofs.OutputLaws.{ended_script-lf}
-use Rattle.filter.proofs.ScriptLaws.{Sends-event}
+use Rattle.filter.specs.Private.{worst}
+use Rattle.std.specs.Prelude.{MatchResult}
+
+-- the status of two scripts
+worst_of_two : (a b : Bool) → (if a || b then Refused else Clean)
+    ≡ worst (if a then Refused else Clean) (if b then Refused else Clean)
+worst_of_two true b = refl
+worst_of_two false b = refl
+
+pub status_of-append : (xs ys : List Event) → status_of (xs ++ ys) ≡ worst (status_of xs) (status_of ys)
+unfolding status_of
+status_of-append xs ys = ap (λ (b : Bool). if b then Refused else Clean) (list_any-append is_refusal xs ys)
+    ∙ worst_of_two (list_any is_refusal xs) (list_any is_refusal ys)
+
+pub status_of-nil : status_of [] ≡ Clean
+unfolding status_of
+status_of-nil = refl
+
+-- a script's last event has no part in its status
+worst-clean : (s : Status) → worst s Clean ≡ s
+worst-clean Clean = refl
+worst-clean Refused = refl
+
+status_of-end : status_of (flushes ∷ []) ≡ Clean
+unfolding status_of
+status_of-end = refl
+
+pub status_of-flushes : (xs : List Event) → status_of (xs ++ flushes ∷ []) ≡ status_of xs
+status_of-flushes xs = status_of-append xs (flushes ∷ [])
+    ∙ (ap (λ (s : Status). worst (status_of xs) s) status_of-end ∙ worst-clean (status_of xs))
+
+module _ (options : OptionValues) where
+  events_after-nil : (n : ℕ) → events_after options n [] ≡ []
+  unfolding events_after
+  events_after-nil n = refl
+
+  events_after-append : (n : ℕ) (xs ys : List (List ℕ))
+      → events_after options n (xs ++ ys) ≡ events_after options n xs ++ events_after options (n + length xs) ys
+  unfolding events_after
+  events_after-append n [] ys = ap (λ (k : ℕ). events_after options k ys) (sym (add-zero n))
+  events_after-append n (x ∷ xs) ys =
+      let k : (n + 1) + length xs ≡ n + length (x ∷ xs) = omega arith in
+      ap (λ (es : List Event). of_line (line_number n) (outcome options x) ∷ es)
+      (events_after-append (n + 1) xs ys ∙ ap (λ (j : ℕ). events_after options (n + 1) xs ++ events_after options j ys) k)
+
+  pub ended_script-nil : ended_script options [] ≡ []
+  ended_script-nil = ap (events_after options 0) ended_lines-nil ∙ events_after-nil 0
+
+  -- what is sent of the lines that more bytes end
+  pub ended_script-more : (text piece : List ℕ) → (more : List Event)
+      × (ended_script options (text ++ piece) ≡ ended_script options text ++ more)
+  ended_script-more text piece = let s = some_added text piece in (
+    events_after options (0 + length (ended_lines text)) s.added,
+    ap (events_after options 0) s.grown ∙ events_after-append 0 (ended_lines text) s.added,
+  )
+
+  -- a LF ends the open line
+  pub ended_script-lf : (text : List ℕ) → ended_script options (text ++ LF ∷ [])
+      ≡ ended_script options text ++ of_line (line_number (length (ended_lines text))) (outcome options (open_line text)) ∷ []
+  unfolding events_after
+  ended_script-lf text = ap (events_after options 0) (ended_lines-push_lf text)
+      ∙ (events_after-append 0 (ended_lines text) (open_line text ∷ [])
+      ∙ ap (λ (n : ℕ). ended_script options text ++ of_line (line_number n) (outcome options (open_line text)) ∷ [])
+      (zero-add (length (ended_lines text))))
+
+  -- the whole script: the open line is empty, or it ends as if a LF came
+  pub script-ended : (text : List ℕ) → open_line text ≡ [] → script options text ≡ ended_script options text ++ flushes ∷ []
+  unfolding lines
+  script-ended text none = ap (λ (rest : List ℕ). events_after options 0 (ended_lines text ++ unless_empty rest) ++ flushes ∷ []) none
+      ∙ ap (λ (ls : List (List ℕ)). events_after options 0 ls ++ flushes ∷ []) (append-nil (ended_lines text))
+
+  pub script-open : (text : List ℕ) → open_line text ≢ [] → script options text ≡ ended_script options (text ++ LF ∷ []) ++ flushes ∷ []
+  unfolding lines
+  script-open text some = ap (λ (ls : List (List ℕ)). events_after options 0 ls ++ flushes ∷ [])
+      (ap (λ (ls : List (List ℕ)). ended_lines text ++ ls) (alone (open_line text) some) ∙ sym (ended_lines-push_lf text)) where
+        alone : (line : List ℕ) → line ≢ [] → unless_empty line ≡ line ∷ []
+        alone [] some = absurd (some refl)
+        alone (byte ∷ bytes) some = refl
+
+  -- after the ended lines there is an event, be it the last
+  pub some_later : (text : List ℕ) → (event : Event) × (later : List Event)
+      × (script options text ≡ ended_script options text ++ event ∷ later)
+  some_later text = by_rest (open_line text) refl where
+    by_rest : (rest : List ℕ) → open_line text ≡ rest → (event : Event) × (later : List Event)
+        × (script options text ≡ ended_script options text ++ event ∷ later)
+    by_rest [] is = (flushes, [], script-ended text is)
+    by_rest (byte ∷ bytes) is =
+        let line = of_line (line_number (length (ended_lines text))) (outcome options (open_line text)) in (
+          line,
+          flushes ∷ [],
+          script-open text (λ none. cc) ∙ (ap (λ (es : List Event). es ++ flushes ∷ [])
+              (ended_script-lf text) ∙ append_assoc (ended_script options text) (line ∷ []) (flushes ∷ [])),
+        )
 
 -- bytes of the open line
 cut_more : (text bytes : List ℕ) → HasNoLF bytes → IsCut (text ++ bytes) (ended_lines text) (open_line text ++ bytes)
@@ -44,11 +142,16 @@ module _ (options : OptionValues) (state : FilterState) (text : List ℕ) (at : 
 
   -- what is sent of the line that is held ends the open line
   pub Sends-line : {T : Type 0} {out err : List ℕ → Type 0} (r : Result T RunFault) (n : ℕ)
-      → n ≡ min (state.line_count + 1) (2 ^ 64 - 1) → ((line : List ℕ) → state.line ≡ held_line line
-      → SendsEvent state.options out err (of_line n (outcome state.options line)) r)
+      → n ≡ min (state.line_count + 1) (2 ^ 64 - 1) → ((line : List ℕ) → state.line ≡ held_line line → MatchResult r
+      (λ _. Took state.options (taken out err) (of_line n (outcome state.options line) ∷ []))
+      (Stops state.options (taken out err) (of_line n (outcome state.options line) ∷ [])))
       → Sends {T = T} options (taken out err) (ended_script options text) (ended_script options (text ++ LF ∷ [])) r
-  Sends-line {out = out} {err = err} r n counts each = Sends-event options _ r (ended_script-lf options text)
-      (of_open_line (λ own line m. SendsEvent own out err (of_line m (outcome own line)) r) n counts each)
+  Sends-line {out = out} {err = err} r n counts each = record {
+    added = of_line (line_number (length (ended_lines text))) (outcome options (open_line text)) ∷ [];
+    grown = ended_script-lf options text;
+    sends = of_open_line (λ own line m. MatchResult r (λ _. Took own (taken out err) (of_line m (outcome own line) ∷ []))
+        (Stops own (taken out err) (of_line m (outcome own line) ∷ []))) n counts each;
+  }
 
 -- what is held of a line is empty where the line is
 pub no_byte : (line : List ℕ) → take line_limit line ≡ [] → line ≡ []

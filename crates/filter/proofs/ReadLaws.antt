@@ -4,6 +4,7 @@ use Rattle.std.specs.Prelude.{All, IfOk, nat_lt, ⊤, IfSome, ok_or, option_and_
 use Rattle.std.proofs.Common.{◌≡◌, ℕ, ◌+◌, ◌*◌, ◌^◌, ◌<◌, ◌≤◌, List, [], ◌∷◌, ◌++◌, map, Some, refl, ap, arith, Result}
 use Rattle.std.proofs.Common.{Ok, Err, subst, Bool, true, false, length, sym, ◌∙◌, get_or, inl, inr, ◌&&◌, ◌==◌, eq-eqb}
 use Rattle.std.proofs.Common.{Option, None}
+use Rattle.std.proofs.Math.Bool.{and-false}
 use Rattle.std.proofs.Math.Nat.{mul-pos, mul-le-mul_right}
 use Rattle.std.proofs.lemmas.List.Elements.{All-from_recursion, recursion_from_All, All-map, All-weaker}
 use Rattle.device.specs.Lines.{lines}
@@ -73,23 +74,6 @@ abbrev HasReadable : Outcome Symbol → Type 0
 HasReadable (drawn symbol) = IsReadable symbol
 HasReadable other = ⊤
 
-equal_lengths : (p : Picture) (n : ℕ) (ys : List ℕ) → p.width ≡ n
-    → list_all (λ row. length row == n) (map (pixel_row p) ys) ≡ true
-equal_lengths p n [] e = refl
-equal_lengths p n (y ∷ ys) e = rw (
-  eq-eqb (length (pixel_row p y)) n
-      (length-map-range_with_len (λ x. p.dark x y) 0 p.width ∙ e),
-  equal_lengths p n ys e,
-) refl
-
-right_false : (a b : Bool) → b ≡ false → (a && b) ≡ false
-right_false true b e = e
-right_false false b e = refl
-
-left_false : (a b : Bool) → a ≡ false → (a && b) ≡ false
-left_false true b e = cc
-left_false false b e = refl
-
 module _ (n : ℕ) (dark : ℕ → ℕ → Bool)
     (outside : (x y : ℕ) → is_inside n x y ≡ false → dark x y ≡ false) where
   abbrev square : Picture
@@ -104,14 +88,19 @@ module _ (n : ℕ) (dark : ℕ → ℕ → Bool)
           (get_or-map-range_with_len (pixel_row square) 0 n y y [] high (omega arith))
           ∙ (get_or_past (pixel_row square y) x false
           (let size = length-map-range_with_len (λ x. dark x y) 0 n in omega arith)
-          ∙ sym (outside x y (left_false (nat_lt x n) (nat_lt y n) (le-ltb x n past))))
+          ∙ sym (outside x y (rw (le-ltb x n past) refl)))
     ]
     | inr past ↦
         ap (λ (row : List Bool). get_or row x false)
         (get_or_past (raster square).rows y [] (let size = length-map-range_with_len (pixel_row square) 0 n in
         omega arith))
-        ∙ sym (outside x y (right_false (nat_lt x n) (nat_lt y n) (le-ltb y n past)))
+        ∙ sym (outside x y (rw (le-ltb y n past) (and-false (nat_lt x n))))
   ]
+
+  equal_lengths : (ys : List ℕ) → list_all (λ row. length row == n) (map (pixel_row square) ys) ≡ true
+  equal_lengths [] = refl
+  equal_lengths (y ∷ ys) =
+      rw (eq-eqb (length (pixel_row square y)) n (length-map-range_with_len (λ x. dark x y) 0 n), equal_lengths ys) refl
 
   -- a QR symbol whose modules are read
   qr_readable : (version : ℕ) (level : Level) (codewords bytes : List ℕ) → 0 < n → n ≤ 57
@@ -122,7 +111,7 @@ module _ (n : ℕ) (dark : ℕ → ℕ → Bool)
       let rows = (raster square).rows in
       let count : length rows ≡ n = length-map-range_with_len (pixel_row square) 0 n in
       let values : value_at rows ≡ dark = fun_ext (λ x. fun_ext (λ y. square_value x y)) in
-      let equal : list_all (λ row. length row == n) rows ≡ true = equal_lengths square n (below n) refl in
+      let equal : list_all (λ row. length row == n) rows ≡ true = equal_lengths (below n) in
       record {
         some_columns = some;
         columns = omega arith;
@@ -286,16 +275,11 @@ module _ (options : OptionValues) (range : AreInRange options) where
       (symbol_readable options range symbology bytes (recursion_from_All (λ b. b < 256) bytes w))
 
   -- a stream of images
-  stream_cut : (format : Format) (symbols : List Symbol) → All IsReadable symbols
-      → cut format (flat_map (text_of format) (map (picture_of options) symbols))
-      ≡ map (text_of format) (map (picture_of options) symbols)
-  stream_cut Pbm symbols all = pbm_files-flat_map (map (picture_of options) symbols)
-      (All-map IsDrawable (picture_of options) symbols
-      (All-weaker IsReadable (λ symbol. IsDrawable (picture_of options symbol)) drawable symbols all))
-  stream_cut Ascii symbols all = ascii_files-flat_map (map (picture_of options) symbols)
-      (All-map (λ (p : Picture). 0 < p.width) (picture_of options) symbols
-      (All-weaker IsReadable (λ symbol. 0 < (picture_of options symbol).width) (λ symbol h. (drawable symbol h).some)
-      symbols all))
+  stream_cut : (format : Format) (pictures : List Picture) → All IsDrawable pictures
+      → cut format (flat_map (text_of format) pictures) ≡ map (text_of format) pictures
+  stream_cut Pbm pictures all = pbm_files-flat_map pictures all
+  stream_cut Ascii pictures all =
+      ascii_files-flat_map pictures (All-weaker IsDrawable (λ p. 0 < p.width) (λ p h. h.some) pictures all)
 
   all_read : (symbols : List Symbol) → AllByRecursion IsReadable symbols
       → AreRead options.format options.scale (map (text_of options.format) (map (picture_of options) symbols)) symbols
@@ -328,7 +312,9 @@ module _ (options : OptionValues) (range : AreInRange options) where
   images_of_events_read events w =
       let symbols = drawn_symbols events in
       let readable = drawn_symbols_readable events w in
-      rw (images_are events, stream_cut options.format symbols (All-from_recursion IsReadable symbols readable))
+      let drawables = All-map IsDrawable (picture_of options) symbols (All-weaker IsReadable
+      (λ symbol. IsDrawable (picture_of options symbol)) drawable symbols (All-from_recursion IsReadable symbols readable)) in
+      rw (images_are events, stream_cut options.format (map (picture_of options) symbols) drawables)
       (all_read symbols readable)
 
   script_readable : (before : ℕ) (lines : List (List ℕ)) → AllByRecursion AreBytes lines

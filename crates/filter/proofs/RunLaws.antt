@@ -5,13 +5,15 @@ use Rattle.device.specs.Device.{Rises}
 use Rattle.device.specs.declared.sink.Sink.{Ghosts as SinkGhosts}
 use Rattle.device.specs.declared.source.Source.{Ghosts as SourceGhosts}
 use Rattle.labelcore.specs.OptionValues.{OptionValues}
-use Rattle.filter.specs.Filter.{CountsFault, FilterState, FlushesImagesFirst, FlushesNeither, IsAfter, Sends, Stops}
+use Rattle.filter.specs.Filter.{CountsFault, FilterState, FlushesImagesFirst, Feeds, FlushesNeither, Sends, Stops}
 use Rattle.filter.specs.Filter.{Took, fault_of, taken}
 use Rattle.filter.specs.Output.{Channel, Images, Messages, ended_script, script, status_of}
-use Rattle.filter.specs.Run.{IsPassedOn, RunCounts, Runs, TookText}
+use Rattle.filter.specs.Run.{IsPassedOn, Produces, RunCounts, Runs, TookText}
 use Rattle.filter.specs.declared.status.RunFault.{RunFault}
 use Rattle.filter.specs.declared.status.RunFault.TheVariants.{Read, WriteOut, WriteMessages, Spent}
 use Rattle.filter.specs.declared.status.Status.{Status}
+use Rattle.labelcore.proofs.KeptLaws.{AreInRange}
+use Rattle.filter.proofs.FilterLaws.{ended_script-nil}
 use Rattle.filter.proofs.ReadLaws.{script_of_text_read}
 use Rattle.filter.proofs.ScriptLaws.{Sends-append, Sends-none, Stops-by, Took-by}
 
@@ -40,6 +42,21 @@ module _ (options : OptionValues) where
   TookText-by widen text (Err WriteOut) h = Stops-by options widen h
   TookText-by widen text (Err WriteMessages) h = Stops-by options widen h
   TookText-by widen text (Err Spent) h = Stops-by options widen h
+
+  -- calls of sinks that send the whole script of a text, or stop in it
+  pub Produces-sends : (range : AreInRange options) {gave : List ℕ → Type 0} {took : Channel → List ℕ → Type 0}
+      (text : List ℕ) (r : Result Status RunFault) → gave text → All (λ b. b < 256) text
+      → Sends options took (ended_script options []) (script options text) r
+      → IfOk r (λ status. status ≡ status_of (script options text)) → Produces options gave took r
+  Produces-sends range {gave} {took} text r given bytes sends status =
+      let all = rw (ended_script-nil options) at sends in
+      record {
+        text = text;
+        given = given;
+        sends = TookText-sinks took text r (rw all.grown all.sends);
+        status = status;
+        read = script_of_text_read options range text bytes;
+      }
 
 -- the counts of the sinks, as a run's
 RunCounts-sinks : (s s' o o' e e' : ℕ) → s' ≡ s → (r : Result Status RunFault) (text : List ℕ)
@@ -90,8 +107,7 @@ pub record HasRun {S O E : Type 0} (source : SourceGhosts S) (out : SinkGhosts O
     (options : OptionValues) (s s' : S) (o o' : O) (e e' : E) (state : FilterState) (given : List ℕ) : Type 0 where
   pub gave : source.gave s s' given
   pub count : source.failures s' ≡ source.failures s
-  pub after : IsAfter options state given
-  pub sends : Sends options (taken (out.took o o') (err.took e e')) [] (ended_script options given) (Ok (tt {0}))
+  pub fed : Feeds {T = Unit {0}} options (taken (out.took o o') (err.took e e')) state [] given (Ok tt)
   pub sinks : FlushesNeither {T = Unit {0}} out err o o' e e' (Ok tt)
 
 module _ {S O E : Type 0} {source : SourceGhosts S} {out : SinkGhosts O} {err : SinkGhosts E}
@@ -101,23 +117,22 @@ module _ {S O E : Type 0} {source : SourceGhosts S} {out : SinkGhosts O} {err : 
     (h : HasRun source out err options s s' o o' e e' state given) where
   -- a call of the filter or of a sink that succeeds, and flushes nothing
   pub HasRun-append : {s'' : S} {o'' : O} {e'' : E} {state' : FilterState} {text : List ℕ}
-      → source.gave s s'' text → source.failures s'' ≡ source.failures s' → IsAfter options state' text
-      → Sends options (taken (out.took o' o'') (err.took e' e'')) (ended_script options given) (ended_script options text) (Ok (tt {0}))
+      → source.gave s s'' text → source.failures s'' ≡ source.failures s'
+      → Feeds {T = Unit {0}} options (taken (out.took o' o'') (err.took e' e'')) state' given text (Ok tt)
       → FlushesNeither {T = Unit {0}} out err o' o'' e' e'' (Ok tt)
       → HasRun source out err options s s'' o o'' e e'' state' text
-  HasRun-append gave count after sends sinks = record {
+  HasRun-append gave count fed sinks = record {
     gave = gave;
     count = count ∙ h.count;
-    after = after;
-    sends = Sends-append out_joined err_joined options (Ok tt) h.sends sends;
+    fed = record { sends = Sends-append out_joined err_joined options (Ok tt) h.fed.sends fed.sends; is_after = fed.is_after };
     sinks = FlushesNeither-append h.sinks (Ok tt) sinks;
   }
 
   -- what the sink of the images buffers is passed on
   pub HasRun-passed : {o'' : O} → out.took o' o'' [] → err.took e' e' [] → out.failures o'' ≡ out.failures o'
       → out.is_flushed o'' ≡ out.is_flushed o' → HasRun source out err options s s' o o'' e e' state given
-  HasRun-passed none_out none_err count marks = HasRun-append h.gave refl h.after
-      (Sends-none options tt refl none_out none_err)
+  HasRun-passed none_out none_err count marks = HasRun-append h.gave refl
+      (record { sends = Sends-none options tt refl none_out none_err; is_after = h.fed.is_after })
       (record { counts = (count, refl); out_unflushed = λ is. sym marks ∙ is; err_unflushed = λ is. is })
 
   -- the run ends in a call of the filter or of a sink
@@ -129,31 +144,25 @@ module _ {S O E : Type 0} {source : SourceGhosts S} {out : SinkGhosts O} {err : 
       → CountsFault (out.failures o') (out.failures o'') (err.failures e') (err.failures e'') r
       → FlushesImagesFirst (out.is_flushed o') (out.is_flushed o'') (err.is_flushed e') (err.is_flushed e'') r
       → Runs source out err (λ old new. new ≡ old) options s s'' o o'' e e'' r
-  Runs-after {s''} {o''} {e''} text r gave count bytes sends status ended counts marks =
-      let all = Sends-append out_joined err_joined options r h.sends sends in
-      record {
-        produces = record {
-          text = text;
-          given = (gave, RunCounts-sinks _ _ _ _ _ _ (count ∙ h.count) r text (CountsFault-after h.sinks _ _ r counts));
-          sends = TookText-sinks options (taken (out.took o o'') (err.took e e'')) text r (rw all.grown all.sends);
-          status = status;
-          read = script_of_text_read options h.after.range text bytes;
-        };
-        ended = ended;
-        flushed = FlushesImagesFirst-after h.sinks _ _ r marks;
-      }
+  Runs-after text r gave count bytes sends status ended counts marks = record {
+    produces = Produces-sends options h.fed.is_after.range text r
+        (gave, RunCounts-sinks _ _ _ _ _ _ (count ∙ h.count) r text (CountsFault-after h.sinks _ _ r counts)) bytes
+        (Sends-append out_joined err_joined options r h.fed.sends sends) status;
+    ended = ended;
+    flushed = FlushesImagesFirst-after h.sinks _ _ r marks;
+  }
 
   -- the run ends in a read
   pub Runs-read : {s'' : S} → source.gave s s'' given → (Rises (source.failures s) (source.failures s'')
       ⊎ ((source.failures s'' ≡ source.failures s) × (2 ^ 64 - 1 ≤ length given)))
       → Runs source out err (λ old new. new ≡ old) options s s'' o o' e e' (Err Read)
-  Runs-read gave counts = record {
+  Runs-read gave counts = let sends = rw (ended_script-nil options) at h.fed.sends in record {
     produces = record {
       text = given;
       given = (gave, (counts, h.sinks.counts.0, h.sinks.counts.1));
-      sends = rw h.sends.grown h.sends.sends;
+      sends = rw sends.grown sends.sends;
       status = tt;
-      read = script_of_text_read options h.after.range given h.after.bytes;
+      read = script_of_text_read options h.fed.is_after.range given h.fed.is_after.bytes;
     };
     ended = tt;
     flushed = (λ other. h.sinks.out_unflushed, h.sinks.err_unflushed);

@@ -7,12 +7,10 @@ use Rattle.device.specs.Device.{Begins}
 use Rattle.labelcore.specs.OptionValues.{OptionValues}
 use Rattle.filter.specs.Filter.{taken, Took, Stops, Sends, fault_of, other}
 use Rattle.filter.specs.Output.{Event, Channel, Images, Messages, bytes_for, sent}
-use Rattle.filter.specs.Private.{SendsEvent}
 use Rattle.filter.specs.declared.status.RunFault.{RunFault}
-use Rattle.filter.specs.declared.status.RunFault.TheVariants.{Read, WriteOut, WriteMessages, Spent}
 
 -- two sinks that took nothing
-none_taken : (out err : List ℕ → Type 0) → out [] → err [] → (channel : Channel) → taken out err channel []
+pub none_taken : (out err : List ℕ → Type 0) → out [] → err [] → (channel : Channel) → taken out err channel []
 none_taken out err none_out none_err Images = none_out
 none_taken out err none_out none_err Messages = none_err
 
@@ -23,38 +21,33 @@ images_by out out' err widen Images bytes h = widen bytes h
 images_by out out' err widen Messages bytes h = h
 
 module _ (options : OptionValues) where
-  event_took : (out err : List ℕ → Type 0) (event : Event) → out (bytes_for options Images event)
+  -- the bytes of one event
+  pub event_took : (out err : List ℕ → Type 0) (event : Event) → out (bytes_for options Images event)
       → err (bytes_for options Messages event) → Took options (taken out err) (event ∷ [])
   event_took out err event image message Images = subst out (sym (append-nil (bytes_for options Images event))) image
   event_took out err event image message Messages =
       subst err (sym (append-nil (bytes_for options Messages event))) message
 
-  event_stops : (took : Channel → List ℕ → Type 0) (failed : Channel) (event : Event)
+  -- a beginning of the bytes of one event
+  pub event_stops : (took : Channel → List ℕ → Type 0) (failed : Channel) (event : Event) (later : List Event)
       → Begins (took failed) (bytes_for options failed event) → took (other failed) []
-      → Stops options took (event ∷ []) (fault_of failed)
-  event_stops took failed event begun none = record {
+      → Stops options took (event ∷ later) (fault_of failed)
+  event_stops took failed event later begun none = record {
     failed = failed;
     fault_is = refl;
     done = [];
     event = event;
-    later = [];
+    later = later;
     cut = refl;
     own = begun;
     others = none;
   }
 
-  -- a call that sends one event of a script
-  pub Sends-event : {T : Type 0} {out err : List ℕ → Type 0} (event : Event) {before after : List Event}
-      (r : Result T RunFault) → after ≡ before ++ event ∷ [] → SendsEvent options out err event r
-      → Sends {T = T} options (taken out err) before after r
-  Sends-event {out = out} {err = err} event (Ok x) grown s =
-      record { added = event ∷ []; grown = grown; sends = event_took out err event s.0 s.1 }
-  Sends-event {out = out} {err = err} event (Err WriteOut) grown s =
-      record { added = event ∷ []; grown = grown; sends = event_stops (taken out err) Images event s.0 s.1 }
-  Sends-event {out = out} {err = err} event (Err WriteMessages) grown s =
-      record { added = event ∷ []; grown = grown; sends = event_stops (taken out err) Messages event s.1 s.0 }
-  Sends-event event (Err Read) grown s = absurd s
-  Sends-event event (Err Spent) grown s = absurd s
+  -- a sink failed before it took a byte
+  pub Stops-first : (took : Channel → List ℕ → Type 0) (failed : Channel) (event : Event) (later : List Event)
+      → ((channel : Channel) → took channel []) → Stops options took (event ∷ later) (fault_of failed)
+  Stops-first took failed event later none = event_stops took failed event later
+      ([], (bytes_for options failed event, refl), none failed) (none (other failed))
 
   -- a call that sends nothing
   pub Sends-none : {T : Type 0} (x : T) {out err : List ℕ → Type 0} {before after : List Event} → after ≡ before → out []
@@ -107,49 +100,43 @@ module _ (options : OptionValues) where
       others = widen (other s.failed) (sent options (other s.failed) s.done) s.others;
     }
 
-  both : {T : Type 0} (first second whole : Channel → List ℕ → Type 0) → ((channel : Channel) (xs ys : List ℕ)
-      → first channel xs → second channel ys → whole channel (xs ++ ys)) → (xs ys : List Event) (r : Result T RunFault)
-      → Took options first xs → MatchResult r (λ _. Took options second ys) (Stops options second ys)
-      → MatchResult r (λ _. Took options whole (xs ++ ys)) (Stops options whole (xs ++ ys))
-  both first second whole join xs ys (Ok x) h k = λ channel. rw flat_map-append (join channel _ _ (h channel) (k channel))
-  both first second whole join xs ys (Err fault) h s = record {
+-- calls one after another, at sinks whose states are O and E
+module _ {O E : Type 0} {out : O → O → List ℕ → Type 0} {err : E → E → List ℕ → Type 0}
+    (out_joined : (s t u : O) (xs ys : List ℕ) → out s t xs → out t u ys → out s u (xs ++ ys))
+    (err_joined : (s t u : E) (xs ys : List ℕ) → err s t xs → err t u ys → err s u (xs ++ ys))
+    (options : OptionValues) where
+  joined : (o o' o'' : O) (e e' e'' : E) (channel : Channel) (xs ys : List ℕ) → taken (out o o') (err e e') channel xs
+      → taken (out o' o'') (err e' e'') channel ys → taken (out o o'') (err e e'') channel (xs ++ ys)
+  joined o o' o'' e e' e'' Images xs ys first second = out_joined o o' o'' xs ys first second
+  joined o o' o'' e e' e'' Messages xs ys first second = err_joined e e' e'' xs ys first second
+
+  -- the events of both calls
+  pub both : (o o' o'' : O) (e e' e'' : E) {T : Type 0} (xs ys : List Event) (r : Result T RunFault)
+      → Took options (taken (out o o') (err e e')) xs → MatchResult r (λ _. Took options (taken (out o' o'') (err e' e'')) ys)
+      (Stops options (taken (out o' o'') (err e' e'')) ys)
+      → MatchResult r (λ _. Took options (taken (out o o'') (err e e'')) (xs ++ ys))
+      (Stops options (taken (out o o'') (err e e'')) (xs ++ ys))
+  both o o' o'' e e' e'' xs ys (Ok x) h k =
+      λ channel. rw flat_map-append (joined o o' o'' e e' e'' channel _ _ (h channel) (k channel))
+  both o o' o'' e e' e'' xs ys (Err fault) h s = record {
     failed = s.failed;
     fault_is = s.fault_is;
     done = xs ++ s.done;
     event = s.event;
     later = s.later;
     cut = ap (λ (es : List Event). xs ++ es) s.cut ∙ sym (append_assoc xs s.done (s.event ∷ s.later));
-    own = (s.own.0, s.own.1, rw (flat_map-append, append_assoc) (join s.failed _ _ (h s.failed) s.own.2));
-    others = rw flat_map-append (join (other s.failed) _ _ (h (other s.failed)) s.others);
+    own = (s.own.0, s.own.1,
+        rw (flat_map-append, append_assoc) (joined o o' o'' e e' e'' s.failed _ _ (h s.failed) s.own.2));
+    others = rw flat_map-append (joined o o' o'' e e' e'' (other s.failed) _ _ (h (other s.failed)) s.others);
   }
 
--- calls one after another, at sinks whose states are O and E
-module _ {O E : Type 0} {out : O → O → List ℕ → Type 0} {err : E → E → List ℕ → Type 0}
-    (out_joined : (s t u : O) (xs ys : List ℕ) → out s t xs → out t u ys → out s u (xs ++ ys))
-    (err_joined : (s t u : E) (xs ys : List ℕ) → err s t xs → err t u ys → err s u (xs ++ ys)) where
-  joined : (o o' o'' : O) (e e' e'' : E) (channel : Channel) (xs ys : List ℕ) → taken (out o o') (err e e') channel xs
-      → taken (out o' o'') (err e' e'') channel ys → taken (out o o'') (err e e'') channel (xs ++ ys)
-  joined o o' o'' e e' e'' Images xs ys first second = out_joined o o' o'' xs ys first second
-  joined o o' o'' e e' e'' Messages xs ys first second = err_joined e e' e'' xs ys first second
-
-  pub Sends-append : (options : OptionValues) {o o' o'' : O} {e e' e'' : E} {T U : Type 0} {x : U} (r : Result T RunFault)
+  pub Sends-append : {o o' o'' : O} {e e' e'' : E} {T U : Type 0} {x : U} (r : Result T RunFault)
       {before middle after : List Event} → Sends {T = U} options (taken (out o o') (err e e')) before middle (Ok x)
       → Sends {T = T} options (taken (out o' o'') (err e' e'')) middle after r
       → Sends {T = T} options (taken (out o o'') (err e e'')) before after r
-  Sends-append options {o} {o'} {o''} {e} {e'} {e''} r {before} one two = record {
+  Sends-append {o} {o'} {o''} {e} {e'} {e''} r {before} one two = record {
     added = one.added ++ two.added;
     grown = two.grown
         ∙ (ap (λ (es : List Event). es ++ two.added) one.grown ∙ append_assoc before one.added two.added);
-    sends = both options (taken (out o o') (err e e')) (taken (out o' o'') (err e' e''))
-        (taken (out o o'') (err e e'')) (joined o o' o'' e e' e'') one.added two.added r one.sends two.sends;
+    sends = both o o' o'' e e' e'' one.added two.added r one.sends two.sends;
   }
-
--- where the sink of the images took a text, it took it in another sense too
-pub SendsEvent-by : {T : Type 0} (options : OptionValues) (out out' err : List ℕ → Type 0)
-    → ((bytes : List ℕ) → out bytes → out' bytes) → (event : Event) (r : Result T RunFault)
-    → SendsEvent options out err event r → SendsEvent options out' err event r
-SendsEvent-by options out out' err widen event (Ok x) s = (widen _ s.0, s.1)
-SendsEvent-by options out out' err widen event (Err WriteOut) s = ((s.0.0, s.0.1, widen _ s.0.2), s.1)
-SendsEvent-by options out out' err widen event (Err WriteMessages) s = (widen [] s.0, s.1)
-SendsEvent-by options out out' err widen event (Err Read) s = absurd s
-SendsEvent-by options out out' err widen event (Err Spent) s = absurd s

@@ -2,13 +2,18 @@
 -- Why: `FilterState`, `IsAfter`: what a `Filter` keeps, and what it was fed; `Took`, `Stops`, `Sends`: what `feed`,
 -- `finish` and `run` promise of their sinks.
 use Rattle.std.specs.Prelude.{◌≡◌, ℕ, ◌-◌, ◌^◌, ◌<◌, min, All, Bool, true, false, List, ◌∷◌, ◌++◌, length, Result, Ok, Err}
-use Rattle.std.specs.Prelude.{◌≢◌, MatchResult, OnOk}
+use Rattle.std.specs.Prelude.{◌≢◌, IfOk, MatchResult, OnOk}
 use Rattle.device.specs.Device.{Begins, Rises, Unflushed}
 use Rattle.device.specs.Lines.{ended_lines, open_line}
+use Rattle.device.specs.Writing.{WritesText}
 use Rattle.device.specs.declared.sink.Sink.{Ghosts}
+use Rattle.labelcore.specs.declared.fault.Fault.{Fault}
 use Rattle.labelcore.specs.HeldLine.{HeldLine, held_line}
+use Rattle.labelcore.specs.LineItem.{Outcome, refused}
 use Rattle.labelcore.specs.OptionValues.{OptionValues, IsInRange}
-use Rattle.filter.specs.Output.{Event, Channel, Images, Messages, bytes_for, ended_script, sent, status_of}
+use Rattle.filter.specs.Output.{Event, Channel, Images, Messages, bytes_for, ended_script, image_of, sent}
+use Rattle.filter.specs.Output.{status_of}
+use Rattle.filter.specs.Symbol.{Symbol}
 use Rattle.filter.specs.declared.status.RunFault.{RunFault}
 use Rattle.filter.specs.declared.status.RunFault.TheVariants.{WriteOut, WriteMessages}
 use Rattle.filter.specs.declared.status.Status.{Status}
@@ -96,3 +101,14 @@ pub record FlushesNeither {O E T : Type 0} (out : Ghosts O) (err : Ghosts E) (o 
   pub counts : CountsFault (out.failures o) (out.failures o') (err.failures e) (err.failures e') r
   pub out_unflushed : Unflushed (out.is_flushed o) (out.is_flushed o')
   pub err_unflushed : Unflushed (err.is_flushed e) (err.is_flushed e')
+
+-- the refusal of what is not drawn
+abbrev pub refusal_of : Outcome Symbol → Result (Unit {0}) Fault
+refusal_of (refused fault) = Err fault
+refusal_of other = Ok tt
+
+-- the image is written, or nothing where there is none; and a refusal is returned
+pub record DrawsOutcome {S E : Type 0} (sink : Ghosts S) (old new : S) (options : OptionValues)
+    (outcome : Outcome Symbol) (r : Result (Result (Unit {0}) Fault) E) : Type 0 where
+  pub writes : WritesText sink old new (image_of options outcome) r
+  pub refusal : IfOk r (λ drawn. drawn ≡ refusal_of outcome)

@@ -1,11 +1,10 @@
 //! The filter, fed piece by piece.
-ghost use Rattle.std.specs.Prelude.{◌≡◌, ℕ, ◌<◌, true, false, All, List, [], ◌∷◌, ◌++◌, Err, IfOk, OnOk, OnErr};
+ghost use Rattle.std.specs.Prelude.{◌≡◌, ℕ, ◌<◌, true, false, All, List, [], ◌∷◌, ◌++◌, Err, IfOk, MatchResult, OnErr};
 ghost use Rattle.device.specs.Lines.{HasNoLF, LF};
 ghost use Rattle.labelcore.specs.OptionValues.{OptionValues};
 ghost use Rattle.filter.specs.Filter.{CountsFault, FilterState, FlushesImagesFirst, FlushesNeither, IsAfter};
-ghost use Rattle.filter.specs.Filter.{Feeds, Sends, taken};
+ghost use Rattle.filter.specs.Filter.{Feeds, Sends, Stops, Took, taken};
 ghost use Rattle.filter.specs.Output.{ended_script, flushes, script, status_of};
-ghost use Rattle.filter.specs.Private.{SendsEvent};
 
 use crate::line::finish_line;
 use crate::status::{RunFault, Status};
@@ -166,8 +165,9 @@ impl Filter {
 
 /// Flushes the images, and then the messages.
 fn flush_both<O: Sink, E: Sink>(out: &mut O, err: &mut E) -> Result<(), RunFault>
-    ensures sends { (options : OptionValues) → SendsEvent options (O.took out.old out.new)
-        (E.took err.old err.new) flushes result }
+    ensures sends { (options : OptionValues) → MatchResult result
+        (λ _. Took options (taken (O.took out.old out.new) (E.took err.old err.new)) (flushes ∷ []))
+        (Stops options (taken (O.took out.old out.new) (E.took err.old err.new)) (flushes ∷ [])) }
     ensures flushed { FlushesImagesFirst (O.is_flushed out.old) (O.is_flushed out.new)
         (E.is_flushed err.old) (E.is_flushed err.new) result }
     ensures counts { CountsFault (O.failures out.old) (O.failures out.new)

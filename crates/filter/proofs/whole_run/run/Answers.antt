@@ -7,9 +7,9 @@ use Rattle.std.specs.Prelude.{OnOk, Result, Ok}
 use Rattle.filter.specs.Output.{Images, bytes_for, ended_script}
 use Rattle.filter.specs.declared.status.RunFault.TheVariants.{WriteOut}
 use Rattle.filter.specs.declared.status.Status.{Status}
-use Rattle.filter.proofs.OutputLaws.{ended_script-nil, some_later}
+use Rattle.filter.proofs.FilterLaws.{some_later}
 use Rattle.filter.proofs.RunLaws.{HasRun-append, HasRun-passed, Runs-after, Runs-read}
-use Rattle.filter.proofs.ScriptLaws.{Sends-event, Sends-longer, Sends-none}
+use Rattle.filter.proofs.ScriptLaws.{none_taken, Sends-longer, Sends-none, Stops-first}
 use Rattle.filter.proofs.whole_run.run.Goals as goal
 
 pub loop-turn-init : goal.loop-turn-init
@@ -19,9 +19,10 @@ loop-turn-init g c = record {
   so_far = record {
     gave = g.met.S.Source.gave_none c.args.source.now;
     count = refl;
-    after = c.new-filter.ensures;
-    sends = Sends-none c.args.options tt (ended_script-nil c.args.options) (g.met.O.Sink.took_none _)
-        (g.met.E.Sink.took_none _);
+    fed = record {
+      sends = Sends-none c.args.options tt refl (g.met.O.Sink.took_none _) (g.met.E.Sink.took_none _);
+      is_after = c.new-filter.ensures;
+    };
     sinks = record { counts = (refl, refl); out_unflushed = λ e. e; err_unflushed = λ e. e };
   };
 }
@@ -32,10 +33,12 @@ returns-in_default g c =
     let options = c.args.options in
     let later = some_later options h.given in
     Runs-after g.met.O.Sink.took_joined g.met.E.Sink.took_joined h.so_far h.given (Err WriteOut) h.so_far.gave refl
-    h.so_far.after.bytes (Sends-longer options {T = Status} later.1
-    (later.2 ∙ sym (append_assoc (ended_script options h.given) (later.0 ∷ []) later.1))
-    (Sends-event options later.0 (Err WriteOut) refl
-    (([], (bytes_for options Images later.0, refl), c.pass_on.ensures.bytes), g.met.E.Sink.took_none _)))
+    h.so_far.fed.is_after.bytes (record {
+      added = later.0 ∷ later.1;
+      grown = later.2;
+      sends = Stops-first options _ Images later.0 later.1
+          (none_taken _ _ c.pass_on.ensures.bytes (g.met.E.Sink.took_none c.loop-turn.err));
+    })
     tt tt (c.in_default.ensures.count, refl) (λ other is. sym c.pass_on.ensures.flushed ∙ is, λ is. is)
 
 pub returns-in_default-read : goal.returns-in_default-read
@@ -66,9 +69,9 @@ returns-then-count-eq0 g c =
     Runs-after g.met.O.Sink.took_joined g.met.E.Sink.took_joined passed given c.finish.result
     (subst (g.S.Source.gave c.args.source.now c.read.new.self) (append-nil given)
     (g.met.S.Source.gave_joined _ _ _ _ _ h.gave (rw c.if-count-eq0.true at c.in-Ok-read.ensures.bytes)))
-    c.in-Ok-read.ensures.count h.after.bytes (c.finish.ensures.sends c.args.options given h.after)
-    (c.finish.ensures.status c.args.options given h.after) (at_ok c.finish.result (search rules, search rules))
-    (c.finish.ensures.counts h.after.is_spent) c.finish.ensures.flushed
+    c.in-Ok-read.ensures.count h.fed.is_after.bytes (c.finish.ensures.sends c.args.options given h.fed.is_after)
+    (c.finish.ensures.status c.args.options given h.fed.is_after) (at_ok c.finish.result (search rules, search rules))
+    (c.finish.ensures.counts h.fed.is_after.is_spent) c.finish.ensures.flushed
 
 pub returns-in_err-feed : goal.returns-in_err-feed
 returns-in_err-feed g c =
@@ -78,13 +81,13 @@ returns-in_err-feed g c =
     let options = c.args.options in
     let piece = take c.in-Ok-read.count c.read.new.buf in
     let later = some_later options (given ++ piece) in
-    let sinks = c.in_err-feed.ensures.sinks h.after.is_spent in
+    let sinks = c.in_err-feed.ensures.sinks h.fed.is_after.is_spent in
     let passed = HasRun-passed g.met.O.Sink.took_joined g.met.E.Sink.took_joined h c.pass_on.ensures.bytes
     (g.met.E.Sink.took_none _) c.in-Ok.ensures.count c.pass_on.ensures.flushed in
     rw (p.1, p.2) (Runs-after g.met.O.Sink.took_joined g.met.E.Sink.took_joined passed (given ++ piece)
     (Err c.in_err-feed.field-0.0) (g.met.S.Source.gave_joined _ _ _ _ _ h.gave c.in-Ok-read.ensures.bytes)
-    c.in-Ok-read.ensures.count (All-append (λ b. b < 256) given piece h.after.bytes c.in_err-feed.ensures.bytes)
-    (Sends-longer options (later.0 ∷ later.1) later.2 (c.in_err-feed.ensures.feeds options given h.after).sends)
+    c.in-Ok-read.ensures.count (All-append (λ b. b < 256) given piece h.fed.is_after.bytes c.in_err-feed.ensures.bytes)
+    (Sends-longer options (later.0 ∷ later.1) later.2 (c.in_err-feed.ensures.feeds options given h.fed.is_after).sends)
     tt tt sinks.counts (λ other. sinks.out_unflushed, sinks.err_unflushed))
 
 pub loop-turn-preserved : goal.loop-turn-preserved
@@ -94,11 +97,11 @@ loop-turn-preserved g c =
     let piece = take c.in-Ok-read.count c.read.new.buf in
     let passed = HasRun-passed g.met.O.Sink.took_joined g.met.E.Sink.took_joined h c.pass_on.ensures.bytes
     (g.met.E.Sink.took_none _) c.in-Ok.ensures.count c.pass_on.ensures.flushed in
-    let fed = c.in_ok-feed.ensures.feeds c.args.options given h.after in
     record {
       given = given ++ piece;
       enough = omega (arith, length-append given piece, length-take c.in-Ok-read.count c.read.new.buf);
       so_far = HasRun-append g.met.O.Sink.took_joined g.met.E.Sink.took_joined passed
           (g.met.S.Source.gave_joined _ _ _ _ _ h.gave c.in-Ok-read.ensures.bytes) c.in-Ok-read.ensures.count
-          fed.is_after fed.sends (c.in_ok-feed.ensures.sinks h.after.is_spent);
+          (c.in_ok-feed.ensures.feeds c.args.options given h.fed.is_after)
+          (c.in_ok-feed.ensures.sinks h.fed.is_after.is_spent);
     }

@@ -5,8 +5,7 @@ use Rattle.device.proofs.LinesLaws.{ended_lines-push_lf, open_line-push_lf}
 use Rattle.labelcore.specs.HeldLine.{held_line}
 use Rattle.filter.specs.Filter.{FilterState, IsAfter}
 use Rattle.filter.specs.Output.{of_line, outcome, status_of}
-use Rattle.filter.proofs.FilterLaws.{Sends-line, line_number-counts, of_open_line}
-use Rattle.filter.proofs.OutputLaws.{ended_script-lf, status_of-append}
+use Rattle.filter.proofs.FilterLaws.{Sends-line, line_number-counts, of_open_line, ended_script-lf, status_of-append}
 use Rattle.filter.proofs.filter.Filter.end_line.Goals as goal
 
 pub returns-in-Ok-clause-feeds : goal.returns-in-Ok-clause-feeds

@@ -3,9 +3,8 @@ use Rattle.std.proofs.lemmas.Bool.{false≢true}
 use Rattle.device.specs.Lines.{LF, open_line}
 use Rattle.labelcore.specs.HeldLine.{line_limit}
 use Rattle.filter.specs.Filter.{FilterState, IsAfter}
-use Rattle.filter.proofs.FilterLaws.{no_byte}
+use Rattle.filter.proofs.FilterLaws.{no_byte, script-ended, script-open}
 use Rattle.std.proofs.Math.Seq.{take-nil}
-use Rattle.filter.proofs.OutputLaws.{script-ended, script-open}
 use Rattle.filter.proofs.ScriptLaws.{Sends-none}
 use Rattle.filter.proofs.filter.Filter.end_open_line.Goals as goal
 

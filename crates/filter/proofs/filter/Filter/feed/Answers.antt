@@ -4,8 +4,7 @@ use Rattle.std.proofs.lemmas.List.Elements.{All-from_get_or}
 use Rattle.std.proofs.lemmas.Result.{err_from_is_err_and}
 use Rattle.device.specs.Lines.{LF}
 use Rattle.filter.specs.Output.{ended_script}
-use Rattle.filter.proofs.FilterLaws.{ended_lines-more}
-use Rattle.filter.proofs.OutputLaws.{ended_script-more}
+use Rattle.filter.proofs.FilterLaws.{ended_lines-more, ended_script-more}
 use Rattle.filter.proofs.RunLaws.{FlushesNeither-append}
 use Rattle.filter.proofs.ScriptLaws.{Sends-none, Sends-append, Sends-longer}
 use Rattle.filter.proofs.filter.Filter.feed.Goals as goal

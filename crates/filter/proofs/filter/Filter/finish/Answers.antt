@@ -3,9 +3,9 @@ use Rattle.std.proofs.lemmas.Bool.{false≢true}
 use Rattle.std.proofs.lemmas.Result.{err_from_is_err_and}
 use Rattle.filter.specs.Filter.{FilterState}
 use Rattle.filter.specs.Output.{flushes, status_of}
-use Rattle.filter.proofs.OutputLaws.{status_of-flushes}
+use Rattle.filter.proofs.FilterLaws.{status_of-flushes}
 use Rattle.filter.proofs.RunLaws.{CountsFault-after, FlushesImagesFirst-after}
-use Rattle.filter.proofs.ScriptLaws.{Sends-append, Sends-event, Sends-longer}
+use Rattle.filter.proofs.ScriptLaws.{Sends-append, Sends-longer}
 use Rattle.filter.proofs.filter.Filter.finish.Goals as goal
 
 pub returns-then-self : goal.returns-then-self
@@ -43,7 +43,7 @@ returns-in_err-flush_both g c =
     rw (p.1, p.2) (record {
       sends = λ options text at. let h = before.feeds options text at in
           Sends-append g.met.O.Sink.took_joined g.met.E.Sink.took_joined options (Err fault) h.2.sends
-          (Sends-event options flushes (Err fault) h.1 (flush.sends options));
+          (record { added = flushes ∷ []; grown = h.1; sends = flush.sends options });
       status = λ options text at. tt;
       flushed = FlushesImagesFirst-after before.sinks {U = Unit {0}} _ _ (Err fault) flush.flushed;
       counts = λ e. CountsFault-after before.sinks {U = Unit {0}} _ _ (Err fault) flush.counts;
@@ -58,7 +58,7 @@ returns g c =
     record {
       sends = λ options text at. let h = before.feeds options text at in
           Sends-append g.met.O.Sink.took_joined g.met.E.Sink.took_joined options (Ok c.self-2.inside.status) h.2.sends
-          (Sends-event options flushes (Ok c.self-2.inside.status) h.1 (flush.sends options));
+          (record { added = flushes ∷ []; grown = h.1; sends = flush.sends options });
       status = λ options text at. let h = before.feeds options text at in
           ap (λ (s : FilterState). s.status) c.self-2.view_is ∙ (h.2.is_after.status_is
           ∙ (sym (status_of-flushes _) ∙ ap status_of (sym h.1)));
