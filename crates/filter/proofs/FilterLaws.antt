@@ -1,125 +1,160 @@
--- A filter's state, byte by byte, and at the end of the input.
-use Rattle.std.proofs.Common.{◌≡◌, ◌≢◌, ℕ, ◌+◌, ◌-◌, ◌^◌, ◌<◌, min, List, [], ◌∷◌, ◌++◌, length, take}
-use Rattle.std.proofs.Common.{refl, ap, sym, ◌∙◌, arith, length-append, length-take, Bool, true, false}
-use Rattle.std.proofs.lemmas.List.Elements.{All-nil, All-push}
-use Rattle.labelcore.proofs.KeptLaws.{AreInRange}
-use Rattle.labelcore.specs.HeldLine.{held_line, line_limit}
+-- What more lines add to the script and its status, and to a filter's state.
+use Rattle.std.proofs.Common.{◌≡◌, ◌≢◌, ℕ, ◌+◌, Bool, ◌||◌, true, false, List, [], ◌∷◌, ◌++◌, length, append_assoc}
+use Rattle.std.proofs.Common.{refl, ap, sym, ◌∙◌, arith, add-zero, zero-add, if◌then◌else◌, ◌-◌, ◌^◌, min, take, Result}
+use Rattle.std.proofs.Common.{length-take, subst}
+use Rattle.std.specs.List.{list_any}
+use Rattle.std.proofs.lemmas.List.{append-nil}
+use Rattle.std.proofs.lemmas.List.Folds.{list_any-append}
+use Rattle.device.specs.Lines.{LF, lines, ended_lines, open_line, unless_empty, HasNoLF, IsCut, with_ends}
+use Rattle.device.proofs.LinesLaws.{ended_lines-nil, ended_lines-push_lf, some_added, IsCut-ended_lines}
+use Rattle.device.proofs.LinesLaws.{ended_lines-cut, open_line-cut}
 use Rattle.labelcore.specs.OptionValues.{OptionValues}
-use Rattle.device.specs.Lines.{LF, lines, ended_lines, open_line, unless_empty}
-use Rattle.device.proofs.LinesLaws.{ended_lines-nil, open_line-nil, ended_lines-push_lf, ended_lines-push_other}
-use Rattle.device.proofs.LinesLaws.{open_line-push_lf, open_line-push_other}
-use Rattle.filter.specs.Filter.{FilterState, IsAfter}
-use Rattle.filter.specs.Output.{Event, of_line, outcome, ended_script, events_after, line_number, status_of}
-use Rattle.filter.specs.Private.{worst}
+use Rattle.filter.specs.Output.{Event, of_line, outcome, events_after, ended_script, script, flushes, is_refusal}
+use Rattle.filter.specs.Output.{line_number, status_of}
 use Rattle.filter.specs.declared.status.Status.{Status}
-use Rattle.filter.specs.declared.status.Status.TheVariants.{Clean}
-use Rattle.filter.proofs.OutputLaws.{ended_script-nil, ended_script-other, ended_script-lf, lines-none, lines-one}
-use Rattle.filter.proofs.OutputLaws.{status_of-nil, status_of-append}
+use Rattle.filter.specs.declared.status.Status.TheVariants.{Clean, Refused}
+use Rattle.std.proofs.lemmas.List.Elements.{All-append}
+use Rattle.labelcore.specs.HeldLine.{held_line, line_limit}
+use Rattle.filter.specs.Filter.{FilterState, IsAfter, Sends, taken, Stops, Took}
+use Rattle.filter.specs.declared.status.RunFault.{RunFault}
+use Rattle.filter.specs.Private.{worst}
+use Rattle.std.specs.Prelude.{MatchResult}
 
--- no filter is both spent and not spent
-pub not_spent : {spent : Bool} → spent ≡ true → spent ≡ false → ⊥
-not_spent is isnt = cc
+-- the status of two scripts
+worst_of_two : (a b : Bool) → (if a || b then Refused else Clean)
+    ≡ worst (if a then Refused else Clean) (if b then Refused else Clean)
+worst_of_two true b = refl
+worst_of_two false b = refl
 
--- how many lines were counted
-counted : List (List ℕ) → ℕ
-counted ended = min (length ended) (2 ^ 64 - 1)
+pub status_of-append : (xs ys : List Event) → status_of (xs ++ ys) ≡ worst (status_of xs) (status_of ys)
+unfolding status_of
+status_of-append xs ys = ap (λ (b : Bool). if b then Refused else Clean) (list_any-append is_refusal xs ys)
+    ∙ worst_of_two (list_any is_refusal xs) (list_any is_refusal ys)
+
+pub status_of-nil : status_of [] ≡ Clean
+unfolding status_of
+status_of-nil = refl
+
+-- a script's last event has no part in its status
+worst-clean : (s : Status) → worst s Clean ≡ s
+worst-clean Clean = refl
+worst-clean Refused = refl
+
+status_of-end : status_of (flushes ∷ []) ≡ Clean
+unfolding status_of
+status_of-end = refl
+
+pub status_of-flushes : (xs : List Event) → status_of (xs ++ flushes ∷ []) ≡ status_of xs
+status_of-flushes xs = status_of-append xs (flushes ∷ [])
+    ∙ (ap (λ (s : Status). worst (status_of xs) s) status_of-end ∙ worst-clean (status_of xs))
 
 module _ (options : OptionValues) where
-  -- a new filter
-  pub IsAfter-new : (state : FilterState) → AreInRange options → state.options ≡ options → state.line ≡ held_line []
-      → state.line_count ≡ 0 → state.status ≡ Clean → state.is_spent ≡ false → IsAfter options state []
-  unfolding counted
-  IsAfter-new state range o l n r s = record {
-    options_are = o;
-    range = range;
-    bytes = All-nil (λ b. b < 256);
-    line = l ∙ ap held_line (sym open_line-nil);
-    line_count = n ∙ ap counted (sym ended_lines-nil);
-    status_is = r ∙ (sym status_of-nil ∙ ap status_of (sym (ended_script-nil options)));
-    is_spent = s;
-  }
+  events_after-nil : (n : ℕ) → events_after options n [] ≡ []
+  unfolding events_after
+  events_after-nil n = refl
 
-  module _ (old new : FilterState) (text : List ℕ) (byte : ℕ) (at : IsAfter options old text)
-      (small : byte < 256) where
-    -- a byte of the line
-    pub IsAfter-other : byte ≢ LF → new.options ≡ old.options → new.line ≡ held_line (open_line text ++ byte ∷ [])
-        → new.line_count ≡ old.line_count → new.status ≡ old.status → new.is_spent ≡ old.is_spent
-        → IsAfter options new (text ++ byte ∷ [])
-    unfolding counted
-    IsAfter-other other o l n r s = record {
-      options_are = o ∙ at.options_are;
-      range = at.range;
-      bytes = All-push (λ b. b < 256) text byte at.bytes small;
-      line = l ∙ ap held_line (sym (open_line-push_other text byte other));
-      line_count = n ∙ (at.line_count ∙ ap counted (sym (ended_lines-push_other text byte other)));
-      status_is = r ∙ (at.status_is ∙ ap status_of (sym (ended_script-other options text byte other)));
-      is_spent = s ∙ at.is_spent;
-    }
+  events_after-append : (n : ℕ) (xs ys : List (List ℕ))
+      → events_after options n (xs ++ ys) ≡ events_after options n xs ++ events_after options (n + length xs) ys
+  unfolding events_after
+  events_after-append n [] ys = ap (λ (k : ℕ). events_after options k ys) (sym (add-zero n))
+  events_after-append n (x ∷ xs) ys =
+      let k : (n + 1) + length xs ≡ n + length (x ∷ xs) = omega arith in
+      ap (λ (es : List Event). of_line (line_number n) (outcome options x) ∷ es)
+      (events_after-append (n + 1) xs ys ∙ ap (λ (j : ℕ). events_after options (n + 1) xs ++ events_after options j ys) k)
 
-    -- the end of the line
-    pub IsAfter-lf : byte ≡ LF → new.options ≡ old.options → new.line ≡ held_line []
-        → new.line_count ≡ line_number (length (ended_lines text)) → new.status ≡ worst old.status
-        (status_of (of_line (line_number (length (ended_lines text))) (outcome options (open_line text)) ∷ []))
-        → new.is_spent ≡ old.is_spent → IsAfter options new (text ++ byte ∷ [])
-    unfolding counted
-    IsAfter-lf lf o l n r s =
-        let line = of_line (line_number (length (ended_lines text))) (outcome options (open_line text)) ∷ [] in
-        let text' : text ++ byte ∷ [] ≡ text ++ LF ∷ [] = ap (λ (b : ℕ). text ++ b ∷ []) lf in
-        record {
-          options_are = o ∙ at.options_are;
-          range = at.range;
-          bytes = All-push (λ b. b < 256) text byte at.bytes small;
-          line = l ∙ ap held_line (sym (ap open_line text' ∙ open_line-push_lf text));
-          line_count = n ∙ (ap (λ (k : ℕ). min k (2 ^ 64 - 1))
-              (sym (length-append (ended_lines text) (open_line text ∷ [])))
-              ∙ ap counted (sym (ap ended_lines text' ∙ ended_lines-push_lf text)));
-          status_is = r ∙ (ap (λ (s : Status). worst s (status_of line)) at.status_is
-              ∙ (sym (status_of-append (ended_script options text) line)
-              ∙ ap status_of (sym (ended_script-lf options text byte lf))));
-          is_spent = s ∙ at.is_spent;
-        }
+  pub ended_script-nil : ended_script options [] ≡ []
+  ended_script-nil = ap (events_after options 0) ended_lines-nil ∙ events_after-nil 0
 
+  -- what is sent of the lines that more bytes end
+  pub ended_script-more : (text piece : List ℕ) → (more : List Event)
+      × (ended_script options (text ++ piece) ≡ ended_script options text ++ more)
+  ended_script-more text piece = let s = some_added text piece in (
+    events_after options (0 + length (ended_lines text)) s.added,
+    ap (events_after options 0) s.grown ∙ events_after-append 0 (ended_lines text) s.added,
+  )
+
+  -- a LF ends the open line
+  pub ended_script-lf : (text : List ℕ) → ended_script options (text ++ LF ∷ [])
+      ≡ ended_script options text ++ of_line (line_number (length (ended_lines text))) (outcome options (open_line text)) ∷ []
+  unfolding events_after
+  ended_script-lf text = ap (events_after options 0) (ended_lines-push_lf text)
+      ∙ (events_after-append 0 (ended_lines text) (open_line text ∷ [])
+      ∙ ap (λ (n : ℕ). ended_script options text ++ of_line (line_number n) (outcome options (open_line text)) ∷ [])
+      (zero-add (length (ended_lines text))))
+
+  -- the whole script: the open line is empty, or it ends as if a LF came
+  pub script-ended : (text : List ℕ) → open_line text ≡ [] → script options text ≡ ended_script options text ++ flushes ∷ []
+  unfolding lines
+  script-ended text none = ap (λ (rest : List ℕ). events_after options 0 (ended_lines text ++ unless_empty rest) ++ flushes ∷ []) none
+      ∙ ap (λ (ls : List (List ℕ)). events_after options 0 ls ++ flushes ∷ []) (append-nil (ended_lines text))
+
+  pub script-open : (text : List ℕ) → open_line text ≢ [] → script options text ≡ ended_script options (text ++ LF ∷ []) ++ flushes ∷ []
+  unfolding lines
+  script-open text some = ap (λ (ls : List (List ℕ)). events_after options 0 ls ++ flushes ∷ [])
+      (ap (λ (ls : List (List ℕ)). ended_lines text ++ ls) (alone (open_line text) some) ∙ sym (ended_lines-push_lf text)) where
+        alone : (line : List ℕ) → line ≢ [] → unless_empty line ≡ line ∷ []
+        alone [] some = absurd (some refl)
+        alone (byte ∷ bytes) some = refl
+
+  -- after the ended lines there is an event, be it the last
+  pub some_later : (text : List ℕ) → (event : Event) × (later : List Event)
+      × (script options text ≡ ended_script options text ++ event ∷ later)
+  some_later text = by_rest (open_line text) refl where
+    by_rest : (rest : List ℕ) → open_line text ≡ rest → (event : Event) × (later : List Event)
+        × (script options text ≡ ended_script options text ++ event ∷ later)
+    by_rest [] is = (flushes, [], script-ended text is)
+    by_rest (byte ∷ bytes) is =
+        let line = of_line (line_number (length (ended_lines text))) (outcome options (open_line text)) in (
+          line,
+          flushes ∷ [],
+          script-open text (λ none. cc) ∙ (ap (λ (es : List Event). es ++ flushes ∷ [])
+              (ended_script-lf text) ∙ append_assoc (ended_script options text) (line ∷ []) (flushes ∷ [])),
+        )
+
+-- bytes of the open line
+cut_more : (text bytes : List ℕ) → HasNoLF bytes → IsCut (text ++ bytes) (ended_lines text) (open_line text ++ bytes)
+cut_more text bytes no_lf = let cut = IsCut-ended_lines text in record {
+  whole = ap (λ (xs : List ℕ). xs ++ bytes) cut.whole ∙ append_assoc (with_ends (ended_lines text)) (open_line text) bytes;
+  each = cut.each;
+  rest_open = All-append (λ b. b ≢ LF) (open_line text) bytes cut.rest_open no_lf;
+}
+
+pub ended_lines-more : (text bytes : List ℕ) → HasNoLF bytes → ended_lines (text ++ bytes) ≡ ended_lines text
+ended_lines-more text bytes no_lf = ended_lines-cut (cut_more text bytes no_lf)
+
+pub open_line-more : (text bytes : List ℕ) → HasNoLF bytes → open_line (text ++ bytes) ≡ open_line text ++ bytes
+open_line-more text bytes no_lf = open_line-cut (cut_more text bytes no_lf)
+
+module _ (options : OptionValues) (state : FilterState) (text : List ℕ) (at : IsAfter options state text) where
   -- the number of the line that ends
-  pub line_number-counts : (state : FilterState) (text : List ℕ) → IsAfter options state text → (n : ℕ)
-      → n ≡ min (state.line_count + 1) (2 ^ 64 - 1) → n ≡ line_number (length (ended_lines text))
-  line_number-counts state text at n e = omega (arith, at.line_count)
+  pub line_number-counts : (n : ℕ) → n ≡ min (state.line_count + 1) (2 ^ 64 - 1)
+      → n ≡ line_number (length (ended_lines text))
+  line_number-counts n e = omega (arith, at.line_count)
 
   -- what holds of the line that is held, whichever it is, holds of the open line
-  pub at_line : (P : OptionValues → Event → Type 0) (state : FilterState) (text : List ℕ) {n : ℕ}
-      → IsAfter options state text → n ≡ min (state.line_count + 1) (2 ^ 64 - 1)
-      → ((line : List ℕ) → state.line ≡ held_line line → P state.options (of_line n (outcome state.options line)))
-      → P options (of_line (line_number (length (ended_lines text))) (outcome options (open_line text)))
-  at_line P state text {n} at counts each =
+  pub of_open_line : (P : OptionValues → List ℕ → ℕ → Type 0) (n : ℕ) → n ≡ min (state.line_count + 1) (2 ^ 64 - 1)
+      → ((line : List ℕ) → state.line ≡ held_line line → P state.options line n)
+      → P options (open_line text) (line_number (length (ended_lines text)))
+  of_open_line P n counts each =
       let o : state.options ≡ options = at.options_are in
-      let m = line_number-counts state text at n counts in
+      let m = line_number-counts n counts in
       rw (o, m) at (each (open_line text) at.line)
 
-  unless_empty-nil : (line : List ℕ) → take line_limit line ≡ [] → unless_empty line ≡ []
-  unfolding line_limit
-  unless_empty-nil [] e = refl
-  unless_empty-nil (byte ∷ bytes) e = absurd (omega (arith, ap length e, length-take line_limit (byte ∷ bytes)))
+  -- what is sent of the line that is held ends the open line
+  pub Sends-line : {T : Type 0} {out err : List ℕ → Type 0} (r : Result T RunFault) (n : ℕ)
+      → n ≡ min (state.line_count + 1) (2 ^ 64 - 1) → ((line : List ℕ) → state.line ≡ held_line line → MatchResult r
+      (λ _. Took state.options (taken out err) (of_line n (outcome state.options line) ∷ []))
+      (Stops state.options (taken out err) (of_line n (outcome state.options line) ∷ [])))
+      → Sends {T = T} options (taken out err) (ended_script options text) (ended_script options (text ++ LF ∷ [])) r
+  Sends-line {out = out} {err = err} r n counts each = record {
+    added = of_line (line_number (length (ended_lines text))) (outcome options (open_line text)) ∷ [];
+    grown = ended_script-lf options text;
+    sends = of_open_line (λ own line m. MatchResult r (λ _. Took own (taken out err) (of_line m (outcome own line) ∷ []))
+        (Stops own (taken out err) (of_line m (outcome own line) ∷ []))) n counts each;
+  }
 
-  unless_empty-line : (line : List ℕ) → (take line_limit line ≡ [] → ⊥) → unless_empty line ≡ line ∷ []
-  unfolding line_limit
-  unless_empty-line [] n = absurd (n refl)
-  unless_empty-line (byte ∷ bytes) n = refl
-
-  -- the end of the input
-  module _ (state : FilterState) (text : List ℕ) (at : IsAfter options state text) where
-    pub no_rest : state.line.bytes ≡ [] → events_after options 0 (lines text) ≡ ended_script options text
-    no_rest e = lines-none options text (unless_empty-nil (open_line text) (sym (ap (λ h. h.bytes) at.line) ∙ e))
-
-    pub a_rest : (state.line.bytes ≡ [] → ⊥) → events_after options 0 (lines text) ≡ ended_script options text
-        ++ of_line (line_number (length (ended_lines text))) (outcome options (open_line text)) ∷ []
-    a_rest n = lines-one options text (unless_empty-line (open_line text) (λ e. n (ap (λ h. h.bytes) at.line ∙ e)))
-
-    pub status_of-no_rest : state.line.bytes ≡ [] → state.status ≡ status_of (events_after options 0 (lines text))
-    status_of-no_rest e = at.status_is ∙ ap status_of (sym (no_rest e))
-
-    pub status_of-rest : (state.line.bytes ≡ [] → ⊥) → worst state.status
-        (status_of (of_line (line_number (length (ended_lines text))) (outcome options (open_line text)) ∷ []))
-        ≡ status_of (events_after options 0 (lines text))
-    status_of-rest n =
-        let line = of_line (line_number (length (ended_lines text))) (outcome options (open_line text)) ∷ [] in
-        ap (λ (s : Status). worst s (status_of line)) at.status_is
-        ∙ (sym (status_of-append (ended_script options text) line) ∙ ap status_of (sym (a_rest n)))
+-- what is held of a line is empty where the line is
+pub no_byte : (line : List ℕ) → take line_limit line ≡ [] → line ≡ []
+unfolding line_limit
+no_byte [] e = refl
+no_byte (byte ∷ bytes) e = absurd (omega (arith, ap length e, length-take line_limit (byte ∷ bytes)))

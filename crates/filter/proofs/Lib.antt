@@ -1,8 +1,5 @@
 pub mod Examples
 pub mod FilterLaws
-pub mod LineLaws
-pub mod OutputLaws
-pub mod ReadableLaws
 pub mod ReadLaws
 pub mod RunLaws
 pub mod ScriptLaws

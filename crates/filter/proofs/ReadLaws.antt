@@ -1,50 +1,228 @@
 -- What the definitions draw reads back as the full data of its line, whoever computes it.
-use Rattle.std.specs.List.{AllByRecursion, flat_map}
-use Rattle.std.specs.Prelude.{All, IfOk}
+use Rattle.std.specs.List.{AllByRecursion, flat_map, list_all}
+use Rattle.std.specs.Prelude.{All, IfOk, nat_lt, ⊤, IfSome, ok_or, option_and_then}
 use Rattle.std.proofs.Common.{◌≡◌, ℕ, ◌+◌, ◌*◌, ◌^◌, ◌<◌, ◌≤◌, List, [], ◌∷◌, ◌++◌, map, Some, refl, ap, arith, Result}
-use Rattle.std.proofs.Common.{Ok, Err, subst}
+use Rattle.std.proofs.Common.{Ok, Err, subst, Bool, true, false, length, sym, ◌∙◌, get_or, inl, inr, ◌&&◌, ◌==◌, eq-eqb}
+use Rattle.std.proofs.Common.{Option, None}
+use Rattle.std.proofs.Math.Bool.{and-false}
 use Rattle.std.proofs.Math.Nat.{mul-pos, mul-le-mul_right}
 use Rattle.std.proofs.lemmas.List.Elements.{All-from_recursion, recursion_from_All, All-map, All-weaker}
 use Rattle.device.specs.Lines.{lines}
 use Rattle.device.proofs.LinesLaws.{AllOf-lines}
-use Rattle.labelcore.specs.LineItem.{skipped, refused, drawn, outcome_of}
-use Rattle.labelcore.specs.OptionValues.{OptionValues}
+use Rattle.labelcore.specs.LineItem.{skipped, refused, drawn, outcome_of, Outcome, Request, item}
+use Rattle.labelcore.specs.OptionValues.{OptionValues, IsMask}
 use Rattle.labelcore.specs.declared.fault.Fault.{Fault}
 use Rattle.labelcore.specs.declared.options.Format.{Format}
 use Rattle.labelcore.specs.declared.options.Format.TheVariants.{Pbm, Ascii}
 use Rattle.labelcore.specs.declared.symbology.Symbology.{Symbology}
 use Rattle.labelcore.specs.declared.symbology.Symbology.TheVariants.{Ean13, Ean8, UpcA, Code128, Qr}
-use Rattle.labelcore.proofs.KeptLaws.{AreBytes, AreInRange}
-use Rattle.picture.specs.Picture.{Picture}
-use Rattle.picture.specs.Reading.{raster}
+use Rattle.labelcore.proofs.KeptLaws.{AreBytes, AreInRange, HasRanges, item-ranges}
+use Rattle.picture.specs.Picture.{Picture, bars}
+use Rattle.picture.specs.Reading.{raster, common_row}
 use Rattle.picture.specs.ReadingLaws.{IsDrawable}
 use Rattle.picture.proofs.AsciiLaws.{ascii_files-flat_map, ascii_pixels-ascii_text}
 use Rattle.picture.proofs.CutLaws.{pbm_files-flat_map}
 use Rattle.picture.proofs.PbmLaws.{pbm_pixels-pbm_text}
-use Rattle.picture.proofs.SampleLaws.{sample-raster}
+use Rattle.picture.proofs.SampleLaws.{sample-raster, value_at-raster, common_row-bars}
 use Rattle.filter.specs.Output.{Event, Images, of_line, flushes, events_after, script, sent, drawn_symbols, image_of}
-use Rattle.filter.specs.Output.{picture_of, text_of}
-use Rattle.filter.specs.Readback.{cut, pixels, read_image, AreRead, IsRead, ReadsBack}
-use Rattle.filter.specs.Symbol.{Symbol, quiet_zone, symbol_of}
-use Rattle.filter.proofs.ReadableLaws.{IsReadable, HasReadable, symbol_readable, outcome_readable}
+use Rattle.filter.specs.Output.{picture_of, text_of, outcome, outcome_of_item}
+use Rattle.filter.specs.Readback.{cut, pixels, read_image, AreRead, IsRead, ReadsBack, read_modules}
+use Rattle.filter.specs.Symbol.{Symbol, quiet_zone, symbol_of, linear_symbol, qr_modules}
+use Rattle.std.proofs.lemmas.Bool.{cases_lt, le-ltb}
+use Rattle.std.proofs.lemmas.List.{get_or_past}
+use Rattle.std.proofs.lemmas.List.FromFn.{get_or-map-range_with_len, length-map-range_with_len}
+use mathlib.Core.Path.{fun_ext}
+use Rattle.gf256.proofs.GeneratorLaws.{HasRoots-remainder, IsRemainder-ec_codewords_of}
+use Rattle.labelcore.specs.Settings.{◌>>=◌}
+use Rattle.labelcore.specs.declared.fault.Fault.TheVariants.{DoesNotFit}
+use Rattle.linear.specs.Code128.{full_code128, code128_row}
+use Rattle.linear.specs.Code128Reading.{read_code128}
+use Rattle.linear.specs.Digits.{full_digits}
+use Rattle.linear.specs.Ean.{ean13_row, ean8_row, upca_row}
+use Rattle.linear.specs.EanReading.{read_ean13, read_ean8, read_upca}
+use Rattle.linear.specs.declared.refusal.Refusal.{Refusal}
+use Rattle.linear.proofs.Code128Laws.{code128_read_back}
+use Rattle.linear.proofs.EanLaws.{ean13_read_back, ean8_read_back, upca_read_back}
+use Rattle.linear.proofs.RowLengthLaws.{code128_short, ean13_short, ean8_short, upca_short}
+use Rattle.qrdata.specs.Codewords.{symbol_codewords}
+use Rattle.qrdata.specs.Fewest.{chosen_segments, chosen_version}
+use Rattle.qrdata.specs.Reading.{data_in}
+use Rattle.qrdata.specs.Versions.{side_of}
+use Rattle.qrdata.specs.declared.level.Level.{Level}
+use Rattle.qrdata.proofs.CodewordByteLaws.{AreBytes-symbol_codewords}
+use Rattle.qrdata.proofs.DataReadingLaws.{data_in-symbol_codewords, length-read}
+use Rattle.qrdata.proofs.FewestBitsLaws.{chosen_segments-is}
+use Rattle.qrdata.proofs.VersionSearchLaws.{chosen_version-found}
+use Rattle.qrmatrix.specs.MaskChoice.{chosen_mask}
+use Rattle.qrmatrix.specs.Modules.{is_inside, module_at}
+use Rattle.qrmatrix.specs.Reading.{read_matrix}
+use Rattle.qrmatrix.specs.Square.{value_at}
+use Rattle.qrmatrix.proofs.MaskChoiceLaws.{chosen_mask-lt}
+use Rattle.qrmatrix.proofs.ReadingLaws.{module_outside, reads_back}
+use Rattle.picture.specs.Text.{below, pixel_row}
+
+-- modules of some size that are read as the full data
+record IsReadable (symbol : Symbol) : Type 0 where
+  pub some_columns : 0 < symbol.modules.width
+  pub columns : symbol.modules.width ≤ 1795
+  pub some_rows : 0 < symbol.modules.height
+  pub rows : symbol.modules.height ≤ 500
+  pub read : read_modules symbol.symbology (raster symbol.modules).rows ≡ Some symbol.full
+
+-- the modules of what is drawn are read; of other lines nothing is said
+abbrev HasReadable : Outcome Symbol → Type 0
+HasReadable (drawn symbol) = IsReadable symbol
+HasReadable other = ⊤
+
+module _ (n : ℕ) (dark : ℕ → ℕ → Bool)
+    (outside : (x y : ℕ) → is_inside n x y ≡ false → dark x y ≡ false) where
+  abbrev square : Picture
+  square = record { width = n; height = n; dark = dark }
+
+  square_value : (x y : ℕ) → value_at (raster square).rows x y ≡ dark x y
+  square_value x y = elim (cases_lt y n) [
+    | inl high ↦ elim (cases_lt x n) [
+      | inl wide ↦ value_at-raster square x y wide high
+      | inr past ↦
+          ap (λ (row : List Bool). get_or row x false)
+          (get_or-map-range_with_len (pixel_row square) 0 n y y [] high (omega arith))
+          ∙ (get_or_past (pixel_row square y) x false
+          (let size = length-map-range_with_len (λ x. dark x y) 0 n in omega arith)
+          ∙ sym (outside x y (rw (le-ltb x n past) refl)))
+    ]
+    | inr past ↦
+        ap (λ (row : List Bool). get_or row x false)
+        (get_or_past (raster square).rows y [] (let size = length-map-range_with_len (pixel_row square) 0 n in
+        omega arith))
+        ∙ sym (outside x y (rw (le-ltb y n past) (and-false (nat_lt x n))))
+  ]
+
+  equal_lengths : (ys : List ℕ) → list_all (λ row. length row == n) (map (pixel_row square) ys) ≡ true
+  equal_lengths [] = refl
+  equal_lengths (y ∷ ys) =
+      rw (eq-eqb (length (pixel_row square y)) n (length-map-range_with_len (λ x. dark x y) 0 n), equal_lengths ys) refl
+
+  -- a QR symbol whose modules are read
+  qr_readable : (version : ℕ) (level : Level) (codewords bytes : List ℕ) → 0 < n → n ≤ 57
+      → read_matrix n dark ≡ Some (record { version = version; level = level; codewords = codewords })
+      → data_in version level codewords ≡ Some bytes →
+      IsReadable (record { symbology = Qr; full = bytes; modules = record { width = n; height = n; dark = dark } })
+  qr_readable version level codewords bytes some most symbol data_read =
+      let rows = (raster square).rows in
+      let count : length rows ≡ n = length-map-range_with_len (pixel_row square) 0 n in
+      let values : value_at rows ≡ dark = fun_ext (λ x. fun_ext (λ y. square_value x y)) in
+      let equal : list_all (λ row. length row == n) rows ≡ true = equal_lengths (below n) in
+      record {
+        some_columns = some;
+        columns = omega arith;
+        some_rows = some;
+        rows = omega arith;
+        read = rw (count, equal, values, symbol) data_read;
+      }
+
+-- a row that is read has a module
+some_row : (reading : List Bool → Option (List ℕ)) (row : List Bool) (full : List ℕ) → reading [] ≡ None
+    → reading row ≡ Some full → 0 < length row
+some_row reading [] full none read = cc
+some_row reading (b ∷ row) full none read = omega arith
+
+mask_below : (asked : Option ℕ) → IsMask asked → IfSome asked (λ mask. mask < 8)
+mask_below None fits = tt
+mask_below (Some mask) fits = omega arith
+
+module _ (options : OptionValues) (range : AreInRange options) where
+  -- bars of a row that is read and short
+  linear_readable : (symbology : Symbology) (row : List ℕ → List Bool) (reading : List Bool → Option (List ℕ))
+      → ((rows : List (List Bool)) → read_modules symbology rows ≡ option_and_then reading (common_row rows))
+      → reading [] ≡ None → (found : Result (List ℕ) Refusal) → IfOk found (λ full. reading (row full) ≡ Some full)
+      → IfOk found (λ full. length (row full) ≤ 1795)
+      → HasReadable (outcome_of (linear_symbol symbology row options found))
+  linear_readable symbology row reading rule none (Err refusal) read short = tt
+  linear_readable symbology row reading rule none (Ok full) read short = record {
+    some_columns = some_row reading (row full) full none read;
+    columns = short;
+    some_rows = range.height_low;
+    rows = range.height_high;
+    read = rule (raster (bars (row full) options.height)).rows
+        ∙ (ap (option_and_then reading) (common_row-bars (row full) options.height range.height_low) ∙ read);
+  }
+
+  -- the modules of the version that is chosen
+  modules_readable : (bytes : List ℕ) (version : ℕ) → AreBytes bytes
+      → chosen_version options.min_version options.level bytes ≡ Some version
+      → IsReadable (record { symbology = Qr; full = bytes; modules = qr_modules options bytes version })
+  unfolding qr_modules
+  modules_readable bytes version w chosen =
+      let level = options.level in
+      let found = chosen_version-found options.min_version level bytes version chosen in
+      let low : 1 ≤ version = omega (arith, range.version_low, found.0) in
+      let segments = chosen_segments version bytes in
+      let codewords = symbol_codewords version level segments bytes in
+      let read = data_in-symbol_codewords version level segments bytes low found.1 w
+      (chosen_segments-is version bytes) found.2 IsRemainder-ec_codewords_of HasRoots-remainder in
+      let are_bytes = All-from_recursion (λ b. b < 256) codewords
+      (AreBytes-symbol_codewords version level segments bytes low found.1) in
+      let mask = chosen_mask version level options.mask codewords in
+      let below = chosen_mask-lt version level options.mask codewords (mask_below options.mask range.mask_fits) in
+      qr_readable (side_of version) (module_at version level mask codewords)
+      (module_outside version level mask codewords) version level codewords bytes (omega arith)
+      (omega (arith, found.1)) (reads_back version level mask codewords low found.1 below
+      (length-read version level codewords bytes read) are_bytes) read
+
+  qr_is_readable : (bytes : List ℕ) → AreBytes bytes → (found : Option ℕ)
+      → chosen_version options.min_version options.level bytes ≡ found
+      → HasReadable (outcome_of (ok_or found (DoesNotFit options.level) >>= (λ version. Ok (record {
+        symbology = Qr;
+        full = bytes;
+        modules = qr_modules options bytes version;
+      }))))
+  qr_is_readable bytes w None e = tt
+  qr_is_readable bytes w (Some version) e = modules_readable bytes version w e
+
+  -- what is drawn of data is read as its full data
+  symbol_readable : (symbology : Symbology) (bytes : List ℕ) → AreBytes bytes
+      → HasReadable (outcome_of (symbol_of options symbology bytes))
+  unfolding symbol_of
+  symbol_readable Ean13 bytes w = linear_readable Ean13 ean13_row read_ean13 (λ rows. refl) refl (full_digits 12 bytes)
+      (ean13_read_back bytes) (ean13_short bytes)
+  symbol_readable Ean8 bytes w = linear_readable Ean8 ean8_row read_ean8 (λ rows. refl) refl (full_digits 7 bytes)
+      (ean8_read_back bytes) (ean8_short bytes)
+  symbol_readable UpcA bytes w = linear_readable UpcA upca_row read_upca (λ rows. refl) refl (full_digits 11 bytes)
+      (upca_read_back bytes) (upca_short bytes)
+  symbol_readable Code128 bytes w = linear_readable Code128 code128_row read_code128 (λ rows. refl) refl
+      (full_code128 bytes) (code128_read_back bytes) (code128_short bytes)
+  symbol_readable Qr bytes w =
+      qr_is_readable bytes w (chosen_version options.min_version options.level bytes) refl
+
+item_readable : (asked : Outcome Request) → HasRanges asked → HasReadable (outcome_of_item asked)
+item_readable skipped h = tt
+item_readable (refused fault) h = tt
+item_readable (drawn asked) h = symbol_readable asked.options h.0 asked.symbology asked.bytes h.1
+
+-- the modules of what is drawn of a line of bytes are read
+outcome_readable : (options : OptionValues) → AreInRange options → (line : List ℕ) → AreBytes line
+    → HasReadable (outcome options line)
+unfolding outcome
+outcome_readable options range line w = item_readable (item options line) (item-ranges options line range w)
 
 -- the quiet zones are narrow
 zone_small : (symbology : Symbology) → ((quiet_zone symbology).left + (quiet_zone symbology).right ≤ 20)
-    × ((quiet_zone symbology).top + (quiet_zone symbology).bottom ≤ 8)
+    × ((quiet_zone symbology).top + (quiet_zone symbology).bottom ≤ 20)
 zone_small Ean13 = (omega arith, omega arith)
 zone_small Ean8 = (omega arith, omega arith)
 zone_small UpcA = (omega arith, omega arith)
 zone_small Code128 = (omega arith, omega arith)
 zone_small Qr = (omega arith, omega arith)
 
-small_sum : (a b c : ℕ) → a + c ≤ 20 → b ≤ 1815 → a + b + c ≤ 1840
-small_sum a b c few narrow = omega arith
+-- a side of a picture: modules and their quiet zone, enlarged
+side_some : (before inner after scale : ℕ) → 0 < inner → 1 ≤ scale → 0 < (before + inner + after) * scale
+side_some before inner after scale some low = mul-pos (let sum : 0 < before + inner + after = omega arith in sum) low
 
-some_sum : (a b c : ℕ) → 0 < b → 0 < a + b + c
-some_sum a b c some = omega arith
-
-small_product : (a b : ℕ) → a ≤ 1840 → b ≤ 8 → a * b < 2 ^ 64
-small_product a b few scale = let m : a * b ≤ 1840 * b = mul-le-mul_right b few in omega arith
+side_small : (before inner after scale : ℕ) → before + after ≤ 20 → inner ≤ 1795 → scale ≤ 8
+    → (before + inner + after) * scale < 2 ^ 64
+side_small before inner after scale narrow inside high =
+    let sum : before + inner + after ≤ 1815 = omega arith in
+    let most : (before + inner + after) * scale ≤ 1815 * scale = mul-le-mul_right scale sum in omega arith
 
 -- the modules of an event's symbol are read; of other events nothing is said
 abbrev EventIsReadable : Event → Type 0
@@ -59,15 +237,12 @@ module _ (options : OptionValues) (range : AreInRange options) where
   drawable : (symbol : Symbol) → IsReadable symbol → IsDrawable (picture_of options symbol)
   drawable symbol h =
       let zone = quiet_zone symbol.symbology in
-      let wide : zone.left + symbol.modules.width + zone.right ≤ 1840 =
-      small_sum zone.left symbol.modules.width zone.right (zone_small symbol.symbology).0 (omega (arith, h.columns)) in
-      let tall : zone.top + symbol.modules.height + zone.bottom ≤ 1840 =
-      small_sum zone.top symbol.modules.height zone.bottom (omega (arith, (zone_small symbol.symbology).1))
-      (omega (arith, h.rows)) in
       record {
-        some = mul-pos (some_sum zone.left symbol.modules.width zone.right h.some_columns) range.scale_low;
-        wide = small_product (zone.left + symbol.modules.width + zone.right) options.scale wide range.scale_high;
-        high = small_product (zone.top + symbol.modules.height + zone.bottom) options.scale tall range.scale_high;
+        some = side_some zone.left symbol.modules.width zone.right options.scale h.some_columns range.scale_low;
+        wide = side_small zone.left symbol.modules.width zone.right options.scale (zone_small symbol.symbology).0 h.columns
+            range.scale_high;
+        high = side_small zone.top symbol.modules.height zone.bottom options.scale (zone_small symbol.symbology).1
+            (omega (arith, h.rows)) range.scale_high;
       }
 
   text_read : (format : Format) (symbol : Symbol) → IsReadable symbol
@@ -76,7 +251,7 @@ module _ (options : OptionValues) (range : AreInRange options) where
   text_read Ascii symbol h =
       let zone = quiet_zone symbol.symbology in
       ascii_pixels-ascii_text (picture_of options symbol)
-      (mul-pos (some_sum zone.top symbol.modules.height zone.bottom h.some_rows) range.scale_low)
+      (side_some zone.top symbol.modules.height zone.bottom options.scale h.some_rows range.scale_low)
 
   -- the image of modules that are read
   image_read : (format : Format) (symbol : Symbol) → IsReadable symbol
@@ -100,16 +275,11 @@ module _ (options : OptionValues) (range : AreInRange options) where
       (symbol_readable options range symbology bytes (recursion_from_All (λ b. b < 256) bytes w))
 
   -- a stream of images
-  stream_cut : (format : Format) (symbols : List Symbol) → All IsReadable symbols
-      → cut format (flat_map (text_of format) (map (picture_of options) symbols))
-      ≡ map (text_of format) (map (picture_of options) symbols)
-  stream_cut Pbm symbols all = pbm_files-flat_map (map (picture_of options) symbols)
-      (All-map IsDrawable (picture_of options) symbols
-      (All-weaker IsReadable (λ symbol. IsDrawable (picture_of options symbol)) drawable symbols all))
-  stream_cut Ascii symbols all = ascii_files-flat_map (map (picture_of options) symbols)
-      (All-map (λ (p : Picture). 0 < p.width) (picture_of options) symbols
-      (All-weaker IsReadable (λ symbol. 0 < (picture_of options symbol).width) (λ symbol h. (drawable symbol h).some)
-      symbols all))
+  stream_cut : (format : Format) (pictures : List Picture) → All IsDrawable pictures
+      → cut format (flat_map (text_of format) pictures) ≡ map (text_of format) pictures
+  stream_cut Pbm pictures all = pbm_files-flat_map pictures all
+  stream_cut Ascii pictures all =
+      ascii_files-flat_map pictures (All-weaker IsDrawable (λ p. 0 < p.width) (λ p h. h.some) pictures all)
 
   all_read : (symbols : List Symbol) → AllByRecursion IsReadable symbols
       → AreRead options.format options.scale (map (text_of options.format) (map (picture_of options) symbols)) symbols
@@ -142,7 +312,9 @@ module _ (options : OptionValues) (range : AreInRange options) where
   images_of_events_read events w =
       let symbols = drawn_symbols events in
       let readable = drawn_symbols_readable events w in
-      rw (images_are events, stream_cut options.format symbols (All-from_recursion IsReadable symbols readable))
+      let drawables = All-map IsDrawable (picture_of options) symbols (All-weaker IsReadable
+      (λ symbol. IsDrawable (picture_of options symbol)) drawable symbols (All-from_recursion IsReadable symbols readable)) in
+      rw (images_are events, stream_cut options.format (map (picture_of options) symbols) drawables)
       (all_read symbols readable)
 
   script_readable : (before : ℕ) (lines : List (List ℕ)) → AllByRecursion AreBytes lines

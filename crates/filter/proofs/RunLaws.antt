@@ -1,28 +1,21 @@
 -- From the calls of a filter to a run over a whole input.
-use Rattle.std.proofs.Common.{◌≡◌, ◌≢◌, ℕ, Result, Ok, Err, List, ◌∷◌, ◌++◌, Bool, subst, sym, ◌∙◌, take, refl}
-use Rattle.std.specs.Prelude.{MatchResult, OnOk}
-use Rattle.std.proofs.lemmas.List.{append-nil}
-use Rattle.device.specs.Device.{Rises, Unflushed}
+use Rattle.std.proofs.Common.{◌≡◌, ◌≢◌, ℕ, ◌-◌, ◌^◌, ◌≤◌, ◌<◌, ◌∙◌, ◌⊎◌, All, Bool, Result, Ok, Err, List, [], ◌++◌, length, true, subst, sym, refl}
+use Rattle.std.specs.Prelude.{IfOk, MatchResult, OnOk}
+use Rattle.device.specs.Device.{Rises}
+use Rattle.device.specs.declared.sink.Sink.{Ghosts as SinkGhosts}
+use Rattle.device.specs.declared.source.Source.{Ghosts as SourceGhosts}
 use Rattle.labelcore.specs.OptionValues.{OptionValues}
-use Rattle.filter.specs.Filter.{CountsFault, FlushesImagesFirst, Stops, Took, fault_of}
-use Rattle.filter.specs.Output.{Channel, Event, Images, Messages, ended_script, script}
-use Rattle.filter.specs.Run.{TookText, RunCounts, IsPassedOn}
+use Rattle.filter.specs.Filter.{CountsFault, FilterState, FlushesImagesFirst, Feeds, FlushesNeither, Sends, Stops}
+use Rattle.filter.specs.Filter.{Took, fault_of, taken}
+use Rattle.filter.specs.Output.{Channel, Images, Messages, ended_script, script, status_of}
+use Rattle.filter.specs.Run.{IsPassedOn, Produces, RunCounts, Runs, TookText}
 use Rattle.filter.specs.declared.status.RunFault.{RunFault}
 use Rattle.filter.specs.declared.status.RunFault.TheVariants.{Read, WriteOut, WriteMessages, Spent}
 use Rattle.filter.specs.declared.status.Status.{Status}
-use Rattle.filter.proofs.OutputLaws.{some_later}
-use Rattle.filter.proofs.ScriptLaws.{Stops-by, Stops-longer, Took-by}
-
--- where the call returned, a fact
-pub at_ok : {T E : Type 0} {P : Type 0} (r : Result T E) → P → OnOk r P
-at_ok (Ok x) holds = holds
-at_ok (Err fault) holds = tt
-
--- at the end the source gives no more
-pub gave_end : (gave : List ℕ → Type 0) (given buffer : List ℕ) (n : ℕ) → n ≡ 0 → gave (given ++ take n buffer)
-    → gave given
-gave_end gave given buffer n none more = subst gave (append-nil given)
-    (subst (λ (k : ℕ). gave (given ++ take k buffer)) none more)
+use Rattle.labelcore.proofs.KeptLaws.{AreInRange}
+use Rattle.filter.proofs.FilterLaws.{ended_script-nil}
+use Rattle.filter.proofs.ReadLaws.{script_of_text_read}
+use Rattle.filter.proofs.ScriptLaws.{Sends-append, Sends-none, Stops-by, Took-by}
 
 -- no sink's fault is that of a read
 not_read : (failed : Channel) → Read ≡ fault_of failed → ⊥
@@ -31,7 +24,7 @@ not_read Messages e = cc
 
 module _ (options : OptionValues) where
   -- what calls of sinks send, as a run's
-  pub TookText-sinks : (took : Channel → List ℕ → Type 0) (text : List ℕ) (r : Result Status RunFault)
+  TookText-sinks : (took : Channel → List ℕ → Type 0) (text : List ℕ) (r : Result Status RunFault)
       → MatchResult r (λ _. Took options took (script options text)) (Stops options took (script options text))
       → TookText options took text r
   TookText-sinks took text (Ok status) h = h
@@ -39,13 +32,6 @@ module _ (options : OptionValues) where
   TookText-sinks took text (Err WriteOut) s = s
   TookText-sinks took text (Err WriteMessages) s = s
   TookText-sinks took text (Err Spent) s = s
-
-  -- a fault in a line that has ended, in the whole script
-  pub Stops-later : (took : Channel → List ℕ → Type 0) (text : List ℕ) (fault : RunFault)
-      → Stops options took (ended_script options text) fault → Stops options took (script options text) fault
-  Stops-later took text fault s = let l = some_later options text in
-      subst (λ (es : List Event). Stops options took es fault) (sym l.cut)
-      (Stops-longer options (l.event ∷ l.later) s)
 
   -- what took a text took it in another sense too
   pub TookText-by : {took took' : Channel → List ℕ → Type 0}
@@ -57,45 +43,23 @@ module _ (options : OptionValues) where
   TookText-by widen text (Err WriteMessages) h = Stops-by options widen h
   TookText-by widen text (Err Spent) h = Stops-by options widen h
 
--- The flush marks of each sink are arguments, at the start, before a call and after it: so are the counts below.
-module _ {first out before err : Bool} (out' err' : Bool) (o : Unflushed first out) (e : Unflushed before err) where
-  -- a fault after calls that flush no sink
-  pub FlushesImagesFirst-fault : (fault : RunFault) → FlushesImagesFirst {T = Unit {0}} out out' err err' (Err fault)
-      → FlushesImagesFirst {T = Unit {0}} first out' before err' (Err fault)
-  FlushesImagesFirst-fault Read f = (λ h. o (f.0 h), λ h. e (f.1 h))
-  FlushesImagesFirst-fault WriteOut f = (λ h. o (f.0 h), λ h. e (f.1 h))
-  FlushesImagesFirst-fault WriteMessages f = λ h. e (f h)
-  FlushesImagesFirst-fault Spent f = (λ h. o (f.0 h), λ h. e (f.1 h))
-
-  pub FlushesImagesFirst-after : {T : Type 0} (r : Result T RunFault) → FlushesImagesFirst out out' err err' r
-      → FlushesImagesFirst first out' before err' r
-  FlushesImagesFirst-after (Ok x) f = f
-  FlushesImagesFirst-after (Err fault) f = FlushesImagesFirst-fault fault f
-
--- in a line no sink is flushed
-pub FlushesImagesFirst-neither : {out out' err err' : Bool} → Unflushed out out' → Unflushed err err'
-    → (fault : RunFault) → FlushesImagesFirst {T = Unit {0}} out out' err err' (Err fault)
-FlushesImagesFirst-neither o e Read = (o, e)
-FlushesImagesFirst-neither o e WriteOut = (o, e)
-FlushesImagesFirst-neither o e WriteMessages = e
-FlushesImagesFirst-neither o e Spent = (o, e)
-
-module _ {first out before err : ℕ} (out' err' : ℕ) (o : out ≡ first) (e : err ≡ before) where
-  -- a fault after calls in which no sink failed
-  pub CountsFault-fault : (fault : RunFault) → CountsFault {T = Unit {0}} out out' err err' (Err fault)
-      → CountsFault {T = Unit {0}} first out' before err' (Err fault)
-  CountsFault-fault Read counts = counts
-  CountsFault-fault WriteOut counts = (subst (λ (n : ℕ). Rises n out') o counts.0, counts.1 ∙ e)
-  CountsFault-fault WriteMessages counts = (counts.0 ∙ o, subst (λ (n : ℕ). Rises n err') e counts.1)
-  CountsFault-fault Spent counts = counts
-
-  pub CountsFault-after : {T : Type 0} (r : Result T RunFault) → CountsFault out out' err err' r
-      → CountsFault first out' before err' r
-  CountsFault-after (Ok x) counts = (counts.0 ∙ o, counts.1 ∙ e)
-  CountsFault-after (Err fault) counts = CountsFault-fault fault counts
+  -- calls of sinks that send the whole script of a text, or stop in it
+  pub Produces-sends : (range : AreInRange options) {gave : List ℕ → Type 0} {took : Channel → List ℕ → Type 0}
+      (text : List ℕ) (r : Result Status RunFault) → gave text → All (λ b. b < 256) text
+      → Sends options took (ended_script options []) (script options text) r
+      → IfOk r (λ status. status ≡ status_of (script options text)) → Produces options gave took r
+  Produces-sends range {gave} {took} text r given bytes sends status =
+      let all = rw (ended_script-nil options) at sends in
+      record {
+        text = text;
+        given = given;
+        sends = TookText-sinks took text r (rw all.grown all.sends);
+        status = status;
+        read = script_of_text_read options range text bytes;
+      }
 
 -- the counts of the sinks, as a run's
-pub RunCounts-sinks : (s s' o o' e e' : ℕ) → s' ≡ s → (r : Result Status RunFault) (text : List ℕ)
+RunCounts-sinks : (s s' o o' e e' : ℕ) → s' ≡ s → (r : Result Status RunFault) (text : List ℕ)
     → CountsFault o o' e e' r → RunCounts (λ old new. new ≡ old) s s' o o' e e' r text
 RunCounts-sinks s s' o o' e e' same (Ok status) text counts = (same, counts.0, counts.1)
 RunCounts-sinks s s' o o' e e' same (Err Read) text counts = absurd counts
@@ -115,3 +79,91 @@ RunCounts-passed left first counted new s s' e e' text WriteOut same passed h =
 RunCounts-passed left first counted new s s' e e' text WriteMessages same passed h =
     (h.0, subst (λ (n : ℕ). IsPassedOn left n new) h.1 (passed (λ w. cc)), h.2)
 RunCounts-passed left first counted new s s' e e' text Spent same passed h = absurd h
+
+-- a call after one in which no sink failed, and none was flushed
+module _ {O E T : Type 0} {out : SinkGhosts O} {err : SinkGhosts E} {o : O} {o' : O} {e : E} {e' : E} {x : T}
+    (first : FlushesNeither {T = T} out err o o' e e' (Ok x)) where
+  pub CountsFault-after : {U : Type 0} (o'' e'' : ℕ) (r : Result U RunFault)
+      → CountsFault (out.failures o') o'' (err.failures e') e'' r → CountsFault (out.failures o) o'' (err.failures e) e'' r
+  CountsFault-after o'' e'' r counts = rw (first.counts.0, first.counts.1) at counts
+
+  pub FlushesNeither-append : {U : Type 0} {o'' : O} {e'' : E} (r : Result U RunFault)
+      → FlushesNeither {T = U} out err o' o'' e' e'' r → FlushesNeither {T = U} out err o o'' e e'' r
+  FlushesNeither-append r next = record {
+    counts = CountsFault-after _ _ r next.counts;
+    out_unflushed = λ h. first.out_unflushed (next.out_unflushed h);
+    err_unflushed = λ h. first.err_unflushed (next.err_unflushed h);
+  }
+
+  pub FlushesImagesFirst-after : {U : Type 0} (o'' e'' : Bool) (r : Result U RunFault)
+      → FlushesImagesFirst (out.is_flushed o') o'' (err.is_flushed e') e'' r
+      → FlushesImagesFirst (out.is_flushed o) o'' (err.is_flushed e) e'' r
+  FlushesImagesFirst-after o'' e'' (Ok y) marks = marks
+  FlushesImagesFirst-after o'' e'' (Err fault) marks =
+      (λ other h. first.out_unflushed (marks.0 other h), λ h. first.err_unflushed (marks.1 h))
+
+-- a run so far: the filter was fed what the source gave, each turn gave a byte or more, and no device failed
+pub record HasRun {S O E : Type 0} (source : SourceGhosts S) (out : SinkGhosts O) (err : SinkGhosts E)
+    (options : OptionValues) (s s' : S) (o o' : O) (e e' : E) (state : FilterState) (given : List ℕ) : Type 0 where
+  pub gave : source.gave s s' given
+  pub count : source.failures s' ≡ source.failures s
+  pub fed : Feeds {T = Unit {0}} options (taken (out.took o o') (err.took e e')) state [] given (Ok tt)
+  pub sinks : FlushesNeither {T = Unit {0}} out err o o' e e' (Ok tt)
+
+module _ {S O E : Type 0} {source : SourceGhosts S} {out : SinkGhosts O} {err : SinkGhosts E}
+    (out_joined : (s t u : O) (xs ys : List ℕ) → out.took s t xs → out.took t u ys → out.took s u (xs ++ ys))
+    (err_joined : (s t u : E) (xs ys : List ℕ) → err.took s t xs → err.took t u ys → err.took s u (xs ++ ys))
+    {options : OptionValues} {s : S} {s' : S} {o : O} {o' : O} {e : E} {e' : E} {state : FilterState} {given : List ℕ}
+    (h : HasRun source out err options s s' o o' e e' state given) where
+  -- a call of the filter or of a sink that succeeds, and flushes nothing
+  pub HasRun-append : {s'' : S} {o'' : O} {e'' : E} {state' : FilterState} {text : List ℕ}
+      → source.gave s s'' text → source.failures s'' ≡ source.failures s'
+      → Feeds {T = Unit {0}} options (taken (out.took o' o'') (err.took e' e'')) state' given text (Ok tt)
+      → FlushesNeither {T = Unit {0}} out err o' o'' e' e'' (Ok tt)
+      → HasRun source out err options s s'' o o'' e e'' state' text
+  HasRun-append gave count fed sinks = record {
+    gave = gave;
+    count = count ∙ h.count;
+    fed = record { sends = Sends-append out_joined err_joined options (Ok tt) h.fed.sends fed.sends; is_after = fed.is_after };
+    sinks = FlushesNeither-append h.sinks (Ok tt) sinks;
+  }
+
+  -- what the sink of the images buffers is passed on
+  pub HasRun-passed : {o'' : O} → out.took o' o'' [] → err.took e' e' [] → out.failures o'' ≡ out.failures o'
+      → out.is_flushed o'' ≡ out.is_flushed o' → HasRun source out err options s s' o o'' e e' state given
+  HasRun-passed none_out none_err count marks = HasRun-append h.gave refl
+      (record { sends = Sends-none options tt refl none_out none_err; is_after = h.fed.is_after })
+      (record { counts = (count, refl); out_unflushed = λ is. sym marks ∙ is; err_unflushed = λ is. is })
+
+  -- the run ends in a call of the filter or of a sink
+  pub Runs-after : {s'' : S} {o'' : O} {e'' : E} (text : List ℕ) (r : Result Status RunFault)
+      → source.gave s s'' text → source.failures s'' ≡ source.failures s' → All (λ b. b < 256) text
+      → Sends options (taken (out.took o' o'') (err.took e' e'')) (ended_script options given) (script options text) r
+      → IfOk r (λ status. status ≡ status_of (script options text))
+      → OnOk r ((source.at_end s'' ≡ true) × source.ends s'')
+      → CountsFault (out.failures o') (out.failures o'') (err.failures e') (err.failures e'') r
+      → FlushesImagesFirst (out.is_flushed o') (out.is_flushed o'') (err.is_flushed e') (err.is_flushed e'') r
+      → Runs source out err (λ old new. new ≡ old) options s s'' o o'' e e'' r
+  Runs-after text r gave count bytes sends status ended counts marks = record {
+    produces = Produces-sends options h.fed.is_after.range text r
+        (gave, RunCounts-sinks _ _ _ _ _ _ (count ∙ h.count) r text (CountsFault-after h.sinks _ _ r counts)) bytes
+        (Sends-append out_joined err_joined options r h.fed.sends sends) status;
+    ended = ended;
+    flushed = FlushesImagesFirst-after h.sinks _ _ r marks;
+  }
+
+  -- the run ends in a read
+  pub Runs-read : {s'' : S} → source.gave s s'' given → (Rises (source.failures s) (source.failures s'')
+      ⊎ ((source.failures s'' ≡ source.failures s) × (2 ^ 64 - 1 ≤ length given)))
+      → Runs source out err (λ old new. new ≡ old) options s s'' o o' e e' (Err Read)
+  Runs-read gave counts = let sends = rw (ended_script-nil options) at h.fed.sends in record {
+    produces = record {
+      text = given;
+      given = (gave, (counts, h.sinks.counts.0, h.sinks.counts.1));
+      sends = rw sends.grown sends.sends;
+      status = tt;
+      read = script_of_text_read options h.fed.is_after.range given h.fed.is_after.bytes;
+    };
+    ended = tt;
+    flushed = (λ other. h.sinks.out_unflushed, h.sinks.err_unflushed);
+  }

@@ -49,6 +49,15 @@ module _ (options : OptionValues) where
   Stops-first took failed event later none = event_stops took failed event later
       ([], (bytes_for options failed event, refl), none failed) (none (other failed))
 
+  -- a call that sends nothing
+  pub Sends-none : {T : Type 0} (x : T) {out err : List ℕ → Type 0} {before after : List Event} → after ≡ before → out []
+      → err [] → Sends {T = T} options (taken out err) before after (Ok x)
+  Sends-none x {out} {err} {before} same none_out none_err = record {
+    added = [];
+    grown = same ∙ sym (append-nil before);
+    sends = none_taken out err none_out none_err;
+  }
+
   pub Stops-longer : {took : Channel → List ℕ → Type 0} {events : List Event} {fault : RunFault} (more : List Event)
       → Stops options took events fault → Stops options took (events ++ more) fault
   Stops-longer more s = record {
@@ -60,6 +69,16 @@ module _ (options : OptionValues) where
     cut = ap (λ (es : List Event). es ++ more) s.cut ∙ append_assoc s.done (s.event ∷ s.later) more;
     own = s.own;
     others = s.others;
+  }
+
+  -- a call that failed, in a longer script
+  pub Sends-longer : {T U : Type 0} {took : Channel → List ℕ → Type 0} {before middle after : List Event} {fault : RunFault}
+      (more : List Event) → after ≡ middle ++ more → Sends {T = T} options took before middle (Err fault)
+      → Sends {T = U} options took before after (Err fault)
+  Sends-longer {before = before} more cut s = record {
+    added = s.added ++ more;
+    grown = cut ∙ (ap (λ (es : List Event). es ++ more) s.grown ∙ append_assoc before s.added more);
+    sends = Stops-longer more s.sends;
   }
 
   -- what took a text took it in another sense too
@@ -81,114 +100,43 @@ module _ (options : OptionValues) where
       others = widen (other s.failed) (sent options (other s.failed) s.done) s.others;
     }
 
-  -- a call that sends all of a script
-  pub Sends-all : {T : Type 0} {took : Channel → List ℕ → Type 0} {r : Result T RunFault} (events : List Event)
-      → MatchResult r (λ _. Took options took events) (Stops options took events) → Sends options took [] events r
-  Sends-all events s = record { added = events; grown = refl; sends = s }
-
-  -- a line's or a flush's part of a script
-  pub Sends-ok : {T U : Type 0} {took : Channel → List ℕ → Type 0} {events : List Event} {x : T} (y : U)
-      (before after : List Event) → after ≡ before ++ events → Sends {T = T} options took [] events (Ok x)
-      → Sends {T = U} options took before after (Ok y)
-  Sends-ok y before after cut s =
-      record { added = s.added; grown = cut ∙ ap (λ (es : List Event). before ++ es) s.grown; sends = s.sends }
-
-  pub Sends-err : {T U : Type 0} {took : Channel → List ℕ → Type 0} {events : List Event} {fault : RunFault}
-      (before after : List Event) → after ≡ before ++ events → Sends {T = T} options took [] events (Err fault)
-      → Sends {T = U} options took before after (Err fault)
-  Sends-err before after cut s =
-      record { added = s.added; grown = cut ∙ ap (λ (es : List Event). before ++ es) s.grown; sends = s.sends }
-
-  -- a call that failed, in a longer script
-  pub Sends-longer : {T : Type 0} {took : Channel → List ℕ → Type 0} {before middle : List Event} {fault : RunFault}
-      (after more : List Event) → after ≡ middle ++ more → Sends {T = T} options took before middle (Err fault)
-      → Sends {T = T} options took before after (Err fault)
-  Sends-longer {before = before} after more cut s = record {
-    added = s.added ++ more;
-    grown = cut ∙ (ap (λ (es : List Event). es ++ more) s.grown ∙ append_assoc before s.added more);
-    sends = Stops-longer more s.sends;
-  }
-
-  -- a call that sends nothing
-  pub Sends-none : {T : Type 0} (x : T) (took : Channel → List ℕ → Type 0) (before after : List Event) → after ≡ before
-      → ((channel : Channel) → took channel []) → Sends {T = T} options took before after (Ok x)
-  Sends-none x took before after same none =
-      record { added = []; grown = same ∙ sym (append-nil before); sends = none }
-
 -- calls one after another, at sinks whose states are O and E
 module _ {O E : Type 0} {out : O → O → List ℕ → Type 0} {err : E → E → List ℕ → Type 0}
     (out_joined : (s t u : O) (xs ys : List ℕ) → out s t xs → out t u ys → out s u (xs ++ ys))
-    (err_joined : (s t u : E) (xs ys : List ℕ) → err s t xs → err t u ys → err s u (xs ++ ys)) where
+    (err_joined : (s t u : E) (xs ys : List ℕ) → err s t xs → err t u ys → err s u (xs ++ ys))
+    (options : OptionValues) where
   joined : (o o' o'' : O) (e e' e'' : E) (channel : Channel) (xs ys : List ℕ) → taken (out o o') (err e e') channel xs
       → taken (out o' o'') (err e' e'') channel ys → taken (out o o'') (err e e'') channel (xs ++ ys)
   joined o o' o'' e e' e'' Images xs ys first second = out_joined o o' o'' xs ys first second
   joined o o' o'' e e' e'' Messages xs ys first second = err_joined e e' e'' xs ys first second
 
-  module _ (options : OptionValues) where
-    joined_sent : (o o' o'' : O) (e e' e'' : E) (xs : List Event) (channel : Channel) (ys : List Event) (bytes : List ℕ)
-        → taken (out o o') (err e e') channel (sent options channel xs)
-        → taken (out o' o'') (err e' e'') channel (sent options channel ys ++ bytes)
-        → taken (out o o'') (err e e'') channel (sent options channel (xs ++ ys) ++ bytes)
-    joined_sent o o' o'' e e' e'' xs channel ys bytes h k = subst (taken (out o o'') (err e e'') channel)
-        (sym (ap (λ (bs : List ℕ). bs ++ bytes) (flat_map-append (bytes_for options channel) xs ys)
-        ∙ append_assoc (sent options channel xs) (sent options channel ys) bytes))
-        (joined o o' o'' e e' e'' channel (sent options channel xs) (sent options channel ys ++ bytes) h k)
+  -- the events of both calls
+  pub both : (o o' o'' : O) (e e' e'' : E) {T : Type 0} (xs ys : List Event) (r : Result T RunFault)
+      → Took options (taken (out o o') (err e e')) xs → MatchResult r (λ _. Took options (taken (out o' o'') (err e' e'')) ys)
+      (Stops options (taken (out o' o'') (err e' e'')) ys)
+      → MatchResult r (λ _. Took options (taken (out o o'') (err e e'')) (xs ++ ys))
+      (Stops options (taken (out o o'') (err e e'')) (xs ++ ys))
+  both o o' o'' e e' e'' xs ys (Ok x) h k =
+      λ channel. rw flat_map-append (joined o o' o'' e e' e'' channel _ _ (h channel) (k channel))
+  both o o' o'' e e' e'' xs ys (Err fault) h s = record {
+    failed = s.failed;
+    fault_is = s.fault_is;
+    done = xs ++ s.done;
+    event = s.event;
+    later = s.later;
+    cut = ap (λ (es : List Event). xs ++ es) s.cut ∙ sym (append_assoc xs s.done (s.event ∷ s.later));
+    own = (s.own.0, s.own.1,
+        rw (flat_map-append, append_assoc) (joined o o' o'' e e' e'' s.failed _ _ (h s.failed) s.own.2));
+    others = rw flat_map-append (joined o o' o'' e e' e'' (other s.failed) _ _ (h (other s.failed)) s.others);
+  }
 
-    joined_events : (o o' o'' : O) (e e' e'' : E) (xs : List Event) (channel : Channel) (ys : List Event)
-        → taken (out o o') (err e e') channel (sent options channel xs)
-        → taken (out o' o'') (err e' e'') channel (sent options channel ys)
-        → taken (out o o'') (err e e'') channel (sent options channel (xs ++ ys))
-    joined_events o o' o'' e e' e'' xs channel ys h k = subst (taken (out o o'') (err e e'') channel)
-        (sym (flat_map-append (bytes_for options channel) xs ys))
-        (joined o o' o'' e e' e'' channel (sent options channel xs) (sent options channel ys) h k)
-
-    -- the events of both calls
-    both : (o o' o'' : O) (e e' e'' : E) {T : Type 0} (xs ys : List Event) (r : Result T RunFault)
-        → Took options (taken (out o o') (err e e')) xs
-        → MatchResult r (λ _. Took options (taken (out o' o'') (err e' e'')) ys)
-        (Stops options (taken (out o' o'') (err e' e'')) ys)
-        → MatchResult r (λ _. Took options (taken (out o o'') (err e e'')) (xs ++ ys))
-        (Stops options (taken (out o o'') (err e e'')) (xs ++ ys))
-    both o o' o'' e e' e'' xs ys (Ok x) h k =
-        λ channel. joined_events o o' o'' e e' e'' xs channel ys (h channel) (k channel)
-    both o o' o'' e e' e'' xs ys (Err fault) h s = record {
-      failed = s.failed;
-      fault_is = s.fault_is;
-      done = xs ++ s.done;
-      event = s.event;
-      later = s.later;
-      cut = ap (λ (es : List Event). xs ++ es) s.cut ∙ sym (append_assoc xs s.done (s.event ∷ s.later));
-      own = (s.own.0, s.own.1, joined_sent o o' o'' e e' e'' xs s.failed s.done s.own.0 (h s.failed) s.own.2);
-      others = joined_events o o' o'' e e' e'' xs (other s.failed) s.done (h (other s.failed)) s.others;
-    }
-
-    module _ {o : O} {o' : O} {o'' : O} {e : E} {e' : E} {e'' : E} where
-      -- the second call takes nothing
-      pub Took-then_none : (events : List Event) → Took options (taken (out o o') (err e e')) events → out o' o'' []
-          → err e' e'' [] → Took options (taken (out o o'') (err e e'')) events
-      Took-then_none events h none_out none_err = λ channel.
-          subst (taken (out o o'') (err e e'') channel) (append-nil (sent options channel events))
-          (joined o o' o'' e e' e'' channel (sent options channel events) [] (h channel)
-          (none_taken (out o' o'') (err e' e'') none_out none_err channel))
-
-      pub Sends-append : {T U : Type 0} {x : U} (r : Result T RunFault) {before middle after : List Event}
-          → Sends {T = U} options (taken (out o o') (err e e')) before middle (Ok x)
-          → Sends {T = T} options (taken (out o' o'') (err e' e'')) middle after r
-          → Sends {T = T} options (taken (out o o'') (err e e'')) before after r
-      Sends-append r {before} first second = record {
-        added = first.added ++ second.added;
-        grown = second.grown ∙ (ap (λ (es : List Event). es ++ second.added) first.grown
-            ∙ append_assoc before first.added second.added);
-        sends = both o o' o'' e e' e'' first.added second.added r first.sends second.sends;
-      }
-
-      -- from the beginning of a script
-      pub Sends-whole : {T : Type 0} (r : Result T RunFault) (before after : List Event)
-          → Took options (taken (out o o') (err e e')) before
-          → Sends {T = T} options (taken (out o' o'') (err e' e'')) before after r
-          → MatchResult r (λ _. Took options (taken (out o o'') (err e e'')) after)
-          (Stops options (taken (out o o'') (err e e'')) after)
-      Sends-whole r before after h s = subst
-          (λ (es : List Event). MatchResult r (λ _. Took options (taken (out o o'') (err e e'')) es)
-          (Stops options (taken (out o o'') (err e e'')) es)) (sym s.grown)
-          (both o o' o'' e e' e'' before s.added r h s.sends)
+  pub Sends-append : {o o' o'' : O} {e e' e'' : E} {T U : Type 0} {x : U} (r : Result T RunFault)
+      {before middle after : List Event} → Sends {T = U} options (taken (out o o') (err e e')) before middle (Ok x)
+      → Sends {T = T} options (taken (out o' o'') (err e' e'')) middle after r
+      → Sends {T = T} options (taken (out o o'') (err e e'')) before after r
+  Sends-append {o} {o'} {o''} {e} {e'} {e''} r {before} one two = record {
+    added = one.added ++ two.added;
+    grown = two.grown
+        ∙ (ap (λ (es : List Event). es ++ two.added) one.grown ∙ append_assoc before one.added two.added);
+    sends = both o o' o'' e e' e'' one.added two.added r one.sends two.sends;
+  }

@@ -2,13 +2,18 @@
 -- Why: `FilterState`, `IsAfter`: what a `Filter` keeps, and what it was fed; `Took`, `Stops`, `Sends`: what `feed`,
 -- `finish` and `run` promise of their sinks.
 use Rattle.std.specs.Prelude.{◌≡◌, ℕ, ◌-◌, ◌^◌, ◌<◌, min, All, Bool, true, false, List, ◌∷◌, ◌++◌, length, Result, Ok, Err}
-use Rattle.std.specs.Prelude.{MatchResult}
+use Rattle.std.specs.Prelude.{◌≢◌, IfOk, MatchResult, OnOk}
 use Rattle.device.specs.Device.{Begins, Rises, Unflushed}
 use Rattle.device.specs.Lines.{ended_lines, open_line}
+use Rattle.device.specs.Writing.{WritesText}
 use Rattle.device.specs.declared.sink.Sink.{Ghosts}
+use Rattle.labelcore.specs.declared.fault.Fault.{Fault}
 use Rattle.labelcore.specs.HeldLine.{HeldLine, held_line}
+use Rattle.labelcore.specs.LineItem.{Outcome, refused}
 use Rattle.labelcore.specs.OptionValues.{OptionValues, IsInRange}
-use Rattle.filter.specs.Output.{Event, Channel, Images, Messages, bytes_for, ended_script, sent, status_of}
+use Rattle.filter.specs.Output.{Event, Channel, Images, Messages, bytes_for, ended_script, image_of, sent}
+use Rattle.filter.specs.Output.{status_of}
+use Rattle.filter.specs.Symbol.{Symbol}
 use Rattle.filter.specs.declared.status.RunFault.{RunFault}
 use Rattle.filter.specs.declared.status.RunFault.TheVariants.{WriteOut, WriteMessages}
 use Rattle.filter.specs.declared.status.Status.{Status}
@@ -70,6 +75,12 @@ pub record Sends {T : Type 0} (options : OptionValues) (took : Channel → List 
   pub grown : after ≡ before ++ added
   pub sends : MatchResult r (λ _. Took options took added) (Stops options took added)
 
+-- a call of a filter that was fed one text: it feeds it up to another, and sends what the lines that this ends send
+pub record Feeds {T : Type 0} (options : OptionValues) (took : Channel → List ℕ → Type 0) (state : FilterState)
+    (before after : List ℕ) (r : Result T RunFault) : Type 0 where
+  pub sends : Sends options took (ended_script options before) (ended_script options after) r
+  pub is_after : OnOk r (IsAfter options state after)
+
 -- The counts of failures of the images' sink, `o`, and of the messages' sink, `e`: at `Ok` none rises, at `Err` that of the
 -- sink that failed.
 abbrev pub CountsFault : {T : Type 0} → (o o' e e' : ℕ) → Result T RunFault → Type 0
@@ -82,8 +93,7 @@ CountsFault o o' e e' (Err fault) = ⊥
 -- the messages failed, since they are flushed first.
 abbrev pub FlushesImagesFirst : {T : Type 0} → (o o' e e' : Bool) → Result T RunFault → Type 0
 FlushesImagesFirst o o' e e' (Ok x) = (o' ≡ true) × (e' ≡ true)
-FlushesImagesFirst o o' e e' (Err WriteMessages) = Unflushed e e'
-FlushesImagesFirst o o' e e' (Err fault) = Unflushed o o' × Unflushed e e'
+FlushesImagesFirst o o' e e' (Err fault) = (fault ≢ WriteMessages → Unflushed o o') × Unflushed e e'
 
 -- a call that flushes nothing: the count of the sink that failed rises, and a sink that is flushed now was so before
 pub record FlushesNeither {O E T : Type 0} (out : Ghosts O) (err : Ghosts E) (o o' : O) (e e' : E) (r : Result T RunFault)
@@ -91,3 +101,14 @@ pub record FlushesNeither {O E T : Type 0} (out : Ghosts O) (err : Ghosts E) (o 
   pub counts : CountsFault (out.failures o) (out.failures o') (err.failures e) (err.failures e') r
   pub out_unflushed : Unflushed (out.is_flushed o) (out.is_flushed o')
   pub err_unflushed : Unflushed (err.is_flushed e) (err.is_flushed e')
+
+-- the refusal of what is not drawn
+abbrev pub refusal_of : Outcome Symbol → Result (Unit {0}) Fault
+refusal_of (refused fault) = Err fault
+refusal_of other = Ok tt
+
+-- the image is written, or nothing where there is none; and a refusal is returned
+pub record DrawsOutcome {S E : Type 0} (sink : Ghosts S) (old new : S) (options : OptionValues)
+    (outcome : Outcome Symbol) (r : Result (Result (Unit {0}) Fault) E) : Type 0 where
+  pub writes : WritesText sink old new (image_of options outcome) r
+  pub refusal : IfOk r (λ drawn. drawn ≡ refusal_of outcome)

@@ -6,7 +6,7 @@ ghost use Rattle.labelcore.specs.declared.symbology.Symbology.TheVariants.{Qr};
 ghost use Rattle.linear.specs.declared.limits.TheConstants.{MAX_MODULES};
 ghost use Rattle.picture.specs.Picture.{bars, symbol_picture};
 ghost use Rattle.qrdata.specs.Fewest.{chosen_segments};
-ghost use Rattle.filter.specs.Drawing.{DrawsOutcome};
+ghost use Rattle.filter.specs.Filter.{DrawsOutcome};
 ghost use Rattle.filter.specs.Output.{image_of, text_of};
 ghost use Rattle.filter.specs.Readback.{IsRead};
 ghost use Rattle.filter.specs.Private.{beside, image_in};

@@ -1,15 +1,15 @@
 //! The filter, fed piece by piece.
-ghost use Rattle.std.specs.Prelude.{◌≡◌, ℕ, ◌<◌, true, false, All, List, [], ◌∷◌, ◌++◌, Err, IfOk, OnOk, OnErr};
-ghost use Rattle.device.specs.Lines.{lines};
+ghost use Rattle.std.specs.Prelude.{◌≡◌, ℕ, ◌<◌, true, false, All, List, [], ◌∷◌, ◌++◌, Err, IfOk, MatchResult, OnErr};
+ghost use Rattle.device.specs.Lines.{HasNoLF, LF};
 ghost use Rattle.labelcore.specs.OptionValues.{OptionValues};
 ghost use Rattle.filter.specs.Filter.{CountsFault, FilterState, FlushesImagesFirst, FlushesNeither, IsAfter};
-ghost use Rattle.filter.specs.Filter.{Sends, taken};
-ghost use Rattle.filter.specs.Output.{ended_script, events_after, flushes, script, status_of};
+ghost use Rattle.filter.specs.Filter.{Feeds, Sends, Stops, Took, taken};
+ghost use Rattle.filter.specs.Output.{ended_script, flushes, script, status_of};
 
 use crate::line::finish_line;
 use crate::status::{RunFault, Status};
 use device::Sink;
-use labelcore::{LineBuf, Options};
+use labelcore::{LineBuf, Options, split_line};
 use std::marker::Model;
 
 /// A filter that is fed its input piece by piece. Between pieces it keeps at most 1,100 bytes of the line that is not
@@ -52,25 +52,23 @@ impl Filter {
         }
     }
 
-    /// Takes one byte.
-    fn feed_byte<O: Sink, E: Sink>(
-        &mut self,
-        byte: u8,
-        out: &mut O,
-        err: &mut E,
-    ) -> Result<(), RunFault>
-        ensures sends { (options : OptionValues) (text : List ℕ) → IsAfter options self.old text
-            → Sends options (taken (O.took out.old out.new) (E.took err.old err.new))
-            (ended_script options text) (ended_script options (text ++ byte ∷ [])) result }
-        ensures after { (options : OptionValues) (text : List ℕ) → IsAfter options self.old text
-            → OnOk result (IsAfter options self.new (text ++ byte ∷ [])) }
+    /// Holds bytes of the open line.
+    fn hold(&mut self, bytes: &[u8])
+        requires { HasNoLF bytes.now }
+        ensures { (options : OptionValues) (text : List ℕ) → IsAfter options self.old text
+            → IsAfter options self.new (text ++ bytes.now) }
+    {
+        self.line.extend(bytes);
+    }
+
+    /// Takes the LF that ends the open line.
+    fn end_line<O: Sink, E: Sink>(&mut self, out: &mut O, err: &mut E) -> Result<(), RunFault>
+        ensures feeds { (options : OptionValues) (text : List ℕ) → IsAfter options self.old text
+            → Feeds options (taken (O.took out.old out.new) (E.took err.old err.new)) self.new
+            text (text ++ LF ∷ []) result }
         ensures spent { OnErr result (self.new.is_spent ≡ true) }
         ensures sinks { FlushesNeither O.Sink E.Sink out.old out.new err.old err.new result }
     {
-        if byte != b'\n' {
-            self.line.push(byte);
-            return Ok(());
-        }
         self.line_count = self.line_count.saturating_add(1);
         match finish_line(&self.options, &self.line, self.line_count, out, err) {
             Ok(status) => {
@@ -98,11 +96,9 @@ impl Filter {
         out: &mut O,
         err: &mut E,
     ) -> Result<(), RunFault>
-        ensures sends { (options : OptionValues) (text : List ℕ) → IsAfter options self.old text
-            → Sends options (taken (O.took out.old out.new) (E.took err.old err.new))
-            (ended_script options text) (ended_script options (text ++ piece.now)) result }
-        ensures after { (options : OptionValues) (text : List ℕ) → IsAfter options self.old text
-            → OnOk result (IsAfter options self.new (text ++ piece.now)) }
+        ensures feeds { (options : OptionValues) (text : List ℕ) → IsAfter options self.old text
+            → Feeds options (taken (O.took out.old out.new) (E.took err.old err.new)) self.new
+            text (text ++ piece.now) result }
         ensures bytes { All (λ b. b < 256) piece.now }
         ensures sinks { self.old.is_spent ≡ false
             → FlushesNeither O.Sink E.Sink out.old out.new err.old err.new result }
@@ -114,9 +110,13 @@ impl Filter {
         if self.is_spent {
             return Err(RunFault::Spent);
         }
-        for byte in piece {
-            self.feed_byte(*byte, out, err)?;
+        let mut rest = piece;
+        while let Some((line, later)) = split_line(rest) {
+            self.hold(line);
+            self.end_line(out, err)?;
+            rest = later;
         }
+        self.hold(rest);
         Ok(())
     }
 
@@ -127,7 +127,7 @@ impl Filter {
     ///
     /// `WriteOut` where a call of `out` failed, `WriteMessages` where one of `err` did, in that line or in a flush. A
     /// filter that was spent returns `Spent` and calls no sink.
-    pub fn finish<O: Sink, E: Sink>(self, out: &mut O, err: &mut E) -> Result<Status, RunFault>
+    pub fn finish<O: Sink, E: Sink>(mut self, out: &mut O, err: &mut E) -> Result<Status, RunFault>
         ensures sends { (options : OptionValues) (text : List ℕ) → IsAfter options self text
             → Sends options (taken (O.took out.old out.new) (E.took err.old err.new))
             (ended_script options text) (script options text) result }
@@ -144,39 +144,30 @@ impl Filter {
         if self.is_spent {
             return Err(RunFault::Spent);
         }
-        let status = self.finish_open_line(out, err)?;
+        self.end_open_line(out, err)?;
         flush_both(out, err)?;
-        Ok(status)
+        Ok(self.status)
     }
 
-    /// Writes the image or the message of the last line, if no LF ends it. Returns the status of all lines.
-    fn finish_open_line<O: Sink, E: Sink>(
-        &self,
-        out: &mut O,
-        err: &mut E,
-    ) -> Result<Status, RunFault>
-        ensures sends { (options : OptionValues) (text : List ℕ) → IsAfter options self.now text
-            → Sends options (taken (O.took out.old out.new) (E.took err.old err.new))
-            (ended_script options text) (events_after options 0 (lines text)) result }
-        ensures status { (options : OptionValues) (text : List ℕ) → IsAfter options self.now text
-            → IfOk result (λ status. status ≡ status_of (events_after options 0 (lines text))) }
+    /// Ends the open line, if it has a byte.
+    fn end_open_line<O: Sink, E: Sink>(&mut self, out: &mut O, err: &mut E) -> Result<(), RunFault>
+        ensures feeds { (options : OptionValues) (text : List ℕ) → IsAfter options self.old text → (all : List ℕ)
+            × (script options text ≡ ended_script options all ++ flushes ∷ [])
+            × Feeds options (taken (O.took out.old out.new) (E.took err.old err.new)) self.new text all result }
         ensures sinks { FlushesNeither O.Sink E.Sink out.old out.new err.old err.new result }
     {
         if self.line.is_empty() {
-            return Ok(self.status);
+            return Ok(());
         }
-        let number = self.line_count.saturating_add(1);
-        match finish_line(&self.options, &self.line, number, out, err) {
-            Ok(status) => Ok(self.status.worst(status)),
-            Err(fault) => Err(fault),
-        }
+        self.end_line(out, err)
     }
 }
 
 /// Flushes the images, and then the messages.
 fn flush_both<O: Sink, E: Sink>(out: &mut O, err: &mut E) -> Result<(), RunFault>
-    ensures sends { (options : OptionValues)
-        → Sends options (taken (O.took out.old out.new) (E.took err.old err.new)) [] (flushes ∷ []) result }
+    ensures sends { (options : OptionValues) → MatchResult result
+        (λ _. Took options (taken (O.took out.old out.new) (E.took err.old err.new)) (flushes ∷ []))
+        (Stops options (taken (O.took out.old out.new) (E.took err.old err.new)) (flushes ∷ [])) }
     ensures flushed { FlushesImagesFirst (O.is_flushed out.old) (O.is_flushed out.new)
         (E.is_flushed err.old) (E.is_flushed err.new) result }
     ensures counts { CountsFault (O.failures out.old) (O.failures out.new)

@@ -1,12 +1,11 @@
 //! What is done at the end of a line.
-ghost use Rattle.std.specs.Prelude.{◌≡◌, ℕ, List, [], ◌∷◌, IfOk};
+ghost use Rattle.std.specs.Prelude.{◌≡◌, ℕ, List, [], ◌∷◌, IfOk, MatchResult};
 ghost use Rattle.labelcore.specs.HeldLine.{held_line};
 ghost use Rattle.labelcore.specs.ItemView.{item_seen};
 ghost use Rattle.labelcore.specs.LineItem.{HasData, KeepsRun, refused};
 ghost use Rattle.labelcore.specs.OptionValues.{OptionValues};
-ghost use Rattle.filter.specs.Drawing.{DrawsOutcome};
 ghost use Rattle.filter.specs.Output.{of_line, outcome, outcome_of_item, status_of};
-ghost use Rattle.filter.specs.Filter.{FlushesNeither, Sends, taken};
+ghost use Rattle.filter.specs.Filter.{DrawsOutcome, FlushesNeither, Stops, Took, taken};
 
 use crate::drawing::draw;
 use crate::status::{RunFault, Status};
@@ -26,8 +25,9 @@ pub fn finish_line<O: Sink, E: Sink>(
     err: &mut E,
 ) -> Result<Status, RunFault>
     ensures sends { (text : List ℕ) → line.now ≡ held_line text
-        → Sends options.now (taken (O.took out.old out.new) (E.took err.old err.new))
-        [] (of_line number (outcome options.now text) ∷ []) result }
+        → MatchResult result (λ _. Took options.now (taken (O.took out.old out.new) (E.took err.old err.new))
+        (of_line number (outcome options.now text) ∷ [])) (Stops options.now
+        (taken (O.took out.old out.new) (E.took err.old err.new)) (of_line number (outcome options.now text) ∷ [])) }
     ensures status { (text : List ℕ) → line.now ≡ held_line text → IfOk result (λ status.
         status ≡ status_of (of_line number (outcome options.now text) ∷ [])) }
     ensures sinks { FlushesNeither O.Sink E.Sink out.old out.new err.old err.new result }
@@ -62,9 +62,11 @@ fn refuse<O: Sink, E: Sink>(
     out: &mut O,
     err: &mut E,
 ) -> Result<Status, RunFault>
-    ensures sends { (options : OptionValues)
-        → Sends options (taken (O.took out.old out.new) (E.took err.old err.new))
-        [] (of_line number (refused fault.now) ∷ []) result }
+    ensures sends { (options : OptionValues) → MatchResult result
+        (λ _. Took options (taken (O.took out.old out.new) (E.took err.old err.new))
+        (of_line number (refused fault.now) ∷ []))
+        (Stops options (taken (O.took out.old out.new) (E.took err.old err.new))
+        (of_line number (refused fault.now) ∷ [])) }
     ensures status { IfOk result (λ status. status ≡ Status.Refused) }
     ensures sinks { FlushesNeither O.Sink E.Sink out.old out.new err.old err.new result }
 {

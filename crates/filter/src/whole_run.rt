@@ -28,9 +28,9 @@ pub fn run<S: Source, O: Sink, E: Sink>(
     let mut buffer = [0u8; 4096];
     for _turn in 0..u64::MAX {
         // A read may wait for input, so the images of earlier lines are passed on first.
-        if out.pass_on().is_err() {
+        let Ok(()) = out.pass_on() else {
             return Err(RunFault::WriteOut);
-        }
+        };
         let Ok(count) = source.read(&mut buffer) else {
             return Err(RunFault::Read);
         };

@@ -1,24 +1,51 @@
-use Rattle.std.proofs.Common.{◌∙◌, ℕ, [], ap, refl, sym, subst}
+use Rattle.std.proofs.Common.{◌∙◌, [], ap, refl, sym, subst, ◌≡◌, ℕ, List, ◌∷◌, Ok, Err}
 use Rattle.labelcore.specs.ItemView.{item_seen}
-use Rattle.filter.specs.Filter.{CountsFault, taken}
-use Rattle.filter.specs.Output.{Images, image_of, of_line, outcome_of_item}
-use Rattle.filter.proofs.LineLaws.{drawn_message, drawn_status, outcome-seen, refused_outcome, refused_status}
-use Rattle.filter.proofs.ScriptLaws.{event_stops, event_took, none_taken, Sends-all, Sends-append, Sends-none}
+use Rattle.labelcore.specs.LineItem.{refused, Outcome, Request, skipped, drawn, item}
+use Rattle.filter.specs.Output.{Images, image_of, of_line, outcome_of_item, message_of, outcome, status_of}
+use Rattle.filter.proofs.ScriptLaws.{both, event_stops, event_took, none_taken}
+use Rattle.labelcore.specs.OptionValues.{OptionValues}
+use Rattle.labelcore.specs.declared.fault.Fault.{Fault}
+use Rattle.filter.specs.Symbol.{Symbol}
+use Rattle.filter.specs.declared.status.Status.TheVariants.{Clean, Refused}
+use Rattle.filter.specs.Filter.{refusal_of, taken}
 use Rattle.filter.proofs.line.finish_line.Goals as goal
+
+-- what is drawn of a line, by its item
+outcome-seen : (options : OptionValues) (line : List ℕ) (seen : Outcome Request) → seen ≡ item options line
+    → outcome options line ≡ outcome_of_item seen
+unfolding outcome
+outcome-seen options line seen same = ap outcome_of_item (sym same)
+
+-- a line that is not refused
+drawn_line : (number : ℕ) (o : Outcome Symbol) → refusal_of o ≡ Ok tt
+    → ([] ≡ message_of number o) × (Clean ≡ status_of (of_line number o ∷ []))
+unfolding status_of
+drawn_line number skipped e = (refl, refl)
+drawn_line number (refused fault) e = cc
+drawn_line number (drawn symbol) e = (refl, refl)
+
+-- a line that is refused
+refused_outcome : (o : Outcome Symbol) (fault : Fault) → refusal_of o ≡ Err fault → o ≡ refused fault
+refused_outcome skipped fault e = cc
+refused_outcome (refused why) fault e = let same : why ≡ fault = cc in ap refused same
+refused_outcome (drawn symbol) fault e = cc
+
+refused_status : (number : ℕ) (fault : Fault) → Refused ≡ status_of (of_line number (refused fault) ∷ [])
+unfolding status_of
+refused_status number fault = refl
 
 pub returns-in-Ok-Ok : goal.returns-in-Ok-Ok
 returns-in-Ok-Ok g c =
     let options = c.args.options.now in
     let o = outcome_of_item (item_seen c.parse-item.result) in
     let h = c.in-Ok-Ok.ensures options c.parse-item.ensures.form in
-    let clean = sym h.refusal ∙ c.in-Ok-Ok.field-0-is in
+    let clean = drawn_line c.args.number o (sym h.refusal ∙ c.in-Ok-Ok.field-0-is) in
     let took = g.E.Sink.took c.args.err.now c.args.err.now in
     record {
       sends = λ text at. rw (outcome-seen options text _ (c.parse-item.ensures.item text at))
-          (Sends-all options _ (event_took options _ took (of_line c.args.number o) h.writes.bytes
-          (subst took (drawn_message c.args.number o clean) (g.met.E.Sink.took_none c.args.err.now))));
-      status = λ text at. rw (outcome-seen options text _ (c.parse-item.ensures.item text at))
-          (drawn_status c.args.number o clean);
+          (event_took options _ took (of_line c.args.number o) h.writes.bytes
+          (subst took clean.0 (g.met.E.Sink.took_none c.args.err.now)));
+      status = λ text at. rw (outcome-seen options text _ (c.parse-item.ensures.item text at)) clean.1;
       sinks = record { counts = (h.writes.count, refl); out_unflushed = h.writes.unflushed; err_unflushed = λ e. e };
     }
 
@@ -28,21 +55,20 @@ returns-in-Ok-Err g c =
     let o = outcome_of_item (item_seen c.parse-item.result) in
     let h = c.in-Ok-Err.ensures options c.parse-item.ensures.form in
     let is = refused_outcome o c.in-Ok-Err.fault (sym h.refusal ∙ c.in-Ok-Err.field-0-is) in
-    let took = g.O.Sink.took c.args.out.now c.draw_item.new.out in
+    let none = subst (g.O.Sink.took c.args.out.now c.draw_item.new.out) (ap (image_of options) is) h.writes.bytes in
     let refuse = c.refuse.ensures in
     record {
       sends = λ text at. rw (outcome-seen options text _ (c.parse-item.ensures.item text at) ∙ is)
-          (Sends-append g.met.O.Sink.took_joined g.met.E.Sink.took_joined options c.refuse.result
-          (Sends-none options (tt {0}) (taken took (g.E.Sink.took c.args.err.now c.args.err.now)) [] [] refl
-          (none_taken took _ (subst took (ap (image_of options) is) h.writes.bytes)
-          (g.met.E.Sink.took_none c.args.err.now))) (refuse.sends options));
+          (both g.met.O.Sink.took_joined g.met.E.Sink.took_joined options c.args.out.now c.draw_item.new.out
+          c.refuse.new.out c.args.err.now c.args.err.now c.refuse.new.err []
+          (of_line c.args.number (refused c.in-Ok-Err.fault) ∷ []) c.refuse.result
+          (none_taken _ _ none (g.met.E.Sink.took_none c.args.err.now)) (refuse.sends options));
       status = λ text at. rw (
         outcome-seen options text _ (c.parse-item.ensures.item text at) ∙ is,
         sym (refused_status c.args.number c.in-Ok-Err.fault),
       ) refuse.status;
       sinks = record {
-        counts = subst (λ (n : ℕ). CountsFault n (g.O.Sink.failures c.refuse.new.out) (g.E.Sink.failures c.args.err.now)
-            (g.E.Sink.failures c.refuse.new.err) c.refuse.result) h.writes.count refuse.sinks.counts;
+        counts = rw h.writes.count at refuse.sinks.counts;
         out_unflushed = λ e. h.writes.unflushed (refuse.sinks.out_unflushed e);
         err_unflushed = refuse.sinks.err_unflushed;
       };
@@ -54,9 +80,8 @@ returns-in-Err g c =
     let writes = (c.in-Err.ensures options c.parse-item.ensures.form).writes in
     record {
       sends = λ text at. rw (outcome-seen options text _ (c.parse-item.ensures.item text at))
-          (Sends-all options _ (event_stops options _ Images
-          (of_line c.args.number (outcome_of_item (item_seen c.parse-item.result))) [] writes.bytes
-          (g.met.E.Sink.took_none c.args.err.now)));
+          (event_stops options _ Images (of_line c.args.number (outcome_of_item (item_seen c.parse-item.result))) []
+          writes.bytes (g.met.E.Sink.took_none c.args.err.now));
       status = λ text at. tt;
       sinks = record { counts = (writes.count, refl); out_unflushed = writes.unflushed; err_unflushed = λ e. e };
     }

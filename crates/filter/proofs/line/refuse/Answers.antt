@@ -1,18 +1,18 @@
 use Rattle.std.proofs.Common.{[]}
 use Rattle.labelcore.specs.LineItem.{refused}
 use Rattle.filter.specs.Output.{Images, Messages, of_line}
-use Rattle.filter.proofs.ScriptLaws.{event_stops, event_took, none_taken, Sends-all, Stops-first}
+use Rattle.filter.proofs.ScriptLaws.{event_stops, event_took, none_taken, Stops-first}
 use Rattle.filter.proofs.line.refuse.Goals as goal
 
 pub returns-then-is_err-clause-sends : goal.returns-then-is_err-clause-sends
-returns-then-is_err-clause-sends g c options = Sends-all options _ (Stops-first options _ Images
+returns-then-is_err-clause-sends g c options = (Stops-first options _ Images
     (of_line c.args.number (refused c.args.fault.now)) []
     (none_taken _ _ c.pass_on.ensures.bytes (g.met.E.Sink.took_none _)))
 
 pub returns-in-Ok-clause-sends : goal.returns-in-Ok-clause-sends
-returns-in-Ok-clause-sends g c options = Sends-all options _ (event_took options _ _
+returns-in-Ok-clause-sends g c options = (event_took options _ _
     (of_line c.args.number (refused c.args.fault.now)) c.pass_on.ensures.bytes c.in-Ok.ensures.bytes)
 
 pub returns-in-Err-clause-sends : goal.returns-in-Err-clause-sends
-returns-in-Err-clause-sends g c options = Sends-all options _ (event_stops options _ Messages
+returns-in-Err-clause-sends g c options = (event_stops options _ Messages
     (of_line c.args.number (refused c.args.fault.now)) [] c.in-Err.ensures.bytes c.pass_on.ensures.bytes)

@@ -1,71 +1,79 @@
-use Rattle.std.proofs.Common.{◌≡◌, ◌<◌, ℕ, List, ◌∷◌, [], ◌++◌, ◌+◌, refl, ap, sym, ◌∙◌, subst, append_assoc}
-use Rattle.std.proofs.Common.{arith, length, take, drop, get_or, take-append-drop}
-use Rattle.std.proofs.lemmas.Grind.{common_steps}
-use Rattle.std.proofs.lemmas.List.{append-nil, take_more}
+use Rattle.std.proofs.Common.{◌<◌, ℕ, ◌∷◌, [], ◌++◌, Ok, Err, refl, ap, ◌∙◌, append_assoc, arith, length, length-append}
+use Rattle.std.proofs.lemmas.List.{append-nil}
 use Rattle.std.proofs.lemmas.List.Elements.{All-from_get_or}
 use Rattle.std.proofs.lemmas.Result.{err_from_is_err_and}
-use Rattle.filter.specs.Filter.{IsAfter}
+use Rattle.device.specs.Lines.{LF}
 use Rattle.filter.specs.Output.{ended_script}
-use Rattle.filter.proofs.OutputLaws.{ended_script-more}
-use Rattle.filter.proofs.ScriptLaws.{none_taken, Sends-none, Sends-append, Sends-longer}
+use Rattle.filter.proofs.FilterLaws.{ended_lines-more, ended_script-more}
+use Rattle.filter.proofs.RunLaws.{FlushesNeither-append}
+use Rattle.filter.proofs.ScriptLaws.{Sends-none, Sends-append, Sends-longer}
 use Rattle.filter.proofs.filter.Filter.feed.Goals as goal
 
-pub loop-byte-init : goal.loop-byte-init
-loop-byte-init g c = record {
-  after = λ options text at. subst (λ (bs : List ℕ). IsAfter options c.args.self.now bs) (sym (append-nil text)) at;
-  sends = λ options text at. Sends-none options tt _ _ _ (ap (ended_script options) (append-nil text))
-      (none_taken _ _ (g.met.O.Sink.took_none _) (g.met.E.Sink.took_none _));
-  out_unflushed = λ e. e;
-  err_unflushed = λ e. e;
-  out_count = refl;
-  err_count = refl;
+pub loop-line-init : goal.loop-line-init
+loop-line-init g c = record {
+  fed = [];
+  whole = refl;
+  feeds = λ options text at. rw (append-nil text) (record {
+    sends = Sends-none options tt refl (g.met.O.Sink.took_none _) (g.met.E.Sink.took_none _);
+    is_after = at;
+  });
+  sinks = record { counts = (refl, refl); out_unflushed = λ e. e; err_unflushed = λ e. e };
 }
 
--- a text and the bytes before an index, the byte at it, and those after it
-cut_at : (text piece : List ℕ) (i : ℕ) → i < length piece
-    → text ++ piece ≡ ((text ++ take i piece) ++ get_or piece i 0 ∷ []) ++ drop (i + 1) piece
-cut_at text piece i lt =
-    ap (λ (bs : List ℕ). text ++ bs) (sym (take-append-drop (i + 1) piece))
-    ∙ (sym (append_assoc text (take (i + 1) piece) (drop (i + 1) piece))
-    ∙ ap (λ (bs : List ℕ). bs ++ drop (i + 1) piece) (ap (λ (bs : List ℕ). text ++ bs) (take_more piece i 0 lt)
-    ∙ sym (append_assoc text (take i piece) (get_or piece i 0 ∷ []))))
+pub loop-line-smaller : goal.loop-line-smaller
+loop-line-smaller g c = omega (arith, ap length c.in-Some.ensures.cut, length-append {A = ℕ})
 
-pub returns-in_err-feed_byte-clause-sends : goal.returns-in_err-feed_byte-clause-sends
-returns-in_err-feed_byte-clause-sends g c options text at =
+pub loop-line-preserved : goal.loop-line-preserved
+loop-line-preserved g c =
+    let h = c.loop-line.invariant in
+    let line = c.in-Some.line.now in
+    record {
+      fed = h.fed ++ (line ++ LF ∷ []);
+      whole = h.whole ∙ simp (c.in-Some.ensures.cut, append_assoc);
+      feeds = λ options text at.
+          let before = h.feeds options text at in
+          let next = c.in_ok-end_line.ensures.feeds options ((text ++ h.fed) ++ line)
+          (c.hold.ensures options (text ++ h.fed) before.is_after) in
+          rw (← append_assoc text h.fed (line ++ LF ∷ []), ← append_assoc (text ++ h.fed) line (LF ∷ [])) (record {
+            sends = Sends-append g.met.O.Sink.took_joined g.met.E.Sink.took_joined options (Ok (tt {0})) before.sends
+                (rw (ended_lines-more (text ++ h.fed) line c.in-Some.ensures.line) at next.sends);
+            is_after = next.is_after;
+          });
+      sinks = FlushesNeither-append h.sinks (Ok tt) c.in_ok-end_line.ensures.sinks;
+    }
+
+pub returns-in_err-end_line-clause-feeds : goal.returns-in_err-end_line-clause-feeds
+returns-in_err-end_line-clause-feeds g c options text at =
     let p = err_from_is_err_and c.from_residual.result c.from_residual.ensures.1 in
-    let h = c.loop-byte.invariant in
-    let before = text ++ take c.loop-byte.byte-index c.args.piece.now in
-    let more = ended_script-more options (before ++ get_or c.args.piece.now c.loop-byte.byte-index 0 ∷ [])
-    (drop (c.loop-byte.byte-index + 1) c.args.piece.now) in
-    rw (p.1, p.2) (Sends-longer options _ more.0 (ap (ended_script options)
-    (cut_at text c.args.piece.now c.loop-byte.byte-index c.loop-byte-test.true) ∙ more.1)
-    (Sends-append g.met.O.Sink.took_joined g.met.E.Sink.took_joined options _ (h.sends options text at)
-    (c.in_err-feed_byte.ensures.sends options before (h.after options text at))))
+    let h = c.loop-line.invariant in
+    let line = c.in-Some.line.now in
+    let before = h.feeds options text at in
+    let next = c.in_err-end_line.ensures.feeds options ((text ++ h.fed) ++ line)
+    (c.hold.ensures options (text ++ h.fed) before.is_after) in
+    let more = ended_script-more options (((text ++ h.fed) ++ line) ++ LF ∷ []) c.in-Some.later.now in
+    rw (p.1, p.2) (record {
+      sends = Sends-longer options more.0
+          (ap (ended_script options) (simp (h.whole, c.in-Some.ensures.cut, append_assoc)) ∙ more.1)
+          (Sends-append g.met.O.Sink.took_joined g.met.E.Sink.took_joined options (Err c.in_err-end_line.field-0.0)
+          before.sends (rw (ended_lines-more (text ++ h.fed) line c.in-Some.ensures.line) at next.sends));
+      is_after = tt;
+    })
+
+pub returns-in_err-end_line-clause-sinks : goal.returns-in_err-end_line-clause-sinks
+returns-in_err-end_line-clause-sinks g c e = let p = err_from_is_err_and c.from_residual.result c.from_residual.ensures.1 in
+    rw (p.1, p.2) (FlushesNeither-append c.loop-line.invariant.sinks (Err c.in_err-end_line.field-0.0)
+    c.in_err-end_line.ensures.sinks)
+
+pub returns-clause-feeds : goal.returns-clause-feeds
+returns-clause-feeds g c options text at =
+    let h = c.loop-line.invariant in
+    let before = h.feeds options text at in
+    let rest = c.loop-line.rest.now in
+    rw (h.whole, ← append_assoc text h.fed rest) (record {
+      sends = rw (ended_lines-more (text ++ h.fed) rest c.in_default.ensures.open) before.sends;
+      is_after = c.hold-2.ensures options (text ++ h.fed) before.is_after;
+    })
 
 pub returns-clause-bytes : goal.returns-clause-bytes
 returns-clause-bytes g c = All-from_get_or (λ b. b < 256) c.args.piece.now 0
     (λ i within. omega (arith, c.type_inv.piece i))
-
-pub returns-clause-after : goal.returns-clause-after
-returns-clause-after g c options text at =
-    let all : take c.loop-byte.byte-index c.args.piece.now ≡ c.args.piece.now = grind (arith, common_steps) in
-    subst (λ (bs : List ℕ). IsAfter options c.loop-byte.self (text ++ bs)) all
-    (c.loop-byte.invariant.after options text at)
-
-pub loop-byte-preserved : goal.loop-byte-preserved
-loop-byte-preserved g c =
-    let h = c.loop-byte.invariant in
-    let more = take_more c.args.piece.now c.loop-byte.byte-index 0 c.loop-byte-test.true in
-    let before = take c.loop-byte.byte-index c.args.piece.now in
-    record {
-      after = λ options text at. rw more (subst (λ (bs : List ℕ). IsAfter options c.feed_byte.new.self bs)
-          (append_assoc text before _)
-          (c.in_ok-feed_byte.ensures.after options (text ++ before) (h.after options text at)));
-      sends = λ options text at. rw (more, ← append_assoc)
-          (Sends-append g.met.O.Sink.took_joined g.met.E.Sink.took_joined options _ (h.sends options text at)
-          (c.in_ok-feed_byte.ensures.sends options (text ++ before) (h.after options text at)));
-      out_unflushed = λ e. h.out_unflushed (c.in_ok-feed_byte.ensures.sinks.out_unflushed e);
-      err_unflushed = λ e. h.err_unflushed (c.in_ok-feed_byte.ensures.sinks.err_unflushed e);
-      out_count = c.in_ok-feed_byte.ensures.sinks.counts.0 ∙ h.out_count;
-      err_count = c.in_ok-feed_byte.ensures.sinks.counts.1 ∙ h.err_count;
-    }

@@ -1,62 +1,68 @@
 use Rattle.std.proofs.Common.{◌≡◌, ◌∙◌, Ok, Err, [], ◌∷◌, ap, refl, sym}
+use Rattle.std.proofs.lemmas.Bool.{false≢true}
 use Rattle.std.proofs.lemmas.Result.{err_from_is_err_and}
 use Rattle.filter.specs.Filter.{FilterState}
-use Rattle.filter.specs.Output.{flushes}
-use Rattle.filter.proofs.FilterLaws.{not_spent}
-use Rattle.filter.proofs.OutputLaws.{status_of-flushes}
-use Rattle.filter.proofs.RunLaws.{CountsFault-fault, FlushesImagesFirst-fault, FlushesImagesFirst-neither}
-use Rattle.filter.proofs.ScriptLaws.{Sends-append, Sends-err, Sends-longer, Sends-ok}
+use Rattle.filter.specs.Output.{flushes, status_of}
+use Rattle.filter.proofs.FilterLaws.{status_of-flushes}
+use Rattle.filter.proofs.RunLaws.{CountsFault-after, FlushesImagesFirst-after}
+use Rattle.filter.proofs.ScriptLaws.{Sends-append, Sends-longer}
 use Rattle.filter.proofs.filter.Filter.finish.Goals as goal
 
-is_spent-same : {a b : FilterState} → a ≡ b → a.is_spent ≡ b.is_spent
-is_spent-same e = ap (λ (state : FilterState). state.is_spent) e
-
 pub returns-then-self : goal.returns-then-self
-returns-then-self g c = record {
-  sends = λ options text at. absurd (not_spent c.if-self.true (is_spent-same c.self.view_is ∙ at.is_spent));
-  status = λ options text at. tt;
-  flushed = (λ e. e, λ e. e);
-  counts = λ e. absurd (not_spent c.if-self.true (is_spent-same c.self.view_is ∙ e));
-  spent = λ e. (refl, refl, refl);
-}
-
-pub returns-in_err-status : goal.returns-in_err-status
-returns-in_err-status g c =
-    let p = err_from_is_err_and c.from_residual.result c.from_residual.ensures.1 in
-    let sinks = c.in_err-status.ensures.sinks in
-    rw (p.1, p.2) (record {
-      sends = λ options text at. Sends-longer options _ (flushes ∷ []) refl (c.in_err-status.ensures.sends options text at);
+returns-then-self g c =
+    let same : c.self.inside.is_spent ≡ c.args.self.is_spent = ap (λ (s : FilterState). s.is_spent) c.self.view_is in
+    record {
+      sends = λ options text at. let not_spent = at.is_spent in cc;
       status = λ options text at. tt;
-      flushed = FlushesImagesFirst-neither sinks.out_unflushed sinks.err_unflushed c.in_err-status.field-0.0;
-      counts = λ e. sinks.counts;
-      spent = λ e. absurd (not_spent (is_spent-same c.self.view_is ∙ e) c.if-self.false);
+      flushed = (λ other e. e, λ e. e);
+      counts = λ not_spent. cc;
+      spent = λ e. (refl, refl, refl);
+    }
+
+pub returns-in_err-end_open_line : goal.returns-in_err-end_open_line
+returns-in_err-end_open_line g c =
+    let p = err_from_is_err_and c.from_residual.result c.from_residual.ensures.1 in
+    let isnt = ap (λ (s : FilterState). s.is_spent) (sym c.self.view_is) ∙ c.if-self.false in
+    let call = c.in_err-end_open_line.ensures in
+    rw (p.1, p.2) (record {
+      sends = λ options text at. let h = call.feeds options text at in
+          Sends-longer options (flushes ∷ []) h.1 h.2.sends;
+      status = λ options text at. tt;
+      flushed = (λ other. call.sinks.out_unflushed, call.sinks.err_unflushed);
+      counts = λ e. call.sinks.counts;
+      spent = λ spent. absurd (false≢true (sym isnt ∙ spent));
     })
 
 pub returns-in_err-flush_both : goal.returns-in_err-flush_both
 returns-in_err-flush_both g c =
     let p = err_from_is_err_and c.from_residual-in_err-flush_both.result c.from_residual-in_err-flush_both.ensures.1 in
-    let before = c.in_ok-status.ensures in
+    let isnt = ap (λ (s : FilterState). s.is_spent) (sym c.self.view_is) ∙ c.if-self.false in
+    let before = c.in_ok-end_open_line.ensures in
     let flush = c.in_err-flush_both.ensures in
     let fault = c.in_err-flush_both.field-0.0 in
     rw (p.1, p.2) (record {
-      sends = λ options text at. Sends-append g.met.O.Sink.took_joined g.met.E.Sink.took_joined options (Err fault)
-          (before.sends options text at) (Sends-err options _ _ refl (flush.sends options));
+      sends = λ options text at. let h = before.feeds options text at in
+          Sends-append g.met.O.Sink.took_joined g.met.E.Sink.took_joined options (Err fault) h.2.sends
+          (record { added = flushes ∷ []; grown = h.1; sends = flush.sends options });
       status = λ options text at. tt;
-      flushed = FlushesImagesFirst-fault _ _ before.sinks.out_unflushed before.sinks.err_unflushed fault flush.flushed;
-      counts = λ e. CountsFault-fault _ _ before.sinks.counts.0 before.sinks.counts.1 fault flush.counts;
-      spent = λ e. absurd (not_spent (is_spent-same c.self.view_is ∙ e) c.if-self.false);
+      flushed = FlushesImagesFirst-after before.sinks {U = Unit {0}} _ _ (Err fault) flush.flushed;
+      counts = λ e. CountsFault-after before.sinks {U = Unit {0}} _ _ (Err fault) flush.counts;
+      spent = λ spent. absurd (false≢true (sym isnt ∙ spent));
     })
 
 pub returns : goal.returns
 returns g c =
-    let before = c.in_ok-status.ensures in
+    let isnt = ap (λ (s : FilterState). s.is_spent) (sym c.self.view_is) ∙ c.if-self.false in
+    let before = c.in_ok-end_open_line.ensures in
     let flush = c.in_ok-flush_both.ensures in
     record {
-      sends = λ options text at. Sends-append g.met.O.Sink.took_joined g.met.E.Sink.took_joined options
-          (Ok c.in_ok-status.status) (before.sends options text at)
-          (Sends-ok options c.in_ok-status.status _ _ refl (flush.sends options));
-      status = λ options text at. before.status options text at ∙ sym (status_of-flushes _);
+      sends = λ options text at. let h = before.feeds options text at in
+          Sends-append g.met.O.Sink.took_joined g.met.E.Sink.took_joined options (Ok c.self-2.inside.status) h.2.sends
+          (record { added = flushes ∷ []; grown = h.1; sends = flush.sends options });
+      status = λ options text at. let h = before.feeds options text at in
+          ap (λ (s : FilterState). s.status) c.self-2.view_is ∙ (h.2.is_after.status_is
+          ∙ (sym (status_of-flushes _) ∙ ap status_of (sym h.1)));
       flushed = flush.flushed;
-      counts = λ e. (flush.counts.0 ∙ before.sinks.counts.0, flush.counts.1 ∙ before.sinks.counts.1);
-      spent = λ e. absurd (not_spent (is_spent-same c.self.view_is ∙ e) c.if-self.false);
+      counts = λ e. CountsFault-after before.sinks _ _ (Ok (tt {0})) flush.counts;
+      spent = λ spent. absurd (false≢true (sym isnt ∙ spent));
     }

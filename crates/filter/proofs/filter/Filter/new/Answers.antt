@@ -1,13 +1,17 @@
-use Rattle.std.proofs.Common.{refl, false}
-use Rattle.filter.specs.declared.status.Status.TheVariants.{Clean}
-use Rattle.filter.proofs.FilterLaws.{IsAfter-new}
+use Rattle.std.proofs.Common.{◌<◌, refl}
+use Rattle.std.proofs.lemmas.List.Elements.{All-nil}
+use Rattle.device.specs.Lines.{ended_lines, open_line}
+use Rattle.filter.specs.Output.{events_after, status_of}
 use Rattle.filter.proofs.filter.Filter.new.Goals as goal
 
 pub returns : goal.returns
-returns c = IsAfter-new c.args.options (record {
-  options = c.args.options;
-  line = c.new.result;
-  line_count = 0;
-  status = Clean;
-  is_spent = false;
-}) c.ranges-2.ensures refl c.new.ensures refl refl refl
+unfolding ended_lines open_line events_after status_of
+returns c = record {
+  options_are = refl;
+  range = c.ranges-2.ensures;
+  bytes = All-nil (λ b. b < 256);
+  line = c.new.ensures;
+  line_count = refl;
+  status_is = refl;
+  is_spent = refl;
+}

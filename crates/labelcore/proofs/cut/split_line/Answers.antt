@@ -1,0 +1,26 @@
+use Rattle.std.proofs.Common.{◌≡◌, ◌==◌, ◌++◌, ◌∷◌, List, ℕ, Option, Some, None, subst, sym}
+use Rattle.std.specs.Borrow.{Bor}
+use Rattle.std.specs.Prelude.{IfSome, is_some}
+use Rattle.std.specs.List.{after_first, before_first, list_any}
+use Rattle.device.specs.Lines.{HasNoLF, LF}
+use Rattle.labelcore.proofs.PositionLaws.{cut_at_first, none_before}
+use Rattle.labelcore.proofs.cut.split_line.Goals as goal
+
+cut_at_lf : (bytes : List ℕ) (r : Option (Bor (List ℕ) × Bor (List ℕ))) → is_some r ≡ list_any (λ b. b == LF) bytes
+    → IfSome r (λ cut. cut.0.now ≡ before_first (λ b. b == LF) bytes)
+    → IfSome r (λ cut. cut.1.now ≡ after_first (λ b. b == LF) bytes)
+    → IfSome r (λ cut. bytes ≡ cut.0.now ++ LF ∷ cut.1.now)
+cut_at_lf bytes None found before after = tt
+cut_at_lf bytes (Some cut) found before after = rw (before, after) (cut_at_first LF bytes (sym found))
+
+line_has_no_lf : (bytes : List ℕ) (r : Option (Bor (List ℕ) × Bor (List ℕ)))
+    → IfSome r (λ cut. cut.0.now ≡ before_first (λ b. b == LF) bytes) → IfSome r (λ cut. HasNoLF cut.0.now)
+line_has_no_lf bytes None before = tt
+line_has_no_lf bytes (Some cut) before = subst HasNoLF (sym before) (none_before LF bytes)
+
+pub returns-clause-cut : goal.returns-clause-cut
+returns-clause-cut c = let h = c.split_once.ensures in
+    cut_at_lf c.args.bytes.now c.split_once.result h.found h.before h.after
+
+pub returns-clause-line : goal.returns-clause-line
+returns-clause-line c = line_has_no_lf c.args.bytes.now c.split_once.result c.split_once.ensures.before
