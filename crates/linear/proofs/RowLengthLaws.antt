@@ -10,7 +10,7 @@ use Rattle.linear.specs.declared.switching.CodeSet.{CodeSet}
 use Rattle.linear.specs.declared.switching.CodeSet.TheVariants.{A, B, C}
 use Rattle.linear.specs.declared.ean.NumberSet.{NumberSet}
 use Rattle.linear.specs.declared.ean.NumberSet.TheVariants.{A as SetA}
-use Rattle.linear.specs.CodeSets.{set_has, is_next, picked_set, is_pair_next, pair_values, byte_values, data_values}
+use Rattle.linear.specs.CodeSets.{set_has, is_next, picked_set, pair_values, byte_values, data_values}
 use Rattle.linear.specs.CodeSets.{start_set, start_value}
 use Rattle.linear.specs.Code128.{check_value, with_check, character_modules, full_code128, code128_row}
 use Rattle.linear.specs.Private.Data.{IsCode128Data}
@@ -19,7 +19,7 @@ use Rattle.linear.specs.Ean.{patterns, normal_guard, centre_guard, symbol, left_
 use Rattle.linear.proofs.CharacterLaws.{length-stop}
 use Rattle.linear.proofs.CharacterRowLaws.{length-characters}
 use Rattle.linear.proofs.Code128Laws.{AreCharacters-with_check, full_code128-Ok}
-use Rattle.linear.proofs.CodeSetLaws.{byte_values_by}
+use Rattle.linear.proofs.CodeSetLaws.{byte_values_by, data_values_hold}
 use Rattle.linear.proofs.DigitLaws.{IfOk-from_each, IsFull, full_from_Ok}
 use Rattle.linear.proofs.EanLaws.{all_in, all_full, digit_below, length-full, length-patterns, length-right_half}
 use Rattle.linear.proofs.EanLaws.{right_half, with_zero}
@@ -81,33 +81,19 @@ length-pair_values A first second = omega arith
 length-pair_values B first second = omega arith
 length-pair_values C first second = omega arith
 
-length-data_values : (set : CodeSet) (bytes : List ℕ) → length (data_values set bytes) ≤ 2 * length bytes
-length-data_values set [] = omega arith
-length-data_values set (byte ∷ []) = omega (arith, length-byte_values set byte [])
-length-data_values set (first ∷ second ∷ rest) =
-    let step = byte_values set first (second ∷ rest) in
-    let values : Bool → List ℕ =
-    λ b. elim b [
-      | true ↦ pair_values set first second ++ data_values C rest
-      | false ↦ step.0
-          ++ data_values step.1 (second ∷ rest)
-    ] in
-    let by_case : (b : Bool) → length (values b) ≤ 2 * length (first ∷ second ∷ rest) =
-    elim [
-      | true ↦ omega (
-        arith,
-        length-append (pair_values set first second) (data_values C rest),
-        length-pair_values set first second,
-        length-data_values C rest,
-      )
-      | false ↦ omega (
-        arith,
-        length-append step.0 (data_values step.1 (second ∷ rest)),
-        length-byte_values set first (second ∷ rest),
-        length-data_values step.1 (second ∷ rest),
-      )
-    ] in
-    by_case (is_pair_next set (first ∷ second ∷ rest))
+length-data_values : (set : CodeSet) (bytes : List ℕ) → AllByRecursion (λ byte. byte < 128) bytes
+    → length (data_values set bytes) ≤ 2 * length bytes
+length-data_values = data_values_hold (λ set bytes values. length values ≤ 2 * length bytes) (λ set. omega arith)
+    (λ set byte rest values below odd h. omega (
+      arith,
+      length-append (byte_values set byte rest).0 values,
+      length-byte_values set byte rest,
+    ))
+    (λ set first second rest values even h. omega (
+      arith,
+      length-append (pair_values set first second) values,
+      length-pair_values set first second,
+    ))
 
 length-code128_row : (full : List ℕ) → IsCode128Data full → length (code128_row full) ≤ 1795
 length-code128_row full valid =
@@ -120,7 +106,7 @@ length-code128_row full valid =
       length-append (flat_map character_modules (with_check set values)) (character_modules 106),
       length-characters (with_check set values) (AreCharacters-with_check full ascii),
       length-append values (check ∷ []),
-      length-data_values set full,
+      length-data_values set full ascii,
       length-stop,
       valid.few,
     )

@@ -1,17 +1,15 @@
 -- The steps of the switching rule write the values of `data_values`.
-use Rattle.std.proofs.Common.{◌≡◌, ℕ, ◌<◌, Bool, true, false, cond, List, [], ◌∷◌, ◌++◌, drop, leb, eqb, refl, sym, ap}
-use Rattle.std.proofs.Common.{subst, ◌∙◌, arith, lt-ltb, le-leb, append-nil, inl, inr, ◌%◌}
-use Rattle.std.specs.Prelude.{◌&&◌, ◌||◌, slice_index}
-use Rattle.std.specs.Char.{is_ascii_digit}
-use Rattle.std.specs.List.{AllByRecursion}
+use Rattle.std.proofs.Common.{◌≡◌, ℕ, ◌<◌, Bool, true, false, cond, List, [], ◌∷◌, ◌++◌, drop, leb, refl, sym, ap}
+use Rattle.std.proofs.Common.{subst, ◌∙◌, arith, lt-ltb, le-leb, inl, inr}
+use Rattle.std.specs.Prelude.{slice_index}
 use Rattle.std.proofs.lemmas.Bool.Decides.{nat_tests}
 use Rattle.std.proofs.lemmas.List.Elements.{recursion_from_All}
 use Rattle.linear.specs.declared.switching.CodeSet.{CodeSet}
 use Rattle.linear.specs.declared.switching.CodeSet.TheVariants.{A, B, C}
 use Rattle.linear.specs.CodeSets.{set_has, character_value, pair_value, shift_value, leading_digits, is_next}
-use Rattle.linear.specs.CodeSets.{picked_set, is_pair_next, pair_values, byte_values, data_values}
+use Rattle.linear.specs.CodeSets.{picked_set, is_pair_next, pair_values, byte_values}
 use Rattle.linear.specs.Switching.{Step, to_set, character_step, step, Writes, done, stepped, ValuesAreWrittenBySteps}
-use Rattle.linear.proofs.CodeSetLaws.{even_run, picked_set-has, PickedHas, byte_values_by}
+use Rattle.linear.proofs.CodeSetLaws.{even_run, picked_set-has, PickedHas, byte_values_by, data_values_hold}
 
 -- a step that is `s`, and a writing of what it leaves, write `all`
 -- `s` and `all` have an equation each, for `stepped` has only the terms of `step` itself; pair_in_c, plain, single
@@ -114,46 +112,6 @@ pair B first second rest values even w =
     (pair_in_c first second rest values (le-leb 2 (leading_digits bytes) (even_run bytes even)) w) refl
 pair C first second rest values long w = pair_in_c first second rest values long w
 
--- one byte is no pair
-one_at_most : (b : Bool)
-    → (eqb (cond b 1 0 % 2) 0 && (leb 6 (cond b 1 0) || (leb 4 (cond b 1 0) && eqb (cond b 1 0) 1))) ≡ false
-one_at_most true = refl
-one_at_most false = refl
-
-never_two : (b : Bool) → leb 2 (cond b 1 0) ≡ false
-never_two true = refl
-never_two false = refl
-
-is_pair_next-single : (set : CodeSet) (byte : ℕ) → is_pair_next set (byte ∷ []) ≡ false
-is_pair_next-single A byte = one_at_most (is_ascii_digit byte)
-is_pair_next-single B byte = one_at_most (is_ascii_digit byte)
-is_pair_next-single C byte = never_two (is_ascii_digit byte)
-
--- the steps of the switching rule write the values of `data_values`
-Writes-data_values : (set : CodeSet) (bytes : List ℕ) → AllByRecursion (λ byte. byte < 128) bytes
-    → Writes set bytes (data_values set bytes)
-Writes-data_values set [] d = done
-Writes-data_values set (byte ∷ []) d =
-    let lone : is_pair_next set (byte ∷ []) ≡ false = is_pair_next-single set byte in
-    let P : List ℕ → Type 0 = λ xs. Writes set (byte ∷ []) xs in
-    subst P (append-nil (byte_values set byte []).0) (single set byte [] [] d.0 lone done)
-Writes-data_values set (first ∷ second ∷ rest) d =
-    let after = byte_values set first (second ∷ rest) in
-    let values : Bool → List ℕ =
-    λ b. elim b [
-      | true ↦ pair_values set first second ++ data_values C rest
-      | false ↦ after.0
-          ++ data_values after.1 (second ∷ rest)
-    ] in
-    let by_case : (b : Bool) → is_pair_next set (first ∷ second ∷ rest) ≡ b
-    → Writes set (first ∷ second ∷ rest) (values b) =
-    elim [
-      | true ↦ λ e. pair set first second rest (data_values C rest) e (Writes-data_values C rest d.1.1)
-      | false ↦ λ e. single set first (second ∷ rest) (data_values after.1 (second ∷ rest)) d.0 e
-          (Writes-data_values after.1 (second ∷ rest) d.1)
-    ] in
-    by_case (is_pair_next set (first ∷ second ∷ rest)) refl
-
 pub values_are_written_by_steps : ValuesAreWrittenBySteps
 values_are_written_by_steps set bytes all =
-    Writes-data_values set bytes (recursion_from_All (λ byte. byte < 128) bytes all)
+    data_values_hold Writes (λ set. done) single pair set bytes (recursion_from_All (λ byte. byte < 128) bytes all)

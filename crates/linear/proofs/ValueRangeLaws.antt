@@ -1,5 +1,5 @@
 -- The values of data are those of characters (ISO/IEC 15417, symbol characters).
-use Rattle.std.proofs.Common.{ℕ, ◌≡◌, ◌<◌, Bool, true, false, List, [], ◌∷◌, ◌++◌, refl, arith, lt-ltb, le-ltb, inl}
+use Rattle.std.proofs.Common.{ℕ, ◌<◌, Bool, true, false, List, [], ◌∷◌, ◌++◌, arith, lt-ltb, le-ltb, inl}
 use Rattle.std.proofs.Common.{inr, lit<}
 use Rattle.std.specs.Char.{IsAsciiDigit}
 use Rattle.std.specs.List.{AllByRecursion}
@@ -7,8 +7,8 @@ use Rattle.std.proofs.lemmas.Bool.{cases_lt}
 use Rattle.linear.specs.declared.switching.CodeSet.{CodeSet}
 use Rattle.linear.specs.declared.switching.CodeSet.TheVariants.{A, B, C}
 use Rattle.linear.specs.CodeSets.{set_has, character_value, pair_value, change_value, is_next, picked_set}
-use Rattle.linear.specs.CodeSets.{is_pair_next, pair_values, byte_values, data_values}
-use Rattle.linear.proofs.CodeSetLaws.{byte_values_by, pair_digits}
+use Rattle.linear.specs.CodeSets.{pair_values, byte_values, data_values}
+use Rattle.linear.proofs.CodeSetLaws.{byte_values_by, data_values_hold, pair_digits}
 
 -- every value written is one of the table
 abbrev pub AreCharacters : List ℕ → Type 0
@@ -56,24 +56,10 @@ AreCharacters-pair_values C first second d e = ((let k : pair_value first second
 
 pub AreCharacters-data_values : (set : CodeSet) (bytes : List ℕ) → AllByRecursion (λ byte. byte < 128) bytes
     → AreCharacters (data_values set bytes)
-AreCharacters-data_values set [] d = tt
-AreCharacters-data_values set (byte ∷ []) d = AreCharacters-byte_values set byte [] d.0
-AreCharacters-data_values set (first ∷ second ∷ rest) d =
-    let step = byte_values set first (second ∷ rest) in
-    let values : Bool → List ℕ =
-    λ b. elim b [
-      | true ↦ pair_values set first second ++ data_values C rest
-      | false ↦ step.0
-          ++ data_values step.1 (second ∷ rest)
-    ] in
-    let by_case : (b : Bool) → is_pair_next set (first ∷ second ∷ rest) ≡ b → AreCharacters (values b) =
-    elim [
-      | true ↦ λ e.
-          let digits = pair_digits set first second rest e in
-          AreCharacters-append (pair_values set first second) (data_values C rest)
-          (AreCharacters-pair_values set first second digits.0 digits.1) (AreCharacters-data_values C rest d.1.1)
-      | false ↦ λ e. AreCharacters-append step.0 (data_values step.1 (second ∷ rest))
-          (AreCharacters-byte_values set first (second ∷ rest) d.0) (AreCharacters-data_values step.1
-          (second ∷ rest) d.1)
-    ] in
-    by_case (is_pair_next set (first ∷ second ∷ rest)) refl
+AreCharacters-data_values = data_values_hold (λ set bytes values. AreCharacters values) (λ set. tt)
+    (λ set byte rest values below odd. AreCharacters-append (byte_values set byte rest).0 values
+    (AreCharacters-byte_values set byte rest below))
+    (λ set first second rest values even.
+    let digits = pair_digits set first second rest even in
+    AreCharacters-append (pair_values set first second) values
+    (AreCharacters-pair_values set first second digits.0 digits.1))

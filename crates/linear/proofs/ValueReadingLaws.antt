@@ -1,6 +1,6 @@
 -- The values of data are read as the data (ISO/IEC 15417, code sets and symbol characters).
 use Rattle.std.proofs.Common.{ℕ, ◌≡◌, ◌+◌, ◌-◌, ◌/◌, ◌%◌, ◌<◌, ◌≤◌, Bool, true, false, Some, List, [], ◌∷◌, ◌++◌, ltb}
-use Rattle.std.proofs.Common.{leb, refl, sym, ap, ◌∙◌, arith, append-nil, lt-ltb, le-ltb, inl, inr}
+use Rattle.std.proofs.Common.{leb, refl, ap, ◌∙◌, arith, lt-ltb, le-ltb, inl, inr}
 use Rattle.std.specs.Prelude.{option_map}
 use Rattle.std.specs.Char.{IsAsciiDigit}
 use Rattle.std.specs.List.{AllByRecursion}
@@ -8,10 +8,10 @@ use Rattle.std.proofs.lemmas.Bool.{cases_lt, true≢false}
 use Rattle.linear.specs.declared.switching.CodeSet.{CodeSet}
 use Rattle.linear.specs.declared.switching.CodeSet.TheVariants.{A, B, C}
 use Rattle.linear.specs.CodeSets.{character_value, pair_value, change_value, shift_value, is_next, picked_set}
-use Rattle.linear.specs.CodeSets.{is_pair_next, pair_values, byte_values, data_values}
+use Rattle.linear.specs.CodeSets.{pair_values, byte_values, data_values}
 use Rattle.linear.specs.Code128Reading.{Meaning, meaning, other_set, read_values}
 use Rattle.linear.proofs.CodeSetLaws.{picked_set-has, is_next-C, byte_values_by, PickedHas, lt-from_ltb_96}
-use Rattle.linear.proofs.CodeSetLaws.{le-from_ltb_96, le-from_leb_32, lt-from_leb_32, pair_digits}
+use Rattle.linear.proofs.CodeSetLaws.{le-from_ltb_96, le-from_leb_32, lt-from_leb_32, pair_digits, data_values_hold}
 
 -- a character of set A means its byte
 meaning-a : (byte : ℕ) → byte < 96 → meaning A (character_value byte) ≡ Meaning.text (byte ∷ [])
@@ -134,27 +134,10 @@ read_values-pair_values C first second values d e =
 -- what is written from a set on is read from it on
 pub read_values-data_values : (set : CodeSet) (bytes : List ℕ) → AllByRecursion (λ byte. byte < 128) bytes
     → read_values set false (data_values set bytes) ≡ Some bytes
-read_values-data_values set [] d = refl
-read_values-data_values set (byte ∷ []) d =
-    ap (read_values set false) (sym (append-nil (byte_values set byte []).0))
-    ∙ read_values-byte_values set byte [] [] d.0
-read_values-data_values set (first ∷ second ∷ rest) d =
-    let step = byte_values set first (second ∷ rest) in
-    let values : Bool → List ℕ =
-    λ b. elim b [
-      | true ↦ pair_values set first second ++ data_values C rest
-      | false ↦ step.0
-          ++ data_values step.1 (second ∷ rest)
-    ] in
-    let by_case : (b : Bool) → is_pair_next set (first ∷ second ∷ rest) ≡ b
-    → read_values set false (values b) ≡ Some (first ∷ second ∷ rest) =
-    elim [
-      | true ↦ λ e.
-          let digits = pair_digits set first second rest e in
-          read_values-pair_values set first second (data_values C rest) digits.0 digits.1
-          ∙ ap (option_map (λ after. first ∷ second ∷ after)) (read_values-data_values C rest d.1.1)
-      | false ↦ λ e.
-          read_values-byte_values set first (second ∷ rest) (data_values step.1 (second ∷ rest)) d.0
-          ∙ ap (option_map (λ after. first ∷ after)) (read_values-data_values step.1 (second ∷ rest) d.1)
-    ] in
-    by_case (is_pair_next set (first ∷ second ∷ rest)) refl
+read_values-data_values = data_values_hold (λ set bytes values. read_values set false values ≡ Some bytes) (λ set. refl)
+    (λ set byte rest values below odd e. read_values-byte_values set byte rest values below
+    ∙ ap (option_map (λ after. byte ∷ after)) e)
+    (λ set first second rest values even e.
+    let digits = pair_digits set first second rest even in
+    read_values-pair_values set first second values digits.0 digits.1
+    ∙ ap (option_map (λ after. first ∷ second ∷ after)) e)

@@ -1,5 +1,5 @@
--- The tables of QR symbols beside those of other programs: qrencode 4.1.1 (qrspec.c) and what Zint 2.11.1 draws; and
--- the weights of ISO/IEC 18004, 7.8.3.
+-- The tables of QR symbols beside those of other programs: qrencode 4.1.1 (qrspec.c) and what Zint 2.11.1 draws; the
+-- weights of ISO/IEC 18004, 7.8.3; and places inside and outside of a square.
 use Rattle.std.proofs.Common.{◌≡◌, ℕ, refl, Bool, true, false, List, [], ◌∷◌, ◌++◌, map, codes}
 use Rattle.std.specs.Prelude.{◌==◌, ◌+◌, slice_index_or}
 use Rattle.std.specs.List.{flat_map, range_with_len, slice_split}
