@@ -3,10 +3,11 @@ use Rattle.std.proofs.Common.{◌≡◌, ◌≢◌, ℕ, ◌+◌, Bool, ◌||◌
 use Rattle.std.proofs.Common.{refl, ap, sym, ◌∙◌, arith, add-zero, zero-add, if◌then◌else◌, ◌-◌, ◌^◌, min, take, Result}
 use Rattle.std.proofs.Common.{length-take, subst}
 use Rattle.std.specs.List.{list_any}
+use Rattle.std.proofs.Math.Bool.{or-false}
 use Rattle.std.proofs.lemmas.List.{append-nil}
 use Rattle.std.proofs.lemmas.List.Folds.{list_any-append}
 use Rattle.device.specs.Lines.{LF, lines, ended_lines, open_line, unless_empty, HasNoLF, IsCut, with_ends}
-use Rattle.device.proofs.LinesLaws.{ended_lines-nil, ended_lines-push_lf, some_added, IsCut-ended_lines}
+use Rattle.device.proofs.LinesLaws.{ended_lines-push_lf, some_added, IsCut-ended_lines}
 use Rattle.device.proofs.LinesLaws.{ended_lines-cut, open_line-cut}
 use Rattle.labelcore.specs.OptionValues.{OptionValues}
 use Rattle.filter.specs.Output.{Event, of_line, outcome, events_after, ended_script, script, flushes, is_refusal}
@@ -31,28 +32,13 @@ unfolding status_of
 status_of-append xs ys = ap (λ (b : Bool). if b then Refused else Clean) (list_any-append is_refusal xs ys)
     ∙ worst_of_two (list_any is_refusal xs) (list_any is_refusal ys)
 
-pub status_of-nil : status_of [] ≡ Clean
-unfolding status_of
-status_of-nil = refl
-
 -- a script's last event has no part in its status
-worst-clean : (s : Status) → worst s Clean ≡ s
-worst-clean Clean = refl
-worst-clean Refused = refl
-
-status_of-end : status_of (flushes ∷ []) ≡ Clean
-unfolding status_of
-status_of-end = refl
-
 pub status_of-flushes : (xs : List Event) → status_of (xs ++ flushes ∷ []) ≡ status_of xs
-status_of-flushes xs = status_of-append xs (flushes ∷ [])
-    ∙ (ap (λ (s : Status). worst (status_of xs) s) status_of-end ∙ worst-clean (status_of xs))
+unfolding status_of
+status_of-flushes xs = ap (λ (b : Bool). if b then Refused else Clean)
+    (list_any-append is_refusal xs (flushes ∷ []) ∙ or-false (list_any is_refusal xs))
 
 module _ (options : OptionValues) where
-  events_after-nil : (n : ℕ) → events_after options n [] ≡ []
-  unfolding events_after
-  events_after-nil n = refl
-
   events_after-append : (n : ℕ) (xs ys : List (List ℕ))
       → events_after options n (xs ++ ys) ≡ events_after options n xs ++ events_after options (n + length xs) ys
   unfolding events_after
@@ -63,7 +49,8 @@ module _ (options : OptionValues) where
       (events_after-append (n + 1) xs ys ∙ ap (λ (j : ℕ). events_after options (n + 1) xs ++ events_after options j ys) k)
 
   pub ended_script-nil : ended_script options [] ≡ []
-  ended_script-nil = ap (events_after options 0) ended_lines-nil ∙ events_after-nil 0
+  unfolding ended_lines events_after
+  ended_script-nil = refl
 
   -- what is sent of the lines that more bytes end
   pub ended_script-more : (text piece : List ℕ) → (more : List Event)
@@ -75,7 +62,8 @@ module _ (options : OptionValues) where
 
   -- a LF ends the open line
   pub ended_script-lf : (text : List ℕ) → ended_script options (text ++ LF ∷ [])
-      ≡ ended_script options text ++ of_line (line_number (length (ended_lines text))) (outcome options (open_line text)) ∷ []
+      ≡ ended_script options text
+      ++ of_line (line_number (length (ended_lines text))) (outcome options (open_line text)) ∷ []
   unfolding events_after
   ended_script-lf text = ap (events_after options 0) (ended_lines-push_lf text)
       ∙ (events_after-append 0 (ended_lines text) (open_line text ∷ [])
@@ -83,18 +71,18 @@ module _ (options : OptionValues) where
       (zero-add (length (ended_lines text))))
 
   -- the whole script: the open line is empty, or it ends as if a LF came
-  pub script-ended : (text : List ℕ) → open_line text ≡ [] → script options text ≡ ended_script options text ++ flushes ∷ []
+  pub script-ended : (text : List ℕ) → open_line text ≡ []
+      → script options text ≡ ended_script options text ++ flushes ∷ []
   unfolding lines
-  script-ended text none = ap (λ (rest : List ℕ). events_after options 0 (ended_lines text ++ unless_empty rest) ++ flushes ∷ []) none
-      ∙ ap (λ (ls : List (List ℕ)). events_after options 0 ls ++ flushes ∷ []) (append-nil (ended_lines text))
+  script-ended text none = rw (none, append-nil (ended_lines text)) refl
 
-  pub script-open : (text : List ℕ) → open_line text ≢ [] → script options text ≡ ended_script options (text ++ LF ∷ []) ++ flushes ∷ []
+  pub script-open : (text : List ℕ) → open_line text ≢ []
+      → script options text ≡ ended_script options (text ++ LF ∷ []) ++ flushes ∷ []
   unfolding lines
-  script-open text some = ap (λ (ls : List (List ℕ)). events_after options 0 ls ++ flushes ∷ [])
-      (ap (λ (ls : List (List ℕ)). ended_lines text ++ ls) (alone (open_line text) some) ∙ sym (ended_lines-push_lf text)) where
-        alone : (line : List ℕ) → line ≢ [] → unless_empty line ≡ line ∷ []
-        alone [] some = absurd (some refl)
-        alone (byte ∷ bytes) some = refl
+  script-open text some = rw (ended_lines-push_lf text, alone (open_line text) some) refl where
+    alone : (line : List ℕ) → line ≢ [] → unless_empty line ≡ line ∷ []
+    alone [] some = absurd (some refl)
+    alone (byte ∷ bytes) some = refl
 
   -- after the ended lines there is an event, be it the last
   pub some_later : (text : List ℕ) → (event : Event) × (later : List Event)

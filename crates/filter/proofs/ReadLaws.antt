@@ -287,35 +287,28 @@ module _ (options : OptionValues) (range : AreInRange options) where
   all_read [] all = tt
   all_read (symbol ∷ symbols) all = (image_read options.format symbol all.0, all_read symbols all.1)
 
-  drawn_symbols_readable : (events : List Event) → AllByRecursion EventIsReadable events
-      → AllByRecursion IsReadable (drawn_symbols events)
+  -- the symbols of a script, and their images
+  symbols_readable : (events : List Event) → AllByRecursion EventIsReadable events
+      → AllByRecursion IsReadable (drawn_symbols events) × (sent options Images events
+      ≡ flat_map (text_of options.format) (map (picture_of options) (drawn_symbols events)))
   unfolding drawn_symbols
-  drawn_symbols_readable [] w = tt
-  drawn_symbols_readable (of_line number skipped ∷ events) w = drawn_symbols_readable events w.1
-  drawn_symbols_readable (of_line number (refused fault) ∷ events) w = drawn_symbols_readable events w.1
-  drawn_symbols_readable (of_line number (drawn symbol) ∷ events) w = (w.0, drawn_symbols_readable events w.1)
-  drawn_symbols_readable (flushes ∷ events) w = drawn_symbols_readable events w.1
-
-  images_are : (events : List Event) → sent options Images events
-      ≡ flat_map (text_of options.format) (map (picture_of options) (drawn_symbols events))
-  unfolding drawn_symbols
-  images_are [] = refl
-  images_are (of_line number skipped ∷ events) = images_are events
-  images_are (of_line number (refused fault) ∷ events) = images_are events
-  images_are (of_line number (drawn symbol) ∷ events) =
-      ap (λ (bytes : List ℕ). text_of options.format (picture_of options symbol) ++ bytes) (images_are events)
-  images_are (flushes ∷ events) = images_are events
+  symbols_readable [] w = (tt, refl)
+  symbols_readable (of_line number skipped ∷ events) w = symbols_readable events w.1
+  symbols_readable (of_line number (refused fault) ∷ events) w = symbols_readable events w.1
+  symbols_readable (of_line number (drawn symbol) ∷ events) w = let later = symbols_readable events w.1 in
+      ((w.0, later.0), ap (λ (bytes : List ℕ). text_of options.format (picture_of options symbol) ++ bytes) later.1)
+  symbols_readable (flushes ∷ events) w = symbols_readable events w.1
 
   -- the images of a script, cut, are read as the full data of its symbols
   images_of_events_read : (events : List Event) → AllByRecursion EventIsReadable events
       → AreRead options.format options.scale (cut options.format (sent options Images events)) (drawn_symbols events)
   images_of_events_read events w =
       let symbols = drawn_symbols events in
-      let readable = drawn_symbols_readable events w in
+      let found = symbols_readable events w in
       let drawables = All-map IsDrawable (picture_of options) symbols (All-weaker IsReadable
-      (λ symbol. IsDrawable (picture_of options symbol)) drawable symbols (All-from_recursion IsReadable symbols readable)) in
-      rw (images_are events, stream_cut options.format (map (picture_of options) symbols) drawables)
-      (all_read symbols readable)
+      (λ symbol. IsDrawable (picture_of options symbol)) drawable symbols (All-from_recursion IsReadable symbols found.0)) in
+      rw (found.1, stream_cut options.format (map (picture_of options) symbols) drawables)
+      (all_read symbols found.0)
 
   script_readable : (before : ℕ) (lines : List (List ℕ)) → AllByRecursion AreBytes lines
       → AllByRecursion EventIsReadable (events_after options before lines ++ flushes ∷ [])

@@ -2,6 +2,7 @@
 use Rattle.std.proofs.Common.{◌≡◌, ◌≢◌, ℕ, ◌-◌, ◌^◌, ◌≤◌, ◌<◌, ◌∙◌, ◌⊎◌, All, Bool, Result, Ok, Err, List, [], ◌++◌, length, true, subst, sym, refl}
 use Rattle.std.specs.Prelude.{IfOk, MatchResult, OnOk}
 use Rattle.device.specs.Device.{Rises}
+use Rattle.device.specs.Sink.{PassesBuffered}
 use Rattle.device.specs.declared.sink.Sink.{Ghosts as SinkGhosts}
 use Rattle.device.specs.declared.source.Source.{Ghosts as SourceGhosts}
 use Rattle.labelcore.specs.OptionValues.{OptionValues}
@@ -129,11 +130,12 @@ module _ {S O E : Type 0} {source : SourceGhosts S} {out : SinkGhosts O} {err : 
   }
 
   -- what the sink of the images buffers is passed on
-  pub HasRun-passed : {o'' : O} → out.took o' o'' [] → err.took e' e' [] → out.failures o'' ≡ out.failures o'
-      → out.is_flushed o'' ≡ out.is_flushed o' → HasRun source out err options s s' o o'' e e' state given
-  HasRun-passed none_out none_err count marks = HasRun-append h.gave refl
-      (record { sends = Sends-none options tt refl none_out none_err; is_after = h.fed.is_after })
-      (record { counts = (count, refl); out_unflushed = λ is. sym marks ∙ is; err_unflushed = λ is. is })
+  pub HasRun-passed : {T F : Type 0} {x : T} {o'' : O} → err.took e' e' []
+      → PassesBuffered {T = T} {E = F} out.failures out.is_flushed out.took o' o'' (Ok x)
+      → HasRun source out err options s s' o o'' e e' state given
+  HasRun-passed none_err passed = HasRun-append h.gave refl
+      (record { sends = Sends-none options tt refl passed.bytes none_err; is_after = h.fed.is_after })
+      (record { counts = (passed.count, refl); out_unflushed = λ is. sym passed.flushed ∙ is; err_unflushed = λ is. is })
 
   -- the run ends in a call of the filter or of a sink
   pub Runs-after : {s'' : S} {o'' : O} {e'' : E} (text : List ℕ) (r : Result Status RunFault)

@@ -125,8 +125,11 @@ module _ {O E : Type 0} {out : O → O → List ℕ → Type 0} {err : E → E �
     event = s.event;
     later = s.later;
     cut = ap (λ (es : List Event). xs ++ es) s.cut ∙ sym (append_assoc xs s.done (s.event ∷ s.later));
-    own = (s.own.0, s.own.1,
-        rw (flat_map-append, append_assoc) (joined o o' o'' e e' e'' s.failed _ _ (h s.failed) s.own.2));
+    own = (
+      s.own.0,
+      s.own.1,
+      rw (flat_map-append, append_assoc) (joined o o' o'' e e' e'' s.failed _ _ (h s.failed) s.own.2),
+    );
     others = rw flat_map-append (joined o o' o'' e e' e'' (other s.failed) _ _ (h (other s.failed)) s.others);
   }
 

@@ -44,8 +44,8 @@ returns-in_default g c =
 pub returns-in_default-read : goal.returns-in_default-read
 returns-in_default-read g c =
     let h = c.loop-turn.invariant.so_far in
-    let passed = HasRun-passed g.met.O.Sink.took_joined g.met.E.Sink.took_joined h c.pass_on.ensures.bytes
-    (g.met.E.Sink.took_none _) c.in-Ok.ensures.count c.pass_on.ensures.flushed in
+    let passed = HasRun-passed g.met.O.Sink.took_joined g.met.E.Sink.took_joined h (g.met.E.Sink.took_none _)
+    c.in-Ok.ensures in
     Runs-read g.met.O.Sink.took_joined g.met.E.Sink.took_joined passed
     (subst (g.S.Source.gave c.args.source.now c.read.new.self) (append-nil c.loop-turn.invariant.given)
     (g.met.S.Source.gave_joined _ _ _ _ _ h.gave c.in_default-read.ensures.bytes))
@@ -64,8 +64,8 @@ pub returns-then-count-eq0 : goal.returns-then-count-eq0
 returns-then-count-eq0 g c =
     let given = c.loop-turn.invariant.given in
     let h = c.loop-turn.invariant.so_far in
-    let passed = HasRun-passed g.met.O.Sink.took_joined g.met.E.Sink.took_joined h c.pass_on.ensures.bytes
-    (g.met.E.Sink.took_none _) c.in-Ok.ensures.count c.pass_on.ensures.flushed in
+    let passed = HasRun-passed g.met.O.Sink.took_joined g.met.E.Sink.took_joined h (g.met.E.Sink.took_none _)
+    c.in-Ok.ensures in
     Runs-after g.met.O.Sink.took_joined g.met.E.Sink.took_joined passed given c.finish.result
     (subst (g.S.Source.gave c.args.source.now c.read.new.self) (append-nil given)
     (g.met.S.Source.gave_joined _ _ _ _ _ h.gave (rw c.if-count-eq0.true at c.in-Ok-read.ensures.bytes)))
@@ -82,8 +82,8 @@ returns-in_err-feed g c =
     let piece = take c.in-Ok-read.count c.read.new.buf in
     let later = some_later options (given ++ piece) in
     let sinks = c.in_err-feed.ensures.sinks h.fed.is_after.is_spent in
-    let passed = HasRun-passed g.met.O.Sink.took_joined g.met.E.Sink.took_joined h c.pass_on.ensures.bytes
-    (g.met.E.Sink.took_none _) c.in-Ok.ensures.count c.pass_on.ensures.flushed in
+    let passed = HasRun-passed g.met.O.Sink.took_joined g.met.E.Sink.took_joined h (g.met.E.Sink.took_none _)
+    c.in-Ok.ensures in
     rw (p.1, p.2) (Runs-after g.met.O.Sink.took_joined g.met.E.Sink.took_joined passed (given ++ piece)
     (Err c.in_err-feed.field-0.0) (g.met.S.Source.gave_joined _ _ _ _ _ h.gave c.in-Ok-read.ensures.bytes)
     c.in-Ok-read.ensures.count (All-append (λ b. b < 256) given piece h.fed.is_after.bytes c.in_err-feed.ensures.bytes)
@@ -95,8 +95,8 @@ loop-turn-preserved g c =
     let given = c.loop-turn.invariant.given in
     let h = c.loop-turn.invariant.so_far in
     let piece = take c.in-Ok-read.count c.read.new.buf in
-    let passed = HasRun-passed g.met.O.Sink.took_joined g.met.E.Sink.took_joined h c.pass_on.ensures.bytes
-    (g.met.E.Sink.took_none _) c.in-Ok.ensures.count c.pass_on.ensures.flushed in
+    let passed = HasRun-passed g.met.O.Sink.took_joined g.met.E.Sink.took_joined h (g.met.E.Sink.took_none _)
+    c.in-Ok.ensures in
     record {
       given = given ++ piece;
       enough = omega (arith, length-append given piece, length-take c.in-Ok-read.count c.read.new.buf);
