@@ -1,12 +1,9 @@
-//! Worked rows, plain slow forms, devices that fail: the layers below the filter.
-mod bars;
-mod buffered_bytes;
-mod codewords;
-mod field;
-mod lines;
-mod options;
-pub mod pictures;
+//! The fast forms of the layers below the filter against plain slow ones, at all limits.
 mod segments;
-mod streams;
-pub mod support;
 mod symbols;
+mod widths;
+
+use qrdata::Level;
+
+/// The levels in the order of the tables.
+const LEVELS: [Level; 4] = [Level::L, Level::M, Level::Q, Level::H];

@@ -4,8 +4,6 @@
 #![tactic(auto)]
 
 #[cfg(test)]
-mod argument_limits;
-#[cfg(test)]
 mod arguments;
 #[cfg(test)]
 mod calls;

@@ -1,17 +1,13 @@
 //! Names of files, long lists of arguments, and the help text, as far as no clause speaks of them.
 use crate::arguments::{are_bad, arguments_of, choice_of};
 use crate::calls::kinds::KINDS;
-use crate::runs::support::low;
 use command::{ArgumentsFault, OpenFault, VERSION, open_file, options_of};
-use device::MemSink;
-use filter::{RunFault, run};
 use labelcore::{Format, Options};
 use qrdata::Level;
-use std::alloc::{AllocError, Allocator, Global};
+use std::alloc::{Allocator, Global};
 use std::fs::{File, Metadata, OpenOptions};
 use std::io::{self, ErrorKind};
 use std::rt::Files;
-use std::test::Fail;
 
 /// Files that can't be opened, for one reason.
 #[derive(Drop)]
@@ -87,12 +83,12 @@ fn only_an_error_of_memory_is_no_memory(rt: HostRuntime) {
 }
 
 /// `count` letters.
-fn letters(alloc: Global, count: usize) -> Result<String, AllocError> {
+fn letters(alloc: Global, count: usize) -> String {
     let mut text = String::new(alloc);
     for _ in 0..count {
-        text.push('a')?;
+        let _ = text.push('a');
     }
-    Ok(text)
+    text
 }
 
 /// Names that no file has: the empty name, names with a NUL, and names in a folder that there is not.
@@ -105,28 +101,15 @@ const NO_FILES: [&str; 5] = [
 ];
 
 #[test]
-fn names_of_no_file_are_no_file(rt: HostRuntime) -> Result<(), Fail> {
+fn names_of_no_file_are_no_file(rt: HostRuntime) {
     for name in NO_FILES {
         assert!(rt; refusal_of(&rt, rt.alloc(), name) == Some(OpenFault::NoFile));
     }
     for count in [255, 256, 4095, 4096, 5000] {
-        let name = letters(rt.alloc(), count)?;
+        let name = letters(rt.alloc(), count);
         let refusal = refusal_of(&rt, rt.alloc(), name.as_str());
         assert!(rt; refusal == Some(OpenFault::NoFile));
     }
-    Ok(())
-}
-
-/// The system opens a folder, and then fails to read it.
-#[test]
-fn a_folder_can_not_be_read(rt: HostRuntime) {
-    let Ok(mut source) = open_file(&rt, rt.alloc(), ".") else {
-        panic!(rt; "not opened");
-    };
-    let mut out: MemSink<1> = MemSink::new(1, 1);
-    let mut err: MemSink<1> = MemSink::new(1, 1);
-    let result = run(low(&rt, false), &mut source, &mut out, &mut err);
-    assert!(rt; result == Err(RunFault::Read));
 }
 
 /// Arguments, and how often each has to be there for the command line to be bad.
@@ -144,16 +127,15 @@ const BAD_ARGUMENTS: [(&str, usize); 7] = [
 const COUNTS: [usize; 9] = [1, 2, 3, 10, 15, 16, 30, 100, 1000];
 
 #[test]
-fn many_arguments_are_bad(rt: HostRuntime) -> Result<(), Fail> {
+fn many_arguments_are_bad(rt: HostRuntime) {
     for (argument, first_bad) in BAD_ARGUMENTS {
         let arguments = [argument; 1000];
         for count in COUNTS {
             if count >= first_bad {
-                assert!(rt; are_bad(rt.alloc(), &arguments[..count])?);
+                assert!(rt; are_bad(rt.alloc(), &arguments[..count]));
             }
         }
     }
-    Ok(())
 }
 
 /// The command line with the most arguments: each option and a file.
@@ -176,14 +158,13 @@ const MOST_ARGUMENTS: [&str; 15] = [
 ];
 
 #[test]
-fn the_longest_command_line_is_taken(rt: HostRuntime) -> Result<(), Fail> {
+fn the_longest_command_line_is_taken(rt: HostRuntime) {
     let alloc = rt.alloc();
-    let long = letters(alloc, 5000)?;
+    let long = letters(alloc, 5000);
     let mut arguments = [long.as_str(); 16];
     arguments[..15].copy_from_slice(&MOST_ARGUMENTS);
-    let _ = choice_of(alloc, &arguments[..15])?;
-    assert!(rt; are_bad(alloc, &arguments)?);
-    Ok(())
+    let _ = choice_of(&rt, alloc, &arguments[..15]);
+    assert!(rt; are_bad(alloc, &arguments));
 }
 
 /// The help text, which `-h` and `--help` ask for. No other test has all of it.
@@ -224,16 +205,15 @@ Example: echo 'ean13 400638133393' | labels --scale 4 --height 70 > pencil.pbm
 
 /// An argument asks for the whole help text. It begins with the version; the options have the defaults that it names.
 #[test]
-fn the_help_text_is_whole(rt: HostRuntime) -> Result<(), Fail> {
+fn the_help_text_is_whole(rt: HostRuntime) {
     let alloc = rt.alloc();
     let defaults = Options::new(Format::Pbm, 1, 50, Level::M, 1, None, false);
     assert!(rt; HELP.starts_with(VERSION) && defaults == Some(Options::default()));
     for argument in ["--help", "-h"] {
-        let arguments = arguments_of(alloc, &[argument])?;
+        let arguments = arguments_of(alloc, &[argument]);
         match options_of(alloc, arguments.as_slice()) {
             Err(ArgumentsFault::Help(text)) => assert!(rt; text.as_str() == HELP),
             _ => panic!(rt; "no help"),
         }
     }
-    Ok(())
 }

@@ -2,7 +2,7 @@
 use command::{ArgumentsFault, options_of};
 use device::{Buffered, MemSink, MemSource, Sink, write_whole};
 use filter::{Status, run};
-use gf256::Generator;
+use gf256::{Generator, mul, pow_alpha};
 use labelcore::{Fault, Format, Item, LineBuf, Options, Scratch, Symbology, parse};
 use linear::{Ean8, Linear, Refusal, Row};
 use picture::{Bars, Framed, QuietZone, Scaled, write_pbm};
@@ -36,6 +36,7 @@ fn page_of_gf256(rt: HostRuntime) {
     let mut ec_codewords = [0; 13];
     Generator::new(13).ec_codewords(&block, &mut ec_codewords);
     assert!(rt; ec_codewords == [168, 72, 22, 82, 217, 54, 156, 0, 46, 15, 180, 122, 16]);
+    assert!(rt; mul(2, 128) == 29 && pow_alpha(8) == 29);
 }
 
 #[test]

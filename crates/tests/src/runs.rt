@@ -1,11 +1,7 @@
-//! Worked labels, devices, hostile use: the filter as a whole.
+//! Worked labels, devices that fail, hostile input: the filter as a whole.
 mod after_a_fault;
-mod buffered_output;
-mod device_rows;
 mod entry_points;
 mod hostile;
-mod linear_rows;
-mod qr_rows;
-mod streams;
+mod passing_on;
+mod rows;
 pub mod support;
-mod zint_sums;

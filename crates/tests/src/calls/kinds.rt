@@ -1,6 +1,7 @@
-//! A reader and a writer of std that fail with each kind of error, at each of their calls, and a writer that takes each
-//! part of a text. Each call of a device is one call of theirs, whatever it returns.
-use crate::layers::support::{flushes, gives, gives_none, takes_none, takes_some};
+//! A reader and a writer of std that fail with each kind of error, at each of their calls, or that move each part of a
+//! text. Each call of a device is one call of theirs, whatever it returns, and moves as many bytes as it can: if it moved
+//! fewer, a run would take more time.
+use crate::calls::support::{flushes, gives, gives_none, passes_on, takes, takes_none, takes_some};
 use device::{StdSink, StdSource};
 use std::cell::Cell;
 use std::io::{self, ErrorKind, Read, Write};
@@ -53,14 +54,14 @@ pub const KINDS: [ErrorKind; 42] = [
 
 /// Counts of the calls of a reader or a writer, and the most bytes that its next call moves.
 #[derive(Drop)]
-pub struct Counts {
+struct Counts {
     moves: Cell<u32>,
     flushes: Cell<u32>,
-    pub moved: Cell<usize>,
+    moved: Cell<usize>,
 }
 
 impl Counts {
-    pub fn new(moved: usize) -> Self {
+    fn new(moved: usize) -> Self {
         Counts {
             moves: Cell::new(0),
             flushes: Cell::new(0),
@@ -68,18 +69,27 @@ impl Counts {
         }
     }
 
+    /// A reader or a writer with these counts that fails at no call.
+    fn never_failing(&self) -> Failing<'_> {
+        Failing {
+            kind: ErrorKind::Other,
+            call: 0,
+            counts: self,
+        }
+    }
+
     /// Whether there were `moves` reads or writes, and `flushes` flushes.
-    pub fn are(&self, moves: u32, flushes: u32) -> bool {
+    fn are(&self, moves: u32, flushes: u32) -> bool {
         self.moves.get() == moves && self.flushes.get() == flushes
     }
 }
 
 /// Counts its calls, and fails with an error of this kind at the call of this number, counted from 1; 0 is none.
 #[derive(Drop)]
-pub struct Failing<'a> {
-    pub kind: ErrorKind,
-    pub call: u32,
-    pub counts: &'a Counts,
+struct Failing<'a> {
+    kind: ErrorKind,
+    call: u32,
+    counts: &'a Counts,
 }
 
 impl Failing<'_> {
@@ -148,7 +158,7 @@ fn one_write_fails(kind: ErrorKind, failing: u32) -> bool {
         } else {
             takes_some(&mut sink, b"abc", 2)
         };
-        if !is_right || !counts.are(call, 0) {
+        if !is_right || !passes_on(&mut sink) || !counts.are(call, 0) {
             return false;
         }
     }
@@ -172,22 +182,40 @@ fn each_kind_of_error_is_one_failed_call(rt: HostRuntime) {
     }
 }
 
-/// A writer that takes each part of a text, from none of it on: one write each, and no flush.
-#[test]
-fn a_short_write_is_one_write_and_no_flush(rt: HostRuntime) {
-    let text = b"0123456789abcde";
-    for moved in 0..16usize {
-        let counts = Counts::new(moved);
-        let mut sink = StdSink::new(Failing {
-            kind: ErrorKind::Other,
-            call: 0,
-            counts: &counts,
-        });
-        let is_right = if moved == 0 {
-            takes_none(&mut sink, text)
+/// One read or one write that moves `moved` of 15 bytes, and flushes nothing.
+fn is_one_call(moved: usize) -> bool {
+    let counts = Counts::new(moved);
+    let mut source = StdSource::new(counts.never_failing());
+    let mut sink = StdSink::new(counts.never_failing());
+    let mut text = *b"0123456789abcde";
+    gives(&mut source, &mut text, moved)
+        && (if moved == 0 {
+            takes_none(&mut sink, &text)
         } else {
-            takes_some(&mut sink, text, moved)
-        };
-        assert!(rt; is_right && counts.are(1, 0));
+            takes_some(&mut sink, &text, moved)
+        })
+        && counts.are(2, 0)
+}
+
+#[test]
+fn a_call_that_moves_part_is_one_call(rt: HostRuntime) {
+    for moved in 0..16usize {
+        assert!(rt; is_one_call(moved));
+    }
+}
+
+/// A reader is asked for a whole buffer, and a writer is given a whole text at once.
+#[test]
+fn a_call_moves_all_bytes(rt: HostRuntime) {
+    let mut bytes = [b'a'; 65_536];
+    for amount in [1, 512, 1024, 4096, 60_000, 65_536] {
+        let counts = Counts::new(usize::MAX);
+        let mut source = StdSource::new(counts.never_failing());
+        let mut sink = StdSink::new(counts.never_failing());
+        assert!(rt;
+            gives(&mut source, &mut bytes[..amount], amount)
+                && takes(&mut sink, &bytes[..amount])
+                && counts.are(2, 0)
+        );
     }
 }

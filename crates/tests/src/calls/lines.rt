@@ -5,12 +5,11 @@ ghost use Rattle.std.specs.Prelude.{◌<◌};
 use crate::runs::support::{low, result_of};
 use device::{Buffered, IoFault, MemSink, MemSource, Sink, Source};
 use filter::Status;
-use std::alloc::{AllocError, Global};
+use std::alloc::Global;
 use std::cell::RefCell;
 use std::process::Abort;
-use std::test::Fail;
 
-/// The marks of calls in a record. The text of a message follows its mark.
+/// The marks of calls in a record.
 const READ: u8 = b'<';
 
 const PASSING_ON: u8 = b'^';
@@ -28,14 +27,15 @@ const FLUSH_OF_MESSAGES: u8 = b'$';
 struct Recorded<'a, D: Drop> {
     device: D,
     record: &'a RefCell<Vec<u8>>,
-    has_messages: bool,
+    mark: u8,
+    mark_of_flush: u8,
 }
 
 impl<D: Drop> Recorded<'_, D> {
-    /// Adds a text to the record.
-    fn note(&self, text: &[u8]) {
+    /// Adds a mark to the record.
+    fn note(&self, mark: u8) {
         if let Ok(mut record) = self.record.try_borrow_mut() {
-            let _ = record.extend_from_slice(text);
+            let _ = record.push(mark);
         }
     }
 }
@@ -50,7 +50,7 @@ impl<S: Source + Drop> Source for Recorded<'_, S> {
     ghost ends = { λ s. S.ends s.device };
 
     fn read(&mut self, buf: &mut [u8]) -> Result<usize, IoFault> {
-        self.note(&[READ]);
+        self.note(self.mark);
         self.device.read(buf)
     }
 
@@ -67,26 +67,17 @@ impl<S: Sink + Drop> Sink for Recorded<'_, S> {
     ghost took = { λ s t xs. S.took s.device t.device xs };
 
     fn write(&mut self, bytes: &[u8]) -> Result<usize, IoFault> {
-        if self.has_messages {
-            self.note(&[MESSAGE]);
-            self.note(bytes);
-        } else {
-            self.note(&[WRITE]);
-        }
+        self.note(self.mark);
         self.device.write(bytes)
     }
 
     fn flush(&mut self) -> Result<(), IoFault> {
-        self.note(&[if self.has_messages {
-            FLUSH_OF_MESSAGES
-        } else {
-            FLUSH
-        }]);
+        self.note(self.mark_of_flush);
         self.device.flush()
     }
 
     fn pass_on(&mut self) -> Result<(), IoFault> {
-        self.note(&[PASSING_ON]);
+        self.note(PASSING_ON);
         self.device.pass_on()
     }
 
@@ -96,91 +87,65 @@ impl<S: Sink + Drop> Sink for Recorded<'_, S> {
 }
 
 /// Lines: the front, how many letters `a` follow it, how many writes the picture takes (its header, and each row in
-/// pieces of 70 pixels), and why the line is refused. A line that is neither drawn nor refused is skipped.
-const LINES: &[(&[u8], usize, usize, &[u8])] = &[
-    (b"ean8 7351353", 0, 3, b""),
-    (b"", 1101, 0, b"line is longer than 1100 bytes"),
-    (b"# a comment", 0, 0, b""),
-    (b"qr", 0, 0, b"no data"),
-    (b"upca 03600029145", 0, 3, b""),
-    (b"", 0, 0, b""),
-    (b"code128 a\\q", 0, 0, b"bad escape at byte 2"),
-    (b"ean13 40063813339x", 0, 0, b"not a digit at byte 12"),
-    (b"ean13 123", 0, 0, b"wrong number of digits: 3"),
-    (b"ean8 73513530", 0, 0, b"check digit is 0, should be 7"),
-    (b"code128 1", 0, 2, b""),
-    (b"code128 ", 81, 0, b"data is longer than 80 bytes"),
-    (b"code128 \xC3\xA9", 0, 0, b"byte 1 is not ASCII"),
-    (b"qr,mask=2 01234567", 0, 30, b""),
-    (b"ean13 400638133393", 0, 3, b""),
-    (b"qr,level=H ", 120, 0, b"data does not fit version 10-H"),
-    (b"ean8,level=M 7351353", 0, 0, b"unknown setting 1"),
-    (b"qr,mask=8 0", 0, 0, b"bad value in setting 1"),
-    (b"#", 40, 0, b""),
-    (b"pdf x", 0, 0, b"unknown symbology"),
+/// pieces of 70 pixels), and whether the line is refused. A line that is neither drawn nor refused is skipped.
+const LINES: &[(&[u8], usize, usize, bool)] = &[
+    (b"ean8 7351353", 0, 3, false),
+    (b"", 1101, 0, true),
+    (b"# a comment", 0, 0, false),
+    (b"qr", 0, 0, true),
+    (b"upca 03600029145", 0, 3, false),
+    (b"", 0, 0, false),
+    (b"code128 a\\q", 0, 0, true),
+    (b"ean13 40063813339x", 0, 0, true),
+    (b"ean13 123", 0, 0, true),
+    (b"ean8 73513530", 0, 0, true),
+    (b"code128 1", 0, 2, false),
+    (b"code128 ", 81, 0, true),
+    (b"code128 \xC3\xA9", 0, 0, true),
+    (b"qr,mask=2 01234567", 0, 30, false),
+    (b"ean13 400638133393", 0, 3, false),
+    (b"qr,level=H ", 120, 0, true),
+    (b"ean8,level=M 7351353", 0, 0, true),
+    (b"qr,mask=8 0", 0, 0, true),
+    (b"#", 40, 0, false),
+    (b"pdf x", 0, 0, true),
 ];
 
 /// How often the input repeats the lines: 300 lines in all.
 const ROUNDS: usize = 15;
 
 /// The lines, repeated. No line feed ends the last one.
-fn input_of(alloc: Global) -> Result<Vec<u8>, AllocError> {
+fn input_of(alloc: Global) -> Vec<u8> {
     let mut input = Vec::new(alloc);
     for _ in 0..ROUNDS {
         for (front, letters, _, _) in LINES {
             if !input.is_empty() {
-                input.push(b'\n')?;
+                add(&mut input, b"\n", 1);
             }
-            input.extend_from_slice(front)?;
-            for _ in 0..*letters {
-                input.push(b'a')?;
-            }
+            add(&mut input, front, 1);
+            add(&mut input, b"a", *letters);
         }
     }
-    Ok(input)
+    input
 }
 
-/// Adds the calls of reads, from one number of reads to another: passing on comes before each.
-fn add_reads(record: &mut Vec<u8>, from: usize, to: usize) -> Result<(), AllocError> {
-    for _ in from..to {
-        record.extend_from_slice(&[PASSING_ON, READ])?;
+/// Adds bytes, `times` times. Without memory they are missing, and the run is not as wanted.
+fn add(text: &mut Vec<u8>, bytes: &[u8], times: usize) {
+    for _ in 0..times {
+        let _ = text.extend_from_slice(bytes);
     }
-    Ok(())
-}
-
-/// Adds the calls of a line: the writes of its picture, or passing on and its message.
-fn add_line(
-    alloc: Global,
-    record: &mut Vec<u8>,
-    number: usize,
-    writes: usize,
-    refusal: &[u8],
-) -> Result<(), Fail> {
-    for _ in 0..writes {
-        record.push(WRITE)?;
-    }
-    if !refusal.is_empty() {
-        let front = format!(in alloc; "line {number}: ")?;
-        record.extend_from_slice(&[PASSING_ON, MESSAGE])?;
-        record.extend_from_slice(front.as_bytes())?;
-        record.extend_from_slice(refusal)?;
-        record.push(b'\n')?;
-    }
-    Ok(())
 }
 
 /// The record of a run over the input, `piece` bytes a read: pictures are passed on before each read and each message,
 /// and nowhere else. The last read gives nothing. After it the last line is refused, and then the outputs are flushed.
-fn record_of(alloc: Global, len: usize, piece: usize) -> Result<Vec<u8>, Fail>
+fn record_of(alloc: Global, len: usize, piece: usize) -> Vec<u8>
     requires { 0 < piece }
 {
     let mut record = Vec::new(alloc);
     let mut end: usize = 0;
-    let mut reads = 0;
-    let mut number: usize = 0;
+    let mut reads: usize = 0;
     for _ in 0..ROUNDS {
-        for (front, letters, writes, refusal) in LINES {
-            number = number.saturating_add(1);
+        for (front, letters, writes, is_refused) in LINES {
             end = end
                 .saturating_add(front.len())
                 .saturating_add(*letters)
@@ -189,17 +154,26 @@ fn record_of(alloc: Global, len: usize, piece: usize) -> Result<Vec<u8>, Fail>
                 .min(len)
                 .div_ceil(piece)
                 .saturating_add(usize::from(end > len));
-            add_reads(&mut record, reads, needed)?;
+            add(
+                &mut record,
+                &[PASSING_ON, READ],
+                needed.saturating_sub(reads),
+            );
             reads = needed;
-            add_line(alloc, &mut record, number, *writes, refusal)?;
+            add(&mut record, &[WRITE], *writes);
+            add(
+                &mut record,
+                &[PASSING_ON, MESSAGE],
+                usize::from(*is_refused),
+            );
         }
     }
-    record.extend_from_slice(&[FLUSH, FLUSH_OF_MESSAGES])?;
-    Ok(record)
+    add(&mut record, &[FLUSH, FLUSH_OF_MESSAGES], 1);
+    record
 }
 
 /// The same record where pictures are buffered: one write at each passing on and each flush, if some are buffered.
-fn buffered_record_of(alloc: Global, record: &[u8]) -> Result<Vec<u8>, AllocError> {
+fn buffered_record_of(alloc: Global, record: &[u8]) -> Vec<u8> {
     let mut buffered_record = Vec::new(alloc);
     let mut is_buffered = false;
     for mark in record {
@@ -208,14 +182,16 @@ fn buffered_record_of(alloc: Global, record: &[u8]) -> Result<Vec<u8>, AllocErro
             continue;
         }
         if (*mark == PASSING_ON || *mark == FLUSH) && is_buffered {
-            buffered_record.push(WRITE)?;
+            add(&mut buffered_record, &[WRITE], 1);
             is_buffered = false;
         }
-        if *mark != PASSING_ON {
-            buffered_record.push(*mark)?;
-        }
+        add(
+            &mut buffered_record,
+            &[*mark],
+            usize::from(*mark != PASSING_ON),
+        );
     }
-    Ok(buffered_record)
+    buffered_record
 }
 
 /// The most bytes that a read gives: fewer than the run asks for, as many, and more.
@@ -236,14 +212,18 @@ fn assert_runs(
     let mut source = Recorded {
         device: MemSource::new(input, piece, false),
         record,
-        has_messages: false,
+        mark: READ,
+        mark_of_flush: READ,
     };
     let mut err = Recorded {
         device: MemSink::<16384>::new(16384, 16384),
         record,
-        has_messages: true,
+        mark: MESSAGE,
+        mark_of_flush: FLUSH_OF_MESSAGES,
     };
-    assert!(rt; result_of(low(rt, true), &mut source, out, &mut err) == Ok(Status::Refused));
+    assert!(rt;
+        result_of(low(rt).with_escapes(true), &mut source, out, &mut err) == Ok(Status::Refused)
+    );
 }
 
 /// A sink of the pictures whose calls are recorded.
@@ -251,7 +231,8 @@ fn pictures(record: &RefCell<Vec<u8>>) -> Recorded<'_, MemSink<32768>> {
     Recorded {
         device: MemSink::new(32768, 32768),
         record,
-        has_messages: false,
+        mark: WRITE,
+        mark_of_flush: FLUSH,
     }
 }
 
@@ -275,16 +256,15 @@ fn record_of_run(
 
 /// Buffered pictures go out before each read and each message.
 #[test]
-fn the_calls_of_300_lines_are_in_order(rt: HostRuntime) -> Result<(), Fail> {
+fn the_calls_of_300_lines_are_in_order(rt: HostRuntime) {
     let alloc = rt.alloc();
-    let input = input_of(alloc)?;
+    let input = input_of(alloc);
     for piece in PIECES {
-        let calls = record_of(alloc, input.len(), BUFFER.min(piece))?;
+        let calls = record_of(alloc, input.len(), BUFFER.min(piece));
         let record = record_of_run(&rt, alloc, input.as_slice(), piece, false);
         assert!(rt; record.as_slice() == calls.as_slice());
-        let buffered_calls = buffered_record_of(alloc, calls.as_slice())?;
+        let buffered_calls = buffered_record_of(alloc, calls.as_slice());
         let record = record_of_run(&rt, alloc, input.as_slice(), piece, true);
         assert!(rt; record.as_slice() == buffered_calls.as_slice());
     }
-    Ok(())
 }

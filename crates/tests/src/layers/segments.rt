@@ -2,7 +2,7 @@
 //! character counts.
 ghost use Rattle.std.specs.Prelude.{length, ◌≤◌, ◌<◌};
 
-use crate::layers::support::{LEVELS, version};
+use crate::layers::LEVELS;
 use qrdata::{Level, Mode, Plan, Segment, Version, choose};
 use std::process::Abort;
 
@@ -187,8 +187,8 @@ fn expect_same(rt: &impl Abort, data: &[u8]) {
     let short = slow_table(Version::of(9), data);
     let long = slow_table(Version::of(10), data);
     for level in LEVELS {
-        for lowest in [1, 9, 10] {
-            assert!(rt; is_same(version(rt, lowest), level, data, &short, &long));
+        for lowest in [Version::of(1), Version::of(9), Version::of(10)] {
+            assert!(rt; is_same(lowest, level, data, &short, &long));
         }
     }
 }

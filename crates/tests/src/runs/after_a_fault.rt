@@ -100,7 +100,7 @@ fn run_failing(rt: &impl Abort, alloc: Global, source: u32, images: u32, message
     });
     let mut out = Buffered::new(StdSink::new(&mut images));
     let mut err = StdSink::new(&mut messages);
-    let result = run_streams(low(rt, false), &mut reader, &mut out, &mut err);
+    let result = run_streams(low(rt), &mut reader, &mut out, &mut err);
     Ran {
         result,
         images,

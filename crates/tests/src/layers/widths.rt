@@ -1,5 +1,4 @@
 //! Rows at the widths where their form changes, against the slow form, which asks for each pixel.
-use crate::runs::support::line_ends;
 use device::{Buffered, IoFault, MemSink, Sink, write_whole};
 use picture::{Bars, Framed, Grid, QuietZone, write_ascii, write_pbm};
 
@@ -58,17 +57,15 @@ fn write_ascii_slowly<G: Grid, S: Sink>(grid: &G, sink: &mut S) -> Result<(), Io
     write_whole(b"\n", sink)
 }
 
-/// Whether the plain PBM of a grid of at most four rows has a header and the slow form's rows. The sink buffers, so that
+/// Whether the plain PBM of a grid of at most four rows is this header and the slow form's rows. The sink buffers, so that
 /// it repeats rows.
-fn has_same_pbm(grid: &impl Grid) -> bool {
+fn has_same_pbm(grid: &impl Grid, header: &str) -> bool {
     let mut sink = Buffered::new(MemSink::<61000>::new(4096, 61000));
     let mut slow = MemSink::<61000>::new(4096, 61000);
     write_pbm(grid, &mut sink).is_ok()
         && sink.flush().is_ok()
         && write_pbm_slowly(grid, &mut slow).is_ok()
-        && sink.sink().bytes().starts_with(b"P1\n")
-        && sink.sink().bytes().ends_with(slow.bytes())
-        && line_ends(sink.sink().bytes()) == line_ends(slow.bytes()).wrapping_add(2)
+        && sink.sink().bytes().strip_prefix(header.as_bytes()) == Some(slow.bytes())
 }
 
 /// Whether the text picture of a grid of at most four rows is that of the slow form, through a sink that buffers.
@@ -81,22 +78,17 @@ fn has_same_ascii(grid: &impl Grid) -> bool {
         && sink.sink().bytes() == slow.bytes()
 }
 
+/// Stripes, and bars whose light row, two equal rows and light row are known to be equal.
 #[test]
-fn rows_that_are_not_known_to_be_equal(rt: HostRuntime) {
-    for width in WIDTHS {
-        let stripes = Stripes { width };
-        assert!(rt; has_same_pbm(&stripes) && has_same_ascii(&stripes));
-    }
-}
-
-/// A light row, two rows that are equal, and a light row.
-#[test]
-fn rows_that_are_known_to_be_equal(rt: HostRuntime) {
+fn rows_have_the_pixels_of_the_slow_form(rt: HostRuntime) {
     let mut modules = [false; 15000];
     for i in 0..15000 {
         modules[i] = i % 5 == 0 || i % 7 == 3;
     }
     for width in WIDTHS {
+        let stripes = Stripes { width };
+        let header = format!(in rt.alloc(); "P1\n{width} 2\n").expect(&rt, "memory");
+        assert!(rt; has_same_pbm(&stripes, header.as_str()) && has_same_ascii(&stripes));
         let all = &modules[..];
         let bars = Bars::new(&all[..width.min(15000)], 2);
         let zone = QuietZone {
@@ -106,6 +98,7 @@ fn rows_that_are_known_to_be_equal(rt: HostRuntime) {
             bottom: 1,
         };
         let framed = Framed::new(bars, zone);
-        assert!(rt; has_same_pbm(&framed) && has_same_ascii(&framed));
+        let header = format!(in rt.alloc(); "P1\n{width} 4\n").expect(&rt, "memory");
+        assert!(rt; has_same_pbm(&framed, header.as_str()) && has_same_ascii(&framed));
     }
 }

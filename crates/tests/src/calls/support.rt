@@ -1,21 +1,5 @@
-//! What the tests share: versions of QR symbols, and functions that make one call of a device and check its result.
+//! One call of a device, and whether its result is the one that is wanted.
 use device::{Sink, Source, write_whole};
-use qrdata::{Level, Version};
-use std::process::Abort;
-
-/// The most bytes that are buffered before a sink.
-pub const MOST_BUFFERED: usize = 32_768;
-
-/// The levels in the order of the tables.
-pub const LEVELS: [Level; 4] = [Level::L, Level::M, Level::Q, Level::H];
-
-/// The version of a number from 1 to 10.
-pub fn version(rt: &impl Abort, number: u8) -> Version {
-    match Version::new(number) {
-        Some(version) => version,
-        None => panic!(rt; "there is no such version"),
-    }
-}
 
 /// Whether a sink takes all of the bytes; it fails if not.
 pub fn takes(sink: &mut impl Sink, bytes: &[u8]) -> bool {
