@@ -153,7 +153,7 @@ fn place_free(strip: Strip, t: usize, bits: u64, modules: &mut Square)
         → MovesOn strip free codewords modules.old modules.new i t (i + 8) (t + 4) }
 {
     for j in 0..4 {
-        let two = two_at(bits, 62 - 2 * j);
+        let two = two_of(3, bits << (2 * j));
         modules.flip(strip.row(t + j), two << strip.x);
     }
 }
