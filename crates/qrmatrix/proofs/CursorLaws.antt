@@ -294,24 +294,6 @@ for_row right_free left_free free two word i codewords few shows er el has =
     chosen true first second = second
     chosen false first second = first ∙ ap (codeword_bit codewords) (sym (add-zero i))
 
--- two bits for a row whose modules are free
-pub for_free_row : (right_free left_free : Bool) (two word i j : ℕ) (codewords : List ℕ) → right_free ≡ true
-    → left_free ≡ true → j < 4 → HasBits 57 word codewords i → bit two 0 ≡ bit word (62 - 2 * j)
-    → bit two 1 ≡ bit word (62 - 2 * j + 1)
-    → ForRow right_free left_free (bit two 1) (bit two 0) codewords (i + 2 * j) 2
-for_free_row right_free left_free two word i j codewords er el l has low high =
-    let first : 62 - 2 * j + 1 ≡ 63 - 2 * j = omega arith in
-    let second : 62 - 2 * j ≡ 63 - (2 * j + 1) = omega arith in
-    let next : i + (2 * j + 1) ≡ i + 2 * j + 1 = omega arith in
-    record {
-      right_bit = λ f. high ∙ ap (bit word) first ∙ has (2 * j) (omega arith);
-      right_none = λ f. absurd (both_ways right_free f er);
-      left_bit = λ f. low ∙ ap (bit word) second ∙ has (2 * j + 1) (omega arith)
-          ∙ ap (codeword_bit codewords) next ∙ ap (λ z. codeword_bit codewords (i + 2 * j + one_if z)) (sym er);
-      left_none = λ f. absurd (both_ways left_free f el);
-      counted = rw (er, el) refl;
-    }
-
 -- both modules of a row are free where the row's bits are ones
 pub both_free : (free : List (List Bool)) (w x y row : ℕ) → ((x : ℕ) → bit w x ≡ value_at free x y) → y ≡ row
     → bit w x ≡ true → bit w (x + 1) ≡ true → (value_at free x row ≡ true) × (value_at free (x + 1) row ≡ true)

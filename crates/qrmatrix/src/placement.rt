@@ -153,7 +153,7 @@ fn place_free(strip: Strip, t: usize, bits: u64, modules: &mut Square)
         → MovesOn strip free codewords modules.old modules.new i t (i + 8) (t + 4) }
 {
     for j in 0..4 {
-        let two = two_at(bits, 62 - 2 * j);
+        let two = two_of(3, bits << (2 * j));
         modules.flip(strip.row(t + j), two << strip.x);
     }
 }
@@ -215,11 +215,20 @@ fn place_strip(
     ensures placed { MovesOn strip free.now bytes.now modules.old modules.new first 0 result strip.n }
     ensures bound { result ≤ first + 2 * strip.n }
 {
-    let mut i = first;
+    // Row 0 is placed alone, so that the four rows are the same ones in each strip.
+    let begin = strip.number % 2;
+    let mut i = first + place_rows(strip, 0, begin, bits_from(bytes, first), free, modules);
     for block in 0..strip.n / 4 {
-        i += place_four(strip, 4 * block, bits_from(bytes, i), free, modules);
+        i += place_four(strip, begin + 4 * block, bits_from(bytes, i), free, modules);
     }
-    i + place_rows(strip, strip.n - 1, 1, bits_from(bytes, i), free, modules)
+    i + place_rows(
+        strip,
+        strip.n - 1 + begin,
+        1 - begin,
+        bits_from(bytes, i),
+        free,
+        modules,
+    )
 }
 
 /// Places the codewords on the free modules, strip after strip from the right, upwards and downwards in turn (ISO/IEC

@@ -1,6 +1,6 @@
-use Rattle.std.proofs.Common.{◌∙◌, ◌+◌, ◌*◌, refl, arith}
-use Rattle.qrmatrix.proofs.CursorLaws.{for_free_row, renumbered, row_placed}
-use Rattle.qrmatrix.proofs.TwoBitsLaws.{moved, up_narrow}
+use Rattle.std.proofs.Common.{sym, ◌∙◌, ◌+◌, ◌*◌, refl, arith}
+use Rattle.qrmatrix.proofs.CursorLaws.{for_row, renumbered, row_placed}
+use Rattle.qrmatrix.proofs.TwoBitsLaws.{bits_after, moved, up_narrow}
 use Rattle.qrmatrix.proofs.placement.place_free.Goals as goal
 
 pub loop-j-init : goal.loop-j-init
@@ -11,7 +11,7 @@ loop-j-init c = record {
 
 pub flip-requires-clause-row_bits : goal.flip-requires-clause-row_bits
 flip-requires-clause-row_bits c =
-    up_narrow c.two_at-two.result c.args.strip.x c.two_at-two.ensures.bound c.requires.column
+    up_narrow c.two_of-two.result c.args.strip.x c.two_of-two.ensures.bound c.requires.column
 
 pub loop-j-preserved : goal.loop-j-preserved
 loop-j-preserved c = record {
@@ -19,7 +19,7 @@ loop-j-preserved c = record {
       let j = c.loop-j.j in
       let t = c.args.t + j in
       let rows = four j (omega arith) in
-      let two = c.two_at-two in
+      let two = c.two_of-two in
       renumbered c.args.strip.number (i + 2 * j + 2) (i + 2 * (j + 1)) (t + 1) (c.args.t + (j + 1)) (omega arith)
       (omega arith)
       (row_placed c.args.strip free c.loop-j.modules c.flip.new.self codewords (i + 2 * j) t two.result 2 (omega arith)
@@ -28,8 +28,8 @@ loop-j-preserved c = record {
         c.row.ensures.value,
       )
       refl)
-      (for_free_row _ _ two.result c.args.bits i j codewords rows.1 rows.0 (omega arith) has two.ensures.low
-      two.ensures.high) v start is marks (c.loop-j.invariant.placed free four codewords i has v start is marks p));
+      (for_row _ _ 3 two.result _ (i + 2 * j) codewords (omega arith) two.ensures.value (sym rows.1) (sym rows.0)
+      (bits_after (2 * j) 2 c.args.bits i codewords (omega arith) has)) v start is marks (c.loop-j.invariant.placed free four codewords i has v start is marks p));
 }
 
 pub returns : goal.returns
