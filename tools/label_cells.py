@@ -47,11 +47,11 @@ class Number(str):
 
 
 class Merge(NamedTuple):
-    """Merged cells: their first and last row, and the places of their first and last column."""
+    """Merged cells: the row and the place of the first one, and of the last one."""
 
     row: int
-    last_row: int
     place: int
+    last_row: int
     last_place: int
 
 
@@ -70,7 +70,7 @@ class Row(NamedTuple):
 
     def cell(self, place: int) -> str:
         """Returns the cell at a place; those at the end of the row may be missing."""
-        for row, last_row, first, last in self.merges:
+        for row, first, last_row, last in self.merges:
             if row <= self.number <= last_row and first <= place <= last and (row, first) != (self.number, place):
                 return Fault(f"is merged with row {row}: take the merged cells apart")
         return self.cells[place] if place < len(self.cells) else ""

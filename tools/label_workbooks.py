@@ -24,9 +24,7 @@ from label_formats import BUILT_IN, Signs, digits_of, shown_number
 MOST_ROWS, MOST_COLUMNS, MOST_MERGES = 1048576, 16384, 256  # the last of those that cross one row
 LARGEST_PART, LARGEST_ROW, PIECE, DEEPEST = 1 << 28, 1 << 20, 1 << 16, 100
 LARGEST_NUMBER = 10**308
-DAMAGE = (
-    *(expat.ExpatError, BadZipFile, zlib.error, EOFError, LookupError, RuntimeError, ValueError, ArithmeticError),
-)
+DAMAGE = (expat.ExpatError, BadZipFile, zlib.error, EOFError, LookupError, RuntimeError, ValueError, ArithmeticError)
 NOT_SHOWN = ("rPh", "annotation", "ruby-text")
 ODS_STYLE = "document-content/automatic-styles/style"
 ODS_ROW = "document-content/body/spreadsheet/table(?:/table-(?:row-group|header-rows|rows))*/table-row"
@@ -42,6 +40,8 @@ TRUTH = Fault("has a truth value (TRUE, FALSE): write it as text")
 SAVE_AGAIN = "open it in the spreadsheet and save it again"
 TOO_LARGE = f"has a row or another element of more than 1 MB, or elements {DEEPEST} deep: {SAVE_AGAIN}"
 
+Found = tuple[list[Element], Element]  # an element behind those that it is in
+
 
 class Sheet(NamedTuple):
     """A sheet of a file; `rows` yields its rows, and may leave out empty ones."""
@@ -52,10 +52,7 @@ class Sheet(NamedTuple):
 
 
 def rows_of_workbook(data: bytes, name: str, wanted: str | None, signs: Signs) -> Iterator[Row]:
-    """Yields the rows of a sheet: the one that is wanted, else the only one that is visible and has data.
-
-    Raises ToolError for a file that is damaged, hostile or of another kind, or where no sheet is the one.
-    """
+    """Yields the rows of a sheet: the one that is wanted, else the only one that is visible and has data."""
     try:
         with ZipFile(BytesIO(data)) as archive:
             yield from chosen(sheets_of(archive, signs), wanted).rows()
@@ -92,13 +89,13 @@ def chosen(sheets: list[Sheet], wanted: str | None) -> Sheet:
 
 
 class Reader:
-    """Reads a part: `found` gets the elements that a path of local names leads to, each behind those that it is in."""
+    """Reads a part: `found` gets the elements that a path of local names leads to, the others are forgotten."""
 
     def __init__(self, path: str) -> None:
         self.wanted, self.parser = re.compile(path), expat.ParserCreate()
         self.parser.buffer_text, self.parser.StartDoctypeDeclHandler = True, self.refuse_document_type
         self.around: list[Element] = []
-        self.found: list[tuple[list[Element], Element]] = []
+        self.found: list[Found] = []
         self.search()
 
     def refuse_document_type(self, *_: object) -> None:
@@ -136,10 +133,8 @@ class Reader:
         self.begun = self.parser.CurrentByteIndex
 
 
-def elements(
-    archive: ZipFile, part: str, path: str, are_local: bool = True
-) -> Iterator[tuple[list[Element], Element]]:
-    """Yields the elements that a path of local names leads to, whole and with such names, behind those around them."""
+def elements(archive: ZipFile, part: str, path: str, are_local: bool = True) -> Iterator[Found]:
+    """Yields the elements that a path of local names leads to, whole and with such names."""
     reader, size = Reader(path), 0
     with archive.open(part) as stream:
         for piece in chain(iter(partial(stream.read, PIECE), b""), [b""]):
@@ -179,9 +174,6 @@ def rows_of(number: int, repeat: int, cells: list[str], merges: list[Merge], is_
         yield Row(each, cells, "", is_hidden, tuple(merges))
 
 
-# ---------------------------------------------------------------- .xlsx
-
-
 class Book(NamedTuple):
     """What the cells of an .xlsx file refer to: its strings, the number format of each style, and the first day."""
 
@@ -208,15 +200,13 @@ def xlsx_sheets(archive: ZipFile, signs: Signs) -> list[Sheet]:
         strings = [string_of(element) for _, element in elements(archive, parts["sharedStrings"], "sst/si")]
     is_from_1904 = any(element.get("date1904") in TRUE for element in found)
     book = Book(strings, styles or [BUILT_IN["0"]], is_from_1904, signs)
-    return [
-        Sheet(
-            sheet.attrib["name"],
-            sheet.get("state", "visible") == "visible",
-            partial(xlsx_rows, archive, targets[sheet.attrib["id"]][1], book),
-        )
-        for sheet in found
-        if sheet.tag == "sheet" and targets[sheet.attrib["id"]][0] == "worksheet"
-    ]
+    sheets = []
+    for sheet in found:
+        kind, part = targets[sheet.attrib["id"]] if sheet.tag == "sheet" else ("", "")
+        if kind == "worksheet":
+            is_visible, rows = sheet.get("state", "visible") == "visible", partial(xlsx_rows, archive, part, book)
+            sheets.append(Sheet(sheet.attrib["name"], is_visible, rows))
+    return sheets
 
 
 def relations(archive: ZipFile, path: str) -> dict[str, tuple[str, str]]:
@@ -253,8 +243,8 @@ def merges_of(archive: ZipFile, path: str) -> dict[int, list[Merge]]:
             before = piece[-len(word) :]
     for _, element in elements(archive, path, "worksheet/mergeCells/mergeCell") if piece else ():
         first, _, last = element.attrib["ref"].partition(":")
-        (row, place), (last_row, last_place) = reference_of(first), reference_of(last or first)
-        merges[row].append(Merge(row, last_row, place, last_place))
+        merge = Merge(*reference_of(first), *reference_of(last or first))
+        merges[merge.row].append(merge)
     return merges
 
 
@@ -295,9 +285,6 @@ def string_of(element: Element) -> str:
     return text
 
 
-# ---------------------------------------------------------------- .ods
-
-
 def ods_sheets(archive: ZipFile) -> list[Sheet]:
     hidden, sheets = set(), dict[str, Sheet]()
     for around, element in elements(archive, "content.xml", f"{ODS_STYLE}|{ODS_ROW}", are_local=False):
@@ -324,7 +311,7 @@ def ods_rows(archive: ZipFile, sheet: str) -> Iterator[Row]:
             names = ("number-rows-spanned", "number-columns-spanned", "number-columns-repeated")
             rows, columns, repeat = (int(cell.get(name, 1)) for name in names)
             if rows > 1 or columns > 1:
-                merges.append(Merge(number, number + rows - 1, place, place + columns - 1))
+                merges.append(Merge(number, place, number + rows - 1, place + columns - 1))
             text = ods_cell(cell)
             letters += len(text)
             if letters > LARGEST_ROW:
