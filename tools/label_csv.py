@@ -8,8 +8,7 @@ import sys
 from itertools import count, islice
 from typing import Iterator, Sequence
 
-from label_cells import BadArgument, Row, name_of, named
-from label_codes import FREE_TEXT
+from label_cells import FREE_TEXT, BadArgument, Row, name_of, named
 from label_command import ToolError
 
 # a delimiter that no table has: the table is one column
@@ -27,10 +26,7 @@ MARKS = {
 
 
 def rows_of_csv(data: bytes, name: str, columns: list[str], arguments: argparse.Namespace) -> Iterator[Row]:
-    """Yields the rows of a table; one of another width than the first has a problem: a cell may be in another column.
-
-    Raises ToolError or BadArgument where the bytes, the encoding or the delimiter are not what the arguments say.
-    """
+    """Yields the rows of a table; one of another width than the first has a problem: its cells may have moved."""
     text = decoded(data, name, arguments.encoding)
     given, separator = arguments.delimiter, SEPARATOR_LINE.match(text)
     if separator:
@@ -78,10 +74,7 @@ def decoded(data: bytes, name: str, encoding: str | None) -> str:
 
 
 def delimiter_of(text: str, given: str | None, columns: list[str], is_free: bool) -> str:
-    """Returns the delimiter: the one that was given, or else the one that row 1 has outside quotes.
-
-    Raises BadArgument where row 1 does not have it, or where it may be a part of data that is free.
-    """
+    """Returns the delimiter: the one that was given, or else the one that row 1 has and that is surely no data."""
     found = [delimiter for delimiter in DELIMITERS if len(first_cells(text, delimiter)) > 1]
     if given:
         if found and given != ONE_COLUMN and len(first_cells(text, given)) < 2:
@@ -100,9 +93,8 @@ def delimiter_of(text: str, given: str | None, columns: list[str], is_free: bool
         if row is None:
             return delimiter
         where = f"row 1 is one cell, and row {row.number} has"
-    option = "tab" if delimiter == "\t" else f"'{delimiter}'"
-    hint = f"give --delimiter {option} if it is between cells, --delimiter none if it is data"
-    raise BadArgument(f"{where} {named(delimiter)}: {hint}")
+    given = f"--delimiter {'tab' if delimiter == chr(9) else repr(delimiter)} if it is between cells"
+    raise BadArgument(f"{where} {named(delimiter)}: give {given}, --delimiter none if it is data")
 
 
 def first_cells(text: str, delimiter: str) -> Sequence[str]:

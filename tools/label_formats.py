@@ -61,18 +61,14 @@ def shown_number(value: Decimal, number_format: str, signs: Signs, from_1904: bo
 
 @lru_cache(maxsize=256)
 def sections_of(number_format: str) -> list[list[tuple[str, str]]]:
-    """Returns the sections of a format, for positive numbers, negative ones and zero: of each part the kind and text.
-
-    Raises RowError where a section is not understood.
-    """
+    """Returns the sections of a format, for numbers above, below and equal to zero: of each part the kind and text."""
     found, sections = SECTION.findall(number_format + ";"), []
     for section in found[:3]:
-        tokens = [(match.lastgroup or "", match[match.lastgroup or 0]) for match in TOKEN.finditer(section)]
-        kinds = [kind for kind, _ in tokens]
+        sections.append([(match.lastgroup or "", match[match.lastgroup or 0]) for match in TOKEN.finditer(section)])
+        kinds = [kind for kind, _ in sections[-1]]
         is_mixed = "date" in kinds and not {"number", "percent"}.isdisjoint(kinds)
         if TOKEN.sub("", section) or kinds.count("number") > 1 or is_mixed:
             raise not_understood(number_format)
-        sections.append(tokens)
     if ";".join(found) != number_format:
         raise not_understood(number_format)
     return sections
@@ -107,10 +103,7 @@ def by_day(value: Decimal, field: str) -> str:
 
 
 def digits_of(value: Decimal, number_format: str) -> str:
-    """Returns the digits of a whole number with the zeros that its format puts in front, without other signs.
-
-    Raises RowError where the number is not whole, or is shown with more than digits.
-    """
+    """Returns the digits of a whole number, shown as one, with the zeros that its format puts in front."""
     tokens = [(kind, text) for kind, text in sections_of(number_format)[0] if kind != "nothing" and text.strip(" _")]
     if [kind for kind, _ in tokens] != ["number"]:
         raise RowError(f"is a number or a date with the format {shown(number_format)}: enter it again as text")

@@ -88,63 +88,50 @@ def chosen(sheets: list[Sheet], wanted: str | None) -> Sheet:
     return found[0]
 
 
-class Reader:
-    """Reads a part: `found` gets the elements that a path of local names leads to, the others are forgotten."""
+def refuse_document_type(*_: object) -> None:
+    """Raises ToolError: entities of a document type may become any size."""
+    raise ToolError(f"has a document type (DOCTYPE), which no spreadsheet writes: {SAVE_AGAIN}")
 
-    def __init__(self, path: str) -> None:
-        self.wanted, self.parser = re.compile(path), expat.ParserCreate()
-        self.parser.buffer_text, self.parser.StartDoctypeDeclHandler = True, self.refuse_document_type
-        self.around: list[Element] = []
-        self.found: list[Found] = []
-        self.search()
 
-    def refuse_document_type(self, *_: object) -> None:
-        """Raises ToolError: entities of a document type may become any size."""
-        raise ToolError(f"has a document type (DOCTYPE), which no spreadsheet writes: {SAVE_AGAIN}")
+def elements(archive: ZipFile, part: str, path: str, are_local: bool = True) -> Iterator[Found]:
+    """Yields the elements that a path of local names leads to, whole and with such names; forgets the others."""
+    parser, wanted, around, found = expat.ParserCreate(), re.compile(path), list[Element](), list[Found]()
+    size, begun = 0, -1  # what is read, and where the element that is wanted began
 
-    def search(self) -> None:
-        """Reads on to the next element that is wanted, and forgets the others."""
-        self.begun = self.parser.CurrentByteIndex
-        self.parser.StartElementHandler, self.parser.EndElementHandler = self.start, self.end
-        self.parser.CharacterDataHandler = None
+    def search() -> None:
+        nonlocal begun
+        begun, parser.CharacterDataHandler = -1, None
+        parser.StartElementHandler, parser.EndElementHandler = start, lambda _: around.pop()
 
-    def start(self, name: str, attributes: dict[str, str]) -> None:
-        """Begins an element; one that is wanted is built up to its end, most of it without a line of Python."""
-        self.begun = self.parser.CurrentByteIndex
-        if not self.wanted.fullmatch("/".join([*(outer.tag for outer in self.around), local(name)])):
-            self.around.append(with_local_names(Element(name, attributes)))
-            if len(self.around) > DEEPEST:
+    def start(name: str, attributes: dict[str, str]) -> None:
+        nonlocal begun
+        if not wanted.fullmatch("/".join([*(outer.tag for outer in around), local(name)])):
+            around.append(with_local_names(Element(name, attributes)))
+            if len(around) > DEEPEST:
                 raise ToolError(TOO_LARGE)
             return
-        builder = TreeBuilder()
+        begun, builder = parser.CurrentByteIndex, TreeBuilder()
         whole = builder.start(name, attributes)
 
         def end(name: str) -> None:
             if builder.end(name) is whole:
-                self.found.append((self.around[:], whole))
-                self.search()
+                found.append((around[:], whole))
+                search()
 
-        self.parser.StartElementHandler, self.parser.EndElementHandler = builder.start, end
-        self.parser.CharacterDataHandler = builder.data
+        parser.StartElementHandler, parser.EndElementHandler = builder.start, end
+        parser.CharacterDataHandler = builder.data
 
-    def end(self, _: str) -> None:
-        """Ends an element that is not wanted."""
-        self.around.pop()
-        self.begun = self.parser.CurrentByteIndex
-
-
-def elements(archive: ZipFile, part: str, path: str, are_local: bool = True) -> Iterator[Found]:
-    """Yields the elements that a path of local names leads to, whole and with such names."""
-    reader, size = Reader(path), 0
+    parser.buffer_text, parser.StartDoctypeDeclHandler = True, refuse_document_type
+    search()
     with archive.open(part) as stream:
         for piece in chain(iter(partial(stream.read, PIECE), b""), [b""]):
-            reader.parser.Parse(piece, not piece)
+            parser.Parse(piece, not piece)
             size += len(piece)
-            if size - reader.begun > LARGEST_ROW:
+            if size - (parser.CurrentByteIndex if begun < 0 else begun) > LARGEST_ROW:
                 raise ToolError(TOO_LARGE)
-            for around, element in reader.found:
-                yield around, with_local_names(element) if are_local else element
-            reader.found.clear()
+            for outer, element in found:
+                yield outer, with_local_names(element) if are_local else element
+            found.clear()
 
 
 def with_local_names(whole: Element) -> Element:
@@ -327,7 +314,8 @@ def ods_rows(archive: ZipFile, sheet: str) -> Iterator[Row]:
 
 def ods_cell(cell: Element) -> str:
     """Returns a cell by its type and its text, which is what the spreadsheet shows."""
-    kind, text = cell.get("value-type", ""), "\n".join(map(shown_in, cell.findall("p")))
+    lines = (re.sub("[ \t\r\n]+", " ", signed(line)).strip(" ") for line in cell.findall("p"))
+    kind, text = cell.get("value-type", ""), "\n".join(lines).translate(UNSIGNED)
     if kind in ODS_NUMBERS:
         number = Number(cell.get("value") or text)
         number.text, number.code = lambda: text, partial(ods_code, number, kind, text)
@@ -344,13 +332,8 @@ def ods_code(value: str, kind: str, text: str) -> str:
     return text if text.isdecimal() else digits_of(Decimal(value), "0")
 
 
-def shown_in(paragraph: Element) -> str:
-    """Returns the text of a paragraph of .ods with its white space, of which only signs count more than once."""
-    return re.sub("[ \t\r\n]+", " ", signed(paragraph)).strip(" ").translate(UNSIGNED)
-
-
 def signed(element: Element) -> str:
-    """Returns a text with a sign for white space that counts."""
+    """Returns the text of a paragraph of .ods, with a sign for white space that counts more than once."""
     text = element.text or ""
     for part in element:
         text += SIGNS[part.tag] * min(int(part.get("c", 1)), LARGEST_ROW + 1) if part.tag in SIGNS else signed(part)
