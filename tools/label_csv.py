@@ -31,13 +31,13 @@ def rows_of_csv(data: bytes, name: str, columns: list[str], arguments: argparse.
     given, separator = arguments.delimiter, SEPARATOR_LINE.match(text)
     if separator:
         text, given = text[separator.end() :], given or separator[1]
-    first: Row | None = None
+    first, fewest = None, 0
     for row in parsed(text, delimiter_of(text, given, columns, arguments.symbology in FREE_TEXT)):
         cells = len(row.cells)
         if first is None:
-            first = None if row.is_blank() else row
-        elif cells < width(first) and not row.problem and not row.is_blank():
-            row = row._replace(problem=f"the row has {cells} of {width(first)} cells: is it cut off?")
+            first, fewest = None if row.is_blank() else row, width(row)
+        elif cells < fewest and not row.problem and not row.is_blank():
+            row = row._replace(problem=f"the row has {cells} of {fewest} cells: is it cut off?")
         elif cells > len(first.cells) < width(row):
             problem = f"the row has {width(row)} cells and row {first.number} has {len(first.cells)}"
             row = row._replace(problem=f"{problem}: a cell that contains the delimiter has to be in quotes")

@@ -28,6 +28,7 @@ DAMAGE = (expat.ExpatError, BadZipFile, zlib.error, EOFError, LookupError, Runti
 NOT_SHOWN = ("rPh", "annotation", "ruby-text")
 ODS_STYLE = "document-content/automatic-styles/style"
 ODS_ROW = "document-content/body/spreadsheet/table(?:/table-(?:row-group|header-rows|rows))*/table-row"
+ODS_SPANS = ("number-rows-spanned", "number-columns-spanned", "number-columns-repeated")
 ODS_NUMBERS = ("float", "percentage", "currency", "date", "time")
 # white space of .ods that counts, by signs that no XML has
 SIGNS, UNSIGNED = {"s": "\x00", "tab": "\x01", "line-break": "\x02"}, {0: " ", 1: "\t", 2: "\n"}
@@ -295,8 +296,7 @@ def ods_rows(archive: ZipFile, sheet: str) -> Iterator[Row]:
         cells: list[str] = []
         place = letters = 0
         for cell in row:
-            names = ("number-rows-spanned", "number-columns-spanned", "number-columns-repeated")
-            rows, columns, repeat = (int(cell.get(name, 1)) for name in names)
+            rows, columns, repeat = [int(cell.get(name, 1)) for name in ODS_SPANS]
             if rows > 1 or columns > 1:
                 merges.append(Merge(number, place, number + rows - 1, place + columns - 1))
             text = ods_cell(cell)
