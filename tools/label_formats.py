@@ -7,7 +7,6 @@ import re
 from datetime import date, timedelta
 from decimal import ROUND_HALF_UP, Context, Decimal
 from functools import lru_cache
-from typing import List, Tuple
 
 from label_cells import RowError, shown
 
@@ -24,11 +23,11 @@ TOKEN = re.compile(
       | (?P<plain>[-+/():!^&'~{}<>=.\ $]|[^\x00-\x7f])""",
     re.IGNORECASE | re.VERBOSE | re.DOTALL,
 )
-SHOWN_KINDS = {"space": ("text", " "), "nothing": ("text", "")}
 SIGNIFICANT, EXACT = Context(prec=15), Context(prec=400)  # the digits of a number in a spreadsheet, and of any other
 MOST_DIGITS_OF_GENERAL = 9  # up to here each spreadsheet shows the same, however wide the column is
 FIRST_DAY, LAST_DAY = 61, 2958465  # of those that all spreadsheets count from the same day, and of the year 9999
 DAYS_TO_1904 = 1462
+DAYS = {"d": "%-d", "dd": "%d", "m": "%-m", "mm": "%m", "yy": "%y", "yyyy": "%Y"}
 
 
 class Signs:
@@ -40,18 +39,19 @@ class Signs:
 
 def shown_number(value: Decimal, number_format: str, signs: Signs, from_1904: bool) -> str:
     """Returns a number as its format shows it; raises RowError for a format that is not understood."""
-    value = SIGNIFICANT.plus(value)
-    sections = sections_of(number_format)
+    value, sections, text = SIGNIFICANT.plus(value), sections_of(number_format), ""
     place = 2 if len(sections) > 2 and value == 0 else 1 if len(sections) > 1 and value < 0 else 0
-    tokens = sections[place] if sections else []
-    kinds = {kind for kind, _ in tokens}
-    if not sections or value and not kinds & {"number", "date"} or "date" in kinds and kinds & {"number", "percent"}:
+    kinds = {kind for kind, _ in sections[place]}
+    if value and not kinds & {"number", "date"}:
         raise not_understood(number_format)
     size = abs(value).scaleb(2 if "percent" in kinds else 0)
-    day = value + (DAYS_TO_1904 if from_1904 else 0)
-    text = ""
-    for kind, part in tokens:
-        text += by_pattern(size, part, signs) if kind == "number" else by_day(day, part) if kind == "date" else part
+    for kind, part in sections[place]:
+        if kind == "number":
+            text += by_pattern(size, part, signs)
+        elif kind == "date":
+            text += by_day(value + (DAYS_TO_1904 if from_1904 else 0), part)
+        else:
+            text += {"space": " ", "nothing": ""}.get(kind, part)
     text = text.strip()
     if "number" in kinds:
         text = f"-{text}" if value < 0 and place == 0 and re.search("[1-9]", text) else text
@@ -60,19 +60,18 @@ def shown_number(value: Decimal, number_format: str, signs: Signs, from_1904: bo
 
 
 @lru_cache(maxsize=256)
-def sections_of(number_format: str) -> List[List[Tuple[str, str]]]:
-    """Returns the sections of a format, for positive numbers, negative ones and zero: of each part the kind and text.
-
-    Returns none where a section is not understood. Text that is shown as it is has other kinds than number and date.
-    """
-    sections = []
-    found = SECTION.findall(number_format + ";")
+def sections_of(number_format: str) -> list[list[tuple[str, str]]]:
+    """Returns the sections of a format, for numbers above, below and equal to zero: of each part the kind and text."""
+    found, sections = SECTION.findall(number_format + ";"), []
     for section in found[:3]:
-        tokens = [(match.lastgroup or "", match[match.lastgroup or 0]) for match in TOKEN.finditer(section)]
-        if TOKEN.sub("", section) or [kind for kind, _ in tokens].count("number") > 1:
-            return []
-        sections.append([SHOWN_KINDS.get(kind, (kind, text)) for kind, text in tokens])
-    return sections if ";".join(found) == number_format else []
+        sections.append([(match.lastgroup or "", match[match.lastgroup or 0]) for match in TOKEN.finditer(section)])
+        kinds = [kind for kind, _ in sections[-1]]
+        is_mixed = "date" in kinds and not {"number", "percent"}.isdisjoint(kinds)
+        if TOKEN.sub("", section) or kinds.count("number") > 1 or is_mixed:
+            raise not_understood(number_format)
+    if ";".join(found) != number_format:
+        raise not_understood(number_format)
+    return sections
 
 
 def by_pattern(value: Decimal, pattern: str, signs: Signs) -> str:
@@ -97,28 +96,21 @@ def by_pattern(value: Decimal, pattern: str, signs: Signs) -> str:
 
 def by_day(value: Decimal, field: str) -> str:
     """Returns the day, month or year of a day that is counted from 1899-12-30."""
-    if not FIRST_DAY <= value < LAST_DAY + 1 or field.lower() not in ("d", "dd", "m", "mm", "yy", "yyyy"):
-        raise RowError(
-            f"is a date with names of days or months, {shown(field)}, or before March 1900: format it as text"
-        )
-    day = date(1899, 12, 30) + timedelta(int(value))
-    number = {"d": day.day, "m": day.month, "y": day.year}[field[0].lower()]
-    return f"{number:0{len(field)}}"[-len(field) :] if len(field) > 1 else str(number)
+    if not FIRST_DAY <= value < LAST_DAY + 1 or field.lower() not in DAYS:
+        what = f"is a date with names of days or months, {shown(field)}, or before March 1900"
+        raise RowError(f"{what}: format it as text")
+    return (date(1899, 12, 30) + timedelta(int(value))).strftime(DAYS[field.lower()])
 
 
 def digits_of(value: Decimal, number_format: str) -> str:
-    """Returns the digits of a whole number with the zeros that its format puts in front, without other signs.
-
-    Raises RowError where the number is not whole, or is shown with more than digits.
-    """
-    tokens = [(kind, text) for kind, text in (sections_of(number_format) or [[]])[0] if text.strip()]
+    """Returns the digits of a whole number, shown as one, with the zeros that its format puts in front."""
+    tokens = [(kind, text) for kind, text in sections_of(number_format)[0] if kind != "nothing" and text.strip(" _")]
     if [kind for kind, _ in tokens] != ["number"]:
         raise RowError(f"is a number or a date with the format {shown(number_format)}: enter it again as text")
     if value != value.to_integral_value() or abs(value) >= 10**15:
         raise RowError(f"is the number {value}, which is not whole or has too many digits: enter it again as text")
     whole_pattern = tokens[0][1].partition(".")[0]
-    zeros = len(whole_pattern) if not whole_pattern.strip("0") else 0
-    return f"{value:f}".partition(".")[0].zfill(zeros)
+    return f"{value:f}".partition(".")[0].zfill(0 if whole_pattern.strip("0") else len(whole_pattern))
 
 
 def not_understood(number_format: str) -> RowError:

@@ -1,49 +1,47 @@
 """Reads spreadsheets' own files, .xlsx (ISO/IEC 29500-1) and .ods (ISO/IEC 26300), piece by piece.
 
-A file may be hostile: a document type, a part that is huge when unpacked, and a cell, a row or a nesting that no
-spreadsheet writes are refused before they take memory.
+A file may be hostile: a document type, and a part, a row or a nesting that no spreadsheet writes, are refused before
+they take memory.
 """
 
 import posixpath
 import re
 import zlib
+from collections import defaultdict
 from decimal import Decimal
-from functools import lru_cache, partial
-from typing import BinaryIO, Callable, Dict, Iterator, List, NamedTuple, Optional, Sequence, Tuple
+from functools import lru_cache, partial, reduce
+from io import BytesIO
+from itertools import chain
+from typing import Callable, Iterator, NamedTuple
+from xml.etree.ElementTree import Element, TreeBuilder
 from xml.parsers import expat
 from zipfile import ZIP_DEFLATED, ZIP_STORED, BadZipFile, ZipFile
 
-from label_cells import MOST_LETTERS, NO_VALUE_TO_SHOW, BadArgument, Fault, Merge, Number, Row, RowError, TableError
-from label_cells import shown
+from label_cells import NO_VALUE_TO_SHOW, BadArgument, Fault, Merge, Number, Row, RowError, shown
+from label_command import ToolError
 from label_formats import BUILT_IN, Signs, digits_of, shown_number
 
-MOST_ROWS, MOST_COLUMNS = 1048576, 16384
-LARGEST_PART, PIECE, LONGEST_TAG = 1 << 28, 1 << 16, 1 << 21
-DEEPEST, SHEET_DEPTH, MOST_KINDS = 100, 4, 100  # the deepest element, a sheet in .ods; names of elements with prefixes
-TOO_LARGE = f"has more than {MOST_COLUMNS} columns, {MOST_LETTERS} characters in a cell, or elements {DEEPEST} deep"
-MOST_MERGES = 256  # of those that cross one row
-
-NOT_SHOWN = ("annotation", "rPh", "ruby-text", "shapes")
+MOST_ROWS, MOST_COLUMNS, MOST_MERGES = 1048576, 16384, 256  # the last of those that cross one row
+LARGEST_PART, LARGEST_ROW, PIECE, DEEPEST = 1 << 28, 1 << 20, 1 << 16, 100
+LARGEST_NUMBER = 10**308
+DAMAGE = (expat.ExpatError, BadZipFile, zlib.error, EOFError, LookupError, RuntimeError, ValueError, ArithmeticError)
+NOT_SHOWN = ("rPh", "annotation", "ruby-text")
+ODS_STYLE = "document-content/automatic-styles/style"
+ODS_ROW = "document-content/body/spreadsheet/table(?:/table-(?:row-group|header-rows|rows))*/table-row"
+ODS_SPANS = ("number-rows-spanned", "number-columns-spanned", "number-columns-repeated")
+ODS_NUMBERS = ("float", "percentage", "currency", "date", "time")
 # white space of .ods that counts, by signs that no XML has
-SIGNS = {"s": "\x00", "tab": "\x01", "line-break": "\x02"}
-UNSIGNED = {0: " ", 1: "\t", 2: "\n"}
+SIGNS, UNSIGNED = {"s": "\x00", "tab": "\x01", "line-break": "\x02"}, {0: " ", 1: "\t", 2: "\n"}
 ESCAPED = re.compile("_x([0-9A-Fa-f]{4})_")
 REFERENCE = re.compile("([A-Z]{1,3})([0-9]{1,7})")
-LARGEST_NUMBER = 10**308
-FORMAT_OF_THE_LANGUAGE = "of the language"
 PLAINLY_SHOWN = re.compile(r"[0-9.,'’\s]+(?:E[+][0-9]+)?")
-DAMAGE = (expat.ExpatError, BadZipFile, zlib.error, EOFError, LookupError, RuntimeError, ValueError, ArithmeticError)
-
+TRUE = ("1", "true")
 NO_VALUE = Fault("has a formula without a saved value: open the table in the spreadsheet and save it")
 TRUTH = Fault("has a truth value (TRUE, FALSE): write it as text")
 SAVE_AGAIN = "open it in the spreadsheet and save it again"
+TOO_LARGE = f"has a row or another element of more than 1 MB, or elements {DEEPEST} deep: {SAVE_AGAIN}"
 
-Attributes = Dict[str, str]
-Texts = List[Tuple[str, str]]  # the elements of text in a cell, each with its name
-Cell = Tuple[Attributes, Texts]
-Record = Tuple[str, Attributes, List[Cell]]
-Names = Sequence[str]
-NumberOf = Callable[[str, int], Number]  # of a value and the number of its style
+Found = tuple[list[Element], Element]  # an element behind those that it is in
 
 
 class Sheet(NamedTuple):
@@ -54,370 +52,292 @@ class Sheet(NamedTuple):
     rows: Callable[[], Iterator[Row]]
 
 
-def rows_of_workbook(stream: BinaryIO, name: str, wanted: Optional[str], signs: Signs) -> Iterator[Row]:
-    """Yields the rows of a sheet: the one that is wanted, else the only one that is visible and has data.
-
-    Raises TableError for a file that is damaged, hostile or of another kind, BadArgument where no sheet is the one.
-    """
+def rows_of_workbook(data: bytes, name: str, wanted: str | None, signs: Signs) -> Iterator[Row]:
+    """Yields the rows of a sheet: the one that is wanted, else the only one that is visible and has data."""
     try:
-        with ZipFile(stream) as archive:
+        with ZipFile(BytesIO(data)) as archive:
             yield from chosen(sheets_of(archive, signs), wanted).rows()
-    except TableError as error:
-        raise type(error)(f"{name} {error}") from None
+    except ToolError as error:
+        raise ToolError(f"{name} {error}", error.status) from None
     except DAMAGE as error:
-        raise TableError(f"{name} is damaged or cut off ({error}): {SAVE_AGAIN}") from None
+        raise ToolError(f"{name} is damaged, or neither .xlsx nor .ods ({error}): {SAVE_AGAIN}") from None
 
 
-def sheets_of(archive: ZipFile, signs: Signs) -> List[Sheet]:
+def sheets_of(archive: ZipFile, signs: Signs) -> list[Sheet]:
     for part in archive.infolist():
         if part.file_size > LARGEST_PART:
-            raise TableError(f"has a part of {part.file_size} bytes, {shown(part.filename)}; at most 256 MB are read")
+            raise ToolError(f"has a part of more than 256 MB, {shown(part.filename)}: {SAVE_AGAIN}")
         if part.flag_bits & 1 or part.filename == "META-INF/manifest.xml" and b"encryption-data" in archive.read(part):
-            raise TableError("has a password: save it without one")
+            raise ToolError("has a password: save it without one")
         if part.compress_type not in (ZIP_STORED, ZIP_DEFLATED):
-            raise TableError(f"is packed as no spreadsheet does it: {SAVE_AGAIN}")
-    names = archive.namelist()
-    if "content.xml" in names and b"opendocument.spreadsheet" in archive.read("mimetype"):
-        return ods_sheets(archive)
-    targets = relations(archive, "") if "_rels/.rels" in names else {}
-    workbook = next((target for kind, target in targets.values() if kind == "officeDocument"), "")
-    if workbook.endswith(".bin"):
-        raise TableError("is a binary workbook (.xlsb): save it as .xlsx")
-    if workbook not in names or not any(read(archive, workbook, ["workbook"])):
-        raise TableError("is neither .xlsx nor .ods: save the table as one of these, or as CSV")
-    return xlsx_sheets(archive, workbook, signs)
+            raise ToolError(f"is packed as no spreadsheet does it: {SAVE_AGAIN}")
+    is_ods = "mimetype" in archive.namelist() and b"opendocument.spreadsheet" in archive.read("mimetype")
+    sheets = ods_sheets(archive) if is_ods else xlsx_sheets(archive, signs)
+    if not sheets:
+        raise LookupError("no sheet in it")
+    return sheets
 
 
-def chosen(sheets: List[Sheet], wanted: Optional[str]) -> Sheet:
+def chosen(sheets: list[Sheet], wanted: str | None) -> Sheet:
     found = [sheet for sheet in sheets if (sheet.is_visible if wanted is None else sheet.name == wanted)]
     if wanted is None and len(found) > 1:
         found = [sheet for sheet in found if any(not row.is_blank() for row in sheet.rows())]
-    names = ", ".join(shown(sheet.name) for sheet in (found if wanted is None else sheets))
-    if wanted is not None and not found:
-        raise BadArgument(f"has no sheet {shown(wanted)}; it has {names}")
-    if wanted is None and len(found) > 1:
-        raise BadArgument(f"has {len(found)} sheets with data: give --sheet with one of {names}")
-    if not found:
-        raise TableError("has no visible sheet with data")
+    if len(found) != 1:
+        names = ", ".join(shown(sheet.name) for sheet in found or sheets)
+        what = f"{len(found)} visible sheets with data" if wanted is None else f"no sheet {shown(wanted)}"
+        raise BadArgument(f"has {what}: give --sheet with one of {names}")
     return found[0]
 
 
-# ---------------------------------------------------------------- XML
+def refuse_document_type(*_: object) -> None:
+    """Raises ToolError: entities of a document type may become any size."""
+    raise ToolError(f"has a document type (DOCTYPE), which no spreadsheet writes: {SAVE_AGAIN}")
 
 
-class Reader:
-    """What reads a part of a file: `found` gets the marks that begin, and the records that end, with their cells."""
+def elements(archive: ZipFile, part: str, path: str, are_local: bool = True) -> Iterator[Found]:
+    """Yields the elements that a path of local names leads to, whole and with such names; forgets the others."""
+    parser, wanted, around, found = expat.ParserCreate(), re.compile(path), list[Element](), list[Found]()
+    size, begun = 0, -1  # what is read, and where the element that is wanted began
 
-    def __init__(self, marks: Names, record: str, cells: Names, texts: Names) -> None:
-        kinds = {
-            "mark": marks,
-            "record": [record],
-            "cell": cells,
-            "text": texts,
-            "sign": SIGNS,
-            "not shown": NOT_SHOWN,
-        }
-        self.kinds = {tag: (kind, tag) for kind, tags in kinds.items() for tag in tags if tag}
-        self.has_cells = bool(cells)
-        self.found: List[Record] = []
-        self.row: Record = ("", {}, [])
-        self.cell: Cell = ({}, [])
-        self.pieces: Optional[List[str]] = None
-        self.depth = self.ignored = self.cell_depth = self.letters = 0
+    def search() -> None:
+        nonlocal begun
+        begun, parser.CharacterDataHandler = -1, None
+        parser.StartElementHandler, parser.EndElementHandler = start, lambda _: around.pop()
 
-    def kind_of(self, name: str) -> Tuple[str, str]:
-        """Returns the kind of an element and its local name; keeps it for the name with its prefix."""
-        tag = name.rpartition(":")[2]
-        kind = self.kinds.get(tag, ("", tag))
-        if len(self.kinds) < MOST_KINDS:
-            self.kinds[name] = kind
-        return kind
+    def start(name: str, attributes: dict[str, str]) -> None:
+        nonlocal begun
+        if not wanted.fullmatch("/".join([*(outer.tag for outer in around), local(name)])):
+            around.append(with_local_names(Element(name, attributes)))
+            if len(around) > DEEPEST:
+                raise ToolError(TOO_LARGE)
+            return
+        begun, builder = parser.CurrentByteIndex, TreeBuilder()
+        whole = builder.start(name, attributes)
 
-    def start(self, name: str, attributes: Attributes) -> None:
-        """Begins an element."""
-        self.depth += 1
-        kind, tag = self.kinds.get(name) or self.kind_of(name)
-        if self.ignored:
-            pass
-        elif kind == "cell":
-            self.cell, self.cell_depth, self.letters = (local(attributes), []), self.depth, 0
-            self.row[2].append(self.cell)
-        elif kind == "text" and (tag != "p" or self.depth == self.cell_depth + 1):
-            self.pieces = []
-            self.letters += 1
-        elif kind == "record":
-            self.cell, self.letters = ({}, []), 0
-            self.row = (tag, local(attributes), [] if self.has_cells else [self.cell])
-        elif kind == "sign" and self.pieces is not None:
-            self.text(SIGNS[tag] * min(int(local(attributes).get("c", 1)), MOST_LETTERS))
-        elif kind == "not shown" or tag == "table" and self.depth > SHEET_DEPTH:
-            self.ignored = self.depth
-        elif kind == "mark":
-            self.found.append((tag, local(attributes), []))
-        if self.depth > DEEPEST or self.letters > MOST_LETTERS or len(self.row[2]) > MOST_COLUMNS:
-            raise TableError(TOO_LARGE)
+        def end(name: str) -> None:
+            if builder.end(name) is whole:
+                found.append((around[:], whole))
+                search()
 
-    def end(self, name: str) -> None:
-        """Ends an element."""
-        kind, tag = self.kinds.get(name) or self.kind_of(name)
-        if self.ignored:
-            self.ignored = 0 if self.depth == self.ignored else self.ignored
-        elif kind == "text" and self.pieces is not None:
-            self.cell[1].append((tag, "".join(self.pieces)))
-            self.pieces = None
-        elif kind == "record":
-            self.found.append(self.row)
-        self.depth -= 1
+        parser.StartElementHandler, parser.EndElementHandler = builder.start, end
+        parser.CharacterDataHandler = builder.data
 
-    def text(self, text: str) -> None:
-        """Takes text, if it is that of a cell."""
-        if self.pieces is not None and not self.ignored:
-            self.pieces.append(text)
-            self.letters += len(text)
-            if self.letters > MOST_LETTERS:
-                raise TableError(TOO_LARGE)
-
-    def refuse_document_type(self, *_: object) -> None:
-        """Raises TableError: entities of a document type may become any size."""
-        raise TableError(f"has a document type (DOCTYPE), which no spreadsheet writes: {SAVE_AGAIN}")
-
-
-def read(
-    archive: ZipFile, path: str, marks: Names, record: str = "", cells: Names = (), texts: Names = ()
-) -> Iterator[Record]:
-    """Yields the elements of these local names, for a record its cells with their texts too."""
-    reader, parser, size = Reader(marks, record, cells, texts), expat.ParserCreate(), 0
-    parser.buffer_text, parser.buffer_size = True, PIECE
-    parser.StartDoctypeDeclHandler = reader.refuse_document_type
-    parser.StartElementHandler, parser.EndElementHandler = reader.start, reader.end
-    parser.CharacterDataHandler = reader.text
-    with archive.open(path) as stream:
-        while piece := stream.read(PIECE):
+    parser.buffer_text, parser.StartDoctypeDeclHandler = True, refuse_document_type
+    search()
+    with archive.open(part) as stream:
+        for piece in chain(iter(partial(stream.read, PIECE), b""), [b""]):
+            parser.Parse(piece, not piece)
             size += len(piece)
-            parser.Parse(piece, False)
-            if size - parser.CurrentByteIndex > LONGEST_TAG:
-                raise TableError("has an element of more than 2 MB")
-            yield from reader.found
-            reader.found.clear()
-    parser.Parse(b"", True)
-    yield from reader.found
+            if size - (parser.CurrentByteIndex if begun < 0 else begun) > LARGEST_ROW:
+                raise ToolError(TOO_LARGE)
+            for outer, element in found:
+                yield outer, with_local_names(element) if are_local else element
+            found.clear()
 
 
-def local(attributes: Attributes) -> Attributes:
-    if ":" not in "".join(attributes):
-        return attributes
-    return {name.rpartition(":")[2]: value for name, value in attributes.items()}
+def with_local_names(whole: Element) -> Element:
+    """Returns an element whose names, and those in it, have no prefix; what is not shown of it is taken out."""
+    for element in whole.iter():
+        element.tag = local(element.tag)
+        if ":" in "".join(element.keys()):
+            element.attrib = {local(name): value for name, value in element.items()}
+        if element.tag in NOT_SHOWN:
+            element[:], element.text = [], None
+    return whole
 
 
-def row_of(number: int, cells: List[str], merges: List[Merge], is_hidden: bool, repeat: int = 1) -> Row:
-    """Returns a row with the merged cells that cross it; raises TableError beyond the limits of a sheet."""
-    if merges:
-        merges[:] = [merge for merge in merges if merge.last_row >= number]
-    if number + repeat - 1 > MOST_ROWS or len(cells) > MOST_COLUMNS or len(merges) > MOST_MERGES:
-        limits = f"{MOST_ROWS} rows, {MOST_COLUMNS} columns or {MOST_MERGES} merged cells that cross row {number}"
-        raise TableError(f"has more than {limits}")
-    return Row(number, cells, "", is_hidden, repeat, tuple(merges))
+@lru_cache(maxsize=1000)
+def local(name: str) -> str:
+    return name.rpartition(":")[2]
 
 
-# ---------------------------------------------------------------- .xlsx
+def rows_of(number: int, repeat: int, cells: list[str], merges: list[Merge], is_hidden: bool) -> Iterator[Row]:
+    """Yields a row as often as it is there, with the merged cells that cross it; raises ToolError beyond limits."""
+    merges[:] = [merge for merge in merges if merge.last_row >= number]
+    last = number + repeat - 1
+    if last > MOST_ROWS or len(cells) > MOST_COLUMNS or len(merges) > MOST_MERGES:
+        limits = f"{MOST_ROWS} rows, {MOST_COLUMNS} columns or {MOST_MERGES} merged cells that cross a row"
+        raise ToolError(f"has more than {limits}")
+    for each in range(number, last + 1):
+        yield Row(each, cells, "", is_hidden, tuple(merges))
 
 
-def xlsx_sheets(archive: ZipFile, workbook: str, signs: Signs) -> List[Sheet]:
+class Book(NamedTuple):
+    """What the cells of an .xlsx file refer to: its strings, the number format of each style, and the first day."""
+
+    strings: list[str]
+    formats: list[str]
+    is_from_1904: bool
+    signs: Signs
+
+
+def xlsx_sheets(archive: ZipFile, signs: Signs) -> list[Sheet]:
+    workbook = dict(relations(archive, "").values())["officeDocument"]
     targets = relations(archive, workbook)
-    parts = {kind: target for kind, target in targets.values()}
-    strings: List[str] = []
+    parts = dict(targets.values())
+    found = [element for _, element in elements(archive, workbook, "workbook/(?:workbookPr|sheets/sheet)")]
+    formats, styles, strings = dict(BUILT_IN), list[str](), list[str]()
+    if "styles" in parts:
+        for _, element in elements(archive, parts["styles"], "styleSheet/(?:numFmts/numFmt|cellXfs/xf)"):
+            number = element.get("numFmtId", "0")
+            if element.tag == "numFmt":
+                formats[number] = element.attrib["formatCode"]
+            else:
+                styles.append(formats.get(number, "of the language"))
     if "sharedStrings" in parts:
-        records = read(archive, parts["sharedStrings"], [], "si", [], ["t"])
-        strings = [unescaped("".join(text for _, text in cells[0][1])) for _, _, cells in records]
-    formats = formats_of(archive, parts["styles"]) if "styles" in parts else [BUILT_IN["0"]]
-    sheets, from_1904 = [], False
-    for tag, attributes, _ in read(archive, workbook, ["workbookPr", "sheet"]):
-        if tag == "workbookPr":
-            from_1904 = is_true(attributes.get("date1904"))
-        elif targets[attributes["id"]][0] == "worksheet":
-            number = partial(xlsx_number, formats, signs, from_1904)
-            rows = partial(xlsx_rows, archive, targets[attributes["id"]][1], strings, number)
-            sheets.append(Sheet(attributes["name"], attributes.get("state", "visible") == "visible", rows))
+        strings = [string_of(element) for _, element in elements(archive, parts["sharedStrings"], "sst/si")]
+    is_from_1904 = any(element.get("date1904") in TRUE for element in found)
+    book = Book(strings, styles or [BUILT_IN["0"]], is_from_1904, signs)
+    sheets = []
+    for sheet in found:
+        kind, part = targets[sheet.attrib["id"]] if sheet.tag == "sheet" else ("", "")
+        if kind == "worksheet":
+            is_visible, rows = sheet.get("state", "visible") == "visible", partial(xlsx_rows, archive, part, book)
+            sheets.append(Sheet(sheet.attrib["name"], is_visible, rows))
     return sheets
 
 
-def relations(archive: ZipFile, path: str) -> Dict[str, Tuple[str, str]]:
+def relations(archive: ZipFile, path: str) -> dict[str, tuple[str, str]]:
     """Returns what a part refers to, for each name the kind and the path; for no part, what the file refers to."""
     folder, base = posixpath.split(path)
-    return {
-        found["Id"]: (
-            posixpath.basename(found["Type"]),
-            posixpath.normpath(posixpath.join("/", folder, found["Target"]))[1:],
-        )
-        for _, found, _ in read(archive, posixpath.join(folder, "_rels", f"{base}.rels"), ["Relationship"])
-    }
+    found = elements(archive, posixpath.join(folder, "_rels", f"{base}.rels"), "Relationships/Relationship")
+    targets = {}
+    for _, element in found:
+        target = posixpath.normpath(posixpath.join("/", folder, element.attrib["Target"]))[1:]
+        targets[element.attrib["Id"]] = posixpath.basename(element.attrib["Type"]), target
+    return targets
 
 
-def formats_of(archive: ZipFile, path: str) -> List[str]:
-    """Returns the number format of each style of cells."""
-    formats = dict(BUILT_IN)
-    styles: List[str] = []
-    group = ""
-    for tag, attributes, _ in read(archive, path, ["numFmt", "cellStyleXfs", "cellXfs", "cellStyles", "xf"]):
-        if tag == "numFmt":
-            formats[attributes["numFmtId"]] = attributes["formatCode"]
-        elif tag != "xf":
-            group = tag
-        elif group == "cellXfs":
-            styles.append(formats.get(attributes.get("numFmtId", "0"), FORMAT_OF_THE_LANGUAGE))
-    return styles
-
-
-def xlsx_rows(archive: ZipFile, path: str, strings: List[str], number_of: NumberOf) -> Iterator[Row]:
+def xlsx_rows(archive: ZipFile, path: str, book: Book) -> Iterator[Row]:
     """Yields the rows of a sheet of .xlsx; the merged cells are below the rows in the file, and are read first."""
-    coming = merges_of(archive, path)
-    merges: List[Merge] = []
-    number = 0
-    for _, attributes, cells in read(archive, path, [], "row", ["c"], ["v", "f", "t"]):
-        before, number = number, int(attributes.get("r", number + 1))
-        values: List[str] = []
-        for of_cell, texts in cells:
-            place = reference_of(of_cell["r"])[1] if "r" in of_cell else len(values)
-            if place < len(values) or number <= before:
-                raise TableError(f"has row {number} or a cell of it out of order: {SAVE_AGAIN}")
-            values.extend([""] * (place - len(values)))
-            values.append(xlsx_cell(of_cell, texts, strings, number_of))
-        while coming and coming[-1].row <= number:
-            merges.append(coming.pop())
-        yield row_of(number, values, merges, is_true(attributes.get("hidden")))
+    beginning, merges, number = merges_of(archive, path), list[Merge](), 0
+    for _, row in elements(archive, path, "worksheet/sheetData/row"):
+        before, number = number, int(row.get("r", number + 1))
+        cells: list[str] = []
+        for cell in row.findall("c"):
+            place = reference_of(cell.attrib["r"])[1] if "r" in cell.attrib else len(cells)
+            if place < len(cells) or number <= before:
+                raise ToolError(f"has row {number} or a cell of it out of order: {SAVE_AGAIN}")
+            cells += [""] * (place - len(cells)) + [xlsx_cell(cell, book)]
+        merges += beginning.get(number, [])
+        yield from rows_of(number, 1, cells, merges, row.get("hidden") in TRUE)
 
 
-def merges_of(archive: ZipFile, path: str) -> List[Merge]:
-    """Returns the merged cells of a sheet, the last first; the sheet is read for them only where it has the word."""
-    before, word = b"", b"mergeCell"
+def merges_of(archive: ZipFile, path: str) -> dict[int, list[Merge]]:
+    """Returns the merged cells of a sheet by their first row; reads the sheet for them only where it has the word."""
+    before, word, merges = b"", b"mergeCell", defaultdict[int, list[Merge]](list)
     with archive.open(path) as stream:
         while (piece := stream.read(PIECE).replace(b"\0", b"")) and word not in before + piece:
             before = piece[-len(word) :]
-    merges = []
-    for _, attributes, _ in read(archive, path, [word.decode()]) if piece else ():
-        first, _, last = attributes["ref"].partition(":")
-        (row, place), (last_row, last_place) = reference_of(first), reference_of(last or first)
-        merges.append(Merge(row, last_row, place, last_place))
-    return sorted(merges, reverse=True)
+    for _, element in elements(archive, path, "worksheet/mergeCells/mergeCell") if piece else ():
+        first, _, last = element.attrib["ref"].partition(":")
+        merge = Merge(*reference_of(first), *reference_of(last or first))
+        merges[merge.row].append(merge)
+    return merges
 
 
-def xlsx_cell(attributes: Attributes, texts: Texts, strings: List[str], number_of: NumberOf) -> str:
+def xlsx_cell(cell: Element, book: Book) -> str:
     """Returns a cell by its type, and its value, if there is one."""
-    kind = attributes.get("t", "n")
-    values = [text for tag, text in texts if tag != "f"]
-    if not values or not values[0] and kind == "n":
-        return NO_VALUE if any(tag == "f" for tag, _ in texts) else ""
-    if kind == "n":
-        return number_of(values[0], int(attributes.get("s", 0)))
+    kind, value = cell.get("t", "n"), cell.findtext("v")
+    if kind == "inlineStr" or kind == "str" and value is not None:
+        return string_of(cell)
+    if not value:
+        return "" if cell.find("f") is None else NO_VALUE
     if kind == "s":
-        return strings[int(values[0])]
-    if kind in ("str", "inlineStr"):
-        return unescaped("".join(values))
+        return book.strings[int(value)]
+    if kind == "n":
+        number, exact, number_format = Number(value), Decimal(value), book.formats[int(cell.get("s", 0))]
+        if not abs(exact) < LARGEST_NUMBER:
+            raise ValueError(f"number {value}")
+        number.text = partial(shown_number, exact, number_format, book.signs, book.is_from_1904)
+        number.code = partial(digits_of, exact, number_format)
+        return number
     reason = NO_VALUE_TO_SHOW if kind == "e" else "has {}, which is of a kind that is not read: enter it again as text"
-    return TRUTH if kind == "b" else Fault(reason.format(shown(values[0])))
+    return TRUTH if kind == "b" else Fault(reason.format(shown(value)))
 
 
-def xlsx_number(formats: List[str], signs: Signs, from_1904: bool, text: str, style: int) -> Number:
-    number, value = Number(text), Decimal(text)
-    if not abs(value) < LARGEST_NUMBER:
-        raise ValueError(f"number {text}")
-    number.text = partial(shown_number, value, formats[style], signs, from_1904)
-    number.code = partial(digits_of, value, formats[style])
-    return number
-
-
-def reference_of(reference: str) -> Tuple[int, int]:
+def reference_of(reference: str) -> tuple[int, int]:
     """Returns the row, from 1, and the place of the column, from 0, of a reference as `AB12`."""
     match = REFERENCE.fullmatch(reference)
     if not match:
-        raise TableError(f"has the reference {shown(reference)}, which is no cell")
-    return int(match[2]), place_of(match[1])
+        raise ToolError(f"has the reference {shown(reference)}, which is no cell")
+    return int(match[2]), reduce(lambda place, letter: place * 26 + ord(letter) - 64, match[1], 0) - 1
 
 
-@lru_cache(maxsize=MOST_COLUMNS)
-def place_of(letters: str) -> int:
-    return sum((ord(letter) - 64) * int(26**place) for place, letter in enumerate(reversed(letters))) - 1
-
-
-def is_true(attribute: Optional[str]) -> bool:
-    return attribute in ("1", "true")
-
-
-def unescaped(text: str) -> str:
+def string_of(element: Element) -> str:
     """Returns a string of .xlsx without its own escapes: `_x000D_` is a carriage return (ST_Xstring)."""
-    if "_x" not in text:
-        return text
-    text = ESCAPED.sub(lambda match: chr(int(match[1], 16)), text)
-    return text.encode("utf-16", "surrogatepass").decode("utf-16", "replace")
+    text = "".join(part.text or "" for part in element.iter() if part.tag in ("t", "v"))
+    if "_x" in text:
+        text = ESCAPED.sub(lambda match: chr(int(match[1], 16)), text)
+        text = text.encode("utf-16", "surrogatepass").decode("utf-16", "replace")
+    return text
 
 
-# ---------------------------------------------------------------- .ods
-
-
-def ods_sheets(archive: ZipFile) -> List[Sheet]:
-    hidden, style = set(), ""
-    sheets: List[Sheet] = []
-    for tag, attributes, _ in read(archive, "content.xml", ["style", "table-properties", "table"]):
-        if tag == "style":
-            style = attributes.get("name", "")
-        elif tag == "table-properties" and attributes.get("display") == "false":
-            hidden.add(style)
-        elif tag == "table":
-            rows = partial(ods_rows, archive, len(sheets))
-            sheets.append(Sheet(attributes.get("name", ""), attributes.get("style-name") not in hidden, rows))
-    return sheets
-
-
-def ods_rows(archive: ZipFile, sheet: int) -> Iterator[Row]:
-    """Yields the rows of a sheet of .ods, by its number from 0; no empty ones, of which a sheet has a million."""
-    number, sheets, cell_names = 1, 0, ("table-cell", "covered-table-cell")
-    merges: List[Merge] = []
-    for tag, attributes, cells in read(archive, "content.xml", ["table"], "table-row", cell_names, ["p"]):
-        sheets += tag == "table"
-        if tag == "table" or sheets != sheet + 1:
+def ods_sheets(archive: ZipFile) -> list[Sheet]:
+    hidden, sheets = set(), dict[str, Sheet]()
+    for around, element in elements(archive, "content.xml", f"{ODS_STYLE}|{ODS_ROW}", are_local=False):
+        if local(element.tag) == "style":
+            if any(part.get("display") == "false" for part in with_local_names(element).findall("table-properties")):
+                hidden.add(element.get("name"))
             continue
-        values: List[str] = []
-        place = 0
-        for of_cell, lines in cells:
-            if "number-rows-spanned" in of_cell:
-                rows, columns = int(of_cell["number-rows-spanned"]), int(of_cell.get("number-columns-spanned", 1))
-                if rows > 1 or columns > 1:
-                    merges.append(Merge(number, number + rows - 1, place, place + columns - 1))
-            cell = ods_cell(of_cell, "\n".join(plain(line) for _, line in lines))
-            repeat = int(of_cell.get("number-columns-repeated", 1))
-            if cell:
-                values.extend([""] * (place - len(values)) + [cell] * min(repeat, MOST_COLUMNS + 1))
+        name = around[3].get("name", "")
+        if name not in sheets:
+            is_visible = around[3].get("style-name") not in hidden
+            sheets[name] = Sheet(name, is_visible, partial(ods_rows, archive, name))
+    return list(sheets.values())
+
+
+def ods_rows(archive: ZipFile, sheet: str) -> Iterator[Row]:
+    """Yields the rows of a sheet of .ods; no empty ones, of which a sheet has a million."""
+    number, merges = 1, list[Merge]()
+    for around, row in elements(archive, "content.xml", ODS_ROW):
+        if around[3].get("name", "") != sheet:
+            continue
+        cells: list[str] = []
+        place = letters = 0
+        for cell in row:
+            rows, columns, repeat = [int(cell.get(name, 1)) for name in ODS_SPANS]
+            if rows > 1 or columns > 1:
+                merges.append(Merge(number, place, number + rows - 1, place + columns - 1))
+            text = ods_cell(cell)
+            letters += len(text)
+            if letters > LARGEST_ROW:
+                raise ToolError(TOO_LARGE)
+            if text:
+                cells += [""] * (place - len(cells)) + [text] * min(repeat, MOST_COLUMNS + 1)
             place = min(place + repeat, MOST_COLUMNS)
-        repeat = int(attributes.get("number-rows-repeated", 1))
-        is_hidden = attributes.get("visibility", "visible") != "visible"
-        if is_hidden or any(values) or merges:
-            yield row_of(number, values, merges, is_hidden, repeat)
+        is_hidden, repeat = row.get("visibility", "visible") != "visible", int(row.get("number-rows-repeated", 1))
+        if is_hidden or any(cells):
+            yield from rows_of(number, repeat, cells, merges, is_hidden)
         number += repeat
 
 
-def plain(line: str) -> str:
-    """Returns a paragraph of .ods with its white space, of which only that with a sign counts more than once."""
-    return re.sub("[ \t\r\n]+", " ", line).strip(" ").translate(UNSIGNED)
-
-
-def ods_cell(attributes: Attributes, text: str) -> str:
+def ods_cell(cell: Element) -> str:
     """Returns a cell by its type and its text, which is what the spreadsheet shows."""
-    kind = attributes.get("value-type", "")
-    if kind in ("float", "percentage", "currency", "date", "time"):
-        number = Number(attributes.get("value") or attributes.get(f"{kind}-value") or text)
-        number.text = lambda: text
-        number.code = partial(ods_code, kind, str(number), text)
+    lines = (re.sub("[ \t\r\n]+", " ", signed(line)).strip(" ") for line in cell.findall("p"))
+    kind, text = cell.get("value-type", ""), "\n".join(lines).translate(UNSIGNED)
+    if kind in ODS_NUMBERS:
+        number = Number(cell.get("value") or text)
+        number.text, number.code = lambda: text, partial(ods_code, number, kind, text)
         return number
     if kind == "error":
         return Fault(NO_VALUE_TO_SHOW.format(shown(text)))
-    return TRUTH if kind == "boolean" else NO_VALUE if not kind + text and "formula" in attributes else text
+    return TRUTH if kind == "boolean" else NO_VALUE if not kind + text and "formula" in cell.attrib else text
 
 
-def ods_code(kind: str, value: str, text: str) -> str:
+def ods_code(value: str, kind: str, text: str) -> str:
     """Returns the digits of a number of .ods: as they are shown, or else those of its value; raises RowError."""
-    if kind not in ("date", "time") and text.isascii() and text.isdecimal():
-        return text
     if kind in ("date", "time") or not PLAINLY_SHOWN.fullmatch(text):
-        what = "date or time" if kind in ("date", "time") else f"number {value}"
-        raise RowError(f"is the {what} that is shown as {shown(text)}: enter it again as text")
-    return digits_of(Decimal(value), "0")
+        raise RowError(f"is shown as {shown(text)}, which is no whole number: enter it again as text")
+    return text if text.isdecimal() else digits_of(Decimal(value), "0")
+
+
+def signed(element: Element) -> str:
+    """Returns the text of a paragraph of .ods, with a sign for white space that counts more than once."""
+    text = element.text or ""
+    for part in element:
+        text += SIGNS[part.tag] * min(int(part.get("c", 1)), LARGEST_ROW + 1) if part.tag in SIGNS else signed(part)
+        text += part.tail or ""
+        if len(text) > LARGEST_ROW:
+            raise ToolError(TOO_LARGE)
+    return text

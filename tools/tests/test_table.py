@@ -148,30 +148,24 @@ class Encodings(TableTest):
         )
 
     def test_bytes_that_do_not_decode(self) -> None:
-        fix = "save it as UTF-8, or give --encoding cp1252 for an old file of Windows"
-        problem = f"standard input is not UTF-8 (byte 0xe4 in line 3 of the file): {fix}"
+        fix = "save it as UTF-8, or give its --encoding, cp1252 for an old file of Windows"
+        problem = f"standard input is not UTF-8, as line 3 shows: {fix}"
         self.check(f"code;name\r\n{PENCIL};a\r\n{SMALL};K".encode() + b"\xe4se", ["--code", "1"], [], [problem], 1)
-        problem = (
-            "standard input is not UTF-16, or it is cut off: save it as UTF-8, or give --encoding with its right name"
-        )
+        problem = f"standard input is not UTF-16, or it is cut off: {fix}"
         self.check(b"\xff\xfea", ["--code", "1"], [], [problem], 1)
-        problem = (
-            "standard input is not CP1252 (byte 0x81 in line 2 of the file): "
-            "save it as UTF-8, or give --encoding with its right name"
-        )
+        problem = f"standard input is not CP1252, as line 2 shows: {fix}"
         self.check(b"code\n\x81\n", ["--code", "1", "--encoding", "windows-1252"], [], [problem], 1)
 
     def test_encodings_that_are_none(self) -> None:
         for encoding in ("x", "rot13", "base64", "ä"):
-            problem = f'"{encoding}" is no name of an encoding, as latin-1 or cp1252'
-            self.check(f"code\n{SMALL}\n", ["--code", "code", "--encoding", encoding], [], [problem], 2)
+            text = f'--encoding "{encoding}" is no name of an encoding, as latin-1 or cp1252'
+            self.check_usage(["--code", "code", "--encoding", encoding], text)
 
     def test_encoding_told_that_the_file_contradicts(self) -> None:
         for encoding in ("latin-1", "cp1252", "cp850", "mac-roman", "koi8-r", "shift_jis", "gb18030"):
             problem = f"standard input is UTF-8: leave --encoding {encoding} away"
             arguments = ["--code", "code", "--symbology", "qr", "--encoding", encoding]
             self.check("code\nKäse\n", arguments, [], [problem], 2)
-            problem = f"standard input begins with the mark of UTF-8: leave --encoding {encoding} away"
             self.check("\ufeffcode\nabc\n", arguments, [], [problem], 2)
         problem = "standard input has bytes from 0x80 to 0x9f, no letters of Latin-1: give --encoding cp1252"
         self.check("code\n5 €\n".encode("cp1252"), ["--code", "1", "--encoding", "latin-1"], [], [problem], 1)
@@ -267,18 +261,19 @@ class Cells(TableTest):
         self.check(f"code;x;;\n{SMALL};a\n", ["--code", "code"], [f"ean8 {SMALL}"])
 
     def test_blank_rows(self) -> None:
-        problems = ["row 3: the row is empty", "row 4: the row is empty"]
-        self.check(f"code;a\n{SMALL};b\n\n;\n{SMALL};c\n;\n\n", ["--code", "1"], [f"ean8 {SMALL}"] * 2, problems, 1)
+        problems = ["row 3: the row is empty", "row 5: the row is empty"]
+        table = f"code;a\n{SMALL};b\n\n{SMALL};c\n;\n{SMALL};d\n;\n\n"
+        self.check(table, ["--code", "1"], [f"ean8 {SMALL}"] * 3, problems, 1)
 
     def test_cells_that_no_label_can_show(self) -> None:
         title = 'refused: column 1 ("code") has '
+        unseen = "which nobody sees"
         error = "which the spreadsheet writes where it has no value to show"
         wanted = {
             "": 'refused: column 1 ("code") is empty',
             " ": 'refused: column 1 ("code") is empty',
-            "7351\n3537": title + "a line end in the cell",
-            "73513537\r\n": title + "a line end in the cell",
-            "73513537\r": title + "a line end in the cell",
+            "7351\n3537": f'{title}a line end in the cell "7351<U+000A>3537", {unseen}',
+            "7351\r\n3537": f'{title}a line end in the cell "7351<U+000D><U+000A>3537", {unseen}',
             "A\t1": title + 'a tab in the cell "A<U+0009>1", which nobody sees',
             "\u200e73513537": title + 'left-to-right mark (U+200E) in the cell "<U+200E>73513537", which nobody sees',
             "A\x1d1": title + 'control character (U+001D) in the cell "A<U+001D>1", which nobody sees',
@@ -289,7 +284,7 @@ class Cells(TableTest):
             "A\ufe0f1": title + 'variation selector-16 (U+FE0F) in the cell "A\ufe0f1", which nobody sees',
             "A\U000e01001": title + 'variation selector-17 (U+E0100) in the cell "A\U000e01001", which nobody sees',
             "A\u31641": title + 'hangul filler (U+3164) in the cell "A\u31641", which nobody sees',
-            "A\u20281": title + "a line end in the cell",
+            "A\u20281": f'{title}line separator (U+2028) in the cell "A<U+2028>1", {unseen}',
             "=A1": title + '"=A1", a formula: export its value',
             "K\ufffdse": title + "the sign of a lost letter (U+FFFD) in the cell: export the table again",
             **{
@@ -300,6 +295,13 @@ class Cells(TableTest):
         for arguments in ([], ["--symbology", "qr"], ["--symbology", "code128"]):
             self.check_cells(arguments, wanted)
 
+    def test_a_line_end_behind_a_code(self) -> None:
+        for end in ("\n", "\r\n", "\r"):
+            self.check_cells([], {f"{SMALL}{end}": f"ean8 {SMALL}"})
+            seen = f"LOT 7{end}".replace("\r", "<U+000D>").replace("\n", "<U+000A>")
+            problem = f'refused: "{seen}" has a space before or after the data, which would be drawn: take it away'
+            self.check_cells(["--symbology", "code128"], {f"LOT 7{end}": problem})
+
 
 class Columns(TableTest):
     def test_by_name_and_by_number(self) -> None:
@@ -308,19 +310,19 @@ class Columns(TableTest):
         self.check(table, ["--code", "3", "--header"], [f"ean13 {PENCIL}"])
         self.check(table, ["--code", "2", "--header"], [f"ean13 {PENCIL}"])
         self.check(f" Größe ;x\n{SMALL};a\n", ["--code", "Größe"], [f"ean8 {SMALL}"], locales=support.LOCALES)
-        problem = 'no column "Länge"; row 1 has 1 column: 1 "Größe"'
+        problem = 'no column "Länge"; row 1 has 1 "Größe": give the number of one'
         self.check(f"Größe\n{SMALL}\n", ["--code", "Länge"], [], [problem], 2, support.LOCALES)
 
     def test_column_that_is_not_there(self) -> None:
         table = f"code;name\n{SMALL};a\n"
-        listed = 'row 1 has 2 columns: 1 "code", 2 "name"'
+        listed = 'row 1 has 1 "code", 2 "name": give the number of one'
         for column in ("Code", "0", "3", "-1", ""):
             self.check(table, [f"--code={column}"], [], [f'no column "{column}"; {listed}'], 2)
         for option in ("--title", "--text", "--price", "--copies"):
             self.check(table, ["--code", "1", option, "size"], [], [f'no column "size"; {listed}'], 2)
 
     def test_column_that_is_there_twice(self) -> None:
-        problem = 'columns 1 and 3 are both named "code": give the number of one'
+        problem = 'several columns "code"; row 1 has 1 "code", 2 "name", 3 "code": give the number of one'
         table = f"code;name;code\n{SMALL};a;{PENCIL}\n"
         self.check(table, ["--code", "code"], [], [problem], 2)
         self.check(table, ["--code", "3"], [f"ean13 {PENCIL}"])
@@ -330,9 +332,9 @@ class Columns(TableTest):
         problem = "row 2: 73513538: the check digit is 8, should be 7"
         self.check(table, ["--code", "1", "--no-header"], [f"ean13 {PENCIL}"], [problem], 1)
         self.check(f"ean;b\n{SMALL};c\n", ["--code", "1", "--header"], [f"ean8 {SMALL}"])
-        problem = 'no column "code"; row 1 has 2 columns; without a header row, give the number'
-        self.check(table, ["--code", "code", "--no-header"], [], [problem], 2)
-        self.check(table, ["--code", "3", "--no-header"], [], ['no column "3"; row 1 has 2 columns'], 2)
+        for column in ("code", "3"):
+            problem = f'no column "{column}"; row 1 has 1 "{PENCIL}", 2 "a": give the number of one'
+            self.check(table, ["--code", column, "--no-header"], [], [problem], 2)
 
     def test_a_number_where_row_1_may_be_an_article(self) -> None:
         hint = "give --no-header if that is a code, --header if it is the name of the column"
@@ -360,9 +362,9 @@ class Columns(TableTest):
         self.check(f"a;b;\n1;2\n1;2;{SMALL}\n", ["--code", "3"], [f"ean8 {SMALL}"], [problem], 1)
 
     def test_tables_without_rows(self) -> None:
-        self.check("", ["--code", "1"], [], ["standard input is empty"], 1)
-        self.check("\r\n\r\n", ["--code", "1"], [], ["standard input is empty"], 1)
-        self.check(";;\n;;\n", ["--code", "1"], [], ["standard input has empty cells alone"], 1)
+        self.check("", ["--code", "1"], [], ["standard input is empty: nothing is printed"], 1)
+        for table in ("\r\n\r\n", "\ufeff", ";;\n;;\n"):
+            self.check(table, ["--code", "1"], [], ["standard input has empty cells alone"], 1)
         problem = "standard input has no row below row 1, which has the names of the columns"
         self.check("code;name\n;\n", ["--code", "code"], [], [problem], 1)
 
@@ -493,7 +495,7 @@ class Texts(TableTest):
         found = [label["price"] for label, _ in parts_of(done.stdout)[1]]
         self.assertEqual(found, ["1,20" if price.startswith("=") else price for price in prices])
         wanted = {
-            "1,20\n€": "has a line end in the cell, and a price is one line",
+            "1,20\n€": 'has a line end in the cell "1,20<U+000A>€", which nobody sees',
             "1,\u200b20": 'has zero width space (U+200B) in the cell "1,<U+200B>20", which nobody sees',
             "\u202e02,1": 'has right-to-left override (U+202E) in the cell "<U+202E>02,1", which nobody sees',
             "#####": 'has "#####", which the spreadsheet writes where it has no value to show',
@@ -624,15 +626,15 @@ class Numbers(TableTest):
             self.check_cells(arguments, {number: f"{symbology} {number}"})
 
     def test_without_check_digit_refuses_a_whole_number(self) -> None:
-        fix = "give --without-check-digit only where no number has one"
+        fix = "without check digit: give --without-check-digit only where no number has one"
         for title, number in (("EAN-13", PENCIL), ("EAN-8", SMALL), ("UPC-A", SOAP)):
             symbology = title.replace("-", "").lower()
             count = len(number)
-            problem = f"{number} has {count} digits, and {title} without its check digit has {count - 1}: {fix}"
+            problem = f"{number} has {count} digits, {title} has {count - 1} {fix}"
             self.check_cells(["--symbology", symbology, "--without-check-digit"], {number: f"refused: {problem}"})
         either = "may be a UPC-A with its check digit: if not, give --symbology ean13"
         wanted = {
-            SMALL: f"refused: {SMALL} has 8 digits; without a check digit these have: EAN-8 7, UPC-A 11, EAN-13 12",
+            SMALL: f"refused: {SMALL} has 8 digits, EAN-8 has 7, UPC-A has 11, EAN-13 has 12 {fix}",
             SOAP: f"refused: {SOAP} {either}",
         }
         self.check_cells(["--without-check-digit"], wanted)
@@ -754,7 +756,7 @@ class Data(TableTest):
 
     def test_drawn_though_unmeant(self) -> None:
         space = "has a space before or after the data, which would be drawn: take it away"
-        setting = "begins with a setting, which would be drawn: give it by --settings"
+        setting = "has a setting in front (give it by --settings), which would be drawn: take it away"
         quotes = "has quotes round the data, which would be drawn: take it away"
         apostrophe = "has an apostrophe in front, a spreadsheet's sign of text, which would be drawn: take it away"
         wanted = {
@@ -830,7 +832,7 @@ class Arguments(TableTest):
         signs = "argument --decimal: invalid choice: ';' (choose from ',', '.')"
         self.check_usage(["--code", "1", "--decimal", ";"], signs)
         for argument in (";;", "", '"', " ", "ä"):
-            text = f'argument --delimiter: "{argument}" is no character of ASCII that may cut cells, tab or none'
+            text = f'--delimiter "{argument}" is no character of ASCII that may cut cells, tab or none'
             self.check_usage(["--code", "1", "--delimiter", argument], text)
 
     def test_arguments_that_do_not_go_together(self) -> None:
@@ -843,7 +845,7 @@ class Arguments(TableTest):
 
     def test_bad_settings(self) -> None:
         for setting in ("", "height", "height 30", "level=H 123", "level=H,", ",level=H", "level=H\n", "level"):
-            text = f"argument --settings: {shown(setting)} is no setting as key=value, nor several with commas"
+            text = f"--settings {shown(setting)} is not as height=30 or level=Q,mask=2"
             self.check_usage(["--code", "1", "--symbology", "qr", "--settings", setting], text)
 
     def test_options_of_the_other_kind_of_table(self) -> None:
@@ -858,10 +860,10 @@ class Arguments(TableTest):
         self.assertEqual(parts_of(done.stdout)[1], [({"row": 2}, f"ean8 {SMALL}")])
         done = support.run("label-table", "--code", "code", "nothing.csv", cwd=self.folder)
         problem = ["label-table: nothing.csv: No such file or directory"]
-        self.assertEqual((done.returncode, done.stdout, support.messages(done)), (3, b"", problem))
+        self.assertEqual((done.returncode, done.stdout, support.messages(done)), (1, b"", problem))
         done = support.run("label-table", "--code", "code", str(self.folder))
         problem = [f"label-table: {self.folder}: Is a directory"]
-        self.assertEqual((done.returncode, done.stdout, support.messages(done)), (3, b"", problem))
+        self.assertEqual((done.returncode, done.stdout, support.messages(done)), (1, b"", problem))
 
     def test_standard_input(self) -> None:
         (self.folder / "-").write_text(f"code\n{PENCIL}\n")
@@ -903,14 +905,14 @@ class Arguments(TableTest):
     def test_outputs_that_fail(self) -> None:
         table = f"code\n{SMALL}\n73513538\n"
         row = "label-table: row 3: 73513538: the check digit is 8, should be 7"
-        full = "label-table: cannot write the lines: No space left on device"
+        full = "label-table: standard output: No space left on device"
         for unbuffered in ("", "export PYTHONUNBUFFERED=1; "):
             commands = f"{unbuffered}label-table --code code > /dev/full"
-            self.assertEqual(self.shell(commands, table), (3, [], [row, full]))
+            self.assertEqual(self.shell(commands, table), (1, [], [row, full]))
         closed = "label-table: standard output is closed"
-        self.assertEqual(self.shell("label-table --code code >&-", table), (3, [], [closed]))
+        self.assertEqual(self.shell("label-table --code code >&-", table), (1, [], [closed]))
         closed = "label-table: standard input is closed"
-        self.assertEqual(self.shell("label-table --code code <&-", table), (3, [], [closed]))
+        self.assertEqual(self.shell("label-table --code code <&-", table), (1, [], [closed]))
         for error in ("2>&-", "2> /dev/full"):
             status, lines, messages = self.shell(f"label-table --code code {error}", table)
             self.assertEqual((status, len(lines), messages), (1, 4, []))
@@ -918,7 +920,7 @@ class Arguments(TableTest):
     def test_reader_that_has_gone(self) -> None:
         commands = '{ label-table --code code; echo "status $?" >&2; } | true'
         status, _, problems = self.shell(commands, "code\n" + f"{SMALL}\n" * 20000)
-        self.assertEqual((status, problems), (0, ["label-table: cannot write the lines: Broken pipe", "status 3"]))
+        self.assertEqual((status, problems), (0, ["label-table: standard output: Broken pipe", "status 1"]))
 
 
 class WithLabels(TableTest):
