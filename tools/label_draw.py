@@ -21,6 +21,8 @@ except (ImportError, ValueError) as error:
 
 show_layout, layout_path = PangoCairo.show_layout, PangoCairo.layout_path
 DARK, INSET = re.compile("1+"), 0.01
+# the first letter that may leave its line; the room at the sides of lines as a part of the size of letters
+LATIN, SIDE = "\u0250", 16
 # what shows a control character of Code 128
 SHOWN = {code: 0x2400 + code for code in range(32)} | {127: 0x2421}
 REVERSED = bytes(int(f"{byte:08b}"[::-1], 2) for byte in range(256))
@@ -63,7 +65,7 @@ class Pen:
         font.set_absolute_size(size * Pango.SCALE)
         layout.set_font_description(font)
         if lines:
-            layout.set_width(width * Pango.SCALE)
+            layout.set_width((width - size // SIDE * 2) * Pango.SCALE)
             layout.set_wrap(Pango.WrapMode.WORD_CHAR)
             layout.set_ellipsize(Pango.EllipsizeMode.END)
             layout.set_height(-lines)  # of each paragraph
@@ -81,22 +83,28 @@ class Pen:
         layout.set_text(text, -1)
         return layout
 
-    @lru_cache(maxsize=4096)
-    def fitted(self, text: str, style: Style, width: int, height: int) -> tuple[Any, int, int, bool]:
-        """A text in a box, smaller where its ink leaves it: its layout and place, whether it ends in an ellipsis."""
+    def fitted(self, text: str, style: Style, width: int, height: int) -> tuple[Any, int, int]:
+        """A text as it fits a box, smaller where its ink would leave it, and where it is in the box."""
         family, is_bold, points, lines, is_left, down = style
         size = round(points * self.dpi / 72)
         while True:
             layout = self.blank(family, is_bold, size, width * bool(lines), lines, is_left)
             layout.set_text(text, -1)
-            ink, (across, high) = ink_of(layout), layout.get_pixel_size()
+            across, high = layout.get_pixel_size()
+            # Latin letters keep to their lines, and the room at the sides takes what sticks out of them
+            ink = Box(0, 0, across, high) if lines and max(text) < LATIN else ink_of(layout)
             if (ink.width <= width and ink.height <= height) or size <= 1:
                 break
             size -= max(1, size // 20)
-        x, y = 0 if lines else (width - across) // 2, int((height - high) * down)
+        x, y = size // SIDE if lines else (width - across) // 2, int((height - high) * down)
         x = max(-ink.left, min(x, width - ink.width - ink.left))
-        y = max(-ink.top, min(y, height - ink.height - ink.top))
-        return layout.copy(), x, y, layout.is_ellipsized()
+        return layout, x, max(-ink.top, min(y, height - ink.height - ink.top))
+
+    @lru_cache(maxsize=1024)
+    def kept(self, text: str, style: Style, width: int, height: int) -> tuple[Any, int, int]:
+        """As fitted(), for a text that many labels have."""
+        layout, x, y = self.fitted(text, style, width, height)
+        return layout.copy(), x, y
 
     def missing(self, text: str) -> str:
         """The letters of a text that no font has."""
@@ -148,14 +156,15 @@ class Pen:
 
     def draw_text(self, canvas: Any, text: str, style: Style, box: Box) -> bool:
         """Draws a text in a box; returns whether it ends in an ellipsis."""
-        layout, x, y, is_short = self.fitted(text, style, box.width, box.height)
+        asked = (text, style, box.width, box.height)
+        layout, x, y = self.fitted(*asked) if style[3] else self.kept(*asked)
         canvas.move_to(box.left + x, box.top + y)
         if style[0] in self.outlines:
             layout_path(canvas, layout)
             canvas.fill()
         else:
             show_layout(canvas, layout)
-        return is_short
+        return bool(layout.is_ellipsized())
 
     def draw_modules(self, canvas: Any, label: Label, box: Box) -> None:
         """Draws the modules of a label, stretched to a box that has a whole number of dots for each."""
