@@ -4,9 +4,9 @@ import argparse
 import os
 import signal
 import sys
-from contextlib import contextmanager
+from contextlib import contextmanager, suppress
 from io import RawIOBase, TextIOWrapper
-from typing import BinaryIO, Callable, Iterator, NoReturn, Optional, TextIO
+from typing import BinaryIO, Callable, Iterator, NoReturn, Optional
 
 BAD_ARGUMENTS = 2
 INTERRUPTED = 130
@@ -26,17 +26,9 @@ class Parser(argparse.ArgumentParser):
     """A parser that ends with status 2 for bad arguments even where standard error takes no message."""
 
     def error(self, message: str) -> NoReturn:
-        try:
+        with suppress(OSError):
             super().error(message)
-        except OSError:
-            _drop(sys.stderr)
-            sys.exit(BAD_ARGUMENTS)
-
-
-def argument_parser(tool: str, description: str) -> argparse.ArgumentParser:
-    """A parser of a tool's arguments, without abbreviations; it ends with status 2 and the usage for bad arguments."""
-    layout = argparse.RawDescriptionHelpFormatter
-    return Parser(prog=tool, description=description, formatter_class=layout, allow_abbrev=False)
+        sys.exit(BAD_ARGUMENTS)
 
 
 def standard_output() -> BinaryIO:
@@ -48,10 +40,8 @@ def standard_output() -> BinaryIO:
 
 def complain(tool: str, message: str) -> None:
     """Writes a message on standard error, if that takes it."""
-    try:
+    with suppress(OSError):
         print(f"{tool}: {message}", file=sys.stderr, flush=True)
-    except OSError:
-        _drop(sys.stderr)
 
 
 def main_of(tool: str, function: Callable[[], Optional[int]]) -> NoReturn:
@@ -79,14 +69,9 @@ def main_of(tool: str, function: Callable[[], Optional[int]]) -> NoReturn:
     for stream in filter(None, (sys.stdout, sys.stderr)):
         try:
             stream.flush()
-        except OSError:  # Python's last flush would change the status to 120
-            _drop(stream)
+        except OSError:  # what is left goes nowhere: Python's last flush would change the status to 120
+            os.dup2(os.open(os.devnull, os.O_WRONLY), stream.fileno())
     sys.exit(status)
-
-
-def _drop(stream: TextIO) -> None:
-    """Turns a broken stream into one that takes everything and keeps nothing."""
-    os.dup2(os.open(os.devnull, os.O_WRONLY), stream.fileno())
 
 
 class Signals:

@@ -1,19 +1,23 @@
-"""The file between label-table and label-print: lines of labels(1), and before each, as a remark, what belongs to it.
+"""Lines of labels(1): what belongs to each, as label-table writes it for label-print, and what labels(1) draws for it.
 
 A remark that begins with `#{` is one JSON object. The first of a part has the version, the last says that the part is
 whole; each other one belongs to the next line. Lines without such remarks are a part too.
 """
 
 import json
+import os
 import re
+import subprocess
 import sys
+import tempfile
 from dataclasses import dataclass
+from io import BytesIO
 from pathlib import Path
 from typing import Any, Iterator, Optional
 
 from label_command import ToolError
 
-VERSION, MOST_COPIES, OBJECT = 1, 9999, b"#{"
+VERSION, MOST_COPIES, OBJECT, LABELS_FAILED = 1, 9999, b"#{", 3
 # the keys of each kind of object: a number, a text, or a list of one of these
 HEAD: dict[str, Any] = {"labels": int, "table": str}
 END: dict[str, Any] = {"end": int, "lines": int, "left_out": [int], "left_out_count": int}
@@ -21,28 +25,29 @@ FIELDS: dict[str, Any] = {"row": int, "title": str, "text": [str], "price": str,
 # what Pango cuts a text at or takes for a line end: controls (but LF), line and paragraph separators; lone surrogates
 UNPRINTABLE = re.compile("[\x00-\x09\x0b-\x1f\x7f-\x9f\u2028\u2029\ud800-\udfff]")
 DIGITS_WITHOUT_CHECK = {"ean13": 12, "ean8": 7, "upca": 11}
-ESCAPE = re.compile(rb"\\(?:x([0-9A-Fa-f]{2})|([n\\]))")
-ESCAPED = {b"n": b"\n", b"\\": b"\\"}
+ESCAPE, ESCAPED = re.compile(rb"\\(?:x([0-9A-Fa-f]{2})|([n\\]))"), {b"n": b"\n", b"\\": b"\\"}
+REFUSAL, PICTURE = re.compile(r"line ([0-9]+): (.+)"), re.compile(rb"([0-9]+) ([0-9]+)\n([01\n]+)")
+# where a label is from: the table, `row` or (where that is not known) `line`, and its number
+Place = tuple[str, str, int]
+# width, height and modules of a picture: rows of whole bytes, one after another, in which 1 is dark
+Modules = tuple[int, int, bytes]
 
 
 @dataclass(slots=True)
 class Label:
-    """A line of labels(1), what belongs to it, and its modules once labels(1) has drawn them.
+    """A line of labels(1), its data with the check digit, and what belongs to it: its picture and layout come later.
 
-    `data` is the full data, check digit and all; `row` is 0 where no row is known. The picture is `width` by `height`
-    modules, a row of `modules` after another, each in whole bytes; bars have one row there, and a height of 1 where
-    the line sets none.
+    The picture is `width` by `height` modules; bars have one row, and a height of 1 where the line sets none.
     """
 
     number: int
     symbology: str
     data: bytes
-    table: str
-    row: int = 0
-    title: str = ""
-    text: tuple[str, ...] = ()
-    price: str = ""
-    copies: int = 1
+    place: Place
+    title: str
+    text: str
+    price: str
+    copies: int
     width: int = 0
     height: int = 0
     modules: bytes = b""
@@ -51,8 +56,8 @@ class Label:
 
 def read_input(path: Optional[str]) -> tuple[str, bytes]:
     """The name and bytes of a file, or of standard input where it is None or `-`; raises ToolError if it is empty."""
-    if path is not None and path != "-":
-        name, data = path, Path(path).read_bytes()
+    if path not in (None, "-"):
+        name, data = str(path), Path(str(path)).read_bytes()
     elif sys.stdin is None:
         raise ToolError("standard input is closed")
     else:
@@ -64,12 +69,7 @@ def read_input(path: Optional[str]) -> tuple[str, bytes]:
 
 def lines_of(data: bytes) -> Iterator[bytes]:
     """The lines of a file as labels(1) counts them: LF ends a line, and nothing else does."""
-    start = 0
-    while (end := data.find(b"\n", start)) >= 0:
-        yield data[start:end]
-        start = end + 1
-    if start < len(data):
-        yield data[start:]
+    return (line.removesuffix(b"\n") for line in BytesIO(data))
 
 
 def is_skipped(line: bytes) -> bool:
@@ -77,52 +77,48 @@ def is_skipped(line: bytes) -> bool:
     return not line or line.startswith(b"#")
 
 
-def parse_file(data: bytes, name: str, has_escapes: bool) -> tuple[list[Label], list[tuple[str, int]], int]:
-    """The labels of a file, the rows that label-table left out (the first ones, by table), and the number of these.
+def parse_file(data: bytes, name: str, has_escapes: bool) -> tuple[list[Label], list[Place], int]:
+    """The labels of a file, where the rows are from that label-table left out (the first ones), and their number.
 
     Raises ToolError where a part is not whole, or a remark is not understood.
     """
-    labels, left_out, left_out_count = list[Label](), list[tuple[str, int]](), 0
-    table, waiting = "", dict[str, Any]()
-    first = start = 0
+    labels, left_out, left_out_count = list[Label](), list[Place](), 0
+    table, waiting, head, first = "", dict[str, Any](), 0, 0
     for number, line in enumerate(lines_of(data), 1):
         if not is_skipped(line):
             labels.append(label_of(line, number, table, waiting, has_escapes))
             waiting = {}
         elif line.startswith(OBJECT):
-            found = parse_object(line, f"{name}: line {number}")
+            found, count = parse_object(line, f"{name}: line {number}"), len(labels) - first
             if waiting:
                 raise not_whole(name, f"the remark before line {number} belongs to no line")
-            if "end" in found:
-                count = len(labels) - start
-                if not first or count != found.get("lines"):
-                    raise not_whole(name, f"line {number} ends {found.get('lines')} lines, and there are {count}")
-                left_out += [(table, row) for row in found.get("left_out", [])]
+            if "labels" in found and head:
+                raise not_whole(name, f"what begins in line {head} has no end")
+            if "end" in found and not (head and found.get("lines") == count):
+                raise not_whole(name, f"line {number} ends {found.get('lines')} lines, and there are {count}")
+            if "labels" in found:
+                table, head, first = found.get("table", ""), number, len(labels)
+            elif "end" in found:
+                left_out += [(table, "row", row) for row in found.get("left_out", [])]
                 left_out_count += found.get("left_out_count", 0)
-                first, table = 0, ""
-            elif "labels" not in found:
-                waiting = found
-            elif first:
-                raise not_whole(name, f"what begins in line {first} has no end")
+                table, head = "", 0
             else:
-                first, start, table = number, len(labels), found.get("table", "")
-    if waiting or first or (data.startswith(OBJECT) and not data.endswith(b"\n")):
+                waiting = found
+    if waiting or head or (data.startswith(OBJECT) and not data.endswith(b"\n")):
         raise not_whole(name, "its end is missing")
     return labels, left_out, left_out_count
 
 
 def not_whole(name: str, reason: str) -> ToolError:
     """The error for a file of which a part is missing."""
-    marks = 'lines that begin with #{"labels" and #{"end"'
-    return ToolError(
-        f"{name} is not whole: {reason}. Nothing is printed; to print it all the same, take out its {marks}"
-    )
+    hint = 'to print it all the same, take out its lines that begin with #{"labels" and #{"end"'
+    return ToolError(f"{name} is not whole: {reason}. Nothing is printed; {hint}")
 
 
 def parse_object(line: bytes, where: str) -> dict[str, Any]:
     """The object of a remark, all of which is understood."""
     try:
-        found = json.loads(line[1:])
+        found: dict[str, Any] = json.loads(line[1:])
     except (ValueError, RecursionError) as error:
         raise ToolError(f"{where}: the remark is no JSON object: the file is cut off or changed") from error
     keys = HEAD if "labels" in found else END if "end" in found else FIELDS
@@ -131,7 +127,7 @@ def parse_object(line: bytes, where: str) -> dict[str, Any]:
         raise ToolError(f"{where}: the file is of another version of label-table: make it again")
     if not found or wrong or "\n" in found.get("price", "") or found.get("copies", 0) > MOST_COPIES:
         raise ToolError(f"{where}: not understood: {', '.join(wrong) or line.decode('utf-8', 'replace')}")
-    return dict(found)
+    return found
 
 
 def is_of(value: object, kind: Any) -> bool:
@@ -149,13 +145,57 @@ def label_of(line: bytes, number: int, table: str, found: dict[str, Any], has_es
         data = ESCAPE.sub(lambda match: bytes([int(match[1], 16)]) if match[1] else ESCAPED[match[2]], data)
     if len(data) == DIGITS_WITHOUT_CHECK.get(symbology) and data.isdigit():
         data += check_digit(data)
-    text = tuple(filter(None, map(str.strip, found.get("text", ()))))
+    place = (table, "row", found["row"]) if found.get("row") else ("", "line", number)
+    text = "\n".join(filter(None, map(str.strip, found.get("text", ()))))
     # interned: many labels have the same price
     title, price = found.get("title", "").strip(), sys.intern(found.get("price", "").strip())
-    return Label(number, symbology, data, table, found.get("row", 0), title, text, price, found.get("copies", 1))
+    return Label(number, symbology, data, place, title, text, price, found.get("copies", 1))
 
 
 def check_digit(digits: bytes) -> bytes:
     """The check digit of EAN and UPC (ISO/IEC 15420): weights 3, 1, 3, .. from the right."""
-    total = sum((digit - 48) * (1 if place % 2 else 3) for place, digit in enumerate(reversed(digits)))
+    total = sum(map(int, digits.decode())) + 2 * sum(map(int, digits[::-2].decode()))
     return b"%d" % (-total % 10)
+
+
+def run_labels(data: bytes, words: list[str]) -> tuple[list[Modules], dict[int, str]]:
+    """The pictures of labels(1) for these lines, a module being a pixel, and its message for each line it refuses.
+
+    `words` are options for it. Raises ToolError where it is not there, or fails: status 2 for bad arguments, else 3.
+    """
+    command = [os.environ.get("LABELS") or "labels", *words, "--format", "pbm", "--scale", "1", "--height", "1"]
+    with tempfile.TemporaryFile() as lines, tempfile.TemporaryFile() as messages:
+        lines.write(data)
+        lines.seek(0)
+        try:  # in a session of its own: Ctrl-C on the terminal is for the tool alone
+            run = subprocess.Popen(command, 0, None, lines, subprocess.PIPE, messages, start_new_session=True)
+        except OSError as error:
+            hint = "install labels on the path, or name it in $LABELS"
+            raise ToolError(f"cannot run {command[0]}: {error.strerror}: {hint}") from error
+        pictures, rest = list[Modules](), b""
+        with run:
+            while run.stdout and (chunk := run.stdout.read(1 << 20)):
+                *whole, rest = (rest + chunk).split(b"P1\n")
+                pictures += map(modules_of, filter(None, whole))
+        pictures += map(modules_of, filter(None, [rest]))
+        messages.seek(0)
+        said = messages.read().decode("utf-8", "backslashreplace").splitlines()
+    if run.returncode not in (0, 1):
+        message = f"labels ended with status {run.returncode}: {'; '.join(said[-1:])}"
+        raise ToolError(message, 2 if run.returncode == 2 else LABELS_FAILED)
+    return pictures, {int(match[1]): match[2] for match in map(REFUSAL.fullmatch, said) if match}
+
+
+def modules_of(picture: bytes) -> Modules:
+    """The modules of a picture of plain PBM without its first line."""
+    match = PICTURE.fullmatch(picture)
+    width, height, pixels = (int(match[1]), int(match[2]), match[3].replace(b"\n", b"")) if match else (0, 0, b"")
+    if not pixels or len(pixels) != width * height:
+        raise ToolError("labels drew what is no picture of plain PBM", LABELS_FAILED)
+    rows = (pixels[start : start + width] for start in range(0, len(pixels), width))
+    return width, height, b"".join((int(row, 2) << -width % 8).to_bytes(bytes_a_row(width), "big") for row in rows)
+
+
+def bytes_a_row(width: int) -> int:
+    """The bytes of a row of `width` dots or modules."""
+    return (width + 7) // 8

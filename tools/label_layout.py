@@ -4,15 +4,14 @@ From the top: title, bars, digits, text; the price is beside the bars, or below 
 """
 
 import math
-from dataclasses import dataclass, field
 from itertools import product
-from typing import Iterator, NamedTuple, Optional
+from typing import Collection, Iterator, NamedTuple, Optional
 
 from label_file import Label
-from label_stock import Sheet, Size, size_text
+from label_stock import Sheet, size_text
 
-# sizes of letters in points, and the distance of two base lines in sizes
-TITLE, TEXT, LINE = 9.5, 8.0, 1.2
+# sizes of letters in points, and the distance of two base lines in sizes; millimetres in a point
+TITLE, TEXT, LINE, POINT = 9.5, 8.0, 1.2, 25.4 / 72
 PRICE_SIZES = (17, 16, 15, 14, 13, 12, 11, 10)
 # millimetres: white inside each edge of a cell, white between two parts, the module that is aimed at and the largest
 PAD, GAP, MODULE, LARGEST_MODULE = 1.0, 1.0, 0.33, 0.66
@@ -56,11 +55,10 @@ SYMBOLOGIES = {
     "qr": Symbology("QR", 0.25),
 }
 
-
-# a rectangle, where a label or a part of it may have ink
+# a rectangle in which a part of a label may have ink
 Box = NamedTuple("Box", [("left", int), ("top", int), ("width", int), ("height", int)])
-# what decides whether a label fits: its modules, the lines of its text, the width of its price at the largest size
-Need = NamedTuple("Need", [("width", int), ("height", int), ("text_lines", int), ("price", int)])
+# what decides how a label is laid out: its modules, its lines of text, the width of its price at the largest size
+Need = NamedTuple("Need", [("width", int), ("height", int), ("has_title", bool), ("lines", int), ("price", int)])
 
 
 class Way(NamedTuple):
@@ -73,182 +71,136 @@ class Way(NamedTuple):
     price_size: int
 
 
-@dataclass
-class Group:
-    """The labels of a symbology by what they need, the lines of the longest title, the height of the highest price."""
-
-    symbology: Symbology
-    title_lines: int = 0
-    price_height: int = 0
-    needs: dict[Need, list[Label]] = field(default_factory=dict)
-
-
-@dataclass(frozen=True)
-class Layout:
-    """How the labels of a symbology that one way fits are laid out: the size of all, and the heights of its parts."""
-
-    way: Way
-    symbology: Symbology
-    width: int
-    height: int
-    gap: int
-    title: int
-    bars: int
-    digits: int
-    text_line: int
-    price: int
-
-    def boxes(self, label: Label, area: Box) -> dict[str, Box]:
-        """The parts of a label in an area."""
-        left, top = area.left + (area.width - self.width) // 2, area.top + (area.height - self.height) // 2
-        across, down = label.width * self.way.module, label.height * self.way.module
-        down = self.bars if self.bars and label.height == 1 else down
-        start = left if self.way.is_beside else left + (self.width - across) // 2
-        found = {"title": Box(left, top, self.width, self.title)}
-        top += self.title + self.gap if self.title else 0
-        found["bars"] = Box(start, top, across, down)
-        found["digits"] = Box(start, top + down, across, self.digits)
-        below, lines = top + down + self.digits, text_lines(label)
-        found["text"] = Box(left, below + self.gap, self.width, lines * self.text_line)
-        below += self.gap + found["text"].height if lines else 0
-        price_below = Box(left, below + self.gap, self.width, self.price)
-        found["price"] = Box(left + across, top, self.width - across, down) if self.way.is_beside else price_below
-        has = {"title": label.title, "text": lines, "price": label.price, "digits": self.digits, "bars": True}
-        return {kind: box for kind, box in found.items() if has[kind]}
-
-
-def text_lines(label: Label) -> int:
-    """The lines of the text of a label."""
-    return sum(1 + part.count("\n") for part in label.text)
-
-
-def scaled(length: int, size: int) -> int:
-    """A length of a price that was measured at the largest size, at another one; hinting may add 2 %."""
-    return length if size == PRICE_SIZES[0] or not length else math.ceil(1.02 * length * size / PRICE_SIZES[0]) + 1
+# the parts of a label, from the left upper corner of the area in which its cell takes ink
+Layout = NamedTuple("Layout", [("way", Way), ("symbology", Symbology), ("boxes", dict[str, Box])])
 
 
 class Planner:
-    """Chooses the layouts of labels on a sheet at a number of dots an inch.
+    """Where the cells of a sheet take ink, at a number of dots an inch, and what is asked of the labels.
 
     `edge` stays white at each edge of the page. A module and a height of bars may be given, all in millimetres.
     """
 
-    def __init__(self, sheet: Sheet, dpi: int, edge: float, module: Optional[float], height: Optional[float]) -> None:
-        self.sheet, self.dpi, self.module, self.bars_height = sheet, dpi, module, height
+    def __init__(self, sheet: Sheet, dpi: int, edge: float, module: Optional[float], bars: Optional[float]) -> None:
+        self.sheet, self.dpi, self.edge, self.module, self.bars = sheet, dpi, edge, module, bars
         self.dot = 25.4 / dpi
-        self.areas = [Box(*left_top, *size) for left_top, size in (self.area(place, edge) for place in sheet.places)]
-        self.width = min(area.width for area in self.areas)
-        self.height = min(area.height for area in self.areas)
-        self.gap, self.title, self.text = self.dots(GAP), self.points(LINE * TITLE), self.points(LINE * TEXT)
+        self.gap, self.title, self.text = map(self.dots, (GAP, LINE * TITLE * POINT, LINE * TEXT * POINT))
+        areas = [[self.span(*side) for side in zip(place, sheet.cell, sheet.page)] for place in sheet.places]
+        self.width, self.height = min(x[1] for x, _ in areas), min(y[1] for _, y in areas)
+        # the left upper corners: cells at an edge have less room, and all labels are alike
+        self.places = [(x + (w - self.width) // 2, y + (h - self.height) // 2) for (x, w), (y, h) in areas]
 
-    def area(self, place: Size, edge: float) -> tuple[tuple[int, ...], tuple[int, ...]]:
-        """Where the label of a cell may have ink: its place and size."""
-        sides = list(zip(place, self.sheet.cell, self.sheet.page))
-        first = tuple(self.dots(max(start + PAD, edge)) for start, _, _ in sides)
-        ends = (-self.dots(-min(start + size - PAD, page - edge)) for start, size, page in sides)
-        return first, tuple(max(0, end - start) for start, end in zip(first, ends))
+    def span(self, start: float, size: float, page: float) -> tuple[int, int]:
+        """In one direction, where a cell of a page begins to take ink, and how much room it has."""
+        first = self.dots(max(start + PAD, self.edge))
+        return first, max(0, -self.dots(-min(start + size - PAD, page - self.edge)) - first)
 
     def dots(self, millimetres: float) -> int:
         """A length in whole dots, rounded up."""
         return math.ceil(millimetres / self.dot - 1e-6)
 
-    def points(self, points: float) -> int:
-        """A length in points in whole dots, rounded up."""
-        return math.ceil(points * self.dpi / 72 - 1e-6)
 
-    def modules(self, symbology: Symbology) -> list[int]:
+class Group:
+    """The labels of one symbology by what they need, the lines of the longest title, the height of the prices."""
+
+    def __init__(self, symbology: Symbology, planner: Planner) -> None:
+        self.symbology, self.planner, self.title_lines, self.price_height = symbology, planner, 0, 0
+        self.needs: dict[Need, list[Label]] = {}
+
+    def modules(self) -> list[int]:
         """The sizes of a module that are allowed, the nearest to what is aimed at first; just one if it is given."""
-        wished = self.module or MODULE
-        counts = [max(1, round(wished / self.dot))] if self.module else range(1, int(LARGEST_MODULE / self.dot) + 1)
-        allowed = [count for count in counts if count * self.dot > symbology.smallest - 1e-6]
-        return sorted(allowed, key=lambda count: abs(count * self.dot - wished))
+        dot, wished = self.planner.dot, self.planner.module or MODULE
+        counts = [max(1, round(wished / dot))] if self.planner.module else range(1, int(LARGEST_MODULE / dot) + 1)
+        allowed = [count for count in counts if count * dot > self.symbology.smallest - 1e-6]
+        return sorted(allowed, key=lambda count: abs(count * dot - wished))
 
-    def ways(self, group: Group) -> Iterator[Way]:
+    def ways(self) -> Iterator[Way]:
         """The ways to lay out labels, in the order in which they are tried."""
-        sides = (True, False) if group.price_height else (False,)
-        for module in self.modules(group.symbology):
+        sides = (True, False) if self.price_height else (False,)
+        for module in self.modules():
             yield from (Way(module, is_beside, True, 2, PRICE_SIZES[0]) for is_beside in sides)
             yield from (Way(module, at, False, lines, size) for size, lines, at in product(PRICE_SIZES, (2, 1), sides))
 
-    def digits(self, symbology: Symbology, way: Way) -> int:
-        """The height of what is below bars: digits, or the data of Code 128."""
-        return DIGITS_ROOM * way.module if symbology.digits else (self.text + self.gap // 2) * bool(symbology.nominal)
-
-    def others(self, group: Group, way: Way, need: Need) -> int:
-        """The height of all parts of a label but its bars, with the white between them."""
-        titles, price = min(way.title_lines, group.title_lines), scaled(group.price_height, way.price_size)
-        heights = (titles * self.title, need.text_lines * self.text, 0 if way.is_beside else price)
-        return self.digits(group.symbology, way) + sum(height + self.gap for height in heights if height)
-
-    def lowest(self, symbology: Symbology, way: Way, need: Need) -> int:
-        """The lowest bars that are allowed; the height of a QR symbol, and of bars whose line sets one."""
-        if not symbology.nominal or need.height > 1:
-            return need.height * way.module
-        if self.bars_height:
-            return self.dots(self.bars_height)
-        part = 0 if symbology.digits else math.ceil(LOWEST_PART * need.width * way.module)
-        return max(self.dots(symbology.nominal if way.is_nominal else symbology.lowest), part)
-
-    def fits(self, group: Group, way: Way, need: Need, is_high: bool = False) -> bool:
-        """Whether a label fits its cell in this way; with `is_high` its height does not count."""
-        bars, across = self.lowest(group.symbology, way, need), need.width * way.module
-        price, price_height = scaled(need.price, way.price_size), scaled(group.price_height, way.price_size)
-        if (across + price if way.is_beside else max(across, price)) > self.width:
-            return False
-        return is_high or (
-            not (way.is_beside and price_height > bars) and self.others(group, way, need) + bars <= self.height
+    def parts(self, way: Way, need: Need, bars: int) -> list[tuple[str, int]]:
+        """The parts of a label from the top and their heights, with the white between them."""
+        plan, symbology = self.planner, self.symbology
+        title, text = plan.title * min(way.title_lines, self.title_lines), plan.text * need.lines
+        digits = (
+            DIGITS_ROOM * way.module if symbology.digits else (plan.text + plan.gap // 2) * bool(symbology.nominal)
         )
+        price = 0 if way.is_beside else scaled(self.price_height, way.price_size)
+        above = [("title", title), ("", plan.gap * bool(title)), ("bars", bars), ("digits", digits)]
+        return above + [("", plan.gap * bool(text)), ("text", text), ("", plan.gap * bool(price)), ("price", price)]
 
-    def choose(self, group: Group) -> list[Need]:
-        """Gives each label of a group its layout: the first that fits all, or else most; returns what nothing fits."""
-        left, ways = list(group.needs), list(self.ways(group))
-        while left:
-            best, fitting = None, list[Need]()
-            for way in ways:
-                found = [need for need in left if self.fits(group, way, need)]
-                if found and self.worst(group, way, found) > self.height:  # none has room for all that others need
-                    found = found[:1]
-                if len(found) > len(fitting):
-                    best, fitting = way, found
-                if len(found) == len(left):
-                    break
-            if best is None:
-                break
-            layout = self.layout(group, best, fitting)
-            for label in (label for need in fitting for label in group.needs[need]):
+    def most(self, way: Way, needs: Collection[Need]) -> tuple[int, int]:
+        """The highest bars of some labels, each as low as is allowed, and the highest of all their other parts."""
+        plan, bars = self.planner, []
+        for need in needs:
+            part = 0 if self.symbology.digits or plan.bars else math.ceil(LOWEST_PART * need.width * way.module)
+            nominal = self.symbology.nominal if way.is_nominal else self.symbology.lowest
+            bars.append(need.height * way.module if need.height > 1 else max(plan.dots(plan.bars or nominal), part))
+        return max(bars), max(sum(height for _, height in self.parts(way, need, 0)) for need in needs)
+
+    def is_narrow(self, way: Way, need: Need) -> bool:
+        """Whether a label is as wide as its cell at most."""
+        across, price = need.width * way.module, scaled(need.price, way.price_size)
+        return (across + price if way.is_beside else max(across, price)) <= self.planner.width
+
+    def first_way(self, needs: Collection[Need]) -> Optional[Way]:
+        """The first way that fits all of some labels."""
+        for way in self.ways():
+            if all(self.is_narrow(way, need) for need in needs):
+                bars, others = self.most(way, needs)
+                beside = scaled(self.price_height, way.price_size) if way.is_beside else 0
+                if beside <= bars <= self.planner.height - others:
+                    return way
+        return None
+
+    def choose(self) -> list[Need]:
+        """Gives each label its layout: the first that fits all, or else each its own; returns what nothing fits."""
+        own = {need: way for need in self.needs if (way := self.first_way([need]))}
+        common = self.first_way(own) if own else None
+        for needs in [list(own)] if common else [[need] for need in own]:
+            self.lay_out(common or own[needs[0]], needs)
+        return [need for need in self.needs if need not in own]
+
+    def lay_out(self, way: Way, needs: list[Need]) -> None:
+        """Gives labels one layout, in which their bars begin in the same place."""
+        plan, (bars, others) = self.planner, self.most(way, needs)
+        if self.symbology.nominal and not plan.bars:
+            bars = max(bars, min(plan.dots(self.symbology.nominal), plan.height - others))
+        for need in needs:
+            top, across, boxes = (plan.height - others - bars) // 2, need.width * way.module, dict[str, Box]()
+            left = 0 if way.is_beside else (plan.width - across) // 2
+            for kind, height in self.parts(way, need, bars if need.height == 1 else need.height * way.module):
+                is_symbol = kind in ("bars", "digits")
+                boxes[kind] = Box(left if is_symbol else 0, top, across if is_symbol else plan.width, height)
+                top += height
+            if way.is_beside:
+                boxes["price"] = boxes["bars"]._replace(left=across, width=plan.width - across)
+            has = {"": False, "title": need.has_title, "price": need.price}
+            there = {kind: box for kind, box in boxes.items() if box.height and has.get(kind, True)}
+            layout = Layout(way, self.symbology, there)
+            for label in self.needs[need]:
                 label.layout = layout
-            left = [need for need in left if need not in set(fitting)]
-        return left
 
-    def worst(self, group: Group, way: Way, needs: list[Need]) -> int:
-        """The height of a label with the highest bars and the highest other parts of some."""
-        lowest = max(self.lowest(group.symbology, way, need) for need in needs)
-        return lowest + max(self.others(group, way, need) for need in needs)
-
-    def layout(self, group: Group, way: Way, needs: list[Need]) -> Layout:
-        """The layout of labels that all fit in one way."""
-        symbology, titles = group.symbology, min(way.title_lines, group.title_lines)
-        others = max(self.others(group, way, need) for need in needs)
-        bars = self.worst(group, way, needs) - others
-        if symbology.nominal and not self.bars_height:
-            bars = max(bars, min(self.dots(symbology.nominal), self.height - others))
-        parts = (self.gap, titles * self.title, bars * bool(symbology.nominal), self.digits(symbology, way), self.text)
-        return Layout(way, symbology, self.width, others + bars, *parts, scaled(group.price_height, way.price_size))
-
-    def reason(self, group: Group, needs: list[Need]) -> str:
+    def reason(self, needs: list[Need]) -> str:
         """Why labels do not fit, and what would."""
-        symbology, need = group.symbology, Need(*[max(values) for values in zip(*needs)])
-        modules, taken = self.modules(symbology), size_text((self.width * self.dot, self.height * self.dot))
+        plan, symbology, need = self.planner, self.symbology, Need(*[max(values) for values in zip(*needs)])
+        modules, taken = self.modules(), size_text((plan.width * plan.dot, plan.height * plan.dot))
         if not modules:
             return f"{symbology.title}: no whole number of dots is a module of {symbology.smallest:g} mm or more"
-        ways = [way for way in self.ways(group) if self.fits(group, way, need, True)]
-        if not ways:
-            wide = max(need.width * min(modules), scaled(need.price, PRICE_SIZES[-1])) * self.dot
-            least = f"{wide:.1f} mm wide, with modules of {min(modules) * self.dot:.3f} mm"
-            hint = ", shorter data" * (not symbology.digits) + ", a smaller --module" * bool(self.module)
+        if found := [self.most(way, [need]) for way in self.ways() if self.is_narrow(way, need)]:
+            room = math.floor((plan.height - min(others for _, others in found)) * plan.dot)
+            least = f"{min(bars + others for bars, others in found) * plan.dot:.1f} mm high, with its texts"
+            hint = ", less text" + f", --height {room}" * bool(symbology.nominal and room >= 1)
         else:
-            room = max(self.height - self.others(group, way, need) for way in ways) * self.dot
-            high = min(self.others(group, way, need) + self.lowest(symbology, way, need) for way in ways) * self.dot
-            least = f"{high:.1f} mm high, with its texts"
-            hint = ", less text" + f", --height {math.floor(room)}" * bool(symbology.nominal and room >= 1)
+            wide = max(need.width * min(modules), scaled(need.price, PRICE_SIZES[-1])) * plan.dot
+            least = f"{wide:.1f} mm wide, with modules of {min(modules) * plan.dot:.3f} mm"
+            hint = ", shorter data" * (not symbology.digits) + ", a smaller --module" * bool(plan.module)
         return f"{symbology.title} is {least}, and a label takes {taken}: take a larger label{hint}"
+
+
+def scaled(length: int, size: int) -> int:
+    """A length of a price that was measured at the largest size, at another one; hinting may add 2 %."""
+    return length if size == PRICE_SIZES[0] or not length else math.ceil(1.02 * length * size / PRICE_SIZES[0]) + 1

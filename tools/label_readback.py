@@ -4,9 +4,8 @@ from typing import Any, Optional
 
 from label_command import ToolError
 from label_draw import Dots, Pen, dots_of
-from label_file import Label
-from label_layout import Box, Planner
-from label_run import bytes_a_row
+from label_file import Label, bytes_a_row
+from label_layout import Planner
 
 try:
     import numpy
@@ -19,14 +18,12 @@ FORMATS = {"ean13": "EAN13", "ean8": "EAN8", "upca": "UPCA", "code128": "Code128
 
 def fault_of(label: Label, pen: Pen, planner: Planner) -> Optional[str]:
     """What is wrong with a label as it is drawn in its cell; None where it is read back."""
-    area = Box(0, 0, planner.width, planner.height)
-    dots = dots_of(area.width, area.height, lambda canvas: pen.draw(canvas, label, area))
-    return fault_in(dots, label, label.layout.boxes(label, area)["bars"])
+    return fault_in(dots_of(planner.width, planner.height, lambda canvas: pen.draw(canvas, label, 0, 0)), label)
 
 
-def fault_in(dots: Dots, label: Label, bars: Box) -> Optional[str]:
-    """What is wrong with a label of which these are the dots, where the bars are in a box."""
-    pixels = bits_of(b"".join(dots.rows), dots.width)
+def fault_in(dots: Dots, label: Label) -> Optional[str]:
+    """What is wrong with a label of which these are the dots."""
+    pixels, bars = bits_of(b"".join(dots.rows), dots.width), label.layout.boxes["bars"]
     form, binarizer = getattr(zxingcpp, FORMATS[label.symbology]), zxingcpp.Binarizer.BoolCast
     found = zxingcpp.read_barcode(255 * (1 - pixels), formats=form, binarizer=binarizer)
     if found is None or found.bytes != label.data:

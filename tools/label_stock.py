@@ -26,9 +26,8 @@ class Sheet(NamedTuple):
 
     def beyond(self) -> float:
         """By how much the cells leave the page."""
-        ends = (max(x for x, _ in self.places), max(y for _, y in self.places))
-        beyond = [end + cell - page for end, cell, page in zip(ends, self.cell, self.page)]
-        return max(*beyond, *(-min(place) for place in self.places))
+        cells = [(x, x + self.cell[0], y, y + self.cell[1]) for x, y in self.places]
+        return max(max(-left, right - self.page[0], -top, low - self.page[1]) for left, right, top, low in cells)
 
     def __str__(self) -> str:
         return f"{len(self.places)} of {size_text(self.cell)} on {size_text(self.page)}"
@@ -80,54 +79,44 @@ def plain(name: str) -> str:
 @cache
 def parts() -> dict[tuple[str, str], Element]:
     """Every part that glabels knows, by its maker and name."""
-    found = [element for path in sorted(TEMPLATES.glob("*.xml")) for element in elements_of(path, "Template")]
+    found = [part for path in sorted(TEMPLATES.glob("*.xml")) for part in parse(path).iterfind("{*}Template")]
     if not found:
         raise ToolError("sheets by name need apt-get install glabels-data; else give --columns, --rows and --cell")
-    named = {(element.get("brand", ""), element.get("part", "")): element for element in found}
+    named = {(part.get("brand", ""), part.get("part", "")): part for part in found}
     return dict(sorted(named.items(), key=lambda item: item[0]))
-
-
-def elements_of(path: Path, name: str) -> Iterator[Element]:
-    """The elements of this name in a file, whose names are compared, and left, without their namespaces."""
-    for element in parse(path).iter():
-        element.tag = element.tag.rpartition("}")[2]
-        if element.tag == name:
-            yield element
 
 
 @cache
 def papers() -> dict[str, Size]:
     """The sizes of paper that the parts name."""
-    return {one.get("id", ""): size_of(one) for one in elements_of(TEMPLATES / "paper-sizes.xml", "Paper-size")}
+    return {one.get("id", ""): size_of(one) for one in parse(TEMPLATES / "paper-sizes.xml").iterfind("{*}Paper-size")}
 
 
-def size_of(element: Element, names: tuple[str, str] = ("width", "height")) -> Size:
+def size_of(element: Element, first: str = "width", second: str = "height") -> Size:
     """Two lengths of an element in millimetres; one that it does not have is 0."""
-    matches = [LENGTH.fullmatch(element.get(name) or "0") for name in names]
-    first, second = (float(match[1]) * UNITS[match[2]] if match else 0.0 for match in matches)
-    return first, second
+    matches = (LENGTH.fullmatch(element.get(name) or "0") for name in (first, second))
+    x, y = (float(match[1]) * UNITS[match[2]] if match else 0.0 for match in matches)
+    return x, y
 
 
 def sheet_of(key: tuple[str, str]) -> Sheet:
     """The sheet of a part; raises ToolError where no label can be laid out for it."""
-    head, part, followed = f"--stock {' '.join(key)}", parts()[key], {key}
+    head, part, followed, places = f"--stock {' '.join(key)}", parts()[key], {key}, list[Size]()
     while same := part.get("equiv"):
         part = parts().get((key[0], same), part)
         if (key[0], same) in followed:
             raise ToolError(f"{head}: glabels does not say its sizes", BAD_ARGUMENTS)
         followed.add((key[0], same))
-    cell = next(child for child in part if child.tag.startswith("Label-"))
-    if cell.tag != "Label-rectangle":
-        raise ToolError(f"{head}: its labels are no rectangles ({cell.tag.removeprefix('Label-')})", BAD_ARGUMENTS)
-    places = sorted((place for layout in cell.iter("Layout") for place in places_of(layout)), key=lambda at: at[::-1])
+    cell = next(child for child in part if "Label-" in child.tag)
+    if not cell.tag.endswith("Label-rectangle"):
+        kind = cell.tag.rpartition("Label-")[2]
+        raise ToolError(f"{head}: its labels are no rectangles ({kind})", BAD_ARGUMENTS)
+    for layout in cell.iterfind("{*}Layout"):
+        (left, top), (across, down) = size_of(layout, "x0", "y0"), size_of(layout, "dx", "dy")
+        columns, rows = (range(int(layout.get(name, "0"))) for name in ("nx", "ny"))
+        places += [(left + x * across, top + y * down) for y in rows for x in columns]
+    places.sort(key=lambda at: at[::-1])
     sheet = Sheet(papers().get(part.get("size", "")) or size_of(part), size_of(cell), places)
     if not places or not min(sheet.cell) or sheet.beyond() > MOST_BEYOND:
         raise ToolError(f"{head}: glabels has it larger than its page: give --columns, --rows, --cell", BAD_ARGUMENTS)
     return sheet
-
-
-def places_of(layout: Element) -> Iterator[Size]:
-    """The upper left corner of each cell of a layout."""
-    (left, top), (across, down) = size_of(layout, ("x0", "y0")), size_of(layout, ("dx", "dy"))
-    for row in range(int(layout.get("ny", "0"))):
-        yield from ((left + column * across, top + row * down) for column in range(int(layout.get("nx", "0"))))

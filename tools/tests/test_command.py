@@ -23,9 +23,9 @@ class Ending(unittest.TestCase):
     SCRIPT = """
 import sys
 sys.path.insert(0, {tools!r})
-from label_command import ToolError, argument_parser, main_of, standard_output
+from label_command import Parser, ToolError, main_of, standard_output
 def function():
-    arguments = argument_parser("small-tool", "A tool for this test.").parse_args()
+    arguments = Parser(prog="small-tool", description="A tool for this test.", allow_abbrev=False).parse_args()
     {body}
 main_of("small-tool", function)
 """

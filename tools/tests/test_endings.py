@@ -21,6 +21,7 @@ LABELS = [
     for number in range(40)
 ]
 ROLL = ("--paper", "60x40", "--dpi", "203", "--to")
+ROWS = (("articles", 2), ("articles", 3), ("b", 2))
 HEAD, END = '#{"labels":1,"table":"t.csv"}\n', '#{"end":1,"lines":1,"left_out":[],"left_out_count":0}\n'
 
 
@@ -56,9 +57,10 @@ class FileBetween(unittest.TestCase):
         """After `cat a b` each part is whole, and its rows are those of its own table."""
         first, second = support.file_of(LABELS[:2]), support.file_of(LABELS[2:3], left_out=[7], left_out_count=1)
         labels, left_out, count = parse_file(first + b"qr plain\n" + second.replace(b"articles", b"b"), "lines", False)
-        found = [(label.table, label.row) for label in labels]
-        self.assertEqual(found, [("articles.xlsx", 2), ("articles.xlsx", 3), ("", 0), ("b.xlsx", 2)])
-        self.assertEqual((left_out, count), ([("b.xlsx", 7)], 1))
+        found = [label.place for label in labels]
+        self.assertEqual(found[:2] + found[3:], [(f"{name}.xlsx", "row", row) for name, row in ROWS])
+        self.assertEqual(found[2], ("", "line", 7))
+        self.assertEqual((left_out, count), ([("b.xlsx", "row", 7)], 1))
         for data in (first[:-60] + second, first + second[:-60], first.split(b"\n", 1)[1]):
             self.assertRaises(ToolError, parse_file, data, "lines", False)
 
@@ -102,7 +104,7 @@ class FileBetween(unittest.TestCase):
         data = f"{HEAD}# of others\r\x0b\x0c\n\n#{json.dumps(fields)}\nqr \x0b\x1c\u2028\n{END}".encode()
         (label,), _, _ = parse_file(data, "lines", False)
         self.assertEqual((label.number, label.data.decode()), (5, "\x0b\x1c\u2028"))
-        self.assertEqual((label.title, label.text, label.price, label.copies), ("a\u00a0b", ("c\nd",), "1 €", 1))
+        self.assertEqual((label.title, label.text, label.price, label.copies), ("a\u00a0b", "c\nd", "1 €", 1))
 
     def test_files_and_standard_input(self) -> None:
         data = support.file_of(LABELS[:2])

@@ -16,11 +16,10 @@ import zxingcpp
 import jobs
 import support
 import label_stock
-from label_draw import Pen, dots_of
-from label_file import Label, parse_file
-from label_layout import SYMBOLOGIES, Box, Group, Need, Planner, text_lines
+from label_draw import Pen, dots_of, ink_of
+from label_file import Label, bytes_a_row, parse_file, run_labels
+from label_layout import SYMBOLOGIES, Planner
 from label_readback import bits_of, fault_in, fault_of
-from label_run import bytes_a_row, run_labels
 
 SHELF = [
     (f"ean13 {support.ean13(400638000000 + number)}", {"title": f"Artikel {number}", "price": f"{number},80 €"})
@@ -46,17 +45,12 @@ def planned(data: bytes, cell: Tuple[float, float], dpi: int, *sizes: float) -> 
     pictures, refused = run_labels(data, [])
     assert not refused
     planner = Planner(label_stock.Sheet(cell, cell, [(0.0, 0.0)]), dpi, 0.0, *(sizes or (None, None)))
-    pen, groups = Pen(dpi, True, "DejaVu Sans", "DejaVu Sans Mono"), {}
+    pen = Pen(dpi, True, "DejaVu Sans", "DejaVu Sans Mono")
     for label, (width, height, modules) in zip(labels, pictures):
         label.width, label.height = width, height
         label.modules = modules[: bytes_a_row(width)] if SYMBOLOGIES[label.symbology].nominal else modules
-        group = groups.setdefault(label.symbology, Group(SYMBOLOGIES[label.symbology]))
-        group.title_lines = max(group.title_lines, pen.title_lines(label.title, planner.width) if label.title else 0)
-        wide, high = pen.price_size(label.price) if label.price else (0, 0)
-        group.price_height = max(group.price_height, high)
-        group.needs.setdefault(Need(width, height, text_lines(label), wide), []).append(label)
-    for group in groups.values():
-        planner.choose(group)
+    for group in pen.groups(labels, planner):
+        group.choose()
     return labels, pen, planner
 
 
@@ -191,18 +185,18 @@ class Sizes(unittest.TestCase):
             self.assertIsNotNone(layout, cell)
             found = (layout.way.is_beside, layout.way.title_lines, layout.way.price_size)
             self.assertEqual(found, (wanted[0], wanted[2], wanted[3]), cell)
-            self.assertGreaterEqual(layout.bars * 25.4 / 600, wanted[1] - 0.001, cell)
+            self.assertGreaterEqual(layout.boxes["bars"].height * 25.4 / 600, wanted[1] - 0.001, cell)
 
     def test_one_layout_for_a_symbology(self) -> None:
         labels, _, _ = planned(support.file_of(SHELF), (64.0, 38.1), 300)
-        self.assertEqual(len({label.layout for label in labels}), 1)
+        self.assertEqual(len({(label.layout.way, label.layout.boxes["bars"]) for label in labels}), 1)
         data = support.file_of([("code128 " + "x" * 18, {}), ("code128 x", {"price": "12.999,00 zł"})])
         self.assertTrue(all(label.layout for label in planned(data, (70.0, 24.0), 300)[0]))
 
     def test_a_line_with_a_height_of_its_own(self) -> None:
         data = b"code128,height=40 SHELF-7\ncode128 SHELF-7\nean8,height=60 7351353\n"
         labels, pen, planner = planned(data, (70.0, 40.0), 300)
-        heights = [label.layout.boxes(label, planner.areas[0])["bars"].height for label in labels]
+        heights = [label.layout.boxes["bars"].height for label in labels]
         modules = [label.layout.way.module for label in labels]
         self.assertEqual((heights[0], heights[2]), (40 * modules[0], 60 * modules[2]))
         self.assertEqual(heights[1], planner.dots(15))
@@ -241,15 +235,16 @@ class Sizes(unittest.TestCase):
 
     def look(self, label: Label, pen: Pen, planner: Planner) -> None:
         """The ink of each part of a label is in its box; boxes do not overlap, and none leaves the area."""
-        area = planner.areas[0]
-        boxes = label.layout.boxes(label, area)
-        width, height = area.left * 2 + area.width, area.top * 2 + area.height
-        dots = numpy.array(bits_of(b"".join(dots_of(width, height, lambda at: pen.draw(at, label, area)).rows), width))
+        boxes, width, height = label.layout.boxes, planner.width, planner.height
+        rows = dots_of(width + 80, height + 80, lambda canvas: pen.draw(canvas, label, 40, 40)).rows
+        dots = numpy.array(bits_of(b"".join(rows), width + 80))
+        inside = dots[40 : 40 + height, 40 : 40 + width]
+        self.assertEqual(dots.sum(), inside.sum())
         for box in boxes.values():
-            self.assertGreaterEqual((box.left, box.top), (area.left, area.top))
-            self.assertLessEqual(box.left + box.width, area.left + area.width)
-            self.assertLessEqual(box.top + box.height, area.top + area.height)
-            self.assertTrue(dots[box.top : box.top + box.height, box.left : box.left + box.width].any())
+            self.assertGreaterEqual(min(box.left, box.top), 0)
+            self.assertLessEqual(box.left + box.width, width)
+            self.assertLessEqual(box.top + box.height, height)
+            self.assertTrue(inside[box.top : box.top + box.height, box.left : box.left + box.width].any())
         for one, other in itertools.combinations(boxes.values(), 2):
             apart = (
                 one.left + one.width <= other.left
@@ -259,7 +254,7 @@ class Sizes(unittest.TestCase):
             )
             self.assertTrue(apart, (one, other))
         for box in boxes.values():
-            dots[box.top : box.top + box.height, box.left : box.left + box.width] = 0
+            inside[box.top : box.top + box.height, box.left : box.left + box.width] = 0
         self.assertFalse(dots.any(), (label.title, label.price, label.text))
 
     def test_a_price_is_whole(self) -> None:
@@ -268,16 +263,16 @@ class Sizes(unittest.TestCase):
             support.file_of([SHELF[0], (SHELF[1][0], {"price": "12.999,00 zł"})]), (60, 40), 203
         )
         for label in labels:
-            box = label.layout.boxes(label, planner.areas[0])["price"]
-            style = pen.text(label.price, True, label.layout.way.price_size)
-            self.assertLessEqual(style.get_pixel_extents()[0].width, box.width)
+            box = label.layout.boxes["price"]
+            price = pen.laid_out(label.price, label.layout.way.price_size)
+            self.assertLessEqual(ink_of(price).width, box.width)
 
     def test_digits_are_in_their_places(self) -> None:
         labels, pen, planner = planned(b"ean13 400638133393\n", (60.0, 40.0), 600)
-        box = labels[0].layout.boxes(labels[0], planner.areas[0])["digits"]
-        area, module = planner.areas[0], labels[0].layout.way.module
-        rows = dots_of(2 * area.left + area.width, 1000, lambda canvas: pen.draw(canvas, labels[0], area)).rows
-        dots = bits_of(b"".join(rows), 2 * area.left + area.width)[box.top + 6 * module : box.top + box.height]
+        box = labels[0].layout.boxes["digits"]
+        module = labels[0].layout.way.module
+        rows = dots_of(planner.width, 1000, lambda canvas: pen.draw(canvas, labels[0], 0, 0)).rows
+        dots = bits_of(b"".join(rows), planner.width)[box.top + 6 * module : box.top + box.height]
         inked = dots.any(axis=0).nonzero()[0]
         places = sorted({(int(place) - box.left) // module for place in inked})
         self.assertTrue(all(0 <= place < 9 or 14 <= place < 56 or 61 <= place < 103 for place in places), places)
@@ -288,10 +283,10 @@ class Sizes(unittest.TestCase):
             (b"ean8 7351353\n", (7, 9, 39, 41, 71, 73)),
         ):
             labels, pen, planner = planned(line, (60.0, 40.0), 600)
-            area, module = planner.areas[0], labels[0].layout.way.module
-            bars = labels[0].layout.boxes(labels[0], area)["bars"]
-            rows = dots_of(2 * area.left + area.width, 1000, lambda canvas: pen.draw(canvas, labels[0], area)).rows
-            dots = bits_of(b"".join(rows), 2 * area.left + area.width)
+            module = labels[0].layout.way.module
+            bars = labels[0].layout.boxes["bars"]
+            rows = dots_of(planner.width, 1000, lambda canvas: pen.draw(canvas, labels[0], 0, 0)).rows
+            dots = bits_of(b"".join(rows), planner.width)
             for place in guards:
                 column = dots[:, bars.left + place * module + module // 2]
                 self.assertEqual(int(column.nonzero()[0][-1]) + 1, bars.top + bars.height + 5 * module, (line, place))
@@ -450,16 +445,15 @@ class ReadBack(unittest.TestCase):
     def test_bars_that_are_turned(self) -> None:
         """zxing-cpp reads a label with a third of its bars turned round; each row of dots is compared besides."""
         (label,), pen, planner = planned(b"ean13 400638133393\n", (60.0, 40.0), 300)
-        area = Box(0, 0, planner.width, planner.height)
-        dots = dots_of(area.width, area.height, lambda canvas: pen.draw(canvas, label, area))
-        bars = label.layout.boxes(label, area)["bars"]
-        self.assertIsNone(fault_in(dots, label, bars))
+        dots = dots_of(planner.width, planner.height, lambda canvas: pen.draw(canvas, label, 0, 0))
+        bars = label.layout.boxes["bars"]
+        self.assertIsNone(fault_in(dots, label))
         for top in range(bars.top, bars.top + bars.height // 3):
             row = "".join(f"{byte:08b}" for byte in dots.rows[top])
             part = row[bars.left : bars.left + bars.width]
             turned = row[: bars.left] + part[::-1] + row[bars.left + bars.width :]
             dots.rows[top] = int(turned, 2).to_bytes(len(dots.rows[top]), "big")
-        self.assertEqual(fault_in(dots, label, bars), "its bars as drawn are not those of labels")
+        self.assertEqual(fault_in(dots, label), "its bars as drawn are not those of labels")
 
     def test_a_program_that_draws_other_labels(self) -> None:
         with tempfile.TemporaryDirectory() as folder:
@@ -521,12 +515,12 @@ class Stock(unittest.TestCase):
         self.assertGreater(sum(brand == "Hama" for brand, _ in label_stock.parts()), 3)
         self.assertAlmostEqual(label_stock.stock_sheet("Herma 4464").cell[0], 199 / 72 * 25.4)
         element = label_stock.parts()["Connect", "KF10647"]
-        layout = next(element.iter("Layout"))
+        layout = next(element.iterfind(".//{*}Layout"))
         self.assertLess(label_stock.size_of(layout, ("x0", "y0"))[0], 1e-9)
         followed = [key for key, part in label_stock.parts().items() if part.get("equiv")]
         self.assertGreater(len(followed), 500)
         several = label_stock.sheet_of(("JAC", "F-3070"))
-        layouts = list(label_stock.parts()["JAC", "F-3070"].iter("Layout"))
+        layouts = list(label_stock.parts()["JAC", "F-3070"].iterfind(".//{*}Layout"))
         self.assertGreater(len(layouts), 1)
         self.assertEqual(len(several.places), sum(int(one.get("nx", 0)) * int(one.get("ny", 0)) for one in layouts))
         same = label_stock.sheet_of(("Avery", "J8160"))
