@@ -68,8 +68,8 @@ module _ (options : OptionValues) where
 
   -- a call that failed, in a longer script
   pub Sends-longer : {T U : Type 0} {took : Channel → List ℕ → Type 0} {before middle after : List Event}
-      {fault : RunFault} (more : List Event) → after ≡ middle ++ more → Sends {T = T} options took before middle (Err fault)
-      → Sends {T = U} options took before after (Err fault)
+      {fault : RunFault} (more : List Event) → after ≡ middle ++ more
+      → Sends {T = T} options took before middle (Err fault) → Sends {T = U} options took before after (Err fault)
   Sends-longer {before = before} more cut s = record {
     added = s.added ++ more;
     grown = cut ∙ (ap (λ (es : List Event). es ++ more) s.grown ∙ append_assoc before s.added more);
