@@ -1,25 +1,15 @@
 -- What more lines add to the script and its status, and to a filter's state.
-use Rattle.std.proofs.Common.{◌≡◌, ◌≢◌, ℕ, ◌+◌, Bool, ◌||◌, true, false, List, [], ◌∷◌, ◌++◌, length, append_assoc}
-use Rattle.std.proofs.Common.{refl, ap, sym, ◌∙◌, arith, add-zero, zero-add, if◌then◌else◌, ◌-◌, ◌^◌, min, take, Result}
-use Rattle.std.proofs.Common.{length-take, subst}
+use Rattle.filter.proofs.Words.{◌≡◌, ◌≢◌, ℕ, ◌+◌, Bool, ◌||◌, true, false, List, [], ◌∷◌, ◌++◌, length, append_assoc}
+use Rattle.filter.proofs.Words.{refl, ap, sym, ◌∙◌, arith, add-zero, zero-add, if◌then◌else◌, ◌-◌, ◌^◌, min, take}
+use Rattle.filter.proofs.Words.{Result, length-take, or-false, append-nil, LF, lines, ended_lines, open_line}
+use Rattle.filter.proofs.Words.{unless_empty, HasNoLF, IsCut, with_ends, OptionValues, Event, of_line, outcome}
+use Rattle.filter.proofs.Words.{events_after, ended_script, script, flushes, is_refusal, line_number, status_of}
+use Rattle.filter.proofs.Words.{Clean, Refused, All-append, held_line, line_limit, FilterState, IsAfter, Sends, taken}
+use Rattle.filter.proofs.Words.{Stops, Took, RunFault, MatchResult}
 use Rattle.std.specs.List.{list_any}
-use Rattle.std.proofs.Math.Bool.{or-false}
-use Rattle.std.proofs.lemmas.List.{append-nil}
 use Rattle.std.proofs.lemmas.List.Folds.{list_any-append}
-use Rattle.device.specs.Lines.{LF, lines, ended_lines, open_line, unless_empty, HasNoLF, IsCut, with_ends}
-use Rattle.device.proofs.LinesLaws.{ended_lines-push_lf, some_added, IsCut-ended_lines}
-use Rattle.device.proofs.LinesLaws.{ended_lines-cut, open_line-cut}
-use Rattle.labelcore.specs.OptionValues.{OptionValues}
-use Rattle.filter.specs.Output.{Event, of_line, outcome, events_after, ended_script, script, flushes, is_refusal}
-use Rattle.filter.specs.Output.{line_number, status_of}
-use Rattle.filter.specs.declared.status.Status.{Status}
-use Rattle.filter.specs.declared.status.Status.TheVariants.{Clean, Refused}
-use Rattle.std.proofs.lemmas.List.Elements.{All-append}
-use Rattle.labelcore.specs.HeldLine.{held_line, line_limit}
-use Rattle.filter.specs.Filter.{FilterState, IsAfter, Sends, taken, Stops, Took}
-use Rattle.filter.specs.declared.status.RunFault.{RunFault}
+use Rattle.device.proofs.LinesLaws.{ended_lines-push_lf, some_added, IsCut-ended_lines, ended_lines-cut, open_line-cut}
 use Rattle.filter.specs.Private.{worst}
-use Rattle.std.specs.Prelude.{MatchResult}
 
 -- the status of two scripts
 worst_of_two : (a b : Bool) → (if a || b then Refused else Clean)
@@ -46,7 +36,8 @@ module _ (options : OptionValues) where
   events_after-append n (x ∷ xs) ys =
       let k : (n + 1) + length xs ≡ n + length (x ∷ xs) = omega arith in
       ap (λ (es : List Event). of_line (line_number n) (outcome options x) ∷ es)
-      (events_after-append (n + 1) xs ys ∙ ap (λ (j : ℕ). events_after options (n + 1) xs ++ events_after options j ys) k)
+      (events_after-append (n + 1) xs ys
+      ∙ ap (λ (j : ℕ). events_after options (n + 1) xs ++ events_after options j ys) k)
 
   pub ended_script-nil : ended_script options [] ≡ []
   unfolding ended_lines events_after
@@ -102,7 +93,8 @@ module _ (options : OptionValues) where
 -- bytes of the open line
 cut_more : (text bytes : List ℕ) → HasNoLF bytes → IsCut (text ++ bytes) (ended_lines text) (open_line text ++ bytes)
 cut_more text bytes no_lf = let cut = IsCut-ended_lines text in record {
-  whole = ap (λ (xs : List ℕ). xs ++ bytes) cut.whole ∙ append_assoc (with_ends (ended_lines text)) (open_line text) bytes;
+  whole = ap (λ (xs : List ℕ). xs ++ bytes) cut.whole
+      ∙ append_assoc (with_ends (ended_lines text)) (open_line text) bytes;
   each = cut.each;
   rest_open = All-append (λ b. b ≢ LF) (open_line text) bytes cut.rest_open no_lf;
 }
@@ -137,8 +129,8 @@ module _ (options : OptionValues) (state : FilterState) (text : List ℕ) (at : 
   Sends-line {out = out} {err = err} r n counts each = record {
     added = of_line (line_number (length (ended_lines text))) (outcome options (open_line text)) ∷ [];
     grown = ended_script-lf options text;
-    sends = of_open_line (λ own line m. MatchResult r (λ _. Took own (taken out err) (of_line m (outcome own line) ∷ []))
-        (Stops own (taken out err) (of_line m (outcome own line) ∷ []))) n counts each;
+    sends = of_open_line (λ own line m. let events = of_line m (outcome own line) ∷ [] in
+        MatchResult r (λ _. Took own (taken out err) events) (Stops own (taken out err) events)) n counts each;
   }
 
 -- what is held of a line is empty where the line is

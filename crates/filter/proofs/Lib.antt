@@ -3,3 +3,4 @@ pub mod FilterLaws
 pub mod ReadLaws
 pub mod RunLaws
 pub mod ScriptLaws
+pub mod Words

@@ -1,21 +1,18 @@
 -- What the definitions draw reads back as the full data of its line, whoever computes it.
+use Rattle.filter.proofs.Words.{All, IfOk, nat_lt, ⊤, IfSome, ok_or, option_and_then, ◌≡◌, ℕ, ◌+◌, ◌*◌, ◌^◌, ◌<◌, ◌≤◌}
+use Rattle.filter.proofs.Words.{List, [], ◌∷◌, ◌++◌, map, Some, refl, ap, arith, Result, Ok, Err, subst, Bool, true}
+use Rattle.filter.proofs.Words.{false, length, sym, ◌∙◌, get_or, inl, inr, ◌==◌, eq-eqb, Option, None, and-false}
+use Rattle.filter.proofs.Words.{All-from_recursion, recursion_from_All, All-map, All-weaker, lines, skipped, refused}
+use Rattle.filter.proofs.Words.{drawn, outcome_of, Outcome, Request, item, OptionValues, IsMask, Fault, Ean13, Ean8}
+use Rattle.filter.proofs.Words.{UpcA, Code128, Qr, Event, Images, of_line, flushes, events_after, script, sent}
+use Rattle.filter.proofs.Words.{drawn_symbols, image_of, picture_of, text_of, outcome, outcome_of_item, Symbol}
+use Rattle.filter.proofs.Words.{quiet_zone, symbol_of, linear_symbol, qr_modules, cases_lt, le-ltb, get_or_past}
 use Rattle.std.specs.List.{AllByRecursion, flat_map, list_all}
-use Rattle.std.specs.Prelude.{All, IfOk, nat_lt, ⊤, IfSome, ok_or, option_and_then}
-use Rattle.std.proofs.Common.{◌≡◌, ℕ, ◌+◌, ◌*◌, ◌^◌, ◌<◌, ◌≤◌, List, [], ◌∷◌, ◌++◌, map, Some, refl, ap, arith, Result}
-use Rattle.std.proofs.Common.{Ok, Err, subst, Bool, true, false, length, sym, ◌∙◌, get_or, inl, inr, ◌&&◌, ◌==◌, eq-eqb}
-use Rattle.std.proofs.Common.{Option, None}
-use Rattle.std.proofs.Math.Bool.{and-false}
 use Rattle.std.proofs.Math.Nat.{mul-pos, mul-le-mul_right}
-use Rattle.std.proofs.lemmas.List.Elements.{All-from_recursion, recursion_from_All, All-map, All-weaker}
-use Rattle.device.specs.Lines.{lines}
 use Rattle.device.proofs.LinesLaws.{AllOf-lines}
-use Rattle.labelcore.specs.LineItem.{skipped, refused, drawn, outcome_of, Outcome, Request, item}
-use Rattle.labelcore.specs.OptionValues.{OptionValues, IsMask}
-use Rattle.labelcore.specs.declared.fault.Fault.{Fault}
 use Rattle.labelcore.specs.declared.options.Format.{Format}
 use Rattle.labelcore.specs.declared.options.Format.TheVariants.{Pbm, Ascii}
 use Rattle.labelcore.specs.declared.symbology.Symbology.{Symbology}
-use Rattle.labelcore.specs.declared.symbology.Symbology.TheVariants.{Ean13, Ean8, UpcA, Code128, Qr}
 use Rattle.labelcore.proofs.KeptLaws.{AreBytes, AreInRange, HasRanges, item-ranges}
 use Rattle.picture.specs.Picture.{Picture, bars}
 use Rattle.picture.specs.Reading.{raster, common_row}
@@ -24,12 +21,7 @@ use Rattle.picture.proofs.AsciiLaws.{ascii_files-flat_map, ascii_pixels-ascii_te
 use Rattle.picture.proofs.CutLaws.{pbm_files-flat_map}
 use Rattle.picture.proofs.PbmLaws.{pbm_pixels-pbm_text}
 use Rattle.picture.proofs.SampleLaws.{sample-raster, value_at-raster, common_row-bars}
-use Rattle.filter.specs.Output.{Event, Images, of_line, flushes, events_after, script, sent, drawn_symbols, image_of}
-use Rattle.filter.specs.Output.{picture_of, text_of, outcome, outcome_of_item}
 use Rattle.filter.specs.Readback.{cut, pixels, read_image, AreRead, IsRead, ReadsBack, read_modules}
-use Rattle.filter.specs.Symbol.{Symbol, quiet_zone, symbol_of, linear_symbol, qr_modules}
-use Rattle.std.proofs.lemmas.Bool.{cases_lt, le-ltb}
-use Rattle.std.proofs.lemmas.List.{get_or_past}
 use Rattle.std.proofs.lemmas.List.FromFn.{get_or-map-range_with_len, length-map-range_with_len}
 use mathlib.Core.Path.{fun_ext}
 use Rattle.gf256.proofs.GeneratorLaws.{HasRoots-remainder, IsRemainder-ec_codewords_of}
@@ -239,8 +231,8 @@ module _ (options : OptionValues) (range : AreInRange options) where
       let zone = quiet_zone symbol.symbology in
       record {
         some = side_some zone.left symbol.modules.width zone.right options.scale h.some_columns range.scale_low;
-        wide = side_small zone.left symbol.modules.width zone.right options.scale (zone_small symbol.symbology).0 h.columns
-            range.scale_high;
+        wide = side_small zone.left symbol.modules.width zone.right options.scale (zone_small symbol.symbology).0
+            h.columns range.scale_high;
         high = side_small zone.top symbol.modules.height zone.bottom options.scale (zone_small symbol.symbology).1
             (omega (arith, h.rows)) range.scale_high;
       }
@@ -305,8 +297,9 @@ module _ (options : OptionValues) (range : AreInRange options) where
   images_of_events_read events w =
       let symbols = drawn_symbols events in
       let found = symbols_readable events w in
-      let drawables = All-map IsDrawable (picture_of options) symbols (All-weaker IsReadable
-      (λ symbol. IsDrawable (picture_of options symbol)) drawable symbols (All-from_recursion IsReadable symbols found.0)) in
+      let drawables = All-map IsDrawable (picture_of options) symbols
+      (All-weaker IsReadable (λ symbol. IsDrawable (picture_of options symbol)) drawable symbols
+      (All-from_recursion IsReadable symbols found.0)) in
       rw (found.1, stream_cut options.format (map (picture_of options) symbols) drawables)
       (all_read symbols found.0)
 

@@ -1,18 +1,13 @@
 -- From the calls of a filter to a run over a whole input.
-use Rattle.std.proofs.Common.{◌≡◌, ◌≢◌, ℕ, ◌-◌, ◌^◌, ◌≤◌, ◌<◌, ◌∙◌, ◌⊎◌, All, Bool, Result, Ok, Err, List, [], ◌++◌, length, true, subst, sym, refl}
-use Rattle.std.specs.Prelude.{IfOk, MatchResult, OnOk}
-use Rattle.device.specs.Device.{Rises}
+use Rattle.filter.proofs.Words.{◌≡◌, ◌≢◌, ℕ, ◌-◌, ◌^◌, ◌≤◌, ◌<◌, ◌∙◌, ◌⊎◌, All, Bool, Result, Ok, Err, List, [], ◌++◌}
+use Rattle.filter.proofs.Words.{length, true, subst, sym, refl, IfOk, MatchResult, OnOk, Rises, OptionValues}
+use Rattle.filter.proofs.Words.{CountsFault, FilterState, FlushesImagesFirst, Feeds, FlushesNeither, Sends, Stops, Took}
+use Rattle.filter.proofs.Words.{fault_of, taken, Channel, Images, Messages, ended_script, script, status_of, RunFault}
+use Rattle.filter.proofs.Words.{Read, WriteOut, WriteMessages, Spent, Status}
 use Rattle.device.specs.Sink.{PassesBuffered}
 use Rattle.device.specs.declared.sink.Sink.{Ghosts as SinkGhosts}
 use Rattle.device.specs.declared.source.Source.{Ghosts as SourceGhosts}
-use Rattle.labelcore.specs.OptionValues.{OptionValues}
-use Rattle.filter.specs.Filter.{CountsFault, FilterState, FlushesImagesFirst, Feeds, FlushesNeither, Sends, Stops}
-use Rattle.filter.specs.Filter.{Took, fault_of, taken}
-use Rattle.filter.specs.Output.{Channel, Images, Messages, ended_script, script, status_of}
 use Rattle.filter.specs.Run.{IsPassedOn, Produces, RunCounts, Runs, TookText}
-use Rattle.filter.specs.declared.status.RunFault.{RunFault}
-use Rattle.filter.specs.declared.status.RunFault.TheVariants.{Read, WriteOut, WriteMessages, Spent}
-use Rattle.filter.specs.declared.status.Status.{Status}
 use Rattle.labelcore.proofs.KeptLaws.{AreInRange}
 use Rattle.filter.proofs.FilterLaws.{ended_script-nil}
 use Rattle.filter.proofs.ReadLaws.{script_of_text_read}
@@ -68,24 +63,24 @@ RunCounts-sinks s s' o o' e e' same (Err WriteOut) text counts = (same, counts.0
 RunCounts-sinks s s' o o' e e' same (Err WriteMessages) text counts = (same, counts.0, counts.1)
 RunCounts-sinks s s' o o' e e' same (Err Spent) text counts = absurd counts
 
--- The run's fault, and then what is buffered is passed on. What is left of it and the counts of the images are arguments.
-pub RunCounts-passed : (left : List ℕ) (first counted new s s' e e' : ℕ) (text : List ℕ) (fault : RunFault)
-    → (fault ≡ WriteOut → new ≡ counted) → (fault ≢ WriteOut → IsPassedOn left counted new)
-    → RunCounts (λ old new. new ≡ old) s s' first counted e e' (Err fault) text
-    → RunCounts (IsPassedOn left) s s' first new e e' (Err fault) text
-RunCounts-passed left first counted new s s' e e' text Read same passed h =
-    (h.0, subst (λ (n : ℕ). IsPassedOn left n new) h.1 (passed (λ w. cc)), h.2)
-RunCounts-passed left first counted new s s' e e' text WriteOut same passed h =
-    (h.0, subst (Rises first) (sym (same refl)) h.1, h.2)
-RunCounts-passed left first counted new s s' e e' text WriteMessages same passed h =
-    (h.0, subst (λ (n : ℕ). IsPassedOn left n new) h.1 (passed (λ w. cc)), h.2)
-RunCounts-passed left first counted new s s' e e' text Spent same passed h = absurd h
+-- the run's fault, and then what is buffered is passed on: what is left of it, and the counts of each device
+module _ (left : List ℕ) (first counted new s s' e e' : ℕ) (text : List ℕ) where
+  pub RunCounts-passed : (fault : RunFault) → (fault ≡ WriteOut → new ≡ counted)
+      → (fault ≢ WriteOut → IsPassedOn left counted new)
+      → RunCounts (λ old new. new ≡ old) s s' first counted e e' (Err fault) text
+      → RunCounts (IsPassedOn left) s s' first new e e' (Err fault) text
+  RunCounts-passed Read same passed h = (h.0, subst (λ (n : ℕ). IsPassedOn left n new) h.1 (passed (λ w. cc)), h.2)
+  RunCounts-passed WriteOut same passed h = (h.0, subst (Rises first) (sym (same refl)) h.1, h.2)
+  RunCounts-passed WriteMessages same passed h =
+      (h.0, subst (λ (n : ℕ). IsPassedOn left n new) h.1 (passed (λ w. cc)), h.2)
+  RunCounts-passed Spent same passed h = absurd h
 
 -- a call after one in which no sink failed, and none was flushed
 module _ {O E T : Type 0} {out : SinkGhosts O} {err : SinkGhosts E} {o : O} {o' : O} {e : E} {e' : E} {x : T}
     (first : FlushesNeither {T = T} out err o o' e e' (Ok x)) where
   pub CountsFault-after : {U : Type 0} (o'' e'' : ℕ) (r : Result U RunFault)
-      → CountsFault (out.failures o') o'' (err.failures e') e'' r → CountsFault (out.failures o) o'' (err.failures e) e'' r
+      → CountsFault (out.failures o') o'' (err.failures e') e'' r
+      → CountsFault (out.failures o) o'' (err.failures e) e'' r
   CountsFault-after o'' e'' r counts = rw (first.counts.0, first.counts.1) at counts
 
   pub FlushesNeither-append : {U : Type 0} {o'' : O} {e'' : E} (r : Result U RunFault)
@@ -125,7 +120,10 @@ module _ {S O E : Type 0} {source : SourceGhosts S} {out : SinkGhosts O} {err : 
   HasRun-append gave count fed sinks = record {
     gave = gave;
     count = count ∙ h.count;
-    fed = record { sends = Sends-append out_joined err_joined options (Ok tt) h.fed.sends fed.sends; is_after = fed.is_after };
+    fed = record {
+      sends = Sends-append out_joined err_joined options (Ok tt) h.fed.sends fed.sends;
+      is_after = fed.is_after;
+    };
     sinks = FlushesNeither-append h.sinks (Ok tt) sinks;
   }
 
@@ -135,7 +133,7 @@ module _ {S O E : Type 0} {source : SourceGhosts S} {out : SinkGhosts O} {err : 
       → HasRun source out err options s s' o o'' e e' state given
   HasRun-passed none_err passed = HasRun-append h.gave refl
       (record { sends = Sends-none options tt refl passed.bytes none_err; is_after = h.fed.is_after })
-      (record { counts = (passed.count, refl); out_unflushed = λ is. sym passed.flushed ∙ is; err_unflushed = λ is. is })
+      (record { counts = (passed.count, refl); out_unflushed = λ e. sym passed.flushed ∙ e; err_unflushed = λ e. e })
 
   -- the run ends in a call of the filter or of a sink
   pub Runs-after : {s'' : S} {o'' : O} {e'' : E} (text : List ℕ) (r : Result Status RunFault)

@@ -1,13 +1,8 @@
 -- Calls one after another, in one script.
-use Rattle.std.proofs.Common.{◌≡◌, ℕ, List, [], ◌∷◌, ◌++◌, Result, Ok, Err, append_assoc, refl, ap, sym, subst, ◌∙◌}
-use Rattle.std.specs.Prelude.{MatchResult}
+use Rattle.filter.proofs.Words.{◌≡◌, ℕ, List, [], ◌∷◌, ◌++◌, Result, Ok, Err, append_assoc, refl, ap, sym, subst, ◌∙◌}
+use Rattle.filter.proofs.Words.{MatchResult, append-nil, Begins, OptionValues, taken, Took, Stops, Sends, fault_of}
+use Rattle.filter.proofs.Words.{other, Event, Channel, Images, Messages, bytes_for, sent, RunFault}
 use Rattle.std.proofs.lemmas.Grind.{flat_map-append}
-use Rattle.std.proofs.lemmas.List.{append-nil}
-use Rattle.device.specs.Device.{Begins}
-use Rattle.labelcore.specs.OptionValues.{OptionValues}
-use Rattle.filter.specs.Filter.{taken, Took, Stops, Sends, fault_of, other}
-use Rattle.filter.specs.Output.{Event, Channel, Images, Messages, bytes_for, sent}
-use Rattle.filter.specs.declared.status.RunFault.{RunFault}
 
 -- two sinks that took nothing
 pub none_taken : (out err : List ℕ → Type 0) → out [] → err [] → (channel : Channel) → taken out err channel []
@@ -50,8 +45,8 @@ module _ (options : OptionValues) where
       ([], (bytes_for options failed event, refl), none failed) (none (other failed))
 
   -- a call that sends nothing
-  pub Sends-none : {T : Type 0} (x : T) {out err : List ℕ → Type 0} {before after : List Event} → after ≡ before → out []
-      → err [] → Sends {T = T} options (taken out err) before after (Ok x)
+  pub Sends-none : {T : Type 0} (x : T) {out err : List ℕ → Type 0} {before after : List Event} → after ≡ before
+      → out [] → err [] → Sends {T = T} options (taken out err) before after (Ok x)
   Sends-none x {out} {err} {before} same none_out none_err = record {
     added = [];
     grown = same ∙ sym (append-nil before);
@@ -72,9 +67,9 @@ module _ (options : OptionValues) where
   }
 
   -- a call that failed, in a longer script
-  pub Sends-longer : {T U : Type 0} {took : Channel → List ℕ → Type 0} {before middle after : List Event} {fault : RunFault}
-      (more : List Event) → after ≡ middle ++ more → Sends {T = T} options took before middle (Err fault)
-      → Sends {T = U} options took before after (Err fault)
+  pub Sends-longer : {T U : Type 0} {took : Channel → List ℕ → Type 0} {before middle after : List Event}
+      {fault : RunFault} (more : List Event) → after ≡ middle ++ more
+      → Sends {T = T} options took before middle (Err fault) → Sends {T = U} options took before after (Err fault)
   Sends-longer {before = before} more cut s = record {
     added = s.added ++ more;
     grown = cut ∙ (ap (λ (es : List Event). es ++ more) s.grown ∙ append_assoc before s.added more);
@@ -112,7 +107,8 @@ module _ {O E : Type 0} {out : O → O → List ℕ → Type 0} {err : E → E �
 
   -- the events of both calls
   pub both : (o o' o'' : O) (e e' e'' : E) {T : Type 0} (xs ys : List Event) (r : Result T RunFault)
-      → Took options (taken (out o o') (err e e')) xs → MatchResult r (λ _. Took options (taken (out o' o'') (err e' e'')) ys)
+      → Took options (taken (out o o') (err e e')) xs
+      → MatchResult r (λ _. Took options (taken (out o' o'') (err e' e'')) ys)
       (Stops options (taken (out o' o'') (err e' e'')) ys)
       → MatchResult r (λ _. Took options (taken (out o o'') (err e e'')) (xs ++ ys))
       (Stops options (taken (out o o'') (err e e'')) (xs ++ ys))

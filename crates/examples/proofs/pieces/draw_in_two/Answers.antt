@@ -19,7 +19,7 @@ returns-in_err-feed-clause-produces g c =
     (Err c.in_err-feed.field-0.0) refl
     (All-append (λ b. b < 256) c.args.first.now c.args.second.now c.in_err-feed.ensures.bytes bytes)
     (Sends-longer options (later.0 ∷ later.1) later.2
-    (Sends-longer options more.0 more.1 (c.in_err-feed.ensures.feeds options [] after).sends)) tt)
+    (Sends-longer options {U = Unit {0}} more.0 more.1 (c.in_err-feed.ensures.feeds options [] after).sends)) tt)
 
 pub returns-in_err-feed-2-clause-produces : goal.returns-in_err-feed-2-clause-produces
 returns-in_err-feed-2-clause-produces g c =
@@ -42,7 +42,8 @@ returns-clause-produces g c =
     let text = c.args.first.now ++ c.args.second.now in
     let fed = c.in_ok-feed.ensures.feeds options [] after in
     let fed_too = c.in_ok-feed-2.ensures.feeds options c.args.first.now fed.is_after in
-    let sends = Sends-append g.met.O.Sink.took_joined g.met.E.Sink.took_joined options (Ok (tt {0})) fed.sends fed_too.sends in
+    let sends = Sends-append g.met.O.Sink.took_joined g.met.E.Sink.took_joined options (Ok (tt {0})) fed.sends
+    fed_too.sends in
     Produces-sends options after.range text c.finish.result refl fed_too.is_after.bytes
     (Sends-append g.met.O.Sink.took_joined g.met.E.Sink.took_joined options c.finish.result sends
     (c.finish.ensures.sends options text fed_too.is_after)) (c.finish.ensures.status options text fed_too.is_after)

@@ -1,5 +1,4 @@
-use Rattle.std.proofs.Common.{◌<◌, arith}
-use Rattle.std.proofs.lemmas.List.Elements.{All-from_get_or}
+use Rattle.filter.proofs.Words.{◌<◌, arith, All-from_get_or}
 use Rattle.filter.proofs.ReadLaws.{image_of_data_read}
 use Rattle.filter.proofs.drawing.draw.Goals as goal
 

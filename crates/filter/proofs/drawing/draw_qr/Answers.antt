@@ -1,6 +1,4 @@
-use Rattle.std.proofs.Common.{refl}
-use Rattle.std.proofs.lemmas.Result.{err_from_is_err_and}
-use Rattle.filter.specs.Symbol.{symbol_of}
+use Rattle.filter.proofs.Words.{refl, err_from_is_err_and, symbol_of}
 use Rattle.filter.proofs.drawing.draw_qr.Goals as goal
 
 pub returns-in_err-write_plan-in-Ok : goal.returns-in_err-write_plan-in-Ok

@@ -1,6 +1,4 @@
-use Rattle.std.proofs.Common.{refl}
-use Rattle.labelcore.specs.declared.symbology.Symbology.TheVariants.{Ean13, Ean8, UpcA, Code128}
-use Rattle.filter.specs.Symbol.{symbol_of}
+use Rattle.filter.proofs.Words.{refl, Ean13, Ean8, UpcA, Code128, symbol_of}
 use Rattle.filter.proofs.drawing.draw_symbol.Goals as goal
 
 pub returns-in-Ean13 : goal.returns-in-Ean13

@@ -1,13 +1,8 @@
-use Rattle.std.proofs.Common.{◌∙◌, [], ap, refl, sym, subst, ◌≡◌, ℕ, List, ◌∷◌, Ok, Err}
+use Rattle.filter.proofs.Words.{◌∙◌, [], ap, refl, sym, subst, ◌≡◌, ℕ, List, ◌∷◌, Ok, Err, refused, Outcome, Request}
+use Rattle.filter.proofs.Words.{skipped, drawn, item, Images, image_of, of_line, outcome_of_item, message_of, outcome}
+use Rattle.filter.proofs.Words.{status_of, OptionValues, Fault, Symbol, Clean, Refused, refusal_of}
 use Rattle.labelcore.specs.ItemView.{item_seen}
-use Rattle.labelcore.specs.LineItem.{refused, Outcome, Request, skipped, drawn, item}
-use Rattle.filter.specs.Output.{Images, image_of, of_line, outcome_of_item, message_of, outcome, status_of}
 use Rattle.filter.proofs.ScriptLaws.{both, event_stops, event_took, none_taken}
-use Rattle.labelcore.specs.OptionValues.{OptionValues}
-use Rattle.labelcore.specs.declared.fault.Fault.{Fault}
-use Rattle.filter.specs.Symbol.{Symbol}
-use Rattle.filter.specs.declared.status.Status.TheVariants.{Clean, Refused}
-use Rattle.filter.specs.Filter.{refusal_of, taken}
 use Rattle.filter.proofs.line.finish_line.Goals as goal
 
 -- what is drawn of a line, by its item

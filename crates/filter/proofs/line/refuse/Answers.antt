@@ -1,6 +1,4 @@
-use Rattle.std.proofs.Common.{[]}
-use Rattle.labelcore.specs.LineItem.{refused}
-use Rattle.filter.specs.Output.{Images, Messages, of_line}
+use Rattle.filter.proofs.Words.{[], refused, Images, Messages, of_line}
 use Rattle.filter.proofs.ScriptLaws.{event_stops, event_took, none_taken, Stops-first}
 use Rattle.filter.proofs.line.refuse.Goals as goal
 

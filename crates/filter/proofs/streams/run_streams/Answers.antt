@@ -1,15 +1,12 @@
-use Rattle.std.proofs.Common.{◌≡◌, List, ℕ, Option, Err, [], Bool, refl, subst, sym}
+use Rattle.filter.proofs.Words.{◌≡◌, List, ℕ, Option, Err, [], Bool, refl, subst, sym, append-nil, FlushesImagesFirst}
+use Rattle.filter.proofs.Words.{script, Status}
 use Rattle.std.proofs.KnownBytes.{Consumes-whole}
-use Rattle.std.proofs.lemmas.List.{append-nil}
 use Rattle.std.specs.Io.KnownBytes.{Appends}
 use Rattle.device.specs.Passing.{PassesOn}
 use Rattle.device.specs.Private.Joined.{Appends_joined}
 use Rattle.device.specs.Private.Passed.{PassesOn_joined}
 use Rattle.device.specs.Streams.{writer_of}
 use Rattle.device.specs.declared.streams.StdSink.{StdSink}
-use Rattle.filter.specs.Filter.{FlushesImagesFirst}
-use Rattle.filter.specs.Output.{script}
-use Rattle.filter.specs.declared.status.Status.{Status}
 use Rattle.filter.proofs.RunLaws.{RunCounts-passed, TookText-by}
 use Rattle.filter.proofs.ScriptLaws.{images_by, Took-by}
 use Rattle.filter.proofs.streams.run_streams.Goals as goal
@@ -27,8 +24,8 @@ returns-in-Ok g c =
       whole = record {
         text = p.text;
         given = Consumes-whole _ _ p.text (λ bytes. p.text ≡ bytes) p.given.0 h.ended.1 refl;
-        sends = Took-by c.args.options (images_by _ _ _ (λ bytes took. c.reaches.ensures.bytes h.flushed.0 _ _ bytes took))
-            (script c.args.options p.text) p.sends;
+        sends = Took-by c.args.options (images_by _ _ _ (λ bytes took.
+            c.reaches.ensures.bytes h.flushed.0 _ _ bytes took)) (script c.args.options p.text) p.sends;
         status = p.status;
         read = p.read;
       };

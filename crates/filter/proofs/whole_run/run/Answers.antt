@@ -1,12 +1,6 @@
-use Rattle.std.proofs.Common.{◌<◌, [], ◌∷◌, ◌++◌, Err, take, refl, ◌∙◌, subst, arith, length-append, length-take}
-use Rattle.std.proofs.Common.{append_assoc, inl, inr, rules, sym}
-use Rattle.std.proofs.lemmas.List.{append-nil}
-use Rattle.std.proofs.lemmas.List.Elements.{All-append}
-use Rattle.std.proofs.lemmas.Result.{err_from_is_err_and}
-use Rattle.std.specs.Prelude.{OnOk, Result, Ok}
-use Rattle.filter.specs.Output.{Images, bytes_for, ended_script}
-use Rattle.filter.specs.declared.status.RunFault.TheVariants.{WriteOut}
-use Rattle.filter.specs.declared.status.Status.{Status}
+use Rattle.filter.proofs.Words.{◌<◌, [], ◌∷◌, ◌++◌, Err, take, refl, ◌∙◌, subst, arith, length-append, length-take}
+use Rattle.filter.proofs.Words.{inl, inr, rules, sym, append-nil, All-append, err_from_is_err_and, OnOk}
+use Rattle.filter.proofs.Words.{Result, Ok, Images, WriteOut}
 use Rattle.filter.proofs.FilterLaws.{some_later}
 use Rattle.filter.proofs.RunLaws.{HasRun-append, HasRun-passed, Runs-after, Runs-read}
 use Rattle.filter.proofs.ScriptLaws.{none_taken, Sends-longer, Sends-none, Stops-first}
@@ -53,7 +47,8 @@ returns-in_default-read g c =
 
 pub returns : goal.returns
 returns g c = let h = c.loop-turn.invariant in
-    Runs-read g.met.O.Sink.took_joined g.met.E.Sink.took_joined h.so_far h.so_far.gave (inr (h.so_far.count, omega arith))
+    Runs-read g.met.O.Sink.took_joined g.met.E.Sink.took_joined h.so_far h.so_far.gave
+    (inr (h.so_far.count, omega arith))
 
 -- where the call returned, a fact
 at_ok : {T E : Type 0} {P : Type 0} (r : Result T E) → P → OnOk r P

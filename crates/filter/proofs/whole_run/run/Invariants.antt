@@ -1,4 +1,4 @@
-use Rattle.std.proofs.Common.{◌≤◌, List, ℕ, length}
+use Rattle.filter.proofs.Words.{◌≤◌, List, ℕ, length}
 use Rattle.filter.proofs.RunLaws.{HasRun}
 use Rattle.filter.proofs.whole_run.run.Given as goal
 

@@ -1,10 +1,7 @@
-use Rattle.std.proofs.Common.{◌≡◌, ◌<◌, ◌∙◌, Ok, Err, [], ◌∷◌, ap, arith, length-append, refl, subst, sym}
-use Rattle.std.proofs.lemmas.List.Elements.{All-push}
-use Rattle.device.specs.Lines.{LF, ended_lines, open_line}
+use Rattle.filter.proofs.Words.{◌≡◌, ◌<◌, ◌∙◌, Ok, Err, [], ◌∷◌, ap, arith, length-append, refl, subst, sym, All-push}
+use Rattle.filter.proofs.Words.{LF, ended_lines, open_line, held_line, FilterState, IsAfter, of_line, outcome}
+use Rattle.filter.proofs.Words.{status_of}
 use Rattle.device.proofs.LinesLaws.{ended_lines-push_lf, open_line-push_lf}
-use Rattle.labelcore.specs.HeldLine.{held_line}
-use Rattle.filter.specs.Filter.{FilterState, IsAfter}
-use Rattle.filter.specs.Output.{of_line, outcome, status_of}
 use Rattle.filter.proofs.FilterLaws.{Sends-line, line_number-counts, of_open_line, ended_script-lf, status_of-append}
 use Rattle.filter.proofs.filter.Filter.end_line.Goals as goal
 
@@ -12,8 +9,8 @@ pub returns-in-Ok-clause-feeds : goal.returns-in-Ok-clause-feeds
 returns-in-Ok-clause-feeds g c options text at =
     let at' = subst (λ (s : FilterState). IsAfter options s text) (sym c.self.view_is) at in
     let counts = c.saturating_add-self-inside.ensures in
-    let status = of_open_line options _ text at' (λ own line n. c.in-Ok.status ≡ status_of (of_line n (outcome own line) ∷ []))
-    _ counts c.in-Ok.ensures.status in
+    let status = of_open_line options _ text at'
+    (λ own line n. c.in-Ok.status ≡ status_of (of_line n (outcome own line) ∷ [])) _ counts c.in-Ok.ensures.status in
     record {
       sends = Sends-line options _ text at' (Ok (tt {0})) _ counts c.in-Ok.ensures.sends;
       is_after = record {

@@ -1,8 +1,5 @@
-use Rattle.std.proofs.Common.{◌≡◌, ◌≢◌, ◌∙◌, [], ◌∷◌, ◌++◌, ap, refl, subst, sym, take}
-use Rattle.std.proofs.lemmas.Bool.{false≢true}
-use Rattle.device.specs.Lines.{LF, open_line}
-use Rattle.labelcore.specs.HeldLine.{line_limit}
-use Rattle.filter.specs.Filter.{FilterState, IsAfter}
+use Rattle.filter.proofs.Words.{◌≡◌, ◌≢◌, ◌∙◌, [], ◌∷◌, ◌++◌, ap, refl, subst, sym, take, false≢true, LF, open_line}
+use Rattle.filter.proofs.Words.{line_limit, FilterState, IsAfter}
 use Rattle.filter.proofs.FilterLaws.{no_byte, script-ended, script-open}
 use Rattle.std.proofs.Math.Seq.{take-nil}
 use Rattle.filter.proofs.ScriptLaws.{Sends-none}
@@ -11,7 +8,8 @@ use Rattle.filter.proofs.filter.Filter.end_open_line.Goals as goal
 pub returns-then-is_empty-clause-feeds : goal.returns-then-is_empty-clause-feeds
 returns-then-is_empty-clause-feeds g c options text at =
     let at' = subst (λ (s : FilterState). IsAfter options s text) (sym c.self.view_is) at in
-    let none : take line_limit (open_line text) ≡ [] = sym (ap (λ h. h.bytes) at'.line) ∙ c.if-is_empty.ensures.0 refl in (
+    let none : take line_limit (open_line text) ≡ [] =
+    sym (ap (λ h. h.bytes) at'.line) ∙ c.if-is_empty.ensures.0 refl in (
       text,
       script-ended options text (no_byte (open_line text) none),
       record {

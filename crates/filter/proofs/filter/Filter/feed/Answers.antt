@@ -1,9 +1,5 @@
-use Rattle.std.proofs.Common.{◌<◌, ℕ, ◌∷◌, [], ◌++◌, Ok, Err, refl, ap, ◌∙◌, append_assoc, arith, length, length-append}
-use Rattle.std.proofs.lemmas.List.{append-nil}
-use Rattle.std.proofs.lemmas.List.Elements.{All-from_get_or}
-use Rattle.std.proofs.lemmas.Result.{err_from_is_err_and}
-use Rattle.device.specs.Lines.{LF}
-use Rattle.filter.specs.Output.{ended_script}
+use Rattle.filter.proofs.Words.{◌<◌, ℕ, ◌∷◌, [], ◌++◌, Ok, Err, refl, ap, ◌∙◌, append_assoc, arith, length}
+use Rattle.filter.proofs.Words.{length-append, append-nil, All-from_get_or, err_from_is_err_and, LF, ended_script}
 use Rattle.filter.proofs.FilterLaws.{ended_lines-more, ended_script-more}
 use Rattle.filter.proofs.RunLaws.{FlushesNeither-append}
 use Rattle.filter.proofs.ScriptLaws.{Sends-none, Sends-append, Sends-longer}
@@ -60,7 +56,8 @@ returns-in_err-end_line-clause-feeds g c options text at =
     })
 
 pub returns-in_err-end_line-clause-sinks : goal.returns-in_err-end_line-clause-sinks
-returns-in_err-end_line-clause-sinks g c e = let p = err_from_is_err_and c.from_residual.result c.from_residual.ensures.1 in
+returns-in_err-end_line-clause-sinks g c e =
+    let p = err_from_is_err_and c.from_residual.result c.from_residual.ensures.1 in
     rw (p.1, p.2) (FlushesNeither-append c.loop-line.invariant.sinks (Err c.in_err-end_line.field-0.0)
     c.in_err-end_line.ensures.sinks)
 

@@ -1,6 +1,4 @@
-use Rattle.std.proofs.Common.{◌≡◌, List, ℕ, ◌++◌, Ok, length}
-use Rattle.labelcore.specs.OptionValues.{OptionValues}
-use Rattle.filter.specs.Filter.{Feeds, FlushesNeither, IsAfter, taken}
+use Rattle.filter.proofs.Words.{◌≡◌, List, ℕ, ◌++◌, Ok, length, OptionValues, Feeds, FlushesNeither, IsAfter, taken}
 use Rattle.filter.proofs.filter.Filter.feed.Given as goal
 
 -- so far the filter was fed the first lines of the piece
@@ -9,8 +7,8 @@ invariant-loop-line g l = record {
   fed : List ℕ;
   whole : l.piece ≡ fed ++ l.rest;
   feeds : (options : OptionValues) (text : List ℕ) → IsAfter options l.initial.self text
-      → Feeds {T = Unit {0}} options (taken (g.O.Sink.took l.initial.out l.out) (g.E.Sink.took l.initial.err l.err)) l.self
-      text (text ++ fed) (Ok tt);
+      → Feeds {T = Unit {0}} options (taken (g.O.Sink.took l.initial.out l.out) (g.E.Sink.took l.initial.err l.err))
+      l.self text (text ++ fed) (Ok tt);
   sinks : FlushesNeither {T = Unit {0}} g.O.Sink g.E.Sink l.initial.out l.out l.initial.err l.err (Ok tt);
 }
 

@@ -1,8 +1,5 @@
-use Rattle.std.proofs.Common.{◌≡◌, ◌∙◌, Ok, Err, [], ◌∷◌, ap, refl, sym}
-use Rattle.std.proofs.lemmas.Bool.{false≢true}
-use Rattle.std.proofs.lemmas.Result.{err_from_is_err_and}
-use Rattle.filter.specs.Filter.{FilterState}
-use Rattle.filter.specs.Output.{flushes, status_of}
+use Rattle.filter.proofs.Words.{◌≡◌, ◌∙◌, Ok, Err, [], ◌∷◌, ap, refl, sym, false≢true, err_from_is_err_and, FilterState}
+use Rattle.filter.proofs.Words.{flushes, status_of}
 use Rattle.filter.proofs.FilterLaws.{status_of-flushes}
 use Rattle.filter.proofs.RunLaws.{CountsFault-after, FlushesImagesFirst-after}
 use Rattle.filter.proofs.ScriptLaws.{Sends-append, Sends-longer}

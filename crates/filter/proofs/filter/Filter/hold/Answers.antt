@@ -1,8 +1,5 @@
-use Rattle.std.proofs.Common.{◌<◌, ◌∙◌, ap, arith, refl, subst, sym}
-use Rattle.std.proofs.lemmas.List.Elements.{All-append, All-from_get_or}
-use Rattle.device.specs.Lines.{open_line}
-use Rattle.labelcore.specs.HeldLine.{held_line}
-use Rattle.filter.specs.Filter.{FilterState, IsAfter}
+use Rattle.filter.proofs.Words.{◌<◌, ◌∙◌, ap, arith, refl, subst, sym, All-append, All-from_get_or, open_line}
+use Rattle.filter.proofs.Words.{held_line, FilterState, IsAfter}
 use Rattle.filter.proofs.FilterLaws.{ended_lines-more, open_line-more}
 use Rattle.filter.proofs.filter.Filter.hold.Goals as goal
 

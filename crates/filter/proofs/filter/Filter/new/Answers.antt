@@ -1,7 +1,4 @@
-use Rattle.std.proofs.Common.{◌<◌, refl}
-use Rattle.std.proofs.lemmas.List.Elements.{All-nil}
-use Rattle.device.specs.Lines.{ended_lines, open_line}
-use Rattle.filter.specs.Output.{events_after, status_of}
+use Rattle.filter.proofs.Words.{◌<◌, refl, All-nil, ended_lines, open_line, events_after, status_of}
 use Rattle.filter.proofs.filter.Filter.new.Goals as goal
 
 pub returns : goal.returns
