@@ -1,6 +1,6 @@
 //! All tests, by public calls alone: of the layers below the filter (`layers`), of runs (`runs`), of the calls that
-//! reach devices (`calls`), of the command's arguments (`arguments`), of the names of files (`names`) and of the crates'
-//! pages (`pages`). They are a crate, so that the other crates are proved without reading what tests read.
+//! reach devices (`calls`), of the command's arguments (`arguments`), of the names of files (`names`) and of the
+//! crates' pages (`pages`). They are a crate, so that the other crates are proved without reading what tests read.
 #![tactic(auto)]
 
 #[cfg(test)]

@@ -1,6 +1,6 @@
 //! A reader and a writer of std that fail with each kind of error, at each of their calls, or that move each part of a
-//! text. Each call of a device is one call of theirs, whatever it returns, and moves as many bytes as it can: if it moved
-//! fewer, a run would take more time.
+//! text. Each call of a device is one call of theirs, whatever it returns, and moves as many bytes as it can: if it
+//! moved fewer, a run would take more time.
 use crate::calls::support::{flushes, gives, gives_none, passes_on, takes, takes_none, takes_some};
 use device::{StdSink, StdSource};
 use std::cell::Cell;

@@ -57,8 +57,8 @@ fn write_ascii_slowly<G: Grid, S: Sink>(grid: &G, sink: &mut S) -> Result<(), Io
     write_whole(b"\n", sink)
 }
 
-/// Whether the plain PBM of a grid of at most four rows is this header and the slow form's rows. The sink buffers, so that
-/// it repeats rows.
+/// Whether the plain PBM of a grid of at most four rows is this header and the slow form's rows. The sink buffers, so
+/// that it repeats rows.
 fn has_same_pbm(grid: &impl Grid, header: &str) -> bool {
     let mut sink = Buffered::new(MemSink::<61000>::new(4096, 61000));
     let mut slow = MemSink::<61000>::new(4096, 61000);
