@@ -1,9 +1,8 @@
 -- One step of the placement.
-use mathlib.Core.Path.{fun_ext}
 use Rattle.std.proofs.Common.{◌≡◌, ◌≢◌, ℕ, zero, suc, ◌+◌, ◌-◌, ◌*◌, ◌/◌, ◌%◌, ◌<◌, ◌≤◌, refl, sym, ap, subst, ◌∙◌, arith}
 use Rattle.std.proofs.Common.{Bool, true, false, cond, List, inl, inr, add-zero}
 use Rattle.std.specs.Prelude.{◌==◌, ◌&&◌, nat_lt, if◌then◌else◌}
-use Rattle.std.proofs.lemmas.Bool.{both_ways, cases_eq, cases_Bool, eq-eqb, eqb-true, ne_eqb}
+use Rattle.std.proofs.lemmas.Bool.{both_ways, cases_eq, eq-eqb, eqb-true}
 use Rattle.std.proofs.lemmas.Bool.Decides.{nat_tests}
 use Rattle.qrdata.specs.Versions.{side_of}
 use Rattle.qrmatrix.specs.Functions.{is_free}
@@ -19,9 +18,10 @@ use Rattle.qrmatrix.proofs.UnderMaskLaws.{flip_light}
 use Rattle.qrmatrix.proofs.VersionLaws.{Computed, computed}
 use Rattle.qrmatrix.proofs.RankLaws.{free_below_more, free_below_none, rank-free_below, unique}
 
--- new is old with a value written
-abbrev Writes : (ℕ → ℕ → Bool) → (ℕ → ℕ → Bool) → ℕ → ℕ → Bool → Type 0
-Writes old new x y value = (a b : ℕ) → new a b ≡ (if (a == x) && (b == y) then value else old a b)
+-- new is old with a value turned over where the test passes
+abbrev FlipsAt : (ℕ → ℕ → Bool) → (ℕ → ℕ → Bool) → ℕ → ℕ → Bool → Type 0
+FlipsAt old new x y value =
+    (a b : ℕ) → new a b ≡ (if (a == x) && (b == y) then flip_if value (old a b) else old a b)
 
 row_back : (b : Bool) (n t : ℕ) → t < n → cond b (n - 1 - cond b (n - 1 - t) t) (cond b (n - 1 - t) t) ≡ t
 row_back true n t h = omega arith
@@ -53,117 +53,65 @@ column_in v s c ls lc = (grind (arith, nat_tests), λ e. grind (arith, nat_tests
 row_in : (v s t : ℕ) → t < side_of v → row_of (side_of v) s t < side_of v
 row_in v s t h = grind (arith, nat_tests)
 
--- a value is read after a write
--- the place x, y that is read is apart from the place a, b that is written: step_free, the only caller, has two
--- equations between them by `unique`
-written : (m n : ℕ → ℕ → Bool) (a b : ℕ) (value : Bool) → Writes m n a b value → (x y : ℕ) → x ≡ a → y ≡ b
-    → n x y ≡ value
-written m n a b value w x y ex ey = w x y ∙ grind (arith, nat_tests)
+-- the value that is turned over, and the others
+flipped : (m n : ℕ → ℕ → Bool) (a b : ℕ) (value : Bool) → FlipsAt m n a b value → (x y : ℕ) → x ≡ a → y ≡ b
+    → n x y ≡ flip_if value (m x y)
+flipped m n a b value flips x y ex ey = flips x y ∙ rw (eq-eqb x a ex, eq-eqb y b ey) refl
 
--- another place is as it was before a write
--- it has both places, as `written` does: other_key and three fields of step_free show in their own ways that they
--- differ
-unwritten : (m n : ℕ → ℕ → Bool) (a b : ℕ) (value : Bool) → Writes m n a b value → (x y : ℕ) → (x ≡ a → y ≡ b → ⊥)
+unflipped : (m n : ℕ → ℕ → Bool) (a b : ℕ) (value : Bool) → FlipsAt m n a b value → (x y : ℕ) → (x ≡ a → y ≡ b → ⊥)
     → n x y ≡ m x y
-unwritten m n a b value w x y ne = w x y ∙ grind (arith, nat_tests)
-
--- new is old with a value turned over where the test passes
-abbrev FlipsAt : (ℕ → ℕ → Bool) → (ℕ → ℕ → Bool) → ℕ → ℕ → Bool → Type 0
-FlipsAt old new x y value =
-    (a b : ℕ) → new a b ≡ (if (a == x) && (b == y) then flip_if value (old a b) else old a b)
-
-either : (t b : Bool) → (if t then b else b) ≡ b
-either true b = refl
-either false b = refl
-
-light_written : (m : ℕ → ℕ → Bool) (x y a b : ℕ) (value chosen : Bool) → value ≡ chosen → m a b ≡ false
-    → (if (x == a) && (y == b) then flip_if value (m x y) else m x y)
-    ≡ (if (x == a) && (y == b) then chosen else m x y)
-light_written m x y a b value chosen e light =
-    elim (cases_eq x a) [
-      | inr ne ↦ rw (ne_eqb x a ne) refl
-      | inl ex ↦ elim (cases_eq y b) [
-        | inr ne ↦ rw (eq-eqb x a ex, ne_eqb y b ne) refl
-        | inl ey ↦ rw (eq-eqb x a ex, eq-eqb y b ey) (ap (flip_if value) (ap (λ z. m z y) ex ∙ ap (m a) ey ∙ light)
-            ∙ flip_light value ∙ e)
-      ]
-    ]
+unflipped m n a b value flips x y ne = flips x y ∙ grind (arith, nat_tests)
 
 module _ (v : ℕ) (c : Computed v) (codewords : List ℕ) (old m : ℕ → ℕ → Bool) (i k a b : ℕ)
     (p : Placed v codewords old m i k)
     (la : a < side_of v) (lb : b < side_of v) (ne : a ≢ 6) (e : key (side_of v) a b ≡ k) where
-  -- a module with another key is as it was before the bit
-  other_key : (n : ℕ → ℕ → Bool) → Writes m n a b (codeword_bit codewords i) → (x y : ℕ) → key (side_of v) x y ≢ k
+  -- a module with another key is as it was
+  other_key : (n : ℕ → ℕ → Bool) (value : Bool) → FlipsAt m n a b value → (x y : ℕ) → key (side_of v) x y ≢ k
       → n x y ≡ m x y
-  other_key n w x y other =
-      unwritten m n a b (codeword_bit codewords i) w x y
+  other_key n value flips x y other =
+      unflipped m n a b value flips x y
       (λ ex ey. other (ap (λ z. key (side_of v) z y) ex ∙ ap (λ z. key (side_of v) a z) ey ∙ e))
 
-  -- a bit is placed on a free module
-  step_free : (n : ℕ → ℕ → Bool) → is_free v a b ≡ true → Writes m n a b (codeword_bit codewords i)
-      → Placed v codewords old n (i + 1) (k + 1)
-  step_free n f w =
-      let more = free_below_more v c a b k la lb ne e in
-      let next : k + 1 ≡ suc k = omega arith in
-      let count : free_below v (k + 1) ≡ free_below v k + 1 = ap (free_below v) next ∙ rw f at more in
-      record {
-        counted = let h = p.counted in omega arith;
-        placed = λ x y lx ly free l. elim (cases_eq (key (side_of v) x y) k) [
-          | inl same ↦
-              let at = unique v c x y a b lx ly free la lb ne (same ∙ sym e) in
-              written m n a b (codeword_bit codewords i) w x y at.0 at.1
-              ∙ ap (codeword_bit codewords) (p.counted ∙ ap (free_below v) (sym same) ∙ sym (rank-free_below v x y))
-          | inr other ↦ other_key n w x y other ∙ p.placed x y lx ly free (omega arith)
-        ];
-        ahead = λ x y lx ly free l. other_key n w x y (λ same. omega arith) ∙ p.ahead x y lx ly free (omega arith);
-        others = λ x y lx ly taken.
-            unwritten m n a b (codeword_bit codewords i) w x y
-            (λ ex ey. let same : is_free v x y ≡ true = ap (λ z. is_free v z y) ex ∙ ap (λ z. is_free v a z) ey ∙ f in
-            cc)
-            ∙ p.others x y lx ly taken;
-        columns = λ x y l. unwritten m n a b (codeword_bit codewords i) w x y (λ ex ey. omega arith) ∙ p.columns x y l;
-        rows = λ x y l. unwritten m n a b (codeword_bit codewords i) w x y (λ ex ey. omega arith) ∙ p.rows x y l;
-      }
-
-  -- a module that is not free is passed over
-  step_taken : is_free v a b ≡ false → Placed v codewords old m i (k + 1)
-  step_taken f =
-      let more = free_below_more v c a b k la lb ne e in
-      let next : k + 1 ≡ suc k = omega arith in
-      let count : free_below v (k + 1) ≡ free_below v k + 0 = ap (free_below v) next ∙ rw f at more in
-      record {
-        counted = let h = p.counted in omega arith;
-        placed = λ x y lx ly free l.
-            let other : key (side_of v) x y ≢ k =
-            λ same. (let at = unique v c x y a b lx ly free la lb ne (same ∙ sym e) in
-            let taken : is_free v x y ≡ false = ap (λ z. is_free v z y) at.0 ∙ ap (λ z. is_free v a z) at.1 ∙ f in
-            cc) in
-            p.placed x y lx ly free (omega arith);
-        ahead = λ x y lx ly free l. p.ahead x y lx ly free (omega arith);
-        others = p.others;
-        columns = p.columns;
-        rows = p.rows;
-      }
+  -- a module that is not free is as it was
+  kept : (n : ℕ → ℕ → Bool) (value : Bool) → (is_free v a b ≡ false → value ≡ false) → FlipsAt m n a b value
+      → (x y : ℕ) → is_free v x y ≡ false → n x y ≡ m x y
+  kept n value none flips x y taken =
+      elim (cases_eq x a) [
+        | inr other ↦ unflipped m n a b value flips x y (λ ex ey. other ex)
+        | inl ex ↦ elim (cases_eq y b) [
+          | inr other ↦ unflipped m n a b value flips x y (λ ex' ey. other ey)
+          | inl ey ↦
+              let here : is_free v a b ≡ false = ap (λ z. is_free v z b) (sym ex) ∙ ap (is_free v x) (sym ey) ∙ taken in
+              flipped m n a b value flips x y ex ey ∙ ap (λ z. flip_if z (m x y)) (none here)
+        ]
+      ]
 
   -- a bit is written on a module that is light, or nothing on one that is not free
   step_bit : (n : ℕ → ℕ → Bool) (value : Bool) → (is_free v a b ≡ true → value ≡ codeword_bit codewords i)
       → (is_free v a b ≡ false → value ≡ false) → FlipsAt m n a b value
       → Placed v codewords old n (i + one_if (is_free v a b)) (k + 1)
-  step_bit n value written_if kept_if flips =
-      elim (cases_Bool (is_free v a b)) [
-        | inl f ↦
-            subst (λ z. Placed v codewords old n (i + one_if z) (k + 1)) (sym f)
-            (step_free n f (λ x y. flips x y ∙ light_written m x y a b value (codeword_bit codewords i) (written_if f)
-            (p.ahead a b la lb f (let same = e in omega arith))))
-        | inr f ↦
-            subst (λ z. Placed v codewords old n (i + one_if z) (k + 1)) (sym f)
-            (subst (λ z. Placed v codewords old n z (k + 1)) (sym (add-zero i))
-            (subst (λ z. Placed v codewords old z i (k + 1)) (same_modules n value (kept_if f) flips) (step_taken f)))
-      ]
-    where
-      same_modules : (n : ℕ → ℕ → Bool) (value : Bool) → value ≡ false → FlipsAt m n a b value → m ≡ n
-      same_modules n value none flips =
-          fun_ext (λ x. fun_ext (λ y. sym (flips x y ∙ rw none (either ((x == a) && (y == b)) (m x y)))))
+  step_bit n value written_if none flips =
+      let more = free_below_more v c a b k la lb ne e in
+      let next : k + 1 ≡ suc k = omega arith in
+      let count : free_below v (k + 1) ≡ free_below v k + one_if (is_free v a b) = ap (free_below v) next ∙ more in
+      record {
+        counted = let h = p.counted in omega arith;
+        placed = λ x y lx ly free l. elim (cases_eq (key (side_of v) x y) k) [
+          | inl same ↦
+              let at = unique v c x y a b lx ly free la lb ne (same ∙ sym e) in
+              let here : is_free v a b ≡ true =
+              ap (λ z. is_free v z b) (sym at.0) ∙ ap (is_free v x) (sym at.1) ∙ free in
+              flipped m n a b value flips x y at.0 at.1 ∙ ap (flip_if value) (p.ahead x y lx ly free (omega arith))
+              ∙ flip_light value ∙ written_if here
+              ∙ ap (codeword_bit codewords) (p.counted ∙ ap (free_below v) (sym same) ∙ sym (rank-free_below v x y))
+          | inr other ↦ other_key n value flips x y other ∙ p.placed x y lx ly free (omega arith)
+        ];
+        ahead = λ x y lx ly free l.
+            other_key n value flips x y (λ same. omega arith) ∙ p.ahead x y lx ly free (omega arith);
+        others = λ x y lx ly taken. kept n value none flips x y taken ∙ p.others x y lx ly taken;
+        columns = λ x y l. unflipped m n a b value flips x y (λ ex ey. omega arith) ∙ p.columns x y l;
+        rows = λ x y l. unflipped m n a b value flips x y (λ ex ey. omega arith) ∙ p.rows x y l;
+      }
 
 -- nothing is placed yet
 pub placed_none : (v : ℕ) → Computed v → (codewords : List ℕ) (m : ℕ → ℕ → Bool) (k : ℕ) → k ≡ 0
