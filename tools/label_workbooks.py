@@ -317,8 +317,8 @@ def ods_cell(cell: Element) -> str:
     lines = (re.sub("[ \t\r\n]+", " ", signed(line)).strip(" ") for line in cell.findall("p"))
     kind, text = cell.get("value-type", ""), "\n".join(lines).translate(UNSIGNED)
     if kind in ODS_NUMBERS:
-        number = Number(cell.get("value") or text)
-        number.text, number.code = lambda: text, partial(ods_code, number, kind, text)
+        number = Number(value := cell.get("value") or text)
+        number.text, number.code = lambda: text, partial(ods_code, value, kind, text)
         return number
     if kind == "error":
         return Fault(NO_VALUE_TO_SHOW.format(shown(text)))
