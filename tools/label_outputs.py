@@ -10,7 +10,7 @@ import time
 import zlib
 from io import BytesIO
 from pathlib import Path
-from typing import IO, Any, BinaryIO, cast
+from typing import IO, Any, BinaryIO, Callable, Iterable, Iterator, cast
 
 import cairo
 
@@ -59,19 +59,19 @@ class Press:
         self.progress, self.shortened = progress, set[int]()
         pen.has_rectangles = form == "svg"
 
-    def pages(self, labels: list[Label]) -> list[Page]:
+    def pages(self, labels: list[Label]) -> Iterator[Page]:
         """The labels, each as often as it has copies, in the cells of one page after another."""
-        cells = [label for label in labels for _ in range(label.copies)]
-        starts = range(1 - self.first, len(cells), len(self.planner.places))
-        filled = ((start, cells[max(0, start) : start + len(self.planner.places)]) for start in starts)
-        return [list(zip(part, self.planner.places[-min(0, start) :])) for start, part in filled]
+        places, copies = self.planner.places[self.first - 1 :], (one for one in labels for _ in range(one.copies))
+        while page := [(label, place) for place, label in zip(places, copies)]:
+            yield page
+            places = self.planner.places
 
     def draw(self, canvas: Any, page: Page) -> None:
         """Draws a page; a label with a shortened text is noted."""
         self.shortened.update(label.number for label, place in page if self.pen.draw(canvas, label, *place))
         self.progress.add(len(page))
 
-    def drawing(self, pages: list[Page]) -> IO[bytes]:
+    def drawing(self, pages: Callable[[], Iterable[Page]]) -> IO[bytes]:
         """A file of pages of the size of the paper, in which letters of a font that Cairo cannot embed are shapes."""
         width, height = (side * 72 / 25.4 for side in self.planner.sheet.page)
         outlines, done = self.pen.outlines, self.progress.done
@@ -80,7 +80,7 @@ class Press:
             surface: Any = (cairo.SVGSurface if self.form == "svg" else cairo.PDFSurface)(file, width, height)
             if self.form == "pdf":  # without the time of the run the same labels give the same bytes
                 surface.set_metadata(cairo.PDF_METADATA_CREATE_DATE, "")
-            for page in pages:
+            for page in pages():
                 canvas = cairo.Context(surface)
                 canvas.scale(72 / self.pen.dpi, 72 / self.pen.dpi)
                 self.draw(canvas, page)
@@ -94,30 +94,30 @@ class Press:
             outlines.add(self.pen.font if self.pen.digits_font in outlines else self.pen.digits_font)
             self.progress.done = done
 
-    def document(self, pages: list[Page]) -> IO[bytes]:
-        """A file of pages in a form."""
+    def document(self, page: Page) -> IO[bytes]:
+        """A file of one page in a form."""
         if self.form in DRAWN:
-            return self.drawing(pages)
+            return self.drawing(lambda: [page])
         width, height = (round(side / self.planner.dot) for side in self.planner.sheet.page)
-        form, file = {"png": png, "pbm": pbm, "zpl": zpl, "escpos": escpos}[self.form], BytesIO()
-        for page in pages:
-            dots = dots_of(width, height, lambda canvas: self.draw(canvas, page))
-            file.write(form(dots, page, self.planner.dot) + self.end)
-        file.seek(0)
-        return file
+        dots = dots_of(width, height, lambda canvas: self.draw(canvas, page))
+        form = {"png": png, "pbm": pbm, "zpl": zpl, "escpos": escpos}[self.form]
+        return BytesIO(form(dots, page, self.planner.dot) + self.end)
 
     def write(self, labels: list[Label], signals: Signals) -> None:
         """Writes all labels to standard output: a PDF at the end, in each other form a page as soon as it is drawn."""
-        output, pages = standard_output().fileno(), self.pages(labels)
-        for number, part in enumerate([pages] if self.form == "pdf" else ([page] for page in pages)):
-            with self.document(part) as file, signals.hold():
+        output = standard_output().fileno()
+        documents: Iterator[IO[bytes]] = map(self.document, self.pages(labels))
+        if self.form == "pdf":
+            documents = iter([self.drawing(lambda: self.pages(labels))])
+        for number, document in enumerate(documents):
+            with document as file, signals.hold():
                 send(file, output, START.get(self.form, b"") * (number == 0))
 
     def write_each(self, labels: list[Label], paths: list[Path], signals: Signals) -> None:
         """Writes each label into its file, which has its name once it is whole."""
         for label, path in zip(labels, paths):
             part = path.with_name(path.name + ".part")
-            with self.document([[(label, self.planner.places[0])]]) as file, signals.hold():
+            with self.document([(label, self.planner.places[0])]) as file, signals.hold():
                 try:
                     part.write_bytes(START.get(self.form, b"") + file.read())
                     part.rename(path)

@@ -243,8 +243,10 @@ class Signals(unittest.TestCase):
             found += part
         os.close(reader)
         with run:
-            self.assertIn(run.wait(), (0, -signal.SIGTERM, -signal.SIGINT, -signal.SIGHUP))
-            self.assertEqual(run.stderr.read() if run.stderr else b"", b"")
+            said = run.stderr.read() if run.stderr else b""
+            ended = (run.wait(), said, len(found), size)
+            self.assertIn(ended[0], (0, -signal.SIGTERM, -signal.SIGINT, -signal.SIGHUP), ended)
+            self.assertEqual(said, b"", ended)
         return found
 
     def test_documents_are_whole_or_not_there(self) -> None:
