@@ -338,7 +338,7 @@ wrong_values = refl
 
 -- ---- limits
 
--- docs/SPECIFICATION.md, Symbologies: at most 80 bytes, the last ASCII byte being 127
+-- docs/SPECIFICATION.md, Code 128: at most 80 bytes, the last ASCII byte being 127
 most_bytes : full_code128 (replicate 80 97) ≡ Ok (replicate 80 97)
 most_bytes = refl
 
