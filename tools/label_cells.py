@@ -106,12 +106,12 @@ class Row(NamedTuple):
 
 def value_of(cell: str, is_code: bool = False) -> str:
     """Returns a cell as text; raises RowError for what a spreadsheet writes in place of a value."""
-    bare = cell.strip()
-    formula = FORMULA_OF_TEXT.fullmatch(bare)
     if isinstance(cell, Fault):
         raise RowError(cell)
     if isinstance(cell, Number):
         return cell.code() if is_code else cell.text()
+    bare = cell.strip()
+    formula = FORMULA_OF_TEXT.fullmatch(bare)
     if formula:
         return formula[1].replace('""', '"')
     if bare.startswith("="):
