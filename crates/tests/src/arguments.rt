@@ -1,8 +1,7 @@
 //! The arguments of the command line, the file that they name, and the text of each fault of a run.
-use crate::runs::support::{EAN8, low};
+use crate::calls::support::{gives, gives_none};
 use command::{ArgumentsFault, Choice, open_file, options_of};
-use device::MemSink;
-use filter::{RunFault, Status, run};
+use filter::RunFault;
 use labelcore::{Format, Options};
 use qrdata::Level;
 use std::alloc::Global;
@@ -90,15 +89,13 @@ fn shows_faults(rt: HostRuntime) {
 }
 
 #[test]
-fn runs_over_a_file(rt: HostRuntime) {
+fn opens_a_file(rt: HostRuntime) {
     assert!(rt; fs::write(&rt, "a-label.txt", "ean8 7351353\n").is_ok());
     let Ok(mut source) = open_file(&rt, rt.alloc(), "a-label.txt") else {
         panic!(rt; "not opened");
     };
-    let mut out: MemSink<91> = MemSink::new(91, 91);
-    let mut err: MemSink<1> = MemSink::new(1, 1);
-    let result = run(low(&rt), &mut source, &mut out, &mut err);
-    assert!(rt; result == Ok(Status::Clean) && out.bytes() == EAN8.as_slice());
+    let mut buf = [0; 14];
+    assert!(rt; gives(&mut source, &mut buf, 13) && buf == *b"ean8 7351353\n\0");
 }
 
 /// The system opens a folder, and then fails to read it.
@@ -107,8 +104,5 @@ fn a_folder_can_not_be_read(rt: HostRuntime) {
     let Ok(mut source) = open_file(&rt, rt.alloc(), ".") else {
         panic!(rt; "not opened");
     };
-    let mut out: MemSink<91> = MemSink::new(91, 91);
-    let mut err: MemSink<1> = MemSink::new(1, 1);
-    let result = run(low(&rt), &mut source, &mut out, &mut err);
-    assert!(rt; result == Err(RunFault::Read));
+    assert!(rt; gives_none(&mut source, &mut [0; 4]));
 }

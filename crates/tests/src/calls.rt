@@ -3,4 +3,4 @@
 mod buffered;
 pub mod kinds;
 mod lines;
-mod support;
+pub mod support;
