@@ -143,10 +143,6 @@ open_line-push_lf text = open_line-cut (cut_push_lf text)
 pub ended_lines-push_other : (text : List ℕ) (byte : ℕ) → byte ≢ LF → ended_lines (text ++ byte ∷ []) ≡ ended_lines text
 ended_lines-push_other text byte other = ended_lines-cut (cut_push_other text byte other)
 
-pub open_line-push_other : (text : List ℕ) (byte : ℕ) → byte ≢ LF
-    → open_line (text ++ byte ∷ []) ≡ open_line text ++ byte ∷ []
-open_line-push_other text byte other = open_line-cut (cut_push_other text byte other)
-
 -- the ended text is cut into the ended lines, and its rest is empty
 cut_ended_text : (text : List ℕ) → IsCut (ended_text text) (ended_lines text) []
 unfolding ended_text
@@ -162,14 +158,6 @@ unfolding lines
 lines-ended_text text = ap (λ (rest : List ℕ). ended_lines (ended_text text) ++ unless_empty rest)
     (open_line-cut (cut_ended_text text)) ∙ (append-nil (ended_lines (ended_text text))
     ∙ ended_lines-cut (cut_ended_text text))
-
-pub ended_lines-nil : ended_lines [] ≡ []
-unfolding ended_lines
-ended_lines-nil = refl
-
-pub open_line-nil : open_line [] ≡ []
-unfolding open_line
-open_line-nil = refl
 
 -- some lines that a piece ends
 pub record SomeAdded (text piece : List ℕ) : Type 0 where

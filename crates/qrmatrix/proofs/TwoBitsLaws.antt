@@ -1,6 +1,6 @@
 -- Bits of words: eight codewords in a word, and two bits of a row.
 use Rattle.std.proofs.Common.{◌≡◌, ◌≢◌, ℕ, zero, suc, ◌+◌, ◌-◌, ◌*◌, ◌/◌, ◌%◌, ◌^◌, ◌<◌, ◌≤◌, refl, sym, ap, ◌∙◌, arith}
-use Rattle.std.proofs.Common.{Bool, true, false, ◌&&◌, List, inl, inr, subst, set, length, get_or-set_same, get_or-set_other}
+use Rattle.std.proofs.Common.{Bool, true, false, ◌&&◌, List, inl, inr, subst, length}
 use Rattle.std.proofs.Math.ListN.{replicate}
 use Rattle.std.proofs.lemmas.List.{get_or_past}
 use Rattle.std.specs.Prelude.{◌==◌, bit_and, nat_lt, slice_index, if◌then◌else◌}
@@ -181,17 +181,6 @@ pub zeros : (n k : ℕ) → slice_index (replicate n 0) k ≡ 0
 zeros zero k = refl
 zeros (suc n) zero = refl
 zeros (suc n) (suc k) = zeros n k
-
-pub first_more : (bytes codewords : List ℕ) (j : ℕ) → j < length bytes → HasFirst bytes codewords j
-    → HasFirst (set bytes j (slice_index codewords j)) codewords (j + 1)
-first_more bytes codewords j inside has k =
-    elim (cases_eq k j) [
-      | inl e ↦ rw (e, lt-ltb j (j + 1) (omega arith)) (get_or-set_same bytes j (slice_index codewords j) 0 inside)
-      | inr ne ↦ get_or-set_other bytes j k (slice_index codewords j) 0 ne ∙ has k ∙ elim (cases_lt k j) [
-        | inl l ↦ rw (lt-ltb k j l, lt-ltb k (j + 1) (omega arith)) refl
-        | inr g ↦ rw (le-ltb k j g, le-ltb k (j + 1) (omega arith)) refl
-      ]
-    ]
 
 pub first_all : (bytes codewords : List ℕ) (j : ℕ) → j ≡ length codewords → HasFirst bytes codewords j → (k : ℕ)
     → slice_index bytes k ≡ slice_index codewords k

@@ -6,7 +6,7 @@ ghost use Rattle.qrdata.specs.Versions.{side_of};
 ghost use Rattle.qrmatrix.specs.Functions.{is_free};
 ghost use Rattle.qrmatrix.specs.Bits.{bit};
 ghost use Rattle.qrmatrix.specs.Square.{value_at};
-ghost use Rattle.qrmatrix.specs.Private.Placing.{HasBits, IsStrip, MovesOn, MovesRow, ShowsFree, right_column, row_of};
+ghost use Rattle.qrmatrix.specs.Private.Placing.{HasBits, MovesOn, MovesRow, ShowsFree, right_column, row_of};
 ghost use Rattle.qrmatrix.specs.Private.Drawing.{MarksFree, PlacesCodewords};
 
 use crate::square::{SIDE, Square};

@@ -84,9 +84,7 @@ fn page_of_labelcore(rt: HostRuntime) {
         panic!(rt; "30 is a height");
     };
     let mut line = LineBuf::new();
-    for byte in b"ean8 7351353" {
-        line.push(*byte);
-    }
+    line.extend(b"ean8 7351353");
     let mut scratch = Scratch::new();
     let data = b"7351353".as_slice();
     assert!(rt;
