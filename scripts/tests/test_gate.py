@@ -47,7 +47,7 @@ class TakenAway(InCopy):
             ("crates/device/wrong-bodies", "crates/device/bodies", "counts.py", "wrong bodies of device: none, and "),
             (f"crates/device/wrong-bodies/{name}", "away", "counts.py", "wrong bodies of device: "),
             (name := f"crates/device/wrong-bodies/{name}", name + ".old", "counts.py", ".old, which no script reads"),
-            ("crates/filter/must-fail", "away", "counts.py", "must-fail edits of filter: none, and "),
+            ("crates/gf256/must-fail", "away", "counts.py", "must-fail edits of gf256: none, and "),
             ("crates/labels/stdout", "away", "counts.py", "stored runs of labels: none, and 1"),
             ("crates/linear/proofs/Examples.antt", "away", "counts.py", "worked values of linear: "),
             ("crates/picture", "crates/pictures", texts, f"{differ}picture pictures"),

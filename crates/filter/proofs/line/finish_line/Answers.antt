@@ -1,6 +1,6 @@
 use Rattle.filter.proofs.Words.{◌∙◌, [], ap, refl, sym, subst, ◌≡◌, ℕ, List, ◌∷◌, Ok, Err, refused, Outcome, Request}
 use Rattle.filter.proofs.Words.{skipped, drawn, item, Images, image_of, of_line, outcome_of_item, message_of, outcome}
-use Rattle.filter.proofs.Words.{status_of, OptionValues, Fault, Symbol, Clean, Refused, refusal_of}
+use Rattle.filter.proofs.Words.{status_of, OptionValues, Fault, Symbol, Clean, Refused, refusal_of, taken}
 use Rattle.labelcore.specs.ItemView.{item_seen}
 use Rattle.filter.proofs.ScriptLaws.{both, event_stops, event_took, none_taken}
 use Rattle.filter.proofs.line.finish_line.Goals as goal
@@ -73,9 +73,11 @@ pub returns-in-Err : goal.returns-in-Err
 returns-in-Err g c =
     let options = c.args.options.now in
     let writes = (c.in-Err.ensures options c.parse-item.ensures.form).writes in
+    let out = g.O.Sink.took c.args.out.now c.draw_item.new.out in
+    let err = g.E.Sink.took c.args.err.now c.args.err.now in
     record {
       sends = λ text at. rw (outcome-seen options text _ (c.parse-item.ensures.item text at))
-          (event_stops options _ Images (of_line c.args.number (outcome_of_item (item_seen c.parse-item.result))) []
+          (event_stops options (taken out err) Images (of_line c.args.number (outcome_of_item (item_seen c.parse-item.result))) []
           writes.bytes (g.met.E.Sink.took_none c.args.err.now));
       status = λ text at. tt;
       sinks = record { counts = (writes.count, refl); out_unflushed = writes.unflushed; err_unflushed = λ e. e };

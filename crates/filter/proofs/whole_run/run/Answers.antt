@@ -1,6 +1,6 @@
 use Rattle.filter.proofs.Words.{◌<◌, [], ◌∷◌, ◌++◌, Err, take, refl, ◌∙◌, subst, arith, length-append, length-take}
 use Rattle.filter.proofs.Words.{inl, inr, rules, sym, append-nil, All-append, err_from_is_err_and, OnOk}
-use Rattle.filter.proofs.Words.{Result, Ok, Images, WriteOut}
+use Rattle.filter.proofs.Words.{Result, Ok, Images, WriteOut, taken}
 use Rattle.filter.proofs.FilterLaws.{some_later}
 use Rattle.filter.proofs.RunLaws.{HasRun-append, HasRun-passed, Runs-after, Runs-read}
 use Rattle.filter.proofs.ScriptLaws.{none_taken, Sends-longer, Sends-none, Stops-first}
@@ -82,7 +82,8 @@ returns-in_err-feed g c =
     rw (p.1, p.2) (Runs-after g.met.O.Sink.took_joined g.met.E.Sink.took_joined passed (given ++ piece)
     (Err c.in_err-feed.field-0.0) (g.met.S.Source.gave_joined _ _ _ _ _ h.gave c.in-Ok-read.ensures.bytes)
     c.in-Ok-read.ensures.count (All-append (λ b. b < 256) given piece h.fed.is_after.bytes c.in_err-feed.ensures.bytes)
-    (Sends-longer options (later.0 ∷ later.1) later.2 (c.in_err-feed.ensures.feeds options given h.fed.is_after).sends)
+    (Sends-longer options {took = taken (g.O.Sink.took c.pass_on.new.self c.feed.new.out) (g.E.Sink.took c.loop-turn.err
+    c.feed.new.err)} (later.0 ∷ later.1) later.2 (c.in_err-feed.ensures.feeds options given h.fed.is_after).sends)
     tt tt sinks.counts (λ other. sinks.out_unflushed, sinks.err_unflushed))
 
 pub loop-turn-preserved : goal.loop-turn-preserved

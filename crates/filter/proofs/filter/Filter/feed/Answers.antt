@@ -1,5 +1,5 @@
 use Rattle.filter.proofs.Words.{◌<◌, ℕ, ◌∷◌, [], ◌++◌, Ok, Err, refl, ap, ◌∙◌, append_assoc, arith, length}
-use Rattle.filter.proofs.Words.{length-append, append-nil, All-from_get_or, err_from_is_err_and, LF, ended_script}
+use Rattle.filter.proofs.Words.{length-append, append-nil, All-from_get_or, err_from_is_err_and, LF, ended_script, taken}
 use Rattle.filter.proofs.FilterLaws.{ended_lines-more, ended_script-more}
 use Rattle.filter.proofs.RunLaws.{FlushesNeither-append}
 use Rattle.filter.proofs.ScriptLaws.{Sends-none, Sends-append, Sends-longer}
@@ -47,8 +47,10 @@ returns-in_err-end_line-clause-feeds g c options text at =
     let next = c.in_err-end_line.ensures.feeds options ((text ++ h.fed) ++ line)
     (c.hold.ensures options (text ++ h.fed) before.is_after) in
     let more = ended_script-more options (((text ++ h.fed) ++ line) ++ LF ∷ []) c.in-Some.later.now in
+    let out = g.O.Sink.took c.args.out.now c.end_line.new.out in
+    let err = g.E.Sink.took c.args.err.now c.end_line.new.err in
     rw (p.1, p.2) (record {
-      sends = Sends-longer options more.0
+      sends = Sends-longer options {took = taken out err} more.0
           (ap (ended_script options) (simp (h.whole, c.in-Some.ensures.cut, append_assoc)) ∙ more.1)
           (Sends-append g.met.O.Sink.took_joined g.met.E.Sink.took_joined options (Err c.in_err-end_line.field-0.0)
           before.sends (rw (ended_lines-more (text ++ h.fed) line c.in-Some.ensures.line) at next.sends));

@@ -1,5 +1,5 @@
-use Rattle.filter.proofs.Words.{◌≡◌, ◌∙◌, Ok, Err, [], ◌∷◌, ap, refl, sym, false≢true, err_from_is_err_and, FilterState}
-use Rattle.filter.proofs.Words.{flushes, status_of}
+use Rattle.filter.proofs.Words.{◌≡◌, ◌∙◌, Ok, Err, [], ◌∷◌, ap, refl, sym, err_from_is_err_and, FilterState}
+use Rattle.filter.proofs.Words.{flushes, status_of, taken}
 use Rattle.filter.proofs.FilterLaws.{status_of-flushes}
 use Rattle.filter.proofs.RunLaws.{CountsFault-after, FlushesImagesFirst-after}
 use Rattle.filter.proofs.ScriptLaws.{Sends-append, Sends-longer}
@@ -23,11 +23,12 @@ returns-in_err-end_open_line g c =
     let call = c.in_err-end_open_line.ensures in
     rw (p.1, p.2) (record {
       sends = λ options text at. let h = call.feeds options text at in
-          Sends-longer options (flushes ∷ []) h.1 h.2.sends;
+          Sends-longer options {took = taken (g.O.Sink.took c.args.out.now c.end_open_line.new.out) (g.E.Sink.took
+          c.args.err.now c.end_open_line.new.err)} (flushes ∷ []) h.1 h.2.sends;
       status = λ options text at. tt;
       flushed = (λ other. call.sinks.out_unflushed, call.sinks.err_unflushed);
       counts = λ e. call.sinks.counts;
-      spent = λ spent. absurd (false≢true (sym isnt ∙ spent));
+      spent = λ spent. cc;
     })
 
 pub returns-in_err-flush_both : goal.returns-in_err-flush_both
@@ -44,7 +45,7 @@ returns-in_err-flush_both g c =
       status = λ options text at. tt;
       flushed = FlushesImagesFirst-after before.sinks {U = Unit {0}} _ _ (Err fault) flush.flushed;
       counts = λ e. CountsFault-after before.sinks {U = Unit {0}} _ _ (Err fault) flush.counts;
-      spent = λ spent. absurd (false≢true (sym isnt ∙ spent));
+      spent = λ spent. cc;
     })
 
 pub returns : goal.returns
@@ -61,5 +62,5 @@ returns g c =
           ∙ (sym (status_of-flushes _) ∙ ap status_of (sym h.1)));
       flushed = flush.flushed;
       counts = λ e. CountsFault-after before.sinks _ _ (Ok (tt {0})) flush.counts;
-      spent = λ spent. absurd (false≢true (sym isnt ∙ spent));
+      spent = λ spent. cc;
     }
