@@ -8,13 +8,11 @@ import re
 import unicodedata
 from typing import Callable, NamedTuple, Sequence
 
-from label_command import BAD_ARGUMENTS, ToolError
 from label_file import check_digit
 
 # the symbologies of numbers, by their digits with the check digit, and those of any data
 SYMBOLOGIES = {8: "ean8", 12: "upca", 13: "ean13"}
 LENGTHS = {symbology: length for length, symbology in SYMBOLOGIES.items()}
-TITLES = {"ean8": "EAN-8", "upca": "UPC-A", "ean13": "EAN-13"}
 FREE_TEXT = ("code128", "qr")
 MOST_ZEROS = 3
 # a number with decimals, or in groups of digits: those of an ISBN, and those that are printed below bars
@@ -31,19 +29,18 @@ NO_VALUE_TO_SHOW = "has {}, which the spreadsheet writes where it has no value t
 IS_ROUNDED = "{}: the spreadsheet has rounded the number; format the column as text, enter it again"
 IS_DRAWN = "{{}} has {}, which would be drawn: take it away".format
 # what no cell may be, no number, and no data of Code 128 or QR; spreadsheets write errors in their user's language
-Reasons = Sequence[tuple[re.Pattern[str], str]]
-NO_CELL: Reasons = (
+NO_CELL = (
     (re.compile(r"(?s)\s*=.*"), "has {}, a formula: export its value"),
     (re.compile(r"\s*(?:#(?:##+|N/A|N/D|NV|Н/Д|[^\s#]{1,15}[!?])|Err:[0-9]{3})\s*"), NO_VALUE_TO_SHOW),
     (re.compile("(?s).*\ufffd.*"), "has {}, with the sign of a lost letter (U+FFFD): export the table again"),
     (re.compile("(?s).{131069,}"), "has {}, and at most 131068 characters of a cell are read"),
 )
-NO_NUMBER: Reasons = (
+NO_NUMBER = (
     (re.compile("[0-9]+(?:[.,][0-9]+)?[Ee][+]?[0-9]+"), IS_ROUNDED),
     (re.compile("0+"), "{} is zeros alone, which is no article's number"),
 )
 SETTING = re.compile(r"(?s)(?:height|level|min-version|mask)=\S*(?: .*)?")
-NO_DATA: Reasons = (
+NO_DATA = (
     (re.compile("[0-9](?:[.,][0-9]+)?[Ee][+][0-9]{2,}"), IS_ROUNDED),
     (SETTING, IS_DRAWN("a setting in front (give it by --settings)")),
     (re.compile(r"(?s)\s.*|.*\s"), IS_DRAWN("a space before or after the data")),
@@ -60,12 +57,6 @@ UNSEEN = {
 }
 
 
-class BadArgument(ToolError):
-    """An argument of the command line that does not suit this table: nothing is written."""
-
-    status = BAD_ARGUMENTS
-
-
 class RowError(Exception):
     """Why a row is left out."""
 
@@ -75,10 +66,7 @@ class Fault(str):
 
 
 class Number(str):
-    """A number in a spreadsheet's own file; as a string it is its value.
-
-    `text` returns what the spreadsheet shows, `code` the digits of a code; both raise RowError where there is none.
-    """
+    """A number in a spreadsheet, its value; `text` returns what is shown, `code` the digits of a code."""
 
     text: Callable[[], str]
     code: Callable[[], str]
@@ -122,10 +110,7 @@ def value_of(cell: str, is_code: bool = False) -> str:
 
 
 def text_in(cell: str, kind: str) -> str:
-    """Returns the text of a cell in a kind of column: a code as it is, any other without white space around its lines.
-
-    Raises RowError for what no label can show, for an empty code, and for what is no number of copies.
-    """
+    """Returns the text of a cell in a kind of column; raises RowError for what no label can show."""
     text = str(cell) if kind == "copies" and isinstance(cell, Number) else value_of(cell, kind == "code")
     lines = [line.strip() for line in (re.split("\r\n?|\n", text) if kind in ("title", "text") else [text])]
     bare = "".join(lines)
@@ -143,7 +128,7 @@ def text_in(cell: str, kind: str) -> str:
     return text if kind == "code" else "\n".join(filter(None, lines))
 
 
-def refuse_like(cell: str, reasons: Reasons) -> None:
+def refuse_like(cell: str, reasons: Sequence[tuple[re.Pattern[str], str]]) -> None:
     """Raises RowError where a cell is like one of these patterns, with the reason."""
     for pattern, reason in reasons:
         if pattern.fullmatch(cell):
@@ -239,7 +224,7 @@ def symbology_of(digits: str, arguments: argparse.Namespace) -> str:
 def wrong_length(digits: str, asked: Sequence[str], arguments: argparse.Namespace) -> RowError:
     """Returns the error of a number with other digits than its symbology has, and what to do where that is seen."""
     count, missing = len(digits), arguments.without_check_digit
-    lengths = ", ".join(f"{TITLES[symbology]} has {LENGTHS[symbology] - missing}" for symbology in asked)
+    lengths = ", ".join(f"{symbology} has {LENGTHS[symbology] - missing}" for symbology in asked)
     hints = (
         (missing, "; give --without-check-digit only where no number has one"),
         (count == 14, "; a GTIN-14 is drawn as ITF-14, which labels does not draw"),

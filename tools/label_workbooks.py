@@ -20,8 +20,8 @@ from typing import Callable, Iterator
 from xml.etree.ElementTree import Element, ParseError, XMLPullParser
 from zipfile import ZIP_DEFLATED, ZIP_STORED, BadZipFile, ZipFile
 
-from label_cells import NO_VALUE_TO_SHOW, BadArgument, Fault, Merge, Number, Row, RowError, shown
-from label_command import ToolError
+from label_cells import NO_VALUE_TO_SHOW, Fault, Merge, Number, Row, RowError, shown
+from label_command import BAD_ARGUMENTS, ToolError
 
 MOST_ROWS, MOST_COLUMNS, MOST_MERGES = 1048576, 16384, 256  # the last of those that cross one row
 LARGEST_PART, LARGEST_ROW, PIECE, DEEPEST, LARGEST_NUMBER = 1 << 28, 1 << 20, 1 << 16, 100, 10**308
@@ -48,7 +48,7 @@ BUILT_IN = {
     **{"37": "#,##0;(#,##0)", "38": "#,##0;(#,##0)", "39": "#,##0.00;(#,##0.00)", "40": "#,##0.00;(#,##0.00)"},
 }
 TOKEN = re.compile(
-    r"""(?P<number>General|@|[0\#?][0\#?,]*(?:\.[0\#?]*)?(?:E\+0+)?|\.[0\#?]+) | (?P<date>d+|m+|y+) | (?P<percent>%)
+    r"""(?P<number>General|@|[0\#?][0\#?,]*(?:\.[0\#?]*)?(?:E\+0+)?|\.[0\#?]+) | (?P<date>d{1,2}(?!d)|m{1,2}(?!m)|(?:yy){1,2}(?!y)) | (?P<percent>%)
       | "(?P<quoted>[^"]*)" | \\(?P<escaped>.) | \[\$(?P<currency>[^\]-]*)(?:-[0-9A-F]*)?\] | (?P<space>_.)
       | (?P<nothing>\*.|\[(?:black|blue|cyan|green|magenta|red|white|yellow|color\ ?[0-9]+)\]) | (?P<end>;)
       | (?P<plain>[-+/():!^&'~{}<>=.\ $]|[^\x00-\x7f])""",
@@ -99,7 +99,7 @@ def check_parts(archive: ZipFile) -> None:
 
 
 def chosen(sheets: Iterator[Sheet], wanted: str | None) -> Iterator[Row]:
-    """Yields the rows of one sheet; raises BadArgument, maybe behind them, where the sheet is not sure."""
+    """Yields the rows of one sheet; raises ToolError, maybe behind them, where the sheet is not sure."""
     names, found = list[str](), list[str]()
     for name, is_visible, rows in sheets:
         names.append(name)
@@ -113,7 +113,9 @@ def chosen(sheets: Iterator[Sheet], wanted: str | None) -> Iterator[Row]:
         raise LookupError("no sheet in it")
     if len(found) != 1:
         what = f"{len(found)} visible sheets" if wanted is None else f"no sheet {shown(wanted)}"
-        raise BadArgument(f"has {what} with data: give --sheet with one of {', '.join(map(shown, found or names))}")
+        raise ToolError(
+            f"has {what} with data: give --sheet with one of {', '.join(map(shown, found or names))}", BAD_ARGUMENTS
+        )
 
 
 def pieces(archive: ZipFile, part: str) -> Iterator[bytes]:
@@ -127,28 +129,31 @@ def has_word(archive: ZipFile, part: str, word: bytes) -> bool:
     return any(word in text.replace(b"\0", b"") for text in both)
 
 
-def elements(archive: ZipFile, part: str, path: str, *heads: str) -> Iterator[Element]:
-    """Yields the elements at a path of local names, whole, and those at `heads` as they begin; forgets the others."""
+def events_of(archive: ZipFile, part: str) -> Iterator[tuple[int, Iterator[tuple[str, Element]]]]:
+    """Yields of a part, piece by piece, the size and the beginnings and ends of elements."""
     if has_word(archive, part, b"<!DOCTYPE"):  # its entities may become any size
         raise ToolError(f"has a document type (DOCTYPE), which no spreadsheet writes: {SAVE_AGAIN}")
-    parser, around, inside, size = XMLPullParser(("start", "end")), [Element("")], 0, 0
-    for piece in chain(pieces(archive, part), [b""]):
-        if piece:
-            parser.feed(piece)
-        else:
-            parser.close()
-        size += len(piece)
-        for event, element in parser.read_events():
+    parser = XMLPullParser(("start", "end"))
+    for piece in pieces(archive, part):
+        parser.feed(piece)
+        yield len(piece), parser.read_events()
+    parser.close()
+    yield 0, parser.read_events()
+
+
+def elements(archive: ZipFile, part: str, path: str, *heads: str) -> Iterator[Element]:
+    """Yields the elements at a path of local names, whole, and those at `heads` as they begin; forgets the others."""
+    around, inside, size = [Element("")], 0, 0
+    for length, events in events_of(archive, part):
+        size += length
+        for event, element in events:
             if event == "start":
                 use_local_names(element)
                 around.append(element)
                 at = "" if inside else "/".join(outer.tag for outer in around if outer.tag not in GROUPS)
                 if at in heads:
                     yield element
-                elif at == path:
-                    inside = len(around)
-                elif len(around) > DEEPEST:
-                    raise ToolError(TOO_LARGE)
+                inside = len(around) if at == path else inside
             else:
                 if len(around) == inside:
                     inside = 0
@@ -157,7 +162,7 @@ def elements(archive: ZipFile, part: str, path: str, *heads: str) -> Iterator[El
                 if not inside:
                     del around[-1][:]
                     size = 0
-        if size > LARGEST_ROW:
+        if size > LARGEST_ROW or len(around) > DEEPEST:
             raise ToolError(TOO_LARGE)
 
 
@@ -350,7 +355,10 @@ def shown_number(signs: Signs, is_from_1904: bool, number_format: str, value: De
         if kind == "number":
             text += by_pattern(size, part, signs)
         elif kind == "date":
-            text += by_day(value + (DAYS_TO_1904 if is_from_1904 else 0), part)
+            day = int(value) + (DAYS_TO_1904 if is_from_1904 else 0)
+            if not FIRST_DAY <= day <= LAST_DAY:
+                raise RowError("is a date before March 1900 or after 9999: enter it again as text")
+            text += (date(1899, 12, 30) + timedelta(day)).strftime(DAYS[part.lower()])
         else:
             text += part
     text = text.strip()
@@ -393,14 +401,6 @@ def by_pattern(value: Decimal, pattern: str, signs: Signs) -> str:
         raise RowError(NOT_UNDERSTOOD.format(shown(pattern)))
     whole = whole.replace(",", signs.thousands if has_groups else "").lstrip("0").zfill(zeros)
     return whole + (signs.decimal + decimals if decimals else "")
-
-
-def by_day(value: Decimal, field: str) -> str:
-    """Returns the day, month or year of a day that is counted from 1899-12-30."""
-    if not FIRST_DAY <= value < LAST_DAY + 1 or field.lower() not in DAYS:
-        what = f"is a date with names of days or months, {shown(field)}, or before March 1900"
-        raise RowError(f"{what}: format it as text")
-    return (date(1899, 12, 30) + timedelta(int(value))).strftime(DAYS[field.lower()])
 
 
 def digits_of(number_format: str, value: Decimal) -> str:
