@@ -148,10 +148,8 @@ def shown(text: str) -> str:
 
 def named(character: str) -> str:
     """Returns a character for a message: as it is where it can be seen, with its number where it is not ASCII."""
-    if "!" <= character <= "~":
-        return f'"{character}"'
-    name = unicodedata.name(character, "control character").lower()
-    return NAMES.get(character) or f"{name} (U+{ord(character):04X})"
+    name = f"{unicodedata.name(character, 'control character').lower()} (U+{ord(character):04X})"
+    return f'"{character}"' if "!" <= character <= "~" else NAMES.get(character, name)
 
 
 def with_check_digit(digits: str) -> str:
@@ -223,18 +221,12 @@ def symbology_of(digits: str, arguments: argparse.Namespace) -> str:
 
 def wrong_length(digits: str, asked: Sequence[str], arguments: argparse.Namespace) -> RowError:
     """Returns the error of a number with other digits than its symbology has, and what to do where that is seen."""
-    count, missing = len(digits), arguments.without_check_digit
+    count, missing, hint = len(digits), arguments.without_check_digit, NO_CHECK_DIGITS
     lengths = ", ".join(f"{symbology} has {LENGTHS[symbology] - missing}" for symbology in asked)
-    hints = (
-        (missing, "; give --without-check-digit only where no number has one"),
-        (count == 14, "; a GTIN-14 is drawn as ITF-14, which labels does not draw"),
-        (is_right(digits) and count in SYMBOLOGIES, "; if it is of another symbology, give --symbology auto"),
-        (
-            is_right(digits) and count < 13 and not arguments.fill_zeros,
-            "; if the spreadsheet has dropped zeros, give --fill-zeros",
-        ),
-        (not is_right(digits) and count + 1 in map(LENGTHS.get, asked), f"; {NO_CHECK_DIGITS}"),
-        (True, ""),
-    )
-    hint = next(hint for applies, hint in hints if applies)
-    return RowError(f"{digits:.20} has {count} digit{'s' if count > 1 else ''}, {lengths}{hint}")
+    if missing:
+        hint = "give --without-check-digit only where no number has one"
+    elif count == 14:
+        hint = "a GTIN-14 is drawn as ITF-14, which labels does not draw"
+    elif is_right(digits):
+        hint = "give --symbology auto, or --fill-zeros where zeros in front are lost"
+    return RowError(f"{digits:.20} has {count} digit{'s' if count > 1 else ''}, {lengths}; {hint}")

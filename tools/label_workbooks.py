@@ -48,16 +48,15 @@ BUILT_IN = {
     **{"37": "#,##0;(#,##0)", "38": "#,##0;(#,##0)", "39": "#,##0.00;(#,##0.00)", "40": "#,##0.00;(#,##0.00)"},
 }
 TOKEN = re.compile(
-    r"""(?P<number>General|@|[0\#?][0\#?,]*(?:\.[0\#?]*)?(?:E\+0+)?|\.[0\#?]+) | (?P<date>d{1,2}(?!d)|m{1,2}(?!m)|(?:yy){1,2}(?!y)) | (?P<percent>%)
-      | "(?P<quoted>[^"]*)" | \\(?P<escaped>.) | \[\$(?P<currency>[^\]-]*)(?:-[0-9A-F]*)?\] | (?P<space>_.)
-      | (?P<nothing>\*.|\[(?:black|blue|cyan|green|magenta|red|white|yellow|color\ ?[0-9]+)\]) | (?P<end>;)
+    r"""(?P<number>General|@|[0\#?][0\#?,]*(?:\.[0\#?]*)?(?:E\+0+)?|\.[0\#?]+) | (?P<percent>%) | (?P<end>;)
+      | (?P<date>d{1,2}(?!d)|m{1,2}(?!m)|(?:yy){1,2}(?!y)) | \[\$(?P<currency>[^\]-]*)(?:-[0-9A-F]*)?\]
+      | "(?P<quoted>[^"]*)" | \\(?P<escaped>.) | (?P<space>_.)
+      | (?P<nothing>\*.|\[(?:black|blue|cyan|green|magenta|red|white|yellow|color\ ?[0-9]+)\])
       | (?P<plain>[-+/():!^&'~{}<>=.\ $]|[^\x00-\x7f])""",
     re.IGNORECASE | re.VERBOSE | re.DOTALL,
 )
 SIGNIFICANT, EXACT = Context(prec=15), Context(prec=400)  # the digits of a number in a spreadsheet, and of any other
-MOST_DIGITS_OF_GENERAL = 9  # up to here each spreadsheet shows the same, however wide the column is
 FIRST_DAY, LAST_DAY = 61, 2958465  # of those that all spreadsheets count from the same day, and of the year 9999
-DAYS_TO_1904 = 1462
 DAYS = {"d": "%-d", "dd": "%d", "m": "%-m", "mm": "%m", "yy": "%y", "yyyy": "%Y"}
 
 
@@ -65,37 +64,32 @@ class Signs:
     """The signs in a number: the decimal one, or those of the locale; and the first text in which one was shown."""
 
     def __init__(self, decimal: str | None) -> None:
-        self.decimal, self.thousands, self.first = decimal or ".", "", ""
         if decimal is None:
             with suppress(locale.Error):  # the locale is not installed
                 locale.setlocale(locale.LC_NUMERIC, "")
-            self.decimal, self.thousands = (
-                str(locale.localeconv()[key]) for key in ("decimal_point", "thousands_sep")
-            )
-        self.thousands = self.thousands or ("." if self.decimal == "," else ",")
+        signs, self.first = locale.localeconv(), ""
+        self.decimal = decimal or str(signs["decimal_point"])
+        self.thousands = str(signs["thousands_sep"]) or ("." if self.decimal == "," else ",")
 
 
 def rows_of_workbook(data: bytes, name: str, wanted: str | None, signs: Signs) -> Iterator[Row]:
     """Yields the rows of a sheet: the one that is wanted, else the only one that is visible and has data."""
     try:
         with ZipFile(BytesIO(data)) as archive:
-            check_parts(archive)
+            for part in archive.infolist():
+                if part.file_size > LARGEST_PART:
+                    raise ToolError(f"has a part of more than 256 MB, {shown(part.filename)}: {SAVE_AGAIN}")
+                has_key = part.filename == "META-INF/manifest.xml" and b"encryption-data" in archive.read(part)
+                if has_key or part.flag_bits & 1:
+                    raise ToolError("has a password: save it without one")
+                if part.compress_type not in (ZIP_STORED, ZIP_DEFLATED):
+                    raise ToolError(f"is packed as no spreadsheet does it: {SAVE_AGAIN}")
             is_ods = "mimetype" in archive.namelist() and b"opendocument.spreadsheet" in archive.read("mimetype")
             yield from chosen(ods_sheets(archive) if is_ods else xlsx_sheets(archive, signs), wanted)
     except ToolError as error:
         raise ToolError(f"{name} {error}", error.status) from None
     except DAMAGE as error:
         raise ToolError(f"{name} is damaged, or neither .xlsx nor .ods ({error}): {SAVE_AGAIN}") from None
-
-
-def check_parts(archive: ZipFile) -> None:
-    for part in archive.infolist():
-        if part.file_size > LARGEST_PART:
-            raise ToolError(f"has a part of more than 256 MB, {shown(part.filename)}: {SAVE_AGAIN}")
-        if part.flag_bits & 1 or part.filename == "META-INF/manifest.xml" and b"encryption-data" in archive.read(part):
-            raise ToolError("has a password: save it without one")
-        if part.compress_type not in (ZIP_STORED, ZIP_DEFLATED):
-            raise ToolError(f"is packed as no spreadsheet does it: {SAVE_AGAIN}")
 
 
 def chosen(sheets: Iterator[Sheet], wanted: str | None) -> Iterator[Row]:
@@ -131,6 +125,8 @@ def has_word(archive: ZipFile, part: str, word: bytes) -> bool:
 
 def events_of(archive: ZipFile, part: str) -> Iterator[tuple[int, Iterator[tuple[str, Element]]]]:
     """Yields of a part, piece by piece, the size and the beginnings and ends of elements."""
+    if not part:  # the file has no such part
+        return
     if has_word(archive, part, b"<!DOCTYPE"):  # its entities may become any size
         raise ToolError(f"has a document type (DOCTYPE), which no spreadsheet writes: {SAVE_AGAIN}")
     parser = XMLPullParser(("start", "end"))
@@ -148,7 +144,9 @@ def elements(archive: ZipFile, part: str, path: str, *heads: str) -> Iterator[El
         size += length
         for event, element in events:
             if event == "start":
-                use_local_names(element)
+                element.tag = element.tag.rpartition("}")[2]
+                if "}" in "".join(element.keys()):
+                    element.attrib = {name.rpartition("}")[2]: value for name, value in element.items()}
                 around.append(element)
                 at = "" if inside else "/".join(outer.tag for outer in around if outer.tag not in GROUPS)
                 if at in heads:
@@ -166,12 +164,6 @@ def elements(archive: ZipFile, part: str, path: str, *heads: str) -> Iterator[El
             raise ToolError(TOO_LARGE)
 
 
-def use_local_names(element: Element) -> None:
-    element.tag = element.tag.rpartition("}")[2]
-    if "}" in "".join(element.keys()):
-        element.attrib = {name.rpartition("}")[2]: value for name, value in element.items()}
-
-
 def rows_of(number: int, repeat: int, cells: list[str], merges: list[Merge], is_hidden: bool) -> Iterator[Row]:
     """Yields a row as often as it is there, with the merged cells that cross it; raises ToolError beyond limits."""
     merges[:] = [(row, place, last_row, last) for row, place, last_row, last in merges if last_row >= number]
@@ -186,16 +178,14 @@ def xlsx_sheets(archive: ZipFile, signs: Signs) -> Iterator[Sheet]:
     workbook = dict(relations(archive, "").values())["officeDocument"]
     targets = relations(archive, workbook)
     parts = dict(targets.values())
-
-    def found(kind: str, path: str) -> Iterator[Element]:
-        return elements(archive, parts[kind], path) if kind in parts else iter(())
-
-    own = {one.attrib["numFmtId"]: one.attrib["formatCode"] for one in found("styles", "/styleSheet/numFmts/numFmt")}
-    numbers = [style.get("numFmtId", "0") for style in found("styles", "/styleSheet/cellXfs/xf")] or ["0"]
-    formats = [{**BUILT_IN, **own}.get(number, "of the language") for number in numbers]
-    strings = [string_of(element) for element in found("sharedStrings", "/sst/si")]
+    strings = [string_of(element) for element in elements(archive, parts.get("sharedStrings", ""), "/sst/si")]
+    styles, by_number, formats = parts.get("styles", ""), dict(BUILT_IN), list[str]()
+    for element in elements(archive, styles, "/styleSheet/numFmts/numFmt"):
+        by_number[element.attrib["numFmtId"]] = element.attrib["formatCode"]
+    for element in elements(archive, styles, "/styleSheet/cellXfs/xf"):
+        formats.append(by_number.get(element.get("numFmtId", "0"), "of the language"))
     is_from_1904 = any(one.get("date1904") in TRUE for one in elements(archive, workbook, "/workbook/workbookPr"))
-    read = partial(xlsx_cell, strings, formats, partial(shown_number, signs, is_from_1904))
+    read = partial(xlsx_cell, strings, formats or ["General"], partial(shown_number, signs, is_from_1904))
     for sheet in elements(archive, workbook, "/workbook/sheets/sheet"):
         kind, path = targets[sheet.attrib["id"]]
         if kind == "worksheet":
@@ -292,9 +282,8 @@ def ods_rows(archive: ZipFile) -> Iterator[tuple[tuple[str, bool], Row]]:
             yield sheet, Row(0, ())
         else:
             cells = ods_cells(element, number, merges)
-            is_hidden, repeat = element.get("visibility", "visible") != "visible", int(
-                element.get("number-rows-repeated", 1)
-            )
+            is_hidden = element.get("visibility", "visible") != "visible"
+            repeat = int(element.get("number-rows-repeated", 1))
             if is_hidden or any(cells):
                 for row in rows_of(number, repeat, cells, merges, is_hidden):
                     yield sheet, row
@@ -355,7 +344,7 @@ def shown_number(signs: Signs, is_from_1904: bool, number_format: str, value: De
         if kind == "number":
             text += by_pattern(size, part, signs)
         elif kind == "date":
-            day = int(value) + (DAYS_TO_1904 if is_from_1904 else 0)
+            day = int(value) + (1462 if is_from_1904 else 0)
             if not FIRST_DAY <= day <= LAST_DAY:
                 raise RowError("is a date before March 1900 or after 9999: enter it again as text")
             text += (date(1899, 12, 30) + timedelta(day)).strftime(DAYS[part.lower()])
@@ -387,7 +376,8 @@ def by_pattern(value: Decimal, pattern: str, signs: Signs) -> str:
     """Returns a number that is not negative by `General`, or by a pattern of `0`, `#`, `?`, thousands and decimals."""
     if pattern[0] in "Gg@":
         text = f"{value.normalize():f}"
-        if value >= 10**15 or "." in text and len(text.strip("0.").replace(".", "")) > MOST_DIGITS_OF_GENERAL:
+        # up to nine digits each spreadsheet shows the same, however wide the column is
+        if value >= 10**15 or "." in text and len(text.strip("0.").replace(".", "")) > 9:
             raise RowError(f"is the number {text} without a number of decimals: give it a format such as 0.00")
         return text.replace(".", signs.decimal)
     whole_pattern, point, decimals_pattern = pattern.partition(".")

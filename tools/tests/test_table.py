@@ -537,8 +537,7 @@ class Texts(TableTest):
 
 class Numbers(TableTest):
     LENGTHS = "ean8 has 8, upca has 12, ean13 has 13"
-    OTHER = "if it is of another symbology, give --symbology auto"
-    LOST = "if the spreadsheet has dropped zeros, give --fill-zeros"
+    LOST = "give --symbology auto, or --fill-zeros where zeros in front are lost"
     NONE = "if the column has no check digits, give --without-check-digit"
     CASE = "a GTIN-14 is drawn as ITF-14, which labels does not draw"
 
@@ -563,11 +562,11 @@ class Numbers(TableTest):
 
     def test_numbers_of_another_symbology(self) -> None:
         wanted = {
-            SOAP: f"refused: {SOAP} has 12 digits, ean13 has 13; {self.OTHER}",
-            SMALL: f"refused: {SMALL} has 8 digits, ean13 has 13; {self.OTHER}",
+            SOAP: f"refused: {SOAP} has 12 digits, ean13 has 13; {self.LOST}",
+            SMALL: f"refused: {SMALL} has 8 digits, ean13 has 13; {self.LOST}",
         }
         self.check_cells(["--symbology", "ean13"], wanted)
-        ean13 = f"refused: {PENCIL} has 13 digits, upca has 12; {self.OTHER}"
+        ean13 = f"refused: {PENCIL} has 13 digits, upca has 12; {self.LOST}"
         self.check_cells(["--symbology", "upca"], {PENCIL: ean13})
 
     def test_other_lengths(self) -> None:
@@ -575,10 +574,10 @@ class Numbers(TableTest):
             "36000291452": f"refused: 36000291452 has 11 digits, {self.LENGTHS}; {self.LOST}",
             "36000291453": f"refused: 36000291453 has 11 digits, {self.LENGTHS}; {self.NONE}",
             "7351353": f"refused: 7351353 has 7 digits, {self.LENGTHS}; {self.NONE}",
-            "5": f"refused: 5 has 1 digit, {self.LENGTHS}",
+            "5": f"refused: 5 has 1 digit, {self.LENGTHS}; {self.NONE}",
             "12345678901234": f"refused: 12345678901234 has 14 digits, {self.LENGTHS}; {self.CASE}",
             "10614141543219": f"refused: 10614141543219 has 14 digits, {self.LENGTHS}; {self.CASE}",
-            "7" * 30: f"refused: {'7' * 20} has 30 digits, {self.LENGTHS}",
+            "7" * 30: f"refused: {'7' * 20} has 30 digits, {self.LENGTHS}; {self.LOST}",
         }
         self.check_cells([], wanted)
 
@@ -599,12 +598,12 @@ class Numbers(TableTest):
         zeros = ("0", "00000000", "0000000000", "0000000000000")
         wanted = {
             **{cell: f'refused: "{cell}" is zeros alone, which is no article\'s number' for cell in zeros},
-            "600029145": f"refused: 600029145 has 9 digits, {self.LENGTHS}",
+            "600029145": f"refused: 600029145 has 9 digits, {self.LENGTHS}; {self.NONE}",
             "": 'refused: column 1 ("code") is empty',
         }
         self.check_cells(["--fill-zeros"], wanted)
         for symbology, lengths in (("ean13", "ean13 has 13"), ("upca", "upca has 12")):
-            problem = f"{SMALL} has 8 digits, {lengths}; {self.OTHER}"
+            problem = f"{SMALL} has 8 digits, {lengths}; {self.LOST}"
             self.check_cells(["--fill-zeros", "--symbology", symbology], {SMALL: f"refused: {problem}"})
 
     def test_without_check_digit(self) -> None:

@@ -190,7 +190,7 @@ class Xlsx(WorkbookTest):
     def test_lost_zeros(self) -> None:
         data = xlsx(rows(["EAN"], [36000291452], [cell(36000291452, style=1)]), formats=["000000000000"])
         problem = "row 2: 36000291452 has 11 digits, ean8 has 8, upca has 12, ean13 has 13; "
-        problem += "if the spreadsheet has dropped zeros, give --fill-zeros"
+        problem += "give --symbology auto, or --fill-zeros where zeros in front are lost"
         self.check(data, ["--code", "EAN"], [f"upca {SOAP}"], [problem], 1)
 
     def test_numbers_as_codes(self) -> None:
@@ -439,7 +439,7 @@ class Formats(WorkbookTest):
         data = xlsx(
             rows(["EAN", "x"], [PENCIL, cell(1, style=2)], [SMALL, cell(1234.5, style=1)]), formats=["0.00", "0"]
         )
-        note = 'label-table: numbers are printed as "1234.50": if that is wrong, give --decimal , or --decimal .'
+        note = 'label-table: numbers are printed as "1234.50": is that right? else give --decimal , or .'
         for options, messages in (([], [note]), (["--decimal", "."], []), (["--text", "EAN"], [note])):
             done = support.run("label-table", "--code", "EAN", "--price", "x", *options, input=data, locale="C")
             self.assertEqual((done.returncode, support.messages(done)), (0, messages))
