@@ -107,9 +107,8 @@ def chosen(sheets: Iterator[Sheet], wanted: str | None) -> Iterator[Row]:
         raise LookupError("no sheet in it")
     if len(found) != 1:
         what = f"{len(found)} visible sheets" if wanted is None else f"no sheet {shown(wanted)}"
-        raise ToolError(
-            f"has {what} with data: give --sheet with one of {', '.join(map(shown, found or names))}", BAD_ARGUMENTS
-        )
+        listed = ", ".join(map(shown, found or names))
+        raise ToolError(f"has {what} with data: give --sheet with one of {listed}", BAD_ARGUMENTS)
 
 
 def pieces(archive: ZipFile, part: str) -> Iterator[bytes]:

@@ -159,7 +159,7 @@ class Encodings(TableTest):
 
     def test_encodings_that_are_none(self) -> None:
         for encoding in ("x", "rot13", "base64", "ä"):
-            problem = f'--encoding "{encoding}" is no name of an encoding, as cp1252'
+            problem = f'--encoding "{encoding}" is unknown: give one such as cp1252'
             self.check(f"code\n{SMALL}\n", ["--code", "code", "--encoding", encoding], [], [problem], 2)
 
     def test_encoding_told_that_the_file_contradicts(self) -> None:
@@ -172,9 +172,7 @@ class Encodings(TableTest):
         self.check("code\n5 €\n".encode("cp1252"), ["--code", "1", "--encoding", "latin-1"], [], [problem], 1)
 
     def test_files_that_are_no_text(self) -> None:
-        problem = (
-            "standard input is an old spreadsheet (.xls), XML, HTML, or has a password: save it as .xlsx without one"
-        )
+        problem = "standard input is an old .xls, XML, HTML, or has a password: save it as .xlsx, without one"
         self.check(b"\xd0\xcf\x11\xe0\xa1\xb1\x1a\xe1\0\0", ["--code", "1"], [], [problem], 1)
         for start in ("<?xml version='1.0'?><office:document>", "\n<!DOCTYPE html>", "<HTML><table>", "<table><tr>"):
             self.check(start, ["--code", "1"], [], [problem], 1)
@@ -341,7 +339,7 @@ class Columns(TableTest):
             self.check(table, ["--code", column, "--no-header"], [], [problem], 2)
 
     def test_a_number_where_row_1_may_be_an_article(self) -> None:
-        hint = "give --no-header if that is a code, --header if it is the name of the column"
+        hint = "give --no-header if that is a code, --header if it is a name"
         rows = [
             ([], f"{PENCIL};a\n{SMALL};b\n", PENCIL),
             ([], PENCIL, PENCIL),

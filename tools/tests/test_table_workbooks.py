@@ -333,7 +333,7 @@ class Xlsx(WorkbookTest):
     def test_a_number_of_a_column(self) -> None:
         data = xlsx(rows([PENCIL, "a"], [SMALL, "b"]))
         self.check(data, ["--code", "1", "--no-header"], [f"ean13 {PENCIL}", f"ean8 {SMALL}"])
-        hint = "give --no-header if that is a code, --header if it is the name of the column"
+        hint = "give --no-header if that is a code, --header if it is a name"
         self.check(data, ["--code", "1"], [], [f'row 1 has "{PENCIL}" in column 1: {hint}'], 2)
 
     def test_openpyxl_writes_what_is_read(self) -> None:
