@@ -16,9 +16,7 @@ LENGTHS = {symbology: length for length, symbology in SYMBOLOGIES.items()}
 FREE_TEXT = ("code128", "qr")
 MOST_ZEROS = 3
 # a number with decimals, or in groups of digits: those of an ISBN, and those that are printed below bars
-WITH_SIGNS = re.compile(
-    "[0-9]+[.,]0+|97[89](?:[- ]?[0-9]){10}|[0-9] [0-9]{6} [0-9]{6}|[0-9]{4} [0-9]{4}|[0-9] [0-9]{5} [0-9]{5} [0-9]"
-)
+WITH_SIGNS = re.compile(r"\d+[.,]0+|97[89](?:[- ]?\d){10}|\d \d{6} \d{6}|\d{4} \d{4}|\d \d{5} \d{5} \d")
 ISBN_10 = re.compile("(?:[0-9][- ]?){8,9}[0-9Xx]")
 # 4,00635E+12 shows at most six digits; as 4006350000000 it has six zeros before the check digit, or zeros alone
 LOOKS_ROUNDED = re.compile("[0-9]*0{6}[0-9]|(?=.{11})0*[0-9]{1,6}0+")
@@ -49,12 +47,9 @@ NO_DATA = (
 )
 NAMES = {" ": "a space", "\t": "a tab", "\n": "a line end", "\r": "a line end"}
 # what nobody sees, or reorders letters, in each kind of column, by the class and name of a character in Unicode
-UNSEEN = {
-    "code": re.compile("C[cf]|Z[lps]|.*(?:SELECTOR|FILLER|JOINER|INHERENT|PATTERN BLANK)"),
-    "price": re.compile("C[cf]|Z[lp]"),
-    "title": (in_text := re.compile("Cc|Z[lp]|Cf .*(?:EMBEDDING|OVERRIDE|ISOLATE|DIRECTIONAL)")),
-    "text": in_text,
-}
+UNSEEN_CODE = re.compile("C[cf]|Z[lps]|.*(?:SELECTOR|FILLER|JOINER|INHERENT|PATTERN BLANK)")
+UNSEEN_TEXT = re.compile("Cc|Z[lp]|Cf .*(?:EMBEDDING|OVERRIDE|ISOLATE|DIRECTIONAL)")
+UNSEEN = {"code": UNSEEN_CODE, "title": UNSEEN_TEXT, "text": UNSEEN_TEXT, "price": re.compile("C[cf]|Z[lp]")}
 
 
 class RowError(Exception):
@@ -173,10 +168,10 @@ def line_of(cell: str, arguments: argparse.Namespace) -> tuple[str, str]:
         digits = digits[2:] if symbology == "upca" and digits[1] == "0" else digits[1:]
     if symbology == "auto":
         symbology = symbology_of(digits, arguments)
-    length = LENGTHS[symbology] - missing
+    length = LENGTHS.get(symbology, 0) - missing
     filled = digits.zfill(length) if arguments.fill_zeros and len(digits) >= length - MOST_ZEROS else digits
     if len(filled) != length:
-        raise wrong_length(digits, [symbology], arguments)
+        raise wrong_length(digits, [symbology] if symbology else [*LENGTHS], arguments)
     if not missing and not is_right(filled):
         what = f"{filled}: the check digit is {filled[-1]}, should be {with_check_digit(filled[:-1])[-1]}"
         raise RowError(what + (f"; {NO_CHECK_DIGITS}" if arguments.symbology == "auto" and len(digits) == 12 else ""))
@@ -187,9 +182,8 @@ def line_of(cell: str, arguments: argparse.Namespace) -> tuple[str, str]:
 
 def digits_in(cell: str, has_check_digit: bool) -> str:
     """Returns the digits of a number; raises RowError for what is rounded, another number, zeros, or other signs."""
-    digits = cell
-    if has_check_digit and WITH_SIGNS.fullmatch(cell):  # it will confirm the digits
-        digits = re.sub("[.,]0+|[- ]", "", cell)
+    # the check digit will confirm the digits
+    digits = re.sub("[.,]0+|[- ]", "", cell) if has_check_digit and WITH_SIGNS.fullmatch(cell) else cell
     refuse_like(digits, NO_NUMBER)
     if ISBN_10.fullmatch(digits):
         ten = re.sub("[- ]", "", digits).upper().zfill(10)
@@ -203,7 +197,7 @@ def digits_in(cell: str, has_check_digit: bool) -> str:
 
 
 def symbology_of(digits: str, arguments: argparse.Namespace) -> str:
-    """Returns the symbology of a number by its digits; raises RowError where there is none, or two may be meant."""
+    """Returns the symbology of a number by its digits, if there is one; raises RowError where two may be meant."""
     missing, is_filled = arguments.without_check_digit, arguments.fill_zeros
     count = len(digits) + missing
     if digits[0] == "0" and count == 8 or is_filled and count == 7 and is_right(digits):
@@ -214,9 +208,7 @@ def symbology_of(digits: str, arguments: argparse.Namespace) -> str:
         raise RowError(f"{digits} may be an EAN-8 with zeros in front: write its 8 digits, or give --symbology")
     if is_filled and LENGTHS["ean13"] - MOST_ZEROS <= count <= LENGTHS["ean13"]:
         return "ean13"
-    if count not in SYMBOLOGIES:
-        raise wrong_length(digits, list(LENGTHS), arguments)
-    return SYMBOLOGIES[count]
+    return SYMBOLOGIES.get(count, "")
 
 
 def wrong_length(digits: str, asked: Sequence[str], arguments: argparse.Namespace) -> RowError:

@@ -1,8 +1,7 @@
 """Reads spreadsheets' own files, .xlsx (ISO/IEC 29500-1) and .ods (ISO/IEC 26300), piece by piece.
 
 A file may be hostile: a document type, and a part, a row or a nesting that no spreadsheet writes, are refused before
-they take memory. A number in .xlsx is shown as the format of its cell says (18.8.31); refused are formats of hours,
-fractions, conditions and names of days, and those that depend on the language.
+they take memory. Formats of numbers (ISO/IEC 29500-1, 18.8.31) with hours, fractions, conditions or names are too.
 """
 
 import locale
@@ -43,10 +42,7 @@ NOT_UNDERSTOOD = "has the number format {}, which is not understood: enter it ag
 SAVE_AGAIN = "open it in the spreadsheet and save it again"
 TOO_LARGE = f"has a row or another element of more than 1 MB, or elements {DEEPEST} deep: {SAVE_AGAIN}"
 # the formats that a file names by their number alone, but for those that depend on the language
-BUILT_IN = {
-    **{"0": "General", "1": "0", "2": "0.00", "3": "#,##0", "4": "#,##0.00", "9": "0%", "10": "0.00%", "49": "@"},
-    **{"37": "#,##0;(#,##0)", "38": "#,##0;(#,##0)", "39": "#,##0.00;(#,##0.00)", "40": "#,##0.00;(#,##0.00)"},
-}
+BUILT_IN = {"0": "General", "1": "0", "2": "0.00", "3": "#,##0", "4": "#,##0.00", "9": "0%", "10": "0.00%", "49": "@"}
 TOKEN = re.compile(
     r"""(?P<number>General|@|[0\#?][0\#?,]*(?:\.[0\#?]*)?(?:E\+0+)?|\.[0\#?]+) | (?P<percent>%) | (?P<end>;)
       | (?P<date>d{1,2}(?!d)|m{1,2}(?!m)|(?:yy){1,2}(?!y)) | \[\$(?P<currency>[^\]-]*)(?:-[0-9A-F]*)?\]
@@ -167,8 +163,7 @@ def rows_of(number: int, repeat: int, cells: list[str], merges: list[Merge], is_
     """Yields a row as often as it is there, with the merged cells that cross it; raises ToolError beyond limits."""
     merges[:] = [(row, place, last_row, last) for row, place, last_row, last in merges if last_row >= number]
     if number + repeat - 1 > MOST_ROWS or len(cells) > MOST_COLUMNS or len(merges) > MOST_MERGES:
-        limits = f"{MOST_ROWS} rows, {MOST_COLUMNS} columns or {MOST_MERGES} merged cells that cross a row"
-        raise ToolError(f"has more than {limits}")
+        raise ToolError(f"has more than {MOST_ROWS} rows, {MOST_COLUMNS} columns or {MOST_MERGES} merges across a row")
     for each in range(number, number + repeat):
         yield Row(each, cells, "", is_hidden, tuple(merges))
 

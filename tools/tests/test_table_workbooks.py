@@ -22,7 +22,7 @@ RELATIONS = "http://schemas.openxmlformats.org/package/2006/relationships"
 XML = '<?xml version="1.0" encoding="UTF-8" standalone="yes"?>\n'
 AGAIN = "open it in the spreadsheet and save it again"
 LARGE = f"has a row or another element of more than 1 MB, or elements 100 deep: {AGAIN}"
-LIMITS = "has more than 1048576 rows, 16384 columns or 256 merged cells that cross a row"
+LIMITS = "has more than 1048576 rows, 16384 columns or 256 merges across a row"
 DAMAGED = "label-table: standard input is damaged, or neither .xlsx nor .ods "
 ODS_SPACES = " ".join(
     f'xmlns:{prefix}="urn:oasis:names:tc:opendocument:xmlns:{name}:1.0"'
