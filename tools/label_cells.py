@@ -20,7 +20,7 @@ WITH_SIGNS = re.compile(r"\d+[.,]0+|97[89](?:[- ]?\d){10}|\d \d{6} \d{6}|\d{4} \
 ISBN_10 = re.compile("(?:[0-9][- ]?){8,9}[0-9Xx]")
 # 4,00635E+12 shows at most six digits; as 4006350000000 it has six zeros before the check digit, or zeros alone
 LOOKS_ROUNDED = re.compile("[0-9]*0{6}[0-9]|(?=.{11})0*[0-9]{1,6}0+")
-COPIES = re.compile("0*([0-9]{1,4})(?:[.,]00?)?")
+COPIES = re.compile("0*[0-9]{1,4}(?:[.,]00?)?")
 FORMULA_OF_TEXT = re.compile('="((?:[^"]|"")*)"')
 NO_CHECK_DIGITS = "if the column has no check digits, give --without-check-digit"
 NO_VALUE_TO_SHOW = "has {}, which the spreadsheet writes where it has no value to show"
@@ -45,6 +45,7 @@ NO_DATA = (
     (re.compile("(?s)\".*\"|'.*'|[“„].*[“”]|«.*»|».*«"), IS_DRAWN("quotes round the data")),
     (re.compile("(?s)'.*"), IS_DRAWN("an apostrophe in front, a spreadsheet's sign of text")),
 )
+Merge = tuple[int, int, int, int]  # merged cells: the row and the place of the first one, and of the last one
 NAMES = {" ": "a space", "\t": "a tab", "\n": "a line end", "\r": "a line end"}
 # what nobody sees, or reorders letters, in each kind of column, by the class and name of a character in Unicode
 UNSEEN_CODE = re.compile("C[cf]|Z[lps]|.*(?:SELECTOR|FILLER|JOINER|INHERENT|PATTERN BLANK)")
@@ -65,9 +66,6 @@ class Number(str):
 
     text: Callable[[], str]
     code: Callable[[], str]
-
-
-Merge = tuple[int, int, int, int]  # merged cells: the row and the place of the first one, and of the last one
 
 
 class Row(NamedTuple):
@@ -97,8 +95,7 @@ def value_of(cell: str, is_code: bool = False) -> str:
         raise RowError(cell)
     if isinstance(cell, Number):
         return cell.code() if is_code else cell.text()
-    formula = FORMULA_OF_TEXT.fullmatch(cell.strip())
-    if formula:
+    if formula := FORMULA_OF_TEXT.fullmatch(cell.strip()):
         return formula[1].replace('""', '"')
     refuse_like(cell, NO_CELL)
     return cell
@@ -110,10 +107,9 @@ def text_in(cell: str, kind: str) -> str:
     lines = [line.strip() for line in (re.split("\r\n?|\n", text) if kind in ("title", "text") else [text])]
     bare = "".join(lines)
     if kind == "copies":
-        copies = COPIES.fullmatch(bare)
-        if not copies:
+        if not COPIES.fullmatch(bare):
             raise RowError(f"is {shown(bare)}: copies are a whole number from 0 to 9999")
-        return copies[1]
+        return re.split("[.,]", bare)[0]
     if kind == "code" and not bare:
         raise RowError("is empty")
     is_seen = bare.isprintable() and (bare.isascii() or kind != "code")
@@ -190,8 +186,7 @@ def digits_in(cell: str, has_check_digit: bool) -> str:
         # ISO 2108: weights 10 to 1, X is 10; 11 divides the sum
         if sum((10 - place) * "0123456789X".index(digit) for place, digit in enumerate(ten)) % 11 == 0:
             raise RowError(f"{digits} is an ISBN of ten digits: its EAN-13 is {with_check_digit('978' + ten[:9])}")
-    other = re.search("[^0-9]", digits)
-    if other:
+    if other := re.search("[^0-9]", digits):
         raise RowError(f"{shown(digits)} is not digits alone: character {other.start() + 1} is {named(other.group())}")
     return digits
 

@@ -298,8 +298,7 @@ def ods_cells(row: Element, number: int, merges: list[Merge]) -> list[str]:
         rows, columns, repeat = [int(cell.get(name, 1)) for name in ODS_SPANS]
         if rows > 1 or columns > 1:
             merges.append((number, place, number + rows - 1, place + columns - 1))
-        text = ods_cell(cell)
-        if text:
+        if text := ods_cell(cell):
             cells += [""] * (place - len(cells)) + [text] * min(repeat, MOST_COLUMNS + 1)
         place = min(place + repeat, MOST_COLUMNS)
     return cells
