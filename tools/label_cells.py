@@ -78,7 +78,6 @@ class Row(NamedTuple):
     merges: Sequence[Merge] = ()
 
     def is_blank(self) -> bool:
-        """Whether the row has no cell with anything in it."""
         return not self.problem and not "".join(self.cells).strip()
 
     def cell(self, place: int) -> str:
@@ -177,8 +176,7 @@ def line_of(cell: str, arguments: argparse.Namespace) -> tuple[str, str]:
 
 
 def digits_in(cell: str, has_check_digit: bool) -> str:
-    """Returns the digits of a number; raises RowError for what is rounded, another number, zeros, or other signs."""
-    # the check digit will confirm the digits
+    """Returns the digits of a number, without other signs where its check digit confirms them; raises RowError."""
     digits = re.sub("[.,]0+|[- ]", "", cell) if has_check_digit and WITH_SIGNS.fullmatch(cell) else cell
     refuse_like(digits, NO_NUMBER)
     if ISBN_10.fullmatch(digits):

@@ -8,7 +8,6 @@ import locale
 import posixpath
 import re
 import zlib
-from collections import defaultdict
 from contextlib import suppress
 from datetime import date, timedelta
 from decimal import ROUND_HALF_UP, Context, Decimal
@@ -52,7 +51,6 @@ TOKEN = re.compile(
     re.IGNORECASE | re.VERBOSE | re.DOTALL,
 )
 SIGNIFICANT, EXACT = Context(prec=15), Context(prec=400)  # the digits of a number in a spreadsheet, and of any other
-FIRST_DAY, LAST_DAY = 61, 2958465  # of those that all spreadsheets count from the same day, and of the year 9999
 DAYS = {"d": "%-d", "dd": "%d", "m": "%-m", "mm": "%m", "yy": "%y", "yyyy": "%Y"}
 
 
@@ -76,10 +74,8 @@ def rows_of_workbook(data: bytes, name: str, wanted: str | None, signs: Signs) -
                 if part.file_size > LARGEST_PART:
                     raise ToolError(f"has a part of more than 256 MB, {shown(part.filename)}: {SAVE_AGAIN}")
                 has_key = part.filename == "META-INF/manifest.xml" and b"encryption-data" in archive.read(part)
-                if has_key or part.flag_bits & 1:
-                    raise ToolError("has a password: save it without one")
-                if part.compress_type not in (ZIP_STORED, ZIP_DEFLATED):
-                    raise ToolError(f"is packed as no spreadsheet does it: {SAVE_AGAIN}")
+                if has_key or part.flag_bits & 1 or part.compress_type not in (ZIP_STORED, ZIP_DEFLATED):
+                    raise ToolError("has a password, or is packed as no spreadsheet is: save it again without one")
             is_ods = "mimetype" in archive.namelist() and b"opendocument.spreadsheet" in archive.read("mimetype")
             yield from chosen(ods_sheets(archive) if is_ods else xlsx_sheets(archive, signs), wanted)
     except ToolError as error:
@@ -140,8 +136,7 @@ def elements(archive: ZipFile, part: str, path: str, *heads: str) -> Iterator[El
         for event, element in events:
             if event == "start":
                 element.tag = element.tag.rpartition("}")[2]
-                if "}" in "".join(element.keys()):
-                    element.attrib = {name.rpartition("}")[2]: value for name, value in element.items()}
+                element.attrib = {name.rpartition("}")[2]: value for name, value in element.items()}
                 around.append(element)
                 at = "" if inside else "/".join(outer.tag for outer in around if outer.tag not in GROUPS)
                 if at in heads:
@@ -183,8 +178,7 @@ def xlsx_sheets(archive: ZipFile, signs: Signs) -> Iterator[Sheet]:
     for sheet in elements(archive, workbook, "/workbook/sheets/sheet"):
         kind, path = targets[sheet.attrib["id"]]
         if kind == "worksheet":
-            is_visible = sheet.get("state", "visible") == "visible"
-            yield sheet.attrib["name"], is_visible, xlsx_rows(archive, path, read)
+            yield sheet.attrib["name"], sheet.get("state", "visible") == "visible", xlsx_rows(archive, path, read)
 
 
 def relations(archive: ZipFile, path: str) -> dict[str, tuple[str, str]]:
@@ -215,11 +209,11 @@ def xlsx_rows(archive: ZipFile, path: str, read: Callable[[Element], str]) -> It
 
 def merges_of(archive: ZipFile, path: str) -> dict[int, list[Merge]]:
     """Returns the merged cells of a sheet by their first row; reads the sheet for them only where it has the word."""
-    merges = defaultdict[int, list[Merge]](list)
+    merges: dict[int, list[Merge]] = {}
     if has_word(archive, path, b"mergeCell"):
         for element in elements(archive, path, "/worksheet/mergeCells/mergeCell"):
             corners = [(int(row), place_of(letters)) for letters, row in REFERENCE.findall(element.attrib["ref"])]
-            merges[corners[0][0]].append((*corners[0], *corners[-1]))
+            merges.setdefault(corners[0][0], []).append((*corners[0], *corners[-1]))
     return merges
 
 
@@ -279,8 +273,7 @@ def ods_rows(archive: ZipFile) -> Iterator[tuple[tuple[str, bool], Row]]:
             is_hidden = element.get("visibility", "visible") != "visible"
             repeat = int(element.get("number-rows-repeated", 1))
             if is_hidden or any(cells):
-                for row in rows_of(number, repeat, cells, merges, is_hidden):
-                    yield sheet, row
+                yield from ((sheet, row) for row in rows_of(number, repeat, cells, merges, is_hidden))
             number += repeat
 
 
@@ -338,7 +331,7 @@ def shown_number(signs: Signs, is_from_1904: bool, number_format: str, value: De
             text += by_pattern(size, part, signs)
         elif kind == "date":
             day = int(value) + (1462 if is_from_1904 else 0)
-            if not FIRST_DAY <= day <= LAST_DAY:
+            if not 61 <= day <= 2958465:  # those that all spreadsheets count from the same day
                 raise RowError("is a date before March 1900 or after 9999: enter it again as text")
             text += (date(1899, 12, 30) + timedelta(day)).strftime(DAYS[part.lower()])
         else:

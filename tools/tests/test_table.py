@@ -159,7 +159,7 @@ class Encodings(TableTest):
 
     def test_encodings_that_are_none(self) -> None:
         for encoding in ("x", "rot13", "base64", "ä"):
-            problem = f'--encoding "{encoding}" is unknown: give one such as cp1252'
+            problem = f'--encoding "{encoding}" is unknown: give one as cp1252'
             self.check(f"code\n{SMALL}\n", ["--code", "code", "--encoding", encoding], [], [problem], 2)
 
     def test_encoding_told_that_the_file_contradicts(self) -> None:

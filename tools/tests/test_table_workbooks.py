@@ -644,8 +644,8 @@ class Hostile(WorkbookTest):
             self.assertEqual((done.returncode, done.stdout), (1, b""))
             self.assertRegex(support.messages(done)[0], f"^{DAMAGED}.*{AGAIN}$")
         manifest = {"META-INF/manifest.xml": "<manifest:encryption-data/>"}
-        self.refused(ods(table(["EAN"]), extra=manifest), "has a password: save it without one")
-        problem = f"is packed as no spreadsheet does it: {AGAIN}"
+        problem = "has a password, or is packed as no spreadsheet is: save it again without one"
+        self.refused(ods(table(["EAN"]), extra=manifest), problem)
         self.refused(packed(unpacked(xlsx(self.SHEET)), zipfile.ZIP_LZMA), problem)
 
     def test_damaged_files(self) -> None:
