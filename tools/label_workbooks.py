@@ -323,7 +323,7 @@ def shown_number(signs: Signs, is_from_1904: bool, number_format: str, value: De
     place = 2 if len(sections) > 2 and value == 0 else 1 if len(sections) > 1 and value < 0 else 0
     kinds = [kind for kind, _ in sections[place]]
     values = kinds.count("number") + ("date" in kinds)
-    if values > 1 or value and not values:
+    if values > 1 or value and not values or "percent" in kinds and "number" not in kinds:
         raise RowError(NOT_UNDERSTOOD.format(shown(number_format)))
     size = abs(value).scaleb(2 if "percent" in kinds else 0)
     for kind, part in sections[place]:

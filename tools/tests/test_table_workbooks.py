@@ -423,7 +423,7 @@ class Formats(WorkbookTest):
         for number_format in not_understood:
             problem = f'has the number format "{number_format}", which is not understood: enter it again as text'
             self.assertEqual(self.shown(5, number_format), f'label-table: row 2: column 2 ("x") {problem}')
-        for number_format in ("d. mmm yyyy", "dddd", "[$-F800]dddd\\,\\ d", "yyy", "dd 0", "d%0"):
+        for number_format in ("d. mmm yyyy", "dddd", "[$-F800]dddd\\,\\ d", "yyy", "dd 0", "d%0", "d%"):
             problem = f'has the number format "{number_format}", which is not understood: enter it again as text'
             self.assertEqual(self.shown(45678, number_format), f'label-table: row 2: column 2 ("x") {problem}')
         for value in (60, -1, 2958466):
