@@ -8,52 +8,49 @@ import re
 import unicodedata
 from typing import Callable, NamedTuple, Sequence
 
-from label_command import BAD_ARGUMENTS, ToolError
 from label_file import check_digit
 
-# digits of a whole number, its check digit among them
-LENGTHS = {"ean8": 8, "upca": 12, "ean13": 13}
-TITLES = {"ean8": "EAN-8", "upca": "UPC-A", "ean13": "EAN-13"}
-FREE_TEXT = ("code128", "qr")  # the symbologies of any data
+# the symbologies of numbers, by their digits with the check digit, and those of any data
+SYMBOLOGIES = {8: "ean8", 12: "upca", 13: "ean13"}
+LENGTHS = {symbology: length for length, symbology in SYMBOLOGIES.items()}
+FREE_TEXT = ("code128", "qr")
 MOST_ZEROS = 3
-# a rounded number, 4,00635E+12, shows at most six digits; as 4006350000000 it has six zeros before the check digit
-ZEROS_OF_ROUNDED = DIGITS_OF_ROUNDED = 6
-ROUNDED = re.compile(r"[0-9]+(?:[.,][0-9]+)?E[+]?[0-9]+", re.IGNORECASE)
-ROUNDED_PLAINLY = re.compile(r"[0-9](?:[.,][0-9]+)?E[+][0-9]{2,}", re.IGNORECASE)
-IS_ROUNDED = "{}: the spreadsheet has rounded the number; format the column as text, enter it again"
 # a number with decimals, or in groups of digits: those of an ISBN, and those that are printed below bars
-WITH_DECIMALS = re.compile("([0-9]+)[.,]0+")
-IN_GROUPS = re.compile(
-    "97[89](?:[- ]?[0-9]){10}|[0-9] [0-9]{6} [0-9]{6}|[0-9]{4} [0-9]{4}|[0-9] [0-9]{5} [0-9]{5} [0-9]"
-)
+WITH_SIGNS = re.compile(r"\d+[.,]0+|97[89](?:[- ]?\d){10}|\d \d{6} \d{6}|\d{4} \d{4}|\d \d{5} \d{5} \d")
 ISBN_10 = re.compile("(?:[0-9][- ]?){8,9}[0-9Xx]")
-NO_CHECK_DIGITS = "; if the column has no check digits, give --without-check-digit"
-UNMEANT = {
-    r"(?:height|level|min-version|mask)=\S*(?: .*)?": "a setting in front (give it by --settings)",
-    r"\s.*|.*\s": "a space before or after the data",
-    "\".*\"|'.*'|[“„].*[“”]|«.*»|».*«": "quotes round the data",
-    "'.*": "an apostrophe in front, a spreadsheet's sign of text",
-}
-MOST_LETTERS = 131068
-# what a spreadsheet writes in place of a value, in its user's language: #REF!, #BEZUG!, #N/A, ####, Err:502
-SPREADSHEET_ERROR = re.compile(r"#(?:##+|N/A|N/D|NV|Н/Д|[^\s#]{1,15}[!?])|Err:[0-9]{3}")
-NO_VALUE_TO_SHOW = "has {}, which the spreadsheet writes where it has no value to show"
+# 4,00635E+12 shows at most six digits; as 4006350000000 it has six zeros before the check digit, or zeros alone
+LOOKS_ROUNDED = re.compile("[0-9]*0{6}[0-9]|(?=.{11})0*[0-9]{1,6}0+")
+COPIES = re.compile("0*[0-9]{1,4}(?:[.,]00?)?")
 FORMULA_OF_TEXT = re.compile('="((?:[^"]|"")*)"')
-COPIES = re.compile("0*([0-9]{1,4})(?:[.,]00?)?", re.ASCII)
-NAMES = {" ": "a space", "\t": "a tab", "\n": "a line end", "\r": "a line end"}
-NEXT_LINE = re.compile("\r\n?|\n")
-# marks that reorder letters, so that a text is not what it seems to be
-REORDERING = frozenset("\u202a\u202b\u202c\u202d\u202e\u2066\u2067\u2068\u2069")
-# what nobody sees though its class is that of letters and marks: joiners, fillers and variation selectors
-UNSEEN = frozenset("\u034f\u115f\u1160\u17b4\u17b5\u180b\u180c\u180d\u180e\u180f\u2800\u3164\uffa0").union(
-    map(chr, (*range(0xFE00, 0xFE10), *range(0xE0100, 0xE01F0)))
+NO_CHECK_DIGITS = "if the column has no check digits, give --without-check-digit"
+NO_VALUE_TO_SHOW = "has {}, which the spreadsheet writes where it has no value to show"
+IS_ROUNDED = "{}: the spreadsheet has rounded the number; format the column as text, enter it again"
+IS_DRAWN = "{{}} has {}, which would be drawn: take it away".format
+# what no cell may be, no number, and no data of Code 128 or QR; spreadsheets write errors in their user's language
+NO_CELL = (
+    (re.compile(r"(?s)\s*=.*"), "has {}, a formula: export its value"),
+    (re.compile(r"\s*(?:#(?:##+|N/A|N/D|NV|Н/Д|[^\s#]{1,15}[!?])|Err:[0-9]{3})\s*"), NO_VALUE_TO_SHOW),
+    (re.compile("(?s).*\ufffd.*"), "has {}, with the sign of a lost letter (U+FFFD): export the table again"),
+    (re.compile("(?s).{131069,}"), "has {}, and at most 131068 characters of a cell are read"),
 )
-
-
-class BadArgument(ToolError):
-    """An argument of the command line that does not suit this table: nothing is written."""
-
-    status = BAD_ARGUMENTS
+NO_NUMBER = (
+    (re.compile("[0-9]+(?:[.,][0-9]+)?[Ee][+]?[0-9]+"), IS_ROUNDED),
+    (re.compile("0+"), "{} is zeros alone, which is no article's number"),
+)
+SETTING = re.compile(r"(?s)(?:height|level|min-version|mask)=\S*(?: .*)?")
+NO_DATA = (
+    (re.compile("[0-9](?:[.,][0-9]+)?[Ee][+][0-9]{2,}"), IS_ROUNDED),
+    (SETTING, IS_DRAWN("a setting in front (give it by --settings)")),
+    (re.compile(r"(?s)\s.*|.*\s"), IS_DRAWN("a space before or after the data")),
+    (re.compile("(?s)\".*\"|'.*'|[“„].*[“”]|«.*»|».*«"), IS_DRAWN("quotes round the data")),
+    (re.compile("(?s)'.*"), IS_DRAWN("an apostrophe in front, a spreadsheet's sign of text")),
+)
+Merge = tuple[int, int, int, int]  # merged cells: the row and the place of the first one, and of the last one
+NAMES = {" ": "a space", "\t": "a tab", "\n": "a line end", "\r": "a line end"}
+# what nobody sees, or reorders letters, in each kind of column, by the class and name of a character in Unicode
+UNSEEN_CODE = re.compile("C[cf]|Z[lps]|.*(?:SELECTOR|FILLER|JOINER|INHERENT|PATTERN BLANK)")
+UNSEEN_TEXT = re.compile("Cc|Z[lp]|Cf .*(?:EMBEDDING|OVERRIDE|ISOLATE|DIRECTIONAL)")
+UNSEEN = {"code": UNSEEN_CODE, "title": UNSEEN_TEXT, "text": UNSEEN_TEXT, "price": re.compile("C[cf]|Z[lp]")}
 
 
 class RowError(Exception):
@@ -65,22 +62,10 @@ class Fault(str):
 
 
 class Number(str):
-    """A number in a spreadsheet's own file; as a string it is its value.
-
-    `text` returns what the spreadsheet shows, `code` the digits of a code; both raise RowError where there is none.
-    """
+    """A number in a spreadsheet, its value; `text` returns what is shown, `code` the digits of a code."""
 
     text: Callable[[], str]
     code: Callable[[], str]
-
-
-class Merge(NamedTuple):
-    """Merged cells: the row and the place of the first one, and of the last one."""
-
-    row: int
-    place: int
-    last_row: int
-    last_place: int
 
 
 class Row(NamedTuple):
@@ -93,7 +78,6 @@ class Row(NamedTuple):
     merges: Sequence[Merge] = ()
 
     def is_blank(self) -> bool:
-        """Whether the row has no cell with anything in it."""
         return not self.problem and not "".join(self.cells).strip()
 
     def cell(self, place: int) -> str:
@@ -110,59 +94,35 @@ def value_of(cell: str, is_code: bool = False) -> str:
         raise RowError(cell)
     if isinstance(cell, Number):
         return cell.code() if is_code else cell.text()
-    bare = cell.strip()
-    formula = FORMULA_OF_TEXT.fullmatch(bare)
-    if formula:
+    if formula := FORMULA_OF_TEXT.fullmatch(cell.strip()):
         return formula[1].replace('""', '"')
-    if bare.startswith("="):
-        raise RowError(f"has {shown(cell)}, a formula: export its value")
-    if SPREADSHEET_ERROR.fullmatch(bare):
-        raise RowError(NO_VALUE_TO_SHOW.format(shown(cell)))
-    if len(cell) > MOST_LETTERS:
-        raise RowError(f"has {len(cell)} characters in the cell, and at most {MOST_LETTERS} are read")
-    if "\ufffd" in cell:
-        raise RowError("has the sign of a lost letter (U+FFFD) in the cell: export the table again")
+    refuse_like(cell, NO_CELL)
     return cell
 
 
-def code_in(cell: str) -> str:
-    """Returns the cell of a code; raises RowError where it is empty, or has what nobody sees."""
-    cell = value_of(cell, is_code=True)
-    if not cell.strip():
+def text_in(cell: str, kind: str) -> str:
+    """Returns the text of a cell in a kind of column; raises RowError for what no label can show."""
+    text = str(cell) if kind == "copies" and isinstance(cell, Number) else value_of(cell, kind == "code")
+    lines = [line.strip() for line in (re.split("\r\n?|\n", text) if kind in ("title", "text") else [text])]
+    bare = "".join(lines)
+    if kind == "copies":
+        if not COPIES.fullmatch(bare):
+            raise RowError(f"is {shown(bare)}: copies are a whole number from 0 to 9999")
+        return re.split("[.,]", bare)[0]
+    if kind == "code" and not bare:
         raise RowError("is empty")
-    refuse(cell, cell.strip(), "Cc Cf Zl Zp Zs", UNSEEN)
-    return cell
+    is_seen = bare.isprintable() and (bare.isascii() or kind != "code")
+    for character in "" if is_seen else bare.replace(" ", ""):
+        if UNSEEN[kind].match(f"{unicodedata.category(character)} {unicodedata.name(character, '')}"):
+            raise RowError(f"has {named(character)} in the cell {shown(text)}, which nobody sees")
+    return text if kind == "code" else "\n".join(filter(None, lines))
 
 
-def texts_in(cell: str) -> list[str]:
-    """Returns the lines of a cell of text, without white space around them; raises RowError for what none can show."""
-    cell = value_of(cell)
-    lines = [line.strip() for line in NEXT_LINE.split(cell)]
-    refuse(cell, "".join(lines), "Cc Zl Zp", REORDERING)
-    return [line for line in lines if line]
-
-
-def price_in(cell: str) -> str:
-    """Returns a price, which is one line; raises RowError for what may make it seem to be another."""
-    cell = value_of(cell).strip()
-    refuse(cell, cell, "Cc Cf Zl Zp")
-    return cell
-
-
-def copies_in(cell: str) -> int:
-    """Returns a number of copies; raises RowError where it is not a whole one from 0 to 9,999."""
-    text = str(cell) if isinstance(cell, Number) else value_of(cell).strip()
-    match = COPIES.fullmatch(text)
-    if not match:
-        raise RowError(f"is {shown(text)}: copies are a whole number from 0 to 9999")
-    return int(match[1])
-
-
-def refuse(cell: str, part: str, classes: str, others: frozenset[str] = frozenset()) -> None:
-    """Raises RowError where a part of a cell has a character of these classes of Unicode, or another of these."""
-    for character in "" if part.isprintable() and others.isdisjoint(part) else part:
-        if unicodedata.category(character) in classes and character != " " or character in others:
-            raise RowError(f"has {named(character)} in the cell {shown(cell)}, which nobody sees")
+def refuse_like(cell: str, reasons: Sequence[tuple[re.Pattern[str], str]]) -> None:
+    """Raises RowError where a cell is like one of these patterns, with the reason."""
+    for pattern, reason in reasons:
+        if pattern.fullmatch(cell):
+            raise RowError(reason.format(shown(cell)))
 
 
 def name_of(text: str) -> str:
@@ -178,33 +138,8 @@ def shown(text: str) -> str:
 
 def named(character: str) -> str:
     """Returns a character for a message: as it is where it can be seen, with its number where it is not ASCII."""
-    if "!" <= character <= "~":
-        return f'"{character}"'
-    name = unicodedata.name(character, "control character").lower()
-    return NAMES.get(character) or f"{name} (U+{ord(character):04X})"
-
-
-def line_of(cell: str, arguments: argparse.Namespace) -> tuple[str, str]:
-    """Returns the symbology and data of a cell that is not empty; raises RowError for what is not surely that code."""
-    if arguments.symbology in FREE_TEXT:
-        return arguments.symbology, text_of(cell)
-    symbology, digits = number_of(cell.strip().removeprefix("'"), arguments)
-    body, check = (digits, "0") if arguments.without_check_digit else (digits[:-1], digits[-1])
-    zeros = len(body) - len(body.rstrip("0"))
-    is_short = check == "0" and len(body) > 9 and len(body.strip("0")) <= DIGITS_OF_ROUNDED
-    if (zeros >= ZEROS_OF_ROUNDED or is_short) and not arguments.allow_zeros:
-        raise RowError(f"{digits} looks rounded by the spreadsheet: enter it again as text, or give --allow-zeros")
-    return symbology, digits
-
-
-def text_of(cell: str) -> str:
-    """Returns the data of a Code 128 or QR; raises RowError for what labels would draw though nobody means it."""
-    if ROUNDED_PLAINLY.fullmatch(cell):
-        raise RowError(IS_ROUNDED.format(cell))
-    for pattern, what in UNMEANT.items():
-        if re.fullmatch(pattern, cell, re.DOTALL):
-            raise RowError(f"{shown(cell)} has {what}, which would be drawn: take it away")
-    return cell
+    name = f"{unicodedata.name(character, 'control character').lower()} (U+{ord(character):04X})"
+    return f'"{character}"' if "!" <= character <= "~" else NAMES.get(character, name)
 
 
 def with_check_digit(digits: str) -> str:
@@ -217,77 +152,66 @@ def is_right(digits: str) -> bool:
     return with_check_digit(digits[:-1]) == digits
 
 
-def number_of(cell: str, arguments: argparse.Namespace) -> tuple[str, str]:
-    """Returns the symbology and digits of a number, with lost zeros; raises RowError where they are not sure."""
-    has_check_digit = not arguments.without_check_digit
-    digits = digits_in(cell, arguments)
-    if len(digits) == 14 and digits[0] == "0" and is_right(digits) and has_check_digit:
-        digits = digits[2:] if arguments.symbology == "upca" and digits[1] == "0" else digits[1:]
-    symbology = arguments.symbology if arguments.symbology != "auto" else symbology_of(digits, arguments)
-    length = LENGTHS[symbology] - arguments.without_check_digit
+def line_of(cell: str, arguments: argparse.Namespace) -> tuple[str, str]:
+    """Returns the symbology and data of a cell that is not empty; raises RowError for what is not surely that code."""
+    symbology, missing = arguments.symbology, arguments.without_check_digit
+    if symbology in FREE_TEXT:
+        refuse_like(cell, NO_DATA)
+        return symbology, cell
+    digits = digits_in(cell.strip().removeprefix("'"), not missing)
+    if len(digits) == 14 and digits[0] == "0" and is_right(digits) and not missing:
+        digits = digits[2:] if symbology == "upca" and digits[1] == "0" else digits[1:]
+    if symbology == "auto":
+        symbology = symbology_of(digits, arguments)
+    length = LENGTHS.get(symbology, 0) - missing
     filled = digits.zfill(length) if arguments.fill_zeros and len(digits) >= length - MOST_ZEROS else digits
     if len(filled) != length:
-        raise wrong_length(digits, [symbology], arguments)
-    right = with_check_digit(filled[:-1])
-    if has_check_digit and filled != right:
-        hint = NO_CHECK_DIGITS if (arguments.symbology, len(digits)) == ("auto", 12) else ""
-        raise RowError(f"{filled}: the check digit is {filled[-1]}, should be {right[-1]}{hint}")
+        raise wrong_length(digits, [symbology] if symbology else [*LENGTHS], arguments)
+    if not missing and not is_right(filled):
+        what = f"{filled}: the check digit is {filled[-1]}, should be {with_check_digit(filled[:-1])[-1]}"
+        raise RowError(what + (f"; {NO_CHECK_DIGITS}" if arguments.symbology == "auto" and len(digits) == 12 else ""))
+    if LOOKS_ROUNDED.fullmatch(filled + "0" * missing) and not arguments.allow_zeros:
+        raise RowError(f"{filled} looks rounded by the spreadsheet: enter it again as text, or give --allow-zeros")
     return symbology, filled
 
 
-def digits_in(cell: str, arguments: argparse.Namespace) -> str:
-    """Returns the digits of a number; raises RowError for what is rounded, another number, zeros, or other signs."""
-    decimals, digits = WITH_DECIMALS.fullmatch(cell), cell
-    if not arguments.without_check_digit:  # it will confirm the digits
-        digits = decimals[1] if decimals else re.sub("[- ]", "", cell) if IN_GROUPS.fullmatch(cell) else cell
-    if ROUNDED.fullmatch(digits):
-        raise RowError(IS_ROUNDED.format(digits))
-    if not digits.strip("0"):
-        raise RowError(f"{digits} is zeros alone, which is no article's number")
+def digits_in(cell: str, has_check_digit: bool) -> str:
+    """Returns the digits of a number, without other signs where its check digit confirms them; raises RowError."""
+    digits = re.sub("[.,]0+|[- ]", "", cell) if has_check_digit and WITH_SIGNS.fullmatch(cell) else cell
+    refuse_like(digits, NO_NUMBER)
     if ISBN_10.fullmatch(digits):
-        ten = digits.replace("-", "").replace(" ", "").upper().zfill(10 if arguments.fill_zeros else 0)
+        ten = re.sub("[- ]", "", digits).upper().zfill(10)
         # ISO 2108: weights 10 to 1, X is 10; 11 divides the sum
-        total = sum((10 if digit == "X" else int(digit)) * (10 - place) for place, digit in enumerate(ten))
-        if len(ten) == 10 and total % 11 == 0:
+        if sum((10 - place) * "0123456789X".index(digit) for place, digit in enumerate(ten)) % 11 == 0:
             raise RowError(f"{digits} is an ISBN of ten digits: its EAN-13 is {with_check_digit('978' + ten[:9])}")
-    other = re.search("[^0-9]", digits)
-    if other:
+    if other := re.search("[^0-9]", digits):
         raise RowError(f"{shown(digits)} is not digits alone: character {other.start() + 1} is {named(other.group())}")
     return digits
 
 
 def symbology_of(digits: str, arguments: argparse.Namespace) -> str:
-    """Returns the symbology of a number by its digits; raises RowError where there is none, or two may be meant."""
-    count, missing = len(digits), int(arguments.without_check_digit)
-    lengths = {length - missing: symbology for symbology, length in LENGTHS.items()}
-    if digits[0] == "0" and count == 8 - missing or arguments.fill_zeros and count == 7 and is_right(digits):
+    """Returns the symbology of a number by its digits, if there is one; raises RowError where two may be meant."""
+    missing, is_filled = arguments.without_check_digit, arguments.fill_zeros
+    count = len(digits) + missing
+    if digits[0] == "0" and count == 8 or is_filled and count == 7 and is_right(digits):
         raise RowError(f"{digits} may be a UPC-E, which labels does not draw; an EAN-8 is --symbology ean8")
-    if missing and count in lengths and is_right(digits):
-        what = "an EAN-8" if count == 7 else "a UPC-A"
-        raise RowError(f"{digits} may be {what} with its check digit: if not, give --symbology {lengths[count]}")
-    if count > 11 and len(digits.lstrip("0")) <= 8 - missing:
+    if missing and count in SYMBOLOGIES and is_right(digits):
+        raise RowError(f"{digits} may have its check digit: if not, give --symbology {SYMBOLOGIES[count]}")
+    if count > 11 and len(digits.lstrip("0")) + missing <= 8:
         raise RowError(f"{digits} may be an EAN-8 with zeros in front: write its 8 digits, or give --symbology")
-    if arguments.fill_zeros and LENGTHS["ean13"] - MOST_ZEROS <= count <= LENGTHS["ean13"]:
+    if is_filled and LENGTHS["ean13"] - MOST_ZEROS <= count <= LENGTHS["ean13"]:
         return "ean13"
-    if count not in lengths:
-        raise wrong_length(digits, list(LENGTHS), arguments)
-    return lengths[count]
+    return SYMBOLOGIES.get(count, "")
 
 
 def wrong_length(digits: str, asked: Sequence[str], arguments: argparse.Namespace) -> RowError:
     """Returns the error of a number with other digits than its symbology has, and what to do where that is seen."""
-    count, missing, hint = len(digits), int(arguments.without_check_digit), ""
-    lengths = ", ".join(f"{TITLES[symbology]} has {LENGTHS[symbology] - missing}" for symbology in asked)
+    count, missing, hint = len(digits), arguments.without_check_digit, NO_CHECK_DIGITS
+    lengths = ", ".join(f"{symbology} has {LENGTHS[symbology] - missing}" for symbology in asked)
     if missing:
-        hint = " without check digit: give --without-check-digit only where no number has one"
+        hint = "give --without-check-digit only where no number has one"
     elif count == 14:
-        hint = "; a GTIN-14 is drawn as ITF-14, which labels does not draw"
+        hint = "a GTIN-14 is drawn as ITF-14, which labels does not draw"
     elif is_right(digits):
-        may_be = [TITLES[symbology] for symbology, length in LENGTHS.items() if length == count]
-        hint = "".join(f"; if it is {title}, give --symbology auto" for title in may_be)
-        if not arguments.fill_zeros and any(1 <= LENGTHS[symbology] - count <= MOST_ZEROS for symbology in asked):
-            hint += "; if the spreadsheet has dropped zeros, give --fill-zeros"
-    elif count + 1 in [LENGTHS[symbology] for symbology in asked]:
-        hint = NO_CHECK_DIGITS
-    short = digits if count <= 20 else digits[:17] + "..."
-    return RowError(f"{short} has {count} digit{'s' if count > 1 else ''}, {lengths}{hint}")
+        hint = "give --symbology auto, or --fill-zeros where zeros in front are lost"
+    return RowError(f"{digits:.20} has {count} digit{'s' if count > 1 else ''}, {lengths}; {hint}")

@@ -104,6 +104,7 @@ class TableTest(unittest.TestCase):
 
 
 class Encodings(TableTest):
+    FIX = "save it as UTF-8, or give its --encoding, as cp1252 for an old file of Windows, or utf-16-le"
     TEXT = f"Nummer;Größe;Name\r\n{PENCIL};ß;Käse\r\n{SMALL};ü;Öl €\r\n"
     ARGUMENTS = ("--code", "Nummer", "--title", "Name", "--text", "Größe")
 
@@ -134,8 +135,9 @@ class Encodings(TableTest):
     def test_utf16_without_mark(self) -> None:
         self.check_letters(self.TEXT.encode("utf-16-le"), "--encoding", "utf-16-le")
         self.check_letters(self.TEXT.encode("utf-16-be"), "--encoding", "utf-16-be")
-        problem = "standard input has zero bytes: save it as UTF-8, or give --encoding utf-16-le or utf-16-be"
+        problem = f"standard input is not UTF-8, as line 1 shows: {self.FIX}"
         self.check(self.TEXT.encode("utf-16-le"), ["--code", "1"], [], [problem], 1)
+        self.check("code\n1\n".encode("utf-16-le"), ["--code", "1"], [], [problem], 1)
 
     def test_one_byte_encodings_when_told(self) -> None:
         self.check_letters(self.TEXT.encode("cp1252"), "--encoding", "cp1252")
@@ -148,18 +150,17 @@ class Encodings(TableTest):
         )
 
     def test_bytes_that_do_not_decode(self) -> None:
-        fix = "save it as UTF-8, or give its --encoding, cp1252 for an old file of Windows"
-        problem = f"standard input is not UTF-8, as line 3 shows: {fix}"
+        problem = f"standard input is not UTF-8, as line 3 shows: {self.FIX}"
         self.check(f"code;name\r\n{PENCIL};a\r\n{SMALL};K".encode() + b"\xe4se", ["--code", "1"], [], [problem], 1)
-        problem = f"standard input is not UTF-16, or it is cut off: {fix}"
+        problem = f"standard input is not UTF-16-LE, as line 1 shows: {self.FIX}"
         self.check(b"\xff\xfea", ["--code", "1"], [], [problem], 1)
-        problem = f"standard input is not CP1252, as line 2 shows: {fix}"
+        problem = f"standard input is not CP1252, as line 2 shows: {self.FIX}"
         self.check(b"code\n\x81\n", ["--code", "1", "--encoding", "windows-1252"], [], [problem], 1)
 
     def test_encodings_that_are_none(self) -> None:
         for encoding in ("x", "rot13", "base64", "ä"):
-            text = f'--encoding "{encoding}" is no name of an encoding, as latin-1 or cp1252'
-            self.check_usage(["--code", "code", "--encoding", encoding], text)
+            problem = f'--encoding "{encoding}" is unknown: give one as cp1252'
+            self.check(f"code\n{SMALL}\n", ["--code", "code", "--encoding", encoding], [], [problem], 2)
 
     def test_encoding_told_that_the_file_contradicts(self) -> None:
         for encoding in ("latin-1", "cp1252", "cp850", "mac-roman", "koi8-r", "shift_jis", "gb18030"):
@@ -167,13 +168,12 @@ class Encodings(TableTest):
             arguments = ["--code", "code", "--symbology", "qr", "--encoding", encoding]
             self.check("code\nKäse\n", arguments, [], [problem], 2)
             self.check("\ufeffcode\nabc\n", arguments, [], [problem], 2)
-        problem = "standard input has bytes from 0x80 to 0x9f, no letters of Latin-1: give --encoding cp1252"
+        problem = f"standard input is not ISO8859-1, as line 2 shows: {self.FIX}"
         self.check("code\n5 €\n".encode("cp1252"), ["--code", "1", "--encoding", "latin-1"], [], [problem], 1)
 
     def test_files_that_are_no_text(self) -> None:
-        problem = "standard input is an old spreadsheet (.xls), or has a password: save it as .xlsx, without one"
+        problem = "standard input is an old .xls, XML, HTML, or has a password: save it as .xlsx, without one"
         self.check(b"\xd0\xcf\x11\xe0\xa1\xb1\x1a\xe1\0\0", ["--code", "1"], [], [problem], 1)
-        problem = "standard input is XML or HTML: save the table as .xlsx, .ods or CSV"
         for start in ("<?xml version='1.0'?><office:document>", "\n<!DOCTYPE html>", "<HTML><table>", "<table><tr>"):
             self.check(start, ["--code", "1"], [], [problem], 1)
 
@@ -244,7 +244,9 @@ class Cells(TableTest):
         long = "x" * 131073
         table = f"code;name\n{SMALL};{long}\n{PENCIL};b\n"
         self.check(table, ["--code", "code"], [f"ean8 {SMALL}", f"ean13 {PENCIL}"])
-        problem = 'row 2: column 2 ("name") has 131073 characters in the cell, and at most 131068 are read'
+        problem = (
+            'row 2: column 2 ("name") has "' + "x" * 37 + '...", and at most 131068 characters of a cell are read'
+        )
         self.check(table, ["--code", "code", "--text", "name"], [f"ean13 {PENCIL}"], [problem], 1)
         self.check(
             f'code;name\n{SMALL};"{long}\n"\n{PENCIL};b\n', ["--code", "1"], [f"ean8 {SMALL}", f"ean13 {PENCIL}"]
@@ -286,7 +288,7 @@ class Cells(TableTest):
             "A\u31641": title + 'hangul filler (U+3164) in the cell "A\u31641", which nobody sees',
             "A\u20281": f'{title}line separator (U+2028) in the cell "A<U+2028>1", {unseen}',
             "=A1": title + '"=A1", a formula: export its value',
-            "K\ufffdse": title + "the sign of a lost letter (U+FFFD) in the cell: export the table again",
+            "K\ufffdse": title + '"K\ufffdse", with the sign of a lost letter (U+FFFD): export the table again',
             **{
                 cell: f'{title}"{cell}", {error}'
                 for cell in ("#REF!", "#N/A", "#WERT!", "#DIV/0!", "####", "Err:502", "#ЗНАЧ!")
@@ -337,7 +339,7 @@ class Columns(TableTest):
             self.check(table, ["--code", column, "--no-header"], [], [problem], 2)
 
     def test_a_number_where_row_1_may_be_an_article(self) -> None:
-        hint = "give --no-header if that is a code, --header if it is the name of the column"
+        hint = "give --no-header if that is a code, --header if it is a name"
         rows = [
             ([], f"{PENCIL};a\n{SMALL};b\n", PENCIL),
             ([], PENCIL, PENCIL),
@@ -532,8 +534,8 @@ class Texts(TableTest):
 
 
 class Numbers(TableTest):
-    LENGTHS = "EAN-8 has 8, UPC-A has 12, EAN-13 has 13"
-    LOST = "if the spreadsheet has dropped zeros, give --fill-zeros"
+    LENGTHS = "ean8 has 8, upca has 12, ean13 has 13"
+    LOST = "give --symbology auto, or --fill-zeros where zeros in front are lost"
     NONE = "if the column has no check digits, give --without-check-digit"
     CASE = "a GTIN-14 is drawn as ITF-14, which labels does not draw"
 
@@ -557,13 +559,12 @@ class Numbers(TableTest):
         self.check_cells([], wanted)
 
     def test_numbers_of_another_symbology(self) -> None:
-        ean8 = "if it is EAN-8, give --symbology auto"
         wanted = {
-            SOAP: f"refused: {SOAP} has 12 digits, EAN-13 has 13; if it is UPC-A, give --symbology auto; {self.LOST}",
-            SMALL: f"refused: {SMALL} has 8 digits, EAN-13 has 13; {ean8}",
+            SOAP: f"refused: {SOAP} has 12 digits, ean13 has 13; {self.LOST}",
+            SMALL: f"refused: {SMALL} has 8 digits, ean13 has 13; {self.LOST}",
         }
         self.check_cells(["--symbology", "ean13"], wanted)
-        ean13 = f"refused: {PENCIL} has 13 digits, UPC-A has 12; if it is EAN-13, give --symbology auto"
+        ean13 = f"refused: {PENCIL} has 13 digits, upca has 12; {self.LOST}"
         self.check_cells(["--symbology", "upca"], {PENCIL: ean13})
 
     def test_other_lengths(self) -> None:
@@ -571,10 +572,10 @@ class Numbers(TableTest):
             "36000291452": f"refused: 36000291452 has 11 digits, {self.LENGTHS}; {self.LOST}",
             "36000291453": f"refused: 36000291453 has 11 digits, {self.LENGTHS}; {self.NONE}",
             "7351353": f"refused: 7351353 has 7 digits, {self.LENGTHS}; {self.NONE}",
-            "5": f"refused: 5 has 1 digit, {self.LENGTHS}",
+            "5": f"refused: 5 has 1 digit, {self.LENGTHS}; {self.NONE}",
             "12345678901234": f"refused: 12345678901234 has 14 digits, {self.LENGTHS}; {self.CASE}",
             "10614141543219": f"refused: 10614141543219 has 14 digits, {self.LENGTHS}; {self.CASE}",
-            "7" * 30: f"refused: {'7' * 17}... has 30 digits, {self.LENGTHS}",
+            "7" * 30: f"refused: {'7' * 20} has 30 digits, {self.LENGTHS}; {self.LOST}",
         }
         self.check_cells([], wanted)
 
@@ -594,13 +595,13 @@ class Numbers(TableTest):
     def test_fill_zeros_adds_at_most_three(self) -> None:
         zeros = ("0", "00000000", "0000000000", "0000000000000")
         wanted = {
-            **{cell: f"refused: {cell} is zeros alone, which is no article's number" for cell in zeros},
-            "600029145": f"refused: 600029145 has 9 digits, {self.LENGTHS}",
+            **{cell: f'refused: "{cell}" is zeros alone, which is no article\'s number' for cell in zeros},
+            "600029145": f"refused: 600029145 has 9 digits, {self.LENGTHS}; {self.NONE}",
             "": 'refused: column 1 ("code") is empty',
         }
         self.check_cells(["--fill-zeros"], wanted)
-        for symbology, lengths in (("ean13", "EAN-13 has 13"), ("upca", "UPC-A has 12")):
-            problem = f"{SMALL} has 8 digits, {lengths}; if it is EAN-8, give --symbology auto"
+        for symbology, lengths in (("ean13", "ean13 has 13"), ("upca", "upca has 12")):
+            problem = f"{SMALL} has 8 digits, {lengths}; {self.LOST}"
             self.check_cells(["--fill-zeros", "--symbology", symbology], {SMALL: f"refused: {problem}"})
 
     def test_without_check_digit(self) -> None:
@@ -615,10 +616,10 @@ class Numbers(TableTest):
 
     def test_without_check_digit_a_number_that_has_lost_a_zero_may_have_its_check_digit(self) -> None:
         # 01234565 and 036000291452 without their first digit: the last one is still their check digit
-        either = "with its check digit: if not, give --symbology"
+        either = "may have its check digit: if not, give --symbology"
         wanted = {
-            "1234565": f"refused: 1234565 may be an EAN-8 {either} ean8",
-            "36000291452": f"refused: 36000291452 may be a UPC-A {either} upca",
+            "1234565": f"refused: 1234565 {either} ean8",
+            "36000291452": f"refused: 36000291452 {either} upca",
         }
         self.check_cells(["--without-check-digit"], wanted)
         for symbology, number in (("ean8", "1234565"), ("upca", "36000291452")):
@@ -626,16 +627,14 @@ class Numbers(TableTest):
             self.check_cells(arguments, {number: f"{symbology} {number}"})
 
     def test_without_check_digit_refuses_a_whole_number(self) -> None:
-        fix = "without check digit: give --without-check-digit only where no number has one"
-        for title, number in (("EAN-13", PENCIL), ("EAN-8", SMALL), ("UPC-A", SOAP)):
-            symbology = title.replace("-", "").lower()
+        fix = "give --without-check-digit only where no number has one"
+        for symbology, number in (("ean13", PENCIL), ("ean8", SMALL), ("upca", SOAP)):
             count = len(number)
-            problem = f"{number} has {count} digits, {title} has {count - 1} {fix}"
+            problem = f"{number} has {count} digits, {symbology} has {count - 1}; {fix}"
             self.check_cells(["--symbology", symbology, "--without-check-digit"], {number: f"refused: {problem}"})
-        either = "may be a UPC-A with its check digit: if not, give --symbology ean13"
         wanted = {
-            SMALL: f"refused: {SMALL} has 8 digits, EAN-8 has 7, UPC-A has 11, EAN-13 has 12 {fix}",
-            SOAP: f"refused: {SOAP} {either}",
+            SMALL: f"refused: {SMALL} has 8 digits, ean8 has 7, upca has 11, ean13 has 12; {fix}",
+            SOAP: f"refused: {SOAP} may have its check digit: if not, give --symbology ean13",
         }
         self.check_cells(["--without-check-digit"], wanted)
         self.check_cells(["--without-check-digit", "--symbology", "ean13"], {SOAP: f"ean13 {SOAP}"})
@@ -643,9 +642,9 @@ class Numbers(TableTest):
     def test_rounded_by_the_spreadsheet(self) -> None:
         rest = "the spreadsheet has rounded the number; format the column as text, enter it again"
         cells = ("4,00638E+12", "4.00638E+12", "4E+12", "4,006381333931e12")
-        self.check_cells([], {cell: f"refused: {cell}: {rest}" for cell in cells})
+        self.check_cells([], {cell: f'refused: "{cell}": {rest}' for cell in cells})
         for symbology in ("code128", "qr"):
-            wanted = {"4,00638E+12": f"refused: 4,00638E+12: {rest}", "1E10": f"{symbology} 1E10"}
+            wanted = {"4,00638E+12": f'refused: "4,00638E+12": {rest}', "1E10": f"{symbology} 1E10"}
             self.check_cells(["--symbology", symbology], wanted)
 
     def test_numbers_that_may_have_been_rounded(self) -> None:
@@ -803,7 +802,7 @@ class Data(TableTest):
             ask = f"give --delimiter {option} if it is between cells, --delimiter none if it is data"
             table = f"code\nLOT 6\nLOT 7{delimiter}Name\n"
             arguments = ["--code", "code", "--symbology", "code128"]
-            self.check(table, arguments, [], [f"row 1 is one cell, and row 3 has {name}: {ask}"], 2)
+            self.check(table, arguments, [], [f"row 3 has {name}: {ask}"], 2)
         lines = ["code128 LOT 6", "code128 LOT 7;Name"]
         self.check("code\nLOT 6\nLOT 7;Name\n", [*arguments, "--delimiter", "none"], lines)
         self.check('code\nLOT 6\n"LOT 7;Name"\n', arguments, lines)
@@ -832,15 +831,14 @@ class Arguments(TableTest):
         signs = "argument --decimal: invalid choice: ';' (choose from ',', '.')"
         self.check_usage(["--code", "1", "--decimal", ";"], signs)
         for argument in (";;", "", '"', " ", "ä"):
-            text = f'--delimiter "{argument}" is no character of ASCII that may cut cells, tab or none'
+            text = f'--delimiter "{argument}" is not tab, none or a character that may cut cells'
             self.check_usage(["--code", "1", "--delimiter", argument], text)
 
     def test_arguments_that_do_not_go_together(self) -> None:
+        text = "--fill-zeros, --without-check-digit and --symbology code128 or qr do not go together"
         for symbology in ("code128", "qr"):
             for argument in ("--fill-zeros", "--without-check-digit"):
-                text = "--fill-zeros and --without-check-digit are for EAN and UPC"
                 self.check_usage(["--code", "1", "--symbology", symbology, argument], text)
-        text = "--fill-zeros needs the check digit, which shows whether the zeros are right"
         self.check_usage(["--code", "1", "--fill-zeros", "--without-check-digit"], text)
 
     def test_bad_settings(self) -> None:

@@ -22,7 +22,7 @@ RELATIONS = "http://schemas.openxmlformats.org/package/2006/relationships"
 XML = '<?xml version="1.0" encoding="UTF-8" standalone="yes"?>\n'
 AGAIN = "open it in the spreadsheet and save it again"
 LARGE = f"has a row or another element of more than 1 MB, or elements 100 deep: {AGAIN}"
-LIMITS = "has more than 1048576 rows, 16384 columns or 256 merged cells that cross a row"
+LIMITS = "has more than 1048576 rows, 16384 columns or 256 merges across a row"
 DAMAGED = "label-table: standard input is damaged, or neither .xlsx nor .ods "
 ODS_SPACES = " ".join(
     f'xmlns:{prefix}="urn:oasis:names:tc:opendocument:xmlns:{name}:1.0"'
@@ -189,8 +189,8 @@ class Xlsx(WorkbookTest):
 
     def test_lost_zeros(self) -> None:
         data = xlsx(rows(["EAN"], [36000291452], [cell(36000291452, style=1)]), formats=["000000000000"])
-        problem = "row 2: 36000291452 has 11 digits, EAN-8 has 8, UPC-A has 12, EAN-13 has 13; "
-        problem += "if the spreadsheet has dropped zeros, give --fill-zeros"
+        problem = "row 2: 36000291452 has 11 digits, ean8 has 8, upca has 12, ean13 has 13; "
+        problem += "give --symbology auto, or --fill-zeros where zeros in front are lost"
         self.check(data, ["--code", "EAN"], [f"upca {SOAP}"], [problem], 1)
 
     def test_numbers_as_codes(self) -> None:
@@ -199,14 +199,16 @@ class Xlsx(WorkbookTest):
         lines = {cell(number, style=style): f"ean13 {PENCIL}" for style in (0, 1, 2, 3, 6)}
         lines["<c><v>4.006381333931E12</v></c>"] = lines["<c><v>4006381333931.0</v></c>"] = f"ean13 {PENCIL}"
         self.check_codes(lines, "auto", formats)
-        again, language = "enter it again as text", '"of the language", which is not understood'
+        again = "enter it again as text"
         texts = {
             cell(7, style=8): "code128 0007",
             cell(7): "code128 7",
-            cell(7, style=5): f'refused: is a number or a date with the format ""LOT "0": {again}',
-            cell(7, style=9): 'refused: has the number format "000\\-000", which is not understood: format it as text',
-            cell(45678, style=4): f'refused: is a number or a date with the format "dd/mm/yyyy": {again}',
-            cell(45678, style=7): f"refused: has the number format {language}: format it as text",
+            cell(7, style=5): f'refused: has the number format ""LOT "0", which is not understood: {again}',
+            cell(7, style=9): f'refused: has the number format "000\\-000", which is not understood: {again}',
+            cell(45678, style=4): f'refused: has the number format "dd/mm/yyyy", which is not understood: {again}',
+            cell(
+                45678, style=7
+            ): f'refused: has the number format "of the language", which is not understood: {again}',
             cell(1.5): f"refused: is the number 1.5, which is not whole or has too many digits: {again}",
             cell(10**15): f"refused: is the number {10**15}, which is not whole or has too many digits: {again}",
         }
@@ -214,15 +216,15 @@ class Xlsx(WorkbookTest):
 
     def test_cells_that_have_no_value(self) -> None:
         no_value = "has a formula without a saved value: open the table in the spreadsheet and save it"
-        kind = "is of a kind that is not read: enter it again as text"
+        kind = "has neither a text nor a number, but TRUE, FALSE or the like: enter it again as text"
         error = 'has "#REF!", which the spreadsheet writes where it has no value to show'
         cells = {
             "<c><f>A1</f></c>": f"refused: {no_value}",
             "<c><f>A1</f><v></v></c>": f"refused: {no_value}",
             "<c><f>A1</f><v/></c>": f"refused: {no_value}",
             '<c t="e"><f>A1</f><v>#REF!</v></c>': f"refused: {error}",
-            '<c t="b"><v>1</v></c>': "refused: has a truth value (TRUE, FALSE): write it as text",
-            '<c t="d"><v>2026-11-25</v></c>': f'refused: has "2026-11-25", which {kind}',
+            '<c t="b"><v>1</v></c>': f"refused: {kind}",
+            '<c t="d"><v>2026-11-25</v></c>': f"refused: {kind}",
             f'<c t="str"><f>A1</f><v>{PENCIL}</v></c>': f"ean13 {PENCIL}",
             f"<c><f>A1</f><v>{PENCIL}</v></c>": f"ean13 {PENCIL}",
         }
@@ -259,7 +261,7 @@ class Xlsx(WorkbookTest):
         self.refused(xlsx(rows(["EAN"]) + rows(["EAN"])), f"has row 1 or a cell of it out of order: {AGAIN}")
         lines = f'<row r="1">{cell("EAN", "B1")}{cell("x", "A1")}</row>'
         self.refused(xlsx(lines), f"has row 1 or a cell of it out of order: {AGAIN}")
-        self.refused(xlsx(f'<row r="1">{cell("EAN", "1")}</row>'), 'has the reference "1", which is no cell')
+        self.refused(xlsx(f'<row r="1">{cell("EAN", "1")}</row>'), f"has row 1 or a cell of it out of order: {AGAIN}")
 
     def test_prefixes_and_strict_namespaces(self) -> None:
         sheet = rows(["EAN"], [PENCIL])
@@ -319,7 +321,7 @@ class Xlsx(WorkbookTest):
         self.refused(data, 'has 2 visible sheets with data: give --sheet with one of "Tabelle1", "Preise"', status=2)
         self.assertEqual(self.found(data, "--sheet", "Preise"), [({"row": 2}, f"ean8 {SMALL}")])
         names = '"Tabelle1", "leer", "alt", "sehr alt", "Preise"'
-        problem = f'has no sheet "preise": give --sheet with one of {names}'
+        problem = f'has no sheet "preise" with data: give --sheet with one of {names}'
         self.refused(data, problem, "--sheet", "preise", status=2)
         problem = 'has 0 visible sheets with data: give --sheet with one of "Tabelle1", "x"'
         self.refused(xlsx("", ("x", "visible", "")), problem, status=2)
@@ -331,7 +333,7 @@ class Xlsx(WorkbookTest):
     def test_a_number_of_a_column(self) -> None:
         data = xlsx(rows([PENCIL, "a"], [SMALL, "b"]))
         self.check(data, ["--code", "1", "--no-header"], [f"ean13 {PENCIL}", f"ean8 {SMALL}"])
-        hint = "give --no-header if that is a code, --header if it is the name of the column"
+        hint = "give --no-header if that is a code, --header if it is a name"
         self.check(data, ["--code", "1"], [], [f'row 1 has "{PENCIL}" in column 1: {hint}'], 2)
 
     def test_openpyxl_writes_what_is_read(self) -> None:
@@ -419,15 +421,15 @@ class Formats(WorkbookTest):
             "x",
         ]
         for number_format in not_understood:
-            problem = f'has the number format "{number_format}", which is not understood: format it as text'
+            problem = f'has the number format "{number_format}", which is not understood: enter it again as text'
             self.assertEqual(self.shown(5, number_format), f'label-table: row 2: column 2 ("x") {problem}')
-        for number_format, field in (("d. mmm yyyy", "mmm"), ("dddd", "dddd"), ("[$-F800]dddd\\,\\ d", "dddd")):
-            problem = f'is a date with names of days or months, "{field}", or before March 1900: format it as text'
+        for number_format in ("d. mmm yyyy", "dddd", "[$-F800]dddd\\,\\ d", "yyy", "dd 0", "d%0", "d%"):
+            problem = f'has the number format "{number_format}", which is not understood: enter it again as text'
             self.assertEqual(self.shown(45678, number_format), f'label-table: row 2: column 2 ("x") {problem}')
         for value in (60, -1, 2958466):
-            problem = 'is a date with names of days or months, "d", or before March 1900: format it as text'
+            problem = "is a date before March 1900 or after 9999: enter it again as text"
             self.assertEqual(self.shown(value, "d"), f'label-table: row 2: column 2 ("x") {problem}')
-        problem = 'has the number format "of the language", which is not understood: format it as text'
+        problem = 'has the number format "of the language", which is not understood: enter it again as text'
         for number in (14, 22, 44, 999):
             self.assertEqual(self.shown(5, number), f'label-table: row 2: column 2 ("x") {problem}')
         problem = "is the number 0.333333333333333 without a number of decimals: give it a format such as 0.00"
@@ -437,7 +439,7 @@ class Formats(WorkbookTest):
         data = xlsx(
             rows(["EAN", "x"], [PENCIL, cell(1, style=2)], [SMALL, cell(1234.5, style=1)]), formats=["0.00", "0"]
         )
-        note = 'label-table: numbers are printed as "1234.50": if that is wrong, give --decimal , or --decimal .'
+        note = 'label-table: numbers are printed as "1234.50": is that right? else give --decimal , or .'
         for options, messages in (([], [note]), (["--decimal", "."], []), (["--text", "EAN"], [note])):
             done = support.run("label-table", "--code", "EAN", "--price", "x", *options, input=data, locale="C")
             self.assertEqual((done.returncode, support.messages(done)), (0, messages))
@@ -472,7 +474,7 @@ class Ods(WorkbookTest):
             ): 'is shown as "25.11.26", which is no whole number: enter it again as text',
             ods_cell(
                 "WAHR", "boolean", 'office:boolean-value="true"'
-            ): "has a truth value (TRUE, FALSE): write it as text",
+            ): "has neither a text nor a number, but TRUE, FALSE or the like: enter it again as text",
             ods_cell(
                 "#NV", "string", 'calcext:value-type="error"'
             ): 'has "#NV", which the spreadsheet writes where it has no value to show',
@@ -642,8 +644,8 @@ class Hostile(WorkbookTest):
             self.assertEqual((done.returncode, done.stdout), (1, b""))
             self.assertRegex(support.messages(done)[0], f"^{DAMAGED}.*{AGAIN}$")
         manifest = {"META-INF/manifest.xml": "<manifest:encryption-data/>"}
-        self.refused(ods(table(["EAN"]), extra=manifest), "has a password: save it without one")
-        problem = f"is packed as no spreadsheet does it: {AGAIN}"
+        problem = "has a password, or is packed as no spreadsheet is: save it again without one"
+        self.refused(ods(table(["EAN"]), extra=manifest), problem)
         self.refused(packed(unpacked(xlsx(self.SHEET)), zipfile.ZIP_LZMA), problem)
 
     def test_damaged_files(self) -> None:
