@@ -1,6 +1,5 @@
 pub mod BestChoiceLaws
 pub mod ByteChoiceLaws
-pub mod BestListLaws
 pub mod BitStringLaws
 pub mod BlockLaws
 pub mod BlockStepLaws
@@ -12,16 +11,13 @@ pub mod ChoiceLimitLaws
 pub mod InterleavingLaws
 pub mod Examples
 pub mod FewestBitsLaws
-pub mod CheapestLaws
 pub mod LengthLaws
-pub mod MembershipLaws
 pub mod PaddingLaws
 pub mod PayloadStepLaws
 pub mod PayloadLaws
 pub mod PlanLaws
 pub mod DataReadingLaws
 pub mod CodewordByteLaws
-pub mod RunLaws
 pub mod SameWidthLaws
 pub mod SegmentReadingLaws
 pub mod SmallChoiceLaws
