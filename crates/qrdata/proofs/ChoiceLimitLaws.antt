@@ -14,10 +14,7 @@ use Rattle.qrdata.specs.Private.Table.{choices_of, fewest_bits}
 use Rattle.qrdata.proofs.BestChoiceLaws.{best-front, best-le, fewest_bits-le_cost}
 use Rattle.qrdata.proofs.FewestBitsLaws.{chosen_segments-best, chosen_segments-is, chosen_segments-nil}
 use Rattle.qrdata.proofs.FewestBitsLaws.{continued, cost-continued}
-
--- the data bits of the greatest version whose character counts are as wide
-abbrev pub widest : ℕ → ℕ
-widest version = cond (nat_lt (count_width version Byte) 16) 1856 2192
+use Rattle.qrdata.proofs.VersionLaws.{widest}
 
 -- a segment that fits is below the limit of its character count
 short_enough : (version : ℕ) (mode : Mode) (n : ℕ) → segment_length version (segment_of mode n) ≤ widest version

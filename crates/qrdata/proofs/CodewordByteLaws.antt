@@ -14,7 +14,7 @@ use Rattle.qrdata.proofs.DataReadingLaws.{AreBytes-append, AreBytes-data_codewor
 use Rattle.qrdata.proofs.DataReadingLaws.{HasEcCodewords-from_law}
 use Rattle.qrdata.proofs.InterleavingLaws.{Blocks, longest}
 use Rattle.qrdata.proofs.PayloadLaws.{AreBytes}
-use Rattle.qrdata.proofs.VersionLaws.{HasSoundBlocks-of}
+use Rattle.qrdata.proofs.VersionLaws.{IsSound-of}
 
 byte_at : (block : List ℕ) (place : ℕ) → AreBytes block → IfSome (slice_get block place) (λ b. b < 256)
 byte_at [] place w = tt
@@ -59,7 +59,7 @@ AreBytes-symbol_codewords version level segments bytes low high =
     let bits = segments_bits version segments bytes in
     let blocks = split_by (block_lengths version level) (data_codewords_of size bits) in
     let law = HasEcCodewords-from_law IsRemainder-ec_codewords_of HasRoots-remainder k
-    (HasSoundBlocks-of version level low high).some_ec_codewords in
+    (IsSound-of version level (low, high)).some_ec_codewords in
     let w = AreBytes-split (block_lengths version level) (data_codewords_of size bits)
     (AreBytes-data_codewords_of size bits) in
     AreBytes-append (interleaving blocks) (interleaving (map (ec_codewords_of k) blocks))

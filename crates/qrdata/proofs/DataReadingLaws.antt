@@ -28,7 +28,7 @@ use Rattle.qrdata.proofs.InterleavingLaws.{Blocks, deinterleaving-interleaving}
 use Rattle.qrdata.proofs.LengthLaws.{count_below_cost, length-segments_bits}
 use Rattle.qrdata.proofs.PaddingLaws.{length-data_codewords_of, data_codewords_of-ends}
 use Rattle.qrdata.proofs.PayloadLaws.{AreBytes}
-use Rattle.qrdata.proofs.VersionLaws.{HasSoundBlocks-of, data_codewords-add_ec_codewords}
+use Rattle.qrdata.proofs.VersionLaws.{IsSound-of}
 use Rattle.qrdata.proofs.SegmentReadingLaws.{AreBytes-take, AreBytes-drop, segments_at-segments_bits}
 
 -- the error correction codewords of a block: they have the right number, and with them the block is a multiple of its
@@ -137,7 +137,7 @@ IsDealtBack-of version level codewords low high w size_is law =
     let ec_length : length (interleaving ec_blocks) ≡ block_count version level * k =
     length-interleaving ec_blocks ∙ (ap sum ec_shapes
     ∙ (sum_by-replicate (λ x. x) (length lengths) k ∙ ap (λ n. n * k) shapes.1)) in
-    let total = data_codewords-add_ec_codewords version level low high in record {
+    let total = (IsSound-of version level (low, high)).all in record {
       total = omega (arith, length-append (interleaving blocks) (interleaving ec_blocks), total);
       blocks = rw (take_front (data_codewords version level) (interleaving blocks) (interleaving ec_blocks) data_length)
           (rw block_shapes at (deinterleaving-interleaving blocks));
@@ -160,7 +160,7 @@ data_in-symbol_codewords version level segments bytes low high w cut fits remain
     let lengths = block_lengths version level in
     let bits = segments_bits version segments bytes in
     let codewords = data_codewords_of size bits in
-    let law = HasEcCodewords-from_law remainder codeword k (HasSoundBlocks-of version level low high).some_ec_codewords in
+    let law = HasEcCodewords-from_law remainder codeword k (IsSound-of version level (low, high)).some_ec_codewords in
     let bits_fit : length bits ≤ 8 * size = omega (arith, length-segments_bits version segments bytes cut, fits) in
     let size_is : length codewords ≡ size = length-data_codewords_of size bits bits_fit in
     let are_bytes = AreBytes-data_codewords_of size bits in

@@ -1,8 +1,7 @@
 -- A table of best first segments, from the shortest rest on, is right in all versions whose character counts are as wide.
 use Rattle.std.proofs.Common.{◌≡◌, ℕ, zero, suc, [], ◌++◌, ◌+◌, ◌-◌, ◌<◌, ◌≤◌, List, ◌∷◌, drop, length, get_or, refl}
-use Rattle.std.proofs.Common.{sym, subst, ap, ◌∙◌, arith, inl, inr, cond}
+use Rattle.std.proofs.Common.{sym, subst, ap, ◌∙◌, arith, cond}
 use Rattle.std.specs.Prelude.{slice_get, Some, nat_lt}
-use Rattle.std.proofs.lemmas.Bool.{cases_lt, lt-ltb}
 use Rattle.std.proofs.lemmas.List.{get_or_append_left, length-append}
 use Rattle.std.proofs.Math.Seq.{get_or-append_seam}
 use Rattle.std.proofs.lemmas.List.{drop-drop, drop_all, drop_more, length-drop}
@@ -17,10 +16,10 @@ use Rattle.qrdata.specs.Segments.{IsSegmentation, cost, segment_length}
 use Rattle.qrdata.specs.Private.Table.{choices_of, fewest_bits, firsts_of, next_choices, no_choices}
 use Rattle.qrdata.specs.Versions.{capacity}
 use Rattle.qrdata.proofs.BestChoiceLaws.{fewest_bits-le_cost}
-use Rattle.qrdata.proofs.ChoiceLimitLaws.{Agrees-if_fits, widest}
+use Rattle.qrdata.proofs.ChoiceLimitLaws.{Agrees-if_fits}
 use Rattle.qrdata.proofs.FewestBitsLaws.{chosen_segments-is}
 use Rattle.qrdata.proofs.SameWidthLaws.{chosen_segments-same, cost-chosen_same}
-use Rattle.qrdata.proofs.VersionLaws.{capacity-le, capacity-le_nine}
+use Rattle.qrdata.proofs.VersionLaws.{IsSound-of, widest}
 use Rattle.qrdata.proofs.WriterLaws.{default_segment}
 
 -- the choices of one byte more
@@ -80,18 +79,10 @@ get_or-firsts_of version (b ∷ bytes) (suc k) h =
     (omega (arith, length-firsts_of version bytes, h)) ∙ get_or-firsts_of version bytes k (omega arith)
 
 -- the capacities of the versions whose character counts are as wide
-capacity_widest : (version : ℕ) (level : Level) → 1 ≤ version → version ≤ 10 → capacity version level ≤ widest version
-capacity_widest version level low high = elim (cases_lt version 10) [
-  | inl small ↦ rw (lt-ltb version 10 small) (omega (arith, capacity-le_nine level version low (omega arith)))
-  | inr large ↦ let ten : version ≡ 10 = omega arith in
-      let all : capacity version level ≤ 2192 = capacity-le level version low high in
-      rw ten (rw ten at all)
-]
-
 pub capacity_as_wide : (v w : ℕ) (level : Level) → SameWidths v w → 1 ≤ v → v ≤ 10 → capacity v level ≤ widest w
 capacity_as_wide v w level same low high =
     let as_wide : widest v ≡ widest w = ap (λ n. cond {A = ℕ} (nat_lt n 16) 1856 2192) (same Byte) in
-    omega (arith, as_wide, capacity_widest v level low high)
+    omega (arith, as_wide, (IsSound-of v level (low, high)).few_bits)
 
 -- the fewest bits are no more than those of the best list
 pub fewest_bits-below : (v w : ℕ) → SameWidths v w → (bytes : List ℕ)

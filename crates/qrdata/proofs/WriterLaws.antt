@@ -33,7 +33,7 @@ use Rattle.qrdata.proofs.LengthLaws.{length-segment_bits, length-segments_bits}
 use Rattle.qrdata.proofs.PaddingLaws.{with_zeros-whole, length-byte_bits, length-data_codewords_of}
 use Rattle.qrdata.proofs.BlockLaws.{length-split_by}
 use Rattle.qrdata.proofs.DataReadingLaws.{AreBytes-split, HasEcCodewords-from_law, lengths_hold}
-use Rattle.qrdata.proofs.VersionLaws.{HasSoundBlocks-of, data_codewords-add_ec_codewords}
+use Rattle.qrdata.proofs.VersionLaws.{IsSound-of}
 
 -- characters
 pub alphanumeric_bits-two_left : (xs : List ℕ) (i : ℕ) → 2 ≤ length xs - i → alphanumeric_bits (drop i xs)
@@ -162,7 +162,7 @@ HasBlocks-message version level message low high remainder codeword w whole =
     let k = ec_codewords_per_block version level in
     let lengths = block_lengths version level in
     let blocks = split_by (block_lengths version level) message in
-    let sound = HasSoundBlocks-of version level low high in
+    let sound = IsSound-of version level (low, high) in
     let shapes = lengths_hold version level in
     let law = HasEcCodewords-from_law remainder codeword k sound.some_ec_codewords in
     let bytes : AllByRecursion AreBytes blocks = AreBytes-split lengths message w in
@@ -176,7 +176,7 @@ HasBlocks-message version level message low high remainder codeword w whole =
       few = sound.few_blocks;
       some_ec_codewords = sound.some_ec_codewords;
       few_ec_codewords = sound.few_ec_codewords;
-      total = omega (arith, data_codewords-add_ec_codewords version level low high, sound.few_codewords);
+      total = omega (arith, sound.all, sound.few_codewords);
     }
 
 -- the bits of a segment of the first bytes

@@ -3,12 +3,20 @@ use Rattle.std.specs.Prelude.{◌≡◌, ◌≤◌, ◌+◌, ◌*◌, ℕ, List,
 use Rattle.std.specs.List.{flat_map}
 use Rattle.gf256.specs.ErrorCorrection.{ec_codewords_of}
 use Rattle.qrdata.specs.declared.level.Level.{Level}
+use Rattle.qrdata.specs.declared.level.Level.TheVariants.{L, M, Q, H}
 use Rattle.qrdata.specs.Codewords.{split_by}
 use Rattle.qrdata.specs.Versions.{block_lengths, ec_codewords_per_block}
 
 -- how many blocks a symbol has
 unfoldable pub block_count : ℕ → Level → ℕ
 block_count version level = length (block_lengths version level)
+
+-- the place of a level in a row of the tables of the code
+abbrev pub place_of : Level → ℕ
+place_of L = 0
+place_of M = 1
+place_of Q = 2
+place_of H = 3
 
 -- the message is cut into at most 8 blocks, each of which has 1 to 30 error correction codewords; with these they fit
 -- a symbol

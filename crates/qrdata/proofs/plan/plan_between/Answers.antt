@@ -16,7 +16,7 @@ pub overflow_mul-data_codewords : goal.overflow_mul-data_codewords
 overflow_mul-data_codewords c = omega (
   arith,
   (rw c.of-widest.ensures at c.data_codewords.ensures),
-  capacity-le c.args.level c.args.highest (omega (arith, c.requires.range.0, c.requires.range.1)) c.requires.range.2,
+  capacity-le c.args.level c.args.highest (omega (arith, c.requires.range.0, c.requires.range.1), c.requires.range.2),
 )
 
 pub returns-then-bytes-data_codewords-clause-none : goal.returns-then-bytes-data_codewords-clause-none
@@ -28,7 +28,7 @@ returns-then-bytes-data_codewords-clause-none c = λ v from to.
       c.if-bytes-data_codewords.true,
       (rw c.of-widest.ensures at c.data_codewords.ensures),
       many,
-      capacity-rising c.args.level v c.args.highest (omega (arith, c.requires.range.0)) to c.requires.range.2,
+      capacity-rising c.args.level v c.args.highest to c.requires.range.2,
     )
 
 -- in each round: the version, its data codewords, and the widths of its character counts
@@ -67,7 +67,7 @@ best_fit c small =
     record {
       value = value;
       fits = fits;
-      short = few_segments number c.args.level segments c.args.bytes.now known.0 known.1
+      short = few_segments number c.args.level segments c.args.bytes.now known
           (chosen_segments-is number c.args.bytes.now) (omega (arith, value, fits));
     }
 

@@ -2,7 +2,7 @@ use Rattle.std.proofs.Common.{◌≡◌, ℕ, ◌+◌, ◌-◌, ◌/◌, ◌%◌
 use Rattle.std.proofs.Common.{arith, ap, length-append}
 use Rattle.std.proofs.Math.Nat.{mod-lt, div-le_self}
 use Rattle.std.proofs.lemmas.List.{length-replicate}
-use Rattle.qrdata.proofs.VersionLaws.{block_count-few, block_count-some, block_lengths-even, data_codewords-few}
+use Rattle.qrdata.proofs.VersionLaws.{IsSound-of, data_codewords-few}
 use Rattle.qrdata.proofs.version.Version.lengths.Goals as goal
 
 -- the short blocks, whose lengths are written, and the long blocks are at most 8 blocks
@@ -21,7 +21,8 @@ all_blocks {blocks} {none} codewords empty short some few =
     )
 
 pub nonzero_rem-codewords : goal.nonzero_rem-codewords
-nonzero_rem-codewords c = block_count-some c.args.self c.args.level c.block_count-blocks.ensures c.known.ensures
+nonzero_rem-codewords c =
+    omega (arith, c.block_count-blocks.ensures, (IsSound-of c.args.self c.args.level c.known.ensures).some_blocks)
 
 pub overflow_sub-blocks : goal.overflow_sub-blocks
 overflow_sub-blocks c = omega (arith, mod-lt c.data_codewords-codewords.result (nonzero_rem-codewords c))
@@ -31,7 +32,8 @@ push_lengths-requires c = record {
   room = omega (
     arith,
     ap length c.new-lengths.ensures,
-    block_count-few c.args.self c.args.level c.block_count-blocks.ensures c.known.ensures,
+    c.block_count-blocks.ensures,
+    (IsSound-of c.args.self c.args.level c.known.ensures).few_blocks,
   );
 }
 
@@ -44,11 +46,13 @@ overflow_add-codewords c =
     )
 
 pub push_lengths-requires-2 : goal.push_lengths-requires-2
-push_lengths-requires-2 c = record {
-  room = all_blocks c.data_codewords-codewords.result c.new-lengths.ensures c.push_lengths.ensures
-      (block_count-some c.args.self c.args.level c.block_count-blocks.ensures c.known.ensures)
-      (block_count-few c.args.self c.args.level c.block_count-blocks.ensures c.known.ensures);
-}
+push_lengths-requires-2 c =
+    let sound = IsSound-of c.args.self c.args.level c.known.ensures in
+    record {
+      room = all_blocks c.data_codewords-codewords.result c.new-lengths.ensures c.push_lengths.ensures
+          (omega (arith, c.block_count-blocks.ensures, sound.some_blocks))
+          (omega (arith, c.block_count-blocks.ensures, sound.few_blocks));
+    }
 
 pub returns : goal.returns
 returns c =
@@ -58,13 +62,16 @@ returns c =
       c.new-lengths.ensures,
       c.block_count-blocks.ensures,
       c.data_codewords-codewords.ensures,
-    ) (block_lengths-even c.args.self c.args.level c.known.ensures.0 c.known.ensures.1)
+    ) (IsSound-of c.args.self c.args.level c.known.ensures).even
 
 pub nonzero_div-codewords : goal.nonzero_div-codewords
-nonzero_div-codewords c = block_count-some c.args.self c.args.level c.block_count-blocks.ensures c.known.ensures
+nonzero_div-codewords c =
+    omega (arith, c.block_count-blocks.ensures, (IsSound-of c.args.self c.args.level c.known.ensures).some_blocks)
 
 pub nonzero_rem-codewords-2 : goal.nonzero_rem-codewords-2
-nonzero_rem-codewords-2 c = block_count-some c.args.self c.args.level c.block_count-blocks.ensures c.known.ensures
+nonzero_rem-codewords-2 c =
+    omega (arith, c.block_count-blocks.ensures, (IsSound-of c.args.self c.args.level c.known.ensures).some_blocks)
 
 pub nonzero_div-codewords-2 : goal.nonzero_div-codewords-2
-nonzero_div-codewords-2 c = block_count-some c.args.self c.args.level c.block_count-blocks.ensures c.known.ensures
+nonzero_div-codewords-2 c =
+    omega (arith, c.block_count-blocks.ensures, (IsSound-of c.args.self c.args.level c.known.ensures).some_blocks)
