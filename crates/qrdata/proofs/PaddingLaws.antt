@@ -8,6 +8,7 @@ use Rattle.std.proofs.lemmas.List.FromFn.{length-map-range_with_len}
 use Rattle.std.proofs.lemmas.List.{length-replicate, length-take-le, length-drop, take-append-drop}
 use Rattle.std.proofs.Common.{inl, inr}
 use Rattle.std.proofs.lemmas.Bool.{cases_lt}
+use Rattle.std.proofs.lemmas.Grind.{flat_map-append}
 use Rattle.std.proofs.lemmas.Bool.Decides.{nat_tests}
 use Rattle.qrdata.specs.Bits.{bits_of, number_of, codewords_of}
 use Rattle.qrdata.specs.Codewords.{with_zeros, with_pad_codewords, pad_codewords, data_codewords_of, with_terminator}
@@ -15,33 +16,25 @@ use Rattle.qrdata.specs.Segments.{byte_bits}
 use Rattle.qrdata.specs.Reading.{is_end}
 use Rattle.qrdata.proofs.BitStringLaws.{bits_of-number_of, length-bits_of}
 
-byte_bits-one : (a : ℕ) (bytes : List ℕ) → byte_bits (a ∷ bytes) ≡ bits_of 8 a ++ byte_bits bytes
-unfolding byte_bits
-byte_bits-one a bytes = refl
-
-byte_bits-nil : byte_bits [] ≡ []
-unfolding byte_bits
-byte_bits-nil = refl
-
 pub byte_bits-append : (xs ys : List ℕ) → byte_bits (xs ++ ys) ≡ byte_bits xs ++ byte_bits ys
-byte_bits-append [] ys = rw byte_bits-nil refl
-byte_bits-append (x ∷ xs) ys = rw (byte_bits-one x (xs ++ ys), byte_bits-one x xs, byte_bits-append xs ys, append_assoc)
-    refl
+unfolding byte_bits
+byte_bits-append xs ys = flat_map-append (bits_of 8) xs ys
 
 pub byte_bits-single : (a : ℕ) → byte_bits (a ∷ []) ≡ bits_of 8 a
-byte_bits-single a = rw (byte_bits-one a [], byte_bits-nil) (append-nil (bits_of 8 a))
+unfolding byte_bits
+byte_bits-single a = append-nil (bits_of 8 a)
 
 eight_bits : (bits : List Bool) → length bits ≡ 8 → bits_of 8 (number_of bits) ≡ bits
 eight_bits bits e = rw (← e) (bits_of-number_of bits)
 
 pub byte_bits-codewords_of : (n : ℕ) (bits : List Bool) → length bits ≡ 8 * n → byte_bits (codewords_of n bits) ≡ bits
-unfolding codewords_of
-byte_bits-codewords_of zero [] e = byte_bits-nil
+unfolding byte_bits codewords_of
+byte_bits-codewords_of zero [] e = refl
 byte_bits-codewords_of zero (b ∷ bits) e = absurd (omega arith)
 byte_bits-codewords_of (suc n) bits e =
     let first : length (take 8 bits) ≡ 8 = length-take-le 8 bits (omega arith) in
     let later : length (drop 8 bits) ≡ 8 * n = omega (arith, length-drop 8 bits) in
-    rw (byte_bits-one, eight_bits (take 8 bits) first, byte_bits-codewords_of n (drop 8 bits) later)
+    rw (eight_bits (take 8 bits) first, byte_bits-codewords_of n (drop 8 bits) later)
     (take-append-drop 8 bits)
 
 pub length-codewords_of : (n : ℕ) (bits : List Bool) → length (codewords_of n bits) ≡ n
@@ -77,9 +70,10 @@ is_end-short : (bits : List Bool) → length bits < 4 → is_end bits ≡ true
 is_end-short bits h = grind (arith, nat_tests)
 
 pub length-byte_bits : (bytes : List ℕ) → length (byte_bits bytes) ≡ 8 * length bytes
-length-byte_bits [] = rw byte_bits-nil refl
-length-byte_bits (b ∷ bytes) = rw byte_bits-one
-    (omega (arith, length-append (bits_of 8 b) (byte_bits bytes), length-bits_of 8 b, length-byte_bits bytes))
+unfolding byte_bits
+length-byte_bits [] = refl
+length-byte_bits (b ∷ bytes) =
+    omega (arith, length-append (bits_of 8 b) (byte_bits bytes), length-bits_of 8 b, length-byte_bits bytes)
 
 -- With the terminator and the zeros after it the bits fill whole codewords, no more than there are. Four zeros come
 -- after the bits, or no codeword is left.

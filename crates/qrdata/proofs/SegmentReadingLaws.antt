@@ -9,7 +9,6 @@ use Rattle.std.proofs.lemmas.List.{take-append-drop, length-take-le}
 use Rattle.qrdata.specs.declared.mode.Mode.{Mode}
 use Rattle.qrdata.specs.declared.mode.Mode.TheVariants.{Numeric, Alphanumeric, Byte}
 use Rattle.qrdata.specs.declared.mode.Segment.{Segment}
-use Rattle.qrdata.specs.Steps.{◌>>=◌}
 use Rattle.qrdata.specs.Bits.{bits_of, number_of}
 use Rattle.qrdata.specs.Segments.{IsSegmentation, count_width, has_character, mode_indicator, modes, payload_bits}
 use Rattle.qrdata.specs.Segments.{segment_bits, segments_bits}
@@ -65,26 +64,10 @@ is_end-segment_bits version mode bytes rest =
     (mod-eq_of_lt (indicator_below mode)) in
     rw (append_assoc, append_assoc) (not_end (indicator ++ after) long (omega (arith, indicator_positive mode)))
 
-segments_at-suc : (version n : ℕ) (bits : List Bool) → is_end bits ≡ false
-    → segments_at version (suc n) bits ≡ (segment_at version bits >>= λ first.
-    segments_at version n first.1 >>= λ others. Some (first.0 ++ others))
-unfolding segments_at
-segments_at-suc version n bits h = rw h refl
-
 segments_at-end : (version n : ℕ) (bits : List Bool) → is_end bits ≡ true → segments_at version n bits ≡ Some []
 unfolding segments_at
 segments_at-end version zero bits h = rw h refl
 segments_at-end version (suc n) bits h = rw h refl
-
-segments_bits-cons : (version : ℕ) (s : Segment) (segments : List Segment) (bytes : List ℕ)
-    → segments_bits version (s ∷ segments) bytes ≡ segment_bits version s.mode (take s.len bytes)
-    ++ segments_bits version segments (drop s.len bytes)
-unfolding segments_bits
-segments_bits-cons version s segments bytes = refl
-
-segments_bits-nil : (version : ℕ) (bytes : List ℕ) → segments_bits version [] bytes ≡ []
-unfolding segments_bits
-segments_bits-nil version bytes = refl
 
 pub AreBytes-take : (n : ℕ) (bytes : List ℕ) → AreBytes bytes → AreBytes (take n bytes)
 AreBytes-take zero bytes w = tt
@@ -102,8 +85,8 @@ AreBytes-drop (suc n) (b ∷ bytes) w = AreBytes-drop n bytes w.1
 pub segments_at-segments_bits : (version : ℕ) (segments : List Segment) (bytes : List ℕ) (n : ℕ) (rest : List Bool)
     → AreBytes bytes → IsSegmentation version segments bytes → length segments ≤ n → is_end rest ≡ true
     → segments_at version n (segments_bits version segments bytes ++ rest) ≡ Some bytes
-segments_at-segments_bits version [] bytes n rest w e h stop =
-    rw (segments_bits-nil version bytes, segments_at-end version n rest stop, e) refl
+unfolding segments_at segments_bits
+segments_at-segments_bits version [] bytes n rest w e h stop = rw (segments_at-end version n rest stop, e) refl
 segments_at-segments_bits version (s ∷ segments) bytes zero rest w cut h stop = absurd (omega arith)
 segments_at-segments_bits version (s ∷ segments) bytes (suc n) rest w cut h stop =
     let front = take s.len bytes in
@@ -114,11 +97,9 @@ segments_at-segments_bits version (s ∷ segments) bytes (suc n) rest w cut h st
     fits in
     let later = segments_at-segments_bits version segments (drop s.len bytes) n rest (AreBytes-drop s.len bytes w) cut.1
     (omega arith) stop in
-    let goes_on = is_end-segment_bits version s.mode front others in
     rw (
-      segments_bits-cons,
-      append_assoc,
-      segments_at-suc version n (segment_bits version s.mode front ++ others) goes_on,
+      append_assoc (segment_bits version s.mode front) (segments_bits version segments (drop s.len bytes)) rest,
+      is_end-segment_bits version s.mode front others,
       first,
       later,
       take-append-drop,
