@@ -1,9 +1,9 @@
 -- The codewords of a place, block by block.
-use Rattle.std.proofs.Common.{◌≡◌, ℕ, suc, ◌+◌, ◌-◌, ◌<◌, ◌≤◌, List, [], ◌∷◌, ◌++◌, drop, take, length, get_or, refl}
+use Rattle.std.proofs.Common.{◌≡◌, ℕ, suc, ◌+◌, ◌-◌, ◌<◌, ◌≤◌, List, ◌∷◌, ◌++◌, drop, take, length, get_or, refl}
 use Rattle.std.proofs.Common.{ap, ◌∙◌, arith, sum}
 use Rattle.std.specs.Prelude.{slice_get}
 use Rattle.std.specs.List.{cons_option}
-use Rattle.std.proofs.lemmas.List.{length-drop, length-take-le, get_or-drop, get_or-take, drop_more, drop_all}
+use Rattle.std.proofs.lemmas.List.{length-drop, length-take-le, get_or-drop, get_or-take, drop_more}
 use Rattle.std.proofs.lemmas.List.{drop-drop}
 use Rattle.std.proofs.lemmas.List.Sums.{sum_by-drop_more}
 use Rattle.std.proofs.lemmas.Option.{slice_get-get_or, slice_get_past}
@@ -50,11 +50,6 @@ next_block-lacks lengths codewords i start place h whole lacks =
     let long : length (take n (drop start codewords)) ≡ n = length-take-le n (drop start codewords) fits in
     let past = slice_get_past (take n (drop start codewords)) place (omega arith) in
     rw (next_block lengths codewords i start place h, past) refl
-
-pub no_blocks : (lengths codewords : List ℕ) (place i : ℕ) → length lengths ≤ i
-    → codewords_at (split_by (drop i lengths) codewords) place ≡ []
-unfolding split_by
-no_blocks lengths codewords place i h = rw (drop_all i lengths h) refl
 
 -- the places that are left are the next one and those after it
 pub next_place : (f : ℕ → List ℕ) (place rounds : ℕ) → place < rounds

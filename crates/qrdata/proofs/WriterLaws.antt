@@ -4,9 +4,8 @@ use Rattle.std.proofs.Common.{drop, length, replicate, get_or, refl, sym, ap, �
 use Rattle.std.proofs.Common.{Bool, false, sum}
 use Rattle.std.specs.Prelude.{◌==◌, fold, max}
 use Rattle.std.specs.List.{AllByRecursion, flat_map}
-use Rattle.std.proofs.lemmas.List.{drop_more, drop_all, drop-drop, length-take-le}
+use Rattle.std.proofs.lemmas.List.{drop_all, length-take-le}
 use Rattle.std.proofs.lemmas.List.Elements.{All-from_get_or, recursion_from_All}
-use Rattle.std.proofs.lemmas.List.Sums.{sum_by-cons}
 use Rattle.std.proofs.Math.Nat.{div-eq_of_lt, mod-eq_of_lt}
 use Rattle.std.proofs.lemmas.Nat.{pow_pos}
 use Rattle.qrdata.specs.declared.level.Level.{Level}
@@ -17,13 +16,13 @@ use Rattle.qrdata.specs.declared.bits.Bits.{Bits}
 use Rattle.qrdata.specs.Private.BitsInCodewords.{bits_in}
 use Rattle.qrdata.specs.Bits.{bits_of, codewords_of, number_of}
 use Rattle.qrdata.specs.Segments.{IsSegmentation, alphanumeric_bits, alphanumeric_value, byte_bits, cost, count_width}
-use Rattle.qrdata.specs.Segments.{segment_bits, segment_length, segment_of, segments_bits}
+use Rattle.qrdata.specs.Segments.{segment_bits, segment_of, segments_bits}
 use Rattle.qrdata.specs.Private.Blocks.{HasBlocks}
 use Rattle.qrdata.specs.Versions.{block_lengths, data_codewords, ec_codewords_per_block}
 use Rattle.qrdata.proofs.BlockLaws.{split_lengths}
 use Rattle.qrdata.proofs.BitStringLaws.{bits_of-nil, drop_front, length-bits_of, number_of-bits_of, take_front}
 use Rattle.qrdata.proofs.InterleavingLaws.{Blocks, longest}
-use Rattle.qrdata.proofs.PayloadStepLaws.{drop_next, drop_none}
+use Rattle.qrdata.proofs.PayloadStepLaws.{drop_next}
 use Rattle.qrdata.proofs.PayloadLaws.{AreBytes}
 use Rattle.gf256.specs.ErrorCorrection.{ec_codewords_of, EcCodewordsAreRemainder, RemaindersHaveRoots}
 use Rattle.qrdata.specs.Codewords.{data_codewords_of, split_by, with_zeros, with_terminator}
@@ -50,52 +49,12 @@ pub alphanumeric_bits-one_left : (xs : List ℕ) (i : ℕ) → length xs - i ≡
 unfolding alphanumeric_bits
 alphanumeric_bits-one_left xs i h = rw (
   drop_next xs i (i + 1) (omega arith) (omega arith),
-  drop_none xs (i + 1) (omega arith),
+  drop_all (i + 1) xs (omega arith),
 ) refl
-
-pub alphanumeric_bits-none_left : (xs : List ℕ) (i : ℕ) → length xs ≤ i → alphanumeric_bits (drop i xs) ≡ []
-unfolding alphanumeric_bits
-alphanumeric_bits-none_left xs i h = rw (drop_none xs i h) refl
-
--- bytes
-pub byte_bits-next : (xs : List ℕ) (i : ℕ) → i < length xs
-    → byte_bits (drop i xs) ≡ bits_of 8 (get_or xs i 0) ++ byte_bits (drop (i + 1) xs)
-unfolding byte_bits
-byte_bits-next xs i h = rw (drop_more xs i 0 h) refl
-
-pub byte_bits-none_left : (xs : List ℕ) (i : ℕ) → length xs ≤ i → byte_bits (drop i xs) ≡ []
-unfolding byte_bits
-byte_bits-none_left xs i h = rw (drop_none xs i h) refl
 
 -- what a list of segments is read as past its end
 abbrev pub default_segment : Segment
 default_segment = segment_of Numeric 0
-
--- segments: the next one, and those after it
-pub segments_bits-next : (version : ℕ) (segments : List Segment) (d : Segment) (bytes : List ℕ) (i place : ℕ)
-    → i < length segments
-    → segments_bits version (drop i segments) (drop place bytes)
-    ≡ segment_bits version (get_or segments i d).mode (take (get_or segments i d).len (drop place bytes))
-    ++ segments_bits version (drop (i + 1) segments) (drop (place + (get_or segments i d).len) bytes)
-unfolding segments_bits
-segments_bits-next version segments d bytes i place h =
-    rw (drop_more segments i d h, ← drop-drop (get_or segments i d).len place bytes) refl
-
-pub segments_bits-none_left : (version : ℕ) (segments : List Segment) (bytes : List ℕ) (i : ℕ) → length segments ≤ i
-    → segments_bits version (drop i segments) bytes ≡ []
-unfolding segments_bits
-segments_bits-none_left version segments bytes i h = rw (drop_all i segments h) refl
-
-pub IsSegmentation-next : (version : ℕ) (segments : List Segment) (d : Segment) (bytes : List ℕ) (i place : ℕ)
-    → i < length segments → IsSegmentation version (drop i segments) (drop place bytes)
-    → IsSegmentation version (get_or segments i d ∷ drop (i + 1) segments) (drop place bytes)
-IsSegmentation-next version segments d bytes i place h held = rw (drop_more segments i d h) at held
-
-pub cost-next : (version : ℕ) (segments : List Segment) (d : Segment) (i : ℕ) → i < length segments
-    → cost version (drop i segments) ≡ segment_length version (get_or segments i d)
-    + cost version (drop (i + 1) segments)
-cost-next version segments d i h = rw (drop_more segments i d h)
-    (sum_by-cons (segment_length version) (get_or segments i d) (drop (i + 1) segments))
 
 -- zeros
 bit_zero : (width : ℕ) → (0 / 2 ^ width % 2 == 1) ≡ false
@@ -110,22 +69,6 @@ bits_of-zero (suc width) = rw (bit_zero width, bits_of-zero width) refl
 pub longest-split_by : (lengths codewords : List ℕ) → sum lengths ≡ length codewords
     → longest (split_by lengths codewords) ≡ fold max 0 lengths
 longest-split_by lengths codewords whole = ap (fold max 0) (split_lengths lengths codewords (omega arith))
-
--- the blocks that are left are the next one and the others
-pub split_by-next : (lengths codewords : List ℕ) (i start : ℕ) → i < length lengths
-    → split_by (drop i lengths) (drop start codewords) ≡ take (get_or lengths i 0) (drop start codewords)
-    ∷ split_by (drop (i + 1) lengths) (drop (start + get_or lengths i 0) codewords)
-unfolding split_by
-split_by-next lengths codewords i start h = rw (
-  drop_more lengths i 0 h,
-  ← drop-drop
-      (get_or lengths i 0) start codewords,
-) refl
-
-pub split_by-none_left : (lengths codewords : List ℕ) (i : ℕ) → length lengths ≤ i
-    → split_by (drop i lengths) codewords ≡ []
-unfolding split_by
-split_by-none_left lengths codewords i h = rw (drop_all i lengths h) refl
 
 -- what is computed for each block, in equal lengths, is cut apart again
 pub split_by-flat_map : (f : List ℕ → List ℕ) (k : ℕ) (P : List ℕ → Type 0) (blocks : Blocks)
