@@ -1,7 +1,7 @@
 -- What the writers have written, step by step.
 use Rattle.std.proofs.Common.{◌≡◌, ℕ, zero, suc, ◌+◌, ◌-◌, ◌*◌, ◌/◌, ◌%◌, ◌^◌, ◌<◌, ◌≤◌, List, [], ◌∷◌, ◌++◌, map, take}
 use Rattle.std.proofs.Common.{drop, length, replicate, get_or, refl, sym, ap, ◌∙◌, append-nil, length-append, arith}
-use Rattle.std.proofs.Common.{Bool, false, sum}
+use Rattle.std.proofs.Common.{false, sum}
 use Rattle.std.specs.Prelude.{◌==◌, fold, max}
 use Rattle.std.specs.List.{AllByRecursion, flat_map}
 use Rattle.std.proofs.lemmas.List.{drop_all, length-take-le}
@@ -25,13 +25,13 @@ use Rattle.qrdata.proofs.InterleavingLaws.{Blocks, longest}
 use Rattle.qrdata.proofs.PayloadStepLaws.{drop_next}
 use Rattle.qrdata.proofs.PayloadLaws.{AreBytes}
 use Rattle.gf256.specs.ErrorCorrection.{ec_codewords_of, EcCodewordsAreRemainder, RemaindersHaveRoots}
-use Rattle.qrdata.specs.Codewords.{data_codewords_of, split_by, with_zeros, with_terminator}
+use Rattle.qrdata.specs.Codewords.{data_codewords_of, split_by}
 use Rattle.qrdata.specs.Versions.{capacity}
 use Rattle.qrdata.specs.Segments.{payload_length}
 use Rattle.qrdata.proofs.LengthLaws.{length-segment_bits, length-segments_bits}
-use Rattle.qrdata.proofs.PaddingLaws.{with_zeros-whole, length-byte_bits, length-data_codewords_of}
+use Rattle.qrdata.proofs.PaddingLaws.{length-byte_bits, length-data_codewords_of}
 use Rattle.qrdata.proofs.BlockLaws.{length-split_by}
-use Rattle.qrdata.proofs.DataReadingLaws.{AreBytes-split, HasEcCodewords-from_law, lengths_hold}
+use Rattle.qrdata.proofs.DataReadingLaws.{HasEcCodewords, have_ec_codewords, lengths_hold}
 use Rattle.qrdata.proofs.VersionLaws.{IsSound-of}
 
 -- characters
@@ -70,25 +70,26 @@ pub longest-split_by : (lengths codewords : List ℕ) → sum lengths ≡ length
     → longest (split_by lengths codewords) ≡ fold max 0 lengths
 longest-split_by lengths codewords whole = ap (fold max 0) (split_lengths lengths codewords (omega arith))
 
--- what is computed for each block, in equal lengths, is cut apart again
-pub split_by-flat_map : (f : List ℕ → List ℕ) (k : ℕ) (P : List ℕ → Type 0) (blocks : Blocks)
-    → ((block : List ℕ) → P block → length (f block) ≡ k) → AllByRecursion P blocks
-    → split_by (replicate (length blocks) k) (flat_map f blocks) ≡ map f blocks
+-- the error correction codewords of all blocks, which have equal lengths, are cut apart again
+split_by-flat_map : (k : ℕ) (blocks : Blocks) → AllByRecursion (HasEcCodewords k) blocks
+    → split_by (replicate (length blocks) k) (flat_map (ec_codewords_of k) blocks) ≡ map (ec_codewords_of k) blocks
 unfolding split_by
-split_by-flat_map f k P [] each w = refl
-split_by-flat_map f k P (block ∷ blocks) each w =
-    let first : take k (f block ++ flat_map f blocks) ≡ f block =
-    take_front k (f block) (flat_map f blocks) (each block w.0) in
-    let rest : drop k (f block ++ flat_map f blocks) ≡ flat_map f blocks =
-    drop_front k (f block) (flat_map f blocks) (each block w.0) in
-    rw (first, rest, split_by-flat_map f k P blocks each w.1) refl
+split_by-flat_map k [] law = refl
+split_by-flat_map k (block ∷ blocks) law = rw (
+  take_front k (ec_codewords_of k block) (flat_map (ec_codewords_of k) blocks) law.0.count,
+  drop_front k (ec_codewords_of k block) (flat_map (ec_codewords_of k) blocks) law.0.count,
+  split_by-flat_map k blocks law.1,
+) refl
 
-pub length-flat_map : (f : List ℕ → List ℕ) (k : ℕ) (P : List ℕ → Type 0) (blocks : Blocks)
-    → ((block : List ℕ) → P block → length (f block) ≡ k) → AllByRecursion P blocks
-    → length (flat_map f blocks) ≡ length blocks * k
-length-flat_map f k P [] each w = omega arith
-length-flat_map f k P (block ∷ blocks) each w =
-    omega (arith, length-append (f block) (flat_map f blocks), each block w.0, length-flat_map f k P blocks each w.1)
+length-flat_map : (k : ℕ) (blocks : Blocks) → AllByRecursion (HasEcCodewords k) blocks
+    → length (flat_map (ec_codewords_of k) blocks) ≡ length blocks * k
+length-flat_map k [] law = omega arith
+length-flat_map k (block ∷ blocks) law = omega (
+  arith,
+  length-append (ec_codewords_of k block) (flat_map (ec_codewords_of k) blocks),
+  law.0.count,
+  length-flat_map k blocks law.1,
+)
 
 -- a slice of bytes
 pub AreBytes-slice : (bytes : List ℕ) → ((i : ℕ) → get_or bytes i 0 < 256) → AreBytes bytes
@@ -107,15 +108,13 @@ HasBlocks-message version level message low high remainder codeword w whole =
     let blocks = split_by (block_lengths version level) message in
     let sound = IsSound-of version level (low, high) in
     let shapes = lengths_hold version level in
-    let law = HasEcCodewords-from_law remainder codeword k sound.some_ec_codewords in
-    let bytes : AllByRecursion AreBytes blocks = AreBytes-split lengths message w in
+    let law = have_ec_codewords remainder codeword k sound.some_ec_codewords lengths message w in
     let same : length blocks ≡ length lengths = length-split_by lengths message in
     record {
       count = shapes.1;
       whole = shapes.0 ∙ sym whole;
-      ec_blocks = length-flat_map (ec_codewords_of k) k AreBytes blocks law.count bytes
-          ∙ ap (λ n. n * k) (same ∙ shapes.1);
-      cut = rw (← same) (split_by-flat_map (ec_codewords_of k) k AreBytes blocks law.count bytes);
+      ec_blocks = length-flat_map k blocks law ∙ ap (λ n. n * k) (same ∙ shapes.1);
+      cut = rw (← same) (split_by-flat_map k blocks law);
       few = sound.few_blocks;
       some_ec_codewords = sound.some_ec_codewords;
       few_ec_codewords = sound.few_ec_codewords;
@@ -128,12 +127,6 @@ pub length-segment_bits_front : (version : ℕ) (mode : Mode) (n : ℕ) (bytes :
 length-segment_bits_front version mode n bytes h =
     length-segment_bits version mode (take n bytes)
     ∙ ap (λ k. 4 + count_width version mode + payload_length mode k) (length-take-le n bytes h)
-
-pub with_zeros-fits : (size : ℕ) (bits : List Bool) → length bits ≤ 8 * size
-    → length (with_zeros (with_terminator (8 * size) bits)) ≤ 8 * size
-with_zeros-fits size bits h =
-    let a = with_zeros-whole size bits h in
-    omega (arith, ap length a.2, length-append bits a.1, a.3, a.4)
 
 pub length-data : (version : ℕ) (level : Level) (segments : List Segment) (bytes : List ℕ)
     → IsSegmentation version segments bytes → cost version segments ≤ capacity version level
