@@ -1,7 +1,8 @@
 -- The codewords of a place, block by block.
-use Rattle.std.proofs.Common.{◌≡◌, ℕ, suc, ◌+◌, ◌-◌, ◌<◌, ◌≤◌, List, ◌∷◌, ◌++◌, drop, take, length, get_or, refl}
-use Rattle.std.proofs.Common.{ap, ◌∙◌, arith, sum}
-use Rattle.std.specs.Prelude.{slice_get}
+use Rattle.std.proofs.Common.{◌≡◌, ℕ, suc, ◌+◌, ◌-◌, ◌<◌, List, ◌++◌, drop, take, length, get_or, refl}
+use Rattle.std.proofs.Common.{ap, ◌∙◌, arith, sum, inl, inr}
+use Rattle.std.specs.Prelude.{slice_get, nat_lt, if◌then◌else◌, None, Some}
+use Rattle.std.proofs.lemmas.Bool.{cases_lt, le-ltb, lt-ltb}
 use Rattle.std.specs.List.{cons_option}
 use Rattle.std.proofs.lemmas.List.{length-drop, length-take-le, get_or-drop, get_or-take, drop_more}
 use Rattle.std.proofs.lemmas.List.{drop-drop}
@@ -12,44 +13,29 @@ use Rattle.qrdata.specs.Codewords.{interleaving, split_by, codewords_at}
 use Rattle.qrdata.proofs.InterleavingLaws.{longest}
 use Rattle.qrdata.proofs.BlockLaws.{length-interleaving, split_lengths}
 
--- the blocks that are left are the next one and the others
-next_block : (lengths codewords : List ℕ) (i start place : ℕ) → i < length lengths
+-- the codewords of a place that are left are that of the next block, if it has one, and those of the others
+pub next_block : (lengths codewords : List ℕ) (i start place : ℕ) → i < length lengths
+    → start + sum (drop i lengths) ≡ length codewords
     → codewords_at (split_by (drop i lengths) (drop start codewords)) place
-    ≡ cons_option (slice_get (take (get_or lengths i 0) (drop start codewords)) place)
+    ≡ cons_option (if nat_lt place (get_or lengths i 0) then Some (get_or codewords (start + place) 0) else None)
     (codewords_at (split_by (drop (i + 1) lengths) (drop (start + get_or lengths i 0) codewords)) place)
 unfolding split_by
-next_block lengths codewords i start place h =
-    rw (drop_more lengths i 0 h, ← drop-drop (get_or lengths i 0) start codewords) refl
-
-pub next_block-has : (lengths codewords : List ℕ) (i start place : ℕ) → i < length lengths
-    → start + sum (drop i lengths) ≡ length codewords → place < get_or lengths i 0
-    → codewords_at (split_by (drop i lengths) (drop start codewords)) place ≡ get_or codewords (start + place) 0
-    ∷ codewords_at (split_by (drop (i + 1) lengths) (drop (start + get_or lengths i 0) codewords)) place
-next_block-has lengths codewords i start place h whole has =
+next_block lengths codewords i start place h whole =
     let n = get_or lengths i 0 in
-    let fits : n ≤ length (drop start codewords) =
-    omega (arith, length-drop start codewords, sum_by-drop_more (λ x. x) lengths i 0 h) in
-    let long : length (take n (drop start codewords)) ≡ n = length-take-le n (drop start codewords) fits in
-    let inside : place < length (take n (drop start codewords)) = omega arith in
-    let found = slice_get-get_or (take n (drop start codewords)) place 0 inside in
-    rw (
-      next_block lengths codewords i start place h,
-      found,
-      get_or-take n (drop start codewords) place 0 has,
-      get_or-drop start codewords place 0,
-    ) refl
-
-pub next_block-lacks : (lengths codewords : List ℕ) (i start place : ℕ) → i < length lengths
-    → start + sum (drop i lengths) ≡ length codewords → get_or lengths i 0 ≤ place
-    → codewords_at (split_by (drop i lengths) (drop start codewords)) place
-    ≡ codewords_at (split_by (drop (i + 1) lengths) (drop (start + get_or lengths i 0) codewords)) place
-next_block-lacks lengths codewords i start place h whole lacks =
-    let n = get_or lengths i 0 in
-    let fits : n ≤ length (drop start codewords) =
-    omega (arith, length-drop start codewords, sum_by-drop_more (λ x. x) lengths i 0 h) in
-    let long : length (take n (drop start codewords)) ≡ n = length-take-le n (drop start codewords) fits in
-    let past = slice_get_past (take n (drop start codewords)) place (omega arith) in
-    rw (next_block lengths codewords i start place h, past) refl
+    let block = take n (drop start codewords) in
+    let long : length block ≡ n = length-take-le n (drop start codewords)
+    (omega (arith, length-drop start codewords, sum_by-drop_more (λ x. x) lengths i 0 h)) in
+    let found : slice_get block place ≡ (if nat_lt place n then Some (get_or codewords (start + place) 0) else None) =
+    elim (cases_lt place n) [
+      | inl has ↦ rw (
+        lt-ltb place n has,
+        slice_get-get_or block place 0 (omega arith),
+        get_or-take n (drop start codewords) place 0 has,
+        get_or-drop start codewords place 0,
+      ) refl
+      | inr lacks ↦ rw (le-ltb place n lacks, slice_get_past block place (omega arith)) refl
+    ] in
+    rw (drop_more lengths i 0 h, ← drop-drop n start codewords, found) refl
 
 -- the places that are left are the next one and those after it
 pub next_place : (f : ℕ → List ℕ) (place rounds : ℕ) → place < rounds

@@ -62,33 +62,22 @@ begins version b bytes t is sum fits =
     let listed = best.low t fits in
     let tabled = best-le version (b ∷ bytes) r.mode r.len
     (record { some = best.fits.some; inside = best.fits.inside; characters = best.fits.characters }) in
+    let below = fewest_bits-le_cost version (chosen_segments version rest) rest (chosen_segments-is version rest) in
+    let whole = cost-continued version (b ∷ bytes) r in
     let low : fewest_bits version (b ∷ bytes) ≤ cost version (continued version (b ∷ bytes) r) =
-    omega (
-      arith,
-      tabled.low,
-      fewest_bits-le_cost version (chosen_segments version rest) rest (chosen_segments-is version rest),
-      cost-continued version (b ∷ bytes) r,
-    ) in
-    let no_longer : r.len ≤ t.len = elim (cases_lt t.len r.len) [
-      | inl longer ↦ absurd (omega (
-        arith,
-        listed.0,
-        tabled.strict (omega (arith, ap (λ (u : Segment). u.len) is)),
-        fewest_bits-le_cost version (chosen_segments version rest) rest (chosen_segments-is version rest),
-        cost-continued version (b ∷ bytes) r,
-      ))
-      | inr as_long ↦ as_long
-    ] in
+    omega (arith, tabled.low) in
+    let table_len : (choices_of version (b ∷ bytes)).best.segment.len ≡ t.len = ap (λ (u : Segment). u.len) is in
     let len : r.len ≡ t.len = elim (cases_lt r.len t.len) [
-      | inl shorter ↦ absurd (omega (arith, listed.1 shorter, low))
-      | inr as_long ↦ omega arith
+      | inl shorter ↦ absurd (omega (arith, listed.1 shorter))
+      | inr more ↦ elim (cases_lt t.len r.len) [
+        | inl longer ↦ absurd (omega (arith, listed.0, tabled.strict (omega arith)))
+        | inr less ↦ omega arith
+      ]
     ] in
     let mode : r.mode ≡ t.mode = same_mode version r.len r.mode t.mode best.fits.some
     (omega (
       arith,
       listed.0,
-      low,
-      cost-continued version (b ∷ bytes) r,
       cost-continued version (b ∷ bytes) t,
       ap (λ n. cost version (chosen_segments version (drop n (b ∷ bytes)))) len,
       ap (λ n. segment_length version (segment_of t.mode n)) len,

@@ -1,6 +1,6 @@
 -- The best list is a list of segments of the bytes, and no list costs less. Of the lists that a first segment begins and
 -- the best list of the rest goes on, it is the cheapest, and of equally cheap ones that of the longest first segment.
-use Rattle.std.proofs.Common.{◌≡◌, ℕ, zero, suc, ◌+◌, ◌^◌, ◌<◌, ◌≤◌, List, [], ◌∷◌, ◌++◌, map, drop, length, refl, sym, ap}
+use Rattle.std.proofs.Common.{◌≡◌, ℕ, zero, suc, ◌+◌, ◌^◌, ◌<◌, ◌≤◌, List, [], ◌∷◌, ◌++◌, map, drop, length, refl, ap}
 use Rattle.std.proofs.Common.{◌∙◌, arith, Bool, true, false, cond, inl, inr, subst}
 use Rattle.std.specs.Prelude.{nat_lt, filter, flat_map, reverse, IsTrue, ⊤}
 use Rattle.std.specs.List.{AllByRecursion, range_with_len}
@@ -78,31 +78,28 @@ each_first P version bytes all s first =
     (each_passes P (is_first version bytes) (candidates (length bytes)) all) s first.some first.inside
     (rw (first.characters, lt-ltb s.len (2 ^ count_width version s.mode) first.counted) refl)
 
--- no segment is longer than one before it
-abbrev IsFalling : List Segment → Type 0
-IsFalling [] = ⊤
-IsFalling (s ∷ segments) = AllByRecursion (λ (t : Segment). t.len ≤ s.len) segments × IsFalling segments
+-- no segment is longer than this, nor than one before it
+abbrev IsFalling : ℕ → List Segment → Type 0
+IsFalling longest [] = ⊤
+IsFalling longest (s ∷ segments) = (s.len ≤ longest) × IsFalling s.len segments
 
-IsFalling-candidates : (n : ℕ) → IsFalling (candidates n)
+falls_below : (m n : ℕ) (segments : List Segment) → m ≤ n → IsFalling m segments → IsFalling n segments
+falls_below m n [] h falls = tt
+falls_below m n (s ∷ segments) h falls = (omega (arith, falls.0), falls.1)
+
+IsFalling-candidates : (n : ℕ) → IsFalling n (candidates n)
 IsFalling-candidates zero = tt
 IsFalling-candidates (suc n) =
-    let shorter = all_candidates (λ s. s.len ≤ suc n) n (λ s some inside. omega arith) in
-    rw (candidates-more n)
-    ((omega arith, (omega arith, shorter)), ((omega arith, shorter), (shorter, IsFalling-candidates n)))
+    let shorter = falls_below n (suc n) (candidates n) (omega arith) (IsFalling-candidates n) in
+    rw (candidates-more n) (omega arith, (omega arith, (omega arith, shorter)))
 
-All-each : {A : Type 0} (P R : A → Type 0) → ((x : A) → P x → R x) → (xs : List A) → AllByRecursion P xs
-    → AllByRecursion R xs
-All-each P R each [] all = tt
-All-each P R each (x ∷ xs) all = (each x all.0, All-each P R each xs all.1)
-
-IsFalling-filter : (p : Segment → Bool) (segments : List Segment) → IsFalling segments → IsFalling (filter p segments)
-IsFalling-filter p [] falls = tt
-IsFalling-filter p (s ∷ segments) falls =
-    let later = IsFalling-filter p segments falls.1 in
-    cond_both (p s) (s ∷ filter p segments) (filter p segments) IsFalling (λ yes. (
-      All-filter (λ (t : Segment). t.len ≤ s.len) p segments (All-each _ _ (λ t short passes. short) segments falls.0),
-      later,
-    )) (λ no. later)
+IsFalling-filter : (p : Segment → Bool) (n : ℕ) (segments : List Segment) → IsFalling n segments
+    → IsFalling n (filter p segments)
+IsFalling-filter p n [] falls = tt
+IsFalling-filter p n (s ∷ segments) falls =
+    let later = IsFalling-filter p s.len segments falls.1 in
+    cond_both (p s) (s ∷ filter p segments) (filter p segments) (IsFalling n) (λ yes. (falls.0, later))
+    (λ no. falls_below s.len n (filter p segments) falls.0 later)
 
 -- r costs no more than s, and less if it is shorter
 abbrev pub ComesFirst : (Segment → ℕ) → Segment → Segment → Type 0
@@ -110,7 +107,7 @@ ComesFirst f r s = (f r ≤ f s) × (r.len < s.len → f r < f s)
 
 -- of lists that segments name, the first of the lowest cost
 lowest_is : (P : Segment → Type 0) (version : ℕ) (g : Segment → List Segment) (a : Segment) (segments : List Segment)
-    → IsFalling (a ∷ segments) → P a → AllByRecursion P segments
+    → IsFalling a.len segments → P a → AllByRecursion P segments
     → (r : Segment) × (cheapest version (g a ∷ map g segments) ≡ g r) × P r
     × AllByRecursion (ComesFirst (λ s. cost version (g s)) r) (a ∷ segments)
 lowest_is P version g a [] falls holds all = (a, refl, holds, ((omega arith, λ less. absurd (omega arith)), tt))
@@ -126,22 +123,15 @@ lowest_is P version g a (b ∷ segments) falls holds all =
             ((omega arith, λ longer. omega arith), later.3),
           )
       | inr more ↦
-          let later = lowest_is P version g a segments (falls.0.1, falls.1.1) holds all.1 in
+          let later = lowest_is P version g a segments (falls_below b.len a.len segments falls.0 falls.1) holds all.1 in
           let low = later.3.0 in
-          let short = falls.0.0 in (
+          let short = falls.0 in (
             later.0,
             ap lead (le-ltb (cost version (g b)) (cost version (g a)) more) ∙ later.1,
             later.2,
             (low, ((omega arith, λ longer. omega (arith, low.1)), later.3.1)),
           )
     ]
-
--- the list is that of a first segment, which comes first
-pub record IsBest (version : ℕ) (bytes : List ℕ) (g : Segment → List Segment) (best : List Segment) : Type 0 where
-  pub first : Segment
-  pub is : best ≡ g first
-  pub fits : IsFirstSegment version bytes first
-  pub low : (s : Segment) → IsFirstSegment version bytes s → ComesFirst (λ s. cost version (g s)) first s
 
 -- one byte in byte mode is a first segment
 one_byte : (version b : ℕ) (bytes : List ℕ) → IsFirstSegment version (b ∷ bytes) (segment_of Byte 1)
@@ -152,32 +142,12 @@ one_byte version b bytes = record {
   counted = elim (nat_lt version 10) as (λ short. 1 < 2 ^ cond short 8 16) [ true ↦ omega arith | false ↦ omega arith ];
 }
 
-cheapest_found : (P : Segment → Type 0) (version : ℕ) (g : Segment → List Segment) (segments : List Segment)
-    → (segments ≡ [] → ⊥) → IsFalling segments → AllByRecursion P segments
+cheapest_found : (P : Segment → Type 0) (version : ℕ) (g : Segment → List Segment) (n : ℕ) (segments : List Segment)
+    → (segments ≡ [] → ⊥) → IsFalling n segments → AllByRecursion P segments
     → (r : Segment) × (cheapest version (map g segments) ≡ g r) × P r
     × AllByRecursion (ComesFirst (λ s. cost version (g s)) r) segments
-cheapest_found P version g [] some falls all = absurd (some refl)
-cheapest_found P version g (a ∷ segments) some falls all = lowest_is P version g a segments falls all.0 all.1
-
-cheapest-is : (version b : ℕ) (bytes : List ℕ) (g : Segment → List Segment)
-    → IsBest version (b ∷ bytes) g (cheapest version (map g (first_segments version (b ∷ bytes))))
-unfolding first_segments
-cheapest-is version b bytes g =
-    let P = IsFirstSegment version (b ∷ bytes) in
-    let all = all_firsts P version (b ∷ bytes) (λ s first. first) in
-    let some = λ (none : first_segments version (b ∷ bytes) ≡ []). each_first (λ s. ⊥) version (b ∷ bytes) (rw none tt)
-    (segment_of Byte 1) (one_byte version b bytes) in
-    let found : (r : Segment) × (cheapest version (map g (first_segments version (b ∷ bytes))) ≡ g r) × P r
-    × AllByRecursion (ComesFirst (λ s. cost version (g s)) r) (first_segments version (b ∷ bytes)) =
-    cheapest_found P version g (first_segments version (b ∷ bytes)) some
-    (IsFalling-filter (is_first version (b ∷ bytes)) (candidates (length (b ∷ bytes)))
-    (IsFalling-candidates (length (b ∷ bytes)))) all in
-    record {
-      first = found.0;
-      is = found.1;
-      fits = found.2;
-      low = each_first (ComesFirst (λ s. cost version (g s)) found.0) version (b ∷ bytes) found.3;
-    }
+cheapest_found P version g n [] some falls all = absurd (some refl)
+cheapest_found P version g n (a ∷ segments) some falls all = lowest_is P version g a segments falls.1 all.0 all.1
 
 map-same : {A B : Type 0} (f g : A → B) (xs : List A) → AllByRecursion (λ x. f x ≡ g x) xs → map f xs ≡ map g xs
 map-same f g [] same = refl
@@ -213,17 +183,42 @@ pub chosen_segments-nil : (version : ℕ) → chosen_segments version [] ≡ []
 unfolding chosen_segments best_within
 chosen_segments-nil version = refl
 
-pub chosen_segments-best : (version b : ℕ) (bytes : List ℕ)
-    → IsBest version (b ∷ bytes) (continued version (b ∷ bytes)) (chosen_segments version (b ∷ bytes))
+chosen_segments-cons : (version b : ℕ) (bytes : List ℕ) → chosen_segments version (b ∷ bytes)
+    ≡ cheapest version (map (continued version (b ∷ bytes)) (first_segments version (b ∷ bytes)))
 unfolding chosen_segments best_within
-chosen_segments-best version b bytes =
+chosen_segments-cons version b bytes =
     let within = λ (s : Segment). s ∷ best_within version (length bytes) (drop s.len (b ∷ bytes)) in
     let same = all_firsts (λ s. within s ≡ continued version (b ∷ bytes) s) version (b ∷ bytes) (λ s first.
     ap (λ rest. s ∷ rest) (best_within-same version (length bytes) (length (drop s.len (b ∷ bytes)))
     (drop s.len (b ∷ bytes)) (omega (arith, length-drop s.len (b ∷ bytes), first.some)) (omega arith))) in
-    subst (IsBest version (b ∷ bytes) (continued version (b ∷ bytes)))
-    (sym (ap (cheapest version) (map-same within (continued version (b ∷ bytes)) (first_segments version (b ∷ bytes)) same)))
-    (cheapest-is version b bytes (continued version (b ∷ bytes)))
+    ap (cheapest version) (map-same within (continued version (b ∷ bytes)) (first_segments version (b ∷ bytes)) same)
+
+-- the best list is that of a first segment, which comes first
+pub record IsBest (version : ℕ) (bytes : List ℕ) : Type 0 where
+  pub first : Segment
+  pub is : chosen_segments version bytes ≡ continued version bytes first
+  pub fits : IsFirstSegment version bytes first
+  pub low : (s : Segment) → IsFirstSegment version bytes s
+      → ComesFirst (λ s. cost version (continued version bytes s)) first s
+
+pub chosen_segments-best : (version b : ℕ) (bytes : List ℕ) → IsBest version (b ∷ bytes)
+unfolding first_segments
+chosen_segments-best version b bytes =
+    let P = IsFirstSegment version (b ∷ bytes) in
+    let firsts = first_segments version (b ∷ bytes) in
+    let n = length (b ∷ bytes) in
+    let some = λ (none : firsts ≡ []). each_first (λ s. ⊥) version (b ∷ bytes) (rw none tt) (segment_of Byte 1)
+    (one_byte version b bytes) in
+    let found = cheapest_found P version (continued version (b ∷ bytes)) n firsts some
+    (IsFalling-filter (is_first version (b ∷ bytes)) n (candidates n) (IsFalling-candidates n))
+    (all_firsts P version (b ∷ bytes) (λ s first. first)) in
+    record {
+      first = found.0;
+      is = chosen_segments-cons version b bytes ∙ found.1;
+      fits = found.2;
+      low = each_first (ComesFirst (λ s. cost version (continued version (b ∷ bytes) s)) found.0) version (b ∷ bytes)
+          found.3;
+    }
 
 -- no list of segments of the bytes costs less
 pub chosen_segments-le_cost : (version : ℕ) (bytes : List ℕ) (segments : List Segment)

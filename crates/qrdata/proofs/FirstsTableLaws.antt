@@ -4,7 +4,7 @@ use Rattle.std.proofs.Common.{sym, subst, ap, ◌∙◌, arith, cond}
 use Rattle.std.specs.Prelude.{slice_get, Some, nat_lt}
 use Rattle.std.proofs.lemmas.List.{get_or_append_left, length-append}
 use Rattle.std.proofs.Math.Seq.{get_or-append_seam}
-use Rattle.std.proofs.lemmas.List.{drop-drop, drop_all, drop_more, length-drop}
+use Rattle.std.proofs.lemmas.List.{drop-drop, length-drop}
 use Rattle.std.proofs.lemmas.List.Sums.{sum_by-cons}
 use Rattle.std.proofs.lemmas.Option.{slice_get-get_or}
 use Rattle.qrdata.specs.declared.level.Level.{Level}
@@ -13,7 +13,7 @@ use Rattle.qrdata.specs.declared.mode.Segment.{Segment}
 use Rattle.qrdata.specs.Fewest.{chosen_segments}
 use Rattle.qrdata.specs.Private.SmallestPlan.{IsTable, NamesBest, SameWidths}
 use Rattle.qrdata.specs.Segments.{IsSegmentation, cost, segment_length}
-use Rattle.qrdata.specs.Private.Table.{choices_of, fewest_bits, firsts_of, next_choices, no_choices}
+use Rattle.qrdata.specs.Private.Table.{choices_of, fewest_bits, firsts_of}
 use Rattle.qrdata.specs.Versions.{capacity}
 use Rattle.qrdata.proofs.BestChoiceLaws.{fewest_bits-le_cost}
 use Rattle.qrdata.proofs.ChoiceLimitLaws.{Agrees-if_fits}
@@ -22,37 +22,11 @@ use Rattle.qrdata.proofs.SameWidthLaws.{chosen_segments-same, cost-chosen_same}
 use Rattle.qrdata.proofs.VersionLaws.{IsSound-of, widest}
 use Rattle.qrdata.proofs.WriterLaws.{default_segment}
 
--- the choices of one byte more
-pub choices_of-next : (version : ℕ) (bytes : List ℕ) (place : ℕ) → 0 < place → place ≤ length bytes
-    → next_choices version (get_or bytes (place - 1) 0) (choices_of version (drop place bytes))
-    ≡ choices_of version (drop (place - 1) bytes)
-unfolding choices_of
-choices_of-next version bytes place some inside =
-    let next : place - 1 + 1 ≡ place = omega arith in
-    sym (rw (drop_more bytes (place - 1) 0 (omega arith), next) refl)
-
-pub choices_of-none : (version : ℕ) (bytes : List ℕ) → choices_of version (drop (length bytes) bytes) ≡ no_choices
-unfolding choices_of
-choices_of-none version bytes = rw (drop_all (length bytes) bytes (omega arith)) refl
-
-pub firsts_of-none : (version : ℕ) (bytes : List ℕ) → firsts_of version (drop (length bytes) bytes) ≡ []
-unfolding firsts_of
-firsts_of-none version bytes = rw (drop_all (length bytes) bytes (omega arith)) refl
-
 pub length-firsts_of : (version : ℕ) (bytes : List ℕ) → length (firsts_of version bytes) ≡ length bytes
 unfolding firsts_of
 length-firsts_of version [] = refl
 length-firsts_of version (b ∷ bytes) =
     length-append (firsts_of version bytes) _ ∙ omega (arith, length-firsts_of version bytes)
-
--- one more first
-pub firsts_of-next : (version : ℕ) (bytes : List ℕ) (place : ℕ) → 0 < place → place ≤ length bytes
-    → firsts_of version (drop place bytes) ++ (choices_of version (drop (place - 1) bytes)).best.segment ∷ []
-    ≡ firsts_of version (drop (place - 1) bytes)
-unfolding firsts_of
-firsts_of-next version bytes place some inside =
-    let next : place - 1 + 1 ≡ place = omega arith in
-    rw (drop_more bytes (place - 1) 0 (omega arith), next) refl
 
 found_is : (firsts : List Segment) (k : ℕ) (first : Segment) → k < length firsts → slice_get firsts k ≡ Some first
     → first ≡ get_or firsts k default_segment

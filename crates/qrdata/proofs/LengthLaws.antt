@@ -1,5 +1,5 @@
 -- The bits of segments are as many as their cost.
-use Rattle.std.proofs.Common.{◌≡◌, ℕ, ◌+◌, ◌*◌, ◌/◌, ◌≤◌, List, [], ◌∷◌, ◌++◌, take, drop, length, refl, length-append}
+use Rattle.std.proofs.Common.{◌≡◌, ℕ, ◌+◌, ◌*◌, ◌/◌, ◌≤◌, List, [], ◌∷◌, ◌++◌, take, drop, length, refl, length-append, ap, ◌∙◌}
 use Rattle.std.proofs.Common.{arith}
 use Rattle.std.proofs.lemmas.List.{length-take-le}
 use Rattle.std.proofs.lemmas.List.Sums.{sum_by-cons}
@@ -38,7 +38,7 @@ length-payload_bits Numeric bytes = length-numeric_bits bytes
 length-payload_bits Alphanumeric bytes = length-alphanumeric_bits bytes
 length-payload_bits Byte bytes = length-byte_bits bytes
 
-pub length-segment_bits : (version : ℕ) (mode : Mode) (bytes : List ℕ)
+length-segment_bits : (version : ℕ) (mode : Mode) (bytes : List ℕ)
     → length (segment_bits version mode bytes) ≡ 4 + count_width version mode + payload_length mode (length bytes)
 length-segment_bits version mode bytes =
     let indicator = bits_of 4 (mode_indicator mode) in
@@ -53,19 +53,23 @@ length-segment_bits version mode bytes =
       length-payload_bits mode bytes,
     )
 
+-- the bits of a segment of the first bytes
+pub length-segment_bits_front : (version : ℕ) (mode : Mode) (n : ℕ) (bytes : List ℕ) → n ≤ length bytes
+    → length (segment_bits version mode (take n bytes)) ≡ 4 + count_width version mode + payload_length mode n
+length-segment_bits_front version mode n bytes h =
+    length-segment_bits version mode (take n bytes)
+    ∙ ap (λ k. 4 + count_width version mode + payload_length mode k) (length-take-le n bytes h)
+
 pub length-segments_bits : (version : ℕ) (segments : List Segment) (bytes : List ℕ)
     → IsSegmentation version segments bytes → length (segments_bits version segments bytes) ≡ cost version segments
 unfolding segments_bits
 length-segments_bits version [] bytes cut = refl
 length-segments_bits version (s ∷ segments) bytes cut =
     let front = take s.len bytes in
-    let long : length front ≡ s.len = length-take-le s.len bytes cut.0.inside in
-    let first : length (segment_bits version s.mode front) ≡ segment_length version s =
-    rw (length-segment_bits version s.mode front, long) refl in
     omega (
       arith,
       length-append (segment_bits version s.mode front) (segments_bits version segments (drop s.len bytes)),
-      first,
+      length-segment_bits_front version s.mode s.len bytes cut.0.inside,
       length-segments_bits version segments (drop s.len bytes) cut.1,
       sum_by-cons (segment_length version) s segments,
     )

@@ -4,19 +4,18 @@ use Rattle.std.proofs.Common.{drop, length, replicate, get_or, refl, sym, ap, �
 use Rattle.std.proofs.Common.{false, sum}
 use Rattle.std.specs.Prelude.{◌==◌, fold, max}
 use Rattle.std.specs.List.{AllByRecursion, flat_map}
-use Rattle.std.proofs.lemmas.List.{drop_all, length-take-le}
+use Rattle.std.proofs.lemmas.List.{drop_all}
 use Rattle.std.proofs.lemmas.List.Elements.{All-from_get_or, recursion_from_All}
 use Rattle.std.proofs.Math.Nat.{div-eq_of_lt, mod-eq_of_lt}
 use Rattle.std.proofs.lemmas.Nat.{pow_pos}
 use Rattle.qrdata.specs.declared.level.Level.{Level}
-use Rattle.qrdata.specs.declared.mode.Mode.{Mode}
 use Rattle.qrdata.specs.declared.mode.Mode.TheVariants.{Numeric}
 use Rattle.qrdata.specs.declared.mode.Segment.{Segment}
 use Rattle.qrdata.specs.declared.bits.Bits.{Bits}
 use Rattle.qrdata.specs.Private.BitsInCodewords.{bits_in}
 use Rattle.qrdata.specs.Bits.{bits_of, codewords_of, number_of}
-use Rattle.qrdata.specs.Segments.{IsSegmentation, alphanumeric_bits, alphanumeric_value, byte_bits, cost, count_width}
-use Rattle.qrdata.specs.Segments.{segment_bits, segment_of, segments_bits}
+use Rattle.qrdata.specs.Segments.{IsSegmentation, alphanumeric_bits, alphanumeric_value, byte_bits, cost}
+use Rattle.qrdata.specs.Segments.{segment_of, segments_bits}
 use Rattle.qrdata.specs.Private.Blocks.{HasBlocks}
 use Rattle.qrdata.specs.Versions.{block_lengths, data_codewords, ec_codewords_per_block}
 use Rattle.qrdata.proofs.BlockLaws.{split_lengths}
@@ -27,8 +26,7 @@ use Rattle.qrdata.proofs.PayloadLaws.{AreBytes}
 use Rattle.gf256.specs.ErrorCorrection.{ec_codewords_of, EcCodewordsAreRemainder, RemaindersHaveRoots}
 use Rattle.qrdata.specs.Codewords.{data_codewords_of, split_by}
 use Rattle.qrdata.specs.Versions.{capacity}
-use Rattle.qrdata.specs.Segments.{payload_length}
-use Rattle.qrdata.proofs.LengthLaws.{length-segment_bits, length-segments_bits}
+use Rattle.qrdata.proofs.LengthLaws.{length-segments_bits}
 use Rattle.qrdata.proofs.PaddingLaws.{length-byte_bits, length-data_codewords_of}
 use Rattle.qrdata.proofs.BlockLaws.{length-split_by}
 use Rattle.qrdata.proofs.DataReadingLaws.{HasEcCodewords, have_ec_codewords, lengths_hold}
@@ -120,13 +118,6 @@ HasBlocks-message version level message low high remainder codeword w whole =
       few_ec_codewords = sound.few_ec_codewords;
       total = omega (arith, sound.all, sound.few_codewords);
     }
-
--- the bits of a segment of the first bytes
-pub length-segment_bits_front : (version : ℕ) (mode : Mode) (n : ℕ) (bytes : List ℕ) → n ≤ length bytes
-    → length (segment_bits version mode (take n bytes)) ≡ 4 + count_width version mode + payload_length mode n
-length-segment_bits_front version mode n bytes h =
-    length-segment_bits version mode (take n bytes)
-    ∙ ap (λ k. 4 + count_width version mode + payload_length mode k) (length-take-le n bytes h)
 
 pub length-data : (version : ℕ) (level : Level) (segments : List Segment) (bytes : List ℕ)
     → IsSegmentation version segments bytes → cost version segments ≤ capacity version level
