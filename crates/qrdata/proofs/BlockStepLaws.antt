@@ -1,7 +1,7 @@
 -- The codewords of a place, block by block.
 use Rattle.std.proofs.Common.{◌≡◌, ℕ, suc, ◌+◌, ◌-◌, ◌<◌, List, ◌++◌, drop, take, length, get_or, refl}
 use Rattle.std.proofs.Common.{ap, ◌∙◌, arith, sum, inl, inr}
-use Rattle.std.specs.Prelude.{slice_get, nat_lt, if◌then◌else◌, None, Some}
+use Rattle.std.specs.Prelude.{fold, max, slice_get, nat_lt, if◌then◌else◌, None, Some}
 use Rattle.std.proofs.lemmas.Bool.{cases_lt, le-ltb, lt-ltb}
 use Rattle.std.specs.List.{cons_option}
 use Rattle.std.proofs.lemmas.List.{length-drop, length-take-le, get_or-drop, get_or-take, drop_more}
@@ -53,3 +53,8 @@ pub length-interleaving-split_by : (lengths codewords : List ℕ) → sum length
     → length (interleaving (split_by lengths codewords)) ≡ length codewords
 length-interleaving-split_by lengths codewords e =
     length-interleaving (split_by lengths codewords) ∙ (ap sum (split_lengths lengths codewords (omega arith)) ∙ e)
+
+-- the longest of the blocks that the codewords are cut into has the greatest of the lengths
+pub longest-split_by : (lengths codewords : List ℕ) → sum lengths ≡ length codewords
+    → longest (split_by lengths codewords) ≡ fold max 0 lengths
+longest-split_by lengths codewords whole = ap (fold max 0) (split_lengths lengths codewords (omega arith))

@@ -1,11 +1,9 @@
 -- The order of choices: fewer bits first, and of equally many the longer one.
-use Rattle.std.proofs.Common.{◌≡◌, ℕ, ◌-◌, ◌/◌, ◌%◌, ◌<◌, ◌≤◌, refl, arith, inl, inr, Bool, true, false}
+use Rattle.std.proofs.Common.{◌≡◌, ℕ, ◌-◌, ◌/◌, ◌%◌, ◌<◌, ◌≤◌, arith, inl, inr, Bool, true, false}
 use Rattle.std.specs.Prelude.{nat_lt, ◌||◌, ◌&&◌, ◌==◌}
 use Rattle.std.proofs.lemmas.Bool.{cases_lt, cond_both}
 use Rattle.std.proofs.lemmas.Bool.Decides.{nat_tests}
 use Rattle.qrdata.specs.Private.ChoiceView.{ChoiceView}
-use Rattle.qrdata.specs.declared.mode.Mode.{Mode}
-use Rattle.qrdata.specs.Segments.{segment_of}
 use Rattle.qrdata.specs.Private.Table.{better_choice}
 
 -- a choice comes no later than one of `bits` bits and this length
@@ -42,25 +40,11 @@ unfolding better_choice
 better-right c {d} {bits} {len} second = cond_both (is_better c d) d c (λ e. Beats e bits len) (λ yes. second)
     (λ no. Beats-then {c = c} {d = d} (record { low = grind (arith, nat_tests); strict = λ less. grind (arith, nat_tests) }) second)
 
--- a choice as clauses see it
-abbrev pub choice_seen : Mode → ℕ → ChoiceView
-choice_seen mode weight = record { segment = segment_of mode (1023 - weight % 1024); bits = weight / 1024 }
-
 -- the better choice is that of less weight, and of equal ones the first
-is_lighter : (w x : ℕ) → x < w → (nat_lt (x / 1024) (w / 1024)
+pub is_lighter : (w x : ℕ) → x < w → (nat_lt (x / 1024) (w / 1024)
     || (x / 1024 == w / 1024 && nat_lt (1023 - w % 1024) (1023 - x % 1024))) ≡ true
 is_lighter w x less = grind (arith, nat_tests)
 
-is_no_lighter : (w x : ℕ) → w ≤ x → (nat_lt (x / 1024) (w / 1024)
+pub is_no_lighter : (w x : ℕ) → w ≤ x → (nat_lt (x / 1024) (w / 1024)
     || (x / 1024 == w / 1024 && nat_lt (1023 - w % 1024) (1023 - x % 1024))) ≡ false
 is_no_lighter w x more = grind (arith, nat_tests)
-
-pub better_choice-lighter : (m n : Mode) (w x : ℕ) → x < w
-    → choice_seen n x ≡ better_choice (choice_seen m w) (choice_seen n x)
-unfolding better_choice
-better_choice-lighter m n w x less = rw (is_lighter w x less) refl
-
-pub better_choice-no_lighter : (m n : Mode) (w x : ℕ) → w ≤ x
-    → choice_seen m w ≡ better_choice (choice_seen m w) (choice_seen n x)
-unfolding better_choice
-better_choice-no_lighter m n w x more = rw (is_no_lighter w x more) refl

@@ -1,13 +1,13 @@
 -- What is read of the codewords of a symbol is its data.
 use Rattle.std.proofs.Common.{◌≡◌, ℕ, zero, suc, ◌+◌, ◌-◌, ◌*◌, ◌/◌, ◌%◌, ◌<◌, ◌≤◌, List, [], ◌∷◌, ◌++◌, map, take, drop}
-use Rattle.std.proofs.Common.{length, replicate, refl, sym, ap, ◌∙◌, length-append, arith, Bool, true, false, sum}
+use Rattle.std.proofs.Common.{get_or, length, replicate, refl, sym, ap, ◌∙◌, length-append, arith, Bool, true, false, sum}
 use Rattle.std.specs.Prelude.{if◌then◌else◌, None, Some, Option, ◌&&◌, ◌==◌}
-use Rattle.std.specs.List.{AllByRecursion, concat, list_all, range_with_len, zip}
+use Rattle.std.specs.List.{AllByRecursion, concat, flat_map, list_all, range_with_len, zip}
 use Rattle.std.proofs.lemmas.Bool.{eq-eqb, eqb-true}
 use Rattle.std.proofs.lemmas.List.{length-take}
 use Rattle.std.proofs.Math.Nat.{pow-le-pow_right}
 use Rattle.std.proofs.lemmas.List.Folds.{sum_by-replicate}
-use Rattle.std.proofs.lemmas.List.Elements.{All-from_recursion, recursion_from_All}
+use Rattle.std.proofs.lemmas.List.Elements.{All-from_get_or, All-from_recursion, recursion_from_All}
 use Rattle.gf256.specs.Field.{alpha, field_power, IsElement}
 use Rattle.gf256.specs.Polynomial.{evaluate}
 use Rattle.gf256.specs.ErrorCorrection.{ec_codewords_of, HasRoots, IsRemainder, EcCodewordsAreRemainder}
@@ -71,6 +71,32 @@ ec_lengths : (k : ℕ) (blocks : Blocks) → AllByRecursion (HasEcCodewords k) b
     → map length (map (ec_codewords_of k) blocks) ≡ replicate (length blocks) k
 ec_lengths k [] law = refl
 ec_lengths k (block ∷ blocks) law = rw (law.0.count, ec_lengths k blocks law.1) refl
+
+-- the error correction codewords of all blocks, which have equal lengths, are cut apart again
+pub split_by-flat_map : (k : ℕ) (blocks : Blocks) → AllByRecursion (HasEcCodewords k) blocks
+    → split_by (replicate (length blocks) k) (flat_map (ec_codewords_of k) blocks) ≡ map (ec_codewords_of k) blocks
+unfolding split_by
+split_by-flat_map k [] law = refl
+split_by-flat_map k (block ∷ blocks) law = rw (
+  take_front k (ec_codewords_of k block) (flat_map (ec_codewords_of k) blocks) law.0.count,
+  drop_front k (ec_codewords_of k block) (flat_map (ec_codewords_of k) blocks) law.0.count,
+  split_by-flat_map k blocks law.1,
+) refl
+
+pub length-flat_map : (k : ℕ) (blocks : Blocks) → AllByRecursion (HasEcCodewords k) blocks
+    → length (flat_map (ec_codewords_of k) blocks) ≡ length blocks * k
+length-flat_map k [] law = omega arith
+length-flat_map k (block ∷ blocks) law = omega (
+  arith,
+  length-append (ec_codewords_of k block) (flat_map (ec_codewords_of k) blocks),
+  law.0.count,
+  length-flat_map k blocks law.1,
+)
+
+-- a slice of bytes
+pub AreBytes-slice : (bytes : List ℕ) → ((i : ℕ) → get_or bytes i 0 < 256) → AreBytes bytes
+AreBytes-slice bytes each = recursion_from_All (λ b. b < 256) bytes
+    (All-from_get_or (λ b. b < 256) bytes 0 (λ i h. each i))
 
 pub AreBytes-append : (xs ys : List ℕ) → AreBytes xs → AreBytes ys → AreBytes (xs ++ ys)
 AreBytes-append [] ys v w = w

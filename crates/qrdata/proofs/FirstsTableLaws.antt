@@ -20,7 +20,7 @@ use Rattle.qrdata.proofs.ChoiceLimitLaws.{Agrees-if_fits}
 use Rattle.qrdata.proofs.FewestBitsLaws.{chosen_segments-is}
 use Rattle.qrdata.proofs.SameWidthLaws.{chosen_segments-same, cost-chosen_same}
 use Rattle.qrdata.proofs.VersionLaws.{IsSound-of, widest}
-use Rattle.qrdata.proofs.WriterLaws.{default_segment}
+use Rattle.qrdata.proofs.LengthLaws.{default_segment}
 
 pub length-firsts_of : (version : ℕ) (bytes : List ℕ) → length (firsts_of version bytes) ≡ length bytes
 unfolding firsts_of

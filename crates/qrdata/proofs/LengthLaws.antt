@@ -9,7 +9,7 @@ use Rattle.qrdata.specs.declared.mode.Segment.{Segment}
 use Rattle.qrdata.specs.Bits.{bits_of}
 use Rattle.qrdata.specs.Segments.{IsSegmentation, alphanumeric_bits, alphanumeric_value, cost, count_width, digit_value}
 use Rattle.qrdata.specs.Segments.{mode_indicator, numeric_bits, payload_bits, payload_length, segment_bits}
-use Rattle.qrdata.specs.Segments.{segment_length, segments_bits}
+use Rattle.qrdata.specs.Segments.{segment_length, segment_of, segments_bits}
 use Rattle.qrdata.proofs.BitStringLaws.{length-bits_of}
 use Rattle.qrdata.proofs.PaddingLaws.{length-byte_bits}
 
@@ -79,3 +79,7 @@ pub count_below_cost : (version : ℕ) (segments : List Segment) → length segm
 count_below_cost version [] = omega arith
 count_below_cost version (s ∷ segments) =
     omega (arith, count_below_cost version segments, sum_by-cons (segment_length version) s segments)
+
+-- what a list of segments is read as past its end
+abbrev pub default_segment : Segment
+default_segment = segment_of Numeric 0

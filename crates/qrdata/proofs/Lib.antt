@@ -1,5 +1,4 @@
 pub mod BestChoiceLaws
-pub mod ByteChoiceLaws
 pub mod BitStringLaws
 pub mod BlockLaws
 pub mod BlockStepLaws
@@ -15,7 +14,6 @@ pub mod LengthLaws
 pub mod PaddingLaws
 pub mod PayloadStepLaws
 pub mod PayloadLaws
-pub mod PlanLaws
 pub mod DataReadingLaws
 pub mod CodewordByteLaws
 pub mod SameWidthLaws
@@ -25,4 +23,3 @@ pub mod FirstsLaws
 pub mod FirstsTableLaws
 pub mod VersionSearchLaws
 pub mod VersionLaws
-pub mod WriterLaws

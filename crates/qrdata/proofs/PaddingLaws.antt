@@ -1,7 +1,7 @@
 -- The data codewords hold the bits of the segments, and after them what a reader takes as their end.
 use Rattle.std.proofs.Common.{◌≡◌, ℕ, zero, suc, ◌+◌, ◌-◌, ◌*◌, ◌/◌, ◌%◌, ◌<◌, ◌≤◌, List, [], ◌∷◌, ◌++◌, take, drop}
 use Rattle.std.proofs.Common.{length, replicate, refl, ap, append_assoc, append-nil, length-append, arith, Bool, true}
-use Rattle.std.proofs.Common.{false, min, ◌∙◌}
+use Rattle.std.proofs.Common.{false, min, ◌∙◌, ◌^◌, sym}
 use Rattle.std.specs.Prelude.{◌==◌, if◌then◌else◌}
 use Rattle.std.proofs.lemmas.List.FromFn.{length-map-range_with_len}
 use Rattle.std.proofs.lemmas.List.{length-replicate, length-take-le, length-drop, take-append-drop, replicate-append-replicate}
@@ -13,7 +13,13 @@ use Rattle.qrdata.specs.Bits.{bits_of, number_of, codewords_of}
 use Rattle.qrdata.specs.Codewords.{with_zeros, with_pad_codewords, pad_codewords, data_codewords_of, with_terminator}
 use Rattle.qrdata.specs.Segments.{byte_bits}
 use Rattle.qrdata.specs.Reading.{is_end}
-use Rattle.qrdata.proofs.BitStringLaws.{bits_of-number_of, length-bits_of}
+use Rattle.std.proofs.Math.Nat.{div-eq_of_lt, mod-eq_of_lt}
+use Rattle.std.proofs.lemmas.Nat.{pow_pos}
+use Rattle.qrdata.specs.declared.bits.Bits.{Bits}
+use Rattle.qrdata.specs.Private.BitsInCodewords.{bits_in}
+use Rattle.qrdata.proofs.BitStringLaws.{bits_of-nil, bits_of-number_of, drop_front, length-bits_of, number_of-bits_of}
+use Rattle.qrdata.proofs.BitStringLaws.{take_front}
+use Rattle.qrdata.proofs.PayloadLaws.{AreBytes}
 
 pub byte_bits-append : (xs ys : List ℕ) → byte_bits (xs ++ ys) ≡ byte_bits xs ++ byte_bits ys
 unfolding byte_bits
@@ -129,4 +135,53 @@ length-data_codewords_of size bits h =
       length-pad_codewords (size - length ended / 8),
       a.whole,
       a.within,
+    )
+
+-- a zero is written in zeros
+bit_zero : (width : ℕ) → (0 / 2 ^ width % 2 == 1) ≡ false
+bit_zero width = let none : 0 / 2 ^ width ≡ 0 = div-eq_of_lt (pow_pos width) in rw none refl
+
+pub bits_of-zero : (width : ℕ) → bits_of width 0 ≡ replicate width false
+unfolding bits_of
+bits_of-zero zero = refl
+bits_of-zero (suc width) = rw (bit_zero width, bits_of-zero width) refl
+
+-- the codewords of the bits of bytes are the bytes
+pub codewords_of-byte_bits : (codewords : List ℕ) → AreBytes codewords
+    → codewords_of (length codewords) (byte_bits codewords) ≡ codewords
+unfolding codewords_of byte_bits
+codewords_of-byte_bits [] w = refl
+codewords_of-byte_bits (codeword ∷ codewords) w =
+    let front : take 8 (bits_of 8 codeword ++ byte_bits codewords) ≡ bits_of 8 codeword =
+    take_front 8 (bits_of 8 codeword) (byte_bits codewords) (length-bits_of 8 codeword) in
+    let rest : drop 8 (bits_of 8 codeword ++ byte_bits codewords) ≡ byte_bits codewords =
+    drop_front 8 (bits_of 8 codeword) (byte_bits codewords) (length-bits_of 8 codeword) in
+    let value : number_of (bits_of 8 codeword) ≡ codeword = number_of-bits_of 8 codeword ∙ mod-eq_of_lt w.0 in
+    rw (front, rest, value, codewords_of-byte_bits codewords w.1) refl
+
+-- bits that end with a codeword are those of their codewords
+pub whole_codewords : (codewords : List ℕ) (count number n : ℕ) → AreBytes codewords → count < 8
+    → length (byte_bits codewords ++ bits_of count number) ≡ 8 * n
+    → codewords ≡ codewords_of (length (byte_bits codewords ++ bits_of count number) / 8)
+    (byte_bits codewords ++ bits_of count number)
+whole_codewords codewords count number n w few whole =
+    let long : length (byte_bits codewords ++ bits_of count number) ≡ 8 * length codewords + count =
+    omega (
+      arith,
+      length-append (byte_bits codewords) (bits_of count number),
+      length-byte_bits codewords,
+      length-bits_of count number,
+    ) in
+    let none : count ≡ 0 = omega (arith, long, whole) in
+    let size : length (byte_bits codewords ++ bits_of count number) / 8
+    ≡ length codewords = omega (arith, long, none) in
+    rw (size, none, bits_of-nil, append-nil) (sym (codewords_of-byte_bits codewords w))
+
+pub length-bits_in : (bits : Bits) → length (bits_in bits) ≡ 8 * length bits.codewords.items + bits.rest.count
+length-bits_in bits =
+    omega (
+      arith,
+      length-append (byte_bits bits.codewords.items) (bits_of bits.rest.count bits.rest.number),
+      length-byte_bits bits.codewords.items,
+      length-bits_of bits.rest.count bits.rest.number,
     )

@@ -3,7 +3,7 @@ ghost use Rattle.qrdata.specs.Versions.{IsVersion, block_lengths, data_codewords
 ghost use Rattle.qrdata.specs.Private.Blocks.{block_count};
 ghost use Rattle.qrdata.specs.Versions.{side_of};
 ghost use Rattle.qrdata.specs.Versions.{total_codewords};
-ghost use Rattle.std.specs.Prelude.{◌≡◌, ◌<◌, ◌↔◌, ◌⊎◌, IfSome, IsNone, ℕ};
+ghost use Rattle.std.specs.Prelude.{◌≡◌, ◌<◌, ◌≤◌, ◌↔◌, ◌⊎◌, IfSome, IsNone, ℕ};
 
 use crate::blocks::{Lengths, push_lengths};
 use crate::level::Level;
@@ -118,7 +118,9 @@ impl Version {
 
     /// Returns the number of blocks of a symbol at a level.
     pub(crate) fn block_count(self, level: Level) -> usize
-        ensures { result ≡ block_count self level }
+        ensures value { result ≡ block_count self level }
+        ensures some { 0 < result }
+        ensures few { result ≤ 8 }
     {
         BLOCKS[usize::from(self.number) - 1][level.place()]
     }
@@ -138,12 +140,10 @@ impl Version {
         let blocks = self.block_count(level);
         let codewords = self.data_codewords(level);
         let mut lengths = Lengths::new();
-        push_lengths(
-            &mut lengths,
-            blocks - codewords % blocks,
-            codewords / blocks,
-        );
-        push_lengths(&mut lengths, codewords % blocks, codewords / blocks + 1);
+        let size = codewords / blocks;
+        let longer = codewords % blocks;
+        push_lengths(&mut lengths, blocks - longer, size);
+        push_lengths(&mut lengths, longer, size + 1);
         lengths
     }
 }

@@ -4,8 +4,7 @@ use Rattle.std.proofs.lemmas.List.{drop-drop, drop_all, drop_more, length-drop}
 use Rattle.std.proofs.lemmas.List.Sums.{sum_by-cons}
 use Rattle.qrdata.specs.Private.BitsInCodewords.{bits_in}
 use Rattle.qrdata.specs.Segments.{segment_bits, segment_length, segments_bits}
-use Rattle.qrdata.proofs.LengthLaws.{length-segment_bits_front}
-use Rattle.qrdata.proofs.WriterLaws.{default_segment}
+use Rattle.qrdata.proofs.LengthLaws.{default_segment, length-segment_bits_front}
 use Rattle.qrdata.proofs.bits.Bits.push_segments.Goals as goal
 
 pub loop-segment-preserved : goal.loop-segment-preserved

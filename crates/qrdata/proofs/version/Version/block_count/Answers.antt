@@ -1,6 +1,14 @@
 use Rattle.qrdata.proofs.VersionLaws.{IsSound-of}
 use Rattle.qrdata.proofs.version.Version.block_count.Goals as goal
 
-pub returns : goal.returns
-returns c = rw (c.from.ensures, c.place.ensures, ← c.self.view_is)
+pub returns-clause-value : goal.returns-clause-value
+returns-clause-value c = rw (c.from.ensures, c.place.ensures, ← c.self.view_is)
     (IsSound-of c.self.inside.number c.args.level c.self.invariant).coded_blocks
+
+pub returns-clause-some : goal.returns-clause-some
+returns-clause-some c =
+    rw (returns-clause-value c) (IsSound-of c.args.self c.args.level (rw c.self.view_is at c.self.invariant)).some_blocks
+
+pub returns-clause-few : goal.returns-clause-few
+returns-clause-few c =
+    rw (returns-clause-value c) (IsSound-of c.args.self c.args.level (rw c.self.view_is at c.self.invariant)).few_blocks
