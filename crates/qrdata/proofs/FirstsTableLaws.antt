@@ -11,10 +11,11 @@ use Rattle.qrdata.specs.declared.level.Level.{Level}
 use Rattle.qrdata.specs.declared.mode.Mode.TheVariants.{Byte}
 use Rattle.qrdata.specs.declared.mode.Segment.{Segment}
 use Rattle.qrdata.specs.Fewest.{chosen_segments}
-use Rattle.qrdata.specs.Private.SmallestPlan.{IsTable, NamesBest, SameWidths}
+use Rattle.qrdata.specs.Private.SmallestPlan.{FitsBits, IsTable, NamesBest, SameWidths}
 use Rattle.qrdata.specs.Segments.{IsSegmentation, cost, segment_length}
 use Rattle.qrdata.specs.Private.Table.{choices_of, fewest_bits, firsts_of}
-use Rattle.qrdata.specs.Versions.{capacity}
+use Rattle.qrdata.specs.Versions.{IsVersion, capacity}
+use Rattle.qrdata.proofs.BoundLaws.{few_segments}
 use Rattle.qrdata.proofs.BestChoiceLaws.{fewest_bits-le_cost}
 use Rattle.qrdata.proofs.ChoiceLimitLaws.{Agrees-if_fits}
 use Rattle.qrdata.proofs.FewestBitsLaws.{chosen_segments-is}
@@ -72,6 +73,21 @@ fewest_bits-below v w same bytes =
 pub fewest_bits-is : (v w : ℕ) → SameWidths v w → (bytes : List ℕ) → length bytes ≤ 652 → fewest_bits w bytes ≤ widest w
     → fewest_bits w bytes ≡ cost v (chosen_segments v bytes)
 fewest_bits-is v w same bytes few fits = (Agrees-if_fits w bytes few fits).bits ∙ sym (cost-chosen_same v w same bytes)
+
+-- the segments that fit, and have these bits
+pub FitsBits-of : (v w : ℕ) (level : Level) (bits : ℕ) → SameWidths v w → IsVersion v → (bytes : List ℕ)
+    → length bytes ≤ 652 → bits ≡ fewest_bits w bytes → bits ≤ capacity v level
+    → FitsBits v level bits (chosen_segments v bytes)
+FitsBits-of v w level bits same known bytes few fewest fits =
+    let wide = capacity_as_wide v w level same known.0 known.1 in
+    let value : bits ≡ cost v (chosen_segments v bytes) =
+    fewest ∙ fewest_bits-is v w same bytes few (omega (arith, fewest, fits, wide)) in
+    record {
+      value = value;
+      fits = fits;
+      short = few_segments v level (chosen_segments v bytes) bytes known (chosen_segments-is v bytes)
+          (omega (arith, value, fits));
+    }
 
 -- a table of the version w names the best segments of each version v whose counts have the same widths
 -- plan_between, the only caller, has the loop's number for v and the highest version for w; one call of `fill`

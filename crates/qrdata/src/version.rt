@@ -1,5 +1,5 @@
 //! The sizes of versions 1 to 10 (ISO/IEC 18004, tables 1, 7 and 9).
-ghost use Rattle.qrdata.specs.Versions.{IsVersion, block_lengths, data_codewords, ec_codewords_per_block};
+ghost use Rattle.qrdata.specs.Versions.{IsVersion, block_lengths, capacity, data_codewords, ec_codewords_per_block};
 ghost use Rattle.qrdata.specs.Private.Blocks.{block_count};
 ghost use Rattle.qrdata.specs.Versions.{side_of};
 ghost use Rattle.qrdata.specs.Versions.{total_codewords};
@@ -114,6 +114,15 @@ impl Version {
     {
         self.known();
         self.total_codewords() - self.block_count(level) * self.ec_codewords_per_block(level)
+    }
+
+    /// Returns the number of data bits of a symbol at a level.
+    pub(crate) fn capacity(self, level: Level) -> usize
+        ensures value { result ≡ capacity self level }
+        ensures few { result ≤ 2192 }
+    {
+        self.known();
+        8 * self.data_codewords(level)
     }
 
     /// Returns the number of blocks of a symbol at a level.

@@ -8,7 +8,7 @@ use Rattle.qrdata.specs.declared.firsts.TheConstants.{MAX_BYTES}
 use Rattle.qrdata.specs.Fewest.{chosen_segments}
 use Rattle.qrdata.specs.PlanView.{PlanView}
 use Rattle.qrdata.specs.Segments.{cost, count_width}
-use Rattle.qrdata.specs.Versions.{capacity}
+use Rattle.qrdata.specs.Versions.{IsVersion, capacity}
 
 -- a character count has the same bits in two versions, whatever the mode
 abbrev pub SameWidths : ℕ → ℕ → Type 0
@@ -31,6 +31,18 @@ pub record IsSmallestPlan (lowest highest : ℕ) (level : Level) (bytes : List �
 -- in no version of a range do the best segments of the bytes fit
 abbrev pub NoPlan : (lowest highest : ℕ) → Level → List ℕ → Type 0
 NoPlan lowest highest level bytes = (v : ℕ) → lowest ≤ v → v ≤ highest → DoNotFit v level bytes
+
+-- no version from the lowest one to that before `end` has this many data bits
+abbrev pub HaveNoRoom : (lowest end : ℕ) → Level → (bits : ℕ) → Type 0
+HaveNoRoom lowest end level bits = (v : ℕ) → lowest ≤ v → v < end → capacity v level < bits
+
+-- the version is the smallest one of a range that has this many data bits
+pub record HasRoom (lowest highest : ℕ) (level : Level) (bits version : ℕ) : Type 0 where
+  pub from : lowest ≤ version
+  pub to : version ≤ highest
+  pub known : IsVersion version
+  pub fits : bits ≤ capacity version level
+  pub smallest : HaveNoRoom lowest version level bits
 
 -- where the best segments of a rest have at most `limit` bits, the table names the first of them
 abbrev pub NamesBest : (version : ℕ) (bytes : List ℕ) (limit : ℕ) → List Segment → Type 0
