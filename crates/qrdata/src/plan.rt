@@ -158,10 +158,8 @@ fn plan_between<'a>(lowest: u8, highest: u8, level: Level, bytes: &'a [u8]) -> O
     }
     let mut firsts = Firsts::new();
     let bits = fill(widest, bytes, &mut firsts);
-    match smallest_version(lowest, highest, level, bits) {
-        Some(version) => Some(plan_of(version, level, bytes, &firsts, bits as u32)),
-        None => None,
-    }
+    let version = smallest_version(lowest, highest, level, bits)?;
+    Some(plan_of(version, level, bytes, &firsts, bits as u32))
 }
 
 /// Returns the smallest version, from `lowest` to `highest`, that has `bits` data bits.

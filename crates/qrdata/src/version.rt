@@ -1,4 +1,5 @@
 //! The sizes of versions 1 to 10 (ISO/IEC 18004, tables 1, 7 and 9).
+ghost use Rattle.gf256.specs.ErrorCorrection.{IsEcCodewordCount};
 ghost use Rattle.qrdata.specs.Versions.{IsVersion, block_lengths, capacity, data_codewords, ec_codewords_per_block};
 ghost use Rattle.qrdata.specs.Private.Blocks.{block_count};
 ghost use Rattle.qrdata.specs.Versions.{side_of};
@@ -136,7 +137,8 @@ impl Version {
 
     /// Returns the number of error correction codewords of each block at a level.
     pub(crate) fn ec_codewords_per_block(self, level: Level) -> usize
-        ensures { result ≡ ec_codewords_per_block self level }
+        ensures value { result ≡ ec_codewords_per_block self level }
+        ensures count { IsEcCodewordCount result }
     {
         EC_CODEWORDS[usize::from(self.number) - 1][level.place()]
     }

@@ -18,8 +18,7 @@ place_of M = 1
 place_of Q = 2
 place_of H = 3
 
--- the message is cut into at most 8 blocks, each of which has 1 to 30 error correction codewords; with these they fit
--- a symbol
+-- the message is cut into at most 8 blocks, which fit a symbol with their error correction codewords
 pub record HasBlocks (version : ℕ) (level : Level) (message : List ℕ) : Type 0 where
   pub count : length (block_lengths version level) ≡ block_count version level
   pub whole : sum (block_lengths version level) ≡ length message
@@ -31,6 +30,4 @@ pub record HasBlocks (version : ℕ) (level : Level) (message : List ℕ) : Type
       (block_lengths version level) message))
       ≡ map (ec_codewords_of (ec_codewords_per_block version level)) (split_by (block_lengths version level) message)
   pub few : block_count version level ≤ 8
-  pub some_ec_codewords : 1 ≤ ec_codewords_per_block version level
-  pub few_ec_codewords : ec_codewords_per_block version level ≤ 30
   pub total : length message + block_count version level * ec_codewords_per_block version level ≤ 346

@@ -25,7 +25,5 @@ returns c =
       ec_blocks = length-flat_map k blocks law ∙ ap (λ n. n * k) (same ∙ shapes.1);
       cut = rw (← same) (split_by-flat_map k blocks law);
       few = sound.few_blocks;
-      some_ec_codewords = sound.some_ec_codewords;
-      few_ec_codewords = sound.few_ec_codewords;
       total = omega (arith, sound.all, sound.few_codewords, c.requires.whole);
     }

@@ -8,12 +8,6 @@ use Rattle.qrdata.proofs.BlockStepLaws.{length-interleaving-split_by}
 use Rattle.qrdata.proofs.final_message.write_symbol.Goals as goal
 use Rattle.qrdata.proofs.final_message.write_symbol.Goals.{After-as_slice-4}
 
-pub push_ec_codewords-requires-clause-count : goal.push_ec_codewords-requires-clause-count
-push_ec_codewords-requires-clause-count c = (
-  omega (arith, c.ec_codewords_per_block-count.ensures, c.have_blocks.ensures.some_ec_codewords),
-  omega (arith, c.ec_codewords_per_block-count.ensures, c.have_blocks.ensures.few_ec_codewords),
-)
-
 pub push_ec_codewords-requires-clause-blocks : goal.push_ec_codewords-requires-clause-blocks
 push_ec_codewords-requires-clause-blocks c = (
   rw (c.as_slice.ensures.value, c.lengths-lengths.ensures) c.have_blocks.ensures.whole,
@@ -42,7 +36,7 @@ written c = rw (
   c.new-ec_codewords.ensures,
   c.as_slice.ensures.value,
   c.lengths-lengths.ensures,
-  c.ec_codewords_per_block-count.ensures,
+  c.ec_codewords_per_block-count.ensures.value,
 ) (refl, refl)
 
 pub interleave-requires-2-clause-whole : goal.interleave-requires-2-clause-whole
