@@ -75,7 +75,7 @@ best_front version bytes choices are =
     (front_of version bytes are.0.1)) (front_of version bytes are.0.2))
     (better-one P _ _ (front_of version bytes are.1.0) (front_of version bytes are.1.1))) (front_of version bytes are.2)
 
-fewest_nil : (version : ℕ) → fewest_bits version [] ≡ 0
+pub fewest_nil : (version : ℕ) → fewest_bits version [] ≡ 0
 unfolding choices_of
 fewest_nil version = refl
 

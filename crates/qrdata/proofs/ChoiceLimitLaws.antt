@@ -11,7 +11,7 @@ use Rattle.qrdata.specs.declared.mode.Segment.{Segment}
 use Rattle.qrdata.specs.Fewest.{chosen_segments}
 use Rattle.qrdata.specs.Segments.{IsFirstSegment, cost, count_width, segment_length, segment_of}
 use Rattle.qrdata.specs.Private.Table.{choices_of, fewest_bits}
-use Rattle.qrdata.proofs.BestChoiceLaws.{best-front, best-le, fewest_bits-le_cost}
+use Rattle.qrdata.proofs.BestChoiceLaws.{best-front, best-le, fewest_bits-le_cost, fewest_nil}
 use Rattle.qrdata.proofs.FewestBitsLaws.{chosen_segments-best, chosen_segments-is, chosen_segments-nil}
 use Rattle.qrdata.proofs.FewestBitsLaws.{continued, cost-continued}
 use Rattle.qrdata.proofs.VersionLaws.{widest}
@@ -90,14 +90,16 @@ pub record Agrees (version : ℕ) (bytes : List ℕ) : Type 0 where
   pub first : 0 < length bytes → continued version bytes (choices_of version bytes).best.segment
       ≡ chosen_segments version bytes
 
-agrees_step : (version b : ℕ) (bytes : List ℕ) → length (b ∷ bytes) ≤ 652
-    → fewest_bits version (b ∷ bytes) ≤ widest version
-    → ((rest : List ℕ) → length rest ≤ length bytes → fewest_bits version rest ≤ widest version → Agrees version rest)
-    → Agrees version (b ∷ bytes)
-agrees_step version b bytes few fits later =
+agrees_within : (version n : ℕ) (bytes : List ℕ) → length bytes ≤ n → length bytes ≤ 652
+    → fewest_bits version bytes ≤ widest version → Agrees version bytes
+agrees_within version n [] short few fits =
+    record { bits = rw (chosen_segments-nil version) (fewest_nil version); first = λ some. absurd (omega arith) }
+agrees_within version zero (b ∷ bytes) short few fits = absurd (omega arith)
+agrees_within version (suc n) (b ∷ bytes) short few fits =
     let t = (choices_of version (b ∷ bytes)).best.segment in
     let front = best-front version b bytes few in
-    let rest = later (drop t.len (b ∷ bytes)) (omega (arith, length-drop t.len (b ∷ bytes), front.run.some))
+    let shorter = length-drop t.len (b ∷ bytes) in
+    let rest = agrees_within version n (drop t.len (b ∷ bytes)) (omega (arith, front.run.some)) (omega arith)
     (omega (arith, front.sum)) in
     let sum : cost version (continued version (b ∷ bytes) t) ≡ fewest_bits version (b ∷ bytes) =
     omega (arith, cost-continued version (b ∷ bytes) t, front.sum, rest.bits) in
@@ -108,15 +110,6 @@ agrees_step version b bytes few fits later =
       counted = short_enough version t.mode t.len (omega (arith, front.sum));
     }) in
     record { bits = sym sum ∙ ap (cost version) whole; first = λ some. whole }
-
-agrees_within : (version n : ℕ) (bytes : List ℕ) → length bytes ≤ n → length bytes ≤ 652
-    → fewest_bits version bytes ≤ widest version → Agrees version bytes
-unfolding choices_of
-agrees_within version n [] short few fits =
-    record { bits = rw (chosen_segments-nil version) refl; first = λ some. absurd (omega arith) }
-agrees_within version zero (b ∷ bytes) short few fits = absurd (omega arith)
-agrees_within version (suc n) (b ∷ bytes) short few fits =
-    agrees_step version b bytes few fits (λ rest shorter. agrees_within version n rest (omega arith) (omega arith))
 
 pub Agrees-if_fits : (version : ℕ) (bytes : List ℕ) → length bytes ≤ 652 → fewest_bits version bytes ≤ widest version
     → Agrees version bytes

@@ -62,7 +62,7 @@ each_passes P p (x ∷ xs) all = cond_both (p x) (x ∷ filter p xs) (filter p x
     (λ l. AllByRecursion P l → AllByRecursion (λ x. IsTrue (p x) → P x) (x ∷ xs))
     (λ yes both. (λ _. both.0, each_passes P p xs both.1)) (λ no rest. (λ yes. cc, each_passes P p xs rest)) all
 
-pub all_firsts : (P : Segment → Type 0) (version : ℕ) (bytes : List ℕ)
+all_firsts : (P : Segment → Type 0) (version : ℕ) (bytes : List ℕ)
     → ((s : Segment) → IsFirstSegment version bytes s → P s) → AllByRecursion P (first_segments version bytes)
 unfolding first_segments
 all_firsts P version bytes each = All-filter P (is_first version bytes) (candidates (length bytes))
@@ -70,7 +70,7 @@ all_firsts P version bytes each = All-filter P (is_first version bytes) (candida
     let parts = and_parts _ _ passes in
     each s (record { some = some; inside = inside; characters = parts.0; counted = ltb-true _ _ parts.1 })))
 
-pub each_first : (P : Segment → Type 0) (version : ℕ) (bytes : List ℕ) → AllByRecursion P (first_segments version bytes)
+each_first : (P : Segment → Type 0) (version : ℕ) (bytes : List ℕ) → AllByRecursion P (first_segments version bytes)
     → (s : Segment) → IsFirstSegment version bytes s → P s
 unfolding first_segments
 each_first P version bytes all s first =

@@ -70,7 +70,7 @@ fewest_bits-below v w same bytes =
     )
 
 -- and they are as many where they fit
-pub fewest_bits-is : (v w : ℕ) → SameWidths v w → (bytes : List ℕ) → length bytes ≤ 652 → fewest_bits w bytes ≤ widest w
+fewest_bits-is : (v w : ℕ) → SameWidths v w → (bytes : List ℕ) → length bytes ≤ 652 → fewest_bits w bytes ≤ widest w
     → fewest_bits w bytes ≡ cost v (chosen_segments v bytes)
 fewest_bits-is v w same bytes few fits = (Agrees-if_fits w bytes few fits).bits ∙ sym (cost-chosen_same v w same bytes)
 

@@ -38,7 +38,7 @@ pub fold-max : (n : ℕ) (ns : List ℕ) → fold max n ns ≡ max n (fold max 0
 fold-max n [] = omega arith
 fold-max n (m ∷ ns) = omega (arith, fold-max (max n m) ns, fold-max (max 0 m) ns)
 
-pub longest-cons : (block : List ℕ) (blocks : Blocks) → longest (block ∷ blocks) ≡ max (length block) (longest blocks)
+longest-cons : (block : List ℕ) (blocks : Blocks) → longest (block ∷ blocks) ≡ max (length block) (longest blocks)
 longest-cons block blocks = omega (arith, fold-max (max 0 (length block)) (map length blocks))
 
 le-longest : (blocks : Blocks) (b : ℕ) → length (get_or blocks b []) ≤ longest blocks

@@ -32,7 +32,7 @@ byte_bits-single a = append-nil (bits_of 8 a)
 eight_bits : (bits : List Bool) → length bits ≡ 8 → bits_of 8 (number_of bits) ≡ bits
 eight_bits bits e = rw (← e) (bits_of-number_of bits)
 
-pub byte_bits-codewords_of : (n : ℕ) (bits : List Bool) → length bits ≡ 8 * n → byte_bits (codewords_of n bits) ≡ bits
+byte_bits-codewords_of : (n : ℕ) (bits : List Bool) → length bits ≡ 8 * n → byte_bits (codewords_of n bits) ≡ bits
 unfolding byte_bits codewords_of
 byte_bits-codewords_of zero [] e = refl
 byte_bits-codewords_of zero (b ∷ bits) e = absurd (omega arith)
@@ -47,7 +47,7 @@ unfolding codewords_of
 length-codewords_of zero bits = refl
 length-codewords_of (suc n) bits = ap suc (length-codewords_of n (drop 8 bits))
 
-pub length-pad_codewords : (n : ℕ) → length (pad_codewords n) ≡ n
+length-pad_codewords : (n : ℕ) → length (pad_codewords n) ≡ n
 length-pad_codewords n = length-map-range_with_len (λ i. if i % 2 == 0 then 0xEC else 0x11) 0 n
 
 -- four zeros, or fewer than four bits, end the segments
@@ -147,7 +147,7 @@ bits_of-zero zero = refl
 bits_of-zero (suc width) = rw (bit_zero width, bits_of-zero width) refl
 
 -- the codewords of the bits of bytes are the bytes
-pub codewords_of-byte_bits : (codewords : List ℕ) → AreBytes codewords
+codewords_of-byte_bits : (codewords : List ℕ) → AreBytes codewords
     → codewords_of (length codewords) (byte_bits codewords) ≡ codewords
 unfolding codewords_of byte_bits
 codewords_of-byte_bits [] w = refl
@@ -159,24 +159,6 @@ codewords_of-byte_bits (codeword ∷ codewords) w =
     let value : number_of (bits_of 8 codeword) ≡ codeword = number_of-bits_of 8 codeword ∙ mod-eq_of_lt w.0 in
     rw (front, rest, value, codewords_of-byte_bits codewords w.1) refl
 
--- bits that end with a codeword are those of their codewords
-pub whole_codewords : (codewords : List ℕ) (count number n : ℕ) → AreBytes codewords → count < 8
-    → length (byte_bits codewords ++ bits_of count number) ≡ 8 * n
-    → codewords ≡ codewords_of (length (byte_bits codewords ++ bits_of count number) / 8)
-    (byte_bits codewords ++ bits_of count number)
-whole_codewords codewords count number n w few whole =
-    let long : length (byte_bits codewords ++ bits_of count number) ≡ 8 * length codewords + count =
-    omega (
-      arith,
-      length-append (byte_bits codewords) (bits_of count number),
-      length-byte_bits codewords,
-      length-bits_of count number,
-    ) in
-    let none : count ≡ 0 = omega (arith, long, whole) in
-    let size : length (byte_bits codewords ++ bits_of count number) / 8
-    ≡ length codewords = omega (arith, long, none) in
-    rw (size, none, bits_of-nil, append-nil) (sym (codewords_of-byte_bits codewords w))
-
 pub length-bits_in : (bits : Bits) → length (bits_in bits) ≡ 8 * length bits.codewords.items + bits.rest.count
 length-bits_in bits =
     omega (
@@ -185,3 +167,12 @@ length-bits_in bits =
       length-byte_bits bits.codewords.items,
       length-bits_of bits.rest.count bits.rest.number,
     )
+
+-- bits that end with a codeword are those of their codewords
+pub whole_codewords : (bits : Bits) (n : ℕ) → AreBytes bits.codewords.items → length (bits_in bits) ≡ 8 * n
+    → bits.codewords.items ≡ codewords_of (length (bits_in bits) / 8) (bits_in bits)
+whole_codewords bits n w whole =
+    let long = length-bits_in bits in
+    let none : bits.rest.count ≡ 0 = omega (arith, bits.rest.few) in
+    let size : length (bits_in bits) / 8 ≡ length bits.codewords.items = omega arith in
+    rw (size, none, bits_of-nil, append-nil) (sym (codewords_of-byte_bits bits.codewords.items w))

@@ -16,10 +16,10 @@ use Rattle.qrdata.specs.Reading.{is_end, segment_at, segments_at}
 use Rattle.qrdata.proofs.BitStringLaws.{number_at-bits_of, number_of-bits_of, take_front, length-bits_of}
 use Rattle.qrdata.proofs.PayloadLaws.{AreBytes, payload_at-payload_bits}
 
-indicator_below : (mode : Mode) → mode_indicator mode < 16
-indicator_below Numeric = omega arith
-indicator_below Alphanumeric = omega arith
-indicator_below Byte = omega arith
+indicator_range : (mode : Mode) → (0 < mode_indicator mode) × (mode_indicator mode < 16)
+indicator_range Numeric = (omega arith, omega arith)
+indicator_range Alphanumeric = (omega arith, omega arith)
+indicator_range Byte = (omega arith, omega arith)
 
 mode_named-indicator : (mode : Mode) → find (λ m. mode_indicator m == mode_indicator mode) modes ≡ Some mode
 mode_named-indicator Numeric = refl
@@ -31,7 +31,7 @@ pub segment_at-segment_bits : (version : ℕ) (mode : Mode) (bytes : List ℕ) (
     → segment_at version (segment_bits version mode bytes ++ rest) ≡ Some (bytes, rest)
 unfolding segment_at
 segment_at-segment_bits version mode bytes rest w h fits =
-    let below = indicator_below mode in
+    let below = (indicator_range mode).1 in
     let payload = payload_bits mode bytes ++ rest in
     let count = bits_of (count_width version mode) (length bytes) in
     rw (
@@ -46,11 +46,6 @@ segment_at-segment_bits version mode bytes rest w h fits =
 not_end : (bits : List Bool) → 4 ≤ length bits → 0 < number_of (take 4 bits) → is_end bits ≡ false
 not_end bits long high = grind (arith, nat_tests)
 
-indicator_positive : (mode : Mode) → 0 < mode_indicator mode
-indicator_positive Numeric = omega arith
-indicator_positive Alphanumeric = omega arith
-indicator_positive Byte = omega arith
-
 -- a segment does not begin with four zeros
 is_end-segment_bits : (version : ℕ) (mode : Mode) (bytes : List ℕ) (rest : List Bool)
     → is_end (segment_bits version mode bytes ++ rest) ≡ false
@@ -61,8 +56,8 @@ is_end-segment_bits version mode bytes rest =
     let long : 4 ≤ length (indicator ++ after) = omega (arith, length-append indicator after) in
     let value : number_of (take 4 (indicator ++ after)) ≡ mode_indicator mode =
     rw (take_front 4 indicator after four, number_of-bits_of 4 (mode_indicator mode))
-    (mod-eq_of_lt (indicator_below mode)) in
-    rw (append_assoc, append_assoc) (not_end (indicator ++ after) long (omega (arith, indicator_positive mode)))
+    (mod-eq_of_lt (indicator_range mode).1) in
+    rw (append_assoc, append_assoc) (not_end (indicator ++ after) long (omega (arith, (indicator_range mode).0)))
 
 segments_at-end : (version n : ℕ) (bits : List Bool) → is_end bits ≡ true → segments_at version n bits ≡ Some []
 unfolding segments_at

@@ -44,9 +44,8 @@ pub returns-clause-codewords : goal.returns-clause-codewords
 returns-clause-codewords c =
     let ended = IsEnded-of c.args.size (bits_in c.args.self.now) c.requires.fits in
     let codewords = c.push_number-2.new.self.codewords.items in
-    let rest = c.push_number-2.new.self.rest in
-    whole_codewords codewords rest.count rest.number ended.codewords
-    (recursion_from_All (λ b. b < 256) codewords (rw c.as_slice.ensures.value at c.are_bytes.ensures)) rest.few
+    whole_codewords c.push_number-2.new.self ended.codewords
+    (recursion_from_All (λ b. b < 256) codewords (rw c.as_slice.ensures.value at c.are_bytes.ensures))
     (ap length (returns-clause-bits c) ∙ ended.whole)
 
 pub returns-clause-count : goal.returns-clause-count
