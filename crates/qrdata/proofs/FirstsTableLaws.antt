@@ -1,16 +1,17 @@
 -- A table of best first segments, from the shortest rest on, is right in all versions whose character counts are as wide.
 use Rattle.std.proofs.Common.{◌≡◌, ℕ, zero, suc, [], ◌++◌, ◌+◌, ◌-◌, ◌<◌, ◌≤◌, List, ◌∷◌, drop, length, get_or, refl}
 use Rattle.std.proofs.Common.{sym, subst, ap, ◌∙◌, arith, cond}
-use Rattle.std.specs.Prelude.{slice_get, Some, nat_lt}
+use Rattle.std.specs.Prelude.{nat_lt}
 use Rattle.std.proofs.lemmas.List.{get_or_append_left, length-append}
 use Rattle.std.proofs.Math.Seq.{get_or-append_seam}
-use Rattle.std.proofs.lemmas.List.{drop-drop, length-drop}
+use Rattle.std.proofs.lemmas.List.{drop-drop, get_or-map, length-drop, length-map}
 use Rattle.std.proofs.lemmas.List.Sums.{sum_by-cons}
-use Rattle.std.proofs.lemmas.Option.{slice_get-get_or}
 use Rattle.qrdata.specs.declared.level.Level.{Level}
-use Rattle.qrdata.specs.declared.mode.Mode.TheVariants.{Byte}
+use Rattle.qrdata.specs.declared.mode.Mode.TheVariants.{Byte, Numeric}
 use Rattle.qrdata.specs.declared.mode.Segment.{Segment}
 use Rattle.qrdata.specs.Fewest.{chosen_segments}
+use Rattle.qrdata.specs.Private.Firsts.{HasSegments, first_at}
+use Rattle.qrdata.specs.declared.firsts.Firsts.{Firsts}
 use Rattle.qrdata.specs.Private.SmallestPlan.{FitsBits, IsTable, NamesBest, SameWidths}
 use Rattle.qrdata.specs.Segments.{IsSegmentation, cost, segment_length}
 use Rattle.qrdata.specs.Private.Table.{choices_of, fewest_bits, firsts_of}
@@ -29,9 +30,22 @@ length-firsts_of version [] = refl
 length-firsts_of version (b ∷ bytes) =
     length-append (firsts_of version bytes) _ ∙ omega (arith, length-firsts_of version bytes)
 
-found_is : (firsts : List Segment) (k : ℕ) (first : Segment) → k < length firsts → slice_get firsts k ≡ Some first
-    → first ≡ get_or firsts k default_segment
-found_is firsts k first h found = let at_k = slice_get-get_or firsts k default_segment h in cc
+-- each of the two lists of a table is as long as the table, and at a place they have the segment's mode and length
+pub table_sizes : {firsts : Firsts} {segments : List Segment} → HasSegments firsts segments
+    → (length firsts.modes.items ≡ length segments) × (length firsts.lengths.items ≡ length segments)
+table_sizes {firsts} {segments} table = (
+  ap length table.modes ∙ length-map segments (λ (s : Segment). s.mode),
+  ap length table.lengths ∙ length-map segments (λ (s : Segment). s.len),
+)
+
+first_at-is : {firsts : Firsts} {segments : List Segment} → HasSegments firsts segments → (place : ℕ)
+    → place < length segments → first_at firsts place ≡ get_or segments place default_segment
+first_at-is {firsts} {segments} table place inside = rw (
+  table.modes,
+  table.lengths,
+  get_or-map (λ (s : Segment). s.mode) segments place default_segment Numeric inside,
+  get_or-map (λ (s : Segment). s.len) segments place default_segment 0 inside,
+) refl
 
 -- the first of each rest is behind those of the shorter rests
 get_or-firsts_of : (version : ℕ) (bytes : List ℕ) (k : ℕ) → k < length bytes
@@ -92,17 +106,20 @@ FitsBits-of v w level bits same known bytes few fewest fits =
 -- a table of the version w names the best segments of each version v whose counts have the same widths
 -- plan_between, the only caller, has the loop's number for v and the highest version for w; one call of `fill`
 -- returns the limit and leaves the table
-pub NamesBest-of : (v w : ℕ) → SameWidths v w → (bytes : List ℕ) (limit : ℕ) (firsts : List Segment)
-    → length bytes ≤ 652 → limit ≤ widest w → firsts ≡ firsts_of w bytes → NamesBest v bytes limit firsts
-NamesBest-of v w same bytes limit firsts few fits known = λ k inside small first found.
+pub NamesBest-of : (v w : ℕ) → SameWidths v w → (bytes : List ℕ) (limit : ℕ) (firsts : Firsts)
+    → length bytes ≤ 652 → limit ≤ widest w → HasSegments firsts (firsts_of w bytes) → NamesBest v bytes limit firsts
+NamesBest-of v w same bytes limit firsts few fits known = λ k inside small.
     let rest = drop k bytes in
     let agrees = Agrees-if_fits w rest (omega (arith, length-drop k bytes))
     (omega (arith, fewest_bits-below v w same rest)) in
     let whole = agrees.first (omega (arith, length-drop k bytes)) in
-    let is : first ≡ (choices_of w rest).best.segment =
-    found_is (firsts_of w bytes) (length bytes - 1 - k) first (omega (arith, length-firsts_of w bytes, inside))
-    (rw known at found) ∙ get_or-firsts_of w bytes k inside in
-    rw (chosen_segments-same v w same (drop first.len rest), chosen_segments-same v w same rest, is) whole
+    let is : first_at firsts (length bytes - 1 - k) ≡ (choices_of w rest).best.segment =
+    first_at-is known (length bytes - 1 - k) (omega (arith, length-firsts_of w bytes, inside))
+    ∙ get_or-firsts_of w bytes k inside in
+    subst (λ (s : Segment). s ∷ chosen_segments v (drop s.len rest) ≡ chosen_segments v rest) (sym is) (rw (
+      chosen_segments-same v w same (drop (choices_of w rest).best.segment.len rest),
+      chosen_segments-same v w same rest,
+    ) whole)
 
 -- what a first segment is
 pub record IsNamed (version : ℕ) (bytes : List ℕ) (place limit : ℕ) (s : Segment) : Type 0 where
@@ -111,13 +128,13 @@ pub record IsNamed (version : ℕ) (bytes : List ℕ) (place limit : ℕ) (s : S
   pub next : chosen_segments version (drop place bytes) ≡ s ∷ chosen_segments version (drop (place + s.len) bytes)
   pub small : cost version (chosen_segments version (drop (place + s.len) bytes)) ≤ limit
 
-pub IsNamed-first : {version : ℕ} {bytes : List ℕ} {limit : ℕ} {firsts : List Segment} {place : ℕ} {s : Segment}
+pub IsNamed-first : {version : ℕ} {bytes : List ℕ} {limit : ℕ} {firsts : Firsts} {place : ℕ} {s : Segment}
     → place < length bytes → IsTable version bytes limit firsts
     → cost version (chosen_segments version (drop place bytes)) ≤ limit
-    → slice_get firsts (length bytes - 1 - place) ≡ Some s → IsNamed version bytes place limit s
+    → s ≡ first_at firsts (length bytes - 1 - place) → IsNamed version bytes place limit s
 IsNamed-first {version} {bytes} {limit} {firsts} {place} {s} h table fits found =
     let first : s ∷ chosen_segments version (drop s.len (drop place bytes))
-    ≡ chosen_segments version (drop place bytes) = table.named place h fits s found in
+    ≡ chosen_segments version (drop place bytes) = rw found (table.named place h fits) in
     let cut : IsSegmentation version (s ∷ chosen_segments version (drop s.len (drop place bytes))) (drop place bytes) =
     subst (λ (l : List Segment). IsSegmentation version l (drop place bytes)) (sym first)
     (chosen_segments-is version (drop place bytes)) in

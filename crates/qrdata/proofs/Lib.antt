@@ -19,7 +19,6 @@ pub mod CodewordByteLaws
 pub mod SameWidthLaws
 pub mod SegmentReadingLaws
 pub mod SmallChoiceLaws
-pub mod FirstsLaws
 pub mod FirstsTableLaws
 pub mod VersionSearchLaws
 pub mod VersionLaws

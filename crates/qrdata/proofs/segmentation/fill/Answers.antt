@@ -1,9 +1,9 @@
 use Rattle.std.proofs.Common.{◌+◌, ◌++◌, ◌∷◌, [], ◌-◌, ◌≡◌, drop, length, get_or, arith, ap, ◌∙◌}
-use Rattle.std.proofs.lemmas.List.{drop_all, drop_more, length-drop}
+use Rattle.std.proofs.lemmas.List.{drop_all, drop_more, length-drop, map-append}
 use Rattle.qrdata.specs.declared.segmentation.Choices.{Choices}
 use Rattle.qrdata.specs.Private.Table.{choices_of, firsts_of, next_choices}
 use Rattle.qrdata.proofs.SmallChoiceLaws.{AreSmall-of}
-use Rattle.qrdata.proofs.FirstsTableLaws.{length-firsts_of}
+use Rattle.qrdata.proofs.FirstsTableLaws.{length-firsts_of, table_sizes}
 use Rattle.qrdata.proofs.segmentation.fill.Goals as goal
 
 pub loop-place-init : goal.loop-place-init
@@ -19,16 +19,11 @@ with_byte-choices-requires c =
 
 pub push-requires : goal.push-requires
 push-requires c =
-    let version = c.args.version in
-    let rest = drop c.loop-place.place c.args.bytes.now in
-    omega (
-      arith,
-      ap length c.loop-place.invariant.1,
-      length-firsts_of version rest,
-      length-drop c.loop-place.place c.args.bytes.now,
-      c.loop-place-test.true,
-      c.requires.few,
-    )
+    let sizes = table_sizes c.loop-place.invariant.1 in
+    let size = length-firsts_of c.args.version (drop c.loop-place.place c.args.bytes.now) in
+    let rest = length-drop c.loop-place.place c.args.bytes.now in
+    let some = c.loop-place-test.true in
+    (omega (arith, sizes.0, c.requires.few), omega (arith, sizes.1, c.requires.few))
 
 pub loop-place-preserved : goal.loop-place-preserved
 unfolding choices_of firsts_of
@@ -39,9 +34,13 @@ loop-place-preserved c =
     let rest = rw next at (drop_more bytes place 0 (omega (arith, c.loop-place.invariant.0, c.loop-place-test.true))) in
     let choices = c.with_byte-choices.ensures
     ∙ ap (next_choices c.args.version (get_or bytes place 0)) c.loop-place.invariant.2 in
+    let first = c.segment.ensures ∙ ap (λ (choices : Choices). choices.best.segment) choices in
+    let table = c.loop-place.invariant.1 in
     rw rest (
       omega (arith, c.loop-place.invariant.0),
-      c.push.ensures ∙ (λ i. c.loop-place.invariant.1 i ++ (c.segment.ensures
-          ∙ ap (λ (choices : Choices). choices.best.segment) choices) i ∷ []),
+      record {
+        modes = rw (c.push.ensures.modes, map-append) (λ i. table.modes i ++ (first i).mode ∷ []);
+        lengths = rw (c.push.ensures.lengths, map-append) (λ i. table.lengths i ++ (first i).len ∷ []);
+      },
       choices,
     )
