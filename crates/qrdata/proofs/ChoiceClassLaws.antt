@@ -109,68 +109,65 @@ pub record IsClass (version : ℕ) (bytes : List ℕ) (mode : Mode) (class : ℕ
   pub real : (ABSENT ≤ c.bits) ⊎ IsReal version bytes mode class c
   pub lowest : (n : ℕ) → IsRun mode bytes n → class_of mode n ≡ class → Beats c (total version bytes mode n) n
 
-real_longer : {version : ℕ} (b : ℕ) {bytes : List ℕ} {mode : Mode} {class next added : ℕ} {c : ChoiceView}
-    → has_character mode b ≡ true → Steps mode class next added → IsClass version bytes mode class c
-    → (ABSENT ≤ c.bits + added) ⊎ IsReal version (b ∷ bytes) mode next (longer_choice c added)
-real_longer b {c = c} passes steps old = elim old.real [
-  | inl none ↦ inl (omega arith)
-  | inr r ↦ inr (record {
-    same_mode = r.same_mode;
-    same_class = steps.to c.segment.len r.same_class;
-    run = record { some = omega arith; inside = omega (arith, r.run.inside); characters = rw passes r.run.characters };
-    sum = omega (arith, r.sum, steps.adds c.segment.len r.run.some r.same_class);
-  })
-]
+-- what a byte more makes of the best choice of a class
+module _ {version b : ℕ} {bytes : List ℕ} {mode : Mode} {class next added : ℕ} {c : ChoiceView}
+    (passes : has_character mode b ≡ true) (steps : Steps mode class next added)
+    (old : IsClass version bytes mode class c) where
+  real_longer : (ABSENT ≤ c.bits + added) ⊎ IsReal version (b ∷ bytes) mode next (longer_choice c added)
+  real_longer = elim old.real [
+    | inl none ↦ inl (omega arith)
+    | inr r ↦ inr (record {
+      same_mode = r.same_mode;
+      same_class = steps.to c.segment.len r.same_class;
+      run = record { some = omega arith; inside = omega (arith, r.run.inside); characters = rw passes r.run.characters };
+      sum = omega (arith, r.sum, steps.adds c.segment.len r.run.some r.same_class);
+    })
+  ]
 
--- a longer choice comes no later than a segment of more than one byte
-lowest_longer : {version : ℕ} (b : ℕ) {bytes : List ℕ} {mode : Mode} {class next added : ℕ} {c : ChoiceView}
-    → Steps mode class next added → IsClass version bytes mode class c → (n : ℕ) → 1 < n → IsRun mode (b ∷ bytes) n
-    → class_of mode n ≡ next → Beats (longer_choice c added) (total version (b ∷ bytes) mode n) n
-lowest_longer b steps old zero more run same = absurd (omega arith)
-lowest_longer {version} b {bytes} {mode} {c = c} steps old (suc n) more run same =
-    let here = steps.back n same in
-    let before : Beats c (total version bytes mode n) n = old.lowest n (record {
-      some = omega arith;
-      inside = omega (arith, run.inside);
-      characters = (and_parts _ _ run.characters).1;
-    }) here in
-    let adds = steps.adds n (omega arith) here in
-    record { low = omega (arith, before.low); strict = λ less. omega (arith, before.strict (omega arith)) }
+  -- a longer choice comes no later than a segment of more than one byte
+  lowest_longer : (n : ℕ) → 1 < n → IsRun mode (b ∷ bytes) n → class_of mode n ≡ next
+      → Beats (longer_choice c added) (total version (b ∷ bytes) mode n) n
+  lowest_longer zero more run same = absurd (omega arith)
+  lowest_longer (suc n) more run same =
+      let here = steps.back n same in
+      let before : Beats c (total version bytes mode n) n = old.lowest n (record {
+        some = omega arith;
+        inside = omega (arith, run.inside);
+        characters = (and_parts _ _ run.characters).1;
+      }) here in
+      let adds = steps.adds n (omega arith) here in
+      record { low = omega (arith, before.low); strict = λ less. omega (arith, before.strict (omega arith)) }
 
-IsClass-longer : {version : ℕ} (b : ℕ) {bytes : List ℕ} {mode : Mode} {class next added : ℕ} {c : ChoiceView}
-    → has_character mode b ≡ true → Steps mode class next added → IsClass version bytes mode class c
-    → (class_of mode 1 ≡ next → ⊥) → IsClass version (b ∷ bytes) mode next (longer_choice c added)
-IsClass-longer b passes steps old other = record {
-  real = real_longer b passes steps old;
-  lowest = λ n run same. elim (cases_lt 1 n) [
-    | inl more ↦ lowest_longer b steps old n more run same
-    | inr one ↦ let is : n ≡ 1 = omega (arith, run.some) in absurd (other (rw is at same))
-  ];
-}
+  IsClass-longer : (class_of mode 1 ≡ next → ⊥) → IsClass version (b ∷ bytes) mode next (longer_choice c added)
+  IsClass-longer other = record {
+    real = real_longer;
+    lowest = λ n run same. elim (cases_lt 1 n) [
+      | inl more ↦ lowest_longer n more run same
+      | inr one ↦ let is : n ≡ 1 = omega (arith, run.some) in absurd (other (rw is at same))
+    ];
+  }
 
-IsClass-shorter : {version : ℕ} (b : ℕ) {bytes : List ℕ} {mode : Mode} {class next added : ℕ} {c : ChoiceView}
-    → has_character mode b ≡ true → Steps mode class next added → IsClass version bytes mode class c
-    → class_of mode 1 ≡ next → IsClass version (b ∷ bytes) mode next
-    (better_choice (longer_choice c added) (short_choice version mode (fewest_bits version bytes)))
-IsClass-shorter {version} b {bytes} {mode} {next = next} {added = added} {c = c} passes steps old one =
-    let short = short_choice version mode (fewest_bits version bytes) in record {
-      real = better-one (λ d. (ABSENT ≤ d.bits) ⊎ IsReal version (b ∷ bytes) mode next d) (longer_choice c added) short
-          (real_longer b passes steps old) (inr (record {
-            same_mode = refl;
-            same_class = one;
-            run = record { some = omega arith; inside = omega arith; characters = rw passes refl };
-            sum = refl;
-          }));
-      lowest = λ n run same. elim (cases_lt 1 n) [
-        | inl more ↦ better-left short (lowest_longer b steps old n more run same)
-        | inr last ↦ let is : n ≡ 1 = omega (arith, run.some) in
-            rw is (better-right (longer_choice c added) (record { low = omega arith; strict = λ less. absurd (omega arith) }))
-      ];
-    }
+  IsClass-shorter : class_of mode 1 ≡ next → IsClass version (b ∷ bytes) mode next
+      (better_choice (longer_choice c added) (short_choice version mode (fewest_bits version bytes)))
+  IsClass-shorter one =
+      let short = short_choice version mode (fewest_bits version bytes) in record {
+        real = better-one (λ d. (ABSENT ≤ d.bits) ⊎ IsReal version (b ∷ bytes) mode next d) (longer_choice c added) short
+            real_longer (inr (record {
+              same_mode = refl;
+              same_class = one;
+              run = record { some = omega arith; inside = omega arith; characters = rw passes refl };
+              sum = refl;
+            }));
+        lowest = λ n run same. elim (cases_lt 1 n) [
+          | inl more ↦ better-left short (lowest_longer n more run same)
+          | inr last ↦ let is : n ≡ 1 = omega (arith, run.some) in
+              rw is (better-right (longer_choice c added) (record { low = omega arith; strict = λ less. absurd (omega arith) }))
+        ];
+      }
 
 pub IsClass-kept : (version : ℕ) → IsKept version (IsClass version)
 IsClass-kept version = record {
   none = λ bytes mode class none. record { real = inl (omega arith); lowest = λ n run same. absurd (none n run) };
-  longer = IsClass-longer;
-  shorter = IsClass-shorter;
+  longer = λ b passes steps old. IsClass-longer passes steps old;
+  shorter = λ b passes steps old. IsClass-shorter passes steps old;
 }

@@ -83,20 +83,19 @@ in_round : (blocks : Blocks) (b i : ℕ) → b < length blocks → i < length (g
     × (get_or (codewords_at blocks i) (place_in_round blocks b i) 0 ≡ get_or (get_or blocks b []) i 0)
 in_round [] b i block codeword = absurd (omega arith)
 in_round (x ∷ xs) zero i block codeword = rw (slice_get-get_or x i 0 codeword) (omega arith, refl)
-in_round (x ∷ xs) (suc b) i block codeword = elim (cases_lt i (length x)) [
-  | inl has ↦
-      let rest = in_round xs b i (omega arith) codeword in
-      let one = sum_by-cons (λ n. cond (nat_lt i n) 1 0) (length x) (take b (map length xs)) in
-      let more : place_in_round (x ∷ xs) (suc b) i ≡ suc (place_in_round xs b i) =
-      omega (arith, rw (lt-ltb i (length x) has) at one) in
-      rw (slice_get-get_or x i 0 has, more) (omega (arith, rest.0), rest.1)
-  | inr lacks ↦
-      let rest = in_round xs b i (omega arith) codeword in
-      let one = sum_by-cons (λ n. cond (nat_lt i n) 1 0) (length x) (take b (map length xs)) in
-      let same : place_in_round (x ∷ xs) (suc b) i ≡ place_in_round xs b i =
-      omega (arith, rw (le-ltb i (length x) lacks) at one) in
-      rw (slice_get_past x i lacks, same) rest
-]
+in_round (x ∷ xs) (suc b) i block codeword =
+    let rest = in_round xs b i (omega arith) codeword in
+    let one = sum_by-cons (λ n. cond (nat_lt i n) 1 0) (length x) (take b (map length xs)) in
+    elim (cases_lt i (length x)) [
+      | inl has ↦
+          let more : place_in_round (x ∷ xs) (suc b) i ≡ suc (place_in_round xs b i) =
+          omega (arith, rw (lt-ltb i (length x) has) at one) in
+          rw (slice_get-get_or x i 0 has, more) (omega (arith, rest.0), rest.1)
+      | inr lacks ↦
+          let same : place_in_round (x ∷ xs) (suc b) i ≡ place_in_round xs b i =
+          omega (arith, rw (le-ltb i (length x) lacks) at one) in
+          rw (slice_get_past x i lacks, same) rest
+    ]
 
 take_range : (n a i : ℕ) → i ≤ n → take i (range_with_len a n) ≡ range_with_len a i
 take_range n a zero h = refl

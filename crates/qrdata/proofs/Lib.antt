@@ -1,7 +1,6 @@
 pub mod BestChoiceLaws
 pub mod BitStringLaws
 pub mod BlockLaws
-pub mod BlockStepLaws
 pub mod BoundLaws
 pub mod CharacterLaws
 pub mod ChoiceClassLaws

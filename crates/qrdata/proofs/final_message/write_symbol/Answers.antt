@@ -4,7 +4,7 @@ use Rattle.qrdata.specs.Versions.{block_lengths, ec_codewords_per_block}
 use Rattle.std.specs.List.{flat_map}
 use Rattle.gf256.specs.ErrorCorrection.{ec_codewords_of}
 use Rattle.std.proofs.lemmas.List.Folds.{sum_by-replicate}
-use Rattle.qrdata.proofs.BlockStepLaws.{length-interleaving-split_by}
+use Rattle.qrdata.proofs.BlockLaws.{length-interleaving-split_by}
 use Rattle.qrdata.proofs.final_message.write_symbol.Goals as goal
 use Rattle.qrdata.proofs.final_message.write_symbol.Goals.{After-as_slice-4}
 
