@@ -11,7 +11,6 @@ pub mod Examples
 pub mod FewestBitsLaws
 pub mod LengthLaws
 pub mod PaddingLaws
-pub mod PayloadStepLaws
 pub mod PayloadLaws
 pub mod DataReadingLaws
 pub mod CodewordByteLaws

@@ -93,8 +93,8 @@ impl Bits {
         let mut place = 0;
         while digits.len() - place >= 3 {
             self.push_number(
-                u32::from(digits[place] - b'0') * 100
-                    + u32::from(digits[place + 1] - b'0') * 10
+                100 * u32::from(digits[place] - b'0')
+                    + 10 * u32::from(digits[place + 1] - b'0')
                     + u32::from(digits[place + 2] - b'0'),
                 10,
             );
@@ -102,7 +102,7 @@ impl Bits {
         }
         if digits.len() - place == 2 {
             self.push_number(
-                u32::from(digits[place] - b'0') * 10 + u32::from(digits[place + 1] - b'0'),
+                10 * u32::from(digits[place] - b'0') + u32::from(digits[place + 1] - b'0'),
                 7,
             );
         } else if digits.len() - place == 1 {
