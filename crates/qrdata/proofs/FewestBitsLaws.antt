@@ -105,32 +105,37 @@ IsFalling-filter p n (s ∷ segments) falls =
 abbrev pub ComesFirst : (Segment → ℕ) → Segment → Segment → Type 0
 ComesFirst f r s = (f r ≤ f s) × (r.len < s.len → f r < f s)
 
--- of lists that segments name, the first of the lowest cost
+-- of the lists that segments name, that of one of them is the cheapest; P is true of it, and it comes first
+record IsFirst (P : Segment → Type 0) (version : ℕ) (g : Segment → List Segment) (segments : List Segment) : Type 0 where
+  first : Segment
+  is : cheapest version (map g segments) ≡ g first
+  holds : P first
+  low : AllByRecursion (ComesFirst (λ s. cost version (g s)) first) segments
+
 lowest_is : (P : Segment → Type 0) (version : ℕ) (g : Segment → List Segment) (a : Segment) (segments : List Segment)
-    → IsFalling a.len segments → P a → AllByRecursion P segments
-    → (r : Segment) × (cheapest version (g a ∷ map g segments) ≡ g r) × P r
-    × AllByRecursion (ComesFirst (λ s. cost version (g s)) r) (a ∷ segments)
-lowest_is P version g a [] falls holds all = (a, refl, holds, ((omega arith, λ less. absurd (omega arith)), tt))
+    → IsFalling a.len segments → P a → AllByRecursion P segments → IsFirst P version g (a ∷ segments)
+lowest_is P version g a [] falls holds all =
+    record { first = a; is = refl; holds = holds; low = ((omega arith, λ less. absurd (omega arith)), tt) }
 lowest_is P version g a (b ∷ segments) falls holds all =
     let lead = λ (t : Bool). cheapest version (cond t (g b) (g a) ∷ map g segments) in
     elim (cases_lt (cost version (g b)) (cost version (g a))) [
       | inl less ↦
           let later = lowest_is P version g b segments falls.1 all.0 all.1 in
-          let low = later.3.0 in (
-            later.0,
-            ap lead (lt-ltb (cost version (g b)) (cost version (g a)) less) ∙ later.1,
-            later.2,
-            ((omega arith, λ longer. omega arith), later.3),
-          )
+          let low = later.low.0 in record {
+            first = later.first;
+            is = ap lead (lt-ltb (cost version (g b)) (cost version (g a)) less) ∙ later.is;
+            holds = later.holds;
+            low = ((omega arith, λ longer. omega arith), later.low);
+          }
       | inr more ↦
           let later = lowest_is P version g a segments (falls_below b.len a.len segments falls.0 falls.1) holds all.1 in
-          let low = later.3.0 in
-          let short = falls.0 in (
-            later.0,
-            ap lead (le-ltb (cost version (g b)) (cost version (g a)) more) ∙ later.1,
-            later.2,
-            (low, ((omega arith, λ longer. omega (arith, low.1)), later.3.1)),
-          )
+          let low = later.low.0 in
+          let short = falls.0 in record {
+            first = later.first;
+            is = ap lead (le-ltb (cost version (g b)) (cost version (g a)) more) ∙ later.is;
+            holds = later.holds;
+            low = (low, ((omega arith, λ longer. omega (arith, low.1)), later.low.1));
+          }
     ]
 
 -- one byte in byte mode is a first segment
@@ -143,9 +148,7 @@ one_byte version b bytes = record {
 }
 
 cheapest_found : (P : Segment → Type 0) (version : ℕ) (g : Segment → List Segment) (n : ℕ) (segments : List Segment)
-    → (segments ≡ [] → ⊥) → IsFalling n segments → AllByRecursion P segments
-    → (r : Segment) × (cheapest version (map g segments) ≡ g r) × P r
-    × AllByRecursion (ComesFirst (λ s. cost version (g s)) r) segments
+    → (segments ≡ [] → ⊥) → IsFalling n segments → AllByRecursion P segments → IsFirst P version g segments
 cheapest_found P version g n [] some falls all = absurd (some refl)
 cheapest_found P version g n (a ∷ segments) some falls all = lowest_is P version g a segments falls.1 all.0 all.1
 
@@ -213,11 +216,11 @@ chosen_segments-best version b bytes =
     (IsFalling-filter (is_first version (b ∷ bytes)) n (candidates n) (IsFalling-candidates n))
     (all_firsts P version (b ∷ bytes) (λ s first. first)) in
     record {
-      first = found.0;
-      is = chosen_segments-cons version b bytes ∙ found.1;
-      fits = found.2;
-      low = each_first (ComesFirst (λ s. cost version (continued version (b ∷ bytes) s)) found.0) version (b ∷ bytes)
-          found.3;
+      first = found.first;
+      is = chosen_segments-cons version b bytes ∙ found.is;
+      fits = found.holds;
+      low = each_first (ComesFirst (λ s. cost version (continued version (b ∷ bytes) s)) found.first) version (b ∷ bytes)
+          found.low;
     }
 
 -- no list of segments of the bytes costs less
