@@ -11,8 +11,10 @@ use Rattle.qrdata.specs.Private.ChoiceView.{ChoiceView}
 use Rattle.qrdata.specs.declared.segmentation.Choices.{Choices}
 use Rattle.qrdata.specs.declared.segmentation.TheConstants.{ABSENT}
 use Rattle.qrdata.specs.Segments.{IsSegmentation, alphanumeric_value, cost, segment_length, segment_of}
-use Rattle.qrdata.specs.Private.Table.{Each, absent_characters, absent_digits, best_choice, better_choice, byte_choices}
-use Rattle.qrdata.specs.Private.Table.{choices_of, fewest_bits, longer_choice, next_characters, next_choices, next_digits}
+use Rattle.qrdata.specs.Private.Table.{Each, absent_characters, absent_digits, best_choice, better_choice}
+use Rattle.qrdata.specs.Private.Table.{byte_choices}
+use Rattle.qrdata.specs.Private.Table.{choices_of, fewest_bits, longer_choice, next_characters, next_choices}
+use Rattle.qrdata.specs.Private.Table.{next_digits}
 use Rattle.qrdata.specs.Private.Table.{short_choice}
 use Rattle.qrdata.proofs.CharacterLaws.{no_digit}
 use Rattle.qrdata.proofs.ChoiceOrderLaws.{Beats, better-left, better-one, better-right}
@@ -91,7 +93,8 @@ short_bits version Byte = elim (nat_lt version 10) as (λ t. 4 + cond t 8 16 + 8
 pub fewest_bits-le : (version : ℕ) (bytes : List ℕ) → fewest_bits version bytes ≤ 28 * length bytes
 fewest_bits-le version [] = omega (arith, fewest_nil version)
 fewest_bits-le version (b ∷ bytes) =
-    let one = best-le version (b ∷ bytes) Byte 1 (record { some = omega arith; inside = omega arith; characters = refl }) in
+    let one = best-le version (b ∷ bytes) Byte 1
+    (record { some = omega arith; inside = omega arith; characters = refl }) in
     omega (arith, one.low, short_bits version Byte, fewest_bits-le version bytes)
 
 pub best-front : (version b : ℕ) (bytes : List ℕ) → length (b ∷ bytes) ≤ 652

@@ -20,7 +20,8 @@ least : (version : ℕ) (mode : Mode) (n : ℕ) → 0 < n
 least version Numeric n some = elim (nat_lt version 10) as (λ t. (cond t 18 20 ≤ 4 + cond t 10 12 + (10 * n + 2) / 3)
     × (10 * n + cond t 0 48 ≤ 3 * (4 + cond t 10 12 + (10 * n + 2) / 3)))
     [ true ↦ (omega arith, omega arith) | false ↦ (omega arith, omega arith) ]
-least version Alphanumeric n some = elim (nat_lt version 10) as (λ t. (cond t 18 20 ≤ 4 + cond t 9 11 + (11 * n + 1) / 2)
+least version Alphanumeric n some = elim (nat_lt version 10) as (λ t.
+    (cond t 18 20 ≤ 4 + cond t 9 11 + (11 * n + 1) / 2)
     × (10 * n + cond t 0 48 ≤ 3 * (4 + cond t 9 11 + (11 * n + 1) / 2)))
     [ true ↦ (omega arith, omega arith) | false ↦ (omega arith, omega arith) ]
 least version Byte n some = elim (nat_lt version 10) as (λ t. (cond t 18 20 ≤ 4 + cond t 8 16 + 8 * n)

@@ -10,8 +10,10 @@ use Rattle.qrdata.specs.declared.mode.Mode.TheVariants.{Numeric, Alphanumeric, B
 use Rattle.qrdata.specs.Private.ChoiceView.{ChoiceView}
 use Rattle.qrdata.specs.declared.segmentation.TheConstants.{ABSENT}
 use Rattle.qrdata.specs.Segments.{has_character, payload_length, segment_length, segment_of}
-use Rattle.qrdata.specs.Private.Table.{Each, EachCharacters, EachDigits, absent_characters, absent_choice, absent_digits}
-use Rattle.qrdata.specs.Private.Table.{better_choice, choices_of, fewest_bits, longer_choice, next_characters, next_choices}
+use Rattle.qrdata.specs.Private.Table.{Each, EachCharacters, EachDigits, absent_characters, absent_choice}
+use Rattle.qrdata.specs.Private.Table.{absent_digits}
+use Rattle.qrdata.specs.Private.Table.{better_choice, choices_of, fewest_bits, longer_choice, next_characters}
+use Rattle.qrdata.specs.Private.Table.{next_choices}
 use Rattle.qrdata.specs.Private.Table.{next_digits, short_choice}
 use Rattle.qrdata.proofs.ChoiceOrderLaws.{Beats, better-left, better-one, better-right}
 
@@ -43,13 +45,16 @@ pub record Steps (mode : Mode) (class next added : ℕ) : Type 0 where
   pub few : added ≤ 8
 
 numeric_none : Steps Numeric 2 0 3
-numeric_none = record { to = λ n h. omega arith; back = λ n h. omega arith; adds = λ n some h. omega arith; few = omega arith }
+numeric_none =
+    record { to = λ n h. omega arith; back = λ n h. omega arith; adds = λ n some h. omega arith; few = omega arith }
 
 numeric_one : Steps Numeric 0 1 4
-numeric_one = record { to = λ n h. omega arith; back = λ n h. omega arith; adds = λ n some h. omega arith; few = omega arith }
+numeric_one =
+    record { to = λ n h. omega arith; back = λ n h. omega arith; adds = λ n some h. omega arith; few = omega arith }
 
 numeric_two : Steps Numeric 1 2 3
-numeric_two = record { to = λ n h. omega arith; back = λ n h. omega arith; adds = λ n some h. omega arith; few = omega arith }
+numeric_two =
+    record { to = λ n h. omega arith; back = λ n h. omega arith; adds = λ n some h. omega arith; few = omega arith }
 
 alphanumeric_none : Steps Alphanumeric 1 0 5
 alphanumeric_none =
@@ -72,14 +77,16 @@ pub record IsKept (version : ℕ) (P : List ℕ → Mode → ℕ → ChoiceView 
       → P (b ∷ bytes) mode next (longer_choice c added)
   pub shorter : (b : ℕ) {bytes : List ℕ} {mode : Mode} {class next added : ℕ} {c : ChoiceView}
       → has_character mode b ≡ true → Steps mode class next added → P bytes mode class c → class_of mode 1 ≡ next
-      → P (b ∷ bytes) mode next (better_choice (longer_choice c added) (short_choice version mode (fewest_bits version bytes)))
+      → P (b ∷ bytes) mode next
+      (better_choice (longer_choice c added) (short_choice version mode (fewest_bits version bytes)))
 
 -- such a property is true of each choice of the choices of the bytes
 pub each_choice : {version : ℕ} {P : List ℕ → Mode → ℕ → ChoiceView → Type 0} → IsKept version P → (bytes : List ℕ)
     → Each (P bytes) (choices_of version bytes)
 unfolding choices_of next_choices next_digits next_characters
 each_choice {version} {P} kept [] =
-    let none = λ (mode : Mode) (class : ℕ). kept.none [] mode class (λ n run. absurd (omega (arith, run.some, run.inside))) in
+    let none = λ (mode : Mode) (class : ℕ). kept.none [] mode class
+    (λ n run. absurd (omega (arith, run.some, run.inside))) in
     ((none Numeric 0, none Numeric 1, none Numeric 2), (none Alphanumeric 0, none Alphanumeric 1), none Byte 0)
 each_choice {version} {P} kept (b ∷ bytes) =
     let old = each_choice kept bytes in
@@ -119,7 +126,11 @@ module _ {version b : ℕ} {bytes : List ℕ} {mode : Mode} {class next added : 
     | inr r ↦ inr (record {
       same_mode = r.same_mode;
       same_class = steps.to c.segment.len r.same_class;
-      run = record { some = omega arith; inside = omega (arith, r.run.inside); characters = rw passes r.run.characters };
+      run = record {
+        some = omega arith;
+        inside = omega (arith, r.run.inside);
+        characters = rw passes r.run.characters;
+      };
       sum = omega (arith, r.sum, steps.adds c.segment.len r.run.some r.same_class);
     })
   ]
@@ -151,8 +162,8 @@ module _ {version b : ℕ} {bytes : List ℕ} {mode : Mode} {class next added : 
       (better_choice (longer_choice c added) (short_choice version mode (fewest_bits version bytes)))
   IsClass-shorter one =
       let short = short_choice version mode (fewest_bits version bytes) in record {
-        real = better-one (λ d. (ABSENT ≤ d.bits) ⊎ IsReal version (b ∷ bytes) mode next d) (longer_choice c added) short
-            real_longer (inr (record {
+        real = better-one (λ d. (ABSENT ≤ d.bits) ⊎ IsReal version (b ∷ bytes) mode next d) (longer_choice c added)
+            short real_longer (inr (record {
               same_mode = refl;
               same_class = one;
               run = record { some = omega arith; inside = omega arith; characters = rw passes refl };
@@ -161,7 +172,8 @@ module _ {version b : ℕ} {bytes : List ℕ} {mode : Mode} {class next added : 
         lowest = λ n run same. elim (cases_lt 1 n) [
           | inl more ↦ better-left short (lowest_longer n more run same)
           | inr last ↦ let is : n ≡ 1 = omega (arith, run.some) in
-              rw is (better-right (longer_choice c added) (record { low = omega arith; strict = λ less. absurd (omega arith) }))
+              rw is (better-right (longer_choice c added)
+              (record { low = omega arith; strict = λ less. absurd (omega arith) }))
         ];
       }
 

@@ -29,16 +29,20 @@ pub better-one : (P : ChoiceView → Type 0) (c d : ChoiceView) → P c → P d 
 unfolding better_choice
 better-one P c d h k = cond_both (is_better c d) d c P (λ yes. k) (λ no. h)
 
-pub better-left : {c : ChoiceView} (d : ChoiceView) {bits len : ℕ} → Beats c bits len → Beats (better_choice c d) bits len
+pub better-left : {c : ChoiceView} (d : ChoiceView) {bits len : ℕ} → Beats c bits len
+    → Beats (better_choice c d) bits len
 unfolding better_choice
 better-left {c} d {bits} {len} first = cond_both (is_better c d) d c (λ e. Beats e bits len)
-    (λ yes. Beats-then {c = d} {d = c} (record { low = grind (arith, nat_tests); strict = λ less. grind (arith, nat_tests) }) first)
+    (λ yes. Beats-then {c = d} {d = c}
+    (record { low = grind (arith, nat_tests); strict = λ less. grind (arith, nat_tests) }) first)
     (λ no. first)
 
-pub better-right : (c : ChoiceView) {d : ChoiceView} {bits len : ℕ} → Beats d bits len → Beats (better_choice c d) bits len
+pub better-right : (c : ChoiceView) {d : ChoiceView} {bits len : ℕ} → Beats d bits len
+    → Beats (better_choice c d) bits len
 unfolding better_choice
 better-right c {d} {bits} {len} second = cond_both (is_better c d) d c (λ e. Beats e bits len) (λ yes. second)
-    (λ no. Beats-then {c = c} {d = d} (record { low = grind (arith, nat_tests); strict = λ less. grind (arith, nat_tests) }) second)
+    (λ no. Beats-then {c = c} {d = d}
+    (record { low = grind (arith, nat_tests); strict = λ less. grind (arith, nat_tests) }) second)
 
 -- the better choice is that of less weight, and of equal ones the first
 pub is_lighter : (w x : ℕ) → x < w → (nat_lt (x / 1024) (w / 1024)

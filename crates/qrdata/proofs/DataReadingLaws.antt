@@ -1,6 +1,8 @@
 -- What is read of the codewords of a symbol is its data.
-use Rattle.std.proofs.Common.{◌≡◌, ℕ, zero, suc, ◌+◌, ◌-◌, ◌*◌, ◌/◌, ◌%◌, ◌<◌, ◌≤◌, List, [], ◌∷◌, ◌++◌, map, take, drop}
-use Rattle.std.proofs.Common.{get_or, length, replicate, refl, sym, ap, ◌∙◌, length-append, arith, Bool, true, false, sum}
+use Rattle.std.proofs.Common.{◌≡◌, ℕ, zero, suc, ◌+◌, ◌-◌, ◌*◌, ◌/◌, ◌%◌, ◌<◌, ◌≤◌, List, [], ◌∷◌, ◌++◌, map, take}
+use Rattle.std.proofs.Common.{drop}
+use Rattle.std.proofs.Common.{get_or, length, replicate, refl, sym, ap, ◌∙◌, length-append, arith, Bool, true, false}
+use Rattle.std.proofs.Common.{sum}
 use Rattle.std.specs.Prelude.{if◌then◌else◌, None, Some, Option, ◌&&◌, ◌==◌}
 use Rattle.std.specs.List.{AllByRecursion, concat, flat_map, list_all, range_with_len, zip}
 use Rattle.std.proofs.lemmas.Bool.{eq-eqb, eqb-true}

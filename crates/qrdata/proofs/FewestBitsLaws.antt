@@ -1,5 +1,5 @@
--- The best list is a list of segments of the bytes, and no list costs less. Of the lists that a first segment begins and
--- the best list of the rest goes on, it is the cheapest, and of equally cheap ones that of the longest first segment.
+-- The best list is a list of segments of the bytes, and no list costs less. Of the lists that a first segment begins
+-- and the best list of the rest goes on, it is the cheapest, and of equally cheap ones that of the longest first segment.
 use Rattle.std.proofs.Common.{◌≡◌, ℕ, zero, suc, ◌+◌, ◌^◌, ◌<◌, ◌≤◌, List, [], ◌∷◌, ◌++◌, map, drop, length, refl, ap}
 use Rattle.std.proofs.Common.{◌∙◌, arith, Bool, true, false, cond, inl, inr, subst}
 use Rattle.std.specs.Prelude.{nat_lt, filter, flat_map, reverse, IsTrue, ⊤}
@@ -106,7 +106,8 @@ abbrev pub ComesFirst : (Segment → ℕ) → Segment → Segment → Type 0
 ComesFirst f r s = (f r ≤ f s) × (r.len < s.len → f r < f s)
 
 -- of the lists that segments name, that of one of them is the cheapest; P is true of it, and it comes first
-record IsFirst (P : Segment → Type 0) (version : ℕ) (g : Segment → List Segment) (segments : List Segment) : Type 0 where
+record IsFirst (P : Segment → Type 0) (version : ℕ) (g : Segment → List Segment) (segments : List Segment)
+    : Type 0 where
   first : Segment
   is : cheapest version (map g segments) ≡ g first
   holds : P first
@@ -219,8 +220,8 @@ chosen_segments-best version b bytes =
       first = found.first;
       is = chosen_segments-cons version b bytes ∙ found.is;
       fits = found.holds;
-      low = each_first (ComesFirst (λ s. cost version (continued version (b ∷ bytes) s)) found.first) version (b ∷ bytes)
-          found.low;
+      low = each_first (ComesFirst (λ s. cost version (continued version (b ∷ bytes) s)) found.first) version
+          (b ∷ bytes) found.low;
     }
 
 -- no list of segments of the bytes costs less

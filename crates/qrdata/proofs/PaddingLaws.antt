@@ -4,7 +4,8 @@ use Rattle.std.proofs.Common.{length, replicate, refl, ap, append_assoc, append-
 use Rattle.std.proofs.Common.{false, min, ◌∙◌, ◌^◌, sym}
 use Rattle.std.specs.Prelude.{◌==◌, if◌then◌else◌}
 use Rattle.std.proofs.lemmas.List.FromFn.{length-map-range_with_len}
-use Rattle.std.proofs.lemmas.List.{length-replicate, length-take-le, length-drop, take-append-drop, replicate-append-replicate}
+use Rattle.std.proofs.lemmas.List.{length-replicate, length-take-le, length-drop, take-append-drop}
+use Rattle.std.proofs.lemmas.List.{replicate-append-replicate}
 use Rattle.std.proofs.Common.{inl, inr}
 use Rattle.std.proofs.lemmas.Bool.{cases_lt}
 use Rattle.std.proofs.lemmas.Grind.{flat_map-append}
@@ -108,7 +109,8 @@ data_codewords_of-ends size bits h =
     let zeros = replicate a.zeros false in
     let pad = byte_bits (pad_codewords (size - a.codewords)) in (
       zeros ++ pad,
-      rw (a.is, with_pad_codewords-whole size a.codewords (bits ++ zeros) (rw a.is at a.whole)) (append_assoc bits zeros pad),
+      rw (a.is, with_pad_codewords-whole size a.codewords (bits ++ zeros) (rw a.is at a.whole))
+          (append_assoc bits zeros pad),
       elim (cases_lt a.zeros 4) [
         | inr many ↦ is_end-zeros a.zeros pad many
         | inl few ↦ is_end-short (zeros ++ pad) (omega (

@@ -2,7 +2,8 @@ use Rattle.std.proofs.Common.{◌∙◌, arith, refl}
 use Rattle.qrdata.specs.Fewest.{chosen_segments}
 use Rattle.qrdata.proofs.BoundLaws.{third}
 use Rattle.qrdata.proofs.FewestBitsLaws.{chosen_segments-is}
-use Rattle.qrdata.proofs.FirstsTableLaws.{FitsBits-of, NamesBest-of, capacity_as_wide, fewest_bits-below, length-firsts_of}
+use Rattle.qrdata.proofs.FirstsTableLaws.{FitsBits-of, NamesBest-of, capacity_as_wide, fewest_bits-below}
+use Rattle.qrdata.proofs.FirstsTableLaws.{length-firsts_of}
 use Rattle.qrdata.proofs.FirstsTableLaws.{table_sizes}
 use Rattle.qrdata.proofs.VersionLaws.{capacity-le, capacity-rising}
 use Rattle.qrdata.proofs.plan.plan_between.Goals as goal
@@ -49,7 +50,8 @@ returns-clause-some c =
     let room = c.in_ok-version.ensures.some in
     let fewest = rw c.of-widest.ensures at c.fill-bits.ensures.bits in
     let bits = FitsBits-of c.in_ok-version.version c.args.highest c.args.level c.fill-bits.result
-    (c.requires.same c.in_ok-version.version room.from room.to) room.known c.args.bytes.now c.requires.few fewest room.fits in
+    (c.requires.same c.in_ok-version.version room.from room.to) room.known c.args.bytes.now c.requires.few fewest
+    room.fits in
     rw c.plan_of.ensures (record {
       from = room.from;
       to = room.to;

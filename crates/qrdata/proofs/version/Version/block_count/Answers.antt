@@ -7,8 +7,10 @@ returns-clause-value c = rw (c.from.ensures, c.place.ensures, ← c.self.view_is
 
 pub returns-clause-some : goal.returns-clause-some
 returns-clause-some c =
-    rw (returns-clause-value c) (IsSound-of c.args.self c.args.level (rw c.self.view_is at c.self.invariant)).some_blocks
+    let sound = IsSound-of c.args.self c.args.level (rw c.self.view_is at c.self.invariant) in
+    rw (returns-clause-value c) sound.some_blocks
 
 pub returns-clause-few : goal.returns-clause-few
 returns-clause-few c =
-    rw (returns-clause-value c) (IsSound-of c.args.self c.args.level (rw c.self.view_is at c.self.invariant)).few_blocks
+    let sound = IsSound-of c.args.self c.args.level (rw c.self.view_is at c.self.invariant) in
+    rw (returns-clause-value c) sound.few_blocks
