@@ -173,7 +173,8 @@ IsDealtBack-of version level codewords low high size_is law =
       total = omega (arith, length-append (interleaving blocks) (interleaving ec_blocks), total);
       blocks = rw (take_front (data_codewords version level) (interleaving blocks) (interleaving ec_blocks) data_length)
           (rw block_shapes at (deinterleaving-interleaving blocks));
-      ec_blocks = rw (drop_front (data_codewords version level) (interleaving blocks) (interleaving ec_blocks) data_length)
+      ec_blocks = rw
+          (drop_front (data_codewords version level) (interleaving blocks) (interleaving ec_blocks) data_length)
           (rw ec_shapes at (deinterleaving-interleaving ec_blocks));
     }
 

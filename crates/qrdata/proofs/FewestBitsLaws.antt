@@ -1,5 +1,5 @@
 -- The best list is a list of segments of the bytes, and no list costs less. Of the lists that a first segment begins
--- and the best list of the rest goes on, it is the cheapest, and of equally cheap ones that of the longest first segment.
+-- and the best list of the rest goes on, it is the cheapest. Of equally cheap ones it has the longest first segment.
 use Rattle.std.proofs.Common.{◌≡◌, ℕ, zero, suc, ◌+◌, ◌^◌, ◌<◌, ◌≤◌, List, [], ◌∷◌, ◌++◌, map, drop, length, refl, ap}
 use Rattle.std.proofs.Common.{◌∙◌, arith, Bool, true, false, cond, inl, inr, subst}
 use Rattle.std.specs.Prelude.{nat_lt, filter, flat_map, reverse, IsTrue, ⊤}

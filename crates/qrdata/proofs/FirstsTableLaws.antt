@@ -1,4 +1,5 @@
--- A table of best first segments, from the shortest rest on, is right in all versions whose character counts are as wide.
+-- A table of best first segments, from the shortest rest on, is right in all versions whose character counts are as
+-- wide.
 use Rattle.std.proofs.Common.{◌≡◌, ℕ, zero, suc, [], ◌++◌, ◌+◌, ◌-◌, ◌<◌, ◌≤◌, List, ◌∷◌, drop, length, get_or, refl}
 use Rattle.std.proofs.Common.{sym, subst, ap, ◌∙◌, arith, cond}
 use Rattle.std.specs.Prelude.{nat_lt}

@@ -15,7 +15,8 @@ push_ec_codewords-requires-clause-blocks c = (
 )
 
 pub interleave-requires-clause-whole : goal.interleave-requires-clause-whole
-interleave-requires-clause-whole c = rw (c.as_slice-2.ensures.value, c.lengths-lengths.ensures) c.have_blocks.ensures.whole
+interleave-requires-clause-whole c =
+    rw (c.as_slice-2.ensures.value, c.lengths-lengths.ensures) c.have_blocks.ensures.whole
 
 pub interleave-requires-clause-room : goal.interleave-requires-clause-room
 interleave-requires-clause-room c = omega (arith, ap length c.clear.ensures, c.have_blocks.ensures.total)

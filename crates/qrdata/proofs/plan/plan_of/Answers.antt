@@ -46,7 +46,10 @@ invariant_of-result c =
     rw (whole c.args.version bytes c.loop-place.place c.loop-place.segments.items c.loop-place.invariant.0
     c.loop-place-test.false) (
       c.requires.bits.value,
-      record { cut = chosen_segments-is c.args.version bytes; fits = omega (arith, c.requires.bits.value, c.requires.bits.fits) },
+      record {
+        cut = chosen_segments-is c.args.version bytes;
+        fits = omega (arith, c.requires.bits.value, c.requires.bits.fits);
+      },
     )
 
 pub returns : goal.returns
