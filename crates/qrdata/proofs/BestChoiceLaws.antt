@@ -1,8 +1,8 @@
 -- The best of all choices of some bytes comes no later than any first segment, and is one.
-use Rattle.std.proofs.Common.{◌≡◌, ℕ, ◌*◌, ◌%◌, ◌<◌, ◌≤◌, List, [], ◌∷◌, drop, length, refl, arith, true, inl, inr, ◌⊎◌}
-use Rattle.std.proofs.Common.{sym, ◌∙◌, ◌+◌, false, cond}
-use Rattle.std.specs.Prelude.{nat_le, nat_lt}
-use Rattle.std.proofs.lemmas.Bool.{cases_lt, leb-true}
+use Rattle.std.proofs.Common.{◌≡◌, ℕ, ◌+◌, ◌*◌, ◌%◌, ◌<◌, ◌≤◌, List, [], ◌∷◌, drop, length, refl, arith, true, false}
+use Rattle.std.proofs.Common.{inl, inr, cond, ◌⊎◌}
+use Rattle.std.specs.Prelude.{nat_lt}
+use Rattle.std.proofs.lemmas.Bool.{cases_lt, le-ltb, lt-ltb}
 use Rattle.std.proofs.lemmas.List.Sums.{sum_by-cons}
 use Rattle.qrdata.specs.declared.mode.Mode.{Mode}
 use Rattle.qrdata.specs.declared.mode.Mode.TheVariants.{Numeric, Alphanumeric, Byte}
@@ -10,11 +10,15 @@ use Rattle.qrdata.specs.declared.mode.Segment.{Segment}
 use Rattle.qrdata.specs.Private.ChoiceView.{ChoiceView}
 use Rattle.qrdata.specs.declared.segmentation.Choices.{Choices}
 use Rattle.qrdata.specs.declared.segmentation.TheConstants.{ABSENT}
-use Rattle.qrdata.specs.Segments.{IsSegmentation, cost, has_character, segment_length, segment_of}
-use Rattle.qrdata.specs.Private.Table.{best_choice, better_choice, choices_of, fewest_bits, next_choices}
-use Rattle.qrdata.proofs.RunLaws.{run_byte, run_length, run_nothing, run_tells}
+use Rattle.qrdata.specs.Segments.{IsSegmentation, alphanumeric_value, cost, segment_length, segment_of}
+use Rattle.qrdata.specs.Private.Table.{Each, absent_characters, absent_digits, best_choice, better_choice}
+use Rattle.qrdata.specs.Private.Table.{byte_choices}
+use Rattle.qrdata.specs.Private.Table.{choices_of, fewest_bits, longer_choice, next_characters, next_choices}
+use Rattle.qrdata.specs.Private.Table.{next_digits}
+use Rattle.qrdata.specs.Private.Table.{short_choice}
+use Rattle.qrdata.proofs.CharacterLaws.{no_digit}
 use Rattle.qrdata.proofs.ChoiceOrderLaws.{Beats, better-left, better-one, better-right}
-use Rattle.qrdata.proofs.ChoiceClassLaws.{AreBest, AreBest-of, IsNoneOrReal, total}
+use Rattle.qrdata.proofs.ChoiceClassLaws.{IsClass, IsClass-kept, IsRun, each_choice, total}
 
 -- the best choice of a byte and a rest is the best of its choices
 best_is : (version b : ℕ) (bytes : List ℕ)
@@ -24,95 +28,56 @@ best_is : (version b : ℕ) (bytes : List ℕ)
 unfolding choices_of next_choices
 best_is version b bytes = refl
 
-thirds : (n : ℕ) → ((n % 3 ≡ 0) ⊎ (n % 3 ≡ 1)) ⊎ (n % 3 ≡ 2)
-thirds n = elim (cases_lt (n % 3) 1) [
-  | inl none ↦ inl (inl (omega arith))
-  | inr some ↦ elim (cases_lt (n % 3) 2) [ inl one ↦ inl (inr (omega arith)) | inr two ↦ inr (omega arith) ]
-]
-
-halves : (n : ℕ) → (n % 2 ≡ 0) ⊎ (n % 2 ≡ 1)
-halves n = elim (cases_lt (n % 2) 1) [ inl none ↦ inl (omega arith) | inr one ↦ inr (omega arith) ]
-
-best_beats : (version : ℕ) (bytes : List ℕ) (choices : Choices) → AreBest version bytes choices → (mode : Mode) (n : ℕ)
-    → 0 < n → n ≤ run_length (has_character mode) bytes
+best_beats : (version : ℕ) (bytes : List ℕ) (choices : Choices) → Each (IsClass version bytes) choices
+    → (mode : Mode) (n : ℕ) → IsRun mode bytes n
     → Beats (best_choice choices.digits choices.characters choices.bytes) (total version bytes mode n) n
 unfolding best_choice
-best_beats version bytes choices are Numeric n some inside =
-    let x = total version bytes Numeric n in
-    let a = choices.digits.none_over in
-    let b = choices.digits.one_over in
-    let c = choices.digits.two_over in
-    let d = better_choice choices.characters.none_over choices.characters.one_over in
-    let numeric : Beats (better_choice (better_choice a b) c) x n = elim (thirds n) [
-      | inl (inl e) ↦ better-left (better_choice a b) c x n
-          (better-left a b x n (are.digits.none_over.lowest n some inside e))
-      | inl (inr e) ↦ better-left (better_choice a b) c x n
-          (better-right a b x n (are.digits.one_over.lowest n some inside e))
-      | inr e ↦ better-right (better_choice a b) c x n (are.digits.two_over.lowest n some inside e)
-    ] in
-    better-left (better_choice (better_choice (better_choice a b) c) d) choices.bytes x n
-    (better-left (better_choice (better_choice a b) c) d x n numeric)
-best_beats version bytes choices are Alphanumeric n some inside =
-    let x = total version bytes Alphanumeric n in
-    let numeric = better_choice (better_choice choices.digits.none_over choices.digits.one_over)
-    choices.digits.two_over in
-    let a = choices.characters.none_over in
-    let b = choices.characters.one_over in
-    let alphanumeric : Beats (better_choice a b) x n = elim (halves n) [
-      | inl e ↦ better-left a b x n (are.characters.none_over.lowest n some inside e)
-      | inr e ↦ better-right a b x n (are.characters.one_over.lowest n some inside e)
-    ] in
-    better-left (better_choice numeric (better_choice a b)) choices.bytes x n
-    (better-right numeric (better_choice a b) x n alphanumeric)
-best_beats version bytes choices are Byte n some inside =
-    let others = better_choice (better_choice (better_choice choices.digits.none_over choices.digits.one_over)
-    choices.digits.two_over) (better_choice choices.characters.none_over choices.characters.one_over) in
-    better-right others choices.bytes (total version bytes Byte n) n (are.byte.lowest n some inside refl)
+best_beats version bytes choices are Numeric n run = better-left _ (better-left _ (elim (cases_lt (n % 3) 1) [
+  | inl none ↦ better-left _ (better-left _ (are.0.0.lowest n run (omega arith)))
+  | inr some ↦ elim (cases_lt (n % 3) 2) [
+    | inl one ↦ better-left _ (better-right _ (are.0.1.lowest n run (omega arith)))
+    | inr two ↦ better-right _ (are.0.2.lowest n run (omega arith))
+  ]
+]))
+best_beats version bytes choices are Alphanumeric n run = better-left _ (better-right _ (elim (cases_lt (n % 2) 1) [
+  | inl none ↦ better-left _ (are.1.0.lowest n run (omega arith))
+  | inr one ↦ better-right _ (are.1.1.lowest n run (omega arith))
+]))
+best_beats version bytes choices are Byte n run = better-right _ (are.2.lowest n run refl)
 
 -- no first segment costs less, and none as cheap is longer
-pub best-le : (version : ℕ) (bytes : List ℕ) (mode : Mode) (n : ℕ) → 0 < n
-    → n ≤ run_length (has_character mode) bytes → Beats (choices_of version bytes).best (total version bytes mode n) n
-best-le version [] mode n some inside = absurd (omega (arith, run_nothing (has_character mode)))
-best-le version (b ∷ bytes) mode n some inside =
+pub best-le : (version : ℕ) (bytes : List ℕ) (mode : Mode) (n : ℕ) → IsRun mode bytes n
+    → Beats (choices_of version bytes).best (total version bytes mode n) n
+best-le version [] mode n run = absurd (omega (arith, run.some, run.inside))
+best-le version (b ∷ bytes) mode n run =
     rw (best_is version b bytes) (best_beats version (b ∷ bytes) (choices_of version (b ∷ bytes))
-    (AreBest-of version (b ∷ bytes)) mode n some inside)
+    (each_choice (IsClass-kept version) (b ∷ bytes)) mode n run)
 
 -- a choice of a first segment of the bytes
 pub record IsFront (version : ℕ) (bytes : List ℕ) (c : ChoiceView) : Type 0 where
-  pub some : 0 < c.segment.len
-  pub inside : c.segment.len ≤ run_length (has_character c.segment.mode) bytes
+  pub run : IsRun c.segment.mode bytes c.segment.len
   pub sum : c.bits ≡ total version bytes c.segment.mode c.segment.len
 
 abbrev IsNoneOrFront : (version : ℕ) (bytes : List ℕ) (c : ChoiceView) → Type 0
 IsNoneOrFront version bytes c = (ABSENT ≤ c.bits) ⊎ IsFront version bytes c
 
-front_of : (version : ℕ) (bytes : List ℕ) (mode : Mode) (class : ℕ) (c : ChoiceView)
-    → IsNoneOrReal version bytes mode class c → IsNoneOrFront version bytes c
-front_of version bytes mode class c (inl none) = inl none
-front_of version bytes mode class c (inr r) =
-    inr (record { some = r.some; inside = rw r.same_mode r.inside; sum = rw r.same_mode r.sum })
+front_of : (version : ℕ) (bytes : List ℕ) {mode : Mode} {class : ℕ} {c : ChoiceView}
+    → IsClass version bytes mode class c → IsNoneOrFront version bytes c
+front_of version bytes is = elim is.real [
+  | inl none ↦ inl none
+  | inr r ↦ inr (record { run = rw r.same_mode r.run; sum = rw r.same_mode r.sum })
+]
 
-best_front : (version : ℕ) (bytes : List ℕ) (choices : Choices) → AreBest version bytes choices
+best_front : (version : ℕ) (bytes : List ℕ) (choices : Choices) → Each (IsClass version bytes) choices
     → IsNoneOrFront version bytes (best_choice choices.digits choices.characters choices.bytes)
 unfolding best_choice
 best_front version bytes choices are =
     let P : ChoiceView → Type 0 = IsNoneOrFront version bytes in
-    let a = choices.digits.none_over in
-    let b = choices.digits.one_over in
-    let c = choices.digits.two_over in
-    let d = choices.characters.none_over in
-    let e = choices.characters.one_over in
-    let numeric = better-one P (better_choice a b) c
-    (better-one P a b (front_of version bytes Numeric 0 a are.digits.none_over.real)
-    (front_of version bytes Numeric 1 b are.digits.one_over.real))
-    (front_of version bytes Numeric 2 c are.digits.two_over.real) in
-    let alphanumeric = better-one P d e (front_of version bytes Alphanumeric 0 d are.characters.none_over.real)
-    (front_of version bytes Alphanumeric 1 e are.characters.one_over.real) in
-    better-one P (better_choice (better_choice (better_choice a b) c) (better_choice d e)) choices.bytes
-    (better-one P (better_choice (better_choice a b) c) (better_choice d e) numeric alphanumeric)
-    (front_of version bytes Byte 0 choices.bytes are.byte.real)
+    better-one P _ _ (better-one P _ _ (better-one P _ _ (better-one P _ _ (front_of version bytes are.0.0)
+    (front_of version bytes are.0.1)) (front_of version bytes are.0.2))
+    (better-one P _ _ (front_of version bytes are.1.0) (front_of version bytes are.1.1))) (front_of version bytes are.2)
 
-fewest_nil : (version : ℕ) → fewest_bits version [] ≡ 0
+pub fewest_nil : (version : ℕ) → fewest_bits version [] ≡ 0
 unfolding choices_of
 fewest_nil version = refl
 
@@ -128,15 +93,16 @@ short_bits version Byte = elim (nat_lt version 10) as (λ t. 4 + cond t 8 16 + 8
 pub fewest_bits-le : (version : ℕ) (bytes : List ℕ) → fewest_bits version bytes ≤ 28 * length bytes
 fewest_bits-le version [] = omega (arith, fewest_nil version)
 fewest_bits-le version (b ∷ bytes) =
-    let one = best-le version (b ∷ bytes) Byte 1 (omega arith) (run_byte b bytes) in
-    omega (arith, one.0, short_bits version Byte, fewest_bits-le version bytes)
+    let one = best-le version (b ∷ bytes) Byte 1
+    (record { some = omega arith; inside = omega arith; characters = refl }) in
+    omega (arith, one.low, short_bits version Byte, fewest_bits-le version bytes)
 
 pub best-front : (version b : ℕ) (bytes : List ℕ) → length (b ∷ bytes) ≤ 652
     → IsFront version (b ∷ bytes) (choices_of version (b ∷ bytes)).best
 best-front version b bytes few =
     let front : IsNoneOrFront version (b ∷ bytes) (choices_of version (b ∷ bytes)).best =
     rw (best_is version b bytes) (best_front version (b ∷ bytes) (choices_of version (b ∷ bytes))
-    (AreBest-of version (b ∷ bytes))) in
+    (each_choice (IsClass-kept version) (b ∷ bytes))) in
     elim front [
       | inl none ↦ absurd (omega (arith, fewest_bits-le version (b ∷ bytes)))
       | inr is ↦ is
@@ -148,12 +114,31 @@ pub fewest_bits-le_cost : (version : ℕ) (segments : List Segment) (bytes : Lis
     → fewest_bits version bytes ≤ cost version segments
 fewest_bits-le_cost version [] bytes cut = rw cut (omega (arith, fewest_nil version))
 fewest_bits-le_cost version (s ∷ segments) bytes cut =
-    let passes : nat_le s.len (run_length (has_character s.mode) bytes) ≡ true =
-    sym (run_tells (has_character s.mode) bytes s.len cut.0.inside) ∙ cut.0.characters in
-    let first = best-le version bytes s.mode s.len cut.0.some (leb-true _ _ passes) in
+    let first = best-le version bytes s.mode s.len
+    (record { some = cut.0.some; inside = cut.0.inside; characters = cut.0.characters }) in
     omega (
       arith,
-      first.0,
+      first.low,
       sum_by-cons (segment_length version) s segments,
       fewest_bits-le_cost version segments (drop s.len bytes) cut.1,
     )
+
+-- a byte that only byte mode has: the best of absent choices and that of byte mode is that of byte mode
+best_choice-byte : (byte : ChoiceView) → byte.bits < ABSENT → best_choice absent_digits absent_characters byte ≡ byte
+unfolding best_choice better_choice
+best_choice-byte byte few = rw (lt-ltb byte.bits ABSENT few) refl
+
+pub byte_choices-is : (version b : ℕ) (rest : Choices) → b < 256 → 45 ≤ alphanumeric_value b
+    → rest.best.bits + 28 < ABSENT
+    → byte_choices (better_choice (longer_choice rest.bytes 8) (short_choice version Byte rest.best.bits))
+    ≡ next_choices version b rest
+unfolding next_choices next_digits next_characters
+byte_choices-is version b rest small none few =
+    let short = short_choice version Byte rest.best.bits in
+    let byte = better_choice (longer_choice rest.bytes 8) short in
+    let beats : Beats byte short.bits 1 =
+    better-right (longer_choice rest.bytes 8) (record { low = omega arith; strict = λ less. absurd (omega arith) }) in
+    let best : best_choice absent_digits absent_characters byte ≡ byte =
+    best_choice-byte byte (omega (arith, beats.low, short_bits version Byte)) in
+    let no_character : nat_lt (alphanumeric_value b) 45 ≡ false = le-ltb (alphanumeric_value b) 45 none in
+    rw (no_digit b small no_character, no_character, best) refl

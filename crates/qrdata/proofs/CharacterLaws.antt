@@ -1,25 +1,34 @@
--- The value of each byte as an alphanumeric character: tests computed over all bytes.
-use Rattle.std.proofs.Common.{◌≡◌, ℕ, ◌+◌, ◌<◌, ◌≤◌, refl, arith, true, get_or}
-use Rattle.std.specs.Prelude.{◌==◌, ◌&&◌, nat_le}
-use Rattle.std.specs.List.{list_all, range_with_len}
-use Rattle.std.proofs.lemmas.Bool.{and_parts, eqb-true, leb-true}
-use Rattle.std.proofs.lemmas.List.FromFn.{get_or-range_with_len, length-range_with_len}
-use Rattle.std.proofs.lemmas.List.Sums.{AllPass-from_list_all}
+-- Each byte as an alphanumeric character: tests computed over all bytes.
+use Rattle.std.proofs.Common.{◌≡◌, ℕ, ◌<◌, ◌≤◌, refl, Bool, true, false, get_or, not}
+use Rattle.std.specs.Char.{is_ascii_digit}
+use Rattle.std.specs.Prelude.{◌==◌, ◌&&◌, ◌||◌, nat_le, nat_lt}
+use Rattle.std.proofs.lemmas.Bool.{agree_below, agree_below_at, and_parts, eqb-true, leb-true, not-true}
 use Rattle.qrdata.specs.Segments.{alphanumeric_characters, alphanumeric_value}
 use Rattle.qrdata.specs.declared.mode.TheConstants.{VALUES}
 
-values : list_all (λ c. get_or VALUES c 0 == alphanumeric_value c && nat_le (alphanumeric_value c) 45)
-    (range_with_len 0 256) ≡ true
+abbrev has_its_value : ℕ → Bool
+has_its_value c = get_or VALUES c 0 == alphanumeric_value c && nat_le (alphanumeric_value c) 45
+
+values : agree_below has_its_value (λ c. true) 256 ≡ true
 unfolding alphanumeric_value alphanumeric_characters
 values = refl
 
 -- what the table has for a byte
 pub value_is : (c : ℕ) → c < 256 → (get_or VALUES c 0 ≡ alphanumeric_value c) × (alphanumeric_value c ≤ 45)
 value_is c h =
-    let here = AllPass-from_list_all (λ c. get_or VALUES c 0 == alphanumeric_value c
-    && nat_le (alphanumeric_value c) 45) (range_with_len 0 256) values c 0
-    (omega (arith, length-range_with_len 0 256)) in
-    let place : 0 + c ≡ c = omega arith in
-    let parts = and_parts (get_or VALUES c 0 == alphanumeric_value c) (nat_le (alphanumeric_value c) 45)
-    (rw (get_or-range_with_len 0 256 c 0 h, place) at here) in
+    let parts = and_parts _ _ (agree_below_at has_its_value (λ c. true) 256 c values h) in
     (eqb-true _ _ parts.0, leb-true _ _ parts.1)
+
+abbrev is_character_or_no_digit : ℕ → Bool
+is_character_or_no_digit c = nat_lt (alphanumeric_value c) 45 || not (is_ascii_digit c)
+
+digits : agree_below is_character_or_no_digit (λ c. true) 256 ≡ true
+unfolding alphanumeric_value alphanumeric_characters
+digits = refl
+
+-- each digit is an alphanumeric character
+pub no_digit : (c : ℕ) → c < 256 → nat_lt (alphanumeric_value c) 45 ≡ false → is_ascii_digit c ≡ false
+no_digit c h none =
+    let other : not (is_ascii_digit c) ≡ true =
+    rw none at (agree_below_at is_character_or_no_digit (λ c. true) 256 c digits h) in
+    not-true (is_ascii_digit c) other

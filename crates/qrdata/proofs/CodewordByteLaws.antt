@@ -1,5 +1,6 @@
 -- The codewords of a symbol are bytes.
-use Rattle.std.proofs.Common.{ℕ, zero, suc, ◌+◌, ◌<◌, ◌≤◌, List, [], ◌∷◌, map}
+use Rattle.std.proofs.Common.{ℕ, zero, suc, ◌+◌, ◌<◌, ◌≤◌, List, [], ◌∷◌, drop, map}
+use Rattle.qrdata.proofs.SegmentReadingLaws.{AreBytes-drop, AreBytes-take}
 use Rattle.std.specs.Prelude.{IfSome, None, Option, Some, slice_get}
 use Rattle.std.specs.List.{AllByRecursion, cons_option, flat_map, range_with_len}
 use Rattle.gf256.specs.ErrorCorrection.{ec_codewords_of}
@@ -10,11 +11,11 @@ use Rattle.qrdata.specs.Codewords.{codewords_at, data_codewords_of, final_messag
 use Rattle.qrdata.specs.Codewords.{symbol_codewords}
 use Rattle.qrdata.specs.Segments.{segments_bits}
 use Rattle.qrdata.specs.Versions.{block_lengths, data_codewords, ec_codewords_per_block}
-use Rattle.qrdata.proofs.DataReadingLaws.{AreBytes-append, AreBytes-data_codewords_of, AreBytes-split, HasEcCodewords}
-use Rattle.qrdata.proofs.DataReadingLaws.{HasEcCodewords-from_law}
+use Rattle.qrdata.proofs.DataReadingLaws.{AreBytes-append, AreBytes-data_codewords_of, HasEcCodewords}
+use Rattle.qrdata.proofs.DataReadingLaws.{have_ec_codewords}
 use Rattle.qrdata.proofs.InterleavingLaws.{Blocks, longest}
 use Rattle.qrdata.proofs.PayloadLaws.{AreBytes}
-use Rattle.qrdata.proofs.VersionLaws.{HasSoundBlocks-of}
+use Rattle.qrdata.proofs.VersionLaws.{IsSound-of}
 
 byte_at : (block : List ℕ) (place : ℕ) → AreBytes block → IfSome (slice_get block place) (λ b. b < 256)
 byte_at [] place w = tt
@@ -44,10 +45,19 @@ AreBytes-interleaving : (blocks : Blocks) → AllByRecursion AreBytes blocks →
 unfolding interleaving
 AreBytes-interleaving blocks w = AreBytes-places blocks 0 (longest blocks) w
 
-AreBytes-ec_codewords : (k : ℕ) (blocks : Blocks) → HasEcCodewords k → AllByRecursion AreBytes blocks
+AreBytes-split : (lengths codewords : List ℕ) → AreBytes codewords
+    → AllByRecursion AreBytes (split_by lengths codewords)
+unfolding split_by
+AreBytes-split [] codewords w = tt
+AreBytes-split (n ∷ lengths) codewords w = (
+  AreBytes-take n codewords w,
+  AreBytes-split lengths (drop n codewords) (AreBytes-drop n codewords w),
+)
+
+AreBytes-ec_codewords : (k : ℕ) (blocks : Blocks) → AllByRecursion (HasEcCodewords k) blocks
     → AllByRecursion AreBytes (map (ec_codewords_of k) blocks)
-AreBytes-ec_codewords k [] law w = tt
-AreBytes-ec_codewords k (block ∷ blocks) law w = (law.bytes block w.0, AreBytes-ec_codewords k blocks law w.1)
+AreBytes-ec_codewords k [] law = tt
+AreBytes-ec_codewords k (block ∷ blocks) law = (law.0.bytes, AreBytes-ec_codewords k blocks law.1)
 
 -- the codewords of a symbol are bytes, whatever the segments and the data are
 pub AreBytes-symbol_codewords : (version : ℕ) (level : Level) (segments : List Segment) (bytes : List ℕ) → 1 ≤ version
@@ -55,13 +65,12 @@ pub AreBytes-symbol_codewords : (version : ℕ) (level : Level) (segments : List
 unfolding symbol_codewords final_message
 AreBytes-symbol_codewords version level segments bytes low high =
     let k = ec_codewords_per_block version level in
-    let size = data_codewords version level in
-    let bits = segments_bits version segments bytes in
-    let blocks = split_by (block_lengths version level) (data_codewords_of size bits) in
-    let law = HasEcCodewords-from_law IsRemainder-ec_codewords_of HasRoots-remainder k
-    (HasSoundBlocks-of version level low high).some_ec_codewords in
-    let w = AreBytes-split (block_lengths version level) (data_codewords_of size bits)
-    (AreBytes-data_codewords_of size bits) in
+    let lengths = block_lengths version level in
+    let message = data_codewords_of (data_codewords version level) (segments_bits version segments bytes) in
+    let w = AreBytes-data_codewords_of (data_codewords version level) (segments_bits version segments bytes) in
+    let blocks = split_by lengths message in
+    let law = have_ec_codewords IsRemainder-ec_codewords_of HasRoots-remainder k
+    (IsSound-of version level (low, high)).some_ec_codewords lengths message w in
     AreBytes-append (interleaving blocks) (interleaving (map (ec_codewords_of k) blocks))
-    (AreBytes-interleaving blocks w)
-    (AreBytes-interleaving (map (ec_codewords_of k) blocks) (AreBytes-ec_codewords k blocks law w))
+    (AreBytes-interleaving blocks (AreBytes-split lengths message w))
+    (AreBytes-interleaving (map (ec_codewords_of k) blocks) (AreBytes-ec_codewords k blocks law))

@@ -1,13 +1,15 @@
 -- What is read of the codewords of a symbol is its data.
-use Rattle.std.proofs.Common.{◌≡◌, ℕ, zero, suc, ◌+◌, ◌-◌, ◌*◌, ◌/◌, ◌%◌, ◌<◌, ◌≤◌, List, [], ◌∷◌, ◌++◌, map, take, drop}
-use Rattle.std.proofs.Common.{length, replicate, refl, sym, ap, ◌∙◌, length-append, arith, Bool, true, false, sum}
+use Rattle.std.proofs.Common.{◌≡◌, ℕ, zero, suc, ◌+◌, ◌-◌, ◌*◌, ◌/◌, ◌%◌, ◌<◌, ◌≤◌, List, [], ◌∷◌, ◌++◌, map, take}
+use Rattle.std.proofs.Common.{drop}
+use Rattle.std.proofs.Common.{get_or, length, replicate, refl, sym, ap, ◌∙◌, length-append, arith, Bool, true, false}
+use Rattle.std.proofs.Common.{sum}
 use Rattle.std.specs.Prelude.{if◌then◌else◌, None, Some, Option, ◌&&◌, ◌==◌}
-use Rattle.std.specs.List.{AllByRecursion, concat, list_all, range_with_len, zip}
+use Rattle.std.specs.List.{AllByRecursion, concat, flat_map, list_all, range_with_len, zip}
 use Rattle.std.proofs.lemmas.Bool.{eq-eqb, eqb-true}
 use Rattle.std.proofs.lemmas.List.{length-take}
 use Rattle.std.proofs.Math.Nat.{pow-le-pow_right}
 use Rattle.std.proofs.lemmas.List.Folds.{sum_by-replicate}
-use Rattle.std.proofs.lemmas.List.Elements.{All-from_recursion, recursion_from_All}
+use Rattle.std.proofs.lemmas.List.Elements.{All-from_get_or, All-from_recursion, recursion_from_All}
 use Rattle.gf256.specs.Field.{alpha, field_power, IsElement}
 use Rattle.gf256.specs.Polynomial.{evaluate}
 use Rattle.gf256.specs.ErrorCorrection.{ec_codewords_of, HasRoots, IsRemainder, EcCodewordsAreRemainder}
@@ -23,20 +25,20 @@ use Rattle.qrdata.specs.Segments.{IsSegmentation, cost, segments_bits}
 use Rattle.qrdata.specs.Private.Blocks.{block_count}
 use Rattle.qrdata.specs.Versions.{block_lengths, data_codewords, ec_codewords_per_block, total_codewords}
 use Rattle.qrdata.proofs.BitStringLaws.{drop_front, number_of-lt, take_front}
-use Rattle.qrdata.proofs.BlockLaws.{length-interleaving, length-split_by, ec_lengths, split_joined, split_lengths}
+use Rattle.qrdata.proofs.BlockLaws.{length-interleaving, length-split_by, split_joined, split_lengths}
 use Rattle.qrdata.proofs.InterleavingLaws.{Blocks, deinterleaving-interleaving}
 use Rattle.qrdata.proofs.LengthLaws.{count_below_cost, length-segments_bits}
 use Rattle.qrdata.proofs.PaddingLaws.{length-data_codewords_of, data_codewords_of-ends}
 use Rattle.qrdata.proofs.PayloadLaws.{AreBytes}
-use Rattle.qrdata.proofs.VersionLaws.{HasSoundBlocks-of, data_codewords-add_ec_codewords}
+use Rattle.qrdata.proofs.VersionLaws.{IsSound-of}
 use Rattle.qrdata.proofs.SegmentReadingLaws.{AreBytes-take, AreBytes-drop, segments_at-segments_bits}
 
--- the error correction codewords of a block: they have the right number, and with them the block is a multiple of its
--- generator
-pub record HasEcCodewords (k : ℕ) : Type 0 where
-  pub count : (block : List ℕ) → AreBytes block → length (ec_codewords_of k block) ≡ k
-  pub roots : (block : List ℕ) → AreBytes block → has_roots k (block, ec_codewords_of k block) ≡ true
-  pub bytes : (block : List ℕ) → AreBytes block → AreBytes (ec_codewords_of k block)
+-- the error correction codewords of a block are as many as they should be, and bytes, and with them the block is a
+-- multiple of its generator
+pub record HasEcCodewords (k : ℕ) (block : List ℕ) : Type 0 where
+  pub count : length (ec_codewords_of k block) ≡ k
+  pub roots : has_roots k (block, ec_codewords_of k block) ≡ true
+  pub bytes : AreBytes (ec_codewords_of k block)
 
 roots_pass : (p : List ℕ) (n low : ℕ) → ((i : ℕ) → i < low + n → evaluate p (field_power alpha i) ≡ 0)
     → list_all (λ i. evaluate p (field_power alpha i) == 0) (range_with_len low n) ≡ true
@@ -45,19 +47,58 @@ roots_pass p (suc n) low h =
     let here = eq-eqb (evaluate p (field_power alpha low)) 0 (h low (omega arith)) in
     rw (here, roots_pass p n (low + 1) (λ i less. h i (omega arith))) refl
 
-pub HasEcCodewords-from_law : EcCodewordsAreRemainder → RemaindersHaveRoots → (k : ℕ) → 0 < k → HasEcCodewords k
-HasEcCodewords-from_law remainder codeword k some = record {
-  count = λ block w. let here : IsRemainder k block (ec_codewords_of k block) =
-      remainder k block some (All-from_recursion IsElement block w) in here.ec_codewords_length;
-  roots = λ block w.
-      let here : IsRemainder k block (ec_codewords_of k block) =
-      remainder k block some (All-from_recursion IsElement block w) in
-      let roots : HasRoots k (block ++ ec_codewords_of k block) = codeword k block (ec_codewords_of k block) here in
-      roots_pass (block ++ ec_codewords_of k block) k 0 (λ i h. roots i (omega arith));
-  bytes = λ block w. let here : IsRemainder k block (ec_codewords_of k block) =
-      remainder k block some (All-from_recursion IsElement block w) in
-      recursion_from_All IsElement (ec_codewords_of k block) here.ec_codewords_elements;
-}
+HasEcCodewords-from_law : EcCodewordsAreRemainder → RemaindersHaveRoots → (k : ℕ) → 0 < k → (block : List ℕ)
+    → AreBytes block → HasEcCodewords k block
+HasEcCodewords-from_law remainder codeword k some block w =
+    let here : IsRemainder k block (ec_codewords_of k block) =
+    remainder k block some (All-from_recursion IsElement block w) in
+    let roots : HasRoots k (block ++ ec_codewords_of k block) = codeword k block (ec_codewords_of k block) here in
+    record {
+      count = here.ec_codewords_length;
+      roots = roots_pass (block ++ ec_codewords_of k block) k 0 (λ i h. roots i (omega arith));
+      bytes = recursion_from_All IsElement (ec_codewords_of k block) here.ec_codewords_elements;
+    }
+
+-- the same of each block of a message
+pub have_ec_codewords : EcCodewordsAreRemainder → RemaindersHaveRoots → (k : ℕ) → 0 < k → (lengths message : List ℕ)
+    → AreBytes message → AllByRecursion (HasEcCodewords k) (split_by lengths message)
+unfolding split_by
+have_ec_codewords remainder codeword k some [] message w = tt
+have_ec_codewords remainder codeword k some (n ∷ lengths) message w = (
+  HasEcCodewords-from_law remainder codeword k some (take n message) (AreBytes-take n message w),
+  have_ec_codewords remainder codeword k some lengths (drop n message) (AreBytes-drop n message w),
+)
+
+ec_lengths : (k : ℕ) (blocks : Blocks) → AllByRecursion (HasEcCodewords k) blocks
+    → map length (map (ec_codewords_of k) blocks) ≡ replicate (length blocks) k
+ec_lengths k [] law = refl
+ec_lengths k (block ∷ blocks) law = rw (law.0.count, ec_lengths k blocks law.1) refl
+
+-- the error correction codewords of all blocks, which have equal lengths, are cut apart again
+pub split_by-flat_map : (k : ℕ) (blocks : Blocks) → AllByRecursion (HasEcCodewords k) blocks
+    → split_by (replicate (length blocks) k) (flat_map (ec_codewords_of k) blocks) ≡ map (ec_codewords_of k) blocks
+unfolding split_by
+split_by-flat_map k [] law = refl
+split_by-flat_map k (block ∷ blocks) law = rw (
+  take_front k (ec_codewords_of k block) (flat_map (ec_codewords_of k) blocks) law.0.count,
+  drop_front k (ec_codewords_of k block) (flat_map (ec_codewords_of k) blocks) law.0.count,
+  split_by-flat_map k blocks law.1,
+) refl
+
+pub length-flat_map : (k : ℕ) (blocks : Blocks) → AllByRecursion (HasEcCodewords k) blocks
+    → length (flat_map (ec_codewords_of k) blocks) ≡ length blocks * k
+length-flat_map k [] law = omega arith
+length-flat_map k (block ∷ blocks) law = omega (
+  arith,
+  length-append (ec_codewords_of k block) (flat_map (ec_codewords_of k) blocks),
+  law.0.count,
+  length-flat_map k blocks law.1,
+)
+
+-- a slice of bytes
+pub AreBytes-slice : (bytes : List ℕ) → ((i : ℕ) → get_or bytes i 0 < 256) → AreBytes bytes
+AreBytes-slice bytes each = recursion_from_All (λ b. b < 256) bytes
+    (All-from_get_or (λ b. b < 256) bytes 0 (λ i h. each i))
 
 pub AreBytes-append : (xs ys : List ℕ) → AreBytes xs → AreBytes ys → AreBytes (xs ++ ys)
 AreBytes-append [] ys v w = w
@@ -88,19 +129,10 @@ AreBytes-data_codewords_of size bits =
     AreBytes-append (codewords_of (length whole / 8) whole) (pad_codewords (size - length whole / 8))
     (AreBytes-codewords_of (length whole / 8) whole) (AreBytes-pads_from 0 (size - length whole / 8))
 
-pub AreBytes-split : (lengths codewords : List ℕ) → AreBytes codewords
-    → AllByRecursion AreBytes (split_by lengths codewords)
-unfolding split_by
-AreBytes-split [] codewords w = tt
-AreBytes-split (n ∷ lengths) codewords w = (
-  AreBytes-take n codewords w,
-  AreBytes-split lengths (drop n codewords) (AreBytes-drop n codewords w),
-)
-
-all_have_roots : (k : ℕ) (blocks : Blocks) → HasEcCodewords k → AllByRecursion AreBytes blocks
+all_have_roots : (k : ℕ) (blocks : Blocks) → AllByRecursion (HasEcCodewords k) blocks
     → list_all (has_roots k) (zip blocks (map (ec_codewords_of k) blocks)) ≡ true
-all_have_roots k [] law w = refl
-all_have_roots k (block ∷ blocks) law w = rw (law.roots block w.0, all_have_roots k blocks law w.1) refl
+all_have_roots k [] law = refl
+all_have_roots k (block ∷ blocks) law = rw (law.0.roots, all_have_roots k blocks law.1) refl
 
 -- the sum of the lengths of the blocks, and how many they are
 pub lengths_hold : (version : ℕ) (level : Level) → (sum (block_lengths version level) ≡ data_codewords version level)
@@ -118,11 +150,12 @@ record IsDealtBack (version : ℕ) (level : Level) (codewords : List ℕ) : Type
       (drop (data_codewords version level) (final_message version level codewords))
       ≡ map (ec_codewords_of (ec_codewords_per_block version level)) (split_by (block_lengths version level) codewords)
 
-IsDealtBack-of : (version : ℕ) (level : Level) (codewords : List ℕ) → 1 ≤ version → version ≤ 10 → AreBytes codewords
-    → length codewords ≡ data_codewords version level → HasEcCodewords (ec_codewords_per_block version level)
-    → IsDealtBack version level codewords
+IsDealtBack-of : (version : ℕ) (level : Level) (codewords : List ℕ) → 1 ≤ version → version ≤ 10
+    → length codewords ≡ data_codewords version level
+    → AllByRecursion (HasEcCodewords (ec_codewords_per_block version level))
+    (split_by (block_lengths version level) codewords) → IsDealtBack version level codewords
 unfolding final_message
-IsDealtBack-of version level codewords low high w size_is law =
+IsDealtBack-of version level codewords low high size_is law =
     let k = ec_codewords_per_block version level in
     let lengths = block_lengths version level in
     let blocks = split_by lengths codewords in
@@ -130,18 +163,18 @@ IsDealtBack-of version level codewords low high w size_is law =
     let shapes = lengths_hold version level in
     let block_shapes : map length blocks ≡ lengths = split_lengths lengths codewords (omega (arith, shapes.0)) in
     let ec_shapes : map length ec_blocks ≡ replicate (length lengths) k =
-    ec_lengths (ec_codewords_of k) k blocks AreBytes law.count (AreBytes-split lengths codewords w)
-    ∙ ap (λ n. replicate n k) (length-split_by lengths codewords) in
+    ec_lengths k blocks law ∙ ap (λ n. replicate n k) (length-split_by lengths codewords) in
     let data_length : length (interleaving blocks) ≡ data_codewords version level =
     length-interleaving blocks ∙ (ap sum block_shapes ∙ shapes.0) in
     let ec_length : length (interleaving ec_blocks) ≡ block_count version level * k =
     length-interleaving ec_blocks ∙ (ap sum ec_shapes
     ∙ (sum_by-replicate (λ x. x) (length lengths) k ∙ ap (λ n. n * k) shapes.1)) in
-    let total = data_codewords-add_ec_codewords version level low high in record {
+    let total = (IsSound-of version level (low, high)).all in record {
       total = omega (arith, length-append (interleaving blocks) (interleaving ec_blocks), total);
       blocks = rw (take_front (data_codewords version level) (interleaving blocks) (interleaving ec_blocks) data_length)
           (rw block_shapes at (deinterleaving-interleaving blocks));
-      ec_blocks = rw (drop_front (data_codewords version level) (interleaving blocks) (interleaving ec_blocks) data_length)
+      ec_blocks = rw
+          (drop_front (data_codewords version level) (interleaving blocks) (interleaving ec_blocks) data_length)
           (rw ec_shapes at (deinterleaving-interleaving ec_blocks));
     }
 
@@ -160,12 +193,12 @@ data_in-symbol_codewords version level segments bytes low high w cut fits remain
     let lengths = block_lengths version level in
     let bits = segments_bits version segments bytes in
     let codewords = data_codewords_of size bits in
-    let law = HasEcCodewords-from_law remainder codeword k (HasSoundBlocks-of version level low high).some_ec_codewords in
     let bits_fit : length bits ≤ 8 * size = omega (arith, length-segments_bits version segments bytes cut, fits) in
     let size_is : length codewords ≡ size = length-data_codewords_of size bits bits_fit in
-    let are_bytes = AreBytes-data_codewords_of size bits in
-    let dealt = IsDealtBack-of version level codewords low high are_bytes size_is law in
-    let valid = all_have_roots k (split_by lengths codewords) law (AreBytes-split lengths codewords are_bytes) in
+    let law = have_ec_codewords remainder codeword k (IsSound-of version level (low, high)).some_ec_codewords lengths
+    codewords (AreBytes-data_codewords_of size bits) in
+    let dealt = IsDealtBack-of version level codewords low high size_is law in
+    let valid = all_have_roots k (split_by lengths codewords) law in
     let joined : concat (split_by lengths codewords) ≡ codewords =
     split_joined lengths codewords ((lengths_hold version level).0 ∙ sym size_is) in
     let ends = data_codewords_of-ends size bits bits_fit in

@@ -1,44 +1,29 @@
--- A table of best first segments, from the shortest rest on, is right in all versions whose character counts are as wide.
+-- A table of best first segments, from the shortest rest on, is right in all versions whose character counts are as
+-- wide.
 use Rattle.std.proofs.Common.{◌≡◌, ℕ, zero, suc, [], ◌++◌, ◌+◌, ◌-◌, ◌<◌, ◌≤◌, List, ◌∷◌, drop, length, get_or, refl}
-use Rattle.std.proofs.Common.{sym, subst, ap, ◌∙◌, arith, inl, inr, cond}
-use Rattle.std.specs.Prelude.{slice_get, Some, nat_lt}
-use Rattle.std.proofs.lemmas.Bool.{cases_lt, lt-ltb}
+use Rattle.std.proofs.Common.{sym, subst, ap, ◌∙◌, arith, cond}
+use Rattle.std.specs.Prelude.{nat_lt}
 use Rattle.std.proofs.lemmas.List.{get_or_append_left, length-append}
 use Rattle.std.proofs.Math.Seq.{get_or-append_seam}
-use Rattle.std.proofs.lemmas.List.{drop-drop, drop_all, drop_more, length-drop}
+use Rattle.std.proofs.lemmas.List.{drop-drop, get_or-map, length-drop, length-map}
 use Rattle.std.proofs.lemmas.List.Sums.{sum_by-cons}
-use Rattle.std.proofs.lemmas.Option.{slice_get-get_or}
 use Rattle.qrdata.specs.declared.level.Level.{Level}
-use Rattle.qrdata.specs.declared.mode.Mode.TheVariants.{Byte}
+use Rattle.qrdata.specs.declared.mode.Mode.TheVariants.{Byte, Numeric}
 use Rattle.qrdata.specs.declared.mode.Segment.{Segment}
 use Rattle.qrdata.specs.Fewest.{chosen_segments}
-use Rattle.qrdata.specs.Private.SmallestPlan.{IsTable, NamesBest, SameWidths}
+use Rattle.qrdata.specs.Private.Firsts.{HasSegments, first_at}
+use Rattle.qrdata.specs.declared.firsts.Firsts.{Firsts}
+use Rattle.qrdata.specs.Private.SmallestPlan.{FitsBits, IsTable, NamesBest, SameWidths}
 use Rattle.qrdata.specs.Segments.{IsSegmentation, cost, segment_length}
-use Rattle.qrdata.specs.Private.Table.{choices_of, fewest_bits, firsts_of, next_choices, no_choices}
-use Rattle.qrdata.specs.Versions.{capacity}
+use Rattle.qrdata.specs.Private.Table.{choices_of, fewest_bits, firsts_of}
+use Rattle.qrdata.specs.Versions.{IsVersion, capacity}
+use Rattle.qrdata.proofs.BoundLaws.{few_segments}
 use Rattle.qrdata.proofs.BestChoiceLaws.{fewest_bits-le_cost}
-use Rattle.qrdata.proofs.ChoiceLimitLaws.{Agrees-if_fits, widest}
+use Rattle.qrdata.proofs.ChoiceLimitLaws.{Agrees-if_fits}
 use Rattle.qrdata.proofs.FewestBitsLaws.{chosen_segments-is}
 use Rattle.qrdata.proofs.SameWidthLaws.{chosen_segments-same, cost-chosen_same}
-use Rattle.qrdata.proofs.VersionLaws.{capacity-le, capacity-le_nine}
-use Rattle.qrdata.proofs.WriterLaws.{default_segment}
-
--- the choices of one byte more
-pub choices_of-next : (version : ℕ) (bytes : List ℕ) (place : ℕ) → 0 < place → place ≤ length bytes
-    → next_choices version (get_or bytes (place - 1) 0) (choices_of version (drop place bytes))
-    ≡ choices_of version (drop (place - 1) bytes)
-unfolding choices_of
-choices_of-next version bytes place some inside =
-    let next : place - 1 + 1 ≡ place = omega arith in
-    sym (rw (drop_more bytes (place - 1) 0 (omega arith), next) refl)
-
-pub choices_of-none : (version : ℕ) (bytes : List ℕ) → choices_of version (drop (length bytes) bytes) ≡ no_choices
-unfolding choices_of
-choices_of-none version bytes = rw (drop_all (length bytes) bytes (omega arith)) refl
-
-pub firsts_of-none : (version : ℕ) (bytes : List ℕ) → firsts_of version (drop (length bytes) bytes) ≡ []
-unfolding firsts_of
-firsts_of-none version bytes = rw (drop_all (length bytes) bytes (omega arith)) refl
+use Rattle.qrdata.proofs.VersionLaws.{IsSound-of, widest}
+use Rattle.qrdata.proofs.LengthLaws.{default_segment}
 
 pub length-firsts_of : (version : ℕ) (bytes : List ℕ) → length (firsts_of version bytes) ≡ length bytes
 unfolding firsts_of
@@ -46,18 +31,22 @@ length-firsts_of version [] = refl
 length-firsts_of version (b ∷ bytes) =
     length-append (firsts_of version bytes) _ ∙ omega (arith, length-firsts_of version bytes)
 
--- one more first
-pub firsts_of-next : (version : ℕ) (bytes : List ℕ) (place : ℕ) → 0 < place → place ≤ length bytes
-    → firsts_of version (drop place bytes) ++ (choices_of version (drop (place - 1) bytes)).best.segment ∷ []
-    ≡ firsts_of version (drop (place - 1) bytes)
-unfolding firsts_of
-firsts_of-next version bytes place some inside =
-    let next : place - 1 + 1 ≡ place = omega arith in
-    rw (drop_more bytes (place - 1) 0 (omega arith), next) refl
+-- each of the two lists of a table is as long as the table, and at a place they have the segment's mode and length
+pub table_sizes : {firsts : Firsts} {segments : List Segment} → HasSegments firsts segments
+    → (length firsts.modes.items ≡ length segments) × (length firsts.lengths.items ≡ length segments)
+table_sizes {firsts} {segments} table = (
+  ap length table.modes ∙ length-map segments (λ (s : Segment). s.mode),
+  ap length table.lengths ∙ length-map segments (λ (s : Segment). s.len),
+)
 
-found_is : (firsts : List Segment) (k : ℕ) (first : Segment) → k < length firsts → slice_get firsts k ≡ Some first
-    → first ≡ get_or firsts k default_segment
-found_is firsts k first h found = let at_k = slice_get-get_or firsts k default_segment h in cc
+first_at-is : {firsts : Firsts} {segments : List Segment} → HasSegments firsts segments → (place : ℕ)
+    → place < length segments → first_at firsts place ≡ get_or segments place default_segment
+first_at-is {firsts} {segments} table place inside = rw (
+  table.modes,
+  table.lengths,
+  get_or-map (λ (s : Segment). s.mode) segments place default_segment Numeric inside,
+  get_or-map (λ (s : Segment). s.len) segments place default_segment 0 inside,
+) refl
 
 -- the first of each rest is behind those of the shorter rests
 get_or-firsts_of : (version : ℕ) (bytes : List ℕ) (k : ℕ) → k < length bytes
@@ -80,18 +69,10 @@ get_or-firsts_of version (b ∷ bytes) (suc k) h =
     (omega (arith, length-firsts_of version bytes, h)) ∙ get_or-firsts_of version bytes k (omega arith)
 
 -- the capacities of the versions whose character counts are as wide
-capacity_widest : (version : ℕ) (level : Level) → 1 ≤ version → version ≤ 10 → capacity version level ≤ widest version
-capacity_widest version level low high = elim (cases_lt version 10) [
-  | inl small ↦ rw (lt-ltb version 10 small) (omega (arith, capacity-le_nine level version low (omega arith)))
-  | inr large ↦ let ten : version ≡ 10 = omega arith in
-      let all : capacity version level ≤ 2192 = capacity-le level version low high in
-      rw ten (rw ten at all)
-]
-
 pub capacity_as_wide : (v w : ℕ) (level : Level) → SameWidths v w → 1 ≤ v → v ≤ 10 → capacity v level ≤ widest w
 capacity_as_wide v w level same low high =
     let as_wide : widest v ≡ widest w = ap (λ n. cond {A = ℕ} (nat_lt n 16) 1856 2192) (same Byte) in
-    omega (arith, as_wide, capacity_widest v level low high)
+    omega (arith, as_wide, (IsSound-of v level (low, high)).few_bits)
 
 -- the fewest bits are no more than those of the best list
 pub fewest_bits-below : (v w : ℕ) → SameWidths v w → (bytes : List ℕ)
@@ -104,24 +85,42 @@ fewest_bits-below v w same bytes =
     )
 
 -- and they are as many where they fit
-pub fewest_bits-is : (v w : ℕ) → SameWidths v w → (bytes : List ℕ) → length bytes ≤ 652 → fewest_bits w bytes ≤ widest w
+fewest_bits-is : (v w : ℕ) → SameWidths v w → (bytes : List ℕ) → length bytes ≤ 652 → fewest_bits w bytes ≤ widest w
     → fewest_bits w bytes ≡ cost v (chosen_segments v bytes)
 fewest_bits-is v w same bytes few fits = (Agrees-if_fits w bytes few fits).bits ∙ sym (cost-chosen_same v w same bytes)
+
+-- the segments that fit, and have these bits
+pub FitsBits-of : (v w : ℕ) (level : Level) (bits : ℕ) → SameWidths v w → IsVersion v → (bytes : List ℕ)
+    → length bytes ≤ 652 → bits ≡ fewest_bits w bytes → bits ≤ capacity v level
+    → FitsBits v level bits (chosen_segments v bytes)
+FitsBits-of v w level bits same known bytes few fewest fits =
+    let wide = capacity_as_wide v w level same known.0 known.1 in
+    let value : bits ≡ cost v (chosen_segments v bytes) =
+    fewest ∙ fewest_bits-is v w same bytes few (omega (arith, fewest, fits, wide)) in
+    record {
+      value = value;
+      fits = fits;
+      short = few_segments v level (chosen_segments v bytes) bytes known (chosen_segments-is v bytes)
+          (omega (arith, value, fits));
+    }
 
 -- a table of the version w names the best segments of each version v whose counts have the same widths
 -- plan_between, the only caller, has the loop's number for v and the highest version for w; one call of `fill`
 -- returns the limit and leaves the table
-pub NamesBest-of : (v w : ℕ) → SameWidths v w → (bytes : List ℕ) (limit : ℕ) (firsts : List Segment)
-    → length bytes ≤ 652 → limit ≤ widest w → firsts ≡ firsts_of w bytes → NamesBest v bytes limit firsts
-NamesBest-of v w same bytes limit firsts few fits known = λ k inside small first found.
+pub NamesBest-of : (v w : ℕ) → SameWidths v w → (bytes : List ℕ) (limit : ℕ) (firsts : Firsts)
+    → length bytes ≤ 652 → limit ≤ widest w → HasSegments firsts (firsts_of w bytes) → NamesBest v bytes limit firsts
+NamesBest-of v w same bytes limit firsts few fits known = λ k inside small.
     let rest = drop k bytes in
     let agrees = Agrees-if_fits w rest (omega (arith, length-drop k bytes))
     (omega (arith, fewest_bits-below v w same rest)) in
     let whole = agrees.first (omega (arith, length-drop k bytes)) in
-    let is : first ≡ (choices_of w rest).best.segment =
-    found_is (firsts_of w bytes) (length bytes - 1 - k) first (omega (arith, length-firsts_of w bytes, inside))
-    (rw known at found) ∙ get_or-firsts_of w bytes k inside in
-    rw (chosen_segments-same v w same (drop first.len rest), chosen_segments-same v w same rest, is) whole
+    let is : first_at firsts (length bytes - 1 - k) ≡ (choices_of w rest).best.segment =
+    first_at-is known (length bytes - 1 - k) (omega (arith, length-firsts_of w bytes, inside))
+    ∙ get_or-firsts_of w bytes k inside in
+    subst (λ (s : Segment). s ∷ chosen_segments v (drop s.len rest) ≡ chosen_segments v rest) (sym is) (rw (
+      chosen_segments-same v w same (drop (choices_of w rest).best.segment.len rest),
+      chosen_segments-same v w same rest,
+    ) whole)
 
 -- what a first segment is
 pub record IsNamed (version : ℕ) (bytes : List ℕ) (place limit : ℕ) (s : Segment) : Type 0 where
@@ -130,13 +129,13 @@ pub record IsNamed (version : ℕ) (bytes : List ℕ) (place limit : ℕ) (s : S
   pub next : chosen_segments version (drop place bytes) ≡ s ∷ chosen_segments version (drop (place + s.len) bytes)
   pub small : cost version (chosen_segments version (drop (place + s.len) bytes)) ≤ limit
 
-pub IsNamed-first : {version : ℕ} {bytes : List ℕ} {limit : ℕ} {firsts : List Segment} {place : ℕ} {s : Segment}
+pub IsNamed-first : {version : ℕ} {bytes : List ℕ} {limit : ℕ} {firsts : Firsts} {place : ℕ} {s : Segment}
     → place < length bytes → IsTable version bytes limit firsts
     → cost version (chosen_segments version (drop place bytes)) ≤ limit
-    → slice_get firsts (length bytes - 1 - place) ≡ Some s → IsNamed version bytes place limit s
+    → s ≡ first_at firsts (length bytes - 1 - place) → IsNamed version bytes place limit s
 IsNamed-first {version} {bytes} {limit} {firsts} {place} {s} h table fits found =
     let first : s ∷ chosen_segments version (drop s.len (drop place bytes))
-    ≡ chosen_segments version (drop place bytes) = table.named place h fits s found in
+    ≡ chosen_segments version (drop place bytes) = rw found (table.named place h fits) in
     let cut : IsSegmentation version (s ∷ chosen_segments version (drop s.len (drop place bytes))) (drop place bytes) =
     subst (λ (l : List Segment). IsSegmentation version l (drop place bytes)) (sym first)
     (chosen_segments-is version (drop place bytes)) in

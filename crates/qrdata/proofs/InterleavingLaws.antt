@@ -1,10 +1,10 @@
 -- Deinterleaving undoes interleaving.
-use Rattle.std.proofs.Common.{◌≡◌, ℕ, zero, suc, ◌+◌, ◌-◌, ◌<◌, ◌≤◌, List, [], ◌∷◌, map, take, drop, length, get_or}
+use Rattle.std.proofs.Common.{◌≡◌, ℕ, zero, suc, ◌+◌, ◌<◌, ◌≤◌, List, [], ◌∷◌, map, take, drop, length, get_or}
 use Rattle.std.proofs.Common.{min, refl, ap, sym, ◌∙◌, length-append, arith, inl, inr, cond}
 use Rattle.std.specs.Prelude.{fold, max, slice_get, slice_index, nat_lt}
 use Rattle.std.specs.List.{count_by, flat_map, range_with_len, cons_option, sum_by}
 use Rattle.std.proofs.lemmas.Bool.{cases_lt, lt-ltb, le-ltb}
-use Rattle.std.proofs.lemmas.List.{get_or-map, length-drop, length-map}
+use Rattle.std.proofs.lemmas.List.{get_or-map, length-map}
 use Rattle.std.proofs.lemmas.List.Concat.{get_or-flat_map}
 use Rattle.std.proofs.lemmas.List.FromFn.{fill_by_all, get_or-range_with_len, length-range_with_len}
 use Rattle.std.proofs.lemmas.List.Sums.{sum_by-cons}
@@ -22,7 +22,7 @@ codewords_at-tails ([] ∷ blocks) place = codewords_at-tails blocks place
 codewords_at-tails ((w ∷ codewords) ∷ blocks) place = ap (cons_option (slice_get codewords place))
     (codewords_at-tails blocks place)
 
-pub places_from : (blocks : Blocks) (n a : ℕ)
+places_from : (blocks : Blocks) (n a : ℕ)
     → flat_map (codewords_at (map (drop 1) blocks)) (range_with_len a n)
     ≡ flat_map (codewords_at blocks) (range_with_len (suc a) n)
 places_from blocks zero a = refl
@@ -38,18 +38,8 @@ pub fold-max : (n : ℕ) (ns : List ℕ) → fold max n ns ≡ max n (fold max 0
 fold-max n [] = omega arith
 fold-max n (m ∷ ns) = omega (arith, fold-max (max n m) ns, fold-max (max 0 m) ns)
 
-pub longest-cons : (block : List ℕ) (blocks : Blocks) → longest (block ∷ blocks) ≡ max (length block) (longest blocks)
+longest-cons : (block : List ℕ) (blocks : Blocks) → longest (block ∷ blocks) ≡ max (length block) (longest blocks)
 longest-cons block blocks = omega (arith, fold-max (max 0 (length block)) (map length blocks))
-
-pub longest-tails : (blocks : Blocks) → longest (map (drop 1) blocks) ≡ longest blocks - 1
-longest-tails [] = refl
-longest-tails (block ∷ blocks) = omega (
-  arith,
-  longest-cons block blocks,
-  longest-cons (drop 1 block) (map (drop 1) blocks),
-  length-drop 1 block,
-  longest-tails blocks,
-)
 
 le-longest : (blocks : Blocks) (b : ℕ) → length (get_or blocks b []) ≤ longest blocks
 le-longest [] b = omega arith
@@ -73,7 +63,7 @@ none_below [] = refl
 none_below (n ∷ ns) = omega (arith, none_below ns, sum_by-cons (min 0) n ns)
 
 -- how many codewords have places below i
-length_below : (i : ℕ) (blocks : Blocks)
+pub length_below : (i : ℕ) (blocks : Blocks)
     → length (flat_map (codewords_at blocks) (range_with_len 0 i)) ≡ sum_by (min i) (map length blocks)
 length_below zero blocks = none_below (map length blocks)
 length_below (suc i) blocks =
@@ -93,20 +83,19 @@ in_round : (blocks : Blocks) (b i : ℕ) → b < length blocks → i < length (g
     × (get_or (codewords_at blocks i) (place_in_round blocks b i) 0 ≡ get_or (get_or blocks b []) i 0)
 in_round [] b i block codeword = absurd (omega arith)
 in_round (x ∷ xs) zero i block codeword = rw (slice_get-get_or x i 0 codeword) (omega arith, refl)
-in_round (x ∷ xs) (suc b) i block codeword = elim (cases_lt i (length x)) [
-  | inl has ↦
-      let rest = in_round xs b i (omega arith) codeword in
-      let one = sum_by-cons (λ n. cond (nat_lt i n) 1 0) (length x) (take b (map length xs)) in
-      let more : place_in_round (x ∷ xs) (suc b) i ≡ suc (place_in_round xs b i) =
-      omega (arith, rw (lt-ltb i (length x) has) at one) in
-      rw (slice_get-get_or x i 0 has, more) (omega (arith, rest.0), rest.1)
-  | inr lacks ↦
-      let rest = in_round xs b i (omega arith) codeword in
-      let one = sum_by-cons (λ n. cond (nat_lt i n) 1 0) (length x) (take b (map length xs)) in
-      let same : place_in_round (x ∷ xs) (suc b) i ≡ place_in_round xs b i =
-      omega (arith, rw (le-ltb i (length x) lacks) at one) in
-      rw (slice_get_past x i lacks, same) rest
-]
+in_round (x ∷ xs) (suc b) i block codeword =
+    let rest = in_round xs b i (omega arith) codeword in
+    let one = sum_by-cons (λ n. cond (nat_lt i n) 1 0) (length x) (take b (map length xs)) in
+    elim (cases_lt i (length x)) [
+      | inl has ↦
+          let more : place_in_round (x ∷ xs) (suc b) i ≡ suc (place_in_round xs b i) =
+          omega (arith, rw (lt-ltb i (length x) has) at one) in
+          rw (slice_get-get_or x i 0 has, more) (omega (arith, rest.0), rest.1)
+      | inr lacks ↦
+          let same : place_in_round (x ∷ xs) (suc b) i ≡ place_in_round xs b i =
+          omega (arith, rw (le-ltb i (length x) lacks) at one) in
+          rw (slice_get_past x i lacks, same) rest
+    ]
 
 take_range : (n a i : ℕ) → i ≤ n → take i (range_with_len a n) ≡ range_with_len a i
 take_range n a zero h = refl

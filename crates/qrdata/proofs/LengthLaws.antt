@@ -1,5 +1,6 @@
 -- The bits of segments are as many as their cost.
-use Rattle.std.proofs.Common.{◌≡◌, ℕ, ◌+◌, ◌*◌, ◌/◌, ◌≤◌, List, [], ◌∷◌, ◌++◌, take, drop, length, refl, length-append}
+use Rattle.std.proofs.Common.{◌≡◌, ℕ, ◌+◌, ◌*◌, ◌/◌, ◌≤◌, List, [], ◌∷◌, ◌++◌, take, drop, length, refl}
+use Rattle.std.proofs.Common.{length-append, ap, ◌∙◌}
 use Rattle.std.proofs.Common.{arith}
 use Rattle.std.proofs.lemmas.List.{length-take-le}
 use Rattle.std.proofs.lemmas.List.Sums.{sum_by-cons}
@@ -7,9 +8,10 @@ use Rattle.qrdata.specs.declared.mode.Mode.{Mode}
 use Rattle.qrdata.specs.declared.mode.Mode.TheVariants.{Numeric, Alphanumeric, Byte}
 use Rattle.qrdata.specs.declared.mode.Segment.{Segment}
 use Rattle.qrdata.specs.Bits.{bits_of}
-use Rattle.qrdata.specs.Segments.{IsSegmentation, alphanumeric_bits, alphanumeric_value, cost, count_width, digit_value}
+use Rattle.qrdata.specs.Segments.{IsSegmentation, alphanumeric_bits, alphanumeric_value, cost, count_width}
+use Rattle.qrdata.specs.Segments.{digit_value}
 use Rattle.qrdata.specs.Segments.{mode_indicator, numeric_bits, payload_bits, payload_length, segment_bits}
-use Rattle.qrdata.specs.Segments.{segment_length, segments_bits}
+use Rattle.qrdata.specs.Segments.{segment_length, segment_of, segments_bits}
 use Rattle.qrdata.proofs.BitStringLaws.{length-bits_of}
 use Rattle.qrdata.proofs.PaddingLaws.{length-byte_bits}
 
@@ -38,7 +40,7 @@ length-payload_bits Numeric bytes = length-numeric_bits bytes
 length-payload_bits Alphanumeric bytes = length-alphanumeric_bits bytes
 length-payload_bits Byte bytes = length-byte_bits bytes
 
-pub length-segment_bits : (version : ℕ) (mode : Mode) (bytes : List ℕ)
+length-segment_bits : (version : ℕ) (mode : Mode) (bytes : List ℕ)
     → length (segment_bits version mode bytes) ≡ 4 + count_width version mode + payload_length mode (length bytes)
 length-segment_bits version mode bytes =
     let indicator = bits_of 4 (mode_indicator mode) in
@@ -53,19 +55,23 @@ length-segment_bits version mode bytes =
       length-payload_bits mode bytes,
     )
 
+-- the bits of a segment of the first bytes
+pub length-segment_bits_front : (version : ℕ) (mode : Mode) (n : ℕ) (bytes : List ℕ) → n ≤ length bytes
+    → length (segment_bits version mode (take n bytes)) ≡ 4 + count_width version mode + payload_length mode n
+length-segment_bits_front version mode n bytes h =
+    length-segment_bits version mode (take n bytes)
+    ∙ ap (λ k. 4 + count_width version mode + payload_length mode k) (length-take-le n bytes h)
+
 pub length-segments_bits : (version : ℕ) (segments : List Segment) (bytes : List ℕ)
     → IsSegmentation version segments bytes → length (segments_bits version segments bytes) ≡ cost version segments
 unfolding segments_bits
 length-segments_bits version [] bytes cut = refl
 length-segments_bits version (s ∷ segments) bytes cut =
     let front = take s.len bytes in
-    let long : length front ≡ s.len = length-take-le s.len bytes cut.0.inside in
-    let first : length (segment_bits version s.mode front) ≡ segment_length version s =
-    rw (length-segment_bits version s.mode front, long) refl in
     omega (
       arith,
       length-append (segment_bits version s.mode front) (segments_bits version segments (drop s.len bytes)),
-      first,
+      length-segment_bits_front version s.mode s.len bytes cut.0.inside,
       length-segments_bits version segments (drop s.len bytes) cut.1,
       sum_by-cons (segment_length version) s segments,
     )
@@ -75,3 +81,7 @@ pub count_below_cost : (version : ℕ) (segments : List Segment) → length segm
 count_below_cost version [] = omega arith
 count_below_cost version (s ∷ segments) =
     omega (arith, count_below_cost version segments, sum_by-cons (segment_length version) s segments)
+
+-- what a list of segments is read as past its end
+abbrev pub default_segment : Segment
+default_segment = segment_of Numeric 0

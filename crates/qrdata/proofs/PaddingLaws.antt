@@ -1,47 +1,46 @@
 -- The data codewords hold the bits of the segments, and after them what a reader takes as their end.
 use Rattle.std.proofs.Common.{◌≡◌, ℕ, zero, suc, ◌+◌, ◌-◌, ◌*◌, ◌/◌, ◌%◌, ◌<◌, ◌≤◌, List, [], ◌∷◌, ◌++◌, take, drop}
 use Rattle.std.proofs.Common.{length, replicate, refl, ap, append_assoc, append-nil, length-append, arith, Bool, true}
-use Rattle.std.proofs.Common.{false, min}
-use Rattle.std.specs.Prelude.{◌⊎◌, ◌==◌, if◌then◌else◌, map}
-use Rattle.std.specs.List.{range_with_len}
+use Rattle.std.proofs.Common.{false, min, ◌∙◌, ◌^◌, sym}
+use Rattle.std.specs.Prelude.{◌==◌, if◌then◌else◌}
 use Rattle.std.proofs.lemmas.List.FromFn.{length-map-range_with_len}
 use Rattle.std.proofs.lemmas.List.{length-replicate, length-take-le, length-drop, take-append-drop}
+use Rattle.std.proofs.lemmas.List.{replicate-append-replicate}
 use Rattle.std.proofs.Common.{inl, inr}
 use Rattle.std.proofs.lemmas.Bool.{cases_lt}
+use Rattle.std.proofs.lemmas.Grind.{flat_map-append}
 use Rattle.std.proofs.lemmas.Bool.Decides.{nat_tests}
 use Rattle.qrdata.specs.Bits.{bits_of, number_of, codewords_of}
 use Rattle.qrdata.specs.Codewords.{with_zeros, with_pad_codewords, pad_codewords, data_codewords_of, with_terminator}
 use Rattle.qrdata.specs.Segments.{byte_bits}
 use Rattle.qrdata.specs.Reading.{is_end}
-use Rattle.qrdata.proofs.BitStringLaws.{bits_of-number_of, length-bits_of}
-
-byte_bits-one : (a : ℕ) (bytes : List ℕ) → byte_bits (a ∷ bytes) ≡ bits_of 8 a ++ byte_bits bytes
-unfolding byte_bits
-byte_bits-one a bytes = refl
-
-byte_bits-nil : byte_bits [] ≡ []
-unfolding byte_bits
-byte_bits-nil = refl
+use Rattle.std.proofs.Math.Nat.{div-eq_of_lt, mod-eq_of_lt}
+use Rattle.std.proofs.lemmas.Nat.{pow_pos}
+use Rattle.qrdata.specs.declared.bits.Bits.{Bits}
+use Rattle.qrdata.specs.Private.BitsInCodewords.{bits_in}
+use Rattle.qrdata.proofs.BitStringLaws.{bits_of-nil, bits_of-number_of, drop_front, length-bits_of, number_of-bits_of}
+use Rattle.qrdata.proofs.BitStringLaws.{take_front}
+use Rattle.qrdata.proofs.PayloadLaws.{AreBytes}
 
 pub byte_bits-append : (xs ys : List ℕ) → byte_bits (xs ++ ys) ≡ byte_bits xs ++ byte_bits ys
-byte_bits-append [] ys = rw byte_bits-nil refl
-byte_bits-append (x ∷ xs) ys = rw (byte_bits-one x (xs ++ ys), byte_bits-one x xs, byte_bits-append xs ys, append_assoc)
-    refl
+unfolding byte_bits
+byte_bits-append xs ys = flat_map-append (bits_of 8) xs ys
 
 pub byte_bits-single : (a : ℕ) → byte_bits (a ∷ []) ≡ bits_of 8 a
-byte_bits-single a = rw (byte_bits-one a [], byte_bits-nil) (append-nil (bits_of 8 a))
+unfolding byte_bits
+byte_bits-single a = append-nil (bits_of 8 a)
 
 eight_bits : (bits : List Bool) → length bits ≡ 8 → bits_of 8 (number_of bits) ≡ bits
 eight_bits bits e = rw (← e) (bits_of-number_of bits)
 
-pub byte_bits-codewords_of : (n : ℕ) (bits : List Bool) → length bits ≡ 8 * n → byte_bits (codewords_of n bits) ≡ bits
-unfolding codewords_of
-byte_bits-codewords_of zero [] e = byte_bits-nil
+byte_bits-codewords_of : (n : ℕ) (bits : List Bool) → length bits ≡ 8 * n → byte_bits (codewords_of n bits) ≡ bits
+unfolding byte_bits codewords_of
+byte_bits-codewords_of zero [] e = refl
 byte_bits-codewords_of zero (b ∷ bits) e = absurd (omega arith)
 byte_bits-codewords_of (suc n) bits e =
     let first : length (take 8 bits) ≡ 8 = length-take-le 8 bits (omega arith) in
     let later : length (drop 8 bits) ≡ 8 * n = omega (arith, length-drop 8 bits) in
-    rw (byte_bits-one, eight_bits (take 8 bits) first, byte_bits-codewords_of n (drop 8 bits) later)
+    rw (eight_bits (take 8 bits) first, byte_bits-codewords_of n (drop 8 bits) later)
     (take-append-drop 8 bits)
 
 pub length-codewords_of : (n : ℕ) (bits : List Bool) → length (codewords_of n bits) ≡ n
@@ -49,69 +48,50 @@ unfolding codewords_of
 length-codewords_of zero bits = refl
 length-codewords_of (suc n) bits = ap suc (length-codewords_of n (drop 8 bits))
 
-pub length-pad_codewords : (n : ℕ) → length (pad_codewords n) ≡ n
+length-pad_codewords : (n : ℕ) → length (pad_codewords n) ≡ n
 length-pad_codewords n = length-map-range_with_len (λ i. if i % 2 == 0 then 0xEC else 0x11) 0 n
 
--- the pad codewords two places on are the same
-two_places_on : (a n : ℕ) → map {B = ℕ} (λ i. if i % 2 == 0 then 0xEC else 0x11) (range_with_len (a + 2) n)
-    ≡ map (λ i. if i % 2 == 0 then 0xEC else 0x11) (range_with_len a n)
-two_places_on a zero = refl
-two_places_on a (suc n) =
-    let same : (a + 2) % 2 ≡ a % 2 = omega arith in
-    let next : a + 2 + 1 ≡ a + 1 + 2 = omega arith in
-    rw (same, next, two_places_on (a + 1) n) refl
-
-pub pad_codewords-two_more : (n : ℕ) → 2 ≤ n → pad_codewords n ≡ 0xEC ∷ 0x11 ∷ pad_codewords (n - 2)
-pad_codewords-two_more zero h = absurd (omega arith)
-pad_codewords-two_more (suc zero) h = absurd (omega arith)
-pad_codewords-two_more (suc (suc n)) h =
-    let rest : suc (suc n) - 2 ≡ n = omega arith in
-    rw rest (ap (λ codewords. 0xEC ∷ 0x11 ∷ codewords) (two_places_on 0 n))
-
 -- four zeros, or fewer than four bits, end the segments
-pub is_end-zeros : (rest : List Bool) → is_end (replicate 4 false ++ rest) ≡ true
+is_end-zeros : (n : ℕ) (rest : List Bool) → 4 ≤ n → is_end (replicate n false ++ rest) ≡ true
 unfolding number_of
-is_end-zeros rest = refl
+is_end-zeros n rest many = let four : n ≡ suc (suc (suc (suc (n - 4)))) = omega arith in rw four refl
 
 is_end-short : (bits : List Bool) → length bits < 4 → is_end bits ≡ true
 is_end-short bits h = grind (arith, nat_tests)
 
 pub length-byte_bits : (bytes : List ℕ) → length (byte_bits bytes) ≡ 8 * length bytes
-length-byte_bits [] = rw byte_bits-nil refl
-length-byte_bits (b ∷ bytes) = rw byte_bits-one
-    (omega (arith, length-append (bits_of 8 b) (byte_bits bytes), length-bits_of 8 b, length-byte_bits bytes))
+unfolding byte_bits
+length-byte_bits [] = refl
+length-byte_bits (b ∷ bytes) =
+    omega (arith, length-append (bits_of 8 b) (byte_bits bytes), length-bits_of 8 b, length-byte_bits bytes)
 
 -- With the terminator and the zeros after it the bits fill whole codewords, no more than there are. Four zeros come
 -- after the bits, or no codeword is left.
-pub with_zeros-whole : (size : ℕ) (bits : List Bool) → length bits ≤ 8 * size
-    → (n : ℕ) × (zeros : List Bool) × (with_zeros (with_terminator (8 * size) bits) ≡ bits ++ zeros)
-    × (length bits + length zeros ≡ 8 * n) × (n ≤ size)
-    × (((later : List Bool) × (zeros ≡ replicate 4 false ++ later)) ⊎ ((n ≡ size) × (length zeros < 4)))
+pub record IsEnded (size : ℕ) (bits : List Bool) : Type 0 where
+  pub codewords : ℕ
+  pub zeros : ℕ
+  pub is : with_zeros (with_terminator (8 * size) bits) ≡ bits ++ replicate zeros false
+  pub whole : length (with_zeros (with_terminator (8 * size) bits)) ≡ 8 * codewords
+  pub within : codewords ≤ size
+  pub few_zeros : zeros < 4 → codewords ≡ size
+
+pub IsEnded-of : (size : ℕ) (bits : List Bool) → length bits ≤ 8 * size → IsEnded size bits
 unfolding with_terminator with_zeros
-with_zeros-whole size bits h =
+IsEnded-of size bits h =
     let t = min 4 (8 * size - length bits) in
     let ended = bits ++ replicate t false in
     let z = (8 - length ended % 8) % 8 in
-    let e : length ended ≡ length bits + t =
+    let long : length ended ≡ length bits + t =
     omega (arith, length-append bits (replicate t false), length-replicate t false) in
-    let w : length (replicate t false ++ replicate z false) ≡ t + z =
-    omega (
-      arith,
-      length-append (replicate t false) (replicate z false),
-      length-replicate t false,
-      length-replicate z false,
-    ) in (
-      (length bits + t + z) / 8,
-      replicate t false ++ replicate z false,
-      append_assoc bits (replicate t false) (replicate z false),
-      omega arith,
-      omega arith,
-      elim (cases_lt (8 * size - length bits) 4) [
-        | inl few ↦ inr (omega arith, omega arith)
-        | inr many ↦ let four : t ≡ 4 = omega arith in
-            inl (replicate z false, ap (λ k. replicate k false ++ replicate z false) four)
-      ],
-    )
+    record {
+      codewords = (length bits + t + z) / 8;
+      zeros = t + z;
+      is = append_assoc bits (replicate t false) (replicate z false)
+          ∙ ap (λ zeros. bits ++ zeros) (replicate-append-replicate t z false);
+      whole = omega (arith, length-append ended (replicate z false), length-replicate z false);
+      within = omega arith;
+      few_zeros = λ few. omega arith;
+    }
 
 with_pad_codewords-whole : (size n : ℕ) (whole : List Bool) → length whole ≡ 8 * n
     → byte_bits (with_pad_codewords size whole) ≡ whole ++ byte_bits (pad_codewords (size - n))
@@ -125,22 +105,22 @@ pub data_codewords_of-ends : (size : ℕ) (bits : List Bool) → length bits ≤
     × (byte_bits (data_codewords_of size bits) ≡ bits ++ rest) × (is_end rest ≡ true)
 unfolding data_codewords_of
 data_codewords_of-ends size bits h =
-    let a = with_zeros-whole size bits h in
-    let n = a.0 in
-    let zeros = a.1 in
-    let pad = byte_bits (pad_codewords (size - n)) in
-    let whole : length (bits ++ zeros) ≡ 8 * n = omega (arith, length-append bits zeros, a.3) in (
+    let a = IsEnded-of size bits h in
+    let zeros = replicate a.zeros false in
+    let pad = byte_bits (pad_codewords (size - a.codewords)) in (
       zeros ++ pad,
-      rw (a.2, with_pad_codewords-whole size n (bits ++ zeros) whole) (append_assoc bits zeros pad),
-      elim a.5 [
-        | inl four ↦ rw four.1 (is_end-zeros (four.0 ++ pad))
-        | inr full ↦ is_end-short (zeros ++ pad)
-            (omega (
-              arith,
-              length-append zeros pad,
-              length-byte_bits (pad_codewords (size - n)),
-              length-pad_codewords (size - n),
-            ))
+      rw (a.is, with_pad_codewords-whole size a.codewords (bits ++ zeros) (rw a.is at a.whole))
+          (append_assoc bits zeros pad),
+      elim (cases_lt a.zeros 4) [
+        | inr many ↦ is_end-zeros a.zeros pad many
+        | inl few ↦ is_end-short (zeros ++ pad) (omega (
+          arith,
+          length-append zeros pad,
+          length-replicate a.zeros false,
+          length-byte_bits (pad_codewords (size - a.codewords)),
+          length-pad_codewords (size - a.codewords),
+          a.few_zeros few,
+        ))
       ],
     )
 
@@ -148,13 +128,53 @@ pub length-data_codewords_of : (size : ℕ) (bits : List Bool) → length bits �
     → length (data_codewords_of size bits) ≡ size
 unfolding data_codewords_of with_pad_codewords
 length-data_codewords_of size bits h =
-    let a = with_zeros-whole size bits h in
-    let whole : length (with_zeros (with_terminator (8 * size) bits)) ≡ 8 * a.0 =
-    omega (arith, ap length a.2, length-append bits a.1, a.3) in
-    let count = length (with_zeros (with_terminator (8 * size) bits)) / 8 in
+    let a = IsEnded-of size bits h in
+    let ended = with_zeros (with_terminator (8 * size) bits) in
     omega (
       arith,
-      length-append (codewords_of count (with_zeros (with_terminator (8 * size) bits))) (pad_codewords (size - count)),
-      length-codewords_of count (with_zeros (with_terminator (8 * size) bits)),
-      length-pad_codewords (size - count),
+      length-append (codewords_of (length ended / 8) ended) (pad_codewords (size - length ended / 8)),
+      length-codewords_of (length ended / 8) ended,
+      length-pad_codewords (size - length ended / 8),
+      a.whole,
+      a.within,
     )
+
+-- a zero is written in zeros
+bit_zero : (width : ℕ) → (0 / 2 ^ width % 2 == 1) ≡ false
+bit_zero width = let none : 0 / 2 ^ width ≡ 0 = div-eq_of_lt (pow_pos width) in rw none refl
+
+pub bits_of-zero : (width : ℕ) → bits_of width 0 ≡ replicate width false
+unfolding bits_of
+bits_of-zero zero = refl
+bits_of-zero (suc width) = rw (bit_zero width, bits_of-zero width) refl
+
+-- the codewords of the bits of bytes are the bytes
+codewords_of-byte_bits : (codewords : List ℕ) → AreBytes codewords
+    → codewords_of (length codewords) (byte_bits codewords) ≡ codewords
+unfolding codewords_of byte_bits
+codewords_of-byte_bits [] w = refl
+codewords_of-byte_bits (codeword ∷ codewords) w =
+    let front : take 8 (bits_of 8 codeword ++ byte_bits codewords) ≡ bits_of 8 codeword =
+    take_front 8 (bits_of 8 codeword) (byte_bits codewords) (length-bits_of 8 codeword) in
+    let rest : drop 8 (bits_of 8 codeword ++ byte_bits codewords) ≡ byte_bits codewords =
+    drop_front 8 (bits_of 8 codeword) (byte_bits codewords) (length-bits_of 8 codeword) in
+    let value : number_of (bits_of 8 codeword) ≡ codeword = number_of-bits_of 8 codeword ∙ mod-eq_of_lt w.0 in
+    rw (front, rest, value, codewords_of-byte_bits codewords w.1) refl
+
+pub length-bits_in : (bits : Bits) → length (bits_in bits) ≡ 8 * length bits.codewords.items + bits.rest.count
+length-bits_in bits =
+    omega (
+      arith,
+      length-append (byte_bits bits.codewords.items) (bits_of bits.rest.count bits.rest.number),
+      length-byte_bits bits.codewords.items,
+      length-bits_of bits.rest.count bits.rest.number,
+    )
+
+-- bits that end with a codeword are those of their codewords
+pub whole_codewords : (bits : Bits) (n : ℕ) → AreBytes bits.codewords.items → length (bits_in bits) ≡ 8 * n
+    → bits.codewords.items ≡ codewords_of (length (bits_in bits) / 8) (bits_in bits)
+whole_codewords bits n w whole =
+    let long = length-bits_in bits in
+    let none : bits.rest.count ≡ 0 = omega (arith, bits.rest.few) in
+    let size : length (bits_in bits) / 8 ≡ length bits.codewords.items = omega arith in
+    rw (size, none, bits_of-nil, append-nil) (sym (codewords_of-byte_bits bits.codewords.items w))

@@ -1,5 +1,5 @@
 -- A payload is read back.
-use Rattle.std.proofs.Common.{◌≡◌, ℕ, suc, ◌+◌, ◌-◌, ◌*◌, ◌/◌, ◌%◌, ◌<◌, ◌≤◌, List, [], ◌∷◌, ◌++◌, length, refl}
+use Rattle.std.proofs.Common.{◌≡◌, ℕ, ◌+◌, ◌-◌, ◌*◌, ◌/◌, ◌%◌, ◌<◌, ◌≤◌, List, [], ◌∷◌, ◌++◌, length, refl}
 use Rattle.std.proofs.Common.{append_assoc, arith, Bool, true}
 use Rattle.std.specs.Prelude.{◌==◌, nat_le, Some}
 use Rattle.std.specs.Char.{is_ascii_digit}
@@ -8,40 +8,23 @@ use Rattle.std.proofs.lemmas.Bool.{and_parts, eqb-true, ltb-true, leb-true}
 use Rattle.std.proofs.lemmas.List.Sums.{passes_at_first}
 use Rattle.qrdata.specs.declared.mode.Mode.{Mode}
 use Rattle.qrdata.specs.declared.mode.Mode.TheVariants.{Numeric, Alphanumeric, Byte}
-use Rattle.qrdata.specs.Steps.{◌>>=◌}
-use Rattle.qrdata.specs.Bits.{bits_of}
-use Rattle.qrdata.specs.Segments.{digit_value, alphanumeric_bits, alphanumeric_characters, alphanumeric_value}
+use Rattle.qrdata.specs.Segments.{alphanumeric_bits, alphanumeric_characters, alphanumeric_value}
 use Rattle.qrdata.specs.Segments.{byte_bits, has_character, numeric_bits, payload_bits}
-use Rattle.qrdata.specs.Reading.{alphanumeric_character, bytes_at, characters_at, digits_at, number_at, payload_at}
+use Rattle.qrdata.specs.Reading.{alphanumeric_character, bytes_at, characters_at, digits_at, payload_at}
 use Rattle.qrdata.proofs.BitStringLaws.{number_at-bits_of}
 
 digit_from : (c : ℕ) → is_ascii_digit c ≡ true → (48 ≤ c) × (c ≤ 57)
 digit_from c h = let parts = and_parts (nat_le 48 c) (nat_le c 57) h in (leb-true _ _ parts.0, leb-true _ _ parts.1)
 
-digits_at-three : (count : ℕ) (bits : List Bool) → digits_at (suc (suc (suc count))) bits
-    ≡ (number_at 1000 10 bits >>= λ n. digits_at count n.1 >>= λ others.
-    Some ((48 + n.0 / 100) ∷ (48 + n.0 / 10 % 10) ∷ (48 + n.0 % 10) ∷ others.0, others.1))
-unfolding digits_at
-digits_at-three count bits = refl
-
-numeric_bits-three : (a b c : ℕ) (digits : List ℕ)
-    → numeric_bits (a ∷ b ∷ c ∷ digits) ≡ bits_of 10 (100 * digit_value a + 10 * digit_value b + digit_value c)
-    ++ numeric_bits digits
-unfolding numeric_bits
-numeric_bits-three a b c digits = refl
-
-one_digit : (a : ℕ) (rest : List Bool) → list_all is_ascii_digit (a ∷ []) ≡ true
-    → digits_at 1 (numeric_bits (a ∷ []) ++ rest) ≡ Some (a ∷ [], rest)
+pub digits_at-numeric_bits : (digits : List ℕ) (rest : List Bool) → list_all is_ascii_digit digits ≡ true
+    → digits_at (length digits) (numeric_bits digits ++ rest) ≡ Some (digits, rest)
 unfolding digits_at numeric_bits
-one_digit a rest h =
+digits_at-numeric_bits [] rest h = refl
+digits_at-numeric_bits (a ∷ []) rest h =
     let a_range = digit_from a (and_parts _ _ h).0 in
     let back : 48 + (a - 48) ≡ a = omega arith in
     rw (number_at-bits_of 10 4 (a - 48) rest (omega arith) (omega arith), back) refl
-
-two_digits : (a b : ℕ) (rest : List Bool) → list_all is_ascii_digit (a ∷ b ∷ []) ≡ true
-    → digits_at 2 (numeric_bits (a ∷ b ∷ []) ++ rest) ≡ Some (a ∷ b ∷ [], rest)
-unfolding digits_at numeric_bits
-two_digits a b rest h =
+digits_at-numeric_bits (a ∷ b ∷ []) rest h =
     let parts = and_parts (is_ascii_digit a) (list_all is_ascii_digit (b ∷ [])) h in
     let a_range = digit_from a parts.0 in
     let b_range = digit_from b (and_parts _ _ parts.1).0 in
@@ -49,16 +32,6 @@ two_digits a b rest h =
     let first : 48 + n / 10 ≡ a = omega arith in
     let second : 48 + n % 10 ≡ b = omega arith in
     rw (number_at-bits_of 100 7 n rest (omega arith) (omega arith), first, second) refl
-
-no_digits : (rest : List Bool) → digits_at 0 (numeric_bits [] ++ rest) ≡ Some ([], rest)
-unfolding digits_at numeric_bits
-no_digits rest = refl
-
-pub digits_at-numeric_bits : (digits : List ℕ) (rest : List Bool) → list_all is_ascii_digit digits ≡ true
-    → digits_at (length digits) (numeric_bits digits ++ rest) ≡ Some (digits, rest)
-digits_at-numeric_bits [] rest h = no_digits rest
-digits_at-numeric_bits (a ∷ []) rest h = one_digit a rest h
-digits_at-numeric_bits (a ∷ b ∷ []) rest h = two_digits a b rest h
 digits_at-numeric_bits (a ∷ b ∷ c ∷ digits) rest h =
     let parts = and_parts (is_ascii_digit a) (list_all is_ascii_digit (b ∷ c ∷ digits)) h in
     let later = and_parts (is_ascii_digit b) (list_all is_ascii_digit (c ∷ digits)) parts.1 in
@@ -71,8 +44,6 @@ digits_at-numeric_bits (a ∷ b ∷ c ∷ digits) rest h =
     let second : 48 + n / 10 % 10 ≡ b = omega arith in
     let third : 48 + n % 10 ≡ c = omega arith in
     rw (
-      digits_at-three,
-      numeric_bits-three,
       append_assoc,
       number_at-bits_of 1000 10 n (numeric_bits digits ++ rest) (omega arith) (omega arith),
       digits_at-numeric_bits digits rest last.1,
@@ -93,34 +64,14 @@ character-value c h =
     omega (arith, ltb-true _ _ h, length-alphanumeric_characters) in
     eqb-true _ _ (passes_at_first (λ x. x == c) alphanumeric_characters 0 below)
 
-characters_at-two : (count : ℕ) (bits : List Bool) → characters_at (suc (suc count)) bits
-    ≡ (number_at 2025 11 bits >>= λ n. characters_at count n.1 >>= λ others.
-    Some (alphanumeric_character (n.0 / 45) ∷ alphanumeric_character (n.0 % 45) ∷ others.0, others.1))
-unfolding characters_at
-characters_at-two count bits = refl
-
-alphanumeric_bits-two : (a b : ℕ) (rest : List ℕ)
-    → alphanumeric_bits (a ∷ b ∷ rest) ≡ bits_of 11 (45 * alphanumeric_value a + alphanumeric_value b)
-    ++ alphanumeric_bits rest
-unfolding alphanumeric_bits
-alphanumeric_bits-two a b rest = refl
-
-no_characters : (rest : List Bool) → characters_at 0 (alphanumeric_bits [] ++ rest) ≡ Some ([], rest)
-unfolding characters_at alphanumeric_bits
-no_characters rest = refl
-
-one_character : (a : ℕ) (rest : List Bool) → has_character Alphanumeric a ≡ true
-    → characters_at 1 (alphanumeric_bits (a ∷ []) ++ rest) ≡ Some (a ∷ [], rest)
-unfolding characters_at alphanumeric_bits
-one_character a rest h =
-    let below : alphanumeric_value a < 45 = ltb-true _ _ h in
-    let back = character-value a h in
-    rw (number_at-bits_of 45 6 (alphanumeric_value a) rest (omega arith) (omega arith), back) refl
-
 pub characters_at-alphanumeric_bits : (cs : List ℕ) (rest : List Bool) → list_all (has_character Alphanumeric) cs ≡ true
     → characters_at (length cs) (alphanumeric_bits cs ++ rest) ≡ Some (cs, rest)
-characters_at-alphanumeric_bits [] rest h = no_characters rest
-characters_at-alphanumeric_bits (a ∷ []) rest h = one_character a rest (and_parts _ _ h).0
+unfolding characters_at alphanumeric_bits
+characters_at-alphanumeric_bits [] rest h = refl
+characters_at-alphanumeric_bits (a ∷ []) rest h =
+    let passes = (and_parts _ _ h).0 in
+    let below : alphanumeric_value a < 45 = ltb-true _ _ passes in
+    rw (number_at-bits_of 45 6 (alphanumeric_value a) rest (omega arith) (omega arith), character-value a passes) refl
 characters_at-alphanumeric_bits (a ∷ b ∷ cs) rest h =
     let parts = and_parts (has_character Alphanumeric a) (list_all (has_character Alphanumeric) (b ∷ cs)) h in
     let later = and_parts (has_character Alphanumeric b) (list_all (has_character Alphanumeric) cs) parts.1 in
@@ -130,8 +81,6 @@ characters_at-alphanumeric_bits (a ∷ b ∷ cs) rest h =
     let first : n / 45 ≡ alphanumeric_value a = omega arith in
     let second : n % 45 ≡ alphanumeric_value b = omega arith in
     rw (
-      characters_at-two,
-      alphanumeric_bits-two,
       append_assoc,
       number_at-bits_of 2025 11 n (alphanumeric_bits cs ++ rest) (omega arith) (omega arith),
       characters_at-alphanumeric_bits cs rest later.1,
@@ -141,35 +90,19 @@ characters_at-alphanumeric_bits (a ∷ b ∷ cs) rest h =
       character-value b later.0,
     ) refl
 
-bytes_at-one : (count : ℕ) (bits : List Bool)
-    → bytes_at (suc count) bits ≡ (number_at 256 8 bits >>= λ n. bytes_at count n.1 >>= λ others.
-    Some (n.0 ∷ others.0, others.1))
-unfolding bytes_at
-bytes_at-one count bits = refl
-
-byte_bits-one : (a : ℕ) (bytes : List ℕ) → byte_bits (a ∷ bytes) ≡ bits_of 8 a ++ byte_bits bytes
-unfolding byte_bits
-byte_bits-one a bytes = refl
-
-no_bytes : (rest : List Bool) → bytes_at 0 (byte_bits [] ++ rest) ≡ Some ([], rest)
-unfolding bytes_at byte_bits
-no_bytes rest = refl
-
 -- each is a byte
 abbrev pub AreBytes : List ℕ → Type 0
 AreBytes bytes = AllByRecursion (λ b. b < 256) bytes
 
 pub bytes_at-byte_bits : (bytes : List ℕ) (rest : List Bool) → AreBytes bytes
     → bytes_at (length bytes) (byte_bits bytes ++ rest) ≡ Some (bytes, rest)
-bytes_at-byte_bits [] rest h = no_bytes rest
-bytes_at-byte_bits (b ∷ bytes) rest h =
-    rw (
-      bytes_at-one,
-      byte_bits-one,
-      append_assoc,
-      number_at-bits_of 256 8 b (byte_bits bytes ++ rest) h.0 (omega arith),
-      bytes_at-byte_bits bytes rest h.1,
-    ) refl
+unfolding bytes_at byte_bits
+bytes_at-byte_bits [] rest h = refl
+bytes_at-byte_bits (b ∷ bytes) rest h = rw (
+  append_assoc,
+  number_at-bits_of 256 8 b (byte_bits bytes ++ rest) h.0 (omega arith),
+  bytes_at-byte_bits bytes rest h.1,
+) refl
 
 -- a payload in a mode that has its bytes is read back
 pub payload_at-payload_bits : (mode : Mode) (bytes : List ℕ) (rest : List Bool) → AreBytes bytes

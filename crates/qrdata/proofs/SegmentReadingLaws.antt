@@ -9,7 +9,6 @@ use Rattle.std.proofs.lemmas.List.{take-append-drop, length-take-le}
 use Rattle.qrdata.specs.declared.mode.Mode.{Mode}
 use Rattle.qrdata.specs.declared.mode.Mode.TheVariants.{Numeric, Alphanumeric, Byte}
 use Rattle.qrdata.specs.declared.mode.Segment.{Segment}
-use Rattle.qrdata.specs.Steps.{◌>>=◌}
 use Rattle.qrdata.specs.Bits.{bits_of, number_of}
 use Rattle.qrdata.specs.Segments.{IsSegmentation, count_width, has_character, mode_indicator, modes, payload_bits}
 use Rattle.qrdata.specs.Segments.{segment_bits, segments_bits}
@@ -17,10 +16,10 @@ use Rattle.qrdata.specs.Reading.{is_end, segment_at, segments_at}
 use Rattle.qrdata.proofs.BitStringLaws.{number_at-bits_of, number_of-bits_of, take_front, length-bits_of}
 use Rattle.qrdata.proofs.PayloadLaws.{AreBytes, payload_at-payload_bits}
 
-indicator_below : (mode : Mode) → mode_indicator mode < 16
-indicator_below Numeric = omega arith
-indicator_below Alphanumeric = omega arith
-indicator_below Byte = omega arith
+indicator_range : (mode : Mode) → (0 < mode_indicator mode) × (mode_indicator mode < 16)
+indicator_range Numeric = (omega arith, omega arith)
+indicator_range Alphanumeric = (omega arith, omega arith)
+indicator_range Byte = (omega arith, omega arith)
 
 mode_named-indicator : (mode : Mode) → find (λ m. mode_indicator m == mode_indicator mode) modes ≡ Some mode
 mode_named-indicator Numeric = refl
@@ -32,7 +31,7 @@ pub segment_at-segment_bits : (version : ℕ) (mode : Mode) (bytes : List ℕ) (
     → segment_at version (segment_bits version mode bytes ++ rest) ≡ Some (bytes, rest)
 unfolding segment_at
 segment_at-segment_bits version mode bytes rest w h fits =
-    let below = indicator_below mode in
+    let below = (indicator_range mode).1 in
     let payload = payload_bits mode bytes ++ rest in
     let count = bits_of (count_width version mode) (length bytes) in
     rw (
@@ -47,11 +46,6 @@ segment_at-segment_bits version mode bytes rest w h fits =
 not_end : (bits : List Bool) → 4 ≤ length bits → 0 < number_of (take 4 bits) → is_end bits ≡ false
 not_end bits long high = grind (arith, nat_tests)
 
-indicator_positive : (mode : Mode) → 0 < mode_indicator mode
-indicator_positive Numeric = omega arith
-indicator_positive Alphanumeric = omega arith
-indicator_positive Byte = omega arith
-
 -- a segment does not begin with four zeros
 is_end-segment_bits : (version : ℕ) (mode : Mode) (bytes : List ℕ) (rest : List Bool)
     → is_end (segment_bits version mode bytes ++ rest) ≡ false
@@ -62,29 +56,13 @@ is_end-segment_bits version mode bytes rest =
     let long : 4 ≤ length (indicator ++ after) = omega (arith, length-append indicator after) in
     let value : number_of (take 4 (indicator ++ after)) ≡ mode_indicator mode =
     rw (take_front 4 indicator after four, number_of-bits_of 4 (mode_indicator mode))
-    (mod-eq_of_lt (indicator_below mode)) in
-    rw (append_assoc, append_assoc) (not_end (indicator ++ after) long (omega (arith, indicator_positive mode)))
-
-segments_at-suc : (version n : ℕ) (bits : List Bool) → is_end bits ≡ false
-    → segments_at version (suc n) bits ≡ (segment_at version bits >>= λ first.
-    segments_at version n first.1 >>= λ others. Some (first.0 ++ others))
-unfolding segments_at
-segments_at-suc version n bits h = rw h refl
+    (mod-eq_of_lt (indicator_range mode).1) in
+    rw (append_assoc, append_assoc) (not_end (indicator ++ after) long (omega (arith, (indicator_range mode).0)))
 
 segments_at-end : (version n : ℕ) (bits : List Bool) → is_end bits ≡ true → segments_at version n bits ≡ Some []
 unfolding segments_at
 segments_at-end version zero bits h = rw h refl
 segments_at-end version (suc n) bits h = rw h refl
-
-segments_bits-cons : (version : ℕ) (s : Segment) (segments : List Segment) (bytes : List ℕ)
-    → segments_bits version (s ∷ segments) bytes ≡ segment_bits version s.mode (take s.len bytes)
-    ++ segments_bits version segments (drop s.len bytes)
-unfolding segments_bits
-segments_bits-cons version s segments bytes = refl
-
-segments_bits-nil : (version : ℕ) (bytes : List ℕ) → segments_bits version [] bytes ≡ []
-unfolding segments_bits
-segments_bits-nil version bytes = refl
 
 pub AreBytes-take : (n : ℕ) (bytes : List ℕ) → AreBytes bytes → AreBytes (take n bytes)
 AreBytes-take zero bytes w = tt
@@ -102,8 +80,8 @@ AreBytes-drop (suc n) (b ∷ bytes) w = AreBytes-drop n bytes w.1
 pub segments_at-segments_bits : (version : ℕ) (segments : List Segment) (bytes : List ℕ) (n : ℕ) (rest : List Bool)
     → AreBytes bytes → IsSegmentation version segments bytes → length segments ≤ n → is_end rest ≡ true
     → segments_at version n (segments_bits version segments bytes ++ rest) ≡ Some bytes
-segments_at-segments_bits version [] bytes n rest w e h stop =
-    rw (segments_bits-nil version bytes, segments_at-end version n rest stop, e) refl
+unfolding segments_at segments_bits
+segments_at-segments_bits version [] bytes n rest w e h stop = rw (segments_at-end version n rest stop, e) refl
 segments_at-segments_bits version (s ∷ segments) bytes zero rest w cut h stop = absurd (omega arith)
 segments_at-segments_bits version (s ∷ segments) bytes (suc n) rest w cut h stop =
     let front = take s.len bytes in
@@ -114,11 +92,9 @@ segments_at-segments_bits version (s ∷ segments) bytes (suc n) rest w cut h st
     fits in
     let later = segments_at-segments_bits version segments (drop s.len bytes) n rest (AreBytes-drop s.len bytes w) cut.1
     (omega arith) stop in
-    let goes_on = is_end-segment_bits version s.mode front others in
     rw (
-      segments_bits-cons,
-      append_assoc,
-      segments_at-suc version n (segment_bits version s.mode front ++ others) goes_on,
+      append_assoc (segment_bits version s.mode front) (segments_bits version segments (drop s.len bytes)) rest,
+      is_end-segment_bits version s.mode front others,
       first,
       later,
       take-append-drop,

@@ -1,211 +1,111 @@
 -- Facts of the table of versions: tests computed over all of it.
-use Rattle.std.proofs.Common.{◌≡◌, ℕ, ◌+◌, ◌-◌, ◌*◌, ◌/◌, ◌%◌, ◌<◌, ◌≤◌, List, ◌++◌, replicate, refl, arith, Bool, true}
-use Rattle.std.specs.Prelude.{nat_lt, nat_le, ◌&&◌, ◌==◌, slice_index}
-use Rattle.std.specs.List.{list_all, range_with_len}
-use Rattle.std.proofs.lemmas.Bool.{and_parts, eqb-true, leb-true, ltb-true}
-use Rattle.std.proofs.lemmas.List.FromFn.{get_or-range_with_len, length-range_with_len}
+use Rattle.std.proofs.Common.{◌≡◌, ℕ, suc, zero, ◌+◌, ◌-◌, ◌*◌, ◌/◌, ◌%◌, ◌<◌, ◌≤◌, List, [], ◌∷◌, ◌++◌, replicate}
+use Rattle.std.proofs.Common.{refl, arith, Bool, true, false, cond, inl, inr}
+use Rattle.std.specs.Prelude.{nat_lt, nat_le, ◌==◌, slice_index, slice_index_or}
+use Rattle.std.specs.List.{list_all}
+use Rattle.std.proofs.lemmas.Bool.{agree_below, agree_below_at, cases_lt, eqb-true, leb-true, ltb-true}
 use Rattle.std.proofs.lemmas.List.Sums.{AllPass-from_list_all}
 use Rattle.qrdata.specs.declared.level.Level.{Level}
 use Rattle.qrdata.specs.declared.level.Level.TheVariants.{L, M, Q, H}
-use Rattle.qrdata.specs.Private.Blocks.{block_count}
-use Rattle.qrdata.specs.Versions.{block_lengths, block_table, capacity, data_codewords, groups_of}
-use Rattle.qrdata.specs.Versions.{ec_codewords_per_block, total_codewords}
-use Rattle.qrdata.specs.declared.version.TheConstants.{TOTAL, BLOCKS_L, BLOCKS_M, BLOCKS_Q, BLOCKS_H, EC_CODEWORDS_L}
-use Rattle.qrdata.specs.declared.version.TheConstants.{EC_CODEWORDS_M, EC_CODEWORDS_Q, EC_CODEWORDS_H}
+use Rattle.qrdata.specs.declared.mode.Mode.TheVariants.{Byte}
+use Rattle.qrdata.specs.declared.version.TheConstants.{TOTAL, BLOCKS, EC_CODEWORDS}
+use Rattle.qrdata.specs.Private.Blocks.{block_count, place_of}
+use Rattle.qrdata.specs.Segments.{count_width}
+use Rattle.qrdata.specs.Versions.{IsVersion, block_lengths, block_table, capacity, data_codewords}
+use Rattle.qrdata.specs.Versions.{ec_codewords_per_block, groups_of, total_codewords}
 use Rattle.gf256.proofs.GeneratorTableLaws.{same_numbers, same_numbers-is}
 
--- the blocks of a version: 1 to 8, each with 1 to 30 error correction codewords, which leave room for data codewords
-pub record HasSoundBlocks (version : ℕ) (level : Level) : Type 0 where
-  pub some_blocks : 0 < block_count version level
-  pub few_blocks : block_count version level ≤ 8
-  pub some_ec_codewords : 0 < ec_codewords_per_block version level
-  pub few_ec_codewords : ec_codewords_per_block version level ≤ 30
-  pub room : block_count version level * ec_codewords_per_block version level ≤ total_codewords version
-  pub few_codewords : total_codewords version ≤ 346
-
-abbrev has_sound_blocks : Level → ℕ → Bool
-has_sound_blocks level version =
-    (nat_lt 0 (block_count version level) && nat_le (block_count version level) 8)
-    && ((nat_lt 0 (ec_codewords_per_block version level) && nat_le (ec_codewords_per_block version level) 30)
-    && (nat_le (block_count version level * ec_codewords_per_block version level) (total_codewords version)
-    && nat_le (total_codewords version) 346))
-
-has_sound_blocks-all : (level : Level) → list_all (has_sound_blocks level) (range_with_len 1 10) ≡ true
-unfolding block_count ec_codewords_per_block total_codewords block_lengths groups_of block_table
-has_sound_blocks-all L = refl
-has_sound_blocks-all M = refl
-has_sound_blocks-all Q = refl
-has_sound_blocks-all H = refl
-
--- what is tested of versions 1 to n holds of each of them
-at_version : (test : ℕ → Bool) (n version : ℕ) → list_all test (range_with_len 1 n) ≡ true → 1 ≤ version → version ≤ n
-    → test version ≡ true
-at_version test n version all low high =
-    let here = AllPass-from_list_all test (range_with_len 1 n) all (version - 1) 0
-    (omega (arith, length-range_with_len 1 n)) in
-    let place : 1 + (version - 1) ≡ version = omega arith in
-    rw (get_or-range_with_len 1 n (version - 1) 0 (omega arith), place) at here
-
-pub HasSoundBlocks-of : (version : ℕ) (level : Level) → 1 ≤ version → version ≤ 10 → HasSoundBlocks version level
-HasSoundBlocks-of version level low high =
-    let parts = and_parts _ _ (at_version (has_sound_blocks level) 10 version (has_sound_blocks-all level) low high) in
-    let blocks = and_parts _ _ parts.0 in
-    let others = and_parts _ _ parts.1 in
-    let ec_codewords = and_parts _ _ others.0 in
-    let codewords = and_parts _ _ others.1 in
-    record {
-      some_blocks = ltb-true _ _ blocks.0;
-      few_blocks = leb-true _ _ blocks.1;
-      some_ec_codewords = ltb-true _ _ ec_codewords.0;
-      few_ec_codewords = leb-true _ _ ec_codewords.1;
-      room = leb-true _ _ codewords.0;
-      few_codewords = leb-true _ _ codewords.1;
-    }
-
--- a symbol has 1 to 8 blocks
-pub block_count-some : {n : ℕ} (version : ℕ) (level : Level) → n ≡ block_count version level
-    → (1 ≤ version) × (version ≤ 10) → 0 < n
-block_count-some {n} version level e known =
-    omega (arith, e, (HasSoundBlocks-of version level known.0 known.1).some_blocks)
-
-pub block_count-few : {n : ℕ} (version : ℕ) (level : Level) → n ≡ block_count version level
-    → (1 ≤ version) × (version ≤ 10) → n ≤ 8
-block_count-few {n} version level e known =
-    omega (arith, e, (HasSoundBlocks-of version level known.0 known.1).few_blocks)
-
--- no symbol has more than 2192 data bits, and up to version 9 none has more than 1856
-capacity-all : (level : Level) → list_all (λ version. nat_le (capacity version level) 2192) (range_with_len 1 10) ≡ true
-unfolding data_codewords block_lengths groups_of block_table
-capacity-all L = refl
-capacity-all M = refl
-capacity-all Q = refl
-capacity-all H = refl
-
-capacity-all_nine : (level : Level) → list_all (λ version. nat_le (capacity version level) 1856) (range_with_len 1 9)
-    ≡ true
-unfolding data_codewords block_lengths groups_of block_table
-capacity-all_nine L = refl
-capacity-all_nine M = refl
-capacity-all_nine Q = refl
-capacity-all_nine H = refl
-
-pub capacity-le : (level : Level) (version : ℕ) → 1 ≤ version → version ≤ 10 → capacity version level ≤ 2192
-capacity-le level version low high = leb-true _ _
-    (at_version (λ v. nat_le (capacity v level) 2192) 10 version (capacity-all level) low high)
-
-pub capacity-le_nine : (level : Level) (version : ℕ) → 1 ≤ version → version ≤ 9 → capacity version level ≤ 1856
-capacity-le_nine level version low high =
-    leb-true _ _ (at_version (λ v. nat_le (capacity v level) 1856) 9 version (capacity-all_nine level) low high)
-
--- a symbol has at most 274 data codewords
-pub data_codewords-few : {n : ℕ} (version : ℕ) (level : Level) → n ≡ data_codewords version level
-    → (1 ≤ version) × (version ≤ 10) → n ≤ 274
-data_codewords-few version level e known = omega (arith, e, capacity-le level version known.0 known.1)
-
--- the data codewords are what the error correction codewords leave
-data_codewords-all : (level : Level) → list_all (λ version.
-    data_codewords version level == total_codewords version - block_count version level * ec_codewords_per_block version level)
-    (range_with_len 1 10) ≡ true
-unfolding data_codewords total_codewords block_count ec_codewords_per_block block_lengths groups_of block_table
-data_codewords-all L = refl
-data_codewords-all M = refl
-data_codewords-all Q = refl
-data_codewords-all H = refl
-
-pub data_codewords-is : (version : ℕ) (level : Level) → 1 ≤ version → version ≤ 10
-    → data_codewords version level
-    ≡ total_codewords version - block_count version level * ec_codewords_per_block version level
-data_codewords-is version level low high =
-    eqb-true _ _ (at_version
-    (λ v. data_codewords v level == total_codewords v - block_count v level * ec_codewords_per_block v
-    level) 10 version (data_codewords-all level) low high)
-
--- the data codewords and the error correction codewords of all blocks are all codewords
-pub data_codewords-add_ec_codewords : (version : ℕ) (level : Level) → 1 ≤ version → version ≤ 10
-    → data_codewords version level + block_count version level * ec_codewords_per_block version level
-    ≡ total_codewords version
-data_codewords-add_ec_codewords version level low high = omega (
-  arith,
-  data_codewords-is version level low high,
-  (HasSoundBlocks-of version level low high).room,
-)
+-- the data bits of the greatest version whose character counts are as wide
+abbrev pub widest : ℕ → ℕ
+widest version = cond (nat_lt (count_width version Byte) 16) 1856 2192
 
 -- the data codewords of each of `blocks` blocks, which are as even as can be, the short ones first
 abbrev pub even_lengths : ℕ → ℕ → List ℕ
 even_lengths blocks codewords = replicate (blocks - codewords % blocks) (codewords / blocks)
     ++ replicate (codewords % blocks) (codewords / blocks + 1)
 
-block_lengths-all : (level : Level) → list_all (λ version.
-    same_numbers (even_lengths (block_count version level) (data_codewords version level))
-    (block_lengths version level)) (range_with_len 1 10) ≡ true
-unfolding data_codewords block_count block_lengths groups_of block_table
-block_lengths-all L = refl
-block_lengths-all M = refl
-block_lengths-all Q = refl
-block_lengths-all H = refl
+-- what a table of the code has for a version and a level
+abbrev pub coded : List (List ℕ) → ℕ → Level → ℕ
+coded table version level = slice_index (slice_index_or table (version - 1) []) (place_of level)
 
--- the blocks are as even as can be
-pub block_lengths-even : (version : ℕ) (level : Level) → 1 ≤ version → version ≤ 10
-    → even_lengths (block_count version level) (data_codewords version level) ≡ block_lengths version level
-block_lengths-even version level low high =
-    same_numbers-is _ _ (at_version (λ v.
-    same_numbers (even_lengths (block_count v level) (data_codewords v level)) (block_lengths v level)) 10 version
-    (block_lengths-all level) low high)
+-- what is true of the symbols of a version at a level
+pub record IsSound (version : ℕ) (level : Level) : Type 0 where
+  pub some_blocks : 0 < block_count version level
+  pub few_blocks : block_count version level ≤ 8
+  pub some_ec_codewords : 0 < ec_codewords_per_block version level
+  pub few_ec_codewords : ec_codewords_per_block version level ≤ 30
+  pub all : data_codewords version level + block_count version level * ec_codewords_per_block version level
+      ≡ total_codewords version
+  pub few_codewords : total_codewords version ≤ 346
+  pub few_bits : capacity version level ≤ widest version
+  pub more : data_codewords (version - 1) level ≤ data_codewords version level
+  pub even : even_lengths (block_count version level) (data_codewords version level) ≡ block_lengths version level
+  pub coded_total : slice_index TOTAL (version - 1) ≡ total_codewords version
+  pub coded_blocks : coded BLOCKS version level ≡ block_count version level
+  pub coded_ec_codewords : coded EC_CODEWORDS version level ≡ ec_codewords_per_block version level
 
--- the tables of the code
-abbrev pub coded_blocks : Level → List ℕ
-coded_blocks L = BLOCKS_L
-coded_blocks M = BLOCKS_M
-coded_blocks Q = BLOCKS_Q
-coded_blocks H = BLOCKS_H
+tests : Level → ℕ → List Bool
+tests level version =
+    let blocks = block_count version level in
+    let ec_codewords = ec_codewords_per_block version level in
+    let codewords = data_codewords version level in
+    let total = total_codewords version in
+    nat_lt 0 blocks ∷ nat_le blocks 8 ∷ nat_lt 0 ec_codewords ∷ nat_le ec_codewords 30
+    ∷ (codewords + blocks * ec_codewords == total) ∷ nat_le total 346
+    ∷ nat_le (8 * codewords) (widest version) ∷ nat_le (data_codewords (version - 1) level) codewords
+    ∷ same_numbers (even_lengths blocks codewords) (block_lengths version level)
+    ∷ (slice_index TOTAL (version - 1) == total)
+    ∷ (coded BLOCKS version level == blocks) ∷ (coded EC_CODEWORDS version level == ec_codewords) ∷ []
 
-abbrev pub coded_ec_codewords : Level → List ℕ
-coded_ec_codewords L = EC_CODEWORDS_L
-coded_ec_codewords M = EC_CODEWORDS_M
-coded_ec_codewords Q = EC_CODEWORDS_Q
-coded_ec_codewords H = EC_CODEWORDS_H
+tests_pass : (level : Level) → agree_below (λ k. list_all (λ test. test) (tests level (suc k))) (λ k. true) 10 ≡ true
+unfolding tests data_codewords total_codewords block_count ec_codewords_per_block block_lengths groups_of block_table
+tests_pass L = refl
+tests_pass M = refl
+tests_pass Q = refl
+tests_pass H = refl
 
-coded_blocks-all : (level : Level) → list_all (λ version.
-    slice_index (coded_blocks level) (version - 1) == block_count version level
-    && slice_index (coded_ec_codewords level) (version - 1) == ec_codewords_per_block version level)
-    (range_with_len 1 10) ≡ true
-unfolding block_count ec_codewords_per_block block_lengths groups_of block_table
-coded_blocks-all L = refl
-coded_blocks-all M = refl
-coded_blocks-all Q = refl
-coded_blocks-all H = refl
+pub IsSound-of : (version : ℕ) (level : Level) → IsVersion version → IsSound version level
+unfolding tests
+IsSound-of zero level known = absurd (omega (arith, known.0))
+IsSound-of (suc k) level known =
+    let all : list_all (λ test. test) (tests level (suc k)) ≡ true =
+    agree_below_at (λ k. list_all (λ test. test) (tests level (suc k))) (λ k. true) 10 k (tests_pass level)
+    (omega (arith, known.1)) in
+    let test = AllPass-from_list_all (λ test. test) (tests level (suc k)) all in
+    record {
+      some_blocks = ltb-true _ _ (test 0 true (omega arith));
+      few_blocks = leb-true _ _ (test 1 true (omega arith));
+      some_ec_codewords = ltb-true _ _ (test 2 true (omega arith));
+      few_ec_codewords = leb-true _ _ (test 3 true (omega arith));
+      all = eqb-true _ _ (test 4 true (omega arith));
+      few_codewords = leb-true _ _ (test 5 true (omega arith));
+      few_bits = leb-true _ _ (test 6 true (omega arith));
+      more = leb-true _ _ (test 7 true (omega arith));
+      even = same_numbers-is _ _ (test 8 true (omega arith));
+      coded_total = eqb-true _ _ (test 9 true (omega arith));
+      coded_blocks = eqb-true _ _ (test 10 true (omega arith));
+      coded_ec_codewords = eqb-true _ _ (test 11 true (omega arith));
+    }
 
-pub coded_blocks-is : (version : ℕ) (level : Level) → 1 ≤ version → version ≤ 10
-    → (slice_index (coded_blocks level) (version - 1) ≡ block_count version level)
-    × (slice_index (coded_ec_codewords level) (version - 1) ≡ ec_codewords_per_block version level)
-coded_blocks-is version level low high =
-    let parts = and_parts _ _ (at_version
-    (λ v. slice_index (coded_blocks level) (v - 1) == block_count v level
-    && slice_index (coded_ec_codewords level) (v - 1) == ec_codewords_per_block v level) 10 version
-    (coded_blocks-all level) low high) in
-    (eqb-true _ _ parts.0, eqb-true _ _ parts.1)
+widest-le : (version : ℕ) → widest version ≤ 2192
+widest-le version = elim (nat_lt version 10) as (λ t. cond (nat_lt (cond t 8 16) 16) 1856 2192 ≤ 2192)
+    [ true ↦ omega arith | false ↦ omega arith ]
 
-TOTAL-all : list_all (λ version. slice_index TOTAL (version - 1) == total_codewords version) (range_with_len 1 10)
-    ≡ true
-unfolding total_codewords
-TOTAL-all = refl
+-- no symbol has more than 2192 data bits, so at most 274 data codewords
+pub capacity-le : (level : Level) (version : ℕ) → IsVersion version → capacity version level ≤ 2192
+capacity-le level version known = omega (arith, (IsSound-of version level known).few_bits, widest-le version)
 
-pub TOTAL-is : (version : ℕ) → 1 ≤ version → version ≤ 10
-    → slice_index TOTAL (version - 1) ≡ total_codewords version
-TOTAL-is version low high = eqb-true _ _
-    (at_version (λ v. slice_index TOTAL (v - 1) == total_codewords v) 10 version TOTAL-all low high)
+pub data_codewords-few : {n : ℕ} (version : ℕ) (level : Level) → n ≡ data_codewords version level → IsVersion version
+    → n ≤ 274
+data_codewords-few version level e known = omega (arith, e, capacity-le level version known)
 
 -- a later version has no fewer data bits
-capacity-all_rising : (level : Level) → list_all (λ w.
-    list_all (λ v. nat_le (capacity v level) (capacity w level)) (range_with_len 1 w)) (range_with_len 1 10) ≡ true
-unfolding data_codewords block_lengths groups_of block_table
-capacity-all_rising L = refl
-capacity-all_rising M = refl
-capacity-all_rising Q = refl
-capacity-all_rising H = refl
-
-pub capacity-rising : (level : Level) (v w : ℕ) → 1 ≤ v → v ≤ w → w ≤ 10 → capacity v level ≤ capacity w level
-capacity-rising level v w low below high =
-    leb-true _ _ (at_version (λ u. nat_le (capacity u level) (capacity w level)) w v
-    (at_version (λ x. list_all (λ u. nat_le (capacity u level) (capacity x level)) (range_with_len 1 x)) 10 w
-    (capacity-all_rising level) (omega arith) high) low below)
+pub capacity-rising : (level : Level) (v w : ℕ) → v ≤ w → w ≤ 10 → capacity v level ≤ capacity w level
+capacity-rising level v zero below high = let same : v ≡ 0 = omega arith in rw same (omega arith)
+capacity-rising level v (suc w) below high = elim (cases_lt v (suc w)) [
+  | inl less ↦
+      let last : suc w - 1 ≡ w = omega arith in
+      let more = rw last at (IsSound-of (suc w) level (omega arith, high)).more in
+      omega (arith, capacity-rising level v w (omega arith) (omega arith))
+  | inr last ↦ let same : v ≡ suc w = omega arith in rw same (omega arith)
+]

@@ -1,9 +1,9 @@
 -- A search in rising order finds the smallest version in which the best segments fit.
-use Rattle.std.proofs.Common.{◌≡◌, ℕ, zero, suc, ◌+◌, ◌-◌, ◌<◌, ◌≤◌, List, arith, Bool, true, false, cond, inl}
+use Rattle.std.proofs.Common.{◌≡◌, ℕ, zero, suc, ◌+◌, ◌-◌, ◌<◌, ◌≤◌, List, arith, Bool, true, false, inl}
 use Rattle.std.proofs.Common.{inr, refl}
-use Rattle.std.specs.Prelude.{nat_le, None, Option, Some}
+use Rattle.std.specs.Prelude.{nat_le, None, Some}
 use Rattle.std.specs.List.{find, range_with_len}
-use Rattle.std.proofs.lemmas.Bool.{cases_lt, le-leb, leb-true, lt-leb}
+use Rattle.std.proofs.lemmas.Bool.{cases_lt, cond_both, le-leb, leb-true, lt-leb}
 use Rattle.qrdata.specs.declared.level.Level.{Level}
 use Rattle.qrdata.specs.Segments.{cost}
 use Rattle.qrdata.specs.Versions.{capacity}
@@ -31,16 +31,12 @@ find_none p (suc n) low others =
 abbrev IsFound : (ℕ → Bool) → ℕ → ℕ → ℕ → Type 0
 IsFound p n low v = (low ≤ v) × (v < low + n) × (p v ≡ true)
 
-found_first : (p : ℕ → Bool) (n low v : ℕ) (passes : Bool) (later : Option ℕ) → p low ≡ passes
-    → cond passes (Some low) later ≡ Some v → (later ≡ Some v → IsFound p n (low + 1) v) → IsFound p (suc n) low v
-found_first p n low v true later passes e rest = let same : low ≡ v = cc in
-    (omega arith, omega arith, rw same at passes)
-found_first p n low v false later differs e rest = let found = rest e in (omega arith, omega arith, found.2)
-
 find_found : (p : ℕ → Bool) (n low v : ℕ) → find p (range_with_len low n) ≡ Some v → IsFound p n low v
 find_found p zero low v e = cc
-find_found p (suc n) low v e = found_first p n low v (p low) (find p (range_with_len (low + 1) n)) refl e
-    (find_found p n (low + 1) v)
+find_found p (suc n) low v e = cond_both (p low) (Some low) (find p (range_with_len (low + 1) n))
+    (λ found. found ≡ Some v → IsFound p (suc n) low v)
+    (λ passes here. let same : low ≡ v = cc in (omega arith, omega arith, rw same at passes))
+    (λ fails later. let found = find_found p n (low + 1) v later in (omega arith, omega arith, found.2)) e
 
 pub chosen_version-is : (lowest : ℕ) (level : Level) (bytes : List ℕ) (v : ℕ) → lowest ≤ v → v ≤ 10
     → cost v (chosen_segments v bytes) ≤ capacity v level

@@ -8,6 +8,7 @@ ghost use Rattle.qrdata.specs.declared.mode.Mode.TheVariants.{Alphanumeric, Nume
 ghost use Rattle.std.specs.Char.{is_ascii_digit};
 ghost use Rattle.std.specs.List.{list_all};
 ghost use Rattle.std.specs.Prelude.{◌≡◌, ◌+◌, ◌*◌, ◌/◌, ◌^◌, ◌<◌, ◌≤◌, [], ◌++◌, All, IsTrue, length};
+ghost use Rattle.std.specs.Prelude.{if◌then◌else◌, ◌%◌, ◌==◌};
 
 use crate::blocks::{Codewords, MAX_CODEWORDS};
 use crate::mode::{Mode, Segment, value_of};
@@ -92,8 +93,8 @@ impl Bits {
         let mut place = 0;
         while digits.len() - place >= 3 {
             self.push_number(
-                u32::from(digits[place] - b'0') * 100
-                    + u32::from(digits[place + 1] - b'0') * 10
+                100 * u32::from(digits[place] - b'0')
+                    + 10 * u32::from(digits[place + 1] - b'0')
                     + u32::from(digits[place + 2] - b'0'),
                 10,
             );
@@ -101,7 +102,7 @@ impl Bits {
         }
         if digits.len() - place == 2 {
             self.push_number(
-                u32::from(digits[place] - b'0') * 10 + u32::from(digits[place + 1] - b'0'),
+                10 * u32::from(digits[place] - b'0') + u32::from(digits[place + 1] - b'0'),
                 7,
             );
         } else if digits.len() - place == 1 {
@@ -210,18 +211,20 @@ fn are_bytes(bytes: &[u8])
     ensures { All (λ b. b < 256) bytes.now }
 {}
 
-/// Writes `count` pad codewords: two of them in turn.
+/// Returns the pad codeword of a place: two of them in turn.
+#[inline(always)]
+fn pad_codeword(place: usize) -> u8
+    ensures { result ≡ if place % 2 == 0 then 0xEC else 0x11 }
+{
+    if place % 2 == 0 { 0xEC } else { 0x11 }
+}
+
+/// Writes `count` pad codewords.
 pub(crate) fn push_padding(count: usize, codewords: &mut Codewords)
     requires room { array_vec_len codewords.old + count ≤ MAX_CODEWORDS }
     ensures { codewords.new.items ≡ codewords.old.items ++ pad_codewords count }
 {
-    let mut left = count;
-    while left >= 2 {
-        codewords.push(0xEC);
-        codewords.push(0x11);
-        left -= 2;
-    }
-    if left == 1 {
-        codewords.push(0xEC);
+    for place in 0..count {
+        codewords.push(pad_codeword(place));
     }
 }

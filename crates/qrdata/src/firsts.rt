@@ -1,39 +1,26 @@
 //! The first of the best segments of each rest of the bytes.
-ghost use Rattle.qrdata.specs.Private.Firsts.{segments_of};
-ghost use Rattle.std.specs.Prelude.{length, ◌≡◌, ◌<◌, [], ◌∷◌, ◌++◌, Some, slice_get};
+ghost use Rattle.arrayvec.specs.ArrayVec.{array_vec_len};
+ghost use Rattle.qrdata.specs.Private.Firsts.{HasSegments, first_at};
+ghost use Rattle.std.specs.Prelude.{◌≡◌, ◌<◌, [], ◌∷◌, ◌++◌};
 
 use crate::mode::{Mode, Segment};
 use arrayvec::ArrayVec;
-use std::marker::Model;
 
 /// The most bytes that a symbol of version 10 holds: more digits than this have more bits than its data codewords.
 pub(crate) const MAX_BYTES: usize = 652;
 
-/// The first of the best segments of each rest of the bytes, the shortest rest first. Clauses see the list of these
-/// segments. Modes and lengths are two lists, each of which is cleared faster than one of both.
+/// The first of the best segments of each rest of the bytes, the shortest rest first. Modes and lengths are two lists,
+/// each of which is cleared faster than one of both.
 #[derive(Drop)]
 pub(crate) struct Firsts {
     modes: ArrayVec<Mode, MAX_BYTES>,
     lengths: ArrayVec<u16, MAX_BYTES>,
 }
 
-impl Model for Firsts {
-    ghost use Rattle.std.specs.Prelude.{◌≡◌, List, length};
-    ghost use Rattle.qrdata.specs.declared.mode.Segment.{Segment};
-    ghost use Rattle.qrdata.specs.Private.Firsts.{segments_of};
-
-    ghost Value = { List Segment };
-
-    ghost view = { λ f. segments_of f.modes.items f.lengths.items };
-
-    ghost invariant = { λ f. length f.modes.items ≡ length f.lengths.items };
-}
-
 impl Firsts {
     /// Makes an empty table.
-    #[tactic(auto, unfolding(crate::specs::Private::Firsts::segments_of))]
     pub(crate) fn new() -> Firsts
-        ensures { result ≡ [] }
+        ensures { HasSegments result [] }
     {
         Firsts {
             modes: ArrayVec::new(),
@@ -44,8 +31,9 @@ impl Firsts {
     /// Writes one segment more at the end.
     #[inline(always)]
     pub(crate) fn push(&mut self, segment: Segment)
-        requires { length self.old < MAX_BYTES }
-        ensures { self.new ≡ self.old ++ segment ∷ [] }
+        requires { (array_vec_len self.old.modes < MAX_BYTES) × (array_vec_len self.old.lengths < MAX_BYTES) }
+        ensures modes { self.new.modes.items ≡ self.old.modes.items ++ segment.mode ∷ [] }
+        ensures lengths { self.new.lengths.items ≡ self.old.lengths.items ++ segment.len ∷ [] }
     {
         self.modes.push(segment.mode);
         self.lengths.push(segment.len);
@@ -54,8 +42,8 @@ impl Firsts {
     /// Returns the segment at a place.
     #[inline(always)]
     pub(crate) fn at(&self, place: usize) -> Segment
-        requires { place < length self.now }
-        ensures { slice_get self.now place ≡ Some result }
+        requires { (place < array_vec_len self.now.modes) × (place < array_vec_len self.now.lengths) }
+        ensures { result ≡ first_at self.now place }
     {
         Segment {
             mode: self.modes[place],

@@ -1,10 +1,11 @@
 //! The choice of a version and of segments.
 ghost use Rattle.qrdata.specs.Fewest.{chosen_segments};
 ghost use Rattle.qrdata.specs.PlanView.{FitsNowhere, HasFittingSegments, IsBestPlan, plan_view};
-ghost use Rattle.qrdata.specs.Private.SmallestPlan.{FitsBits, IsSmallestPlan, IsTable, NoPlan, SameWidths};
+ghost use Rattle.qrdata.specs.Private.SmallestPlan.{FitsBits, HasRoom, HaveNoRoom, IsSmallestPlan, IsTable};
+ghost use Rattle.qrdata.specs.Private.SmallestPlan.{NoPlan, SameWidths};
 ghost use Rattle.qrdata.specs.Segments.{cost};
 ghost use Rattle.qrdata.specs.Versions.{IsVersion};
-ghost use Rattle.std.specs.Prelude.{length, ◌≡◌, ◌≤◌, IfErr, IfNone, IfOk, IfSome, ℕ};
+ghost use Rattle.std.specs.Prelude.{length, ◌≡◌, ◌+◌, ◌≤◌, IfErr, IfNone, IfOk, IfSome, ℕ};
 
 use crate::firsts::{Firsts, MAX_BYTES};
 use crate::level::Level;
@@ -152,15 +153,25 @@ fn plan_between<'a>(lowest: u8, highest: u8, level: Level, bytes: &'a [u8]) -> O
 {
     let widest = Version::of(highest);
     // Three bytes have ten bits at least.
-    if 10 * bytes.len() > 24 * widest.data_codewords(level) {
+    if 10 * bytes.len() > 3 * widest.capacity(level) {
         return None;
     }
     let mut firsts = Firsts::new();
     let bits = fill(widest, bytes, &mut firsts);
+    let version = smallest_version(lowest, highest, level, bits)?;
+    Some(plan_of(version, level, bytes, &firsts, bits as u32))
+}
+
+/// Returns the smallest version, from `lowest` to `highest`, that has `bits` data bits.
+fn smallest_version(lowest: u8, highest: u8, level: Level, bits: usize) -> Option<Version>
+    requires { (1 ≤ lowest) × (highest ≤ 10) }
+    ensures some { IfSome result (HasRoom lowest highest level bits) }
+    ensures none { IfNone result (HaveNoRoom lowest (highest + 1) level bits) }
+{
     for number in lowest..highest + 1 {
         let version = Version::of(number);
-        if bits <= 8 * version.data_codewords(level) {
-            return Some(plan_of(version, level, bytes, &firsts, bits as u32));
+        if bits <= version.capacity(level) {
+            return Some(version);
         }
     }
     None

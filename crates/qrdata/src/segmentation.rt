@@ -1,4 +1,5 @@
 //! A table of the best first segment of each rest of the bytes, from the shortest rest to all the bytes.
+ghost use Rattle.qrdata.specs.Private.Firsts.{HasSegments};
 ghost use Rattle.qrdata.specs.Private.Table.{IsSmall, AreSmallDigits, AreSmallCharacters, AreSmall};
 ghost use Rattle.qrdata.specs.Private.Table.{absent_characters, absent_choice, absent_digits, better_choice};
 ghost use Rattle.qrdata.specs.Private.Table.{best_choice, byte_choices, fewest_bits, firsts_of, longer_choice};
@@ -273,9 +274,9 @@ fn without_bytes() -> Choices
 /// segments that fit reach them. The time grows with the number of bytes.
 pub(crate) fn fill(version: Version, bytes: &[u8], firsts: &mut Firsts) -> usize
     requires few { length bytes.now ≤ MAX_BYTES }
-    requires empty { firsts.old ≡ [] }
+    requires empty { HasSegments firsts.old [] }
     ensures bits { result ≡ fewest_bits version bytes.now }
-    ensures firsts { firsts.new ≡ firsts_of version bytes.now }
+    ensures firsts { HasSegments firsts.new (firsts_of version bytes.now) }
 {
     let mut choices = without_bytes();
     let mut place = bytes.len();

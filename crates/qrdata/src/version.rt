@@ -1,9 +1,10 @@
 //! The sizes of versions 1 to 10 (ISO/IEC 18004, tables 1, 7 and 9).
-ghost use Rattle.qrdata.specs.Versions.{IsVersion, block_lengths, data_codewords, ec_codewords_per_block};
+ghost use Rattle.gf256.specs.ErrorCorrection.{IsEcCodewordCount};
+ghost use Rattle.qrdata.specs.Versions.{IsVersion, block_lengths, capacity, data_codewords, ec_codewords_per_block};
 ghost use Rattle.qrdata.specs.Private.Blocks.{block_count};
 ghost use Rattle.qrdata.specs.Versions.{side_of};
 ghost use Rattle.qrdata.specs.Versions.{total_codewords};
-ghost use Rattle.std.specs.Prelude.{◌≡◌, ◌<◌, ◌↔◌, ◌⊎◌, IfSome, IsNone, ℕ};
+ghost use Rattle.std.specs.Prelude.{◌≡◌, ◌<◌, ◌≤◌, ◌↔◌, ◌⊎◌, IfSome, IsNone, ℕ};
 
 use crate::blocks::{Lengths, push_lengths};
 use crate::level::Level;
@@ -13,29 +14,33 @@ use std::marker::Model;
 /// are proved to hold what `specs/Versions.antt` lists in the standard's notation.
 const TOTAL: [usize; 10] = [26, 44, 70, 100, 134, 172, 196, 242, 292, 346];
 
-/// The number of blocks of a symbol at level L.
-const BLOCKS_L: [usize; 10] = [1, 1, 1, 1, 1, 2, 2, 2, 2, 4];
+/// The number of blocks of a symbol at levels L, M, Q and H.
+const BLOCKS: [[usize; 4]; 10] = [
+    [1, 1, 1, 1],
+    [1, 1, 1, 1],
+    [1, 1, 2, 2],
+    [1, 2, 2, 4],
+    [1, 2, 4, 4],
+    [2, 4, 4, 4],
+    [2, 4, 6, 5],
+    [2, 4, 6, 6],
+    [2, 5, 8, 8],
+    [4, 5, 8, 8],
+];
 
-/// The number of blocks of a symbol at level M.
-const BLOCKS_M: [usize; 10] = [1, 1, 1, 2, 2, 4, 4, 4, 5, 5];
-
-/// The number of blocks of a symbol at level Q.
-const BLOCKS_Q: [usize; 10] = [1, 1, 2, 2, 4, 4, 6, 6, 8, 8];
-
-/// The number of blocks of a symbol at level H.
-const BLOCKS_H: [usize; 10] = [1, 1, 2, 4, 4, 4, 5, 6, 8, 8];
-
-/// The number of error correction codewords of each block at level L.
-const EC_CODEWORDS_L: [usize; 10] = [7, 10, 15, 20, 26, 18, 20, 24, 30, 18];
-
-/// The number of error correction codewords of each block at level M.
-const EC_CODEWORDS_M: [usize; 10] = [10, 16, 26, 18, 24, 16, 18, 22, 22, 26];
-
-/// The number of error correction codewords of each block at level Q.
-const EC_CODEWORDS_Q: [usize; 10] = [13, 22, 18, 26, 18, 24, 18, 22, 20, 24];
-
-/// The number of error correction codewords of each block at level H.
-const EC_CODEWORDS_H: [usize; 10] = [17, 28, 22, 16, 22, 28, 26, 26, 24, 28];
+/// The number of error correction codewords of each block at levels L, M, Q and H.
+const EC_CODEWORDS: [[usize; 4]; 10] = [
+    [7, 10, 13, 17],
+    [10, 16, 22, 28],
+    [15, 26, 18, 22],
+    [20, 18, 26, 16],
+    [26, 24, 18, 22],
+    [18, 16, 24, 28],
+    [20, 18, 18, 26],
+    [24, 22, 22, 26],
+    [30, 22, 20, 24],
+    [18, 26, 24, 28],
+];
 
 /// A version of a symbol, 1 to 10. Clauses see it as that number.
 #[derive(Clone, Copy, Debug, PartialEq, Eq, Drop)]
@@ -112,30 +117,30 @@ impl Version {
         self.total_codewords() - self.block_count(level) * self.ec_codewords_per_block(level)
     }
 
+    /// Returns the number of data bits of a symbol at a level.
+    pub(crate) fn capacity(self, level: Level) -> usize
+        ensures value { result ≡ capacity self level }
+        ensures few { result ≤ 2192 }
+    {
+        self.known();
+        8 * self.data_codewords(level)
+    }
+
     /// Returns the number of blocks of a symbol at a level.
     pub(crate) fn block_count(self, level: Level) -> usize
-        ensures { result ≡ block_count self level }
+        ensures value { result ≡ block_count self level }
+        ensures some { 0 < result }
+        ensures few { result ≤ 8 }
     {
-        let place = usize::from(self.number) - 1;
-        match level {
-            Level::L => BLOCKS_L[place],
-            Level::M => BLOCKS_M[place],
-            Level::Q => BLOCKS_Q[place],
-            Level::H => BLOCKS_H[place],
-        }
+        BLOCKS[usize::from(self.number) - 1][level.place()]
     }
 
     /// Returns the number of error correction codewords of each block at a level.
     pub(crate) fn ec_codewords_per_block(self, level: Level) -> usize
-        ensures { result ≡ ec_codewords_per_block self level }
+        ensures value { result ≡ ec_codewords_per_block self level }
+        ensures count { IsEcCodewordCount result }
     {
-        let place = usize::from(self.number) - 1;
-        match level {
-            Level::L => EC_CODEWORDS_L[place],
-            Level::M => EC_CODEWORDS_M[place],
-            Level::Q => EC_CODEWORDS_Q[place],
-            Level::H => EC_CODEWORDS_H[place],
-        }
+        EC_CODEWORDS[usize::from(self.number) - 1][level.place()]
     }
 
     /// Returns the number of data codewords of each block at a level, the short blocks first.
@@ -146,12 +151,10 @@ impl Version {
         let blocks = self.block_count(level);
         let codewords = self.data_codewords(level);
         let mut lengths = Lengths::new();
-        push_lengths(
-            &mut lengths,
-            blocks - codewords % blocks,
-            codewords / blocks,
-        );
-        push_lengths(&mut lengths, codewords % blocks, codewords / blocks + 1);
+        let size = codewords / blocks;
+        let longer = codewords % blocks;
+        push_lengths(&mut lengths, blocks - longer, size);
+        push_lengths(&mut lengths, longer, size + 1);
         lengths
     }
 }

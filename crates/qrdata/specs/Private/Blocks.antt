@@ -3,6 +3,7 @@ use Rattle.std.specs.Prelude.{◌≡◌, ◌≤◌, ◌+◌, ◌*◌, ℕ, List,
 use Rattle.std.specs.List.{flat_map}
 use Rattle.gf256.specs.ErrorCorrection.{ec_codewords_of}
 use Rattle.qrdata.specs.declared.level.Level.{Level}
+use Rattle.qrdata.specs.declared.level.Level.TheVariants.{L, M, Q, H}
 use Rattle.qrdata.specs.Codewords.{split_by}
 use Rattle.qrdata.specs.Versions.{block_lengths, ec_codewords_per_block}
 
@@ -10,8 +11,14 @@ use Rattle.qrdata.specs.Versions.{block_lengths, ec_codewords_per_block}
 unfoldable pub block_count : ℕ → Level → ℕ
 block_count version level = length (block_lengths version level)
 
--- the message is cut into at most 8 blocks, each of which has 1 to 30 error correction codewords; with these they fit
--- a symbol
+-- the place of a level in a row of the tables of the code
+abbrev pub place_of : Level → ℕ
+place_of L = 0
+place_of M = 1
+place_of Q = 2
+place_of H = 3
+
+-- the message is cut into at most 8 blocks, which fit a symbol with their error correction codewords
 pub record HasBlocks (version : ℕ) (level : Level) (message : List ℕ) : Type 0 where
   pub count : length (block_lengths version level) ≡ block_count version level
   pub whole : sum (block_lengths version level) ≡ length message
@@ -23,6 +30,4 @@ pub record HasBlocks (version : ℕ) (level : Level) (message : List ℕ) : Type
       (block_lengths version level) message))
       ≡ map (ec_codewords_of (ec_codewords_per_block version level)) (split_by (block_lengths version level) message)
   pub few : block_count version level ≤ 8
-  pub some_ec_codewords : 1 ≤ ec_codewords_per_block version level
-  pub few_ec_codewords : ec_codewords_per_block version level ≤ 30
   pub total : length message + block_count version level * ec_codewords_per_block version level ≤ 346

@@ -1,14 +1,16 @@
 -- The plan of the smallest version in a range (ISO/IEC 18004, 7.4.1).
-use Rattle.std.specs.Prelude.{◌≡◌, ℕ, ◌-◌, ◌<◌, ◌≤◌, List, ◌∷◌, length, drop, slice_get, Some}
+use Rattle.std.specs.Prelude.{◌≡◌, ℕ, ◌-◌, ◌<◌, ◌≤◌, List, ◌∷◌, length, drop}
 use Rattle.qrdata.specs.declared.level.Level.{Level}
 use Rattle.qrdata.specs.declared.mode.Mode.{Mode}
 use Rattle.qrdata.specs.declared.mode.Segment.{Segment}
 use Rattle.qrdata.specs.declared.plan.TheConstants.{MAX_SEGMENTS}
+use Rattle.qrdata.specs.declared.firsts.Firsts.{Firsts}
 use Rattle.qrdata.specs.declared.firsts.TheConstants.{MAX_BYTES}
 use Rattle.qrdata.specs.Fewest.{chosen_segments}
 use Rattle.qrdata.specs.PlanView.{PlanView}
+use Rattle.qrdata.specs.Private.Firsts.{first_at}
 use Rattle.qrdata.specs.Segments.{cost, count_width}
-use Rattle.qrdata.specs.Versions.{capacity}
+use Rattle.qrdata.specs.Versions.{IsVersion, capacity}
 
 -- a character count has the same bits in two versions, whatever the mode
 abbrev pub SameWidths : ℕ → ℕ → Type 0
@@ -32,18 +34,32 @@ pub record IsSmallestPlan (lowest highest : ℕ) (level : Level) (bytes : List �
 abbrev pub NoPlan : (lowest highest : ℕ) → Level → List ℕ → Type 0
 NoPlan lowest highest level bytes = (v : ℕ) → lowest ≤ v → v ≤ highest → DoNotFit v level bytes
 
+-- no version from the lowest one to that before `end` has this many data bits
+abbrev pub HaveNoRoom : (lowest end : ℕ) → Level → (bits : ℕ) → Type 0
+HaveNoRoom lowest end level bits = (v : ℕ) → lowest ≤ v → v < end → capacity v level < bits
+
+-- the version is the smallest one of a range that has this many data bits
+pub record HasRoom (lowest highest : ℕ) (level : Level) (bits version : ℕ) : Type 0 where
+  pub from : lowest ≤ version
+  pub to : version ≤ highest
+  pub known : IsVersion version
+  pub fits : bits ≤ capacity version level
+  pub smallest : HaveNoRoom lowest version level bits
+
 -- where the best segments of a rest have at most `limit` bits, the table names the first of them
-abbrev pub NamesBest : (version : ℕ) (bytes : List ℕ) (limit : ℕ) → List Segment → Type 0
+abbrev pub NamesBest : (version : ℕ) (bytes : List ℕ) (limit : ℕ) → Firsts → Type 0
 NamesBest version bytes limit firsts =
     (k : ℕ) → k < length bytes → cost version (chosen_segments version (drop k bytes)) ≤ limit
-    → (first : Segment) → slice_get firsts (length bytes - 1 - k) ≡ Some first
-    → first ∷ chosen_segments version (drop first.len (drop k bytes)) ≡ chosen_segments version (drop k bytes)
+    → first_at firsts (length bytes - 1 - k)
+    ∷ chosen_segments version (drop (first_at firsts (length bytes - 1 - k)).len (drop k bytes))
+    ≡ chosen_segments version (drop k bytes)
 
 -- a table with a place for each byte, which names the best first segments of the rests of the bytes, the shortest rest
 -- first
-pub record IsTable (version : ℕ) (bytes : List ℕ) (limit : ℕ) (firsts : List Segment) : Type 0 where
+pub record IsTable (version : ℕ) (bytes : List ℕ) (limit : ℕ) (firsts : Firsts) : Type 0 where
   pub few : length bytes ≤ MAX_BYTES
-  pub size : length firsts ≡ length bytes
+  pub modes : length firsts.modes.items ≡ length bytes
+  pub lengths : length firsts.lengths.items ≡ length bytes
   pub named : NamesBest version bytes limit firsts
 
 -- the segments have `bits` bits, these fit the version, and there is room for the segments in a plan

@@ -116,15 +116,25 @@ unfoldable pub firsts_of : (version : ℕ) → List ℕ → List Segment
 firsts_of version [] = []
 firsts_of version (b ∷ bytes) = firsts_of version bytes ++ (choices_of version (b ∷ bytes)).best.segment ∷ []
 
+-- what is true of each choice, by its mode and by how many of its bytes are over threes or twos
+abbrev pub EachDigits : (Mode → ℕ → ChoiceView → Type 0) → Digits → Type 0
+EachDigits P digits = P Numeric 0 digits.none_over × P Numeric 1 digits.one_over × P Numeric 2 digits.two_over
+
+abbrev pub EachCharacters : (Mode → ℕ → ChoiceView → Type 0) → Characters → Type 0
+EachCharacters P characters = P Alphanumeric 0 characters.none_over × P Alphanumeric 1 characters.one_over
+
+abbrev pub Each : (Mode → ℕ → ChoiceView → Type 0) → Choices → Type 0
+Each P choices = EachDigits P choices.digits × EachCharacters P choices.characters × P Byte 0 choices.bytes
+
 -- there is room for a byte more
 abbrev pub IsSmall : ChoiceView → Type 0
 IsSmall c = (c.segment.len ≤ 652) × (c.bits < 2 ^ 20)
 
 abbrev pub AreSmallDigits : Digits → Type 0
-AreSmallDigits digits = IsSmall digits.none_over × IsSmall digits.one_over × IsSmall digits.two_over
+AreSmallDigits digits = EachDigits (λ mode class. IsSmall) digits
 
 abbrev pub AreSmallCharacters : Characters → Type 0
-AreSmallCharacters characters = IsSmall characters.none_over × IsSmall characters.one_over
+AreSmallCharacters characters = EachCharacters (λ mode class. IsSmall) characters
 
 -- one byte more has at most 28 bits
 abbrev pub AreSmall : Choices → Type 0

@@ -1,11 +1,13 @@
-use Rattle.std.proofs.Common.{append_assoc, arith}
-use Rattle.qrdata.proofs.PaddingLaws.{pad_codewords-two_more}
+use Rattle.std.proofs.Common.{◌%◌, ℕ, append_assoc, arith}
+use Rattle.std.specs.Prelude.{◌==◌, if◌then◌else◌}
+use Rattle.std.proofs.lemmas.List.FromFn.{map-range_with_len_more}
 use Rattle.qrdata.proofs.bits.push_padding.Goals as goal
 
-pub loop-left-preserved : goal.loop-left-preserved
-loop-left-preserved c =
-    let two = pad_codewords-two_more c.loop-left.left c.loop-left-test.true in (
-      rw (c.push-in-loop-left.ensures.items, c.push.ensures.items, append_assoc, append_assoc)
-          (rw two at c.loop-left.invariant.0),
-      omega (arith, c.loop-left.invariant.1, c.push.ensures.len, c.push-in-loop-left.ensures.len),
-    )
+pub loop-place-preserved : goal.loop-place-preserved
+loop-place-preserved c =
+    let place = c.loop-place.place in
+    let more = map-range_with_len_more {X = ℕ} (λ i. if i % 2 == 0 then 0xEC else 0x11) 0 place place (omega arith) in
+    record {
+      written = rw (c.push.ensures.items, c.pad_codeword.ensures, c.loop-place.invariant.written, more, append_assoc);
+      size = omega (arith, c.push.ensures.len, c.loop-place.invariant.size);
+    }

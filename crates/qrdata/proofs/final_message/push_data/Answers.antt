@@ -18,7 +18,7 @@ push_segments-requires-clause-room c = omega (
   arith,
   ap length c.requires.empty,
   c.requires.plan.fits,
-  capacity-le c.args.level c.args.version c.known.ensures.0 c.known.ensures.1,
+  capacity-le c.args.level c.args.version c.known.ensures,
 )
 
 pub end-requires : goal.end-requires

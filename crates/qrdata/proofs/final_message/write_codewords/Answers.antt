@@ -1,16 +1,22 @@
 use Rattle.std.proofs.Common.{◌≡◌, arith, refl, Some}
 use Rattle.qrdata.specs.Codewords.{symbol_codewords}
 use Rattle.qrdata.specs.Reading.{data_in}
-use Rattle.qrdata.proofs.DataReadingLaws.{data_in-symbol_codewords, length-read}
-use Rattle.qrdata.proofs.WriterLaws.{AreBytes-slice, length-data}
+use Rattle.qrdata.specs.Segments.{segments_bits}
+use Rattle.qrdata.specs.Versions.{data_codewords}
+use Rattle.qrdata.proofs.DataReadingLaws.{AreBytes-slice, data_in-symbol_codewords, length-read}
+use Rattle.qrdata.proofs.LengthLaws.{length-segments_bits}
+use Rattle.qrdata.proofs.PaddingLaws.{length-data_codewords_of}
 use Rattle.gf256.proofs.GeneratorLaws.{IsRemainder-ec_codewords_of, HasRoots-remainder}
 use Rattle.qrdata.proofs.final_message.write_codewords.Goals as goal
 
 pub write_symbol-requires : goal.write_symbol-requires
-write_symbol-requires c = record {
-  whole = rw (c.as_slice.ensures.value, c.push_data.ensures)
-      (length-data c.args.version c.args.level c.args.segments.now c.args.bytes.now c.requires.cut c.requires.fits);
-}
+write_symbol-requires c =
+    let bits = segments_bits c.args.version c.args.segments.now c.args.bytes.now in
+    let long = length-segments_bits c.args.version c.args.segments.now c.args.bytes.now c.requires.cut in
+    record {
+      whole = rw (c.as_slice.ensures.value, c.push_data.ensures)
+          (length-data_codewords_of (data_codewords c.args.version c.args.level) bits (omega (arith, c.requires.fits)));
+    }
 
 pub returns : goal.returns
 unfolding symbol_codewords

@@ -4,15 +4,9 @@ use Rattle.qrdata.specs.Versions.{block_lengths, ec_codewords_per_block}
 use Rattle.std.specs.List.{flat_map}
 use Rattle.gf256.specs.ErrorCorrection.{ec_codewords_of}
 use Rattle.std.proofs.lemmas.List.Folds.{sum_by-replicate}
-use Rattle.qrdata.proofs.BlockStepLaws.{length-interleaving-split_by}
+use Rattle.qrdata.proofs.BlockLaws.{length-interleaving-split_by}
 use Rattle.qrdata.proofs.final_message.write_symbol.Goals as goal
 use Rattle.qrdata.proofs.final_message.write_symbol.Goals.{After-as_slice-4}
-
-pub push_ec_codewords-requires-clause-count : goal.push_ec_codewords-requires-clause-count
-push_ec_codewords-requires-clause-count c = (
-  omega (arith, c.ec_codewords_per_block-count.ensures, c.have_blocks.ensures.some_ec_codewords),
-  omega (arith, c.ec_codewords_per_block-count.ensures, c.have_blocks.ensures.few_ec_codewords),
-)
 
 pub push_ec_codewords-requires-clause-blocks : goal.push_ec_codewords-requires-clause-blocks
 push_ec_codewords-requires-clause-blocks c = (
@@ -21,7 +15,8 @@ push_ec_codewords-requires-clause-blocks c = (
 )
 
 pub interleave-requires-clause-whole : goal.interleave-requires-clause-whole
-interleave-requires-clause-whole c = rw (c.as_slice-2.ensures.value, c.lengths-lengths.ensures) c.have_blocks.ensures.whole
+interleave-requires-clause-whole c =
+    rw (c.as_slice-2.ensures.value, c.lengths-lengths.ensures) c.have_blocks.ensures.whole
 
 pub interleave-requires-clause-room : goal.interleave-requires-clause-room
 interleave-requires-clause-room c = omega (arith, ap length c.clear.ensures, c.have_blocks.ensures.total)
@@ -42,7 +37,7 @@ written c = rw (
   c.new-ec_codewords.ensures,
   c.as_slice.ensures.value,
   c.lengths-lengths.ensures,
-  c.ec_codewords_per_block-count.ensures,
+  c.ec_codewords_per_block-count.ensures.value,
 ) (refl, refl)
 
 pub interleave-requires-2-clause-whole : goal.interleave-requires-2-clause-whole

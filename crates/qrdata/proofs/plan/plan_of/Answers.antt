@@ -3,7 +3,7 @@ use Rattle.std.proofs.Common.{length-append, lit<}
 use Rattle.std.proofs.lemmas.List.{drop_all}
 use Rattle.qrdata.specs.declared.mode.Segment.{Segment}
 use Rattle.qrdata.specs.Fewest.{chosen_segments}
-use Rattle.qrdata.proofs.BestListLaws.{chosen_segments-nil}
+use Rattle.qrdata.proofs.FewestBitsLaws.{chosen_segments-nil}
 use Rattle.qrdata.proofs.FewestBitsLaws.{chosen_segments-is}
 use Rattle.qrdata.proofs.FirstsTableLaws.{IsNamed-first}
 use Rattle.qrdata.proofs.plan.plan_of.Goals as goal
@@ -46,7 +46,10 @@ invariant_of-result c =
     rw (whole c.args.version bytes c.loop-place.place c.loop-place.segments.items c.loop-place.invariant.0
     c.loop-place-test.false) (
       c.requires.bits.value,
-      record { cut = chosen_segments-is c.args.version bytes; fits = omega (arith, c.requires.bits.value, c.requires.bits.fits) },
+      record {
+        cut = chosen_segments-is c.args.version bytes;
+        fits = omega (arith, c.requires.bits.value, c.requires.bits.fits);
+      },
     )
 
 pub returns : goal.returns

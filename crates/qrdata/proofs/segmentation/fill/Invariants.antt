@@ -1,11 +1,12 @@
 use Rattle.std.proofs.Common.{◌≡◌, ◌≤◌, drop, length}
+use Rattle.qrdata.specs.Private.Firsts.{HasSegments}
 use Rattle.qrdata.specs.Private.Table.{choices_of, firsts_of}
 use Rattle.qrdata.proofs.segmentation.fill.Given as goal
 
 -- the table is filled from here on, and these are the choices of the bytes from here on
 abbrev pub invariant-loop-place : goal.invariant-loop-place
 invariant-loop-place l = (l.place ≤ length l.bytes)
-    × (l.firsts ≡ firsts_of l.version (drop l.place l.bytes))
+    × HasSegments l.firsts (firsts_of l.version (drop l.place l.bytes))
     × (l.choices ≡ choices_of l.version (drop l.place l.bytes))
 
 abbrev pub decreases-loop-place : goal.decreases-loop-place

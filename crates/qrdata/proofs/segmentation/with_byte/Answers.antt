@@ -1,7 +1,7 @@
 use Rattle.std.proofs.Common.{◌∙◌, ap, arith}
 use Rattle.qrdata.specs.declared.mode.Mode.TheVariants.{Byte}
 use Rattle.qrdata.specs.Private.Table.{better_choice, byte_choices, longer_choice, short_choice}
-use Rattle.qrdata.proofs.ByteChoiceLaws.{byte_choices-is}
+use Rattle.qrdata.proofs.BestChoiceLaws.{byte_choices-is}
 use Rattle.qrdata.proofs.segmentation.with_byte.Goals as goal
 
 pub returns-then-value_of-ge45 : goal.returns-then-value_of-ge45

@@ -1,12 +1,12 @@
 use Rattle.std.proofs.Common.{◌≡◌, ◌-◌, ◌*◌, ◌%◌, ◌<◌, ◌++◌, length, length-append, replicate, arith, ap, refl, ◌∙◌}
-use Rattle.std.proofs.Common.{false, min, Bool}
+use Rattle.std.proofs.Common.{false, min}
 use Rattle.std.proofs.lemmas.List.Elements.{recursion_from_All}
 use Rattle.qrdata.specs.Bits.{bits_of}
 use Rattle.qrdata.specs.Private.BitsInCodewords.{bits_in}
 use Rattle.qrdata.specs.Codewords.{with_zeros, with_terminator}
 use Rattle.qrdata.proofs.BitStringLaws.{length-bits_of}
-use Rattle.qrdata.proofs.PaddingLaws.{with_zeros-whole}
-use Rattle.qrdata.proofs.WriterLaws.{with_zeros-fits, bits_of-zero, length-bits_in, whole_codewords}
+use Rattle.qrdata.proofs.PaddingLaws.{IsEnded-of}
+use Rattle.qrdata.proofs.PaddingLaws.{bits_of-zero, length-bits_in, whole_codewords}
 use Rattle.qrdata.proofs.bits.Bits.end.Goals as goal
 
 pub push_number-requires-2-clause-room : goal.push_number-requires-2-clause-room
@@ -42,14 +42,13 @@ returns-clause-bits c =
 
 pub returns-clause-codewords : goal.returns-clause-codewords
 returns-clause-codewords c =
-    let size = with_zeros-whole c.args.size (bits_in c.args.self.now) c.requires.fits in
+    let ended = IsEnded-of c.args.size (bits_in c.args.self.now) c.requires.fits in
     let codewords = c.push_number-2.new.self.codewords.items in
-    let rest = c.push_number-2.new.self.rest in
-    whole_codewords codewords rest.count rest.number size.0
-    (recursion_from_All (λ b. b < 256) codewords (rw c.as_slice.ensures.value at c.are_bytes.ensures)) rest.few
-    (ap length (returns-clause-bits c) ∙ omega (arith, ap length size.2, length-append {A = Bool}, size.3))
+    whole_codewords c.push_number-2.new.self ended.codewords
+    (recursion_from_All (λ b. b < 256) codewords (rw c.as_slice.ensures.value at c.are_bytes.ensures))
+    (ap length (returns-clause-bits c) ∙ ended.whole)
 
 pub returns-clause-count : goal.returns-clause-count
 returns-clause-count c =
-    let fits = with_zeros-fits c.args.size (bits_in c.args.self.now) c.requires.fits in
-    omega (arith, ap length (returns-clause-bits c), fits, length-bits_in c.push_number-2.new.self)
+    let ended = IsEnded-of c.args.size (bits_in c.args.self.now) c.requires.fits in
+    omega (arith, ap length (returns-clause-bits c), ended.whole, length-bits_in c.push_number-2.new.self)

@@ -1,6 +1,6 @@
-use Rattle.qrdata.proofs.VersionLaws.{TOTAL-is}
+use Rattle.qrdata.specs.declared.level.Level.TheVariants.{L}
+use Rattle.qrdata.proofs.VersionLaws.{IsSound-of}
 use Rattle.qrdata.proofs.version.Version.total_codewords.Goals as goal
 
 pub returns : goal.returns
-returns c = rw (c.from.ensures, ← c.self.view_is)
-    (TOTAL-is c.self.inside.number c.self.invariant.0 c.self.invariant.1)
+returns c = rw (c.from.ensures, ← c.self.view_is) (IsSound-of c.self.inside.number L c.self.invariant).coded_total
