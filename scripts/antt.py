@@ -38,7 +38,9 @@ class Definition:
         return "\n".join(self.lines)
 
     def is_worked(self):
-        """Whether it states something without variables: what it says of written values is computed."""
+        """Whether it states something without variables, a module's among them: it is computed of written values."""
+        if self.lines[0].startswith(" "):
+            return False
         own = re.compile(rf"\s*(unfolding\b|{re.escape(self.key.name)}\b[^:]*=)")
         stated = list(itertools.takewhile(lambda line: not own.match(line), self.lines))
         text = "\n".join(stated).partition(":")[2]
