@@ -2,51 +2,62 @@
 
 import re
 from functools import cache, lru_cache
-from typing import Any, Callable, Iterable, NamedTuple
+from typing import Any, Callable, Iterable, NamedTuple, Optional
+
+import cairo
+import gi
 
 from label_command import ToolError
 from label_file import Label, bytes_a_row
 from label_layout import DIGITS_SIZE, DIGITS_TOP, GUARD, LINE, PRICE_SIZES, SYMBOLOGIES, TEXT, TITLE
-from label_layout import Box, Digits, Group, Need, Planner, Symbology
+from label_layout import Box, Group, Need, Planner
 
-try:
-    import cairo
-    import gi
+gi.require_versions({"Pango": "1.0", "PangoCairo": "1.0"})
+from gi.repository import Pango, PangoCairo  # noqa: E402
 
-    gi.require_version("Pango", "1.0")
-    gi.require_version("PangoCairo", "1.0")
-    from gi.repository import Pango, PangoCairo
-except (ImportError, ValueError) as error:
-    raise ToolError(f"{error}: apt-get install python3-gi-cairo gir1.2-pango-1.0") from error
-
-show_layout, layout_path = PangoCairo.show_layout, PangoCairo.layout_path
 DARK, INSET = re.compile("1+"), 0.01
 # the first letter that may leave its line; the room at the sides of lines as a part of the size of letters
 LATIN, SIDE = "\u0250", 16
 # what shows a control character of Code 128
 SHOWN = {code: 0x2400 + code for code in range(32)} | {127: 0x2421}
 REVERSED = bytes(int(f"{byte:08b}"[::-1], 2) for byte in range(256))
+# what zxing-cpp calls the symbologies, and a light and a dark dot as a pixel
+READ_AS = {"ean13": "EAN13", "ean8": "EAN8", "upca": "UPCA", "code128": "Code128", "qr": "QRCode"}
+PIXELS = bytes.maketrans(b"01", b"\xff\0")
 # a picture in dots: width, height, and rows of whole bytes, in which 1 is dark
 Dots = NamedTuple("Dots", [("width", int), ("height", int), ("rows", list[bytes])])
-# letters of a size in points; in how many lines as wide as the box before an ellipsis, or 0 for one of any width;
-# whether lines are to the left or in the middle; where they are from the top (0) to the bottom (1) of the box
-Style = tuple[str, bool, float, int, bool, float]
+
+
+class Style(NamedTuple):
+    """How a text is drawn: its letters, where it is from the top (0) to the bottom (1) of its box, and its lines.
+
+    Each line end begins so many `lines`, the last of which may end in an ellipsis. Where they are 0 none is cut.
+    """
+
+    family: str
+    is_bold: bool
+    points: float
+    down: float = 0.0
+    lines: int = 0
+    is_left: bool = False
 
 
 class Pen:
     """Measures and draws texts and bars, for dots of a printer or for a drawing.
 
-    The letters of the families in `outlines` are drawn as shapes, bars with `has_rectangles` as rectangles.
+    The letters of the families in `outlines` are drawn as shapes.
     """
 
     def __init__(self, dpi: int, is_dots: bool, font: str, digits: str) -> None:
-        self.dpi, self.font, self.digits_font = dpi, font, digits
-        self.outlines, self.has_rectangles, self.known = set[str](), False, set[str]()
+        self.dpi, self.font, self.digits_font, self.outlines = dpi, font, digits, set[str]()
         self.options = cairo.FontOptions()
         self.options.set_hint_metrics(cairo.HintMetrics.ON if is_dots else cairo.HintMetrics.OFF)
         self.options.set_hint_style(cairo.HintStyle.FULL if is_dots else cairo.HintStyle.NONE)
         self.options.set_antialias(cairo.Antialias.NONE if is_dots else cairo.Antialias.GRAY)
         self.digits_face, fonts = cairo.ToyFontFace(digits), PangoCairo.FontMap.get_default()
+        large = cairo.ScaledFont(self.digits_face, cairo.Matrix(1000, 0, 0, 1000), cairo.Matrix(), self.options)
+        _, bearing, _, _, width, _ = large.text_extents("0")
+        self.digit_width, self.digit_height = width / 1000, -bearing / 1000
         self.context = fonts.create_context()
         self.context.set_round_glyph_positions(is_dots)
         PangoCairo.context_set_font_options(self.context, self.options)
@@ -57,19 +68,19 @@ class Pen:
                 raise ToolError(f"there is no font {family}: {hint}")
 
     @cache
-    def blank(self, family: str, is_bold: bool, size: int, width: int, lines: int, is_left: bool) -> Any:
+    def blank(self, style: Style, width: int, size: int) -> Any:
         """A layout of Pango without a text, its letters of a size in dots."""
-        layout, font = Pango.Layout.new(self.context), Pango.FontDescription()
-        font.set_family(family)
-        font.set_weight(Pango.Weight.BOLD if is_bold else Pango.Weight.NORMAL)
+        layout, font = Pango.Layout.new(self.context), Pango.FontDescription(
+            f"{style.family}, {'Bold' * style.is_bold}"
+        )
         font.set_absolute_size(size * Pango.SCALE)
         layout.set_font_description(font)
-        if lines:
+        if style.lines:
             layout.set_width((width - size // SIDE * 2) * Pango.SCALE)
             layout.set_wrap(Pango.WrapMode.WORD_CHAR)
             layout.set_ellipsize(Pango.EllipsizeMode.END)
-            layout.set_height(-lines)  # of each paragraph
-            layout.set_alignment(Pango.Alignment.LEFT if is_left else Pango.Alignment.CENTER)
+            layout.set_height(-style.lines)  # of each paragraph
+            layout.set_alignment(Pango.Alignment.LEFT if style.is_left else Pango.Alignment.CENTER)
             attributes = Pango.AttrList()
             # lines are equally high, whatever fonts their letters are of
             attributes.insert(Pango.attr_line_height_new_absolute(round(LINE * size * Pango.SCALE)))
@@ -77,105 +88,90 @@ class Pen:
             layout.set_attributes(attributes)
         return layout
 
-    def laid_out(self, text: str, points: float, width: int = 0, lines: int = 0) -> Any:
-        """A bold text of the main font, until another one is laid out so."""
-        layout = self.blank(self.font, True, round(points * self.dpi / 72), width, lines, False)
+    def laid_out(self, text: str, style: Style, width: int = 0, size: int = 0) -> Any:
+        """A text in a style, or in a size in dots, until another one is laid out so."""
+        layout = self.blank(style, width * bool(style.lines), size or round(style.points * self.dpi / 72))
         layout.set_text(text, -1)
         return layout
 
+    @lru_cache(maxsize=1024)
     def fitted(self, text: str, style: Style, width: int, height: int) -> tuple[Any, int, int]:
         """A text as it fits a box, smaller where its ink would leave it, and where it is in the box."""
-        family, is_bold, points, lines, is_left, down = style
-        size = round(points * self.dpi / 72)
+        size = round(style.points * self.dpi / 72)
         while True:
-            layout = self.blank(family, is_bold, size, width * bool(lines), lines, is_left)
-            layout.set_text(text, -1)
+            layout = self.laid_out(text, style, width, size)
             across, high = layout.get_pixel_size()
             # Latin letters keep to their lines, and the room at the sides takes what sticks out of them
-            ink = Box(0, 0, across, high) if lines and max(text) < LATIN else ink_of(layout)
+            ink = Box(0, 0, across, high) if style.lines and max(text) < LATIN else ink_of(layout)
             if (ink.width <= width and ink.height <= height) or size <= 1:
                 break
             size -= max(1, size // 20)
-        x, y = size // SIDE if lines else (width - across) // 2, int((height - high) * down)
+        x, y = size // SIDE if style.lines else (width - across) // 2, int((height - high) * style.down)
         x = max(-ink.left, min(x, width - ink.width - ink.left))
-        return layout, x, max(-ink.top, min(y, height - ink.height - ink.top))
+        return layout.copy(), x, max(-ink.top, min(y, height - ink.height - ink.top))
 
-    @lru_cache(maxsize=1024)
-    def kept(self, text: str, style: Style, width: int, height: int) -> tuple[Any, int, int]:
-        """As fitted(), for a text that many labels have."""
-        layout, x, y = self.fitted(text, style, width, height)
-        return layout.copy(), x, y
+    @cache
+    def has(self, letter: str) -> bool:
+        """Whether a font has a letter."""
+        return not self.laid_out(letter, Style(self.font, True, TITLE)).get_unknown_glyphs_count()
 
-    def missing(self, text: str) -> str:
-        """The letters of a text that no font has."""
-        new = set(text) - self.known
-        if new and self.laid_out(text, TITLE).get_unknown_glyphs_count():
-            return "".join(letter for letter in sorted(new) if self.laid_out(letter, TITLE).get_unknown_glyphs_count())
-        self.known |= new
-        return ""
-
-    def groups(self, labels: list[Label], planner: Planner) -> Iterable[Group]:
-        """The labels of each symbology, with what they need."""
-        groups, prices = dict[str, Group](), {"": Box(0, 0, 0, 0)}
+    def lay_out(self, labels: list[Label], planner: Planner) -> dict[int, str]:
+        """Gives labels their layouts; returns why some have none."""
+        groups = {name: Group(symbology, planner) for name, symbology in SYMBOLOGIES.items()}
+        price_style, title_style = Style(self.font, True, PRICE_SIZES[0]), Style(self.font, True, TITLE, lines=2)
+        prices = {price: ink_of(self.laid_out(price, price_style)) for price in {label.price for label in labels}}
         for label in labels:
-            group = groups.setdefault(label.symbology, Group(SYMBOLOGIES[label.symbology], planner))
+            group, price = groups[label.symbology], prices[label.price]
             if label.title and group.title_lines < 2:
-                count = self.laid_out(label.title, TITLE, planner.width, 2).get_line_count()
-                group.title_lines = 2 if "\n" in label.title else max(group.title_lines, count)
-            if label.price not in prices:
-                prices[label.price] = ink_of(self.laid_out(label.price, PRICE_SIZES[0]))
-            price, lines = prices[label.price], label.text.count("\n") + bool(label.text)
+                count = self.laid_out(label.title, title_style, planner.width).get_line_count()
+                group.title_lines = max(group.title_lines, count)
             group.price_height = max(group.price_height, price.height)
-            need = Need(label.width, label.height, bool(label.title), lines, price.width)
-            group.needs.setdefault(need, []).append(label)
-        return groups.values()
+            lines = label.text.count("\n") + bool(label.text)
+            group.needs[Need(label.width, label.height, bool(label.title), lines, price.width)].append(label)
+        return {number: reason for group in groups.values() for number, reason in group.choose().items()}
 
     def draw(self, canvas: Any, label: Label, left: int, top: int) -> bool:
         """Draws a label in the area that begins there; returns whether a text of it had to be shortened."""
-        way, is_short = label.layout.way, False
+        way, symbology, boxes = label.layout
+        title, lines = label.title, way.title_lines - label.title.count("\n")
+        if lines < 1:
+            title, lines = title.replace("\n", " "), way.title_lines
+        data = "" if symbology.digits else label.data.decode("ascii", "replace").translate(SHOWN)
+        texts = {
+            "title": (title, Style(self.font, True, TITLE, 1, lines, way.is_beside)),
+            "digits": (data, Style(self.digits_font, False, TEXT, 1)),
+            "text": (label.text, Style(self.font, False, TEXT, 0, 1, way.is_beside)),
+            "price": (label.price, Style(self.font, True, way.price_size, 0.5)),
+        }
         canvas.translate(left, top)
-        for kind, box in label.layout.boxes.items():
-            if kind == "bars":
-                self.draw_modules(canvas, label, box)
-            elif kind == "price":
-                self.draw_text(canvas, label.price, (self.font, True, way.price_size, 0, False, 0.5), box)
-            elif kind == "text":
-                is_short |= self.draw_text(canvas, label.text, (self.font, False, TEXT, 1, way.is_beside, 0), box)
-            elif kind == "title":
-                parts = label.title.split("\n", way.title_lines - 1)
-                title = "\n".join(part.replace("\n", " ") for part in parts if part)
-                lines = 1 if "\n" in title else way.title_lines
-                is_short |= self.draw_text(canvas, title, (self.font, True, TITLE, lines, way.is_beside, 1), box)
-            elif label.layout.symbology.digits:
-                self.draw_digits(canvas, label, box)
-            else:
-                data = label.data.decode("ascii", "replace").translate(SHOWN)
-                self.draw_text(canvas, data, (self.digits_font, False, TEXT, 0, False, 1), box)
+        self.draw_modules(canvas, label, boxes["bars"])
+        if symbology.digits:
+            self.draw_digits(canvas, label, boxes["digits"])
+        there = [(*text, boxes[kind]) for kind, text in texts.items() if text[0] and kind in boxes]
+        shortened = [self.draw_text(canvas, *one) for one in there]
         canvas.translate(-left, -top)
-        return is_short
+        return any(shortened)
 
     def draw_text(self, canvas: Any, text: str, style: Style, box: Box) -> bool:
         """Draws a text in a box; returns whether it ends in an ellipsis."""
-        asked = (text, style, box.width, box.height)
-        layout, x, y = self.fitted(*asked) if style[3] else self.kept(*asked)
+        layout, x, y = self.fitted(text, style, box.width, box.height)
         canvas.move_to(box.left + x, box.top + y)
-        if style[0] in self.outlines:
-            layout_path(canvas, layout)
+        if style.family in self.outlines:
+            PangoCairo.layout_path(canvas, layout)
             canvas.fill()
         else:
-            show_layout(canvas, layout)
+            PangoCairo.show_layout(canvas, layout)
         return bool(layout.is_ellipsized())
 
     def draw_modules(self, canvas: Any, label: Label, box: Box) -> None:
         """Draws the modules of a label, stretched to a box that has a whole number of dots for each."""
-        size, module = bytes_a_row(label.width), box.width // label.width
-        rows = [label.modules[start : start + size] for start in range(0, len(label.modules), size)]
+        rows, module = rows_of(label.modules, label.width), box.width // label.width
         down = box.height // len(rows)
-        if self.has_rectangles:
+        if isinstance(canvas.get_target(), cairo.SVGSurface):  # browsers smooth a stretched picture
             for number, row in enumerate(rows):
                 fill(canvas, row, [(0, label.width)], module, box.left, box.top + number * down, down)
             return
-        stride = size + -size % 4
+        stride = len(rows[0]) + -len(rows[0]) % 4
         data = memoryview(bytearray(b"".join(row.translate(REVERSED).ljust(stride, b"\0") for row in rows)))
         mask = cairo.ImageSurface.create_for_data(data, cairo.FORMAT_A1, label.width, len(rows), stride)
         pattern = cairo.SurfacePattern(mask)
@@ -189,31 +185,18 @@ class Pen:
         fill(canvas, label.modules, symbology.guards, module, box.left, box.top, GUARD * module)
         canvas.set_font_face(self.digits_face)
         canvas.set_font_options(self.options)
-        for digits, size, left, base in self.digits_places(symbology, module):
-            text = label.data[digits.first : digits.last].decode("ascii")
+        base = box.top + round((DIGITS_TOP + DIGITS_SIZE * self.digit_height) * module)
+        for first, last, left, right in symbology.digits:
+            width = (last - first) * self.digit_width
+            size = round(min(DIGITS_SIZE, (right - left - 0.5) / width) * module)
+            text = label.data[first:last].decode("ascii")
             canvas.set_font_size(size)
-            canvas.move_to(box.left + left, box.top + base)
+            canvas.move_to(box.left + round((left + right) * module - width * size) // 2, base)
             if self.digits_font in self.outlines:
                 canvas.text_path(text)
                 canvas.fill()
             else:
                 canvas.show_text(text)
-
-    @cache
-    def digits_places(self, symbology: Symbology, module: int) -> list[tuple[Digits, int, int, int]]:
-        """Digits below bars, the size of their letters, which is less for a wide font, and where they are."""
-        found = []
-        for digits in symbology.digits:
-            size, room = round(DIGITS_SIZE * digits.scale * module) + 1, (digits.right - digits.left) * module
-            width = float(room)
-            while width > room - module / 2:
-                size -= 1
-                font = cairo.ScaledFont(self.digits_face, cairo.Matrix(size, 0, 0, size), cairo.Matrix(), self.options)
-                _, bearing, _, _, width, _ = font.text_extents("0" * (digits.last - digits.first))
-            left = digits.left * module + int(int(room - width) * digits.free_part)
-            found.append((digits, size, left, DIGITS_TOP * module - round(bearing)))
-        base = max(base for *_, base in found)
-        return [(digits, size, left, base) for digits, size, left, _ in found]
 
 
 def ink_of(layout: Any) -> Box:
@@ -222,11 +205,22 @@ def ink_of(layout: Any) -> Box:
     return Box(ink.x, ink.y, ink.width, ink.height)
 
 
+def rows_of(modules: bytes, width: int) -> list[bytes]:
+    """The rows of modules."""
+    size = bytes_a_row(width)
+    return [modules[start : start + size] for start in range(0, len(modules), size)]
+
+
+def bits_of(row: bytes) -> str:
+    """A row of dots or modules as digits."""
+    return f"{int.from_bytes(row, 'big'):0{8 * len(row)}b}"
+
+
 def fill(
     canvas: Any, row: bytes, spans: Iterable[tuple[int, int]], module: int, left: int, top: int, height: int
 ) -> None:
     """Draws dark modules in spans of a row as rectangles, a bit less than their dots: what touches a dot paints it."""
-    modules = f"{int.from_bytes(row, 'big'):0{8 * len(row)}b}"
+    modules = bits_of(row)
     for bar in (bar for span in spans for bar in DARK.finditer(modules, *span)):
         width = (bar.end() - bar.start()) * module
         canvas.rectangle(left + bar.start() * module + INSET, top, width - 2 * INSET, height - INSET)
@@ -245,3 +239,34 @@ def dots_of(width: int, height: int, draw: Callable[[Any], object]) -> Dots:
     surface.flush()
     data, stride, size = bytes(surface.get_data()).translate(REVERSED), surface.get_stride(), bytes_a_row(width)
     return Dots(width, height, [data[start : start + size] for start in range(0, stride * height, stride)])
+
+
+def faults_of(labels: list[Label], pen: Pen, planner: Planner) -> dict[int, str]:
+    """What is wrong with labels as they are drawn in their cells, if anything."""
+    found = dict[int, str]()
+    for label in labels:
+        dots = dots_of(planner.width, planner.height, lambda canvas: pen.draw(canvas, label, 0, 0))
+        if fault := fault_in(dots, label):
+            found[label.number] = fault
+    return found
+
+
+def fault_in(dots: Dots, label: Label) -> Optional[str]:
+    """What is wrong with dots of a label: its data is read by zxing-cpp, and each row of its bars is compared."""
+    try:
+        import zxingcpp
+    except ImportError as error:
+        raise ToolError(f"{error}: --read-back needs apt-get install python3-zxing-cpp") from error
+    bits, bars, wanted = bits_of(b"".join(dots.rows)), label.layout.boxes["bars"], list[str]()
+    size, rows = len(bits) // dots.height, rows_of(label.modules, label.width)
+    picture = memoryview(bits.encode().translate(PIXELS)).cast("B", [dots.height, size])
+    form, binarizer = getattr(zxingcpp, READ_AS[label.symbology]), zxingcpp.Binarizer.BoolCast
+    found = zxingcpp.read_barcode(picture, formats=form, binarizer=binarizer)
+    if found is None or found.bytes != label.data:
+        return f"as drawn it is read as {found.bytes!r}" if found else "as drawn it is not read"
+    for row in rows:
+        line = "".join(bars.width // label.width * module for module in bits_of(row)[: label.width])
+        wanted += bars.height // len(rows) * [line]
+    starts = range(bars.top * size + bars.left, (bars.top + bars.height) * size, size)
+    drawn = [bits[start : start + bars.width] for start in starts]
+    return None if drawn == wanted else "its bars as drawn are not those of labels"

@@ -9,25 +9,22 @@ import tempfile
 import time
 import zlib
 from io import BytesIO
+from itertools import groupby
 from pathlib import Path
-from typing import IO, Any, BinaryIO, Callable, Iterable, Iterator, cast
+from typing import IO, Any, Callable, Iterable, Iterator, Optional
 
 import cairo
 
-from label_command import Signals, standard_output
+from label_command import hold_signals, standard_output
 from label_draw import Dots, Pen, dots_of
 from label_file import Label, bytes_a_row
 from label_layout import Planner
 
-# all forms, those of a drawing (the others are of dots), of which a file has one page, and in which a label is a page
-FORMS = ("pdf", "svg", "png", "pbm", "zpl", "escpos")
-DRAWN, SINGLE, ROLLS = FORMS[:2], FORMS[1:3], FORMS[4:]
-# what begins a job
-START = {"escpos": b"\x1b@"}
-ESCPOS_CUT, MOST_ESCPOS_ROWS = b"\x1bd\x03\x1dV\x42\x00", 255
-# the most that a graphic field of ZPL takes
-MOST_ZPL_BYTES = 99_999
-RUN, OBJECT = re.compile(rb"(.)\1+"), re.compile(rb"([0-9]{10}) [0-9]{5} n")
+# what begins a job of ESC/POS, what ends each label of it, and the most rows of an image
+ESCPOS_START, ESCPOS_CUT, MOST_ESCPOS_ROWS = b"\x1b@", b"\x1bd\x03\x1dV\x42\x00", 255
+# the most bytes that a graphic field of ZPL takes; what it packs: zeros at the end of a row, and up to 19 equal digits
+MOST_ZPL_BYTES, RUN = 99_999, re.compile(rb"0+$|(.)\1{1,18}")
+OBJECT = re.compile(rb"([0-9]{10}) [0-9]{5} n")
 LIGHT = bytes(range(255, -1, -1))
 # seconds after which progress is shown, and between two times that it is
 QUIET, BETWEEN = 2.0, 0.2
@@ -40,59 +37,58 @@ class Progress:
     """Shows on a terminal how many labels are done, where that takes long."""
 
     def __init__(self, tool: str, total: int) -> None:
-        self.tool, self.total, self.done, self.is_shown = tool, total, 0, False
+        self.tool, self.total, self.is_shown = tool, total, False
         self.next = time.monotonic() + QUIET if sys.stderr.isatty() else float("inf")
 
-    def add(self, count: int) -> None:
-        """Counts labels; ends the line on the terminal after the last one."""
-        self.done += count
-        if time.monotonic() >= self.next or (self.is_shown and self.done == self.total):
-            self.next, self.is_shown, end = time.monotonic() + BETWEEN, True, "\n" * (self.done == self.total)
-            print(f"\r{self.tool}: {self.done} of {self.total} labels", end=end, file=sys.stderr, flush=True)
+    def show(self, done: int) -> None:
+        """Shows how many are done; ends the line on the terminal after the last one."""
+        if time.monotonic() >= self.next or (self.is_shown and done == self.total):
+            self.next, self.is_shown = time.monotonic() + BETWEEN, True
+            end = "\n" * (done == self.total)
+            print(f"\r{self.tool}: {done} of {self.total} labels", end=end, file=sys.stderr, flush=True)
 
 
 class Press:
     """Draws pages of labels and writes them in one of the forms, from a cell of the first page on."""
 
-    def __init__(self, planner: Planner, pen: Pen, form: str, first: int, end: bytes, progress: Progress) -> None:
-        self.planner, self.pen, self.form, self.first, self.end = planner, pen, form, first, end
-        self.progress, self.shortened = progress, set[int]()
-        pen.has_rectangles = form == "svg"
+    def __init__(self, planner: Planner, pen: Pen, form: str, first: int, is_cut: bool, progress: Progress) -> None:
+        self.planner, self.pen, self.form, self.first, self.progress = planner, pen, form, first, progress
+        self.start, self.end = (ESCPOS_START, ESCPOS_CUT * is_cut) if form == "escpos" else (b"", b"")
+        self.shortened = set[int]()
 
     def pages(self, labels: list[Label]) -> Iterator[Page]:
         """The labels, each as often as it has copies, in the cells of one page after another."""
-        places, copies = self.planner.places[self.first - 1 :], (one for one in labels for _ in range(one.copies))
+        places, done = self.planner.places[self.first - 1 :], 0
+        copies = (label for label in labels for _ in range(label.copies))
         while page := [(label, place) for place, label in zip(places, copies)]:
             yield page
-            places = self.planner.places
+            places, done = self.planner.places, done + len(page)
+            self.progress.show(done)
 
     def draw(self, canvas: Any, page: Page) -> None:
         """Draws a page; a label with a shortened text is noted."""
         self.shortened.update(label.number for label, place in page if self.pen.draw(canvas, label, *place))
-        self.progress.add(len(page))
 
     def drawing(self, pages: Callable[[], Iterable[Page]]) -> IO[bytes]:
         """A file of pages of the size of the paper, in which letters of a font that Cairo cannot embed are shapes."""
         width, height = (side * 72 / 25.4 for side in self.planner.sheet.page)
-        outlines, done = self.pen.outlines, self.progress.done
-        while True:
-            file = cast(BinaryIO, tempfile.TemporaryFile())  # Cairo takes no notice of a short write elsewhere
-            surface: Any = (cairo.SVGSurface if self.form == "svg" else cairo.PDFSurface)(file, width, height)
-            if self.form == "pdf":  # without the time of the run the same labels give the same bytes
-                surface.set_metadata(cairo.PDF_METADATA_CREATE_DATE, "")
-            for page in pages():
-                canvas = cairo.Context(surface)
-                canvas.scale(72 / self.pen.dpi, 72 / self.pen.dpi)
-                self.draw(canvas, page)
-                canvas.show_page()
-            surface.finish()
-            file.flush()
-            if self.form == "svg" or is_whole(file) or self.pen.font in outlines:
-                file.seek(0)
-                return file
-            file.close()
-            outlines.add(self.pen.font if self.pen.digits_font in outlines else self.pen.digits_font)
-            self.progress.done = done
+        file: Any = tempfile.TemporaryFile()  # Cairo takes no notice of a short write elsewhere
+        surface: Any = (cairo.SVGSurface if self.form == "svg" else cairo.PDFSurface)(file, width, height)
+        if self.form == "pdf":  # without the time of the run the same labels give the same bytes
+            surface.set_metadata(cairo.PDF_METADATA_CREATE_DATE, "")
+        for page in pages():
+            canvas = cairo.Context(surface)
+            canvas.scale(72 / self.pen.dpi, 72 / self.pen.dpi)
+            self.draw(canvas, page)
+            canvas.show_page()
+        surface.finish()
+        file.flush()
+        letters = [font for font in (self.pen.digits_font, self.pen.font) if font not in self.pen.outlines]
+        if letters and self.form == "pdf" and not is_whole(file):
+            self.pen.outlines.add(letters[0])
+            return self.drawing(pages)
+        file.seek(0)
+        return file
 
     def document(self, page: Page) -> IO[bytes]:
         """A file of one page in a form."""
@@ -100,34 +96,36 @@ class Press:
             return self.drawing(lambda: [page])
         width, height = (round(side / self.planner.dot) for side in self.planner.sheet.page)
         dots = dots_of(width, height, lambda canvas: self.draw(canvas, page))
-        form = {"png": png, "pbm": pbm, "zpl": zpl, "escpos": escpos}[self.form]
-        return BytesIO(form(dots, page, self.planner.dot) + self.end)
+        return BytesIO(self.start + OF_DOTS[self.form](dots, page, self.planner.dot) + self.end)
 
-    def write(self, labels: list[Label], signals: Signals) -> None:
-        """Writes all labels to standard output: a PDF at the end, in each other form a page as soon as it is drawn."""
-        output = standard_output().fileno()
+    def write(self, labels: list[Label], paths: Optional[list[Path]]) -> None:
+        """Writes each label into its file, or all to standard output: a PDF at its end, else a page once it is drawn."""
+        output = standard_output().fileno() if paths is None else -1
         documents: Iterator[IO[bytes]] = map(self.document, self.pages(labels))
-        if self.form == "pdf":
+        if self.form == "pdf" and paths is None:
             documents = iter([self.drawing(lambda: self.pages(labels))])
         for number, document in enumerate(documents):
-            with document as file, signals.hold():
-                send(file, output, START.get(self.form, b"") * (number == 0))
-
-    def write_each(self, labels: list[Label], paths: list[Path], signals: Signals) -> None:
-        """Writes each label into its file, which has its name once it is whole."""
-        for label, path in zip(labels, paths):
-            part = path.with_name(path.name + ".part")
-            with self.document([(label, self.planner.places[0])]) as file, signals.hold():
-                try:
-                    part.write_bytes(START.get(self.form, b"") + file.read())
-                    part.rename(path)
-                finally:
-                    part.unlink(missing_ok=True)
+            with document as file, hold_signals():
+                if paths is not None:
+                    save(file.read(), paths[number])
+                else:
+                    send(file, output)
+                    self.start = b""
 
 
-def send(file: IO[bytes], output: int, data: bytes) -> None:
-    """Writes some bytes and a whole file to another one, which gets nothing where it does not take all."""
-    state = os.fstat(output)
+def save(data: bytes, path: Path) -> None:
+    """Writes a file, which has its name once it is whole."""
+    part = path.with_name(path.name + ".part")
+    try:
+        part.write_bytes(data)
+        part.rename(path)
+    finally:
+        part.unlink(missing_ok=True)
+
+
+def send(file: IO[bytes], output: int) -> None:
+    """Writes a whole file to another one, which gets nothing where it does not take all."""
+    state, data = os.fstat(output), b""
     try:
         while data := data or file.read(1 << 20):
             data = data[os.write(output, data) :]
@@ -173,30 +171,28 @@ def escpos(dots: Dots, _: Page, __: float) -> bytes:
 
 def zpl(dots: Dots, page: Page, _: float) -> bytes:
     """A label of ZPL: each part of it is a graphic field, so that no white is sent between them."""
-    fields = b""
-    for box, (left, top) in ((box, place) for label, place in page for box in label.layout.boxes.values()):
+    fields, [(label, (left, top))] = b"", page
+    for box in label.layout.boxes.values():
         first, last, end = (left + box.left) // 8, bytes_a_row(left + box.left + box.width), top + box.top + box.height
-        size = last - first
-        most = MOST_ZPL_BYTES // size
+        most = MOST_ZPL_BYTES // (last - first)
         for start in range(top + box.top, end, most):
             rows = [row[first:last] for row in dots.rows[start : min(start + most, end)]]
-            head = (8 * first, start, size * len(rows), size * len(rows), size)
+            head = (8 * first, start, *2 * [len(rows) * (last - first)], last - first)
             fields += b"^FO%d,%d^GFA,%d,%d,%d,%b^FS\n" % (*head, zpl_rows(rows))
     return b"^XA^LH0,0^PW%d^LL%d\n%b^XZ\n" % (dots.width, dots.height, fields)
 
 
 def zpl_rows(rows: list[bytes]) -> bytes:
-    """Rows of dots as ZPL packs them: hexadecimal digits, before one that comes several times their number."""
-    packed, before = [], b""
-    for row in rows:
+    """Rows of dots as ZPL packs them: digits, before equal ones their number (H is 2), and `:` for the same row."""
+    packed = b""
+    for row, same in groupby(rows):
         digits = row.hex().upper().encode()
-        short = RUN.sub(lambda run: zpl_count(len(run[0])) + run[1], digits.rstrip(b"0"))
-        packed.append(b":" if row == before else short + b"," * digits.endswith(b"0"))
-        before = row
-    return b"".join(packed)
+        short = RUN.sub(lambda run: b"%c%b" % (70 + len(run[0]), run[1]) if run[1] else b",", digits)
+        packed += short + b":" * (len(list(same)) - 1)
+    return packed
 
 
-def zpl_count(count: int) -> bytes:
-    """A number of equal digits as ZPL writes it: z is 400, g to y are 20 to 380, G to Y are 1 to 19."""
-    twenties, ones = divmod(count % 400, 20)
-    return b"z" * (count // 400) + (b"%c" % (102 + twenties)) * (twenties > 0) + (b"%c" % (70 + ones)) * (ones > 0)
+# the forms of dots; all forms, those of a drawing, of which a file has one page, and in which a label is a page
+OF_DOTS = {"png": png, "pbm": pbm, "zpl": zpl, "escpos": escpos}
+FORMS = ("pdf", "svg", *OF_DOTS)
+DRAWN, SINGLE, ROLLS = FORMS[:2], FORMS[1:3], FORMS[4:]

@@ -1,6 +1,7 @@
 """Sheets of labels: where the cells of a page are, as given or as glabels knows them by their name."""
 
 import re
+from contextlib import suppress
 from functools import cache
 from pathlib import Path
 from typing import Iterator, NamedTuple, Optional
@@ -13,7 +14,7 @@ TEMPLATES = Path("/usr/share/libglabels-3.0/templates")
 # millimetres of each unit; a length without one is in points
 UNITS = {"mm": 1.0, "cm": 10.0, "in": 25.4, "pt": 25.4 / 72, "pc": 25.4 / 6, "": 25.4 / 72}
 LENGTH = re.compile(r"\s*(-?[0-9.]+(?:[eE][+-]?[0-9]+)?)\s*(mm|cm|in|pt|pc|)\s*")
-# a grid may leave its page by this length in millimetres: the sizes of makers are rounded
+# cells may leave their page by this length in millimetres: the sizes of makers are rounded
 MOST_BEYOND = 1.0
 
 
@@ -43,7 +44,7 @@ def grid_sheet(page: Size, cell: Size, columns: int, rows: int, margin: Optional
     across, down = cell[0] + gap[0], cell[1] + gap[1]
     left, top = margin or ((page[0] + gap[0] - columns * across) / 2, (page[1] + gap[1] - rows * down) / 2)
     sheet = Sheet(page, cell, [(left + x * across, top + y * down) for y in range(rows) for x in range(columns)])
-    if sheet.beyond() > 0.001:
+    if sheet.beyond() > MOST_BEYOND:
         raise ToolError(f"{sheet}: the cells leave the page by {sheet.beyond():.2f} mm", BAD_ARGUMENTS)
     return sheet
 
@@ -63,12 +64,10 @@ def stock_sheet(name: str) -> Sheet:
 def list_stock(words: str) -> Iterator[str]:
     """A line for each part of rectangles whose name or sheet has these words."""
     for key in parts():
-        try:
+        with suppress(ToolError):
             line = f"{' '.join(key)}: {sheet_of(key)}"
-        except ToolError:
-            continue
-        if all(word in line.lower() or plain(word) in plain("".join(key)) for word in words.lower().split()):
-            yield line
+            if all(word in line.lower() or plain(word) in plain("".join(key)) for word in words.lower().split()):
+                yield line
 
 
 def plain(name: str) -> str:
@@ -82,8 +81,9 @@ def parts() -> dict[tuple[str, str], Element]:
     found = [part for path in sorted(TEMPLATES.glob("*.xml")) for part in parse(path).iterfind("{*}Template")]
     if not found:
         raise ToolError("sheets by name need apt-get install glabels-data; else give --columns, --rows and --cell")
-    named = {(part.get("brand", ""), part.get("part", "")): part for part in found}
-    return dict(sorted(named.items(), key=lambda item: item[0]))
+    return dict(
+        sorted([((part.get("brand", ""), part.get("part", "")), part) for part in found], key=lambda item: item[0])
+    )
 
 
 @cache
@@ -101,12 +101,9 @@ def size_of(element: Element, first: str = "width", second: str = "height") -> S
 
 def sheet_of(key: tuple[str, str]) -> Sheet:
     """The sheet of a part; raises ToolError where no label can be laid out for it."""
-    head, part, followed, places = f"--stock {' '.join(key)}", parts()[key], {key}, list[Size]()
-    while same := part.get("equiv"):
-        part = parts().get((key[0], same), part)
-        if (key[0], same) in followed:
-            raise ToolError(f"{head}: glabels does not say its sizes", BAD_ARGUMENTS)
-        followed.add((key[0], same))
+    part, head, places = parts()[key], f"--stock {' '.join(key)}", list[Size]()
+    if same := part.get("equiv"):
+        return sheet_of((key[0], same))
     cell = next(child for child in part if "Label-" in child.tag)
     if not cell.tag.endswith("Label-rectangle"):
         kind = cell.tag.rpartition("Label-")[2]

@@ -98,6 +98,12 @@ def dots_of_escpos(job: bytes, cut: bytes = CUT) -> List[numpy.ndarray]:
     return labels
 
 
+def bits_of(rows: List[bytes], width: int) -> numpy.ndarray:
+    """Rows of whole bytes as dots."""
+    packed = numpy.frombuffer(b"".join(rows), dtype=numpy.uint8).reshape(len(rows), -1)
+    return numpy.unpackbits(packed, axis=1)[:, :width]
+
+
 def pictures_of_pbm(data: bytes) -> List[numpy.ndarray]:
     """The pictures of a stream of raw PBM."""
     pictures = []

@@ -185,10 +185,10 @@ class Running(unittest.TestCase):
         controller, terminal = pty.openpty()
         with open(terminal, "w") as stream, unittest.mock.patch("sys.stderr", stream):
             progress = Progress("label-print", 3)
-            progress.add(1)
+            progress.show(1)
             progress.next = 0.0
-            progress.add(1)
-            progress.add(1)
+            progress.show(2)
+            progress.show(3)
         shown = b""
         while not shown.endswith(b"\n"):
             shown += os.read(controller, 999)

@@ -16,10 +16,9 @@ import zxingcpp
 import jobs
 import support
 import label_stock
-from label_draw import Pen, dots_of, ink_of
-from label_file import Label, bytes_a_row, parse_file, run_labels
-from label_layout import SYMBOLOGIES, Planner
-from label_readback import bits_of, fault_in, fault_of
+from label_draw import Pen, Style, dots_of, fault_in, faults_of, ink_of
+from label_file import Label, parse_file, run_labels
+from label_layout import Planner
 
 SHELF = [
     (f"ean13 {support.ean13(400638000000 + number)}", {"title": f"Artikel {number}", "price": f"{number},80 €"})
@@ -46,11 +45,9 @@ def planned(data: bytes, cell: Tuple[float, float], dpi: int, *sizes: float) -> 
     assert not refused
     planner = Planner(label_stock.Sheet(cell, cell, [(0.0, 0.0)]), dpi, 0.0, *(sizes or (None, None)))
     pen = Pen(dpi, True, "DejaVu Sans", "DejaVu Sans Mono")
-    for label, (width, height, modules) in zip(labels, pictures):
-        label.width, label.height = width, height
-        label.modules = modules[: bytes_a_row(width)] if SYMBOLOGIES[label.symbology].nominal else modules
-    for group in pen.groups(labels, planner):
-        group.choose()
+    for label in labels:
+        label.width, label.height, label.modules = pictures[label.number]
+    pen.lay_out(labels, planner)
     return labels, pen, planner
 
 
@@ -200,7 +197,7 @@ class Sizes(unittest.TestCase):
         modules = [label.layout.way.module for label in labels]
         self.assertEqual((heights[0], heights[2]), (40 * modules[0], 60 * modules[2]))
         self.assertEqual(heights[1], planner.dots(15))
-        self.assertEqual([fault_of(label, pen, planner) for label in labels], [None] * 3)
+        self.assertEqual(faults_of(labels, pen, planner), {})
 
     def test_labels_that_do_not_fit_together(self) -> None:
         """Each has room by itself, and no one height of bars serves both."""
@@ -237,7 +234,7 @@ class Sizes(unittest.TestCase):
         """The ink of each part of a label is in its box; boxes do not overlap, and none leaves the area."""
         boxes, width, height = label.layout.boxes, planner.width, planner.height
         rows = dots_of(width + 80, height + 80, lambda canvas: pen.draw(canvas, label, 40, 40)).rows
-        dots = numpy.array(bits_of(b"".join(rows), width + 80))
+        dots = jobs.bits_of(rows, width + 80)
         inside = dots[40 : 40 + height, 40 : 40 + width]
         self.assertEqual(dots.sum(), inside.sum())
         for box in boxes.values():
@@ -264,7 +261,7 @@ class Sizes(unittest.TestCase):
         )
         for label in labels:
             box = label.layout.boxes["price"]
-            price = pen.laid_out(label.price, label.layout.way.price_size)
+            price = pen.laid_out(label.price, Style(pen.font, True, label.layout.way.price_size))
             self.assertLessEqual(ink_of(price).width, box.width)
 
     def test_digits_are_in_their_places(self) -> None:
@@ -272,7 +269,7 @@ class Sizes(unittest.TestCase):
         box = labels[0].layout.boxes["digits"]
         module = labels[0].layout.way.module
         rows = dots_of(planner.width, 1000, lambda canvas: pen.draw(canvas, labels[0], 0, 0)).rows
-        dots = bits_of(b"".join(rows), planner.width)[box.top + 6 * module : box.top + box.height]
+        dots = jobs.bits_of(rows, planner.width)[box.top + 6 * module : box.top + box.height]
         inked = dots.any(axis=0).nonzero()[0]
         places = sorted({(int(place) - box.left) // module for place in inked})
         self.assertTrue(all(0 <= place < 9 or 14 <= place < 56 or 61 <= place < 103 for place in places), places)
@@ -286,7 +283,7 @@ class Sizes(unittest.TestCase):
             module = labels[0].layout.way.module
             bars = labels[0].layout.boxes["bars"]
             rows = dots_of(planner.width, 1000, lambda canvas: pen.draw(canvas, labels[0], 0, 0)).rows
-            dots = bits_of(b"".join(rows), planner.width)
+            dots = jobs.bits_of(rows, planner.width)
             for place in guards:
                 column = dots[:, bars.left + place * module + module // 2]
                 self.assertEqual(int(column.nonzero()[0][-1]) + 1, bars.top + bars.height + 5 * module, (line, place))
@@ -429,18 +426,18 @@ class ReadBack(unittest.TestCase):
     def test_good_labels(self) -> None:
         for dpi in (203, 300, 600):
             labels, pen, planner = planned(EVERY.encode(), (90.0, 40.0), dpi)
-            self.assertEqual([fault_of(label, pen, planner) for label in labels], [None] * 5)
+            self.assertEqual(faults_of(labels, pen, planner), {})
 
     def test_bytes_of_all_values(self) -> None:
         parts = (bytes(value for value in range(start, start + 128) if value != 10) for start in (0, 128))
         data = b"".join(b"qr " + part + b"\n" for part in parts)
         labels, pen, planner = planned(data, (40.0, 40.0), 600)
-        self.assertEqual([fault_of(label, pen, planner) for label in labels], [None] * 2)
+        self.assertEqual(faults_of(labels, pen, planner), {})
 
     def test_a_wrong_label(self) -> None:
         labels, pen, planner = planned(b"ean13 400638133393\nean13 501234567890\n", (60.0, 40.0), 300)
         labels[0].modules, labels[1].modules = labels[1].modules, labels[0].modules
-        self.assertEqual(fault_of(labels[0], pen, planner), "as drawn it is read as b'5012345678900'")
+        self.assertEqual(faults_of(labels[:1], pen, planner), {1: "as drawn it is read as b'5012345678900'"})
 
     def test_bars_that_are_turned(self) -> None:
         """zxing-cpp reads a label with a third of its bars turned round; each row of dots is compared besides."""
@@ -516,7 +513,7 @@ class Stock(unittest.TestCase):
         self.assertAlmostEqual(label_stock.stock_sheet("Herma 4464").cell[0], 199 / 72 * 25.4)
         element = label_stock.parts()["Connect", "KF10647"]
         layout = next(element.iterfind(".//{*}Layout"))
-        self.assertLess(label_stock.size_of(layout, ("x0", "y0"))[0], 1e-9)
+        self.assertLess(label_stock.size_of(layout, "x0", "y0")[0], 1e-9)
         followed = [key for key, part in label_stock.parts().items() if part.get("equiv")]
         self.assertGreater(len(followed), 500)
         several = label_stock.sheet_of(("JAC", "F-3070"))
