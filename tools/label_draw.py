@@ -1,6 +1,8 @@
 """Draws labels by Cairo and Pango: texts are measured, and drawn in the boxes of a layout. Lengths are in dots."""
 
 import re
+import unicodedata
+from collections import defaultdict
 from functools import cache, lru_cache
 from typing import Any, Callable, Iterable, NamedTuple, Optional
 
@@ -18,20 +20,20 @@ from gi.repository import Pango, PangoCairo  # noqa: E402
 DARK, INSET = re.compile("1+"), 0.01
 # the first letter that may leave its line; the room at the sides of lines as a part of the size of letters
 LATIN, SIDE = "\u0250", 16
+CJK = ("Cjk", "Hiragana", "Katakana", "Hangul", "Bopomofo")
 # what shows a control character of Code 128
 SHOWN = {code: 0x2400 + code for code in range(32)} | {127: 0x2421}
 REVERSED = bytes(int(f"{byte:08b}"[::-1], 2) for byte in range(256))
-# what zxing-cpp calls the symbologies, and a light and a dark dot as a pixel
-READ_AS = {"ean13": "EAN13", "ean8": "EAN8", "upca": "UPCA", "code128": "Code128", "qr": "QRCode"}
+# a light and a dark dot as a pixel
 PIXELS = bytes.maketrans(b"01", b"\xff\0")
 # a picture in dots: width, height, and rows of whole bytes, in which 1 is dark
 Dots = NamedTuple("Dots", [("width", int), ("height", int), ("rows", list[bytes])])
 
 
 class Style(NamedTuple):
-    """How a text is drawn: its letters, where it is from the top (0) to the bottom (1) of its box, and its lines.
+    """Letters of a size in points, where a text is from the top (0) to the bottom (1) of a box, and its lines.
 
-    Each line end begins so many `lines`, the last of which may end in an ellipsis. Where they are 0 none is cut.
+    Each line of a text has so many `lines` before an ellipsis, as wide as the box; or one of any width where they are 0.
     """
 
     family: str
@@ -43,10 +45,7 @@ class Style(NamedTuple):
 
 
 class Pen:
-    """Measures and draws texts and bars, for dots of a printer or for a drawing.
-
-    The letters of the families in `outlines` are drawn as shapes.
-    """
+    """Measures and draws labels, for dots or for a drawing; letters of the families in `outlines` are shapes."""
 
     def __init__(self, dpi: int, is_dots: bool, font: str, digits: str) -> None:
         self.dpi, self.font, self.digits_font, self.outlines = dpi, font, digits, set[str]()
@@ -110,10 +109,20 @@ class Pen:
         x = max(-ink.left, min(x, width - ink.width - ink.left))
         return layout.copy(), x, max(-ink.top, min(y, height - ink.height - ink.top))
 
-    @cache
-    def has(self, letter: str) -> bool:
-        """Whether a font has a letter."""
-        return not self.laid_out(letter, Style(self.font, True, TITLE)).get_unknown_glyphs_count()
+    def missing_letters(self, labels: list[Label]) -> dict[int, str]:
+        """Why some labels cannot be drawn: letters of their texts that no font has, a reason for each script."""
+        texts = {label.number: label.title + label.text + label.price for label in labels}
+        style, missing, reasons = Style(self.font, True, TITLE), defaultdict[str, list[str]](list), dict[str, str]()
+        for letter in sorted(set("".join(texts.values()))):
+            if self.laid_out(letter, style).get_unknown_glyphs_count():
+                is_letter = unicodedata.category(letter)[0] in "LM"
+                script = unicodedata.name(letter, "Signs").split()[0].capitalize() if is_letter else "Signs"
+                missing[script].append(letter)
+        for script, letters in missing.items():
+            package = "fonts-noto-cjk" if script in CJK else "fonts-noto-core"
+            reason = f"no font has {''.join(letters[:9])} ({script}): apt-get install {package}"
+            reasons.update(dict.fromkeys(letters, reason))
+        return {number: reasons[letter] for number, text in texts.items() for letter in text if letter in reasons}
 
     def lay_out(self, labels: list[Label], planner: Planner) -> dict[int, str]:
         """Gives labels their layouts; returns why some have none."""
@@ -133,9 +142,9 @@ class Pen:
     def draw(self, canvas: Any, label: Label, left: int, top: int) -> bool:
         """Draws a label in the area that begins there; returns whether a text of it had to be shortened."""
         way, symbology, boxes = label.layout
-        title, lines = label.title, way.title_lines - label.title.count("\n")
+        title, lines = label.title, way.lines - label.title.count("\n")
         if lines < 1:
-            title, lines = title.replace("\n", " "), way.title_lines
+            title, lines = title.replace("\n", " "), way.lines
         data = "" if symbology.digits else label.data.decode("ascii", "replace").translate(SHOWN)
         texts = {
             "title": (title, Style(self.font, True, TITLE, 1, lines, way.is_beside)),
@@ -241,14 +250,9 @@ def dots_of(width: int, height: int, draw: Callable[[Any], object]) -> Dots:
     return Dots(width, height, [data[start : start + size] for start in range(0, stride * height, stride)])
 
 
-def faults_of(labels: list[Label], pen: Pen, planner: Planner) -> dict[int, str]:
-    """What is wrong with labels as they are drawn in their cells, if anything."""
-    found = dict[int, str]()
-    for label in labels:
-        dots = dots_of(planner.width, planner.height, lambda canvas: pen.draw(canvas, label, 0, 0))
-        if fault := fault_in(dots, label):
-            found[label.number] = fault
-    return found
+def fault_of(label: Label, pen: Pen, planner: Planner) -> Optional[str]:
+    """What is wrong with a label as it is drawn in its cell, if anything."""
+    return fault_in(dots_of(planner.width, planner.height, lambda canvas: pen.draw(canvas, label, 0, 0)), label)
 
 
 def fault_in(dots: Dots, label: Label) -> Optional[str]:
@@ -260,7 +264,7 @@ def fault_in(dots: Dots, label: Label) -> Optional[str]:
     bits, bars, wanted = bits_of(b"".join(dots.rows)), label.layout.boxes["bars"], list[str]()
     size, rows = len(bits) // dots.height, rows_of(label.modules, label.width)
     picture = memoryview(bits.encode().translate(PIXELS)).cast("B", [dots.height, size])
-    form, binarizer = getattr(zxingcpp, READ_AS[label.symbology]), zxingcpp.Binarizer.BoolCast
+    form, binarizer = getattr(zxingcpp, re.sub("[- ]", "", label.layout.symbology.title)), zxingcpp.Binarizer.BoolCast
     found = zxingcpp.read_barcode(picture, formats=form, binarizer=binarizer)
     if found is None or found.bytes != label.data:
         return f"as drawn it is read as {found.bytes!r}" if found else "as drawn it is not read"

@@ -18,16 +18,8 @@ from label_command import ToolError
 
 VERSION, MOST_COPIES, OBJECT, LABELS_FAILED = 1, 9999, b"#{", 3
 # the keys of objects: a number, a text, or a list of one of these
-KEYS: dict[str, Any] = {
-    "labels": int,
-    "table": str,
-    "row": int,
-    "title": str,
-    "text": [str],
-    "price": str,
-    "copies": int,
-}
-KEYS |= {"end": int, "lines": int, "left_out": [int], "left_out_count": int}
+FIELDS: dict[str, Any] = {"row": int, "title": str, "text": [str], "price": str, "copies": int}
+KEYS = FIELDS | {"labels": int, "table": str, "end": int, "lines": int, "left_out": [int], "left_out_count": int}
 # what Pango cuts a text at or takes for a line end: controls (but LF), line and paragraph separators; lone surrogates
 UNPRINTABLE = re.compile("[\x00-\x09\x0b-\x1f\x7f-\x9f\u2028\u2029\ud800-\udfff]")
 DIGITS_WITHOUT_CHECK = {"ean13": 12, "ean8": 7, "upca": 11}
@@ -62,12 +54,10 @@ class Label:
 
 def read_input(path: Optional[str]) -> tuple[str, bytes]:
     """The name and bytes of a file, or of standard input where it is None or `-`; raises ToolError if it is empty."""
-    if path not in (None, "-"):
-        name, data = str(path), Path(str(path)).read_bytes()
-    elif sys.stdin is None:
+    path = None if path == "-" else path
+    if path is None and sys.stdin is None:
         raise ToolError("standard input is closed")
-    else:
-        name, data = "standard input", sys.stdin.buffer.read()
+    name, data = path or "standard input", Path(path).read_bytes() if path else sys.stdin.buffer.read()
     if not data:
         raise ToolError(f"{name} is empty: nothing is printed")
     return name, data
@@ -78,44 +68,35 @@ def lines_of(data: bytes) -> Iterator[bytes]:
     return (line.removesuffix(b"\n") for line in BytesIO(data))
 
 
-def is_skipped(line: bytes) -> bool:
-    """Whether labels(1) draws nothing for a line."""
-    return not line or line.startswith(b"#")
-
-
 def parse_file(data: bytes, name: str, has_escapes: bool) -> tuple[list[Label], list[Place], int]:
     """The labels of a file, where the rows are from that label-table left out (the first ones), and their number.
 
     Raises ToolError where a part is not whole, or a remark is not understood.
     """
     labels, left_out, left_out_count = list[Label](), list[Place](), 0
-    waiting, table, first = dict[str, Any](), "", None
+    waiting, table, first, torn = dict[str, Any](), "", -1, ""
     for number, line in enumerate(lines_of(data), 1):
-        if not is_skipped(line):
-            labels.append(label_of(line, number, table, waiting, has_escapes))
-            waiting = {}
-        elif line.startswith(OBJECT):
-            found, count = parse_object(line, f"{name}: line {number}"), None if first is None else len(labels) - first
-            is_begun, is_ended = "labels" in found, "end" in found
-            if waiting or (is_begun and first is not None) or (is_ended and found.get("lines", -1) != count):
-                raise not_whole(name, f"before line {number}")
-            if is_begun:
-                table, first = found.get("table", ""), len(labels)
-            elif is_ended:
+        if line.startswith(OBJECT):
+            found, count = parse_object(line, f"{name}: line {number}"), len(labels) - first if first >= 0 else -1
+            if waiting or ("labels" in found and count >= 0) or ("end" in found and found.get("lines", -2) != count):
+                torn = torn or f"before line {number}"
+            if "labels" in found:
+                table, first, waiting = found.get("table", ""), len(labels), {}
+            elif "end" in found:
                 left_out += [(table, "row", row) for row in found.get("left_out", [])]
                 left_out_count += found.get("left_out_count", 0)
-                table, first = "", None
+                table, first, waiting = "", -1, {}
             else:
                 waiting = found
-    if waiting or first is not None or (data.startswith(OBJECT) and not data.endswith(b"\n")):
-        raise not_whole(name, "at its end")
+        elif line and not line.startswith(b"#"):
+            labels.append(label_of(line, number, table, waiting, has_escapes))
+            waiting = {}
+    if waiting or first >= 0 or (data.startswith(OBJECT) and not data.endswith(b"\n")):
+        torn = torn or "at its end"
+    if torn:
+        hint = 'to print it all the same, take out its lines that begin with #{"labels" and #{"end"'
+        raise ToolError(f"{name} is not whole: something is missing {torn}. Nothing is printed; {hint}")
     return labels, left_out, left_out_count
-
-
-def not_whole(name: str, where: str) -> ToolError:
-    """The error for a file of which a part is missing."""
-    hint = 'to print it all the same, take out its lines that begin with #{"labels" and #{"end"'
-    return ToolError(f"{name} is not whole: something is missing {where}. Nothing is printed; {hint}")
 
 
 def parse_object(line: bytes, where: str) -> dict[str, Any]:
@@ -176,8 +157,8 @@ def run_labels(data: bytes, words: list[str]) -> tuple[dict[int, Modules], dict[
         message = f"labels ended with status {done.returncode}: {'; '.join(said[-1:])}"
         raise ToolError(message, 2 if done.returncode == 2 else LABELS_FAILED)
     refused = {int(match[1]): match[2] for match in map(REFUSAL.fullmatch, said) if match}
-    lines = ((number, line) for number, line in enumerate(lines_of(data), 1) if number not in refused)
-    drawn = [number for number, line in lines if not is_skipped(line)]
+    lines = (number for number, line in enumerate(lines_of(data), 1) if line and not line.startswith(b"#"))
+    drawn = [number for number in lines if number not in refused]
     pictures = list(map(modules_of, PICTURE.finditer(done.stdout)))
     if len(drawn) != len(pictures):
         raise ToolError("labels did not draw or refuse each line: which is which is not known", LABELS_FAILED)

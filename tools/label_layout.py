@@ -45,26 +45,18 @@ SYMBOLOGIES = {
     "ean8": Symbology("EAN-8", 0.264, 18.23, 14.58, *EAN8),
     "upca": Symbology("UPC-A", 0.264, 22.85, 18.28, *UPCA),
     "code128": Symbology("Code 128", 0.25, 15.0, 6.0),
-    "qr": Symbology("QR", 0.25),
+    "qr": Symbology("QR Code", 0.25),
 }
 
 # a rectangle in which a part of a label may have ink
 Box = NamedTuple("Box", [("left", int), ("top", int), ("width", int), ("height", int)])
 
 
-class Way(NamedTuple):
-    """A way to lay out the labels of a symbology, with bars of at least a height in millimetres."""
-
-    module: int
-    is_beside: bool
-    lowest: float
-    title_lines: int
-    price_size: int
-
-
-# a way with the boxes of the parts of a label, from the left upper corner of the area in which its cell takes ink
+# a way to lay out labels: where the price is, bars from so many millimetres on, lines of the title
+Way = NamedTuple("Way", [("module", int), ("is_beside", bool), ("bars", float), ("lines", int), ("price_size", int)])
+# a way, and the boxes of the parts of a label from the left upper corner of the area in which its cell takes ink
 Layout = NamedTuple("Layout", [("way", Way), ("symbology", Symbology), ("boxes", dict[str, Box])])
-# what decides how a label is laid out: the modules of its picture, its lines of text, the width of its price at 17 points
+# what decides how a label is laid out: its modules, its lines of text, the width of its price at the largest size
 Need = NamedTuple("Need", [("width", int), ("height", int), ("has_title", bool), ("lines", int), ("price", int)])
 
 
@@ -117,7 +109,7 @@ class Group:
     def parts(self, way: Way, need: Need, bars: int) -> list[tuple[str, int]]:
         """The parts of a label from the top and their heights, with the white between them."""
         plan, symbology = self.planner, self.symbology
-        title, text = plan.title * min(way.title_lines, self.title_lines), plan.text * need.lines
+        title, text = plan.title * min(way.lines, self.title_lines), plan.text * need.lines
         data = plan.text + plan.gap // 2 if symbology.nominal else 0
         digits = DIGITS_ROOM * way.module if symbology.digits else data
         price = 0 if way.is_beside else scaled(self.price_height, way.price_size)
@@ -129,7 +121,7 @@ class Group:
         plan, bars = self.planner, need.height * way.module
         if self.symbology.nominal:
             part = 0 if self.symbology.digits or plan.bars else LOWEST_PART * need.width * way.module
-            bars = max(bars, math.ceil(part), plan.dots(plan.bars or way.lowest))
+            bars = max(bars, math.ceil(part), plan.dots(plan.bars or way.bars))
         return bars, sum(height for _, height in self.parts(way, need, 0))
 
     def first_way(self, need: Need) -> Optional[Way]:
@@ -189,7 +181,7 @@ class Group:
 
 def most(needs: Iterable[Need]) -> Need:
     """The most that is needed."""
-    return Need(*map(max, zip(*needs)))
+    return Need._make(map(max, zip(*needs)))
 
 
 def scaled(length: int, size: int) -> int:

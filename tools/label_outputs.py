@@ -69,7 +69,7 @@ class Press:
         """Draws a page; a label with a shortened text is noted."""
         self.shortened.update(label.number for label, place in page if self.pen.draw(canvas, label, *place))
 
-    def drawing(self, pages: Callable[[], Iterable[Page]]) -> IO[bytes]:
+    def drawing(self, pages: Callable[[], Iterable[Page]]) -> Any:
         """A file of pages of the size of the paper, in which letters of a font that Cairo cannot embed are shapes."""
         width, height = (side * 72 / 25.4 for side in self.planner.sheet.page)
         file: Any = tempfile.TemporaryFile()  # Cairo takes no notice of a short write elsewhere
@@ -106,21 +106,16 @@ class Press:
             documents = iter([self.drawing(lambda: self.pages(labels))])
         for number, document in enumerate(documents):
             with document as file, hold_signals():
-                if paths is not None:
-                    save(file.read(), paths[number])
-                else:
+                if paths is None:
                     send(file, output)
                     self.start = b""
-
-
-def save(data: bytes, path: Path) -> None:
-    """Writes a file, which has its name once it is whole."""
-    part = path.with_name(path.name + ".part")
-    try:
-        part.write_bytes(data)
-        part.rename(path)
-    finally:
-        part.unlink(missing_ok=True)
+                else:
+                    part = paths[number].with_name(paths[number].name + ".part")
+                    try:  # a file has its name once it is whole
+                        part.write_bytes(file.read())
+                        part.rename(paths[number])
+                    finally:
+                        part.unlink(missing_ok=True)
 
 
 def send(file: IO[bytes], output: int) -> None:

@@ -16,7 +16,7 @@ import zxingcpp
 import jobs
 import support
 import label_stock
-from label_draw import Pen, Style, dots_of, fault_in, faults_of, ink_of
+from label_draw import Pen, Style, dots_of, fault_in, fault_of, ink_of
 from label_file import Label, parse_file, run_labels
 from label_layout import Planner
 
@@ -180,7 +180,7 @@ class Sizes(unittest.TestCase):
             data = support.file_of([(f"ean13 {line}", {"title": title, "price": price})])
             layout = planned(data, cell, 600)[0][0].layout
             self.assertIsNotNone(layout, cell)
-            found = (layout.way.is_beside, layout.way.title_lines, layout.way.price_size)
+            found = (layout.way.is_beside, layout.way.lines, layout.way.price_size)
             self.assertEqual(found, (wanted[0], wanted[2], wanted[3]), cell)
             self.assertGreaterEqual(layout.boxes["bars"].height * 25.4 / 600, wanted[1] - 0.001, cell)
 
@@ -197,7 +197,7 @@ class Sizes(unittest.TestCase):
         modules = [label.layout.way.module for label in labels]
         self.assertEqual((heights[0], heights[2]), (40 * modules[0], 60 * modules[2]))
         self.assertEqual(heights[1], planner.dots(15))
-        self.assertEqual(faults_of(labels, pen, planner), {})
+        self.assertEqual({fault_of(label, pen, planner) for label in labels}, {None})
 
     def test_labels_that_do_not_fit_together(self) -> None:
         """Each has room by itself, and no one height of bars serves both."""
@@ -426,18 +426,18 @@ class ReadBack(unittest.TestCase):
     def test_good_labels(self) -> None:
         for dpi in (203, 300, 600):
             labels, pen, planner = planned(EVERY.encode(), (90.0, 40.0), dpi)
-            self.assertEqual(faults_of(labels, pen, planner), {})
+            self.assertEqual({fault_of(label, pen, planner) for label in labels}, {None})
 
     def test_bytes_of_all_values(self) -> None:
         parts = (bytes(value for value in range(start, start + 128) if value != 10) for start in (0, 128))
         data = b"".join(b"qr " + part + b"\n" for part in parts)
         labels, pen, planner = planned(data, (40.0, 40.0), 600)
-        self.assertEqual(faults_of(labels, pen, planner), {})
+        self.assertEqual({fault_of(label, pen, planner) for label in labels}, {None})
 
     def test_a_wrong_label(self) -> None:
         labels, pen, planner = planned(b"ean13 400638133393\nean13 501234567890\n", (60.0, 40.0), 300)
         labels[0].modules, labels[1].modules = labels[1].modules, labels[0].modules
-        self.assertEqual(faults_of(labels[:1], pen, planner), {1: "as drawn it is read as b'5012345678900'"})
+        self.assertEqual(fault_of(labels[0], pen, planner), "as drawn it is read as b'5012345678900'")
 
     def test_bars_that_are_turned(self) -> None:
         """zxing-cpp reads a label with a third of its bars turned round; each row of dots is compared besides."""
