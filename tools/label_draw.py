@@ -17,6 +17,7 @@ from label_layout import Box, Group, Need, Planner
 gi.require_versions({"Pango": "1.0", "PangoCairo": "1.0"})
 from gi.repository import Pango, PangoCairo  # noqa: E402
 
+show_layout, layout_path = PangoCairo.show_layout, PangoCairo.layout_path
 DARK, INSET = re.compile("1+"), 0.01
 # the first letter that may leave its line; the room at the sides of lines as a part of the size of letters
 LATIN, SIDE = "\u0250", 16
@@ -93,7 +94,6 @@ class Pen:
         layout.set_text(text, -1)
         return layout
 
-    @lru_cache(maxsize=1024)
     def fitted(self, text: str, style: Style, width: int, height: int) -> tuple[Any, int, int]:
         """A text as it fits a box, smaller where its ink would leave it, and where it is in the box."""
         size = round(style.points * self.dpi / 72)
@@ -107,7 +107,13 @@ class Pen:
             size -= max(1, size // 20)
         x, y = size // SIDE if style.lines else (width - across) // 2, int((height - high) * style.down)
         x = max(-ink.left, min(x, width - ink.width - ink.left))
-        return layout.copy(), x, max(-ink.top, min(y, height - ink.height - ink.top))
+        return layout, x, max(-ink.top, min(y, height - ink.height - ink.top))
+
+    @lru_cache(maxsize=1024)
+    def kept(self, *asked: Any) -> tuple[Any, int, int]:
+        """As fitted(), for a text that many labels have."""
+        layout, *place = self.fitted(*asked)
+        return layout.copy(), *place
 
     def missing_letters(self, labels: list[Label]) -> dict[int, str]:
         """Why some labels cannot be drawn: letters of their texts that no font has, a reason for each script."""
@@ -163,13 +169,13 @@ class Pen:
 
     def draw_text(self, canvas: Any, text: str, style: Style, box: Box) -> bool:
         """Draws a text in a box; returns whether it ends in an ellipsis."""
-        layout, x, y = self.fitted(text, style, box.width, box.height)
+        layout, x, y = (self.fitted if style.lines else self.kept)(text, style, box.width, box.height)
         canvas.move_to(box.left + x, box.top + y)
         if style.family in self.outlines:
-            PangoCairo.layout_path(canvas, layout)
+            layout_path(canvas, layout)
             canvas.fill()
         else:
-            PangoCairo.show_layout(canvas, layout)
+            show_layout(canvas, layout)
         return bool(layout.is_ellipsized())
 
     def draw_modules(self, canvas: Any, label: Label, box: Box) -> None:
