@@ -1,15 +1,26 @@
-"""Draws labels by Cairo and Pango: texts are measured, and drawn in the boxes of a layout. Lengths are in dots."""
+"""Draws labels by Cairo and Pango, and writes them: PDF, SVG, PNG, PBM, ZPL and ESC/POS. Lengths are in dots."""
 
+import os
 import re
+import stat
+import struct
+import sys
+import tempfile
+import time
 import unicodedata
+import zlib
+from base64 import b64encode
+from binascii import crc_hqx
 from collections import defaultdict
 from functools import cache, lru_cache
-from typing import Any, Callable, Iterable, NamedTuple, Optional
+from io import BytesIO
+from pathlib import Path
+from typing import IO, Any, Callable, Iterable, Iterator, NamedTuple, Optional
 
 import cairo
 import gi
 
-from label_command import ToolError
+from label_command import ToolError, hold_signals, standard_output
 from label_file import Label, bytes_a_row
 from label_layout import DIGITS_SIZE, DIGITS_TOP, GUARD, LINE, PRICE_SIZES, SYMBOLOGIES, TEXT, TITLE
 from label_layout import Box, Group, Need, Planner
@@ -29,12 +40,22 @@ REVERSED = bytes(int(f"{byte:08b}"[::-1], 2) for byte in range(256))
 PIXELS = bytes.maketrans(b"01", b"\xff\0")
 # a picture in dots: width, height, and rows of whole bytes, in which 1 is dark
 Dots = NamedTuple("Dots", [("width", int), ("height", int), ("rows", list[bytes])])
+# what begins a job of ESC/POS, what ends each label of it, and the most rows of an image
+ESCPOS_START, ESCPOS_CUT, MOST_ESCPOS_ROWS = b"\x1b@", b"\x1bd\x03\x1dV\x42\x00", 255
+# the most bytes that a graphic field of ZPL takes
+MOST_ZPL_BYTES = 99_999
+OBJECT = re.compile(rb"([0-9]{10}) [0-9]{5} n")
+LIGHT = bytes(range(255, -1, -1))
+# seconds after which progress is shown, and between two times that it is
+QUIET, BETWEEN = 2.0, 0.2
+# labels of a page, with the upper left corners of their areas
+Page = list[tuple[Label, tuple[int, int]]]
 
 
 class Style(NamedTuple):
-    """Letters of a size in points, where a text is from the top (0) to the bottom (1) of a box, and its lines.
+    """Letters of a size in points; where a text is from the top (0) to the bottom (1) of a box; whether it is cut.
 
-    Each line of a text has so many `lines` before an ellipsis, as wide as the box; or one of any width where they are 0.
+    Each of its lines becomes so many `lines` at most, as wide as the box, with an ellipsis; where these are 0 it is whole.
     """
 
     family: str
@@ -110,10 +131,10 @@ class Pen:
         return layout, x, max(-ink.top, min(y, height - ink.height - ink.top))
 
     @lru_cache(maxsize=1024)
-    def kept(self, *asked: Any) -> tuple[Any, int, int]:
+    def kept(self, text: str, style: Style, width: int, height: int) -> tuple[Any, int, int]:
         """As fitted(), for a text that many labels have."""
-        layout, *place = self.fitted(*asked)
-        return layout.copy(), *place
+        layout, x, y = self.fitted(text, style, width, height)
+        return layout.copy(), x, y
 
     def missing_letters(self, labels: list[Label]) -> dict[int, str]:
         """Why some labels cannot be drawn: letters of their texts that no font has, a reason for each script."""
@@ -169,7 +190,8 @@ class Pen:
 
     def draw_text(self, canvas: Any, text: str, style: Style, box: Box) -> bool:
         """Draws a text in a box; returns whether it ends in an ellipsis."""
-        layout, x, y = (self.fitted if style.lines else self.kept)(text, style, box.width, box.height)
+        asked = (text, style, box.width, box.height)
+        layout, x, y = self.fitted(*asked) if style.lines else self.kept(*asked)
         canvas.move_to(box.left + x, box.top + y)
         if style.family in self.outlines:
             layout_path(canvas, layout)
@@ -184,7 +206,7 @@ class Pen:
         down = box.height // len(rows)
         if isinstance(canvas.get_target(), cairo.SVGSurface):  # browsers smooth a stretched picture
             for number, row in enumerate(rows):
-                fill(canvas, row, [(0, label.width)], module, box.left, box.top + number * down, down)
+                fill(canvas, row, [(0, label.width)], module, box._replace(top=box.top + number * down, height=down))
             return
         stride = len(rows[0]) + -len(rows[0]) % 4
         data = memoryview(bytearray(b"".join(row.translate(REVERSED).ljust(stride, b"\0") for row in rows)))
@@ -197,7 +219,7 @@ class Pen:
     def draw_digits(self, canvas: Any, label: Label, box: Box) -> None:
         """Draws what is below the bars of EAN and UPC: longer guards, and digits in their places."""
         symbology, module = label.layout.symbology, label.layout.way.module
-        fill(canvas, label.modules, symbology.guards, module, box.left, box.top, GUARD * module)
+        fill(canvas, label.modules, symbology.guards, module, box._replace(height=GUARD * module))
         canvas.set_font_face(self.digits_face)
         canvas.set_font_options(self.options)
         base = box.top + round((DIGITS_TOP + DIGITS_SIZE * self.digit_height) * module)
@@ -231,14 +253,12 @@ def bits_of(row: bytes) -> str:
     return f"{int.from_bytes(row, 'big'):0{8 * len(row)}b}"
 
 
-def fill(
-    canvas: Any, row: bytes, spans: Iterable[tuple[int, int]], module: int, left: int, top: int, height: int
-) -> None:
+def fill(canvas: Any, row: bytes, spans: Iterable[tuple[int, int]], module: int, box: Box) -> None:
     """Draws dark modules in spans of a row as rectangles, a bit less than their dots: what touches a dot paints it."""
     modules = bits_of(row)
     for bar in (bar for span in spans for bar in DARK.finditer(modules, *span)):
-        width = (bar.end() - bar.start()) * module
-        canvas.rectangle(left + bar.start() * module + INSET, top, width - 2 * INSET, height - INSET)
+        left, width = box.left + bar.start() * module, (bar.end() - bar.start()) * module
+        canvas.rectangle(left + INSET, box.top, width - 2 * INSET, box.height - INSET)
     canvas.fill()
 
 
@@ -280,3 +300,151 @@ def fault_in(dots: Dots, label: Label) -> Optional[str]:
     starts = range(bars.top * size + bars.left, (bars.top + bars.height) * size, size)
     drawn = [bits[start : start + bars.width] for start in starts]
     return None if drawn == wanted else "its bars as drawn are not those of labels"
+
+
+class Progress:
+    """Shows on a terminal how many labels are done, where that takes long."""
+
+    def __init__(self, tool: str, total: int) -> None:
+        self.tool, self.total, self.is_shown = tool, total, False
+        self.next = time.monotonic() + QUIET if sys.stderr.isatty() else float("inf")
+
+    def show(self, done: int) -> None:
+        """Shows how many are done; ends the line on the terminal after the last one."""
+        if time.monotonic() >= self.next or (self.is_shown and done == self.total):
+            self.next, self.is_shown = time.monotonic() + BETWEEN, True
+            end = "\n" * (done == self.total)
+            print(f"\r{self.tool}: {done} of {self.total} labels", end=end, file=sys.stderr, flush=True)
+
+
+class Press:
+    """Draws pages of labels and writes them in one of the forms, from a cell of the first page on."""
+
+    def __init__(self, planner: Planner, pen: Pen, form: str, first: int, is_cut: bool, progress: Progress) -> None:
+        self.planner, self.pen, self.form, self.first, self.progress = planner, pen, form, first, progress
+        self.start, self.end = (ESCPOS_START, ESCPOS_CUT * is_cut) if form == "escpos" else (b"", b"")
+        self.shortened = set[int]()
+
+    def pages(self, labels: list[Label]) -> Iterator[Page]:
+        """The labels, each as often as it has copies, in the cells of one page after another."""
+        places, done = self.planner.places[self.first - 1 :], 0
+        copies = (label for label in labels for _ in range(label.copies))
+        while page := [(label, place) for place, label in zip(places, copies)]:
+            yield page
+            places, done = self.planner.places, done + len(page)
+            self.progress.show(done)
+
+    def draw(self, canvas: Any, page: Page) -> None:
+        """Draws a page; a label with a shortened text is noted."""
+        self.shortened.update(label.number for label, place in page if self.pen.draw(canvas, label, *place))
+
+    def drawing(self, pages: Callable[[], Iterable[Page]]) -> Any:
+        """A file of pages of the size of the paper, in which letters of a font that Cairo cannot embed are shapes."""
+        width, height = (side * 72 / 25.4 for side in self.planner.sheet.page)
+        file: Any = tempfile.TemporaryFile()  # Cairo takes no notice of a short write elsewhere
+        surface: Any = (cairo.SVGSurface if self.form == "svg" else cairo.PDFSurface)(file, width, height)
+        if self.form == "pdf":  # without the time of the run the same labels give the same bytes
+            surface.set_metadata(cairo.PDF_METADATA_CREATE_DATE, "")
+        for page in pages():
+            canvas = cairo.Context(surface)
+            canvas.scale(72 / self.pen.dpi, 72 / self.pen.dpi)
+            self.draw(canvas, page)
+            canvas.show_page()
+        surface.finish()
+        file.flush()
+        letters = [font for font in (self.pen.digits_font, self.pen.font) if font not in self.pen.outlines]
+        if letters and self.form == "pdf" and not is_whole(file):
+            self.pen.outlines.add(letters[0])
+            return self.drawing(pages)
+        file.seek(0)
+        return file
+
+    def document(self, page: Page) -> IO[bytes]:
+        """A file of one page in a form."""
+        if self.form in DRAWN:
+            return self.drawing(lambda: [page])
+        width, height = (round(side / self.planner.dot) for side in self.planner.sheet.page)
+        dots = dots_of(width, height, lambda canvas: self.draw(canvas, page))
+        return BytesIO(self.start + OF_DOTS[self.form](dots, self.planner.dot) + self.end)
+
+    def write(self, labels: list[Label], paths: Optional[list[Path]]) -> None:
+        """Writes each label into its file, or all to standard output: a PDF at its end, else a page once it is drawn."""
+        output = standard_output().fileno() if paths is None else -1
+        documents: Iterator[IO[bytes]] = map(self.document, self.pages(labels))
+        if self.form == "pdf" and paths is None:
+            documents = iter([self.drawing(lambda: self.pages(labels))])
+        for number, document in enumerate(documents):
+            with document as file, hold_signals():
+                if paths is None:
+                    send(file, output)
+                    self.start = b""
+                else:
+                    part = paths[number].with_name(paths[number].name + ".part")
+                    try:  # a file has its name once it is whole
+                        part.write_bytes(file.read())
+                        part.rename(paths[number])
+                    finally:
+                        part.unlink(missing_ok=True)
+
+
+def send(file: IO[bytes], output: int) -> None:
+    """Writes a whole file to another one, which gets nothing where it does not take all."""
+    state, data = os.fstat(output), b""
+    try:
+        while data := data or file.read(1 << 20):
+            data = data[os.write(output, data) :]
+    except OSError:
+        if stat.S_ISREG(state.st_mode):
+            os.ftruncate(output, state.st_size)
+        raise
+
+
+def is_whole(file: IO[bytes]) -> bool:
+    """Whether each object of a PDF is where its table has it; Cairo leaves out fonts that it cannot embed."""
+    file.seek(-64, os.SEEK_END)
+    file.seek(int(file.read().split()[-2]))
+    entries = enumerate(OBJECT.finditer(file.read()), 1)
+    names = ((int(entry[1]), b"%d 0 obj" % number) for number, entry in entries)
+    return all(os.pread(file.fileno(), len(name), place) == name for place, name in names)
+
+
+def pbm(dots: Dots, _: float) -> bytes:
+    """A page as raw PBM."""
+    return b"P4\n%d %d\n%b" % (dots.width, dots.height, b"".join(dots.rows))
+
+
+def png(dots: Dots, dot: float) -> bytes:
+    """A page as PNG of one bit a pixel, which says the millimetres of a dot."""
+    rows, a_metre = b"".join(b"\0" + row.translate(LIGHT) for row in dots.rows), round(1000 / dot)
+    chunks = (
+        (b"IHDR", struct.pack(">IIBBBBB", dots.width, dots.height, 1, 0, 0, 0, 0)),
+        (b"pHYs", struct.pack(">IIB", a_metre, a_metre, 1)),
+        (b"IDAT", zlib.compress(rows, 9)),
+        (b"IEND", b""),
+    )
+    packed = ((len(data), kind + data, zlib.crc32(kind + data)) for kind, data in chunks)
+    return b"\x89PNG\r\n\x1a\n" + b"".join(struct.pack(f">I{4 + size}sI", size, *part) for size, *part in packed)
+
+
+def escpos(dots: Dots, _: float) -> bytes:
+    """A page as raster images of ESC/POS, one below the other."""
+    bands = (dots.rows[top : top + MOST_ESCPOS_ROWS] for top in range(0, dots.height, MOST_ESCPOS_ROWS))
+    size = bytes_a_row(dots.width)
+    return b"".join(b"\x1dv0\0" + struct.pack("<HH", size, len(band)) + b"".join(band) for band in bands)
+
+
+def zpl(dots: Dots, _: float) -> bytes:
+    """A label of ZPL: graphic fields one below the other, which are compressed."""
+    fields, size = b"^XA^LH0,0^PW%d^LL%d\n" % (dots.width, dots.height), bytes_a_row(dots.width)
+    for top in range(0, dots.height, MOST_ZPL_BYTES // size):
+        data = b"".join(dots.rows[top : top + MOST_ZPL_BYTES // size])
+        packed = b64encode(zlib.compress(data, 9))
+        head = (top, len(data), len(data), size, packed, crc_hqx(packed, 0))
+        fields += b"^FO0,%d^GFA,%d,%d,%d,:Z64:%b:%04X^FS\n" % head
+    return fields + b"^XZ\n"
+
+
+# the forms of dots; all forms, those of a drawing, of which a file has one page, and in which a label is a page
+OF_DOTS = {"png": png, "pbm": pbm, "zpl": zpl, "escpos": escpos}
+FORMS = ("pdf", "svg", *OF_DOTS)
+DRAWN, SINGLE, ROLLS = FORMS[:2], FORMS[1:3], FORMS[4:]

@@ -180,7 +180,7 @@ class Running(unittest.TestCase):
     def test_progress_on_a_terminal(self) -> None:
         import pty
 
-        from label_outputs import Progress
+        from label_draw import Progress
 
         controller, terminal = pty.openpty()
         with open(terminal, "w") as stream, unittest.mock.patch("sys.stderr", stream):
