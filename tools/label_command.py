@@ -8,8 +8,7 @@ from contextlib import contextmanager, suppress
 from io import RawIOBase, TextIOWrapper
 from typing import Any, BinaryIO, Callable, Iterator, NoReturn, Optional
 
-BAD_ARGUMENTS = 2
-INTERRUPTED = 130
+BAD_ARGUMENTS, INTERRUPTED = 2, 130
 
 
 class ToolError(Exception):

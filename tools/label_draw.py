@@ -326,10 +326,9 @@ class Press:
         self.shortened = set[int]()
 
     def pages(self, labels: list[Label]) -> Iterator[Page]:
-        """The labels, each as often as it has copies, in the cells of one page after another."""
-        places, done = self.planner.places[self.first - 1 :], 0
-        copies = (label for label in labels for _ in range(label.copies))
-        while page := [(label, place) for place, label in zip(places, copies)]:
+        """Labels in the cells of one page after another."""
+        places, done, rest = self.planner.places[self.first - 1 :], 0, iter(labels)
+        while page := [(label, place) for place, label in zip(places, rest)]:
             yield page
             places, done = self.planner.places, done + len(page)
             self.progress.show(done)
@@ -359,7 +358,7 @@ class Press:
         file.seek(0)
         return file
 
-    def document(self, page: Page) -> IO[bytes]:
+    def document(self, page: Page) -> Any:
         """A file of one page in a form."""
         if self.form in DRAWN:
             return self.drawing(lambda: [page])
@@ -368,9 +367,9 @@ class Press:
         return BytesIO(self.start + OF_DOTS[self.form](dots, self.planner.dot) + self.end)
 
     def write(self, labels: list[Label], paths: Optional[list[Path]]) -> None:
-        """Writes each label into its file, or all to standard output: a PDF at its end, else a page once it is drawn."""
+        """Writes each label into its file, or all to standard output: a PDF at its end, or each page once it is drawn."""
         output = standard_output().fileno() if paths is None else -1
-        documents: Iterator[IO[bytes]] = map(self.document, self.pages(labels))
+        documents = map(self.document, self.pages(labels))
         if self.form == "pdf" and paths is None:
             documents = iter([self.drawing(lambda: self.pages(labels))])
         for number, document in enumerate(documents):

@@ -51,9 +51,8 @@ def grid_sheet(page: Size, cell: Size, columns: int, rows: int, margin: Optional
 
 def stock_sheet(name: str) -> Sheet:
     """The sheet of a part by its name, such as `Avery L7160` or `l7160`; raises ToolError where there is none."""
-    wanted = plain(name)
-    named = [key for key in parts() if wanted in (plain(key[1]), plain("".join(key)))]
-    found = [key for key in named if plain("".join(key)) == wanted] or named
+    whole = [key for key in parts() if plain("".join(key)) == plain(name)]
+    found = whole or [key for key in parts() if plain(key[1]) == plain(name)]
     if len(found) != 1:
         several = "several makers have it: " + ", ".join(map(" ".join, found))
         hint = several if found else "no such sheet: --list-stock WORD lists what there is"
@@ -78,12 +77,15 @@ def plain(name: str) -> str:
 @cache
 def parts() -> dict[tuple[str, str], Element]:
     """Every part that glabels knows, by its maker and name."""
-    found = [part for path in sorted(TEMPLATES.glob("*.xml")) for part in parse(path).iterfind("{*}Template")]
+    paths = sorted(TEMPLATES.glob("*.xml"))
+    found = {
+        (part.get("brand", ""), part.get("part", "")): part
+        for path in paths
+        for part in parse(path).iterfind("{*}Template")
+    }
     if not found:
         raise ToolError("sheets by name need apt-get install glabels-data; else give --columns, --rows and --cell")
-    return dict(
-        sorted([((part.get("brand", ""), part.get("part", "")), part) for part in found], key=lambda item: item[0])
-    )
+    return dict(sorted(found.items(), key=lambda item: item[0]))
 
 
 @cache
