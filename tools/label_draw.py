@@ -1,5 +1,6 @@
 """Draws labels by Cairo and Pango, and writes them: PDF, SVG, PNG, PBM, ZPL and ESC/POS. Lengths are in dots."""
 
+import binascii
 import os
 import re
 import stat
@@ -9,8 +10,6 @@ import tempfile
 import time
 import unicodedata
 import zlib
-from base64 import b64encode
-from binascii import crc_hqx
 from collections import defaultdict
 from functools import cache, lru_cache
 from io import BytesIO
@@ -32,7 +31,6 @@ show_layout, layout_path = PangoCairo.show_layout, PangoCairo.layout_path
 DARK, INSET = re.compile("1+"), 0.01
 # the first letter that may leave its line; the room at the sides of lines as a part of the size of letters
 LATIN, SIDE = "\u0250", 16
-CJK = ("Cjk", "Hiragana", "Katakana", "Hangul", "Bopomofo")
 # what shows a control character of Code 128
 SHOWN = {code: 0x2400 + code for code in range(32)} | {127: 0x2421}
 REVERSED = bytes(int(f"{byte:08b}"[::-1], 2) for byte in range(256))
@@ -53,10 +51,7 @@ Page = list[tuple[Label, tuple[int, int]]]
 
 
 class Style(NamedTuple):
-    """Letters of a size in points; where a text is from the top (0) to the bottom (1) of a box; whether it is cut.
-
-    Each of its lines becomes so many `lines` at most, as wide as the box, with an ellipsis; where these are 0 it is whole.
-    """
+    """Letters, their place from the top (0) to the bottom (1) of a box; most lines of each line of a text, or 0."""
 
     family: str
     is_bold: bool
@@ -85,7 +80,9 @@ class Pen:
         for family in (font, digits):
             found = fonts.load_font(self.context, Pango.FontDescription(f"{family}, 9"))
             if found is None or found.describe().get_family().lower() != family.lower():
-                hint = "apt-get install fonts-dejavu-core" if "DejaVu" in family else "fc-list : family lists fonts"
+                hint = (
+                    "fc-list : family lists those that there are, apt-get install fonts-dejavu-core has the usual ones"
+                )
                 raise ToolError(f"there is no font {family}: {hint}")
 
     @cache
@@ -146,8 +143,7 @@ class Pen:
                 script = unicodedata.name(letter, "Signs").split()[0].capitalize() if is_letter else "Signs"
                 missing[script].append(letter)
         for script, letters in missing.items():
-            package = "fonts-noto-cjk" if script in CJK else "fonts-noto-core"
-            reason = f"no font has {''.join(letters[:9])} ({script}): apt-get install {package}"
+            reason = f"no font has {''.join(letters[:9])} ({script}): apt-get install fonts-noto-core fonts-noto-cjk"
             reasons.update(dict.fromkeys(letters, reason))
         return {number: reasons[letter] for number, text in texts.items() for letter in text if letter in reasons}
 
@@ -193,11 +189,8 @@ class Pen:
         asked = (text, style, box.width, box.height)
         layout, x, y = self.fitted(*asked) if style.lines else self.kept(*asked)
         canvas.move_to(box.left + x, box.top + y)
-        if style.family in self.outlines:
-            layout_path(canvas, layout)
-            canvas.fill()
-        else:
-            show_layout(canvas, layout)
+        (layout_path if style.family in self.outlines else show_layout)(canvas, layout)
+        canvas.fill()
         return bool(layout.is_ellipsized())
 
     def draw_modules(self, canvas: Any, label: Label, box: Box) -> None:
@@ -220,6 +213,7 @@ class Pen:
         """Draws what is below the bars of EAN and UPC: longer guards, and digits in their places."""
         symbology, module = label.layout.symbology, label.layout.way.module
         fill(canvas, label.modules, symbology.guards, module, box._replace(height=GUARD * module))
+        draw_text = canvas.text_path if self.digits_font in self.outlines else canvas.show_text
         canvas.set_font_face(self.digits_face)
         canvas.set_font_options(self.options)
         base = box.top + round((DIGITS_TOP + DIGITS_SIZE * self.digit_height) * module)
@@ -229,11 +223,8 @@ class Pen:
             text = label.data[first:last].decode("ascii")
             canvas.set_font_size(size)
             canvas.move_to(box.left + round((left + right) * module - width * size) // 2, base)
-            if self.digits_font in self.outlines:
-                canvas.text_path(text)
-                canvas.fill()
-            else:
-                canvas.show_text(text)
+            draw_text(text)
+            canvas.fill()
 
 
 def ink_of(layout: Any) -> Box:
@@ -302,36 +293,24 @@ def fault_in(dots: Dots, label: Label) -> Optional[str]:
     return None if drawn == wanted else "its bars as drawn are not those of labels"
 
 
-class Progress:
-    """Shows on a terminal how many labels are done, where that takes long."""
-
-    def __init__(self, tool: str, total: int) -> None:
-        self.tool, self.total, self.is_shown = tool, total, False
-        self.next = time.monotonic() + QUIET if sys.stderr.isatty() else float("inf")
-
-    def show(self, done: int) -> None:
-        """Shows how many are done; ends the line on the terminal after the last one."""
-        if time.monotonic() >= self.next or (self.is_shown and done == self.total):
-            self.next, self.is_shown = time.monotonic() + BETWEEN, True
-            end = "\n" * (done == self.total)
-            print(f"\r{self.tool}: {done} of {self.total} labels", end=end, file=sys.stderr, flush=True)
-
-
 class Press:
     """Draws pages of labels and writes them in one of the forms, from a cell of the first page on."""
 
-    def __init__(self, planner: Planner, pen: Pen, form: str, first: int, is_cut: bool, progress: Progress) -> None:
-        self.planner, self.pen, self.form, self.first, self.progress = planner, pen, form, first, progress
+    def __init__(self, planner: Planner, pen: Pen, form: str, first: int, is_cut: bool) -> None:
+        self.planner, self.pen, self.form, self.first, self.shortened = planner, pen, form, first, set[int]()
         self.start, self.end = (ESCPOS_START, ESCPOS_CUT * is_cut) if form == "escpos" else (b"", b"")
-        self.shortened = set[int]()
 
     def pages(self, labels: list[Label]) -> Iterator[Page]:
-        """Labels in the cells of one page after another."""
-        places, done, rest = self.planner.places[self.first - 1 :], 0, iter(labels)
+        """Labels in the cells of one page after another; a terminal shows how many are done, where that takes long."""
+        rest, done, is_shown, next_time = iter(labels), 0, False, time.monotonic() + QUIET
+        places = self.planner.places[self.first - 1 :]
         while page := [(label, place) for place, label in zip(places, rest)]:
             yield page
             places, done = self.planner.places, done + len(page)
-            self.progress.show(done)
+            is_last = is_shown and done == len(labels)
+            if sys.stderr.isatty() and (time.monotonic() >= next_time or is_last):
+                is_shown, next_time, end = True, time.monotonic() + BETWEEN, "\n" * (done == len(labels))
+                print(f"\rlabel-print: {done} of {len(labels)} labels", end=end, file=sys.stderr, flush=True)
 
     def draw(self, canvas: Any, page: Page) -> None:
         """Draws a page; a label with a shortened text is noted."""
@@ -367,11 +346,10 @@ class Press:
         return BytesIO(self.start + OF_DOTS[self.form](dots, self.planner.dot) + self.end)
 
     def write(self, labels: list[Label], paths: Optional[list[Path]]) -> None:
-        """Writes each label into its file, or all to standard output: a PDF at its end, or each page once it is drawn."""
+        """Writes each label into its file, or all to standard output: each page once it is drawn, PDF at its end."""
         output = standard_output().fileno() if paths is None else -1
-        documents = map(self.document, self.pages(labels))
-        if self.form == "pdf" and paths is None:
-            documents = iter([self.drawing(lambda: self.pages(labels))])
+        is_one = self.form == "pdf" and paths is None
+        documents = [self.drawing(lambda: self.pages(labels))] if is_one else map(self.document, self.pages(labels))
         for number, document in enumerate(documents):
             with document as file, hold_signals():
                 if paths is None:
@@ -414,15 +392,13 @@ def pbm(dots: Dots, _: float) -> bytes:
 
 def png(dots: Dots, dot: float) -> bytes:
     """A page as PNG of one bit a pixel, which says the millimetres of a dot."""
-    rows, a_metre = b"".join(b"\0" + row.translate(LIGHT) for row in dots.rows), round(1000 / dot)
-    chunks = (
-        (b"IHDR", struct.pack(">IIBBBBB", dots.width, dots.height, 1, 0, 0, 0, 0)),
-        (b"pHYs", struct.pack(">IIB", a_metre, a_metre, 1)),
-        (b"IDAT", zlib.compress(rows, 9)),
-        (b"IEND", b""),
+    head, a_metre = struct.pack(">IIBBBBB", dots.width, dots.height, 1, 0, 0, 0, 0), struct.pack(
+        ">I", round(1000 / dot)
     )
-    packed = ((len(data), kind + data, zlib.crc32(kind + data)) for kind, data in chunks)
-    return b"\x89PNG\r\n\x1a\n" + b"".join(struct.pack(f">I{4 + size}sI", size, *part) for size, *part in packed)
+    rows = zlib.compress(b"".join(b"\0" + row.translate(LIGHT) for row in dots.rows), 9)
+    chunks = (b"IHDR" + head, b"pHYs" + 2 * a_metre + b"\1", b"IDAT" + rows, b"IEND")
+    packed = (struct.pack(f">I{len(one)}sI", len(one) - 4, one, zlib.crc32(one)) for one in chunks)
+    return b"\x89PNG\r\n\x1a\n" + b"".join(packed)
 
 
 def escpos(dots: Dots, _: float) -> bytes:
@@ -437,8 +413,8 @@ def zpl(dots: Dots, _: float) -> bytes:
     fields, size = b"^XA^LH0,0^PW%d^LL%d\n" % (dots.width, dots.height), bytes_a_row(dots.width)
     for top in range(0, dots.height, MOST_ZPL_BYTES // size):
         data = b"".join(dots.rows[top : top + MOST_ZPL_BYTES // size])
-        packed = b64encode(zlib.compress(data, 9))
-        head = (top, len(data), len(data), size, packed, crc_hqx(packed, 0))
+        packed = binascii.b2a_base64(zlib.compress(data, 9), newline=False)
+        head = (top, len(data), len(data), size, packed, binascii.crc_hqx(packed, 0))
         fields += b"^FO0,%d^GFA,%d,%d,%d,:Z64:%b:%04X^FS\n" % head
     return fields + b"^XZ\n"
 

@@ -33,10 +33,7 @@ Modules = tuple[int, int, bytes]
 
 @dataclass(slots=True)
 class Label:
-    """A line of labels(1), its data with the check digit, and what belongs to it: its picture and layout come later.
-
-    The picture is `width` by `height` modules; bars have one row, and a height of 1 where the line sets none.
-    """
+    """A line of labels(1), its data with the check digit, and what belongs to it; bars of no set height have 1 row."""
 
     number: int
     symbology: str
@@ -69,10 +66,7 @@ def lines_of(data: bytes) -> Iterator[bytes]:
 
 
 def parse_file(data: bytes, name: str, has_escapes: bool) -> tuple[list[Label], list[Place], int]:
-    """The labels of a file, where the rows are from that label-table left out (the first ones), and their number.
-
-    Raises ToolError where a part is not whole, or a remark is not understood.
-    """
+    """The labels of a file that is whole, where rows are from that label-table left out (the first), their number."""
     labels, left_out, left_out_count = list[Label](), list[Place](), 0
     waiting, table, first, torn = dict[str, Any](), "", -1, ""
     for number, line in enumerate(lines_of(data), 1):

@@ -23,10 +23,7 @@ LOWEST_PART = 0.15
 
 
 class Symbology(NamedTuple):
-    """What a symbology asks for: the smallest module, nominal and lowest bars in mm; guards, and digits below bars.
-
-    Guards are from one module to another one, digits (from one to another one of the data) in the middle of such room.
-    """
+    """The smallest module, nominal and lowest bars in mm; guards; digits of the data, and the modules they are below."""
 
     title: str
     smallest: float
@@ -61,10 +58,7 @@ Need = NamedTuple("Need", [("width", int), ("height", int), ("has_title", bool),
 
 
 class Planner:
-    """Where the cells of a sheet take ink, at a number of dots an inch, and what is asked of the labels.
-
-    `edge` stays white at each edge of the page. A module and a height of bars may be given, all in millimetres.
-    """
+    """Where the cells of a sheet take ink, but for an edge; a module and a height of bars may be given. In mm."""
 
     def __init__(self, sheet: Sheet, dpi: int, edge: float, module: Optional[float], bars: Optional[float]) -> None:
         self.sheet, self.dpi, self.edge, self.module, self.bars = sheet, dpi, edge, module, bars

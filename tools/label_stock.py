@@ -77,15 +77,11 @@ def plain(name: str) -> str:
 @cache
 def parts() -> dict[tuple[str, str], Element]:
     """Every part that glabels knows, by its maker and name."""
-    paths = sorted(TEMPLATES.glob("*.xml"))
-    found = {
-        (part.get("brand", ""), part.get("part", "")): part
-        for path in paths
-        for part in parse(path).iterfind("{*}Template")
-    }
+    found = [part for path in TEMPLATES.glob("*.xml") for part in parse(path).iterfind("{*}Template")]
     if not found:
         raise ToolError("sheets by name need apt-get install glabels-data; else give --columns, --rows and --cell")
-    return dict(sorted(found.items(), key=lambda item: item[0]))
+    named = {(part.get("brand", ""), part.get("part", "")): part for part in found}
+    return {key: named[key] for key in sorted(named)}
 
 
 @cache

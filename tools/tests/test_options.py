@@ -127,7 +127,9 @@ class Rows(unittest.TestCase):
         status, codes, said = self.zpl(data=support.file_of(labels))
         self.assertEqual((status, codes), (1, [SHELF[0][0].split()[1]]))
         self.assertEqual(len(said), 1)
-        self.assertRegex(said[0], r"^rows 3-4: no font has .* \(Vithkuqi\): apt-get install fonts-noto-core$")
+        self.assertRegex(
+            said[0], r"^rows 3-4: no font has .* \(Vithkuqi\): apt-get install fonts-noto-core fonts-noto-cjk$"
+        )
 
 
 class Sizes(unittest.TestCase):
