@@ -34,18 +34,14 @@ LATIN, SIDE = "\u0250", 16
 # what shows a control character of Code 128
 SHOWN = {code: 0x2400 + code for code in range(32)} | {127: 0x2421}
 REVERSED = bytes(int(f"{byte:08b}"[::-1], 2) for byte in range(256))
-# a light and a dark dot as a pixel
 PIXELS = bytes.maketrans(b"01", b"\xff\0")
 # a picture in dots: width, height, and rows of whole bytes, in which 1 is dark
 Dots = NamedTuple("Dots", [("width", int), ("height", int), ("rows", list[bytes])])
 # what begins a job of ESC/POS, what ends each label of it, and the most rows of an image
 ESCPOS_START, ESCPOS_CUT, MOST_ESCPOS_ROWS = b"\x1b@", b"\x1bd\x03\x1dV\x42\x00", 255
-# the most bytes that a graphic field of ZPL takes
-MOST_ZPL_BYTES = 99_999
-OBJECT = re.compile(rb"([0-9]{10}) [0-9]{5} n")
-LIGHT = bytes(range(255, -1, -1))
-# seconds after which progress is shown, and between two times that it is
-QUIET, BETWEEN = 2.0, 0.2
+OBJECT, LIGHT = re.compile(rb"([0-9]{10}) [0-9]{5} n"), bytes(range(255, -1, -1))
+# the most bytes of a graphic field of ZPL; seconds after which progress is shown, and between two times that it is
+MOST_ZPL_BYTES, QUIET, BETWEEN = 99_999, 2.0, 0.2
 # labels of a page, with the upper left corners of their areas
 Page = list[tuple[Label, tuple[int, int]]]
 

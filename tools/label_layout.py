@@ -23,7 +23,7 @@ LOWEST_PART = 0.15
 
 
 class Symbology(NamedTuple):
-    """The smallest module, nominal and lowest bars in mm; guards; digits of the data, and the modules they are below."""
+    """The smallest module, nominal and lowest bars in mm; guards; digits of the data, and what they are below."""
 
     title: str
     smallest: float
@@ -47,8 +47,6 @@ SYMBOLOGIES = {
 
 # a rectangle in which a part of a label may have ink
 Box = NamedTuple("Box", [("left", int), ("top", int), ("width", int), ("height", int)])
-
-
 # a way to lay out labels: where the price is, bars from so many millimetres on, lines of the title
 Way = NamedTuple("Way", [("module", int), ("is_beside", bool), ("bars", float), ("lines", int), ("price_size", int)])
 # a way, and the boxes of the parts of a label from the left upper corner of the area in which its cell takes ink
@@ -130,9 +128,10 @@ class Group:
     def choose(self) -> dict[int, str]:
         """Gives labels their layout: the first that fits all, or else each its own; returns why some have none."""
         own = {need: way for need in self.needs if (way := self.first_way(need))}
-        common = self.first_way(most(own)) if own else None
+        needs = most(own)
+        common = self.first_way(needs) if own else None
         for need, way in own.items():
-            self.lay_out(need, common or way, most(own) if common else need)
+            self.lay_out(need, common or way, needs if common else need)
         left_out = [need for need in self.needs if need not in own]
         reason = self.reason(most(left_out)) if left_out else ""
         return {label.number: reason for need in left_out for label in self.needs[need]}
@@ -143,17 +142,17 @@ class Group:
         if self.symbology.nominal and not plan.bars:
             bars = max(bars, min(plan.dots(self.symbology.nominal), plan.height - others))
         top, across, boxes = (plan.height - others - bars) // 2, need.width * way.module, dict[str, Box]()
+        has = {"": False, "title": need.has_title, "price": need.price}
         left = 0 if way.is_beside else (plan.width - across) // 2
         for kind, height in self.parts(way, need, need.height * way.module if need.height > 1 else bars):
-            is_symbol = kind in ("bars", "digits")
-            boxes[kind] = Box(left if is_symbol else 0, top, across if is_symbol else plan.width, height)
+            if height and has.get(kind, True):
+                is_symbol = kind in ("bars", "digits")
+                boxes[kind] = Box(left if is_symbol else 0, top, across if is_symbol else plan.width, height)
             top += height
-        if way.is_beside:
+        if way.is_beside and need.price:
             boxes["price"] = boxes["bars"]._replace(left=across, width=plan.width - across)
-        has = {"": False, "title": need.has_title, "price": need.price}
-        there = {kind: box for kind, box in boxes.items() if box.height and has.get(kind, True)}
         for label in self.needs[need]:
-            label.layout = Layout(way, self.symbology, there)
+            label.layout = Layout(way, self.symbology, boxes)
 
     def reason(self, need: Need) -> str:
         """Why labels do not fit, and what would."""
@@ -175,7 +174,7 @@ class Group:
 
 def most(needs: Iterable[Need]) -> Need:
     """The most that is needed."""
-    return Need._make(map(max, zip(*needs)))
+    return Need._make(map(max, zip(*needs, Need(0, 0, False, 0, 0))))
 
 
 def scaled(length: int, size: int) -> int:
