@@ -73,7 +73,7 @@ def main_of(tool: str, function: Callable[[], Optional[int]]) -> NoReturn:
     sys.exit(status)
 
 
-def on_signals(action: Any) -> None:
+def on_signals(action: Any = signal.SIG_DFL) -> None:
     """Sets what the signals do that end a tool, but for those that it was started to ignore."""
     for number in (signal.SIGHUP, signal.SIGINT, signal.SIGTERM):
         if signal.getsignal(number) != signal.SIG_IGN:
@@ -87,12 +87,12 @@ def hold_signals() -> Iterator[None]:
 
     def take(number: int, _: object) -> None:
         taken.append(number)
-        on_signals(signal.SIG_DFL)
+        on_signals()
 
     on_signals(take)
     try:
         yield
     finally:
-        on_signals(signal.SIG_DFL)
+        on_signals()
         for number in taken:
             os.kill(os.getpid(), number)

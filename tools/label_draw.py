@@ -44,24 +44,25 @@ OBJECT, LIGHT = re.compile(rb"([0-9]{10}) [0-9]{5} n"), bytes(range(255, -1, -1)
 MOST_ZPL_BYTES, QUIET, BETWEEN = 99_999, 2.0, 0.2
 # labels of a page, with the upper left corners of their areas
 Page = list[tuple[Label, tuple[int, int]]]
-
-
-class Style(NamedTuple):
-    """Letters, their place from the top (0) to the bottom (1) of a box; most lines of each line of a text, or 0."""
-
-    family: str
-    is_bold: bool
-    points: float
-    down: float = 0.0
-    lines: int = 0
-    is_left: bool = False
+# how a text is drawn: its letters, where it is from the top (0) to the bottom (1) of its box, the most lines that each
+# line of it takes, the last of which may end in an ellipsis, or 0 where it is whole
+Style = NamedTuple(
+    "Style",
+    [("family", str), ("is_bold", bool), ("points", float), ("down", float), ("lines", int), ("is_left", bool)],
+)
 
 
 class Pen:
     """Measures and draws labels, for dots or for a drawing; letters of the families in `outlines` are shapes."""
 
     def __init__(self, dpi: int, is_dots: bool, font: str, digits: str) -> None:
-        self.dpi, self.font, self.digits_font, self.outlines = dpi, font, digits, set[str]()
+        self.dpi, self.font, self.digits_font, self.outlines, self.shortened = (
+            dpi,
+            font,
+            digits,
+            set[str](),
+            set[int](),
+        )
         self.options = cairo.FontOptions()
         self.options.set_hint_metrics(cairo.HintMetrics.ON if is_dots else cairo.HintMetrics.OFF)
         self.options.set_hint_style(cairo.HintStyle.FULL if is_dots else cairo.HintStyle.NONE)
@@ -132,7 +133,11 @@ class Pen:
     def missing_letters(self, labels: list[Label]) -> dict[int, str]:
         """Why some labels cannot be drawn: letters of their texts that no font has, a reason for each script."""
         texts = {label.number: label.title + label.text + label.price for label in labels}
-        style, missing, reasons = Style(self.font, True, TITLE), defaultdict[str, list[str]](list), dict[str, str]()
+        style, missing, reasons = (
+            Style(self.font, True, TITLE, 1, 0, False),
+            defaultdict[str, list[str]](list),
+            dict[str, str](),
+        )
         for letter in sorted(set("".join(texts.values()))):
             if self.laid_out(letter, style).get_unknown_glyphs_count():
                 is_letter = unicodedata.category(letter)[0] in "LM"
@@ -146,7 +151,9 @@ class Pen:
     def lay_out(self, labels: list[Label], planner: Planner) -> dict[int, str]:
         """Gives labels their layouts; returns why some have none."""
         groups = {name: Group(symbology, planner) for name, symbology in SYMBOLOGIES.items()}
-        price_style, title_style = Style(self.font, True, PRICE_SIZES[0]), Style(self.font, True, TITLE, lines=2)
+        price_style, title_style = (
+            Style(self.font, True, *rest) for rest in ((PRICE_SIZES[0], 0.5, 0, False), (TITLE, 1, 2, False))
+        )
         prices = {price: ink_of(self.laid_out(price, price_style)) for price in {label.price for label in labels}}
         for label in labels:
             group, price = groups[label.symbology], prices[label.price]
@@ -158,27 +165,27 @@ class Pen:
             group.needs[Need(label.width, label.height, bool(label.title), lines, price.width)].append(label)
         return {number: reason for group in groups.values() for number, reason in group.choose().items()}
 
-    def draw(self, canvas: Any, label: Label, left: int, top: int) -> bool:
-        """Draws a label in the area that begins there; returns whether a text of it had to be shortened."""
+    def draw(self, canvas: Any, label: Label, left: int, top: int) -> None:
+        """Draws a label in the area that begins there."""
         way, symbology, boxes = label.layout
         title, lines = label.title, way.lines - label.title.count("\n")
         if lines < 1:
             title, lines = title.replace("\n", " "), way.lines
-        data = "" if symbology.digits else label.data.decode("ascii", "replace").translate(SHOWN)
+        data = label.data.decode("ascii", "replace").translate(SHOWN)
         texts = {
             "title": (title, Style(self.font, True, TITLE, 1, lines, way.is_beside)),
-            "digits": (data, Style(self.digits_font, False, TEXT, 1)),
+            "digits": (data, Style(self.digits_font, False, TEXT, 1, 0, False)),
             "text": (label.text, Style(self.font, False, TEXT, 0, 1, way.is_beside)),
-            "price": (label.price, Style(self.font, True, way.price_size, 0.5)),
+            "price": (label.price, Style(self.font, True, way.price_size, 0.5, 0, False)),
         }
         canvas.translate(left, top)
         self.draw_modules(canvas, label, boxes["bars"])
         if symbology.digits:
             self.draw_digits(canvas, label, boxes["digits"])
-        there = [(*text, boxes[kind]) for kind, text in texts.items() if text[0] and kind in boxes]
-        shortened = [self.draw_text(canvas, *one) for one in there]
+            del texts["digits"]
+        if any([self.draw_text(canvas, *texts[kind], box) for kind, box in boxes.items() if kind in texts]):
+            self.shortened.add(label.number)
         canvas.translate(-left, -top)
-        return any(shortened)
 
     def draw_text(self, canvas: Any, text: str, style: Style, box: Box) -> bool:
         """Draws a text in a box; returns whether it ends in an ellipsis."""
@@ -249,15 +256,16 @@ def fill(canvas: Any, row: bytes, spans: Iterable[tuple[int, int]], module: int,
     canvas.fill()
 
 
-def dots_of(width: int, height: int, draw: Callable[[Any], object]) -> Dots:
-    """A picture in dots, of at most 32,767 by 32,767, on which `draw` draws."""
+def dots_of(width: int, height: int, pen: Pen, page: Page) -> Dots:
+    """A page in dots, of at most 32,767 by 32,767."""
     try:
         surface = cairo.ImageSurface(cairo.FORMAT_A1, width, height)
     except (cairo.Error, MemoryError) as error:
         raise ToolError(f"{width} by {height} dots cannot be drawn: {error}") from error
     canvas = cairo.Context(surface)
     canvas.set_antialias(cairo.Antialias.NONE)
-    draw(canvas)
+    for label, place in page:
+        pen.draw(canvas, label, *place)
     surface.flush()
     data, stride, size = bytes(surface.get_data()).translate(REVERSED), surface.get_stride(), bytes_a_row(width)
     return Dots(width, height, [data[start : start + size] for start in range(0, stride * height, stride)])
@@ -265,7 +273,7 @@ def dots_of(width: int, height: int, draw: Callable[[Any], object]) -> Dots:
 
 def fault_of(label: Label, pen: Pen, planner: Planner) -> Optional[str]:
     """What is wrong with a label as it is drawn in its cell, if anything."""
-    return fault_in(dots_of(planner.width, planner.height, lambda canvas: pen.draw(canvas, label, 0, 0)), label)
+    return fault_in(dots_of(planner.width, planner.height, pen, [(label, (0, 0))]), label)
 
 
 def fault_in(dots: Dots, label: Label) -> Optional[str]:
@@ -274,26 +282,24 @@ def fault_in(dots: Dots, label: Label) -> Optional[str]:
         import zxingcpp
     except ImportError as error:
         raise ToolError(f"{error}: --read-back needs apt-get install python3-zxing-cpp") from error
-    bits, bars, wanted = bits_of(b"".join(dots.rows)), label.layout.boxes["bars"], list[str]()
-    size, rows = len(bits) // dots.height, rows_of(label.modules, label.width)
-    picture = memoryview(bits.encode().translate(PIXELS)).cast("B", [dots.height, size])
+    rows, bars = [bits_of(row) for row in dots.rows], label.layout.boxes["bars"]
+    picture = memoryview("".join(rows).encode().translate(PIXELS)).cast("B", [len(rows), len(rows[0])])
     form, binarizer = getattr(zxingcpp, re.sub("[- ]", "", label.layout.symbology.title)), zxingcpp.Binarizer.BoolCast
     found = zxingcpp.read_barcode(picture, formats=form, binarizer=binarizer)
     if found is None or found.bytes != label.data:
         return f"as drawn it is read as {found.bytes!r}" if found else "as drawn it is not read"
-    for row in rows:
-        line = "".join(bars.width // label.width * module for module in bits_of(row)[: label.width])
-        wanted += bars.height // len(rows) * [line]
-    starts = range(bars.top * size + bars.left, (bars.top + bars.height) * size, size)
-    drawn = [bits[start : start + bars.width] for start in starts]
-    return None if drawn == wanted else "its bars as drawn are not those of labels"
+    modules = [bits_of(row)[: label.width] for row in rows_of(label.modules, label.width)]
+    wide = ["".join(bars.width // label.width * module for module in row) for row in modules]
+    drawn = [row[bars.left : bars.left + bars.width] for row in rows[bars.top : bars.top + bars.height]]
+    is_same = drawn == [row for row in wide for _ in range(bars.height // len(wide))]
+    return None if is_same else "its bars as drawn are not those of labels"
 
 
 class Press:
     """Draws pages of labels and writes them in one of the forms, from a cell of the first page on."""
 
     def __init__(self, planner: Planner, pen: Pen, form: str, first: int, is_cut: bool) -> None:
-        self.planner, self.pen, self.form, self.first, self.shortened = planner, pen, form, first, set[int]()
+        self.planner, self.pen, self.form, self.first = planner, pen, form, first
         self.start, self.end = (ESCPOS_START, ESCPOS_CUT * is_cut) if form == "escpos" else (b"", b"")
 
     def pages(self, labels: list[Label]) -> Iterator[Page]:
@@ -308,10 +314,6 @@ class Press:
                 is_shown, next_time, end = True, time.monotonic() + BETWEEN, "\n" * (done == len(labels))
                 print(f"\rlabel-print: {done} of {len(labels)} labels", end=end, file=sys.stderr, flush=True)
 
-    def draw(self, canvas: Any, page: Page) -> None:
-        """Draws a page; a label with a shortened text is noted."""
-        self.shortened.update(label.number for label, place in page if self.pen.draw(canvas, label, *place))
-
     def drawing(self, pages: Callable[[], Iterable[Page]]) -> Any:
         """A file of pages of the size of the paper, in which letters of a font that Cairo cannot embed are shapes."""
         width, height = (side * 72 / 25.4 for side in self.planner.sheet.page)
@@ -322,7 +324,8 @@ class Press:
         for page in pages():
             canvas = cairo.Context(surface)
             canvas.scale(72 / self.pen.dpi, 72 / self.pen.dpi)
-            self.draw(canvas, page)
+            for label, place in page:
+                self.pen.draw(canvas, label, *place)
             canvas.show_page()
         surface.finish()
         file.flush()
@@ -338,7 +341,7 @@ class Press:
         if self.form in DRAWN:
             return self.drawing(lambda: [page])
         width, height = (round(side / self.planner.dot) for side in self.planner.sheet.page)
-        dots = dots_of(width, height, lambda canvas: self.draw(canvas, page))
+        dots = dots_of(width, height, self.pen, page)
         return BytesIO(self.start + OF_DOTS[self.form](dots, self.planner.dot) + self.end)
 
     def write(self, labels: list[Label], paths: Optional[list[Path]]) -> None:

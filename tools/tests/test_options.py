@@ -235,7 +235,7 @@ class Sizes(unittest.TestCase):
     def look(self, label: Label, pen: Pen, planner: Planner) -> None:
         """The ink of each part of a label is in its box; boxes do not overlap, and none leaves the area."""
         boxes, width, height = label.layout.boxes, planner.width, planner.height
-        rows = dots_of(width + 80, height + 80, lambda canvas: pen.draw(canvas, label, 40, 40)).rows
+        rows = dots_of(width + 80, height + 80, pen, [(label, (40, 40))]).rows
         dots = jobs.bits_of(rows, width + 80)
         inside = dots[40 : 40 + height, 40 : 40 + width]
         self.assertEqual(dots.sum(), inside.sum())
@@ -263,14 +263,14 @@ class Sizes(unittest.TestCase):
         )
         for label in labels:
             box = label.layout.boxes["price"]
-            price = pen.laid_out(label.price, Style(pen.font, True, label.layout.way.price_size))
+            price = pen.laid_out(label.price, Style(pen.font, True, label.layout.way.price_size, 0.5, 0, False))
             self.assertLessEqual(ink_of(price).width, box.width)
 
     def test_digits_are_in_their_places(self) -> None:
         labels, pen, planner = planned(b"ean13 400638133393\n", (60.0, 40.0), 600)
         box = labels[0].layout.boxes["digits"]
         module = labels[0].layout.way.module
-        rows = dots_of(planner.width, 1000, lambda canvas: pen.draw(canvas, labels[0], 0, 0)).rows
+        rows = dots_of(planner.width, 1000, pen, [(labels[0], (0, 0))]).rows
         dots = jobs.bits_of(rows, planner.width)[box.top + 6 * module : box.top + box.height]
         inked = dots.any(axis=0).nonzero()[0]
         places = sorted({(int(place) - box.left) // module for place in inked})
@@ -284,7 +284,7 @@ class Sizes(unittest.TestCase):
             labels, pen, planner = planned(line, (60.0, 40.0), 600)
             module = labels[0].layout.way.module
             bars = labels[0].layout.boxes["bars"]
-            rows = dots_of(planner.width, 1000, lambda canvas: pen.draw(canvas, labels[0], 0, 0)).rows
+            rows = dots_of(planner.width, 1000, pen, [(labels[0], (0, 0))]).rows
             dots = jobs.bits_of(rows, planner.width)
             for place in guards:
                 column = dots[:, bars.left + place * module + module // 2]
@@ -444,7 +444,7 @@ class ReadBack(unittest.TestCase):
     def test_bars_that_are_turned(self) -> None:
         """zxing-cpp reads a label with a third of its bars turned round; each row of dots is compared besides."""
         (label,), pen, planner = planned(b"ean13 400638133393\n", (60.0, 40.0), 300)
-        dots = dots_of(planner.width, planner.height, lambda canvas: pen.draw(canvas, label, 0, 0))
+        dots = dots_of(planner.width, planner.height, pen, [(label, (0, 0))])
         bars = label.layout.boxes["bars"]
         self.assertIsNone(fault_in(dots, label))
         for top in range(bars.top, bars.top + bars.height // 3):
