@@ -22,7 +22,7 @@ import gi
 from label_command import ToolError, hold_signals, standard_output
 from label_file import Label, bytes_a_row
 from label_layout import DIGITS_SIZE, DIGITS_TOP, GUARD, LINE, PRICE_SIZES, SYMBOLOGIES, TEXT, TITLE
-from label_layout import Box, Group, Need, Planner
+from label_layout import Box, Group, Need, Planner, Spans
 
 gi.require_versions({"Pango": "1.0", "PangoCairo": "1.0"})
 from gi.repository import Pango, PangoCairo  # noqa: E402
@@ -56,13 +56,8 @@ class Pen:
     """Measures and draws labels, for dots or for a drawing; letters of the families in `outlines` are shapes."""
 
     def __init__(self, dpi: int, is_dots: bool, font: str, digits: str) -> None:
-        self.dpi, self.font, self.digits_font, self.outlines, self.shortened = (
-            dpi,
-            font,
-            digits,
-            set[str](),
-            set[int](),
-        )
+        self.dpi, self.font, self.digits_font = dpi, font, digits
+        self.outlines, self.shortened = set[str](), set[int]()
         self.options = cairo.FontOptions()
         self.options.set_hint_metrics(cairo.HintMetrics.ON if is_dots else cairo.HintMetrics.OFF)
         self.options.set_hint_style(cairo.HintStyle.FULL if is_dots else cairo.HintStyle.NONE)
@@ -133,11 +128,8 @@ class Pen:
     def missing_letters(self, labels: list[Label]) -> dict[int, str]:
         """Why some labels cannot be drawn: letters of their texts that no font has, a reason for each script."""
         texts = {label.number: label.title + label.text + label.price for label in labels}
-        style, missing, reasons = (
-            Style(self.font, True, TITLE, 1, 0, False),
-            defaultdict[str, list[str]](list),
-            dict[str, str](),
-        )
+        style, reasons = Style(self.font, True, TITLE, 1, 0, False), dict[str, str]()
+        missing = defaultdict[str, list[str]](list)
         for letter in sorted(set("".join(texts.values()))):
             if self.laid_out(letter, style).get_unknown_glyphs_count():
                 is_letter = unicodedata.category(letter)[0] in "LM"
@@ -151,9 +143,8 @@ class Pen:
     def lay_out(self, labels: list[Label], planner: Planner) -> dict[int, str]:
         """Gives labels their layouts; returns why some have none."""
         groups = {name: Group(symbology, planner) for name, symbology in SYMBOLOGIES.items()}
-        price_style, title_style = (
-            Style(self.font, True, *rest) for rest in ((PRICE_SIZES[0], 0.5, 0, False), (TITLE, 1, 2, False))
-        )
+        price_style = Style(self.font, True, PRICE_SIZES[0], 0, 0, False)
+        title_style = Style(self.font, True, TITLE, 1, 2, False)
         prices = {price: ink_of(self.laid_out(price, price_style)) for price in {label.price for label in labels}}
         for label in labels:
             group, price = groups[label.symbology], prices[label.price]
@@ -171,10 +162,12 @@ class Pen:
         title, lines = label.title, way.lines - label.title.count("\n")
         if lines < 1:
             title, lines = title.replace("\n", " "), way.lines
-        data = label.data.decode("ascii", "replace").translate(SHOWN)
         texts = {
             "title": (title, Style(self.font, True, TITLE, 1, lines, way.is_beside)),
-            "digits": (data, Style(self.digits_font, False, TEXT, 1, 0, False)),
+            "digits": (
+                label.data.decode("ascii", "replace").translate(SHOWN),
+                Style(self.digits_font, False, TEXT, 1, 0, False),
+            ),
             "text": (label.text, Style(self.font, False, TEXT, 0, 1, way.is_beside)),
             "price": (label.price, Style(self.font, True, way.price_size, 0.5, 0, False)),
         }
@@ -202,7 +195,7 @@ class Pen:
         down = box.height // len(rows)
         if isinstance(canvas.get_target(), cairo.SVGSurface):  # browsers smooth a stretched picture
             for number, row in enumerate(rows):
-                fill(canvas, row, [(0, label.width)], module, box._replace(top=box.top + number * down, height=down))
+                fill(canvas, row, ((0, label.width),), module, box._replace(top=box.top + number * down, height=down))
             return
         stride = len(rows[0]) + -len(rows[0]) % 4
         data = memoryview(bytearray(b"".join(row.translate(REVERSED).ljust(stride, b"\0") for row in rows)))
@@ -247,7 +240,7 @@ def bits_of(row: bytes) -> str:
     return f"{int.from_bytes(row, 'big'):0{8 * len(row)}b}"
 
 
-def fill(canvas: Any, row: bytes, spans: Iterable[tuple[int, int]], module: int, box: Box) -> None:
+def fill(canvas: Any, row: bytes, spans: Spans, module: int, box: Box) -> None:
     """Draws dark modules in spans of a row as rectangles, a bit less than their dots: what touches a dot paints it."""
     modules = bits_of(row)
     for bar in (bar for span in spans for bar in DARK.finditer(modules, *span)):

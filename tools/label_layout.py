@@ -20,19 +20,13 @@ PAD, GAP, MODULE, LARGEST_MODULE = 1.0, 1.0, 0.33, 0.66
 GUARD, DIGITS_TOP, DIGITS_ROOM, DIGITS_SIZE = 5, 1, 10, 10.4
 # the lowest Code 128 as a part of its width
 LOWEST_PART = 0.15
-
-
-class Symbology(NamedTuple):
-    """The smallest module, nominal and lowest bars in mm; guards; digits of the data, and what they are below."""
-
-    title: str
-    smallest: float
-    nominal: float = 0.0
-    lowest: float = 0.0
-    guards: tuple[tuple[int, int], ...] = ()
-    digits: tuple[tuple[int, int, int, int], ...] = ()
-
-
+# the smallest module, nominal and lowest bars in millimetres; guards, from module to module; digits of the data, from
+# one to another one, and in the middle of which modules they are
+Spans = tuple[tuple[int, ...], ...]
+Symbology = NamedTuple(
+    "Symbology",
+    [("title", str), ("smallest", float), ("nominal", float), ("lowest", float), ("guards", Spans), ("digits", Spans)],
+)
 # ISO/IEC 15420: the smallest module is 80 % of 0.33 mm; bars have their heights at 100 % and 80 %
 EAN13 = ((11, 14), (56, 61), (103, 106)), ((0, 1, 2, 9), (1, 7, 14, 56), (7, 13, 61, 103))
 EAN8 = ((7, 10), (38, 43), (71, 74)), ((0, 4, 10, 38), (4, 8, 43, 71))
@@ -41,8 +35,8 @@ SYMBOLOGIES = {
     "ean13": Symbology("EAN-13", 0.264, 22.85, 18.28, *EAN13),
     "ean8": Symbology("EAN-8", 0.264, 18.23, 14.58, *EAN8),
     "upca": Symbology("UPC-A", 0.264, 22.85, 18.28, *UPCA),
-    "code128": Symbology("Code 128", 0.25, 15.0, 6.0),
-    "qr": Symbology("QR Code", 0.25),
+    "code128": Symbology("Code 128", 0.25, 15.0, 6.0, (), ()),
+    "qr": Symbology("QR Code", 0.25, 0.0, 0.0, (), ()),
 }
 
 # a rectangle in which a part of a label may have ink
