@@ -15,7 +15,7 @@ import zxingcpp
 
 import jobs
 import support
-import label_stock
+import label_layout
 from label_draw import Pen, Style, dots_of, fault_in, fault_of, ink_of
 from label_file import Label, parse_file, run_labels
 from label_layout import Planner
@@ -43,7 +43,7 @@ def planned(data: bytes, cell: Tuple[float, float], dpi: int, *sizes: float) -> 
     labels, _, _ = parse_file(data, "lines", False)
     pictures, refused = run_labels(data, [])
     assert not refused
-    planner = Planner(label_stock.Sheet(cell, cell, [(0.0, 0.0)]), dpi, 0.0, *(sizes or (None, None)))
+    planner = Planner(label_layout.Sheet(cell, cell, [(0.0, 0.0)]), dpi, 0.0, *(sizes or (None, None)))
     pen = Pen(dpi, True, "DejaVu Sans", "DejaVu Sans Mono")
     for label in labels:
         label.width, label.height, label.modules = pictures[label.number]
@@ -477,14 +477,14 @@ class ReadBack(unittest.TestCase):
 
 class Stock(unittest.TestCase):
     def setUp(self) -> None:
-        if not label_stock.TEMPLATES.exists():
+        if not label_layout.TEMPLATES.exists():
             support.skip("not installed: glabels-data")
 
     def test_names(self) -> None:
         for name in ("Avery L7160", "avery l 7160", "AVERY-L7160", "l7160"):
-            self.assertEqual(str(label_stock.stock_sheet(name)), "21 of 63.99 by 38.1 mm on 210 by 297 mm", name)
-        self.assertEqual(len(label_stock.stock_sheet("Herma 4464").places), 24)
-        self.assertAlmostEqual(label_stock.stock_sheet("Herma 4464").beyond(), 0.61, 2)
+            self.assertEqual(str(label_layout.stock_sheet(name)), "21 of 63.99 by 38.1 mm on 210 by 297 mm", name)
+        self.assertEqual(len(label_layout.stock_sheet("Herma 4464").places), 24)
+        self.assertAlmostEqual(label_layout.stock_sheet("Herma 4464").beyond(), 0.61, 2)
 
     def test_refusals(self) -> None:
         for name, reason in (
@@ -497,42 +497,42 @@ class Stock(unittest.TestCase):
             self.assertEqual((done.returncode, done.stdout), (2, b""))
             self.assertIn(reason, done.stderr.decode(), name)
         names: Dict[str, set] = {}
-        for brand, part in label_stock.parts():
-            names.setdefault(label_stock.plain(part), set()).add(brand)
+        for brand, part in label_layout.parts():
+            names.setdefault(label_layout.plain(part), set()).add(brand)
         shared = next(name for name, brands in names.items() if len(brands) > 1)
         with self.assertRaisesRegex(Exception, "several makers have it: "):
-            label_stock.stock_sheet(shared)
+            label_layout.stock_sheet(shared)
 
     def test_list(self) -> None:
         done = support.printed("--list-stock", "herma 4464")
         self.assertEqual((done.returncode, done.stdout), (0, b"Herma 4464: 24 of 70.2 by 37.04 mm on 210 by 297 mm\n"))
         done = support.printed("--list-stock", "nowhere")
         self.assertEqual((done.returncode, done.stdout.strip()), (1, b""))
-        self.assertGreater(len(list(label_stock.list_stock(""))), 1400)
+        self.assertGreater(len(list(label_layout.list_stock(""))), 1400)
 
     def test_lengths_namespaces_and_chains(self) -> None:
-        self.assertGreater(sum(brand == "Hama" for brand, _ in label_stock.parts()), 3)
-        self.assertAlmostEqual(label_stock.stock_sheet("Herma 4464").cell[0], 199 / 72 * 25.4)
-        element = label_stock.parts()["Connect", "KF10647"]
+        self.assertGreater(sum(brand == "Hama" for brand, _ in label_layout.parts()), 3)
+        self.assertAlmostEqual(label_layout.stock_sheet("Herma 4464").cell[0], 199 / 72 * 25.4)
+        element = label_layout.parts()["Connect", "KF10647"]
         layout = next(element.iterfind(".//{*}Layout"))
-        self.assertLess(label_stock.size_of(layout, "x0", "y0")[0], 1e-9)
-        followed = [key for key, part in label_stock.parts().items() if part.get("equiv")]
+        self.assertLess(label_layout.size_of(layout, "x0", "y0")[0], 1e-9)
+        followed = [key for key, part in label_layout.parts().items() if part.get("equiv")]
         self.assertGreater(len(followed), 500)
-        several = label_stock.sheet_of(("JAC", "F-3070"))
-        layouts = list(label_stock.parts()["JAC", "F-3070"].iterfind(".//{*}Layout"))
+        several = label_layout.sheet_of(("JAC", "F-3070"))
+        layouts = list(label_layout.parts()["JAC", "F-3070"].iterfind(".//{*}Layout"))
         self.assertGreater(len(layouts), 1)
         self.assertEqual(len(several.places), sum(int(one.get("nx", 0)) * int(one.get("ny", 0)) for one in layouts))
-        same = label_stock.sheet_of(("Avery", "J8160"))
-        self.assertEqual(same, label_stock.sheet_of(("Avery", "L7160")))
+        same = label_layout.sheet_of(("Avery", "J8160"))
+        self.assertEqual(same, label_layout.sheet_of(("Avery", "L7160")))
 
     def test_without_the_package(self) -> None:
         with tempfile.TemporaryDirectory() as folder, unittest.mock.patch.object(
-            label_stock, "TEMPLATES", Path(folder)
+            label_layout, "TEMPLATES", Path(folder)
         ):
-            label_stock.parts.cache_clear()
-            self.addCleanup(label_stock.parts.cache_clear)
+            label_layout.parts.cache_clear()
+            self.addCleanup(label_layout.parts.cache_clear)
             with self.assertRaisesRegex(Exception, "apt-get install glabels-data"):
-                label_stock.stock_sheet("l7160")
+                label_layout.stock_sheet("l7160")
 
 
 if __name__ == "__main__":
