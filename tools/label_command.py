@@ -6,10 +6,9 @@ import signal
 import sys
 from contextlib import contextmanager, suppress
 from io import RawIOBase, TextIOWrapper
-from typing import BinaryIO, Callable, Iterator, NoReturn, Optional
+from typing import Any, BinaryIO, Callable, Iterator, NoReturn, Optional
 
-BAD_ARGUMENTS = 2
-INTERRUPTED = 130
+BAD_ARGUMENTS, INTERRUPTED = 2, 130
 
 
 class ToolError(Exception):
@@ -74,32 +73,26 @@ def main_of(tool: str, function: Callable[[], Optional[int]]) -> NoReturn:
     sys.exit(status)
 
 
-class Signals:
-    """Takes the signals that end a tool, but for those that it was started to ignore.
+def on_signals(action: Any = signal.SIG_DFL) -> None:
+    """Sets what the signals do that end a tool, but for those that it was started to ignore."""
+    for number in (signal.SIGHUP, signal.SIGINT, signal.SIGTERM):
+        if signal.getsignal(number) != signal.SIG_IGN:
+            signal.signal(number, action)
 
-    A signal ends the tool at once; inside of hold() it does so at its end, but a second one at once.
-    """
 
-    def __init__(self) -> None:
-        self.is_held, self.taken = False, 0
-        for number in (signal.SIGHUP, signal.SIGINT, signal.SIGTERM):
-            if signal.getsignal(number) != signal.SIG_IGN:
-                signal.signal(number, self.take)
+@contextmanager
+def hold_signals() -> Iterator[None]:
+    """Holds a signal back while something goes out that has to be whole; a second one ends the tool at once."""
+    taken: list[int] = []
 
-    def take(self, number: int, _: object) -> None:
-        """Ends the tool by a signal, or keeps it for the end of hold()."""
-        if not self.is_held or self.taken:
-            signal.signal(number, signal.SIG_DFL)
+    def take(number: int, _: object) -> None:
+        taken.append(number)
+        on_signals()
+
+    on_signals(take)
+    try:
+        yield
+    finally:
+        on_signals()
+        for number in taken:
             os.kill(os.getpid(), number)
-        self.taken = number
-
-    @contextmanager
-    def hold(self) -> Iterator[None]:
-        """Holds signals back while something goes out that has to be whole."""
-        self.is_held = True
-        try:
-            yield
-        finally:
-            self.is_held = False
-            if self.taken:
-                self.take(self.taken, None)

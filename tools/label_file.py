@@ -9,7 +9,6 @@ import os
 import re
 import subprocess
 import sys
-import tempfile
 from dataclasses import dataclass
 from io import BytesIO
 from pathlib import Path
@@ -18,15 +17,14 @@ from typing import Any, Iterator, Optional
 from label_command import ToolError
 
 VERSION, MOST_COPIES, OBJECT, LABELS_FAILED = 1, 9999, b"#{", 3
-# the keys of each kind of object: a number, a text, or a list of one of these
-HEAD: dict[str, Any] = {"labels": int, "table": str}
-END: dict[str, Any] = {"end": int, "lines": int, "left_out": [int], "left_out_count": int}
+# the keys of objects: a number, a text, or a list of one of these
 FIELDS: dict[str, Any] = {"row": int, "title": str, "text": [str], "price": str, "copies": int}
+KEYS = FIELDS | {"labels": int, "table": str, "end": int, "lines": int, "left_out": [int], "left_out_count": int}
 # what Pango cuts a text at or takes for a line end: controls (but LF), line and paragraph separators; lone surrogates
 UNPRINTABLE = re.compile("[\x00-\x09\x0b-\x1f\x7f-\x9f\u2028\u2029\ud800-\udfff]")
 DIGITS_WITHOUT_CHECK = {"ean13": 12, "ean8": 7, "upca": 11}
 ESCAPE, ESCAPED = re.compile(rb"\\(?:x([0-9A-Fa-f]{2})|([n\\]))"), {b"n": b"\n", b"\\": b"\\"}
-REFUSAL, PICTURE = re.compile(r"line ([0-9]+): (.+)"), re.compile(rb"([0-9]+) ([0-9]+)\n([01\n]+)")
+REFUSAL, PICTURE = re.compile(r"line ([0-9]+): (.+)"), re.compile(rb"P1\n([0-9]+) ([0-9]+)\n([01\n]+)")
 # where a label is from: the table, `row` or (where that is not known) `line`, and its number
 Place = tuple[str, str, int]
 # width, height and modules of a picture: rows of whole bytes, one after another, in which 1 is dark
@@ -35,10 +33,7 @@ Modules = tuple[int, int, bytes]
 
 @dataclass(slots=True)
 class Label:
-    """A line of labels(1), its data with the check digit, and what belongs to it: its picture and layout come later.
-
-    The picture is `width` by `height` modules; bars have one row, and a height of 1 where the line sets none.
-    """
+    """A line of labels(1), its data with the check digit, and what belongs to it; bars of no set height have 1 row."""
 
     number: int
     symbology: str
@@ -56,12 +51,10 @@ class Label:
 
 def read_input(path: Optional[str]) -> tuple[str, bytes]:
     """The name and bytes of a file, or of standard input where it is None or `-`; raises ToolError if it is empty."""
-    if path not in (None, "-"):
-        name, data = str(path), Path(str(path)).read_bytes()
-    elif sys.stdin is None:
+    path = None if path == "-" else path
+    if path is None and sys.stdin is None:
         raise ToolError("standard input is closed")
-    else:
-        name, data = "standard input", sys.stdin.buffer.read()
+    name, data = path or "standard input", Path(path).read_bytes() if path else sys.stdin.buffer.read()
     if not data:
         raise ToolError(f"{name} is empty: nothing is printed")
     return name, data
@@ -72,47 +65,32 @@ def lines_of(data: bytes) -> Iterator[bytes]:
     return (line.removesuffix(b"\n") for line in BytesIO(data))
 
 
-def is_skipped(line: bytes) -> bool:
-    """Whether labels(1) draws nothing for a line."""
-    return not line or line.startswith(b"#")
-
-
 def parse_file(data: bytes, name: str, has_escapes: bool) -> tuple[list[Label], list[Place], int]:
-    """The labels of a file, where the rows are from that label-table left out (the first ones), and their number.
-
-    Raises ToolError where a part is not whole, or a remark is not understood.
-    """
+    """The labels of a file that is whole, where rows are from that label-table left out (the first), their number."""
     labels, left_out, left_out_count = list[Label](), list[Place](), 0
-    table, waiting, head, first = "", dict[str, Any](), 0, 0
+    waiting, table, first, torn = dict[str, Any](), "", -1, ""
     for number, line in enumerate(lines_of(data), 1):
-        if not is_skipped(line):
-            labels.append(label_of(line, number, table, waiting, has_escapes))
-            waiting = {}
-        elif line.startswith(OBJECT):
-            found, count = parse_object(line, f"{name}: line {number}"), len(labels) - first
-            if waiting:
-                raise not_whole(name, f"the remark before line {number} belongs to no line")
-            if "labels" in found and head:
-                raise not_whole(name, f"what begins in line {head} has no end")
-            if "end" in found and not (head and found.get("lines") == count):
-                raise not_whole(name, f"line {number} ends {found.get('lines')} lines, and there are {count}")
+        if line.startswith(OBJECT):
+            found, count = parse_object(line, f"{name}: line {number}"), len(labels) - first if first >= 0 else -1
+            if waiting or ("labels" in found and count >= 0) or ("end" in found and found.get("lines", -2) != count):
+                torn = torn or f"before line {number}"
             if "labels" in found:
-                table, head, first = found.get("table", ""), number, len(labels)
+                table, first, waiting = found.get("table", ""), len(labels), {}
             elif "end" in found:
                 left_out += [(table, "row", row) for row in found.get("left_out", [])]
                 left_out_count += found.get("left_out_count", 0)
-                table, head = "", 0
+                table, first, waiting = "", -1, {}
             else:
                 waiting = found
-    if waiting or head or (data.startswith(OBJECT) and not data.endswith(b"\n")):
-        raise not_whole(name, "its end is missing")
+        elif line and not line.startswith(b"#"):
+            labels.append(label_of(line, number, table, waiting, has_escapes))
+            waiting = {}
+    if waiting or first >= 0 or (data.startswith(OBJECT) and not data.endswith(b"\n")):
+        torn = torn or "at its end"
+    if torn:
+        hint = 'to print it all the same, take out its lines that begin with #{"labels" and #{"end"'
+        raise ToolError(f"{name} is not whole: something is missing {torn}. Nothing is printed; {hint}")
     return labels, left_out, left_out_count
-
-
-def not_whole(name: str, reason: str) -> ToolError:
-    """The error for a file of which a part is missing."""
-    hint = 'to print it all the same, take out its lines that begin with #{"labels" and #{"end"'
-    return ToolError(f"{name} is not whole: {reason}. Nothing is printed; {hint}")
 
 
 def parse_object(line: bytes, where: str) -> dict[str, Any]:
@@ -121,8 +99,7 @@ def parse_object(line: bytes, where: str) -> dict[str, Any]:
         found: dict[str, Any] = json.loads(line[1:])
     except (ValueError, RecursionError) as error:
         raise ToolError(f"{where}: the remark is no JSON object: the file is cut off or changed") from error
-    keys = HEAD if "labels" in found else END if "end" in found else FIELDS
-    wrong = [key for key, value in found.items() if key not in keys or not is_of(value, keys[key])]
+    wrong = [key for key, value in found.items() if key not in KEYS or not is_of(value, KEYS[key])]
     if found.get("labels", found.get("end", VERSION)) != VERSION:
         raise ToolError(f"{where}: the file is of another version of label-table: make it again")
     if not found or wrong or "\n" in found.get("price", "") or found.get("copies", 0) > MOST_COPIES:
@@ -158,42 +135,38 @@ def check_digit(digits: bytes) -> bytes:
     return b"%d" % (-total % 10)
 
 
-def run_labels(data: bytes, words: list[str]) -> tuple[list[Modules], dict[int, str]]:
-    """The pictures of labels(1) for these lines, a module being a pixel, and its message for each line it refuses.
+def run_labels(data: bytes, words: list[str]) -> tuple[dict[int, Modules], dict[int, str]]:
+    """The pictures of labels(1), a module being a pixel, and its messages for what it refuses, by the lines' numbers.
 
     `words` are options for it. Raises ToolError where it is not there, or fails: status 2 for bad arguments, else 3.
     """
     command = [os.environ.get("LABELS") or "labels", *words, "--format", "pbm", "--scale", "1", "--height", "1"]
-    with tempfile.TemporaryFile() as lines, tempfile.TemporaryFile() as messages:
-        lines.write(data)
-        lines.seek(0)
-        try:  # in a session of its own: Ctrl-C on the terminal is for the tool alone
-            run = subprocess.Popen(command, 0, None, lines, subprocess.PIPE, messages, start_new_session=True)
-        except OSError as error:
-            hint = "install labels on the path, or name it in $LABELS"
-            raise ToolError(f"cannot run {command[0]}: {error.strerror}: {hint}") from error
-        pictures, rest = list[Modules](), b""
-        with run:
-            while run.stdout and (chunk := run.stdout.read(1 << 20)):
-                *whole, rest = (rest + chunk).split(b"P1\n")
-                pictures += map(modules_of, filter(None, whole))
-        pictures += map(modules_of, filter(None, [rest]))
-        messages.seek(0)
-        said = messages.read().decode("utf-8", "backslashreplace").splitlines()
-    if run.returncode not in (0, 1):
-        message = f"labels ended with status {run.returncode}: {'; '.join(said[-1:])}"
-        raise ToolError(message, 2 if run.returncode == 2 else LABELS_FAILED)
-    return pictures, {int(match[1]): match[2] for match in map(REFUSAL.fullmatch, said) if match}
+    try:  # in a session of its own: Ctrl-C on the terminal is for the tool alone
+        done = subprocess.run(command, input=data, capture_output=True, start_new_session=True)
+    except OSError as error:
+        hint = "install labels on the path, or name it in $LABELS"
+        raise ToolError(f"cannot run {command[0]}: {error.strerror}: {hint}") from error
+    said = done.stderr.decode("utf-8", "backslashreplace").splitlines()
+    if done.returncode not in (0, 1):
+        message = f"labels ended with status {done.returncode}: {'; '.join(said[-1:])}"
+        raise ToolError(message, 2 if done.returncode == 2 else LABELS_FAILED)
+    refused = {int(match[1]): match[2] for match in map(REFUSAL.fullmatch, said) if match}
+    lines = (number for number, line in enumerate(lines_of(data), 1) if line and not line.startswith(b"#"))
+    drawn = [number for number in lines if number not in refused]
+    pictures = list(map(modules_of, PICTURE.finditer(done.stdout)))
+    if len(drawn) != len(pictures):
+        raise ToolError("labels did not draw or refuse each line: which is which is not known", LABELS_FAILED)
+    return dict(zip(drawn, pictures)), refused
 
 
-def modules_of(picture: bytes) -> Modules:
-    """The modules of a picture of plain PBM without its first line."""
-    match = PICTURE.fullmatch(picture)
-    width, height, pixels = (int(match[1]), int(match[2]), match[3].replace(b"\n", b"")) if match else (0, 0, b"")
+def modules_of(picture: re.Match[bytes]) -> Modules:
+    """The modules of a picture of plain PBM; of bars, whose rows are alike, one row."""
+    width, height, pixels = int(picture[1]), int(picture[2]), picture[3].replace(b"\n", b"")
     if not pixels or len(pixels) != width * height:
         raise ToolError("labels drew what is no picture of plain PBM", LABELS_FAILED)
-    rows = (pixels[start : start + width] for start in range(0, len(pixels), width))
-    return width, height, b"".join((int(row, 2) << -width % 8).to_bytes(bytes_a_row(width), "big") for row in rows)
+    rows = [pixels[start : start + width] for start in range(0, len(pixels), width)]
+    packed = ((int(row, 2) << -width % 8).to_bytes(bytes_a_row(width), "big") for row in rows)
+    return width, height, next(packed) if len(set(rows)) == 1 else b"".join(packed)
 
 
 def bytes_a_row(width: int) -> int:

@@ -1,15 +1,29 @@
-"""How a label is laid out: the first that fits of a list, one for each symbology of a file. Lengths are in dots.
+"""Sheets of labels, as given or as glabels knows them, and how a label is laid out: the first way that fits of a list.
 
-From the top: title, bars, digits, text; the price is beside the bars, or below all.
+A label has, from the top: title, bars, digits, text; the price is beside the bars, or below all. Labels of a symbology
+are alike. Lengths of sheets are in millimetres, those of labels in dots.
 """
 
 import math
+import re
+from collections import defaultdict
+from contextlib import suppress
+from functools import cache
 from itertools import product
-from typing import Collection, Iterator, NamedTuple, Optional
+from pathlib import Path
+from typing import Iterable, Iterator, NamedTuple, Optional
+from xml.etree.ElementTree import Element, parse
 
+from label_command import BAD_ARGUMENTS, ToolError
 from label_file import Label
-from label_stock import Sheet, size_text
 
+Size = tuple[float, float]
+TEMPLATES = Path("/usr/share/libglabels-3.0/templates")
+# millimetres of each unit; a length without one is in points
+UNITS = {"mm": 1.0, "cm": 10.0, "in": 25.4, "pt": 25.4 / 72, "pc": 25.4 / 6, "": 25.4 / 72}
+LENGTH = re.compile(r"\s*(-?[0-9.]+(?:[eE][+-]?[0-9]+)?)\s*(mm|cm|in|pt|pc|)\s*")
+# cells may leave their page by this length in millimetres: the sizes of makers are rounded
+MOST_BEYOND = 1.0
 # sizes of letters in points, and the distance of two base lines in sizes; millimetres in a point
 TITLE, TEXT, LINE, POINT = 9.5, 8.0, 1.2, 25.4 / 72
 PRICE_SIZES = (17, 16, 15, 14, 13, 12, 11, 10)
@@ -19,67 +33,136 @@ PAD, GAP, MODULE, LARGEST_MODULE = 1.0, 1.0, 0.33, 0.66
 GUARD, DIGITS_TOP, DIGITS_ROOM, DIGITS_SIZE = 5, 1, 10, 10.4
 # the lowest Code 128 as a part of its width
 LOWEST_PART = 0.15
-
-
-class Digits(NamedTuple):
-    """Digits of the data, where they are below bars (modules from the left edge), the part of room before them."""
-
-    first: int
-    last: int
-    left: int
-    right: int
-    free_part: float = 0.5
-    scale: float = 1.0
-
-
-class Symbology(NamedTuple):
-    """What a symbology asks for: smallest module, nominal and lowest bars in mm; guards and digits in modules."""
-
-    title: str
-    smallest: float
-    nominal: float = 0.0
-    lowest: float = 0.0
-    guards: tuple[tuple[int, int], ...] = ()
-    digits: tuple[Digits, ...] = ()
-
-
+# the smallest module, nominal and lowest bars in millimetres; guards, from module to module; digits of the data, from
+# one to another one, and in the middle of which modules they are
+Spans = tuple[tuple[int, ...], ...]
+Symbology = NamedTuple(
+    "Symbology",
+    [("title", str), ("smallest", float), ("nominal", float), ("lowest", float), ("guards", Spans), ("digits", Spans)],
+)
 # ISO/IEC 15420: the smallest module is 80 % of 0.33 mm; bars have their heights at 100 % and 80 %
-EAN13 = (Digits(0, 1, 0, 9, 1), Digits(1, 7, 14, 56), Digits(7, 13, 61, 103))
-EAN8 = (Digits(0, 4, 10, 38), Digits(4, 8, 43, 71))
-UPCA = (Digits(0, 1, 0, 6, 1, 0.75), Digits(1, 6, 19, 54), Digits(6, 11, 59, 94), Digits(11, 12, 107, 113, 0, 0.75))
+EAN13 = ((11, 14), (56, 61), (103, 106)), ((0, 1, 2, 9), (1, 7, 14, 56), (7, 13, 61, 103))
+EAN8 = ((7, 10), (38, 43), (71, 74)), ((0, 4, 10, 38), (4, 8, 43, 71))
+UPCA = ((9, 19), (54, 59), (94, 104)), ((0, 1, 1, 6), (1, 6, 19, 54), (6, 11, 59, 94), (11, 12, 107, 112))
 SYMBOLOGIES = {
-    "ean13": Symbology("EAN-13", 0.264, 22.85, 18.28, ((11, 14), (56, 61), (103, 106)), EAN13),
-    "ean8": Symbology("EAN-8", 0.264, 18.23, 14.58, ((7, 10), (38, 43), (71, 74)), EAN8),
-    "upca": Symbology("UPC-A", 0.264, 22.85, 18.28, ((9, 19), (54, 59), (94, 104)), UPCA),
-    "code128": Symbology("Code 128", 0.25, 15.0, 6.0),
-    "qr": Symbology("QR", 0.25),
+    "ean13": Symbology("EAN-13", 0.264, 22.85, 18.28, *EAN13),
+    "ean8": Symbology("EAN-8", 0.264, 18.23, 14.58, *EAN8),
+    "upca": Symbology("UPC-A", 0.264, 22.85, 18.28, *UPCA),
+    "code128": Symbology("Code 128", 0.25, 15.0, 6.0, (), ()),
+    "qr": Symbology("QR Code", 0.25, 0.0, 0.0, (), ()),
 }
 
 # a rectangle in which a part of a label may have ink
 Box = NamedTuple("Box", [("left", int), ("top", int), ("width", int), ("height", int)])
+# a way to lay out labels: where the price is, bars from so many millimetres on, lines of the title
+Way = NamedTuple("Way", [("module", int), ("is_beside", bool), ("bars", float), ("lines", int), ("price_size", int)])
+# a way, and the boxes of the parts of a label from the left upper corner of the area in which its cell takes ink
+Layout = NamedTuple("Layout", [("way", Way), ("symbology", Symbology), ("boxes", dict[str, Box])])
 # what decides how a label is laid out: its modules, its lines of text, the width of its price at the largest size
 Need = NamedTuple("Need", [("width", int), ("height", int), ("has_title", bool), ("lines", int), ("price", int)])
 
 
-class Way(NamedTuple):
-    """A way to lay out the labels of a symbology; with `is_nominal` bars have at least their nominal height."""
+class Sheet(NamedTuple):
+    """A page, the size of a cell, and the upper left corner of each cell, in millimetres."""
 
-    module: int
-    is_beside: bool
-    is_nominal: bool
-    title_lines: int
-    price_size: int
+    page: Size
+    cell: Size
+    places: list[Size]
+
+    def beyond(self) -> float:
+        """By how much the cells leave the page."""
+        cells = [(x, x + self.cell[0], y, y + self.cell[1]) for x, y in self.places]
+        return max(max(-left, right - self.page[0], -top, low - self.page[1]) for left, right, top, low in cells)
+
+    def __str__(self) -> str:
+        return f"{len(self.places)} of {size_text(self.cell)} on {size_text(self.page)}"
 
 
-# the parts of a label, from the left upper corner of the area in which its cell takes ink
-Layout = NamedTuple("Layout", [("way", Way), ("symbology", Symbology), ("boxes", dict[str, Box])])
+def size_text(size: Size) -> str:
+    """A size in words."""
+    return f"{size[0]:.4g} by {size[1]:.4g} mm"
+
+
+def grid_sheet(page: Size, cell: Size, columns: int, rows: int, margin: Optional[Size], gap: Size) -> Sheet:
+    """The sheet of a grid of cells, in the middle of the page where no margin is given."""
+    across, down = cell[0] + gap[0], cell[1] + gap[1]
+    left, top = margin or ((page[0] + gap[0] - columns * across) / 2, (page[1] + gap[1] - rows * down) / 2)
+    sheet = Sheet(page, cell, [(left + x * across, top + y * down) for y in range(rows) for x in range(columns)])
+    if sheet.beyond() > MOST_BEYOND:
+        raise ToolError(f"{sheet}: the cells leave the page by {sheet.beyond():.2f} mm", BAD_ARGUMENTS)
+    return sheet
+
+
+def stock_sheet(name: str) -> Sheet:
+    """The sheet of a part by its name, such as `Avery L7160` or `l7160`; raises ToolError where there is none."""
+    whole = [key for key in parts() if plain("".join(key)) == plain(name)]
+    found = whole or [key for key in parts() if plain(key[1]) == plain(name)]
+    if len(found) != 1:
+        several = "several makers have it: " + ", ".join(map(" ".join, found))
+        hint = several if found else "no such sheet: --list-stock WORD lists what there is"
+        raise ToolError(f"--stock {name}: {hint}", BAD_ARGUMENTS)
+    return sheet_of(found[0])
+
+
+def list_stock(words: str) -> Iterator[str]:
+    """A line for each part of rectangles whose name or sheet has these words."""
+    for key in parts():
+        with suppress(ToolError):
+            line = f"{' '.join(key)}: {sheet_of(key)}"
+            if all(word in line.lower() or plain(word) in plain("".join(key)) for word in words.lower().split()):
+                yield line
+
+
+def plain(name: str) -> str:
+    """A name without case, spaces and hyphens."""
+    return re.sub(r"[\s\-]", "", name).lower()
+
+
+@cache
+def parts() -> dict[tuple[str, str], Element]:
+    """Every part that glabels knows, by its maker and name."""
+    found = [part for path in TEMPLATES.glob("*.xml") for part in parse(path).iterfind("{*}Template")]
+    if not found:
+        raise ToolError("sheets by name need apt-get install glabels-data; else give --columns, --rows and --cell")
+    named = {(part.get("brand", ""), part.get("part", "")): part for part in found}
+    return {key: named[key] for key in sorted(named)}
+
+
+@cache
+def papers() -> dict[str, Size]:
+    """The sizes of paper that the parts name."""
+    return {one.get("id", ""): size_of(one) for one in parse(TEMPLATES / "paper-sizes.xml").iterfind("{*}Paper-size")}
+
+
+def size_of(element: Element, first: str = "width", second: str = "height") -> Size:
+    """Two lengths of an element in millimetres; one that it does not have is 0."""
+    matches = (LENGTH.fullmatch(element.get(name) or "0") for name in (first, second))
+    x, y = (float(match[1]) * UNITS[match[2]] if match else 0.0 for match in matches)
+    return x, y
+
+
+def sheet_of(key: tuple[str, str]) -> Sheet:
+    """The sheet of a part; raises ToolError where no label can be laid out for it."""
+    part, head, places = parts()[key], f"--stock {' '.join(key)}", list[Size]()
+    if same := part.get("equiv"):
+        return sheet_of((key[0], same))
+    cell = next(child for child in part if "Label-" in child.tag)
+    if not cell.tag.endswith("Label-rectangle"):
+        kind = cell.tag.rpartition("Label-")[2]
+        raise ToolError(f"{head}: its labels are no rectangles ({kind})", BAD_ARGUMENTS)
+    for layout in cell.iterfind("{*}Layout"):
+        (left, top), (across, down) = size_of(layout, "x0", "y0"), size_of(layout, "dx", "dy")
+        columns, rows = (range(int(layout.get(name, "0"))) for name in ("nx", "ny"))
+        places += [(left + x * across, top + y * down) for y in rows for x in columns]
+    places.sort(key=lambda at: at[::-1])
+    sheet = Sheet(papers().get(part.get("size", "")) or size_of(part), size_of(cell), places)
+    if not places or not min(sheet.cell) or sheet.beyond() > MOST_BEYOND:
+        raise ToolError(f"{head}: glabels has it larger than its page: give --columns, --rows, --cell", BAD_ARGUMENTS)
+    return sheet
 
 
 class Planner:
-    """Where the cells of a sheet take ink, at a number of dots an inch, and what is asked of the labels.
-
-    `edge` stays white at each edge of the page. A module and a height of bars may be given, all in millimetres.
-    """
+    """Where the cells of a sheet take ink, but for an edge; a module and a height of bars may be given. In mm."""
 
     def __init__(self, sheet: Sheet, dpi: int, edge: float, module: Optional[float], bars: Optional[float]) -> None:
         self.sheet, self.dpi, self.edge, self.module, self.bars = sheet, dpi, edge, module, bars
@@ -105,100 +188,99 @@ class Group:
 
     def __init__(self, symbology: Symbology, planner: Planner) -> None:
         self.symbology, self.planner, self.title_lines, self.price_height = symbology, planner, 0, 0
-        self.needs: dict[Need, list[Label]] = {}
+        self.needs: dict[Need, list[Label]] = defaultdict(list)
+        dot, wished = planner.dot, planner.module or MODULE
+        counts = [max(1, round(wished / dot))] if planner.module else range(1, int(LARGEST_MODULE / dot) + 1)
+        allowed = [count for count in counts if count * dot > symbology.smallest - 1e-6]
+        self.modules = sorted(allowed, key=lambda count: abs(count * dot - wished))
 
-    def modules(self) -> list[int]:
-        """The sizes of a module that are allowed, the nearest to what is aimed at first; just one if it is given."""
-        dot, wished = self.planner.dot, self.planner.module or MODULE
-        counts = [max(1, round(wished / dot))] if self.planner.module else range(1, int(LARGEST_MODULE / dot) + 1)
-        allowed = [count for count in counts if count * dot > self.symbology.smallest - 1e-6]
-        return sorted(allowed, key=lambda count: abs(count * dot - wished))
-
-    def ways(self) -> Iterator[Way]:
-        """The ways to lay out labels, in the order in which they are tried."""
+    def ways(self, need: Need) -> Iterator[Way]:
+        """The ways to lay out labels that are not too wide for their cells, in the order in which they are tried."""
         sides = (True, False) if self.price_height else (False,)
-        for module in self.modules():
-            yield from (Way(module, is_beside, True, 2, PRICE_SIZES[0]) for is_beside in sides)
-            yield from (Way(module, at, False, lines, size) for size, lines, at in product(PRICE_SIZES, (2, 1), sides))
+        nominal = [(at, self.symbology.nominal, 2, PRICE_SIZES[0]) for at in sides]
+        lower = [(at, self.symbology.lowest, lines, size) for size, lines, at in product(PRICE_SIZES, (2, 1), sides)]
+        for way in (Way(module, *rest) for module in self.modules for rest in nominal + lower):
+            across, price = need.width * way.module, scaled(need.price, way.price_size)
+            if (across + price if way.is_beside else max(across, price)) <= self.planner.width:
+                yield way
 
     def parts(self, way: Way, need: Need, bars: int) -> list[tuple[str, int]]:
         """The parts of a label from the top and their heights, with the white between them."""
         plan, symbology = self.planner, self.symbology
-        title, text = plan.title * min(way.title_lines, self.title_lines), plan.text * need.lines
-        digits = (
-            DIGITS_ROOM * way.module if symbology.digits else (plan.text + plan.gap // 2) * bool(symbology.nominal)
-        )
+        title, text = plan.title * min(way.lines, self.title_lines), plan.text * need.lines
+        data = plan.text + plan.gap // 2 if symbology.nominal else 0
+        digits = DIGITS_ROOM * way.module if symbology.digits else data
         price = 0 if way.is_beside else scaled(self.price_height, way.price_size)
         above = [("title", title), ("", plan.gap * bool(title)), ("bars", bars), ("digits", digits)]
         return above + [("", plan.gap * bool(text)), ("text", text), ("", plan.gap * bool(price)), ("price", price)]
 
-    def most(self, way: Way, needs: Collection[Need]) -> tuple[int, int]:
-        """The highest bars of some labels, each as low as is allowed, and the highest of all their other parts."""
-        plan, bars = self.planner, []
-        for need in needs:
-            part = 0 if self.symbology.digits or plan.bars else math.ceil(LOWEST_PART * need.width * way.module)
-            nominal = self.symbology.nominal if way.is_nominal else self.symbology.lowest
-            bars.append(need.height * way.module if need.height > 1 else max(plan.dots(plan.bars or nominal), part))
-        return max(bars), max(sum(height for _, height in self.parts(way, need, 0)) for need in needs)
+    def heights(self, way: Way, need: Need) -> tuple[int, int]:
+        """The height of the lowest bars that are allowed, and that of all other parts."""
+        plan, bars = self.planner, need.height * way.module
+        if self.symbology.nominal:
+            part = 0 if self.symbology.digits or plan.bars else LOWEST_PART * need.width * way.module
+            bars = max(bars, math.ceil(part), plan.dots(plan.bars or way.bars))
+        return bars, sum(height for _, height in self.parts(way, need, 0))
 
-    def is_narrow(self, way: Way, need: Need) -> bool:
-        """Whether a label is as wide as its cell at most."""
-        across, price = need.width * way.module, scaled(need.price, way.price_size)
-        return (across + price if way.is_beside else max(across, price)) <= self.planner.width
-
-    def first_way(self, needs: Collection[Need]) -> Optional[Way]:
-        """The first way that fits all of some labels."""
-        for way in self.ways():
-            if all(self.is_narrow(way, need) for need in needs):
-                bars, others = self.most(way, needs)
-                beside = scaled(self.price_height, way.price_size) if way.is_beside else 0
-                if beside <= bars <= self.planner.height - others:
-                    return way
+    def first_way(self, need: Need) -> Optional[Way]:
+        """The first way that fits."""
+        for way in self.ways(need):
+            bars, others = self.heights(way, need)
+            beside = scaled(self.price_height, way.price_size) if way.is_beside else 0
+            if beside <= bars <= self.planner.height - others:
+                return way
         return None
 
-    def choose(self) -> list[Need]:
-        """Gives each label its layout: the first that fits all, or else each its own; returns what nothing fits."""
-        own = {need: way for need in self.needs if (way := self.first_way([need]))}
-        common = self.first_way(own) if own else None
-        for needs in [list(own)] if common else [[need] for need in own]:
-            self.lay_out(common or own[needs[0]], needs)
-        return [need for need in self.needs if need not in own]
+    def choose(self) -> dict[int, str]:
+        """Gives labels their layout: the first that fits all, or else each its own; returns why some have none."""
+        own = {need: way for need in self.needs if (way := self.first_way(need))}
+        needs = most(own)
+        common = self.first_way(needs) if own else None
+        for need, way in own.items():
+            self.lay_out(need, common or way, needs if common else need)
+        left_out = [need for need in self.needs if need not in own]
+        reason = self.reason(most(left_out)) if left_out else ""
+        return {label.number: reason for need in left_out for label in self.needs[need]}
 
-    def lay_out(self, way: Way, needs: list[Need]) -> None:
-        """Gives labels one layout, in which their bars begin in the same place."""
-        plan, (bars, others) = self.planner, self.most(way, needs)
+    def lay_out(self, need: Need, way: Way, all_needs: Need) -> None:
+        """Gives labels a layout; for all of some needs bars begin in the same place."""
+        plan, (bars, others) = self.planner, self.heights(way, all_needs)
         if self.symbology.nominal and not plan.bars:
             bars = max(bars, min(plan.dots(self.symbology.nominal), plan.height - others))
-        for need in needs:
-            top, across, boxes = (plan.height - others - bars) // 2, need.width * way.module, dict[str, Box]()
-            left = 0 if way.is_beside else (plan.width - across) // 2
-            for kind, height in self.parts(way, need, bars if need.height == 1 else need.height * way.module):
+        top, across, boxes = (plan.height - others - bars) // 2, need.width * way.module, dict[str, Box]()
+        has = {"": False, "title": need.has_title, "price": need.price}
+        left = 0 if way.is_beside else (plan.width - across) // 2
+        for kind, height in self.parts(way, need, need.height * way.module if need.height > 1 else bars):
+            if height and has.get(kind, True):
                 is_symbol = kind in ("bars", "digits")
                 boxes[kind] = Box(left if is_symbol else 0, top, across if is_symbol else plan.width, height)
-                top += height
-            if way.is_beside:
-                boxes["price"] = boxes["bars"]._replace(left=across, width=plan.width - across)
-            has = {"": False, "title": need.has_title, "price": need.price}
-            there = {kind: box for kind, box in boxes.items() if box.height and has.get(kind, True)}
-            layout = Layout(way, self.symbology, there)
-            for label in self.needs[need]:
-                label.layout = layout
+            top += height
+        if way.is_beside and need.price:
+            boxes["price"] = boxes["bars"]._replace(left=across, width=plan.width - across)
+        for label in self.needs[need]:
+            label.layout = Layout(way, self.symbology, boxes)
 
-    def reason(self, needs: list[Need]) -> str:
+    def reason(self, need: Need) -> str:
         """Why labels do not fit, and what would."""
-        plan, symbology, need = self.planner, self.symbology, Need(*[max(values) for values in zip(*needs)])
-        modules, taken = self.modules(), size_text((plan.width * plan.dot, plan.height * plan.dot))
-        if not modules:
+        plan, symbology = self.planner, self.symbology
+        if not self.modules:
             return f"{symbology.title}: no whole number of dots is a module of {symbology.smallest:g} mm or more"
-        if found := [self.most(way, [need]) for way in self.ways() if self.is_narrow(way, need)]:
-            room = math.floor((plan.height - min(others for _, others in found)) * plan.dot)
-            least = f"{min(bars + others for bars, others in found) * plan.dot:.1f} mm high, with its texts"
+        if sizes := [self.heights(way, need) for way in self.ways(need)]:
+            bars, others = min(sizes, key=sum)
+            room = math.floor((plan.height - others) * plan.dot)
+            least = f"{(bars + others) * plan.dot:.1f} mm high, with its texts"
             hint = ", less text" + f", --height {room}" * bool(symbology.nominal and room >= 1)
         else:
-            wide = max(need.width * min(modules), scaled(need.price, PRICE_SIZES[-1])) * plan.dot
-            least = f"{wide:.1f} mm wide, with modules of {min(modules) * plan.dot:.3f} mm"
+            wide = max(need.width * min(self.modules), scaled(need.price, PRICE_SIZES[-1])) * plan.dot
+            least = f"{wide:.1f} mm wide, with modules of {min(self.modules) * plan.dot:.3f} mm"
             hint = ", shorter data" * (not symbology.digits) + ", a smaller --module" * bool(plan.module)
+        taken = size_text((plan.width * plan.dot, plan.height * plan.dot))
         return f"{symbology.title} is {least}, and a label takes {taken}: take a larger label{hint}"
+
+
+def most(needs: Iterable[Need]) -> Need:
+    """The most that is needed."""
+    return Need._make(map(max, zip(*needs, Need(0, 0, False, 0, 0))))
 
 
 def scaled(length: int, size: int) -> int:

@@ -3,16 +3,20 @@
 A job that announces more than it sends, or that holds any other byte, raises JobError. Dots are rows of 0 and 1.
 """
 
+import base64
+import binascii
 import re
 import struct
+import zlib
 from io import BytesIO
 from typing import List, Tuple
 
 import numpy
 
 ZPL_LABEL = re.compile(rb"\^XA\^LH0,0\^PW([0-9]+)\^LL([0-9]+)\n(.*?)\^XZ\n", re.DOTALL)
-ZPL_FIELD = re.compile(rb"\^FO([0-9]+),([0-9]+)\^GFA,([0-9]+),([0-9]+),([0-9]+),([0-9A-Zg-z,:!]*)\^FS\n")
-ZPL_PIECE = re.compile(rb"([G-Yg-z]*)([0-9A-F,:!])")
+ZPL_FIELD = re.compile(
+    rb"\^FO([0-9]+),([0-9]+)\^GFA,([0-9]+),([0-9]+),([0-9]+),:Z64:([0-9A-Za-z+/=]+):([0-9A-F]{4})\^FS\n"
+)
 RESET, CUT = b"\x1b@", b"\x1bd\x03\x1dVB\x00"
 
 
@@ -35,10 +39,12 @@ def dots_of_zpl(job: bytes) -> List[numpy.ndarray]:
             if not field:
                 raise JobError(f"no field: {label[3][place:place + 40]!r}")
             x, y, sent, total, size = (int(field[group]) for group in range(1, 6))
-            rows = rows_of_zpl(field[6], size)
-            if not sent == total == len(rows) * size or not 1 <= total <= 99_999:
-                raise JobError(f"{sent} and {total} bytes are announced, and there are {len(rows) * size}")
-            bits = numpy.unpackbits(numpy.frombuffer(b"".join(rows), dtype=numpy.uint8).reshape(-1, size), axis=1)
+            data = zlib.decompress(base64.b64decode(field[6], validate=True))
+            if not sent == total == len(data) or not 1 <= total <= 99_999 or total % size:
+                raise JobError(f"{sent} and {total} bytes are announced, and there are {len(data)}")
+            if binascii.crc_hqx(field[6], 0) != int(field[7], 16):
+                raise JobError("the check sum of a field is wrong")
+            bits = numpy.unpackbits(numpy.frombuffer(data, dtype=numpy.uint8).reshape(-1, size), axis=1)
             if x + bits.shape[1] > dots.shape[1] or y + bits.shape[0] > height:
                 raise JobError("a field leaves its label")
             dots[y : y + bits.shape[0], x : x + bits.shape[1]] |= bits
@@ -46,32 +52,6 @@ def dots_of_zpl(job: bytes) -> List[numpy.ndarray]:
         labels.append(dots[:, :width])
         at = label.end()
     return labels
-
-
-def rows_of_zpl(data: bytes, size: int) -> List[bytes]:
-    """The rows of a graphic field: hexadecimal digits with counts; `,` and `!` fill a row, `:` repeats the last."""
-    rows: List[bytes] = []
-    digits, at = b"", 0
-    while at < len(data):
-        piece = ZPL_PIECE.match(data, at)
-        if not piece:
-            raise JobError(f"not understood: {data[at:at + 9]!r}")
-        at = piece.end()
-        count = sum(letter - 70 if letter < 97 else 20 * (letter - 102) for letter in piece[1]) or 1
-        if piece[2] == b":":
-            rows.append(rows[-1])
-        elif piece[2] in b",!":
-            digits = digits.ljust(2 * size, b"0" if piece[2] == b"," else b"F")
-        else:
-            digits += count * piece[2]
-        if len(digits) == 2 * size:
-            rows.append(bytes.fromhex(digits.decode()))
-            digits = b""
-        elif len(digits) > 2 * size:
-            raise JobError("a row is too long")
-    if digits:
-        raise JobError("the last row is not whole")
-    return rows
 
 
 def dots_of_escpos(job: bytes, cut: bytes = CUT) -> List[numpy.ndarray]:
@@ -96,6 +76,12 @@ def dots_of_escpos(job: bytes, cut: bytes = CUT) -> List[numpy.ndarray]:
     if bands:
         raise JobError("the last label is not whole")
     return labels
+
+
+def bits_of(rows: List[bytes], width: int) -> numpy.ndarray:
+    """Rows of whole bytes as dots."""
+    packed = numpy.frombuffer(b"".join(rows), dtype=numpy.uint8).reshape(len(rows), -1)
+    return numpy.unpackbits(packed, axis=1)[:, :width]
 
 
 def pictures_of_pbm(data: bytes) -> List[numpy.ndarray]:

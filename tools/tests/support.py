@@ -147,7 +147,7 @@ def printed(*arguments: Union[str, Path], input: bytes = b"", **variables: str) 
         changed = {"argv": [tool, *map(str, arguments)], "stdin": io.TextIOWrapper(io.BytesIO(input)), **streams}
         try:
             with mock.patch.multiple(sys, **changed), mock.patch.dict(os.environ, {**environment(), **variables}):
-                with mock.patch("label_command.Signals", mock.MagicMock()):
+                with mock.patch("label_command.on_signals", mock.MagicMock()):
                     status = status_of(tool)
         finally:
             for number, copy in enumerate(kept, 1):

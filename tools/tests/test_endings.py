@@ -180,19 +180,17 @@ class Running(unittest.TestCase):
     def test_progress_on_a_terminal(self) -> None:
         import pty
 
-        from label_outputs import Progress
+        import label_draw
 
+        press = label_draw.Press(unittest.mock.Mock(places=[(0, 0)]), unittest.mock.Mock(), "pdf", 1, False)
         controller, terminal = pty.openpty()
         with open(terminal, "w") as stream, unittest.mock.patch("sys.stderr", stream):
-            progress = Progress("label-print", 3)
-            progress.add(1)
-            progress.next = 0.0
-            progress.add(1)
-            progress.add(1)
+            with unittest.mock.patch("label_draw.QUIET", 0.0):
+                self.assertEqual(len(list(press.pages([unittest.mock.Mock()] * 3))), 3)
         shown = b""
         while not shown.endswith(b"\n"):
             shown += os.read(controller, 999)
-        self.assertEqual(shown, b"\rlabel-print: 2 of 3 labels\rlabel-print: 3 of 3 labels\r\n")
+        self.assertEqual(shown, b"\rlabel-print: 1 of 3 labels\rlabel-print: 3 of 3 labels\r\n")
         os.close(controller)
 
 

@@ -15,7 +15,7 @@ import zxingcpp
 
 import jobs
 import support
-from label_stock import stock_sheet
+from label_layout import stock_sheet
 
 TITLES = (
     "Bleistift, weich, 2B",
