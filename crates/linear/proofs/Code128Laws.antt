@@ -6,7 +6,7 @@ use Rattle.std.specs.Prelude.{option_and_then, get_or, position, find, slice_ran
 use Rattle.std.specs.Str.{bytes_eq}
 use Rattle.std.specs.List.{AllByRecursion}
 use Rattle.std.proofs.lemmas.Slice.Eq.{bytes_eq-Decides}
-use Rattle.std.proofs.lemmas.List.Elements.{recursion_from_All}
+use Rattle.std.proofs.lemmas.List.Elements.{All-from_recursion, recursion_from_All}
 use Rattle.linear.specs.declared.refusal.Refusal.TheVariants.{NotAscii}
 use Rattle.std.proofs.lemmas.Bool.Decides.{nat_tests}
 use Rattle.linear.specs.declared.switching.CodeSet.{CodeSet}
@@ -17,9 +17,10 @@ use Rattle.linear.specs.Private.Data.{IsCode128Data}
 use Rattle.linear.specs.Code128Reading.{read_values, symbol_data, read_code128}
 use Rattle.linear.proofs.DigitLaws.{IfOk-from_each, chosen, fails_from_None, not_refused}
 use Rattle.linear.proofs.GroupLaws.{take-append}
+use Rattle.linear.proofs.CodeSetLaws.{data_values-written}
 use Rattle.linear.proofs.CharacterRowLaws.{read_code128-characters}
-use Rattle.linear.proofs.ValueRangeLaws.{AreCharacters, AreCharacters-append, AreCharacters-data_values}
-use Rattle.linear.proofs.ValueReadingLaws.{read_values-data_values}
+use Rattle.linear.proofs.ValueRangeLaws.{AreCharacters, AreCharacters-append, AreCharacters-written}
+use Rattle.linear.proofs.ValueReadingLaws.{read_values-written}
 
 -- the values between the start and the check value
 between_first_and_last : (start check : ℕ) (values : List ℕ)
@@ -60,8 +61,11 @@ AreCharacters-with_check bytes d =
     let set = start_set bytes in
     let values = data_values set bytes in
     let check = check_value (start_value set) values in
-    let below : check < 106 = omega arith in
-    (start_below set, AreCharacters-append values (check ∷ []) (AreCharacters-data_values set bytes d) (below, tt))
+    let below : check < 106 = omega arith in (
+      start_below set,
+      AreCharacters-append values (check ∷ [])
+          (AreCharacters-written (data_values-written set bytes d)) (below, tt),
+    )
 
 pub read_code128-code128_row : (bytes : List ℕ) → AllByRecursion (λ byte. byte < 128) bytes
     → read_code128 (code128_row bytes) ≡ Some bytes
@@ -69,7 +73,12 @@ read_code128-code128_row bytes d =
     let set = start_set bytes in
     let values = data_values set bytes in
     read_code128-characters (with_check set values) (AreCharacters-with_check bytes d)
-    ∙ symbol_data-with_check set values ∙ read_values-data_values set bytes d
+    ∙ symbol_data-with_check set values ∙ read_values-written (data_values-written set bytes d)
+
+pub data_values-below : (set : CodeSet) (bytes : List ℕ) → IsCode128Data bytes
+    → All (λ value. value < 106) (data_values set bytes)
+data_values-below set bytes valid = All-from_recursion (λ value. value < 106) (data_values set bytes)
+    (AreCharacters-written (data_values-written set bytes (recursion_from_All (λ byte. byte < 128) bytes valid.ascii)))
 
 pub all_ascii_from_None : (bytes : List ℕ) → position (λ byte. leb 128 byte) bytes ≡ None
     → All (λ byte. byte < 128) bytes
