@@ -1,21 +1,19 @@
 -- What is drawn as Code 128 is read back (ISO/IEC 15417, symbol structure).
-use Rattle.std.proofs.Common.{ℕ, ◌≡◌, ◌+◌, ◌-◌, ◌<◌, true, false, Ok, Some, None, List, [], ◌∷◌, ◌++◌, length, take}
-use Rattle.std.proofs.Common.{ltb}
-use Rattle.std.proofs.Common.{leb, refl, ap, subst, ◌∙◌, arith, length-append, inl, inr, lit<}
-use Rattle.std.specs.Prelude.{option_and_then, get_or, position, find, slice_range, All, IfOk}
+use Rattle.std.proofs.Common.{ℕ, ◌≡◌, ◌+◌, ◌-◌, ◌<◌, true, false, Some, None, List, [], ◌∷◌, ◌++◌, length, take}
+use Rattle.std.proofs.Common.{leb, refl, ap, ◌∙◌, arith, length-append, lit<}
+use Rattle.std.specs.Prelude.{option_and_then, get_or, position, find, slice_range, All}
 use Rattle.std.specs.Str.{bytes_eq}
 use Rattle.std.specs.List.{AllByRecursion}
 use Rattle.std.proofs.lemmas.Slice.Eq.{bytes_eq-Decides}
 use Rattle.std.proofs.lemmas.List.Elements.{All-from_recursion, recursion_from_All}
-use Rattle.linear.specs.declared.refusal.Refusal.TheVariants.{NotAscii}
 use Rattle.std.proofs.lemmas.Bool.Decides.{nat_tests}
 use Rattle.linear.specs.declared.switching.CodeSet.{CodeSet}
 use Rattle.linear.specs.declared.switching.CodeSet.TheVariants.{A, B, C}
 use Rattle.linear.specs.CodeSets.{data_values, start_set, start_value}
-use Rattle.linear.specs.Code128.{check_value, with_check, full_code128, code128_row}
+use Rattle.linear.specs.Code128.{check_value, with_check, code128_row}
 use Rattle.linear.specs.Private.Data.{IsCode128Data}
 use Rattle.linear.specs.Code128Reading.{read_values, symbol_data, read_code128}
-use Rattle.linear.proofs.DigitLaws.{IfOk-from_each, chosen, fails_from_None, not_refused}
+use Rattle.linear.proofs.DigitLaws.{fails_from_None}
 use Rattle.linear.proofs.GroupLaws.{take-append}
 use Rattle.linear.proofs.CodeSetLaws.{data_values-written}
 use Rattle.linear.proofs.CharacterRowLaws.{read_code128-characters}
@@ -67,9 +65,10 @@ AreCharacters-with_check bytes d =
           (AreCharacters-written (data_values-written set bytes d)) (below, tt),
     )
 
-pub read_code128-code128_row : (bytes : List ℕ) → AllByRecursion (λ byte. byte < 128) bytes
-    → read_code128 (code128_row bytes) ≡ Some bytes
-read_code128-code128_row bytes d =
+-- what is drawn of data is read back
+pub read_code128-code128_row : (bytes : List ℕ) → IsCode128Data bytes → read_code128 (code128_row bytes) ≡ Some bytes
+read_code128-code128_row bytes valid =
+    let d = recursion_from_All (λ byte. byte < 128) bytes valid.ascii in
     let set = start_set bytes in
     let values = data_values set bytes in
     read_code128-characters (with_check set values) (AreCharacters-with_check bytes d)
@@ -85,21 +84,3 @@ pub all_ascii_from_None : (bytes : List ℕ) → position (λ byte. leb 128 byte
 all_ascii_from_None bytes h =
     (λ k d lt. let e : leb 128 (get_or bytes k d) ≡ false = fails_from_None (λ byte. leb 128 byte) bytes h k d lt in
     grind (arith, nat_tests))
-
--- full data is at most 80 ASCII bytes
-pub full_code128-Ok : (bytes full : List ℕ) → full_code128 bytes ≡ Ok full → IsCode128Data full
-full_code128-Ok bytes full h =
-    elim (chosen (ltb 80 (length bytes)) _ _ _ h) [
-      | inl p ↦ absurd (let e = p.1 in cc)
-      | inr p ↦
-          let parts = not_refused NotAscii (position (λ byte. leb 128 byte) bytes) (Ok bytes) full p.1 in
-          let same : bytes ≡ full = (let e = parts.1 in cc) in
-          subst IsCode128Data same
-          (record { few = (let few = p.0 in grind (arith, nat_tests)); ascii = all_ascii_from_None bytes parts.0 })
-    ]
-
--- what is drawn of data that is full is read back
-pub code128_read_back : (bytes : List ℕ)
-    → IfOk (full_code128 bytes) (λ full. read_code128 (code128_row full) ≡ Some full)
-code128_read_back bytes = IfOk-from_each (full_code128 bytes) _ (λ full h. read_code128-code128_row full
-    (recursion_from_All (λ byte. byte < 128) full (full_code128-Ok bytes full h).ascii))
