@@ -2,6 +2,7 @@
 use Rattle.std.proofs.Common.{◌≡◌, ℕ, suc, ◌+◌, ◌-◌, ◌*◌, ◌<◌, Bool, true, false, Ok, Result, Some, Option}
 use Rattle.std.proofs.Common.{List, [], ◌∷◌, ◌++◌, length, take, drop, refl, sym, ap, subst, ◌∙◌, arith}
 use Rattle.std.proofs.Common.{eqb, eq-eqb, map, ◌%◌, ◌≤◌, lit≤}
+use Rattle.std.proofs.Common.{length-append}
 use Rattle.std.specs.Prelude.{option_and_then, flat_map, replicate, slice_index, IfOk, codes, zip}
 use Rattle.std.specs.Bool.{then_some}
 use Rattle.std.specs.Result.{result_ok}
@@ -16,9 +17,8 @@ use Rattle.std.proofs.lemmas.List.Elements.{All-cons, All-take, All-drop, recurs
 use Rattle.linear.specs.declared.refusal.Refusal.{Refusal}
 use Rattle.linear.specs.declared.ean.NumberSet.{NumberSet}
 use Rattle.linear.specs.declared.ean.NumberSet.TheVariants.{A, C}
-use Rattle.linear.specs.declared.limits.TheConstants.{MAX_MODULES}
 use Rattle.linear.specs.Drawing.{IsDrawn}
-use Rattle.linear.specs.Digits.{digit_value, weighted_sum, with_check_digit, check_digit}
+use Rattle.linear.specs.Digits.{digit_value, weighted_sum, with_check_digit, full_digits, check_digit}
 use Rattle.linear.specs.Ean.{pattern, patterns, normal_guard, centre_guard, symbol, left_sets, ean8_row, ean13_row}
 use Rattle.linear.specs.Ean.{upca_row}
 use Rattle.linear.specs.EanReading.{digit_in, has_guards, read_halves, digit_in_a_or_b, with_first_digit}
@@ -28,6 +28,7 @@ use Rattle.linear.proofs.PatternLaws.{length-left_sets, letter_of, position-left
 use Rattle.linear.proofs.PatternLaws.{IsAOrB, left_sets_a_or_b}
 use Rattle.linear.specs.Private.Data.{AreDigits, IsFull}
 use Rattle.linear.specs.Private.Lists.{Appends}
+use Rattle.linear.proofs.DigitLaws.{of_full_digits}
 use Rattle.linear.proofs.GroupLaws.{drop-append, drop-append_more, AreGroups, no_groups, group_more}
 
 -- digits in number set C
@@ -111,6 +112,17 @@ module _ {Y : Type 0} (found : List Bool → Option Y) (n : ℕ) (sets : List Nu
           on_right.read normal_guard,
         ) refl
 
+    length-symbol : length (symbol sets left right) ≡ 11 + 14 * n
+    length-symbol =
+        let after = centre_guard ++ (right_half right ++ normal_guard) in
+        omega (
+          arith,
+          length-append (patterns sets left) after,
+          length-append (right_half right) normal_guard,
+          on_left.long,
+          on_right.long,
+        )
+
 -- digits that are cut in two
 front_digits : (n k : ℕ) (bytes : List ℕ) → AreDigits (n + k) bytes → AreDigits n (take n bytes)
 front_digits n k bytes d = record {
@@ -144,18 +156,27 @@ with_check_digit-full count full f =
     )
     (ap Some (sym (take_more full count 0 (omega arith)) ∙ take_all (count + 1) full (omega arith)))
 
+-- a row is read as its full data, and is no longer than the longest row
+pub record ReadsBack (reading : List Bool → Option (List ℕ)) (row : List Bool) (full : List ℕ) : Type 0 where
+  pub read : reading row ≡ Some full
+  pub short : length row ≤ 1795
+
 -- EAN-8
-pub read_ean8-ean8_row : (full : List ℕ) → IsFull 7 full → read_ean8 (ean8_row full) ≡ Some full
-read_ean8-ean8_row full f =
-    let left = front_digits 4 4 full f.digits in
-    let right = back_digits 4 4 full f.digits in
-    let groups = subst (λ k. AreGroups (digit_in A) 7 k (patterns (replicate k A) (take 4 full)) (take 4 full)) left.long
-    (groups_in_a (take 4 full) (by_recursion 4 (take 4 full) left)) in
-    rw (
-      read_halves-symbol (digit_in A) 4 (replicate 4 A) (take 4 full) (drop 4 full) (take 4 full) groups
-          (right_groups_of 4 (drop 4 full) right),
-      take-append-drop 4 full,
-    ) (with_check_digit-full 7 full f)
+pub ean8_reads : (full : List ℕ) → IsFull 7 full → ReadsBack read_ean8 (ean8_row full) full
+ean8_reads full f =
+    let left = take 4 full in
+    let right = drop 4 full in
+    let front = front_digits 4 4 full f.digits in
+    let on_left = subst (λ k. AreGroups (digit_in A) 7 k (patterns (replicate k A) left) left) front.long
+    (groups_in_a left (by_recursion 4 left front)) in
+    let on_right = right_groups_of 4 right (back_digits 4 4 full f.digits) in
+    record {
+      read = rw (
+        read_halves-symbol (digit_in A) 4 (replicate 4 A) left right left on_left on_right,
+        take-append-drop 4 full,
+      ) (with_check_digit-full 7 full f);
+      short = omega (arith, length-symbol (digit_in A) 4 (replicate 4 A) left right left on_left on_right);
+    }
 
 -- the first digit and those of the halves
 with_first_digit-zipped : (digit : ℕ) (rest : List ℕ) → digit < 10 → length (take 6 rest) ≡ 6
@@ -173,51 +194,71 @@ with_first_digit-zipped digit rest below long =
     rw (letters, digits, position-left_sets digit below, take-append-drop 6 rest) refl
 
 -- thirteen digits with their check digit
-pub read_ean13-ean13_row : (full : List ℕ) → IsFull 12 full → read_ean13 (ean13_row full) ≡ Some full
-read_ean13-ean13_row [] f = absurd (let e = f.digits.long in omega arith)
-read_ean13-ean13_row (first ∷ rest) f =
-    let sets : List NumberSet = left_sets (digit_value first) in
-    let rest_digits : AreDigits 12 rest = back_digits 1 12 (first ∷ rest) f.digits in
-    let left = front_digits 6 6 rest rest_digits in
-    let right = back_digits 6 6 rest rest_digits in
+pub ean13_reads : (full : List ℕ) → IsFull 12 full → ReadsBack read_ean13 (ean13_row full) full
+ean13_reads [] f = absurd (let e = f.digits.long in omega arith)
+ean13_reads (first ∷ rest) f =
+    let sets = left_sets (digit_value first) in
+    let left = take 6 rest in
+    let right = drop 6 rest in
+    let after : AreDigits 12 rest = back_digits 1 12 (first ∷ rest) f.digits in
+    let front = front_digits 6 6 rest after in
     let d : IsAsciiDigit first = f.digits.digits 0 0 (omega arith) in
     let below : digit_value first < 10 = omega arith in
-    let six : length sets ≡ length (take 6 rest) = length-left_sets (digit_value first) below ∙ sym left.long in
-    let groups = subst (λ k. AreGroups digit_in_a_or_b 7 k (patterns sets (take 6 rest))
-    (map lettered (zip sets (take 6 rest)))) left.long
-    (groups_in_a_or_b sets (take 6 rest) six (left_sets_a_or_b (digit_value first)) (by_recursion 6 (take 6 rest) left)) in
-    rw (
-      read_halves-symbol digit_in_a_or_b 6 sets (take 6 rest) (drop 6 rest) (map lettered (zip sets (take 6 rest)))
-          groups (right_groups_of 6 (drop 6 rest) right),
-      with_first_digit-zipped (digit_value first) rest below left.long,
-      digit_again first d,
-    ) (with_check_digit-full 12 (first ∷ rest) f)
+    let found = map lettered (zip sets left) in
+    let on_left = subst (λ k. AreGroups digit_in_a_or_b 7 k (patterns sets left) found) front.long
+    (groups_in_a_or_b sets left (length-left_sets (digit_value first) below ∙ sym front.long)
+    (left_sets_a_or_b (digit_value first)) (by_recursion 6 left front)) in
+    let on_right = right_groups_of 6 right (back_digits 6 6 rest after) in
+    record {
+      read = rw (
+        read_halves-symbol digit_in_a_or_b 6 sets left right found on_left on_right,
+        with_first_digit-zipped (digit_value first) rest below front.long,
+        digit_again first d,
+      ) (with_check_digit-full 12 (first ∷ rest) f);
+      short = omega (arith, length-symbol digit_in_a_or_b 6 sets left right found on_left on_right);
+    }
 
 -- UPC-A: a 0 before the digits leaves their check digit
-pub read_upca-upca_row : (full : List ℕ) → IsFull 11 full → read_upca (upca_row full) ≡ Some full
-read_upca-upca_row full f =
-    let e : weighted_sum (48 ∷ take 11 full) ≡ weighted_sum (take 11 full) = omega arith in
-    ap (option_and_then (λ xs. then_some (bytes_eq (take 1 xs) (codes "0")) (drop 1 xs)))
-    (read_ean13-ean13_row (48 ∷ full) (record {
-      digits = record {
-        long = (let e = f.digits.long in omega arith);
-        digits = All-cons IsAsciiDigit 48 full (lit≤ tt, lit≤ tt) f.digits.digits;
-      };
-      right = f.right ∙ ap (λ s. (10 - s % 10) % 10) (sym e);
-    }))
+with_zero : (full : List ℕ) → IsFull 11 full → IsFull 12 (48 ∷ full)
+with_zero full f = record {
+  digits = record {
+    long = (let e = f.digits.long in omega arith);
+    digits = All-cons IsAsciiDigit 48 full (lit≤ tt, lit≤ tt) f.digits.digits;
+  };
+  right = f.right ∙ (let e : weighted_sum (48 ∷ take 11 full) ≡ weighted_sum (take 11 full) = omega arith in
+      ap (λ s. (10 - s % 10) % 10) (sym e));
+}
+
+pub upca_reads : (full : List ℕ) → IsFull 11 full → ReadsBack read_upca (upca_row full) full
+upca_reads full f =
+    let whole = ean13_reads (48 ∷ full) (with_zero full f) in
+    record {
+      read = ap (option_and_then (λ xs. then_some (bytes_eq (take 1 xs) (codes "0")) (drop 1 xs))) whole.read;
+      short = whole.short;
+    }
+
+-- what is drawn of data that is full is read back
+pub ean8_read_back : (bytes : List ℕ) → IfOk (full_digits 7 bytes) (λ full. read_ean8 (ean8_row full) ≡ Some full)
+ean8_read_back bytes = of_full_digits 7 bytes _ (λ full f. (ean8_reads full f).read)
+
+pub ean13_read_back : (bytes : List ℕ) → IfOk (full_digits 12 bytes) (λ full. read_ean13 (ean13_row full) ≡ Some full)
+ean13_read_back bytes = of_full_digits 12 bytes _ (λ full f. (ean13_reads full f).read)
+
+pub upca_read_back : (bytes : List ℕ) → IfOk (full_digits 11 bytes) (λ full. read_upca (upca_row full) ≡ Some full)
+upca_read_back bytes = of_full_digits 11 bytes _ (λ full f. (upca_reads full f).read)
 
 -- a row that was empty, and to which that of the full data is appended
 -- each `encode`, of four symbologies, has its own answer, row and reading, and a fact by each of its calls
 pub IsDrawn-from_Ok : {R : Type 0} (answer : Result (List ℕ) Refusal) (row_of : List ℕ → List Bool)
-    (reading : List Bool → Option (List ℕ)) (full : List ℕ) (old row : List Bool) (n : ℕ) → answer ≡ Ok full → old ≡ []
-    → Appends old row (row_of full) n → n ≤ MAX_MODULES → reading (row_of full) ≡ Some full → R
+    (reading : List Bool → Option (List ℕ)) (full : List ℕ) {old row : List Bool} {n : ℕ} → answer ≡ Ok full → old ≡ []
+    → Appends old row (row_of full) n → ReadsBack reading (row_of full) full → R
     → IfOk answer (λ xs. R × IsDrawn row_of reading xs row)
-IsDrawn-from_Ok answer row_of reading full old row n e empty drawn short read done =
+IsDrawn-from_Ok answer row_of reading full e empty drawn back done =
     rw e (
       done,
       record {
         drawn = drawn.items ∙ ap (λ xs. xs ++ row_of full) empty;
-        fits = omega (arith, drawn.len, ap length empty, ap length (drawn.items ∙ ap (λ xs. xs ++ row_of full) empty));
-        read = read;
+        fits = omega (arith, back.short);
+        read = back.read;
       },
     )

@@ -7,6 +7,7 @@ pub mod EanLaws
 pub mod Examples
 pub mod GroupLaws
 pub mod PatternLaws
+pub mod RowLengthLaws
 pub mod PatternTableLaws
 pub mod SwitchingLaws
 pub mod TableLaws

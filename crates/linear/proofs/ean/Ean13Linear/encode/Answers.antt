@@ -3,7 +3,7 @@ use Rattle.std.proofs.lemmas.List.{take_rest}
 use Rattle.linear.specs.Private.Lists.{Appends}
 use Rattle.linear.specs.Ean.{ean13_row}
 use Rattle.linear.specs.EanReading.{read_ean13}
-use Rattle.linear.proofs.EanLaws.{IsDrawn-from_Ok, read_ean13-ean13_row}
+use Rattle.linear.proofs.EanLaws.{IsDrawn-from_Ok, ean13_reads}
 use Rattle.linear.proofs.ean.Ean13Linear.encode.Goals as goal
 
 -- the first digit and the others, as the code cuts them
@@ -16,6 +16,6 @@ returns-clause-drawn c =
     let full = c.in_ok-full.full.items in
     let whole = first_and_rest full _ _ c.deref.ensures.0 c.deref-2.ensures.0
     (omega (arith, c.in_ok-full.ensures.full.digits.long)) in
-    IsDrawn-from_Ok _ ean13_row read_ean13 full _ _ 95 c.in_ok-full.ensures.answer c.clear.ensures
+    IsDrawn-from_Ok _ ean13_row read_ean13 full c.in_ok-full.ensures.answer c.clear.ensures
     (subst (λ xs. Appends c.clear.new.self.items c.push_ean13.new.row.items (ean13_row xs) 95) whole
-    c.push_ean13.ensures) (omega arith) (read_ean13-ean13_row full c.in_ok-full.ensures.full) refl
+    c.push_ean13.ensures) (ean13_reads full c.in_ok-full.ensures.full) refl

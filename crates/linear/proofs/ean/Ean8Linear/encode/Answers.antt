@@ -1,11 +1,11 @@
-use Rattle.std.proofs.Common.{refl, arith}
+use Rattle.std.proofs.Common.{refl}
 use Rattle.linear.specs.Ean.{ean8_row}
 use Rattle.linear.specs.EanReading.{read_ean8}
-use Rattle.linear.proofs.EanLaws.{IsDrawn-from_Ok, read_ean8-ean8_row}
+use Rattle.linear.proofs.EanLaws.{IsDrawn-from_Ok, ean8_reads}
 use Rattle.linear.proofs.ean.Ean8Linear.encode.Goals as goal
 
 pub returns-clause-drawn : goal.returns-clause-drawn
 returns-clause-drawn c =
     let full = c.in_ok-full.full.items in
-    IsDrawn-from_Ok _ ean8_row read_ean8 full _ _ 95 c.in_ok-full.ensures.answer c.clear.ensures
-    (rw c.deref.ensures.0 at c.push_ean8.ensures) (omega arith) (read_ean8-ean8_row full c.in_ok-full.ensures.full) refl
+    IsDrawn-from_Ok _ ean8_row read_ean8 full c.in_ok-full.ensures.answer c.clear.ensures
+    (rw c.deref.ensures.0 at c.push_ean8.ensures) (ean8_reads full c.in_ok-full.ensures.full) refl

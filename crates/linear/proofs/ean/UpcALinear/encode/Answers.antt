@@ -1,11 +1,11 @@
-use Rattle.std.proofs.Common.{refl, arith}
+use Rattle.std.proofs.Common.{refl}
 use Rattle.linear.specs.Ean.{upca_row}
 use Rattle.linear.specs.EanReading.{read_upca}
-use Rattle.linear.proofs.EanLaws.{IsDrawn-from_Ok, read_upca-upca_row}
+use Rattle.linear.proofs.EanLaws.{IsDrawn-from_Ok, upca_reads}
 use Rattle.linear.proofs.ean.UpcALinear.encode.Goals as goal
 
 pub returns-clause-drawn : goal.returns-clause-drawn
 returns-clause-drawn c =
     let full = c.in_ok-full.full.items in
-    IsDrawn-from_Ok _ upca_row read_upca full _ _ 95 c.in_ok-full.ensures.answer c.clear.ensures
-    (rw c.deref.ensures.0 at c.push_ean13.ensures) (omega arith) (read_upca-upca_row full c.in_ok-full.ensures.full) refl
+    IsDrawn-from_Ok _ upca_row read_upca full c.in_ok-full.ensures.answer c.clear.ensures
+    (rw c.deref.ensures.0 at c.push_ean13.ensures) (upca_reads full c.in_ok-full.ensures.full) refl
