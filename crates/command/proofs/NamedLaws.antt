@@ -4,25 +4,17 @@ use Rattle.std.proofs.Common.{arith, inl, inr, sym}
 use Rattle.std.specs.Prelude.{IfSome, IsSome, option_map, unwrap_or}
 use Rattle.std.specs.Option.{option_map_or}
 use Rattle.std.specs.Str.{bytes_eq}
-use Rattle.clap.specs.Words.{Row, Text, first_of, first_value, one_text, rows_of}
+use Rattle.clap.specs.Words.{Row, Text, one_text, rows_of}
 use Rattle.clap.specs.declared.parser.matches.Found.{Found}
 use Rattle.clap.proofs.WalkLemmas.{first_value-rows, one_text-rows}
 use Rattle.labelcore.specs.Defaults.{default_options}
 use Rattle.labelcore.specs.OptionValues.{IsInRange, IsMask, OptionValues}
-use Rattle.labelcore.specs.declared.options.Format.{Format}
 use Rattle.command.specs.CommandLine.{format_in, is_on, level_in, number_named, number_written, options_named}
-use Rattle.command.specs.CommandLine.{options_with, run, run_of}
+use Rattle.command.specs.CommandLine.{options_with}
 use Rattle.command.specs.Private.Checked.{HoldsNumber, IsNumberIn}
 
--- what a getter returns for an option that is given
-pub read_given : {X : Type 0} (f : Found) (id : Text) (read : Text → Option X) (default : Option X) (text : Text)
-    → Some text ≡ first_value f id → read text ≡ option_map_or read (first_of id (rows_of f)) default
-read_given f id read default text is = ap (λ o. option_map_or read o default) (is ∙ first_value-rows f id)
-
--- the default of an option that is not given
-pub read_default : {X : Type 0} (f : Found) (id : Text) (read : Text → Option X) (default : Option X)
-    → None ≡ first_value f id → default ≡ option_map_or read (first_of id (rows_of f)) default
-read_default f id read default is = ap (λ o. option_map_or read o default) (is ∙ first_value-rows f id)
+-- what the getters read is in the rows
+pub ruleset of_rows = (first_value-rows, one_text-rows)
 
 pub number_read : (f : Found) (id : Text) (o : Option ℕ) → o ≡ option_map number_written (one_text f id)
     → o ≡ number_named id (rows_of f)
@@ -81,13 +73,6 @@ switch_read f id b none on off holds = go (one_text f id) refl holds
     go (Some t) e (inl is) = rw (e, is) (on (e ∙ ap Some is))
     go (Some t) e (inr is) = rw (e, is) (off (e ∙ ap Some is))
 
-pub no_format : (rows : List Row) → format_in rows ≡ None → options_named rows ≡ None
-no_format rows none = rw none refl
-
-pub no_level : (rows : List Row) (f : Format) → format_in rows ≡ Some f → level_in rows ≡ None
-    → options_named rows ≡ None
-no_level rows f format none = rw (format, none) refl
-
 -- the options that the getters read
 pub record AreOptionsOf (rows : List Row) (options : OptionValues) : Type 0 where
   pub format : format_in rows ≡ Some options.format
@@ -135,8 +120,3 @@ pub made-options_named : (rows : List Row) (options : OptionValues) (r : Option 
 made-options_named rows options r valid value h =
     made r options valid value (in_ranges rows options h) ∙ ap Some (options_are rows options h)
     ∙ sym (rw (h.format, h.level) refl)
-
-pub run_named : (rows : List Row) (options : OptionValues) (name : Option Text) → Some options ≡ options_named rows
-    → name ≡ first_of (codes "file") rows
-    → run_of rows ≡ run options name
-run_named rows options name is named = rw (← is, ← named) refl

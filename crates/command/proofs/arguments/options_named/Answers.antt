@@ -1,20 +1,8 @@
 use Rattle.std.proofs.Common.{◌∙◌, ap, arith, codes, sym}
 use Rattle.clap.specs.Words.{found_of, rows_of}
-use Rattle.command.proofs.NamedLaws.{NumberIs-read, made-options_named, mask_in_range, no_format, no_level, number_read}
+use Rattle.command.proofs.NamedLaws.{NumberIs-read, made-options_named, mask_in_range, number_read}
 use Rattle.command.proofs.NamedLaws.{switch_read}
 use Rattle.command.proofs.arguments.options_named.Goals as goal
-
-pub returns-in_err-format : goal.returns-in_err-format
-returns-in_err-format c =
-    let rows = rows_of (found_of c.args.matches.now) in
-    c.from_residual.ensures ∙ sym (no_format rows (sym c.format_in.ensures ∙ c.in_err-format.was))
-
-pub returns-in_err-level : goal.returns-in_err-level
-returns-in_err-level c =
-    let rows = rows_of (found_of c.args.matches.now) in
-    c.from_residual-in_err-level.ensures
-    ∙ sym (no_level rows c.in_ok-format.format (sym c.format_in.ensures ∙ c.in_ok-format.was)
-    (sym c.level_in.ensures ∙ c.in_err-level.was))
 
 pub returns : goal.returns
 returns c =
