@@ -1,16 +1,14 @@
 -- What the getters of the matches return, from the rows.
 use Rattle.std.proofs.Common.{◌≡◌, ◌∙◌, ◌≤◌, ◌⊎◌, ◌↔◌, ap, refl, codes, ℕ, Bool, true, false, List, Option, Some, None}
-use Rattle.std.proofs.Common.{arith, inl, inr, sym}
+use Rattle.std.proofs.Common.{arith, inl, inr}
 use Rattle.std.specs.Prelude.{IfSome, IsSome, option_map, unwrap_or}
 use Rattle.std.specs.Option.{option_map_or}
 use Rattle.std.specs.Str.{bytes_eq}
 use Rattle.clap.specs.Words.{Row, Text, one_text, rows_of}
 use Rattle.clap.specs.declared.parser.matches.Found.{Found}
 use Rattle.clap.proofs.WalkLemmas.{first_value-rows, one_text-rows}
-use Rattle.labelcore.specs.Defaults.{default_options}
-use Rattle.labelcore.specs.OptionValues.{IsInRange, IsMask, OptionValues}
-use Rattle.command.specs.CommandLine.{format_in, is_on, level_in, number_named, number_written, options_named}
-use Rattle.command.specs.CommandLine.{options_with}
+use Rattle.labelcore.specs.OptionValues.{IsMask, OptionValues}
+use Rattle.command.specs.CommandLine.{is_on, number_named, number_written}
 use Rattle.command.specs.Private.Checked.{HoldsNumber, IsNumberIn}
 
 -- what the getters read is in the rows
@@ -73,50 +71,8 @@ switch_read f id b none on off holds = go (one_text f id) refl holds
     go (Some t) e (inl is) = rw (e, is) (on (e ∙ ap Some is))
     go (Some t) e (inr is) = rw (e, is) (off (e ∙ ap Some is))
 
--- the options that the getters read
-pub record AreOptionsOf (rows : List Row) (options : OptionValues) : Type 0 where
-  pub format : format_in rows ≡ Some options.format
-  pub scale : NumberIs rows (codes "scale") default_options.scale 1 8 options.scale
-  pub height : NumberIs rows (codes "height") default_options.height 1 500 options.height
-  pub level : level_in rows ≡ Some options.level
-  pub min_version : NumberIs rows (codes "min-version") default_options.min_version 1 10 options.min_version
-  pub mask : options.mask ≡ number_named (codes "mask") rows
-  pub mask_fits : IsMask options.mask
-  pub escapes : options.escapes ≡ is_on (codes "escapes") rows
-
-in_ranges : (rows : List Row) (options : OptionValues) → AreOptionsOf rows options
-    → IsInRange options.scale options.height options.min_version options.mask
-in_ranges rows options h = record {
-  scale_low = h.scale.at_least;
-  scale_high = h.scale.at_most;
-  height_low = h.height.at_least;
-  height_high = h.height.at_most;
-  version_low = h.min_version.at_least;
-  version_high = h.min_version.at_most;
-  mask_fits = h.mask_fits;
-}
-
-options_are : (rows : List Row) (options : OptionValues) → AreOptionsOf rows options
-    → options ≡ options_with rows options.format options.level
-options_are rows options h = λ i. record {
-  format = options.format;
-  scale = h.scale.is i;
-  height = h.height.is i;
-  level = options.level;
-  min_version = h.min_version.is i;
-  mask = h.mask i;
-  escapes = h.escapes i;
-}
-
-made : {P : Type 0} (r : Option OptionValues) (s : OptionValues) → (IsSome r ↔ P) → IfSome r (λ o. o ≡ s) → P
+-- what is made of values in their ranges
+pub made : {P : Type 0} (r : Option OptionValues) (s : OptionValues) → (IsSome r ↔ P) → IfSome r (λ o. o ≡ s) → P
     → r ≡ Some s
 made None s valid value p = let some : false ≡ true = valid.1 p in cc
 made (Some o) s valid value p = ap Some value
-
--- the options made of what the getters return are those that the rows name
-pub made-options_named : (rows : List Row) (options : OptionValues) (r : Option OptionValues)
-    → (IsSome r ↔ IsInRange options.scale options.height options.min_version options.mask)
-    → IfSome r (λ o. o ≡ options) → AreOptionsOf rows options → r ≡ options_named rows
-made-options_named rows options r valid value h =
-    made r options valid value (in_ranges rows options h) ∙ ap Some (options_are rows options h)
-    ∙ sym (rw (h.format, h.level) refl)
