@@ -11,7 +11,7 @@ use Rattle.std.specs.Char.{IsAsciiDigit}
 use Rattle.std.specs.List.{AllByRecursion}
 use Rattle.std.proofs.lemmas.Bool.Decides.{nat_tests}
 use Rattle.std.proofs.lemmas.List.{take_more, take_all, length-take-le, length-drop, take-append-drop}
-use Rattle.std.proofs.lemmas.Simd.{map-map}
+use Rattle.std.proofs.lemmas.List.{length-map}
 use Rattle.std.proofs.lemmas.Slice.Zip.{firsts-zip, seconds-zip}
 use Rattle.std.proofs.lemmas.List.Elements.{All-cons, All-take, All-drop, recursion_from_All}
 use Rattle.linear.specs.declared.refusal.Refusal.{Refusal}
@@ -62,14 +62,10 @@ groups_in_a [] d = no_groups (digit_in A) 7
 groups_in_a (byte ∷ bytes) d =
     one_more (digit_in A) A byte byte d.0 (digit_in-digit A byte d.0) (groups_in_a bytes d.1)
 
--- the letter of a digit's set, and the digit
-abbrev lettered : NumberSet × ℕ → ℕ × ℕ
-lettered pair = (letter_of pair.0, pair.1)
-
 -- a left half in sets A and B
 groups_in_a_or_b : (sets : List NumberSet) (bytes : List ℕ) → length sets ≡ length bytes → AllByRecursion IsAOrB sets
     → AllByRecursion IsAsciiDigit bytes
-    → AreGroups digit_in_a_or_b 7 (length bytes) (patterns sets bytes) (map lettered (zip sets bytes))
+    → AreGroups digit_in_a_or_b 7 (length bytes) (patterns sets bytes) (zip (map letter_of sets) bytes)
 groups_in_a_or_b [] [] e s d = no_groups digit_in_a_or_b 7
 groups_in_a_or_b [] (byte ∷ bytes) e s d = absurd (omega arith)
 groups_in_a_or_b (set ∷ sets) [] e s d = absurd (omega arith)
@@ -180,18 +176,17 @@ ean8_reads full f =
 
 -- the first digit and those of the halves
 with_first_digit-zipped : (digit : ℕ) (rest : List ℕ) → digit < 10 → length (take 6 rest) ≡ 6
-    → with_first_digit (map lettered (zip (left_sets digit) (take 6 rest)), drop 6 rest) ≡ Some ((48 + digit) ∷ rest)
+    → with_first_digit (zip (map letter_of (left_sets digit)) (take 6 rest), drop 6 rest) ≡ Some ((48 + digit) ∷ rest)
 with_first_digit-zipped digit rest below long =
-    let sets = left_sets digit in
-    let pairs = zip sets (take 6 rest) in
-    let same : length (take 6 rest) ≡ length sets = long ∙ sym (length-left_sets digit below) in
-    let letters : map (λ (found : ℕ × ℕ). found.0) (map lettered pairs) ≡ map letter_of sets =
-    map-map (λ (found : ℕ × ℕ). found.0) lettered pairs
-    ∙ (sym (map-map letter_of (λ (pair : NumberSet × ℕ). pair.0) pairs)
-    ∙ ap (map letter_of) (firsts-zip sets (take 6 rest) same)) in
-    let digits : map (λ (found : ℕ × ℕ). found.1) (map lettered pairs) ≡ take 6 rest =
-    map-map (λ (found : ℕ × ℕ). found.1) lettered pairs ∙ seconds-zip sets (take 6 rest) same in
-    rw (letters, digits, position-left_sets digit below, take-append-drop 6 rest) refl
+    let letters = map letter_of (left_sets digit) in
+    let same : length (take 6 rest) ≡ length letters = long ∙ sym (length-map (left_sets digit) letter_of
+    ∙ length-left_sets digit below) in
+    rw (
+      firsts-zip letters (take 6 rest) same,
+      seconds-zip letters (take 6 rest) same,
+      position-left_sets digit below,
+      take-append-drop 6 rest,
+    ) refl
 
 -- thirteen digits with their check digit
 pub ean13_reads : (full : List ℕ) → IsFull 12 full → ReadsBack read_ean13 (ean13_row full) full
@@ -204,7 +199,7 @@ ean13_reads (first ∷ rest) f =
     let front = front_digits 6 6 rest after in
     let d : IsAsciiDigit first = f.digits.digits 0 0 (omega arith) in
     let below : digit_value first < 10 = omega arith in
-    let found = map lettered (zip sets left) in
+    let found = zip (map letter_of sets) left in
     let on_left = subst (λ k. AreGroups digit_in_a_or_b 7 k (patterns sets left) found) front.long
     (groups_in_a_or_b sets left (length-left_sets (digit_value first) below ∙ sym front.long)
     (left_sets_a_or_b (digit_value first)) (by_recursion 6 left front)) in
