@@ -14,7 +14,7 @@ use qrdata::Level;
 use std::alloc::Global;
 
 /// What the arguments ask for where they ask for a run.
-#[derive(Debug, Drop)]
+#[derive(Drop)]
 pub struct Choice {
     /// The options of the run.
     pub options: Options,
@@ -23,7 +23,7 @@ pub struct Choice {
 }
 
 /// Why the arguments ask for no run.
-#[derive(Debug, Drop)]
+#[derive(Drop)]
 pub enum ArgumentsFault {
     /// The arguments ask for help, and this is its text.
     Help(String),
