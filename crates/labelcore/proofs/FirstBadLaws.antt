@@ -12,7 +12,8 @@ module _ (symbology : Symbology) where
   settings_after : (n : ℕ) (front more : List (List ℕ)) (options left : OptionValues)
       → with_settings symbology n front options ≡ Ok left
       → with_settings symbology n (front ++ more) options ≡ with_settings symbology (n + length front) more left
-  settings_after n [] more options left e = rw (add-zero n) (ap (λ r. r >>= (λ next. with_settings symbology n more next)) e)
+  settings_after n [] more options left e =
+      rw (add-zero n) (ap (λ r. r >>= (λ next. with_settings symbology n more next)) e)
   settings_after n (setting ∷ front) more options left e =
       let next = Ok_from_bind (with_setting symbology n setting options) _ left e in
       rw (next.1) (settings_after (n + 1) front more next.0 left next.2
