@@ -1,5 +1,6 @@
 -- What is drawn as Code 128 is read back (ISO/IEC 15417, symbol structure).
-use Rattle.std.proofs.Common.{ℕ, ◌≡◌, ◌+◌, ◌-◌, ◌*◌, ◌<◌, ◌≤◌, Bool, true, false, cond, ltb, Option, Some, None, Ok, Err, List, [], ◌∷◌, ◌++◌, length, take}
+use Rattle.std.proofs.Common.{ℕ, ◌≡◌, ◌+◌, ◌-◌, ◌*◌, ◌<◌, ◌≤◌, Bool, true, false, cond, ltb, Option, Some, None, Ok}
+use Rattle.std.proofs.Common.{Err, List, [], ◌∷◌, ◌++◌, length, take}
 use Rattle.std.proofs.Common.{leb, refl, ap, ◌∙◌, arith, length-append, lit<}
 use Rattle.std.specs.Prelude.{option_and_then, get_or, position, find, slice_range, All, IfOk}
 use Rattle.std.specs.Str.{bytes_eq}
@@ -121,8 +122,8 @@ all_ascii_from_None bytes h =
 pub of_full_code128 : (bytes : List ℕ) (P : List ℕ → Type 0) → ((full : List ℕ) → IsCode128Data full → P full)
     → IfOk (full_code128 bytes) P
 of_full_code128 bytes P each = by_tests (ltb 80 (length bytes)) refl (position (λ byte. leb 128 byte) bytes) refl where
-  by_tests : (long : Bool) → ltb 80 (length bytes) ≡ long → (found : Option ℕ) → position (λ byte. leb 128 byte) bytes ≡ found
-      → IfOk (cond long (Err DataTooLong) (unless_found NotAscii found (Ok bytes))) P
+  by_tests : (long : Bool) → ltb 80 (length bytes) ≡ long → (found : Option ℕ)
+      → position (λ byte. leb 128 byte) bytes ≡ found → IfOk (cond long (Err DataTooLong) (unless_found NotAscii found (Ok bytes))) P
   by_tests true t found e = tt
   by_tests false t (Some index) e = tt
   by_tests false t None e =

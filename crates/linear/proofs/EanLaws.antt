@@ -39,8 +39,8 @@ digit_again : (byte : ℕ) → IsAsciiDigit byte → 48 + digit_value byte ≡ b
 digit_again byte h = omega arith
 
 -- a digit more in a set
-one_more : {Y : Type 0} (found : List Bool → Option Y) (set : NumberSet) (byte : ℕ) (y : Y) {count : ℕ} {row : List Bool}
-    {ys : List Y} → IsAsciiDigit byte → found (pattern set (digit_value byte)) ≡ Some y → AreGroups found 7 count row ys
+one_more : {Y : Type 0} (found : List Bool → Option Y) (set : NumberSet) (byte : ℕ) (y : Y) {count : ℕ}
+    {row : List Bool} {ys : List Y} → IsAsciiDigit byte → found (pattern set (digit_value byte)) ≡ Some y → AreGroups found 7 count row ys
     → AreGroups found 7 (suc count) (pattern set (digit_value byte) ++ row) (y ∷ ys)
 one_more found set byte y d = group_more found 7 _ _ _ _ (length-pattern set (digit_value byte) (omega arith))
 
@@ -77,7 +77,8 @@ groups_in_a_or_b (set ∷ sets) (byte ∷ bytes) e s d =
 
 -- a symbol with halves of n digits
 module _ {Y : Type 0} (found : List Bool → Option Y) (n : ℕ) (sets : List NumberSet) (left right : List ℕ) (ys : List Y)
-    (on_left : AreGroups found 7 n (patterns sets left) ys) (on_right : AreGroups (digit_in C) 7 n (right_half right) right)
+    (on_left : AreGroups found 7 n (patterns sets left) ys)
+    (on_right : AreGroups (digit_in C) 7 n (right_half right) right)
   where
     -- what follows the left half, the centre guard and the right half
     from_centre : drop (3 + 7 * n) (symbol sets left right) ≡ centre_guard ++ (right_half right ++ normal_guard)
@@ -137,7 +138,8 @@ by_recursion n bytes d = recursion_from_All IsAsciiDigit bytes d.digits
 
 right_groups_of : (n : ℕ) (bytes : List ℕ) → AreDigits n bytes → AreGroups (digit_in C) 7 n (right_half bytes) bytes
 right_groups_of n bytes d =
-    subst (λ k. AreGroups (digit_in C) 7 k (right_half bytes) bytes) d.long (right_groups bytes (by_recursion n bytes d))
+    subst (λ k. AreGroups (digit_in C) 7 k (right_half bytes) bytes) d.long
+    (right_groups bytes (by_recursion n bytes d))
 
 -- full data has the right check digit
 with_check_digit-full : (count : ℕ) (full : List ℕ) → IsFull count full

@@ -1,12 +1,14 @@
 -- The steps of the switching rule write the values of `data_values`.
-use Rattle.std.proofs.Common.{◌≡◌, ℕ, ◌<◌, Bool, true, false, cond, List, [], ◌∷◌, ◌++◌, drop, refl, ap, subst, ◌∙◌, arith}
+use Rattle.std.proofs.Common.{◌≡◌, ℕ, ◌<◌, Bool, true, false, cond, List, [], ◌∷◌, ◌++◌, drop, refl, ap, subst, ◌∙◌}
+use Rattle.std.proofs.Common.{arith}
 use Rattle.std.proofs.Common.{le-leb}
 use Rattle.std.specs.Prelude.{slice_index}
 use Rattle.std.proofs.lemmas.Bool.Decides.{nat_tests}
 use Rattle.std.proofs.lemmas.List.Elements.{recursion_from_All}
 use Rattle.linear.specs.declared.switching.CodeSet.{CodeSet}
 use Rattle.linear.specs.declared.switching.CodeSet.TheVariants.{A, B, C}
-use Rattle.linear.specs.CodeSets.{set_has, character_value, pair_value, shift_value, is_next, picked_set, is_pair_next}
+use Rattle.linear.specs.CodeSets.{set_has, character_value, pair_value, shift_value, is_next, picked_set}
+use Rattle.linear.specs.CodeSets.{is_pair_next}
 use Rattle.linear.specs.CodeSets.{change_value, leading_digits, pair_values}
 use Rattle.linear.specs.Switching.{Step, to_set, character_step, step, Writes, done, stepped, ValuesAreWrittenBySteps}
 use Rattle.linear.proofs.CodeSetLaws.{Written, nothing, plain, shifted, changed, pair, two_digits_next}
@@ -29,7 +31,8 @@ step_by set byte rest has next =
 step_is : (set : CodeSet) (byte : ℕ) (rest : List ℕ) {has next : Bool} → is_pair_next set (byte ∷ rest) ≡ false
     → set_has set byte ≡ has → is_next set rest ≡ next → step set byte rest ≡ step_by set byte rest has next
 step_is set byte rest {has = has} odd e f =
-    one_character set odd ∙ ap (λ b. step_by set byte rest b (is_next set rest)) e ∙ ap (step_by set byte rest has) f where
+    one_character set odd ∙ ap (λ b. step_by set byte rest b (is_next set rest)) e
+    ∙ ap (step_by set byte rest has) f where
       one_character : (set : CodeSet) → is_pair_next set (byte ∷ rest) ≡ false
           → step set byte rest ≡ character_step set byte rest
       one_character A odd = ap (λ b. cond b (to_set C (byte ∷ rest)) (character_step A byte rest)) odd

@@ -35,7 +35,8 @@ AreCharacters-pair_values C first second below = (below, tt)
 
 pub AreCharacters-written : {set : CodeSet} {bytes values : List ℕ} → Written set bytes values → AreCharacters values
 AreCharacters-written nothing = tt
-AreCharacters-written (plain {byte = byte} below odd has w) = (character_value_below byte below, AreCharacters-written w)
+AreCharacters-written (plain {byte = byte} below odd has w) =
+    (character_value_below byte below, AreCharacters-written w)
 AreCharacters-written (shifted {byte = byte} below odd has is w) =
     (lit< tt, (character_value_below byte below, AreCharacters-written w))
 AreCharacters-written (changed {byte = byte} below odd has is next picked has_next w) =

@@ -15,6 +15,7 @@ pub returns : goal.returns
 unfolding sets_of_left
 returns c = record {
   items = c.push_symbol.ensures.items ∙ ap (λ row. c.args.row.now.items ++ row) (symbol_is c.args.first c.args.rest.now
-      _ _ c.from.result c.from.ensures (omega (arith, c.requires.first)) c.split_at.ensures.front c.split_at.ensures.back);
+      _ _ c.from.result c.from.ensures (omega (arith, c.requires.first)) c.split_at.ensures.front
+      c.split_at.ensures.back);
   len = c.push_symbol.ensures.len;
 }

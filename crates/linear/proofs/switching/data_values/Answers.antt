@@ -6,8 +6,8 @@ use Rattle.linear.specs.CodeSets.{is_pair_next, data_values}
 use Rattle.linear.proofs.CodeSetLaws.{pair_first, byte_first}
 use Rattle.linear.proofs.switching.data_values.Goals as goal
 
--- the first values of those that are left are written; three of the lists are found from the hypotheses, which a turn of
--- the loop has: what it wrote, how it cut what was left, and what held before it
+-- the first values of those that are left are written; three of the lists are found from the hypotheses, which a turn
+-- of the loop has: what it wrote, how it cut what was left, and what held before it
 written_more : (before first rest : List ℕ) {now left all : List ℕ} → now ≡ before ++ first → left ≡ first ++ rest
     → before ++ left ≡ all → now ++ rest ≡ all
 written_more before first rest written cut whole = ap (λ ys. ys ++ rest) written ∙ append_assoc before first rest
