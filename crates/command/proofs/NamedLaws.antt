@@ -1,28 +1,18 @@
 -- What the getters of the matches return, from the rows.
 use Rattle.std.proofs.Common.{◌≡◌, ◌∙◌, ◌≤◌, ◌⊎◌, ◌↔◌, ap, refl, codes, ℕ, Bool, true, false, List, Option, Some, None}
-use Rattle.std.proofs.Common.{arith, inl, inr, sym}
+use Rattle.std.proofs.Common.{arith, inl, inr}
 use Rattle.std.specs.Prelude.{IfSome, IsSome, option_map, unwrap_or}
 use Rattle.std.specs.Option.{option_map_or}
 use Rattle.std.specs.Str.{bytes_eq}
-use Rattle.clap.specs.Words.{Row, Text, first_of, first_value, one_text, rows_of}
+use Rattle.clap.specs.Words.{Row, Text, one_text, rows_of}
 use Rattle.clap.specs.declared.parser.matches.Found.{Found}
 use Rattle.clap.proofs.WalkLemmas.{first_value-rows, one_text-rows}
-use Rattle.labelcore.specs.Defaults.{default_options}
-use Rattle.labelcore.specs.OptionValues.{IsInRange, IsMask, OptionValues}
-use Rattle.labelcore.specs.declared.options.Format.{Format}
-use Rattle.command.specs.CommandLine.{format_in, is_on, level_in, number_named, number_written, options_named}
-use Rattle.command.specs.CommandLine.{options_with, run, run_of}
+use Rattle.labelcore.specs.OptionValues.{IsMask, OptionValues}
+use Rattle.command.specs.CommandLine.{is_on, number_named, number_written}
 use Rattle.command.specs.Private.Checked.{HoldsNumber, IsNumberIn}
 
--- what a getter returns for an option that is given
-pub read_given : {X : Type 0} (f : Found) (id : Text) (read : Text → Option X) (default : Option X) (text : Text)
-    → Some text ≡ first_value f id → read text ≡ option_map_or read (first_of id (rows_of f)) default
-read_given f id read default text is = ap (λ o. option_map_or read o default) (is ∙ first_value-rows f id)
-
--- the default of an option that is not given
-pub read_default : {X : Type 0} (f : Found) (id : Text) (read : Text → Option X) (default : Option X)
-    → None ≡ first_value f id → default ≡ option_map_or read (first_of id (rows_of f)) default
-read_default f id read default is = ap (λ o. option_map_or read o default) (is ∙ first_value-rows f id)
+-- what the getters read is in the rows
+pub ruleset of_rows = (first_value-rows, one_text-rows)
 
 pub number_read : (f : Found) (id : Text) (o : Option ℕ) → o ≡ option_map number_written (one_text f id)
     → o ≡ number_named id (rows_of f)
@@ -81,62 +71,8 @@ switch_read f id b none on off holds = go (one_text f id) refl holds
     go (Some t) e (inl is) = rw (e, is) (on (e ∙ ap Some is))
     go (Some t) e (inr is) = rw (e, is) (off (e ∙ ap Some is))
 
-pub no_format : (rows : List Row) → format_in rows ≡ None → options_named rows ≡ None
-no_format rows none = rw none refl
-
-pub no_level : (rows : List Row) (f : Format) → format_in rows ≡ Some f → level_in rows ≡ None
-    → options_named rows ≡ None
-no_level rows f format none = rw (format, none) refl
-
--- the options that the getters read
-pub record AreOptionsOf (rows : List Row) (options : OptionValues) : Type 0 where
-  pub format : format_in rows ≡ Some options.format
-  pub scale : NumberIs rows (codes "scale") default_options.scale 1 8 options.scale
-  pub height : NumberIs rows (codes "height") default_options.height 1 500 options.height
-  pub level : level_in rows ≡ Some options.level
-  pub min_version : NumberIs rows (codes "min-version") default_options.min_version 1 10 options.min_version
-  pub mask : options.mask ≡ number_named (codes "mask") rows
-  pub mask_fits : IsMask options.mask
-  pub escapes : options.escapes ≡ is_on (codes "escapes") rows
-
-in_ranges : (rows : List Row) (options : OptionValues) → AreOptionsOf rows options
-    → IsInRange options.scale options.height options.min_version options.mask
-in_ranges rows options h = record {
-  scale_low = h.scale.at_least;
-  scale_high = h.scale.at_most;
-  height_low = h.height.at_least;
-  height_high = h.height.at_most;
-  version_low = h.min_version.at_least;
-  version_high = h.min_version.at_most;
-  mask_fits = h.mask_fits;
-}
-
-options_are : (rows : List Row) (options : OptionValues) → AreOptionsOf rows options
-    → options ≡ options_with rows options.format options.level
-options_are rows options h = λ i. record {
-  format = options.format;
-  scale = h.scale.is i;
-  height = h.height.is i;
-  level = options.level;
-  min_version = h.min_version.is i;
-  mask = h.mask i;
-  escapes = h.escapes i;
-}
-
-made : {P : Type 0} (r : Option OptionValues) (s : OptionValues) → (IsSome r ↔ P) → IfSome r (λ o. o ≡ s) → P
+-- what is made of values in their ranges
+pub made : {P : Type 0} (r : Option OptionValues) (s : OptionValues) → (IsSome r ↔ P) → IfSome r (λ o. o ≡ s) → P
     → r ≡ Some s
 made None s valid value p = let some : false ≡ true = valid.1 p in cc
 made (Some o) s valid value p = ap Some value
-
--- the options made of what the getters return are those that the rows name
-pub made-options_named : (rows : List Row) (options : OptionValues) (r : Option OptionValues)
-    → (IsSome r ↔ IsInRange options.scale options.height options.min_version options.mask)
-    → IfSome r (λ o. o ≡ options) → AreOptionsOf rows options → r ≡ options_named rows
-made-options_named rows options r valid value h =
-    made r options valid value (in_ranges rows options h) ∙ ap Some (options_are rows options h)
-    ∙ sym (rw (h.format, h.level) refl)
-
-pub run_named : (rows : List Row) (options : OptionValues) (name : Option Text) → Some options ≡ options_named rows
-    → name ≡ first_of (codes "file") rows
-    → run_of rows ≡ run options name
-run_named rows options name is named = rw (← is, ← named) refl

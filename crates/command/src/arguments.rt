@@ -14,7 +14,7 @@ use qrdata::Level;
 use std::alloc::Global;
 
 /// What the arguments ask for where they ask for a run.
-#[derive(Debug, Drop)]
+#[derive(Drop)]
 pub struct Choice {
     /// The options of the run.
     pub options: Options,
@@ -23,7 +23,7 @@ pub struct Choice {
 }
 
 /// Why the arguments ask for no run.
-#[derive(Debug, Drop)]
+#[derive(Drop)]
 pub enum ArgumentsFault {
     /// The arguments ask for help, and this is its text.
     Help(String),
@@ -45,6 +45,7 @@ fn format_of(text: &str) -> Option<Format>
 }
 
 /// Returns the format that the matches name, or the default. It is `None` for a name that is not listed.
+#[tactic(auto, using(crate::proofs::NamedLaws::of_rows))]
 fn format_in(matches: &ArgMatches<'_>) -> Option<Format>
     ensures { result ≡ format_in (rows_of (found_of matches.now)) }
 {
@@ -55,6 +56,7 @@ fn format_in(matches: &ArgMatches<'_>) -> Option<Format>
 }
 
 /// Returns the level that the matches name, or the default. It is `None` for a name that is not listed.
+#[tactic(auto, using(crate::proofs::NamedLaws::of_rows))]
 fn level_in(matches: &ArgMatches<'_>) -> Option<Level>
     ensures { result ≡ level_in (rows_of (found_of matches.now)) }
 {
@@ -98,6 +100,7 @@ fn options_named(matches: &ArgMatches<'_>) -> Option<Options>
 }
 
 /// Returns the run that the matches ask for.
+#[tactic(auto, using(crate::proofs::NamedLaws::of_rows))]
 fn choice_of(alloc: Global, matches: &ArgMatches<'_>) -> Result<Choice, ArgumentsFault>
     requires { HoldsValues (found_of matches.now) }
     ensures { Chooses (run_of (rows_of (found_of matches.now))) result }

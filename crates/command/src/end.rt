@@ -5,7 +5,7 @@ ghost use Rattle.command.specs.End.{line_of, exit_status};
 use filter::{RunFault, Status};
 
 /// How the program ends.
-#[derive(Clone, Copy, Debug)]
+#[derive(Clone, Copy)]
 pub enum End {
     /// The filter ran, with this result.
     Ran(Result<Status, RunFault>),

@@ -1,25 +1,28 @@
 -- What is drawn as Code 128 is read back (ISO/IEC 15417, symbol structure).
-use Rattle.std.proofs.Common.{ℕ, ◌≡◌, ◌+◌, ◌-◌, ◌<◌, true, false, Ok, Some, None, List, [], ◌∷◌, ◌++◌, length, take}
-use Rattle.std.proofs.Common.{ltb}
-use Rattle.std.proofs.Common.{leb, refl, ap, subst, ◌∙◌, arith, length-append, inl, inr, lit<}
+use Rattle.std.proofs.Common.{ℕ, ◌≡◌, ◌+◌, ◌-◌, ◌*◌, ◌<◌, ◌≤◌, Bool, true, false, cond, ltb, Option, Some, None, Ok}
+use Rattle.std.proofs.Common.{Err, List, [], ◌∷◌, ◌++◌, length, take}
+use Rattle.std.proofs.Common.{leb, refl, ap, ◌∙◌, arith, length-append, lit<}
 use Rattle.std.specs.Prelude.{option_and_then, get_or, position, find, slice_range, All, IfOk}
 use Rattle.std.specs.Str.{bytes_eq}
 use Rattle.std.specs.List.{AllByRecursion}
 use Rattle.std.proofs.lemmas.Slice.Eq.{bytes_eq-Decides}
-use Rattle.std.proofs.lemmas.List.Elements.{recursion_from_All}
-use Rattle.linear.specs.declared.refusal.Refusal.TheVariants.{NotAscii}
+use Rattle.std.proofs.lemmas.List.Elements.{All-from_recursion, recursion_from_All}
 use Rattle.std.proofs.lemmas.Bool.Decides.{nat_tests}
 use Rattle.linear.specs.declared.switching.CodeSet.{CodeSet}
 use Rattle.linear.specs.declared.switching.CodeSet.TheVariants.{A, B, C}
-use Rattle.linear.specs.CodeSets.{data_values, start_set, start_value}
-use Rattle.linear.specs.Code128.{check_value, with_check, full_code128, code128_row}
+use Rattle.linear.specs.declared.refusal.Refusal.TheVariants.{DataTooLong, NotAscii}
+use Rattle.linear.specs.Digits.{unless_found}
+use Rattle.linear.specs.CodeSets.{data_values, start_set, start_value, pair_values}
+use Rattle.linear.specs.Code128.{check_value, with_check, code128_row, full_code128}
 use Rattle.linear.specs.Private.Data.{IsCode128Data}
 use Rattle.linear.specs.Code128Reading.{read_values, symbol_data, read_code128}
-use Rattle.linear.proofs.DigitLaws.{IfOk-from_each, chosen, fails_from_None, not_refused}
+use Rattle.linear.proofs.DigitLaws.{fails_from_None}
 use Rattle.linear.proofs.GroupLaws.{take-append}
-use Rattle.linear.proofs.CharacterRowLaws.{read_code128-characters}
-use Rattle.linear.proofs.ValueRangeLaws.{AreCharacters, AreCharacters-append, AreCharacters-data_values}
-use Rattle.linear.proofs.ValueReadingLaws.{read_values-data_values}
+use Rattle.linear.proofs.CodeSetLaws.{Written, nothing, plain, shifted, changed, pair, data_values-written}
+use Rattle.linear.proofs.EanLaws.{ReadsBack}
+use Rattle.linear.proofs.CharacterRowLaws.{length-row, read_code128-characters}
+use Rattle.linear.proofs.ValueRangeLaws.{AreCharacters, AreCharacters-append, AreCharacters-written}
+use Rattle.linear.proofs.ValueReadingLaws.{read_values-written}
 
 -- the values between the start and the check value
 between_first_and_last : (start check : ℕ) (values : List ℕ)
@@ -60,16 +63,54 @@ AreCharacters-with_check bytes d =
     let set = start_set bytes in
     let values = data_values set bytes in
     let check = check_value (start_value set) values in
-    let below : check < 106 = omega arith in
-    (start_below set, AreCharacters-append values (check ∷ []) (AreCharacters-data_values set bytes d) (below, tt))
+    let below : check < 106 = omega arith in (
+      start_below set,
+      AreCharacters-append values (check ∷ [])
+          (AreCharacters-written (data_values-written set bytes d)) (below, tt),
+    )
 
-pub read_code128-code128_row : (bytes : List ℕ) → AllByRecursion (λ byte. byte < 128) bytes
-    → read_code128 (code128_row bytes) ≡ Some bytes
-read_code128-code128_row bytes d =
+-- two digits are written in at most two values, as a byte is
+length-pair_values : (set : CodeSet) (first second : ℕ) → length (pair_values set first second) ≤ 2
+length-pair_values A first second = omega arith
+length-pair_values B first second = omega arith
+length-pair_values C first second = omega arith
+
+length-written : {set : CodeSet} {bytes values : List ℕ} → Written set bytes values → length values ≤ 2 * length bytes
+length-written nothing = omega arith
+length-written (plain below odd has w) = omega (arith, length-written w)
+length-written (shifted below odd has is w) = omega (arith, length-written w)
+length-written (changed below odd has is next picked has_next w) = omega (arith, length-written w)
+length-written (pair {set = set} {first = first} {second = second} {values = values} even d e w) = omega (
+  arith,
+  length-append (pair_values set first second) values,
+  length-pair_values set first second,
+  length-written w,
+)
+
+-- what is drawn of data is read back
+pub code128_reads : (bytes : List ℕ) → IsCode128Data bytes → ReadsBack read_code128 (code128_row bytes) bytes
+code128_reads bytes valid =
+    let ascii = recursion_from_All (λ byte. byte < 128) bytes valid.ascii in
     let set = start_set bytes in
     let values = data_values set bytes in
-    read_code128-characters (with_check set values) (AreCharacters-with_check bytes d)
-    ∙ symbol_data-with_check set values ∙ read_values-data_values set bytes d
+    let written = data_values-written set bytes ascii in
+    let characters = AreCharacters-with_check bytes ascii in
+    record {
+      read = read_code128-characters (with_check set values) characters ∙ symbol_data-with_check set values
+          ∙ read_values-written written;
+      short = omega (
+        arith,
+        length-row (with_check set values) characters,
+        length-append values (check_value (start_value set) values ∷ []),
+        length-written written,
+        valid.few,
+      );
+    }
+
+pub data_values-below : (set : CodeSet) (bytes : List ℕ) → IsCode128Data bytes
+    → All (λ value. value < 106) (data_values set bytes)
+data_values-below set bytes valid = All-from_recursion (λ value. value < 106) (data_values set bytes)
+    (AreCharacters-written (data_values-written set bytes (recursion_from_All (λ byte. byte < 128) bytes valid.ascii)))
 
 pub all_ascii_from_None : (bytes : List ℕ) → position (λ byte. leb 128 byte) bytes ≡ None
     → All (λ byte. byte < 128) bytes
@@ -78,19 +119,16 @@ all_ascii_from_None bytes h =
     grind (arith, nat_tests))
 
 -- full data is at most 80 ASCII bytes
-pub full_code128-Ok : (bytes full : List ℕ) → full_code128 bytes ≡ Ok full → IsCode128Data full
-full_code128-Ok bytes full h =
-    elim (chosen (ltb 80 (length bytes)) _ _ _ h) [
-      | inl p ↦ absurd (let e = p.1 in cc)
-      | inr p ↦
-          let parts = not_refused NotAscii (position (λ byte. leb 128 byte) bytes) (Ok bytes) full p.1 in
-          let same : bytes ≡ full = (let e = parts.1 in cc) in
-          subst IsCode128Data same
-          (record { few = (let few = p.0 in grind (arith, nat_tests)); ascii = all_ascii_from_None bytes parts.0 })
-    ]
+pub of_full_code128 : (bytes : List ℕ) (P : List ℕ → Type 0) → ((full : List ℕ) → IsCode128Data full → P full)
+    → IfOk (full_code128 bytes) P
+of_full_code128 bytes P each = by_tests (ltb 80 (length bytes)) refl (position (λ byte. leb 128 byte) bytes) refl where
+  by_tests : (long : Bool) → ltb 80 (length bytes) ≡ long → (found : Option ℕ)
+      → position (λ byte. leb 128 byte) bytes ≡ found → IfOk (cond long (Err DataTooLong) (unless_found NotAscii found (Ok bytes))) P
+  by_tests true t found e = tt
+  by_tests false t (Some index) e = tt
+  by_tests false t None e =
+      each bytes (record { few = grind (arith, nat_tests); ascii = all_ascii_from_None bytes e })
 
--- what is drawn of data that is full is read back
 pub code128_read_back : (bytes : List ℕ)
     → IfOk (full_code128 bytes) (λ full. read_code128 (code128_row full) ≡ Some full)
-code128_read_back bytes = IfOk-from_each (full_code128 bytes) _ (λ full h. read_code128-code128_row full
-    (recursion_from_All (λ byte. byte < 128) full (full_code128-Ok bytes full h).ascii))
+code128_read_back bytes = of_full_code128 bytes _ (λ full valid. (code128_reads full valid).read)

@@ -2,7 +2,6 @@ pub mod CharacterLaws
 pub mod CharacterRowLaws
 pub mod Code128Laws
 pub mod CodeSetLaws
-pub mod DataValueLaws
 pub mod DigitLaws
 pub mod EanLaws
 pub mod Examples

@@ -2,10 +2,9 @@
 -- table once, and then holds at each place.
 use Rattle.std.proofs.Common.{◌≡◌, ℕ, ◌+◌, ◌<◌, ◌==◌, Bool, true, false, Some, None, Option, List, [], ◌∷◌, length, eqb}
 use Rattle.std.proofs.Common.{refl, arith, ap, ◌∙◌, subst, inl, inr, zero-add, if◌then◌else◌}
-use Rattle.std.specs.Prelude.{option_map, is_none, map, position, slice_index_or, ◌⊎◌}
+use Rattle.std.specs.Prelude.{is_none, map, position, slice_index_or, ◌⊎◌}
 use Rattle.std.specs.Str.{bytes_eq}
 use Rattle.std.specs.List.{AllByRecursion, list_all, range_with_len}
-use Rattle.std.specs.Option.{option_or}
 use Rattle.std.proofs.lemmas.Bool.{false≢true}
 use Rattle.std.proofs.lemmas.Bool.Decides.{Decides-eqb}
 use Rattle.std.proofs.lemmas.List.FromFn.{get_or-range_with_len, length-range_with_len}
@@ -57,27 +56,21 @@ pub digit_in_a-pattern_b : (digit : ℕ) → digit < 10 → digit_in A (pattern 
 unfolding number_set_a
 digit_in_a-pattern_b digit h = none_from_test _ (passes_at (λ d. is_none (digit_in A (pattern B d))) 10 digit refl h)
 
--- a left digit is found in its set
-pub digit_in_a_or_b-pattern_a : (digit : ℕ) → digit < 10 → digit_in_a_or_b (pattern A digit) ≡ Some (65, 48 + digit)
-digit_in_a_or_b-pattern_a digit h =
-    ap (λ o. option_or (option_map (λ byte. (65, byte)) o)
-    (option_map (λ byte. (66, byte)) (digit_in B (pattern A digit)))) (digit_in-pattern A digit h)
+-- the table's letter of a set
+abbrev pub letter_of : NumberSet → ℕ
+letter_of A = 65
+letter_of _ = 66
 
-pub digit_in_a_or_b-pattern_b : (digit : ℕ) → digit < 10 → digit_in_a_or_b (pattern B digit) ≡ Some (66, 48 + digit)
-digit_in_a_or_b-pattern_b digit h =
-    ap (λ o. option_or (option_map (λ byte. (65, byte)) o)
-    (option_map (λ byte. (66, byte)) (digit_in B (pattern B digit)))) (digit_in_a-pattern_b digit h)
-    ∙ ap (λ o. option_map (λ (byte : ℕ). (66, byte)) o) (digit_in-pattern B digit h)
+-- a left digit is found in its set
+pub digit_in_a_or_b-pattern : (set : NumberSet) (digit : ℕ) → (set ≡ A) ⊎ (set ≡ B) → digit < 10
+    → digit_in_a_or_b (pattern set digit) ≡ Some (letter_of set, 48 + digit)
+digit_in_a_or_b-pattern set digit (inl e) h = rw (e, digit_in-pattern A digit h) refl
+digit_in_a_or_b-pattern set digit (inr e) h = rw (e, digit_in_a-pattern_b digit h, digit_in-pattern B digit h) refl
 
 -- the sets of a left half are six, each A or B, and give the first digit
 pub length-left_sets : (digit : ℕ) → digit < 10 → length (left_sets digit) ≡ 6
 unfolding left_half_sets
 length-left_sets digit h = (Decides-eqb _ 6).0 (passes_at (λ d. eqb (length (left_sets d)) 6) 10 digit refl h)
-
--- the table's letter of a set
-abbrev pub letter_of : NumberSet → ℕ
-letter_of A = 65
-letter_of _ = 66
 
 pub position-left_sets : (digit : ℕ) → digit < 10
     → position (bytes_eq (map letter_of (left_sets digit))) left_half_sets ≡ Some digit

@@ -15,10 +15,6 @@ identified : List Bool → Option (NumberSet × ℕ)
 identified group = option_or (option_map (λ byte. (A, byte)) (digit_in A group))
     (option_or (option_map (λ byte. (B, byte)) (digit_in B group)) (option_map (λ byte. (C, byte)) (digit_in C group)))
 
-of_three : Option ℕ → Option ℕ → Option ℕ → Option (NumberSet × ℕ)
-of_three a b c = option_or (option_map (λ byte. (A, byte)) a)
-    (option_or (option_map (λ byte. (B, byte)) b) (option_map (λ byte. (C, byte)) c))
-
 in_a-pattern_c : (digit : ℕ) → digit < 10 → digit_in A (pattern C digit) ≡ None
 unfolding number_set_a
 in_a-pattern_c digit h = none_from_test _ (passes_at (λ d. is_none (digit_in A (pattern C d))) 10 digit refl h)
@@ -29,16 +25,10 @@ in_b-pattern_c digit h = none_from_test _ (passes_at (λ d. is_none (digit_in B 
 
 identified-pattern : (set : NumberSet) (digit : ℕ) → digit < 10
     → identified (pattern set digit) ≡ Some (set, 48 + digit)
-unfolding identified of_three
-identified-pattern A digit h =
-    ap (λ o. of_three o (digit_in B (pattern A digit)) (digit_in C (pattern A digit))) (digit_in-pattern A digit h)
-identified-pattern B digit h =
-    ap (λ o. of_three o (digit_in B (pattern B digit)) (digit_in C (pattern B digit))) (digit_in_a-pattern_b digit h)
-    ∙ ap (λ o. of_three None o (digit_in C (pattern B digit))) (digit_in-pattern B digit h)
-identified-pattern C digit h =
-    ap (λ o. of_three o (digit_in B (pattern C digit)) (digit_in C (pattern C digit))) (in_a-pattern_c digit h)
-    ∙ ap (λ o. of_three None o (digit_in C (pattern C digit))) (in_b-pattern_c digit h)
-    ∙ ap (λ o. of_three None None o) (digit_in-pattern C digit h)
+unfolding identified
+identified-pattern A digit h = rw (digit_in-pattern A digit h) refl
+identified-pattern B digit h = rw (digit_in_a-pattern_b digit h, digit_in-pattern B digit h) refl
+identified-pattern C digit h = rw (in_a-pattern_c digit h, in_b-pattern_c digit h, digit_in-pattern C digit h) refl
 
 pub pattern-differs : PatternsDiffer
 pattern-differs set other digit second h k e =

@@ -1,14 +1,11 @@
 -- The values of data are those of characters (ISO/IEC 15417, symbol characters).
-use Rattle.std.proofs.Common.{ℕ, ◌<◌, Bool, true, false, List, [], ◌∷◌, ◌++◌, arith, lt-ltb, le-ltb, inl}
-use Rattle.std.proofs.Common.{inr, lit<}
-use Rattle.std.specs.Char.{IsAsciiDigit}
+use Rattle.std.proofs.Common.{ℕ, ◌<◌, List, [], ◌∷◌, ◌++◌, arith, lt-ltb, le-ltb, inl, inr, lit<}
 use Rattle.std.specs.List.{AllByRecursion}
 use Rattle.std.proofs.lemmas.Bool.{cases_lt}
 use Rattle.linear.specs.declared.switching.CodeSet.{CodeSet}
 use Rattle.linear.specs.declared.switching.CodeSet.TheVariants.{A, B, C}
-use Rattle.linear.specs.CodeSets.{set_has, character_value, pair_value, change_value, is_next, picked_set}
-use Rattle.linear.specs.CodeSets.{pair_values, byte_values, data_values}
-use Rattle.linear.proofs.CodeSetLaws.{byte_values_by, data_values_hold, pair_digits}
+use Rattle.linear.specs.CodeSets.{character_value, pair_value, change_value, pair_values}
+use Rattle.linear.proofs.CodeSetLaws.{Written, nothing, plain, shifted, changed, pair}
 
 -- every value written is one of the table
 abbrev pub AreCharacters : List ℕ → Type 0
@@ -30,36 +27,20 @@ change_value_below A = lit< tt
 change_value_below B = lit< tt
 change_value_below C = lit< tt
 
-AreCharacters-byte_values : (set : CodeSet) (byte : ℕ) (rest : List ℕ) → byte < 128
-    → AreCharacters (byte_values set byte rest).0
-AreCharacters-byte_values set byte rest h =
-    let picked : CodeSet = picked_set (byte ∷ rest) in
-    let below : character_value byte < 106 = character_value_below byte h in
-    let each : (has next : Bool) → AreCharacters (byte_values_by set byte has next picked).0 =
-    elim [
-      | true ↦ λ next. (below, tt)
-      | false ↦ elim [ true ↦ (lit< tt, (below, tt)) | false ↦ (change_value_below picked, (below, tt)) ]
-    ] in
-    each (set_has set byte) (is_next set rest)
-
-AreCharacters-pair_values : (set : CodeSet) (first second : ℕ) → IsAsciiDigit first → IsAsciiDigit second
+AreCharacters-pair_values : (set : CodeSet) (first second : ℕ) → pair_value first second < 106
     → AreCharacters (pair_values set first second)
-AreCharacters-pair_values A first second d e = (
-  lit< tt,
-  ((let k : pair_value first second < 106 = omega arith in k), tt),
-)
-AreCharacters-pair_values B first second d e = (
-  lit< tt,
-  ((let k : pair_value first second < 106 = omega arith in k), tt),
-)
-AreCharacters-pair_values C first second d e = ((let k : pair_value first second < 106 = omega arith in k), tt)
+AreCharacters-pair_values A first second below = (lit< tt, (below, tt))
+AreCharacters-pair_values B first second below = (lit< tt, (below, tt))
+AreCharacters-pair_values C first second below = (below, tt)
 
-pub AreCharacters-data_values : (set : CodeSet) (bytes : List ℕ) → AllByRecursion (λ byte. byte < 128) bytes
-    → AreCharacters (data_values set bytes)
-AreCharacters-data_values = data_values_hold (λ set bytes values. AreCharacters values) (λ set. tt)
-    (λ set byte rest values below odd. AreCharacters-append (byte_values set byte rest).0 values
-    (AreCharacters-byte_values set byte rest below))
-    (λ set first second rest values even.
-    let digits = pair_digits set first second rest even in
-    AreCharacters-append (pair_values set first second) values
-    (AreCharacters-pair_values set first second digits.0 digits.1))
+pub AreCharacters-written : {set : CodeSet} {bytes values : List ℕ} → Written set bytes values → AreCharacters values
+AreCharacters-written nothing = tt
+AreCharacters-written (plain {byte = byte} below odd has w) =
+    (character_value_below byte below, AreCharacters-written w)
+AreCharacters-written (shifted {byte = byte} below odd has is w) =
+    (lit< tt, (character_value_below byte below, AreCharacters-written w))
+AreCharacters-written (changed {byte = byte} below odd has is next picked has_next w) =
+    (change_value_below next, (character_value_below byte below, AreCharacters-written w))
+AreCharacters-written (pair {set = set} {first = first} {second = second} even d e w) =
+    AreCharacters-append (pair_values set first second) _ (AreCharacters-pair_values set first second (omega arith))
+    (AreCharacters-written w)

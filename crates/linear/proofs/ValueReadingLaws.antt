@@ -1,143 +1,95 @@
 -- The values of data are read as the data (ISO/IEC 15417, code sets and symbol characters).
-use Rattle.std.proofs.Common.{ℕ, ◌≡◌, ◌+◌, ◌-◌, ◌/◌, ◌%◌, ◌<◌, ◌≤◌, Bool, true, false, Some, List, [], ◌∷◌, ◌++◌, ltb}
-use Rattle.std.proofs.Common.{leb, refl, ap, ◌∙◌, arith, lt-ltb, le-ltb, inl, inr}
+use Rattle.std.proofs.Common.{ℕ, ◌≡◌, ◌+◌, ◌-◌, ◌/◌, ◌%◌, ◌<◌, ◌≤◌, Bool, true, false, Some, None, Option, List, []}
+use Rattle.std.proofs.Common.{◌∷◌}
+use Rattle.std.proofs.Common.{◌++◌, refl, ap, ◌∙◌, arith, lt-ltb, le-ltb, inl, inr, if◌then◌else◌}
 use Rattle.std.specs.Prelude.{option_map}
 use Rattle.std.specs.Char.{IsAsciiDigit}
-use Rattle.std.specs.List.{AllByRecursion}
-use Rattle.std.proofs.lemmas.Bool.{cases_lt, true≢false}
+use Rattle.std.specs.Option.{option_map_or}
+use Rattle.std.proofs.lemmas.Bool.{cases_lt}
+use Rattle.std.proofs.lemmas.Bool.Decides.{nat_tests}
 use Rattle.linear.specs.declared.switching.CodeSet.{CodeSet}
 use Rattle.linear.specs.declared.switching.CodeSet.TheVariants.{A, B, C}
-use Rattle.linear.specs.CodeSets.{character_value, pair_value, change_value, shift_value, is_next, picked_set}
-use Rattle.linear.specs.CodeSets.{pair_values, byte_values, data_values}
-use Rattle.linear.specs.Code128Reading.{Meaning, meaning, other_set, read_values}
-use Rattle.linear.proofs.CodeSetLaws.{picked_set-has, is_next-C, byte_values_by, PickedHas, lt-from_ltb_96}
-use Rattle.linear.proofs.CodeSetLaws.{le-from_ltb_96, le-from_leb_32, lt-from_leb_32, pair_digits, data_values_hold}
+use Rattle.linear.specs.CodeSets.{set_has, character_value, pair_value, change_value, shift_value, pair_values}
+use Rattle.linear.specs.Code128Reading.{Meaning, text, change, shift, none, meaning, other_set, read_values}
+use Rattle.linear.proofs.CodeSetLaws.{Written, nothing, plain, shifted, changed, pair}
 
--- a character of set A means its byte
-meaning-a : (byte : ℕ) → byte < 96 → meaning A (character_value byte) ≡ Meaning.text (byte ∷ [])
-meaning-a byte h =
+-- a character of a set means its byte
+meaning-character : (set : CodeSet) (byte : ℕ) → byte < 128 → set_has set byte ≡ true
+    → meaning set (character_value byte) ≡ text (byte ∷ [])
+meaning-character A byte below has =
+    let high : byte < 96 = grind (arith, nat_tests) in
     elim (cases_lt byte 32) [
-      | inl low ↦ rw (lt-ltb byte 32 low, lt-ltb (byte + 64) 96 (omega arith))
-          (ap (λ b. Meaning.text (b ∷ [])) (omega arith))
-      | inr high ↦ rw (le-ltb byte 32 high, lt-ltb (byte - 32) 96 (omega arith))
-          (ap (λ b. Meaning.text (b ∷ [])) (omega arith))
+      | inl low ↦ rw (lt-ltb byte 32 low, lt-ltb (byte + 64) 96 (omega arith)) (ap (λ b. text (b ∷ [])) (omega arith))
+      | inr middle ↦ rw (le-ltb byte 32 middle, lt-ltb (byte - 32) 96 (omega arith))
+          (ap (λ b. text (b ∷ [])) (omega arith))
     ]
-
-meaning-b : (byte : ℕ) → 32 ≤ byte → byte < 128 → meaning B (character_value byte) ≡ Meaning.text (byte ∷ [])
-meaning-b byte low h = rw (le-ltb byte 32 low, lt-ltb (byte - 32) 96 (omega arith))
-    (ap (λ b. Meaning.text (b ∷ [])) (omega arith))
+meaning-character B byte below has =
+    let low : 32 ≤ byte = grind (arith, nat_tests) in
+    rw (le-ltb byte 32 low, lt-ltb (byte - 32) 96 (omega arith)) (ap (λ b. text (b ∷ [])) (omega arith))
+meaning-character C byte below has = cc
 
 meaning-pair : (first second : ℕ) → IsAsciiDigit first → IsAsciiDigit second
-    → meaning C (pair_value first second) ≡ Meaning.text (first ∷ second ∷ [])
+    → meaning C (pair_value first second) ≡ text (first ∷ second ∷ [])
 meaning-pair first second d e =
     let tens : 48 + pair_value first second / 10 ≡ first = omega arith in
     let ones : 48 + pair_value first second % 10 ≡ second = omega arith in
     rw (lt-ltb (pair_value first second) 100 (omega arith), tens, ones) refl
 
--- one value read
-read_values-text : (set : CodeSet) (value : ℕ) (bytes values : List ℕ) → meaning set value ≡ Meaning.text bytes
-    → read_values set false (value ∷ values) ≡ option_map (λ rest. bytes ++ rest) (read_values set false values)
-read_values-text set value bytes values e = rw (e, read_values) refl
+-- what a shift goes to has the byte
+shifts : (set : CodeSet) (byte : ℕ) (found : Option ℕ) → set_has set byte ≡ false
+    → option_map_or (set_has set) found false ≡ true
+    → (meaning set shift_value ≡ shift) × (set_has (other_set set) byte ≡ true)
+shifts A byte found lacks is = (refl, grind (arith, nat_tests))
+shifts B byte found lacks is = (refl, grind (arith, nat_tests))
+shifts C byte None lacks is = cc
+shifts C byte (Some b) lacks is = cc
 
-read_values-shifted : (set : CodeSet) (value : ℕ) (bytes values : List ℕ)
-    → meaning (other_set set) value ≡ Meaning.text bytes
-    → read_values set true (value ∷ values) ≡ option_map (λ rest. bytes ++ rest) (read_values set false values)
-read_values-shifted set value bytes values e = rw (e, read_values) refl
+-- a change goes to another set
+meaning-change : (set next : CodeSet) (byte : ℕ) → set_has set byte ≡ false → set_has next byte ≡ true
+    → meaning set (change_value next) ≡ change next
+meaning-change A A byte lacks has = cc
+meaning-change A B byte lacks has = refl
+meaning-change B A byte lacks has = refl
+meaning-change B B byte lacks has = cc
+meaning-change C A byte lacks has = refl
+meaning-change C B byte lacks has = refl
+meaning-change set C byte lacks has = cc
 
-read_values-change : (set next : CodeSet) (value : ℕ) (values : List ℕ) → meaning set value ≡ Meaning.change next
-    → read_values set false (value ∷ values) ≡ read_values next false values
-read_values-change set next value values e = rw (e, read_values) refl
+-- what is read of a value with this meaning, and of the values after it
+read_next : CodeSet → Bool → List ℕ → Meaning → Option (List ℕ)
+read_next set is_shifted values m =
+    elim m [
+      | text bytes ↦ option_map (λ rest. bytes ++ rest) (read_values set false values)
+      | change next ↦ if is_shifted then None else read_values next false values
+      | shift ↦ if is_shifted then None else read_values set true values
+      | none ↦ None
+    ]
 
-read_values-shift : (set : CodeSet) (value : ℕ) (values : List ℕ) → meaning set value ≡ Meaning.shift
-    → read_values set false (value ∷ values) ≡ read_values set true values
-read_values-shift set value values e = rw (e, read_values) refl
-
--- after the values of one byte, what follows is read in the set that they leave
-abbrev ReadsByte : CodeSet → ℕ → List ℕ → List ℕ × CodeSet → Type 0
-ReadsByte set byte values step =
-    read_values set false (step.0 ++ values) ≡ option_map (λ rest. byte ∷ rest) (read_values step.1 false values)
-
-read_in_a : (byte : ℕ) (values : List ℕ) → byte < 96
-    → read_values A false (character_value byte ∷ values)
-    ≡ option_map (λ rest. byte ∷ rest) (read_values A false values)
-read_in_a byte values h = read_values-text A (character_value byte) (byte ∷ []) values (meaning-a byte h)
-
-read_in_b : (byte : ℕ) (values : List ℕ) → 32 ≤ byte → byte < 128
-    → read_values B false (character_value byte ∷ values)
-    ≡ option_map (λ rest. byte ∷ rest) (read_values B false values)
-read_in_b byte values low h = read_values-text B (character_value byte) (byte ∷ []) values (meaning-b byte low h)
-
-change_to_a : (byte : ℕ) (values : List ℕ) (set : CodeSet) → meaning set 101 ≡ Meaning.change A → byte < 96
-    → ReadsByte set byte values (change_value A ∷ character_value byte ∷ [], A)
-change_to_a byte values set e h = read_values-change set A 101 (character_value byte ∷ values) e
-    ∙ read_in_a byte values h
-
-change_to_b : (byte : ℕ) (values : List ℕ) (set : CodeSet) → meaning set 100 ≡ Meaning.change B → 32 ≤ byte
-    → byte < 128 → ReadsByte set byte values (change_value B ∷ character_value byte ∷ [], B)
-change_to_b byte values set e low h = read_values-change set B 100 (character_value byte ∷ values) e
-    ∙ read_in_b byte values low h
-
-shift_from_a : (byte : ℕ) (values : List ℕ) → 32 ≤ byte → byte < 128
-    → ReadsByte A byte values (shift_value ∷ character_value byte ∷ [], A)
-shift_from_a byte values low h = read_values-shift A 98 (character_value byte ∷ values) refl
-    ∙ read_values-shifted A (character_value byte) (byte ∷ []) values (meaning-b byte low h)
-
-shift_from_b : (byte : ℕ) (values : List ℕ) → byte < 96
-    → ReadsByte B byte values (shift_value ∷ character_value byte ∷ [], B)
-shift_from_b byte values h = read_values-shift B 98 (character_value byte ∷ values) refl
-    ∙ read_values-shifted B (character_value byte) (byte ∷ []) values (meaning-a byte h)
-
-read_from_a : (byte : ℕ) (values : List ℕ) (has next : Bool) (picked : CodeSet) → ltb byte 96 ≡ has
-    → PickedHas picked byte → byte < 128 → ReadsByte A byte values (byte_values_by A byte has next picked)
-read_from_a byte values true next picked e p h = read_in_a byte values (lt-from_ltb_96 byte e)
-read_from_a byte values false true picked e p h =
-    shift_from_a byte values (let k = le-from_ltb_96 byte e in omega arith) h
-read_from_a byte values false false picked e (inl q) h = absurd (let k = le-from_ltb_96 byte e in omega arith)
-read_from_a byte values false false picked e (inr q) h = rw (q.0) (change_to_b byte values A refl q.1 h)
-
-read_from_b : (byte : ℕ) (values : List ℕ) (has next : Bool) (picked : CodeSet) → leb 32 byte ≡ has
-    → PickedHas picked byte → byte < 128 → ReadsByte B byte values (byte_values_by B byte has next picked)
-read_from_b byte values true next picked e p h = read_in_b byte values (le-from_leb_32 byte e) h
-read_from_b byte values false true picked e p h =
-    shift_from_b byte values (let k = lt-from_leb_32 byte e in omega arith)
-read_from_b byte values false false picked e (inl q) h = rw (q.0) (change_to_a byte values B refl q.1)
-read_from_b byte values false false picked e (inr q) h = absurd (let k = lt-from_leb_32 byte e in omega arith)
-
-read_from_c : (byte : ℕ) (values : List ℕ) (next : Bool) (picked : CodeSet) → next ≡ false
-    → PickedHas picked byte → byte < 128 → ReadsByte C byte values (byte_values_by C byte false next picked)
-read_from_c byte values true picked e p h = absurd (true≢false e)
-read_from_c byte values false picked e (inl q) h = rw (q.0) (change_to_a byte values C refl q.1)
-read_from_c byte values false picked e (inr q) h = rw (q.0) (change_to_b byte values C refl q.1 h)
-
-read_values-byte_values : (set : CodeSet) (byte : ℕ) (rest values : List ℕ) → byte < 128
-    → ReadsByte set byte values (byte_values set byte rest)
-read_values-byte_values A byte rest values h =
-    read_from_a byte values (ltb byte 96) (is_next A rest) (picked_set (byte ∷ rest)) refl
-    (picked_set-has byte rest h) h
-read_values-byte_values B byte rest values h =
-    read_from_b byte values (leb 32 byte) (is_next B rest) (picked_set (byte ∷ rest)) refl
-    (picked_set-has byte rest h) h
-read_values-byte_values C byte rest values h =
-    read_from_c byte values (is_next C rest) (picked_set (byte ∷ rest)) (is_next-C rest) (picked_set-has byte rest h) h
-
-read_values-pair_values : (set : CodeSet) (first second : ℕ) (values : List ℕ) → IsAsciiDigit first
-    → IsAsciiDigit second
+read_values-pair_values : (set : CodeSet) (first second : ℕ) (values : List ℕ)
     → read_values set false (pair_values set first second ++ values)
-    ≡ option_map (λ rest. first ∷ second ∷ rest) (read_values C false values)
-read_values-pair_values A first second values d e = read_values-change A C 99 (pair_value first second ∷ values) refl
-    ∙ read_values-text C (pair_value first second) (first ∷ second ∷ []) values (meaning-pair first second d e)
-read_values-pair_values B first second values d e = read_values-change B C 99 (pair_value first second ∷ values) refl
-    ∙ read_values-text C (pair_value first second) (first ∷ second ∷ []) values (meaning-pair first second d e)
-read_values-pair_values C first second values d e =
-    read_values-text C (pair_value first second) (first ∷ second ∷ []) values (meaning-pair first second d e)
+    ≡ read_values C false (pair_value first second ∷ values)
+read_values-pair_values A first second values = refl
+read_values-pair_values B first second values = refl
+read_values-pair_values C first second values = refl
 
 -- what is written from a set on is read from it on
-pub read_values-data_values : (set : CodeSet) (bytes : List ℕ) → AllByRecursion (λ byte. byte < 128) bytes
-    → read_values set false (data_values set bytes) ≡ Some bytes
-read_values-data_values = data_values_hold (λ set bytes values. read_values set false values ≡ Some bytes) (λ set. refl)
-    (λ set byte rest values below odd e. read_values-byte_values set byte rest values below
-    ∙ ap (option_map (λ after. byte ∷ after)) e)
-    (λ set first second rest values even e.
-    let digits = pair_digits set first second rest even in
-    read_values-pair_values set first second values digits.0 digits.1
-    ∙ ap (option_map (λ after. first ∷ second ∷ after)) e)
+pub read_values-written : {set : CodeSet} {bytes values : List ℕ} → Written set bytes values
+    → read_values set false values ≡ Some bytes
+unfolding read_next
+read_values-written nothing = refl
+read_values-written (plain {set = set} {byte = byte} {values = values} below odd has w) =
+    ap (read_next set false values) (meaning-character set byte below has)
+    ∙ ap (option_map (λ after. byte ∷ after)) (read_values-written w)
+read_values-written (shifted {set = set} {byte = byte} {rest = rest} {values = values} below odd lacks is w) =
+    let other = shifts set byte _ lacks is in
+    ap (read_next set false (character_value byte ∷ values)) other.0
+    ∙ ap (read_next set true values) (meaning-character (other_set set) byte below other.1)
+    ∙ ap (option_map (λ after. byte ∷ after)) (read_values-written w)
+read_values-written (changed {set = set} {byte = byte} {values = values} below odd lacks is next picked has w) =
+    ap (read_next set false (character_value byte ∷ values)) (meaning-change set next byte lacks has)
+    ∙ ap (read_next next false values) (meaning-character next byte below has)
+    ∙ ap (option_map (λ after. byte ∷ after)) (read_values-written w)
+read_values-written (pair {set = set} {first = first} {second = second} {values = values} even d e w) =
+    read_values-pair_values set first second values
+    ∙ ap (read_next C false values) (meaning-pair first second d e)
+    ∙ ap (option_map (λ after. first ∷ second ∷ after)) (read_values-written w)

@@ -1,9 +1,10 @@
 //! EAN and UPC symbols (ISO/IEC 15420).
-ghost use Rattle.std.specs.Prelude.{◌≡◌, ◌+◌, ◌*◌, ◌≤◌, ◌<◌, length, flat_map};
+ghost use Rattle.std.specs.Prelude.{◌≡◌, ◌∷◌, ◌+◌, ◌*◌, ◌≤◌, ◌<◌, length, flat_map};
+ghost use Rattle.std.specs.Char.{IsAsciiDigit};
 ghost use Rattle.arrayvec.specs.ArrayVec.{array_vec_len};
 ghost use Rattle.linear.specs.declared.limits.TheConstants.{MAX_MODULES};
 ghost use Rattle.linear.specs.Digits.{digit_value};
-ghost use Rattle.linear.specs.Ean.{pattern, patterns, symbol, ean13_row};
+ghost use Rattle.linear.specs.Ean.{pattern, patterns, symbol, ean8_row, ean13_row};
 ghost use Rattle.linear.specs.Private.Data.{AreDigits, IsHalf};
 ghost use Rattle.linear.specs.Private.Lists.{Appends};
 
@@ -84,6 +85,16 @@ fn push_symbol(row: &mut Row, sets: &[NumberSet], left: &[u8], right: &[u8])
     push_modules(row, &NORMAL_GUARD);
 }
 
+/// Appends the symbol of eight digits.
+fn push_ean8(row: &mut Row, full: &[u8])
+    requires digits { AreDigits 8 full.now }
+    requires room { array_vec_len row.old + 95 ≤ MAX_MODULES }
+    ensures { Appends row.old.items row.new.items (ean8_row full.now) 95 }
+{
+    let (left, right) = full.split_at(4);
+    push_symbol(row, &[NumberSet::A; 4], left, right);
+}
+
 /// EAN-8 (ISO/IEC 15420): seven digits, or eight that end in their check digit, drawn as 67 modules.
 ///
 /// It refuses a byte that is no digit as `NotADigit`, else another number of digits as `WrongNumberOfDigits`, and else
@@ -108,21 +119,21 @@ impl Linear for Ean8 {
     fn encode(data: &[u8], row: &mut Row) -> Result<(), Refusal> {
         row.clear();
         let full = full_digits(7, data)?;
-        let (left, right) = full.split_at(4);
-        push_symbol(row, &[NumberSet::A; 4], left, right);
+        push_ean8(row, &full);
         Ok(())
     }
 }
 
-/// Appends the symbol of thirteen digits.
+/// Appends the symbol of a first digit and the twelve after it.
 #[tactic(auto, unfolding(crate::specs::Tables::left_half_sets))]
-fn push_ean13(row: &mut Row, full: &[u8])
-    requires digits { AreDigits 13 full.now }
+fn push_ean13(row: &mut Row, first: u8, rest: &[u8])
+    requires first { IsAsciiDigit first }
+    requires rest { AreDigits 12 rest.now }
     requires room { array_vec_len row.old + 95 ≤ MAX_MODULES }
-    ensures { Appends row.old.items row.new.items (ean13_row full.now) 95 }
+    ensures { Appends row.old.items row.new.items (ean13_row (first ∷ rest.now)) 95 }
 {
-    let sets = &LEFT_SETS[usize::from(full[0] - b'0')];
-    let (left, right) = full[1..].split_at(6);
+    let sets = &LEFT_SETS[usize::from(first - b'0')];
+    let (left, right) = rest.split_at(6);
     push_symbol(row, sets, left, right);
 }
 
@@ -149,7 +160,7 @@ impl Linear for Ean13 {
     fn encode(data: &[u8], row: &mut Row) -> Result<(), Refusal> {
         row.clear();
         let full = full_digits(12, data)?;
-        push_ean13(row, &full);
+        push_ean13(row, full[0], &full[1..]);
         Ok(())
     }
 }
@@ -177,9 +188,8 @@ impl Linear for UpcA {
 
     fn encode(data: &[u8], row: &mut Row) -> Result<(), Refusal> {
         row.clear();
-        let mut full = full_digits(11, data)?;
-        full.insert(0, b'0');
-        push_ean13(row, &full);
+        let full = full_digits(11, data)?;
+        push_ean13(row, b'0', &full);
         Ok(())
     }
 }

@@ -7,7 +7,7 @@ use crate::refusal::Refusal;
 use crate::row::Row;
 
 /// The widths of the quiet zones before and after a row, in modules.
-#[derive(Clone, Copy, Debug, PartialEq, Eq)]
+#[derive(Clone, Copy, PartialEq, Eq)]
 pub struct QuietZones {
     pub left: usize,
     pub right: usize,

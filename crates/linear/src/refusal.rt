@@ -1,7 +1,7 @@
 //! Why data is refused.
 
 /// Why data has no symbol in a symbology. Places in the data count from 1.
-#[derive(Clone, Copy, Debug, PartialEq, Eq, Drop)]
+#[derive(Clone, Copy, PartialEq, Eq, Drop)]
 pub enum Refusal {
     /// The byte at this place, the first such, is no digit.
     NotADigit(usize),

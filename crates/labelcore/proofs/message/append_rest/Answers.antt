@@ -1,4 +1,4 @@
-use Rattle.std.proofs.Common.{◌≡◌, ◌++◌, ℕ, List, codes, decimal, arith, length-append, append_assoc}
+use Rattle.std.proofs.Common.{◌≡◌, ◌++◌, ℕ, List, codes, decimal, append_assoc}
 use Rattle.labelcore.proofs.message.append_rest.Goals as goal
 
 pub returns-in-WrongCheckDigit-clause-text : goal.returns-in-WrongCheckDigit-clause-text
@@ -13,11 +13,6 @@ returns-in-WrongCheckDigit-clause-text c =
     (decimal c.in-WrongCheckDigit.right)) where
       three : (t a b d : List ℕ) → ((t ++ a) ++ b) ++ d ≡ t ++ (a ++ (b ++ d))
       three t a b d = simp append_assoc
-
-pub returns-in-WrongCheckDigit-clause-room : goal.returns-in-WrongCheckDigit-clause-room
-returns-in-WrongCheckDigit-clause-room c =
-    let after = rw c.append.ensures at c.append_number-in-WrongCheckDigit.ensures.room in
-    omega (arith, length-append c.append_number.new.text.items (codes ", should be "))
 
 pub returns-in-NotAscii-clause-text : goal.returns-in-NotAscii-clause-text
 returns-in-NotAscii-clause-text c =

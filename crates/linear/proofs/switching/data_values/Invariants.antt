@@ -1,14 +1,14 @@
-use Rattle.std.proofs.Common.{◌≡◌, ◌≤◌, ◌++◌, ◌-◌, ◌*◌, length, drop}
+use Rattle.std.proofs.Common.{◌≡◌, ◌≤◌, ◌<◌, ◌++◌, ◌+◌, ◌*◌, length, All}
 use Rattle.linear.specs.CodeSets.{data_values}
 use Rattle.linear.proofs.switching.data_values.Given as goal
 
 -- the values so far and those of the data to come
-abbrev pub invariant-loop-i : goal.invariant-loop-i
-invariant-loop-i l = record {
-  within : l.i ≤ length l.data;
-  room : length l.values.items ≤ 2 * l.i;
-  whole : l.values.items ++ data_values l.set (drop l.i l.data) ≡ data_values l.fn.start l.data;
+abbrev pub invariant-loop-first : goal.invariant-loop-first
+invariant-loop-first l = record {
+  room : length l.values.items + 2 * length l.rest ≤ 2 * length l.data;
+  ascii : All (λ byte. byte < 128) l.rest;
+  whole : l.values.items ++ data_values l.set l.rest ≡ data_values l.fn.start l.data;
 }
 
-abbrev pub decreases-loop-i : goal.decreases-loop-i
-decreases-loop-i l = length l.initial.data - l.i
+abbrev pub decreases-loop-first : goal.decreases-loop-first
+decreases-loop-first l = length l.rest

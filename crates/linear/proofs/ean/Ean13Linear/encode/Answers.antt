@@ -1,13 +1,22 @@
-use Rattle.std.proofs.Common.{◌++◌, ap, ◌∙◌, refl, arith}
+use Rattle.std.proofs.Common.{◌≡◌, ◌-◌, ◌<◌, ℕ, List, ◌∷◌, length, get_or, take, drop, drop-cons, refl, sym, subst}
+use Rattle.std.proofs.Common.{arith}
+use Rattle.std.proofs.lemmas.List.{take_rest}
+use Rattle.linear.specs.Private.Lists.{Appends}
 use Rattle.linear.specs.Ean.{ean13_row}
 use Rattle.linear.specs.EanReading.{read_ean13}
-use Rattle.linear.proofs.EanLaws.{IsDrawn-from_Ok, ean13_read_back}
+use Rattle.linear.proofs.EanLaws.{IsDrawn-from_Ok, ean13_reads}
 use Rattle.linear.proofs.ean.Ean13Linear.encode.Goals as goal
+
+-- the first digit and the others, as the code cuts them
+first_and_rest : (full one two : List ℕ) → one ≡ full → two ≡ full → 0 < length full
+    → get_or one 0 0 ∷ take (length two - 1) (drop 1 two) ≡ full
+first_and_rest full one two e f some = rw (e, f, take_rest full 1) (sym (drop-cons full 0 0 some))
 
 pub returns-clause-drawn : goal.returns-clause-drawn
 returns-clause-drawn c =
-    let row = c.push_ean13.ensures in
-    IsDrawn-from_Ok _ ean13_row read_ean13 c.in_ok-full.full.items _ _ c.in_ok-full.ensures.answer c.clear.ensures
-    (row.items ∙ ap (λ xs. xs ++ ean13_row c.deref.result.now) c.clear.ensures
-    ∙ ap ean13_row c.deref.ensures.0) (omega arith)
-    (ean13_read_back c.args.data.now) refl
+    let full = c.in_ok-full.full.items in
+    let whole = first_and_rest full _ _ c.deref.ensures.0 c.deref-2.ensures.0
+    (omega (arith, c.in_ok-full.ensures.full.digits.long)) in
+    IsDrawn-from_Ok _ ean13_row read_ean13 full c.in_ok-full.ensures.answer c.clear.ensures
+    (subst (λ xs. Appends c.clear.new.self.items c.push_ean13.new.row.items (ean13_row xs) 95) whole
+    c.push_ean13.ensures) (ean13_reads full c.in_ok-full.ensures.full) refl
