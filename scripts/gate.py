@@ -81,7 +81,7 @@ def lints():
     # black puts a space before the colon of a slice, which E203 is against
     yield ["flake8", "--max-line-length", COLUMNS, "--extend-ignore", "E203", *python]
     tools = [path for path in python if path.startswith("tools/") and "/tests/" not in path]
-    yield ["mypy", "--no-error-summary", "--cache-dir", os.devnull, "--config-file", "tools/mypy.ini", *tools]
+    yield ["mypy", "--no-error-summary", "--cache-dir", os.devnull, "--config-file", "scripts/mypy.ini", *tools]
     yield ["mandoc", "-Tlint", "-W", "warning", *glob.glob("man/*.1")]
 
 

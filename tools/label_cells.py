@@ -1,7 +1,4 @@
-"""Rows and cells of a table, whatever its kind of file is: what a label can show of them, and why it cannot.
-
-A code is taken only where it is surely the one that is meant.
-"""
+"""Rows and cells of a table: what a label can show of them, and why it cannot. A code is taken only where it is sure."""
 
 import argparse
 import re

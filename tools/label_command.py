@@ -14,11 +14,9 @@ BAD_ARGUMENTS, INTERRUPTED = 2, 130
 class ToolError(Exception):
     """Why a tool cannot go on: a message without the tool's name; the tool ends with `status`."""
 
-    status = 1
-
-    def __init__(self, message: str, status: Optional[int] = None) -> None:
+    def __init__(self, message: str, status: int = 1) -> None:
         super().__init__(message)
-        self.status = self.status if status is None else status
+        self.status = status
 
 
 class Parser(argparse.ArgumentParser):

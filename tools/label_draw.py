@@ -72,17 +72,14 @@ class Pen:
         for family in (font, digits):
             found = fonts.load_font(self.context, Pango.FontDescription(f"{family}, 9"))
             if found is None or found.describe().get_family().lower() != family.lower():
-                hint = (
-                    "fc-list : family lists those that there are, apt-get install fonts-dejavu-core has the usual ones"
-                )
+                hint = "fc-list : family lists what there is, apt-get install fonts-dejavu-core has the usual ones"
                 raise ToolError(f"there is no font {family}: {hint}")
 
     @cache
     def blank(self, style: Style, width: int, size: int) -> Any:
         """A layout of Pango without a text, its letters of a size in dots."""
-        layout, font = Pango.Layout.new(self.context), Pango.FontDescription(
-            f"{style.family}, {'Bold' * style.is_bold}"
-        )
+        layout = Pango.Layout.new(self.context)
+        font = Pango.FontDescription(f"{style.family}, {'Bold' * style.is_bold}")
         font.set_absolute_size(size * Pango.SCALE)
         layout.set_font_description(font)
         if style.lines:
@@ -159,15 +156,13 @@ class Pen:
     def draw(self, canvas: Any, label: Label, left: int, top: int) -> None:
         """Draws a label in the area that begins there."""
         way, symbology, boxes = label.layout
+        data = label.data.decode("ascii", "replace").translate(SHOWN)
         title, lines = label.title, way.lines - label.title.count("\n")
         if lines < 1:
             title, lines = title.replace("\n", " "), way.lines
         texts = {
             "title": (title, Style(self.font, True, TITLE, 1, lines, way.is_beside)),
-            "digits": (
-                label.data.decode("ascii", "replace").translate(SHOWN),
-                Style(self.digits_font, False, TEXT, 1, 0, False),
-            ),
+            "digits": (data, Style(self.digits_font, False, TEXT, 1, 0, False)),
             "text": (label.text, Style(self.font, False, TEXT, 0, 1, way.is_beside)),
             "price": (label.price, Style(self.font, True, way.price_size, 0.5, 0, False)),
         }
@@ -384,9 +379,8 @@ def pbm(dots: Dots, _: float) -> bytes:
 
 def png(dots: Dots, dot: float) -> bytes:
     """A page as PNG of one bit a pixel, which says the millimetres of a dot."""
-    head, a_metre = struct.pack(">IIBBBBB", dots.width, dots.height, 1, 0, 0, 0, 0), struct.pack(
-        ">I", round(1000 / dot)
-    )
+    head = struct.pack(">IIBBBBB", dots.width, dots.height, 1, 0, 0, 0, 0)
+    a_metre = struct.pack(">I", round(1000 / dot))
     rows = zlib.compress(b"".join(b"\0" + row.translate(LIGHT) for row in dots.rows), 9)
     chunks = (b"IHDR" + head, b"pHYs" + 2 * a_metre + b"\1", b"IDAT" + rows, b"IEND")
     packed = (struct.pack(f">I{len(one)}sI", len(one) - 4, one, zlib.crc32(one)) for one in chunks)

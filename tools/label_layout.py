@@ -31,8 +31,7 @@ PRICE_SIZES = (17, 16, 15, 14, 13, 12, 11, 10)
 PAD, GAP, MODULE, LARGEST_MODULE = 1.0, 1.0, 0.33, 0.66
 # modules: how much longer guards are, where digits begin below bars and how much room they take, their size
 GUARD, DIGITS_TOP, DIGITS_ROOM, DIGITS_SIZE = 5, 1, 10, 10.4
-# the lowest Code 128 as a part of its width
-LOWEST_PART = 0.15
+LOWEST_PART = 0.15  # of the width of a Code 128: its lowest height
 # the smallest module, nominal and lowest bars in millimetres; guards, from module to module; digits of the data, from
 # one to another one, and in the middle of which modules they are
 Spans = tuple[tuple[int, ...], ...]
