@@ -5,14 +5,15 @@ use Rattle.std.proofs.Math.ListN.{replicate}
 use Rattle.std.proofs.lemmas.List.{get_or_past}
 use Rattle.std.specs.Prelude.{◌==◌, bit_and, nat_lt, slice_index, if◌then◌else◌}
 use Rattle.std.specs.Int.{bit_at}
-use Rattle.std.proofs.lemmas.Bool.{and_parts, cases_lt, cases_eq, ne_eqb, eq-eqb, le-ltb, lt-ltb}
+use Rattle.std.proofs.lemmas.Bool.{and_parts, cases_lt, le-ltb, lt-ltb}
+use Rattle.std.proofs.lemmas.Bool.Decides.{nat_tests}
 use Rattle.std.proofs.lemmas.Nat.{pow_pos, pow-add, mul-le}
 use Rattle.std.proofs.Math.Pow.{pow_mono}
 use Rattle.std.proofs.lemmas.Nat.Bits.{bit_at_cat_high, bit_at_cat_low, bit_at-zero}
 use Rattle.qrmatrix.specs.Bits.{bit}
 use Rattle.qrmatrix.specs.Placement.{codeword_bit}
 use Rattle.qrmatrix.specs.Private.Placing.{HasBits}
-use Rattle.qrmatrix.proofs.RowBitsLaws.{and_bit, shr_bit, mod_bit, above_bit}
+use Rattle.qrmatrix.proofs.RowBitsLaws.{and_bit, shr_bit, up_bit}
 
 and_all : (b : Bool) → (b && true) ≡ b
 and_all true = refl
@@ -26,10 +27,7 @@ low_of_pair a b i l = ap (λ z. z == 1) (bit_at_cat_low a 8 b i l)
 
 -- a number moved up
 left_bit : (w k i : ℕ) → i < 64 → k ≤ i → bit (w * 2 ^ k % 2 ^ 64) i ≡ bit w (i - k)
-left_bit w k i l g =
-    let e : w * 2 ^ k ≡ w * 2 ^ k + 0 = omega arith in
-    let p = pow_pos k in
-    mod_bit 64 (w * 2 ^ k) i l ∙ ap (λ z. z == 1) (ap (λ z. bit_at z i) e ∙ bit_at_cat_high w k 0 i p g)
+left_bit w k i l g = grind (arith, nat_tests, up_bit w k i l)
 
 -- ---- eight codewords in a word
 
@@ -120,12 +118,6 @@ by_four P a b c d (suc (suc (suc (suc j)))) l = absurd (omega arith)
 
 -- ---- two bits of a row
 
-below_bit : (two x a : ℕ) → x + 1 < 57 → a < x → bit (two * 2 ^ x % 2 ^ 64) a ≡ false
-below_bit two x a l h =
-    let e : two * 2 ^ x ≡ two * 2 ^ x + 0 = omega arith in
-    mod_bit 64 (two * 2 ^ x) a (omega arith)
-    ∙ ap (λ z. z == 1) (ap (λ z. bit_at z a) e ∙ bit_at_cat_low two x 0 a h ∙ bit_at-zero a)
-
 pub up_narrow : (two x : ℕ) → two < 4 → x + 1 < 57 → two * 2 ^ x % 2 ^ 64 < 2 ^ 57
 up_narrow two x h l =
     let small : x ≤ 55 = omega arith in
@@ -133,35 +125,6 @@ up_narrow two x h l =
     let few : two ≤ 3 = omega arith in
     let q : two * 2 ^ x ≤ 3 * 2 ^ 55 = mul-le two (2 ^ x) 3 (2 ^ 55) few p in
     omega arith
-
--- which bits of a number below 4 that is moved up are set
-pub moved : (two x a : ℕ) → two < 4 → x + 1 < 57
-    → bit (two * 2 ^ x % 2 ^ 64) a ≡ (if a == x then bit two 0 else (if a == x + 1 then bit two 1 else false))
-moved two x a h l =
-    elim (cases_lt a 57) [
-      | inr g ↦
-          let ne : a ≢ x = λ e. omega arith in
-          let ne' : a ≢ x + 1 = λ e. omega arith in
-          above_bit (two * 2 ^ x % 2 ^ 64) 57 a (up_narrow two x h l) g ∙ rw (ne_eqb a x ne, ne_eqb a (x + 1) ne') refl
-      | inl la ↦ elim (cases_lt a x) [
-        | inl b ↦
-            let ne : a ≢ x = λ e. omega arith in
-            let ne' : a ≢ x + 1 = λ e. omega arith in
-            below_bit two x a l b ∙ rw (ne_eqb a x ne, ne_eqb a (x + 1) ne') refl
-        | inr g ↦ left_bit two x a (omega arith) g ∙ from_here g
-      ]
-    ]
-  where
-    from_here : x ≤ a → bit two (a - x) ≡ (if a == x then bit two 0 else (if a == x + 1 then bit two 1 else false))
-    from_here g =
-        elim (cases_eq a x) [
-          | inl e ↦ let z : a - x ≡ 0 = omega arith in rw (z, eq-eqb a x e) refl
-          | inr ne ↦ elim (cases_eq a (x + 1)) [
-            | inl e ↦ let z : a - x ≡ 1 = omega arith in rw (z, ne_eqb a x ne, eq-eqb a (x + 1) e) refl
-            | inr ne' ↦ let z : 2 ≤ a - x = omega arith in
-                rw (ne_eqb a x ne, ne_eqb a (x + 1) ne') (above_bit two 2 (a - x) h z)
-          ]
-        ]
 
 -- a word of fewer than eight codewords
 pub narrow_word : (word j : ℕ) → word < 2 ^ (8 * j) → j < 8 → word < 2 ^ 56

@@ -1,6 +1,7 @@
 use Rattle.std.proofs.Common.{sym, ◌∙◌, ◌+◌, ◌*◌, refl, arith}
 use Rattle.qrmatrix.proofs.CursorLaws.{for_row, renumbered, row_placed}
-use Rattle.qrmatrix.proofs.TwoBitsLaws.{bits_after, moved, up_narrow}
+use Rattle.qrmatrix.proofs.TwoBitsLaws.{bits_after, up_narrow}
+use Rattle.qrmatrix.proofs.RowBitsLaws.{two_bits}
 use Rattle.qrmatrix.proofs.placement.place_free.Goals as goal
 
 pub loop-j-init : goal.loop-j-init
@@ -24,7 +25,7 @@ loop-j-preserved c = record {
       (omega arith)
       (row_placed c.args.strip free c.loop-j.modules c.flip.new.self codewords (i + 2 * j) t two.result 2 (omega arith)
       (λ a b. c.flip.ensures a b ∙ rw (
-        moved two.result c.args.strip.x a two.ensures.bound c.requires.column,
+        two_bits two.result c.args.strip.x a two.ensures.bound c.requires.column,
         c.row.ensures.value,
       )
       refl)
