@@ -21,10 +21,9 @@ use Rattle.qrmatrix.specs.Functions.{Role, Function, Format, Version, format_bit
 use Rattle.qrmatrix.specs.Information.{format_information, version_information}
 use Rattle.qrmatrix.specs.declared.function.PatternRow.{PatternRow}
 use Rattle.qrmatrix.proofs.AlignmentLaws.{near_role, near_role_is}
-use Rattle.qrmatrix.proofs.ByVersionLaws.{by_version}
+use Rattle.qrmatrix.proofs.ComputedLaws.{all_below, all_below_at, by_version}
 use Rattle.qrmatrix.proofs.MaskChoiceLaws.{mapped_all}
 use Rattle.qrmatrix.proofs.RowBitsLaws.{above_bit, one_bit, same_beq}
-use Rattle.qrmatrix.proofs.SumLaws.{all_below, all_below_at}
 
 -- ---- the function patterns
 
@@ -78,7 +77,7 @@ right_rows v = all_below (side_of v) (λ y. right_row v y (function_row v y))
 -- computed for each row and column
 rows_right : (v : ℕ) → 1 ≤ v → v ≤ 10 → right_rows v ≡ true
 unfolding right_rows version_information binary_remainder
-rows_right = by_version (λ v. right_rows v ≡ true) refl refl refl refl refl refl refl refl refl refl
+rows_right = by_version right_rows (λ v. true) refl
 
 -- what is right of a row
 record IsRight (v y : ℕ) (row : PatternRow) : Type 0 where
@@ -219,28 +218,26 @@ eight n information = right_eight n information (format_row n information 8)
 abbrev format_informations : Level → List ℕ
 format_informations level = map (format_information level) (range_with_len 0 8)
 
--- computed for each format information and column
+abbrev eights : ℕ → Bool × Bool × Bool × Bool
+eights v = (
+  list_all (eight (side_of v)) (format_informations L),
+  list_all (eight (side_of v)) (format_informations M),
+  list_all (eight (side_of v)) (format_informations Q),
+  list_all (eight (side_of v)) (format_informations H),
+)
+
 abbrev EightRight : ℕ → Type 0
-EightRight v =
-    (list_all (eight (side_of v)) (format_informations L) ≡ true) × (list_all (eight (side_of v))
-    (format_informations M) ≡ true)
-    × (list_all (eight (side_of v)) (format_informations Q) ≡ true) × (list_all (eight (side_of v))
-    (format_informations H) ≡ true)
+EightRight v = eights v ≡ (true, true, true, true)
 
 eight_right : (v : ℕ) → 1 ≤ v → v ≤ 10 → EightRight v
 unfolding eight format_information binary_remainder reverse_bits_onto
-eight_right =
-    by_version EightRight
-    (refl, refl, refl, refl) (refl, refl, refl, refl) (refl, refl, refl, refl) (refl, refl, refl, refl)
-    (refl, refl, refl, refl)
-    (refl, refl, refl, refl) (refl, refl, refl, refl) (refl, refl, refl, refl) (refl, refl, refl, refl)
-    (refl, refl, refl, refl)
+eight_right = by_version eights (λ v. (true, true, true, true)) refl
 
 at_level : (v : ℕ) → EightRight v → (level : Level) → list_all (eight (side_of v)) (format_informations level) ≡ true
-at_level v f L = f.0
-at_level v f M = f.1
-at_level v f Q = f.2
-at_level v f H = f.3
+at_level v f L = ap (λ (p : Bool × Bool × Bool × Bool). p.0) f
+at_level v f M = ap (λ (p : Bool × Bool × Bool × Bool). p.1) f
+at_level v f Q = ap (λ (p : Bool × Bool × Bool × Bool). p.2) f
+at_level v f H = ap (λ (p : Bool × Bool × Bool × Bool). p.3) f
 
 -- a row has the bits of the format information that the modules show
 pub record ShowsInformation (v : ℕ) (information y row : ℕ) : Type 0 where

@@ -1,9 +1,9 @@
 -- Reading inverts drawing.
-use Rattle.std.proofs.Common.{◌≡◌, ℕ, ◌+◌, ◌*◌, ◌<◌, ◌≤◌, refl, ap, ◌∙◌, Bool, true, false, cond, List}
+use Rattle.std.proofs.Common.{◌≡◌, ℕ, ◌<◌, ◌≤◌, refl, ap, ◌∙◌, Bool, true, false, cond, List}
 use Rattle.std.proofs.Common.{[], ◌∷◌, length, Option, Some, None, eq-eqb, arith}
 use mathlib.Core.Bool.{xor}
 use Rattle.std.specs.Bool.{beq}
-use Rattle.std.specs.Prelude.{◌==◌, find, is_none, option_map, unwrap_or, map, nat_lt, reverse, All}
+use Rattle.std.specs.Prelude.{◌==◌, not, find, is_none, option_map, unwrap_or, map, nat_lt, reverse, All}
 use Rattle.std.specs.List.{range_with_len, filter, list_all}
 use Rattle.std.proofs.lemmas.Bool.{and_from, and_parts, lt-ltb}
 use Rattle.qrdata.specs.declared.level.Level.{Level}
@@ -18,12 +18,13 @@ use Rattle.qrmatrix.specs.Masks.{is_flipped}
 use Rattle.qrmatrix.specs.Placement.{codeword_bit, rank, remainder_bits}
 use Rattle.qrmatrix.specs.Reading.{walk, read_bits, read_matrix, format_copy_1, format_copy_2, version_copy_1}
 use Rattle.qrmatrix.specs.Reading.{version_copy_2, information_at, read_format, shows_version, shows_functions}
-use Rattle.qrmatrix.proofs.ByVersionLaws.{by_version}
+use Rattle.qrmatrix.proofs.ComputedLaws.{by_version}
 use Rattle.qrmatrix.proofs.SumLaws.{list_all-range}
-use Rattle.qrmatrix.proofs.VersionLaws.{Computed, computed}
+use Rattle.qrmatrix.proofs.VersionLaws.{is_walked, room, walked}
 use Rattle.qrmatrix.proofs.WalkLaws.{walk_ranks}
 use Rattle.qrmatrix.proofs.CodewordBitLaws.{codewords_of-codeword_bits}
-use Rattle.qrmatrix.proofs.InformationReadingLaws.{HasRoles, format_read, format_copies, version_copies, version_shown}
+use Rattle.qrmatrix.proofs.InformationReadingLaws.{HasRoles, first_format, first_version, format_read, second_format}
+use Rattle.qrmatrix.proofs.InformationReadingLaws.{second_version, version_shown}
 
 -- ---- the bits of the codewords
 
@@ -47,10 +48,7 @@ map_map f g (x ∷ xs) = ap (λ ys. f (g x) ∷ ys) (map_map f g xs)
 
 flip_twice : (b d : Bool) → xor b (xor b d) ≡ d
 unfolding xor
-flip_twice true true = refl
-flip_twice true false = refl
-flip_twice false true = refl
-flip_twice false false = refl
+flip_twice b d = grind arith
 
 pub free_is_data : (v : ℕ) (level : Level) (mask : ℕ) (r : Option Role) (d : Bool) → is_none r ≡ true
     → unwrap_or (option_map (module_of_role v level mask) r) d ≡ d
@@ -62,9 +60,7 @@ inside_from n x y lx ly = and_from (nat_lt x n) (nat_lt y n) (lt-ltb x n lx) (lt
 
 -- the version of a side
 version_by_side : (v : ℕ) → 1 ≤ v → v ≤ 10 → find (λ w. side_of w == side_of v) (range_with_len 1 10) ≡ Some v
-version_by_side =
-    by_version (λ v. find (λ w. side_of w == side_of v) (range_with_len 1 10) ≡ Some v) refl refl refl refl refl refl
-    refl refl refl refl
+version_by_side = by_version (λ v. find (λ w. side_of w == side_of v) (range_with_len 1 10)) Some refl
 
 module _ (v : ℕ) (level : Level) (mask : ℕ) (codewords : List ℕ) where
   -- a module in the square
@@ -91,21 +87,23 @@ module _ (v : ℕ) (level : Level) (mask : ℕ) (codewords : List ℕ) where
       )
       (flip_twice (is_flipped mask p.0 p.1) (codeword_bit codewords (rank v p.0 p.1)))
 
-  pub bits_read : Computed v → read_bits v mask (module_at v level mask codewords)
-      ≡ map (codeword_bit codewords) (range_with_len 0 (8 * total_codewords v + remainder_bits v))
+  pub bits_read : 1 ≤ v → v ≤ 10 → read_bits v mask (module_at v level mask codewords)
+      ≡ map (codeword_bit codewords) (range_with_len 0 (room v))
   unfolding read_bits
-  bits_read c =
-      map_filter (λ (p : ℕ × ℕ). is_free v p.0 p.1) (λ (p : ℕ × ℕ). is_inside (side_of v) p.0 p.1)
+  bits_read l h =
+      map_filter (λ (p : ℕ × ℕ). is_free v p.0 p.1) (is_walked (side_of v))
       (λ (p : ℕ × ℕ). xor (is_flipped mask p.0 p.1) (module_at v level mask codewords p.0 p.1))
-      (λ (p : ℕ × ℕ). codeword_bit codewords (rank v p.0 p.1)) unmasked (walk (side_of v)) c.inside
+      (λ (p : ℕ × ℕ). codeword_bit codewords (rank v p.0 p.1))
+      (λ p i. unmasked p (and_parts (is_inside (side_of v) p.0 p.1) (not (p.0 == 6)) i).0) (walk (side_of v))
+      (walked v l h)
       ∙ map_map (codeword_bit codewords) (λ (p : ℕ × ℕ). rank v p.0 p.1)
       (filter (λ (p : ℕ × ℕ). is_free v p.0 p.1) (walk (side_of v)))
-      ∙ ap (map (codeword_bit codewords)) (walk_ranks v c)
+      ∙ ap (map (codeword_bit codewords)) (walk_ranks v l h)
 
-  pub codewords_of-read_bits : Computed v → length codewords ≡ total_codewords v → All (λ w. w < 256) codewords
+  pub codewords_of-read_bits : 1 ≤ v → v ≤ 10 → length codewords ≡ total_codewords v → All (λ w. w < 256) codewords
       → codewords_of (total_codewords v) (read_bits v mask (module_at v level mask codewords)) ≡ codewords
-  codewords_of-read_bits c n h =
-      rw (bits_read c, ← n) (codewords_of-codeword_bits codewords (remainder_bits v) h)
+  codewords_of-read_bits l h n bytes =
+      rw (bits_read l h, ← n) (codewords_of-codeword_bits codewords (remainder_bits v) bytes)
 
   -- ---- the function patterns
 
@@ -156,28 +154,26 @@ module _ (v : ℕ) (level : Level) (mask : ℕ) (codewords : List ℕ) where
         ≡ number_of (reverse (map (bit information) (range_with_len 0 count)))
     information_at-shown places kind information count by roles =
         ap (λ bits. number_of (reverse bits))
-        (modules_at_role places kind information (range_with_len 0 count) by roles.1 roles.0)
+        (modules_at_role places kind information (range_with_len 0 count) by (ap (λ (r : List (Option Role) × Bool). r.1) roles)
+        (ap (λ (r : List (Option Role) × Bool). r.0) roles))
 
     pub format_shown : read_format (side_of v) (module_at v level mask codewords) ≡ Some (level, mask)
     unfolding read_format
     format_shown =
-        let copies = format_copies v at_least at_most in
+        let information = format_information level mask in
         let f = format_read level mask mask_below in
-        let by = λ (i : ℕ). let e : module_of_role v level mask (Format i) ≡ bit (format_information level mask) i =
-        refl in e in
-        let one = information_at-shown format_copy_1 Format (format_information level mask) 15 by copies.0 ∙ f.0 in
-        let two = information_at-shown (format_copy_2 (side_of v)) Format
-        (format_information level mask) 15 by copies.1 ∙ f.0 in
-        rw (one, two, eq-eqb (format_information level mask) (format_information level mask) refl) f.1
+        let number = ap (λ (r : ℕ × Option (Level × ℕ)). r.0) f in
+        let one = information_at-shown format_copy_1 Format information 15 (λ i. refl) (first_format v at_least at_most) in
+        let two = information_at-shown (format_copy_2 (side_of v)) Format information 15 (λ i. refl)
+        (second_format v at_least at_most) in
+        rw (one, two, number, eq-eqb information information refl) (ap (λ (r : ℕ × Option (Level × ℕ)). r.1) f)
 
     pub version_is_shown : shows_version v (side_of v) (module_at v level mask codewords) ≡ true
     version_is_shown =
-        let by = λ (i : ℕ). let e : module_of_role v level mask (Version i) ≡ bit (version_information v) i =
-        refl in e in
-        version_shown v at_least at_most (module_at v level mask codewords) (λ h.
-        let copies = version_copies v at_least at_most h in (
-          information_at-shown (version_copy_1 (side_of v)) Version (version_information v) 18 by copies.0,
-          information_at-shown (version_copy_2 (side_of v)) Version (version_information v) 18 by copies.1,
+        let information = version_information v in
+        version_shown v at_most (module_at v level mask codewords) (λ from. (
+          information_at-shown (version_copy_1 (side_of v)) Version information 18 (λ i. refl) (first_version v from at_most),
+          information_at-shown (version_copy_2 (side_of v)) Version information 18 (λ i. refl) (second_version v from at_most),
         ))
 
     pub reads_back : length codewords ≡ total_codewords v → All (λ w. w < 256) codewords
@@ -190,5 +186,5 @@ module _ (v : ℕ) (level : Level) (mask : ℕ) (codewords : List ℕ) where
           format_shown,
           version_is_shown,
           functions_shown,
-          codewords_of-read_bits (computed v at_least at_most) n h,
+          codewords_of-read_bits at_least at_most n h,
         )

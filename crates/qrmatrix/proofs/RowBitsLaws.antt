@@ -1,15 +1,14 @@
 -- The bits of rows that operators make.
 use Rattle.std.proofs.Common.{◌≡◌, ℕ, ◌+◌, ◌-◌, ◌*◌, ◌/◌, ◌%◌, ◌^◌, ◌<◌, ◌≤◌, sym, ap, ◌∙◌, arith, Bool, true, false, not}
-use Rattle.std.proofs.Common.{◌&&◌, ◌||◌, min, max, inl, inr}
+use Rattle.std.proofs.Common.{◌&&◌, ◌||◌, inl, inr}
 use Rattle.std.specs.Prelude.{bit_and, bit_or, bit_xor, ◌==◌, nat_le, nat_lt, if◌then◌else◌}
 use Rattle.std.specs.Bool.{beq}
 use Rattle.std.specs.Int.{bit_at, bit_not, w64}
 use Rattle.std.proofs.lemmas.Bool.{cases_lt}
 use Rattle.std.proofs.lemmas.Bool.Decides.{nat_tests}
-use Rattle.std.proofs.lemmas.Nat.{shr-shr, pow_pos, mul-le, xor_lt}
+use Rattle.std.proofs.lemmas.Nat.{shr-shr, pow_pos, xor_lt}
 use Rattle.std.proofs.lemmas.Nat.Bits.{bit_at_and, bit_at_or, bit_at_xor, bit_at_not, bit_at-lt, bit_at_above}
 use Rattle.std.proofs.lemmas.Nat.Bits.{bit_at_ones, bit_at_ones_above, bit_at_cat_high, bit_at_cat_low, bit_at-zero}
-use Rattle.std.proofs.Math.Pow.{pow_mono}
 use Rattle.qrmatrix.specs.Bits.{bit}
 use Rattle.qrmatrix.specs.Penalty.{begins_run}
 
