@@ -138,7 +138,7 @@ row_placed strip marked m o codewords i t free two word lt lx lf l2 shows has ri
     let on_left = step v is.least is.most codewords start half i' (k + 1) x y on_right l (value_at o) (bit two 0)
     (shows.left ∙ rw (free_left, free_right) (ap (λ b. is_free v x y && b)
     (left_bit (is_free v (x + 1) y) (codeword_bit codewords) i (bit word 63) (bit word 62) first second)))
-    (λ a b. flips a b ∙ rw (two_bits two x a l2 lx) (one_by_one (a == x) (a == x + 1) (b == y) (bit two 0) (bit two 1)
+    (λ a b. flips a b ∙ rw (two_bits two x a l2 (omega arith)) (one_by_one (a == x) (a == x + 1) (b == y) (bit two 0) (bit two 1)
     (value_at m a b) (λ ea eb. grind (arith, nat_tests)))) in
     let count : (free + 1) / 2 ≡ one_if (is_free v (x + 1) y) + one_if (is_free v x y) = count_of free lf ∙ rw (free_right, free_left) refl in
     placed_as (i' + one_if (is_free v x y)) (i + (free + 1) / 2) (k + 1 + 1) (2 * side_of v * strip.number + 2 * (t + 1))

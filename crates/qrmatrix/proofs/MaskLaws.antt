@@ -1,9 +1,8 @@
 -- The rows of the masks, 64 bits each.
-use Rattle.std.proofs.Common.{◌≡◌, ℕ, ◌+◌, ◌%◌, ◌<◌, ◌≤◌, ◌^◌, refl, sym, ap, ◌∙◌, arith, Bool, true, false, not}
+use Rattle.std.proofs.Common.{◌≡◌, ℕ, ◌+◌, ◌%◌, ◌<◌, ◌^◌, refl, sym, ap, ◌∙◌, arith, Bool, true, false, not}
 use Rattle.std.proofs.Common.{◌&&◌, List, [], inl, inr}
 use Rattle.std.specs.Prelude.{slice_index_or, ◌==◌, bit_and, bit_xor, if◌then◌else◌, nat_lt}
 use Rattle.std.specs.Bool.{beq}
-use Rattle.std.specs.Int.{bit_not, w64}
 use Rattle.qrmatrix.specs.declared.mask.TheConstants.{PATTERNS}
 use Rattle.qrmatrix.specs.Bits.{bit}
 use Rattle.qrmatrix.specs.Masks.{is_flipped}
@@ -11,7 +10,7 @@ use Rattle.qrmatrix.specs.Private.Squares.{flip_if}
 use Rattle.qrmatrix.specs.Square.{value_at}
 use Rattle.qrmatrix.specs.Private.Drawing.{IsMaskedTo, module_under_mask}
 use Rattle.qrmatrix.proofs.ComputedLaws.{all_below, all_below_at}
-use Rattle.qrmatrix.proofs.RowBitsLaws.{above_bit, and_bit, not_bit, same_beq, xor_bit}
+use Rattle.qrmatrix.proofs.RowBitsLaws.{above_bit, and_bit, same_beq, xor_bit}
 use Rattle.std.proofs.lemmas.Bool.{cases_eq, cases_lt, eq-eqb, le-ltb, lt-ltb, ne_eqb}
 
 -- the row that the table of patterns gives
@@ -79,18 +78,3 @@ masked_more last mask w free modules start m new before put row x y =
       | inl l ↦ rw (lt-ltb y last l, lt-ltb y (last + 1) (omega arith)) refl
       | inr g ↦ rw (le-ltb y last g, le-ltb y (last + 1) (omega arith)) refl
     ]
-
-not_not : (b : Bool) → not (not b) ≡ b
-not_not true = refl
-not_not false = refl
-
--- the modules that patterns leave free in a row
-pub left_free : (low taken n x : ℕ) (free : Bool) → taken < 2 ^ 64 → x < n → n ≤ 57 → bit low x ≡ nat_lt x n
-    → bit taken x ≡ not free → bit (bit_and low (bit_not w64 taken)) x ≡ free
-left_free low taken n x free narrow l small is_low is_taken =
-    and_bit low (bit_not w64 taken) x
-    ∙ rw (is_low, lt-ltb x n l, not_bit taken x narrow (omega arith), is_taken) (not_not free)
-
-pub left_beyond : (low taken n x : ℕ) → n ≤ x → bit low x ≡ nat_lt x n
-    → bit (bit_and low (bit_not w64 taken)) x ≡ false
-left_beyond low taken n x g is_low = and_bit low (bit_not w64 taken) x ∙ rw (is_low, le-ltb x n g) refl

@@ -9,6 +9,7 @@ use Rattle.std.proofs.lemmas.Bool.Decides.{nat_tests}
 use Rattle.std.proofs.lemmas.Nat.{shr-shr, pow_pos, xor_lt}
 use Rattle.std.proofs.lemmas.Nat.Bits.{bit_at_and, bit_at_or, bit_at_xor, bit_at_not, bit_at-lt, bit_at_above}
 use Rattle.std.proofs.lemmas.Nat.Bits.{bit_at_ones, bit_at_ones_above, bit_at_cat_high, bit_at_cat_low, bit_at-zero}
+use Rattle.std.proofs.Math.Pow.{pow_mono, shl_lt}
 use Rattle.qrmatrix.specs.Bits.{bit}
 use Rattle.qrmatrix.specs.Penalty.{begins_run}
 
@@ -57,13 +58,20 @@ up_bit w k i l =
     ∙ rw e (grind (arith, nat_tests, bit_at_cat_low w k 0 i, bit_at_cat_high w k 0 i p, bit_at-zero i))
 
 -- a number below 4 moved up
-pub two_bits : (two x a : ℕ) → two < 4 → x + 1 < 57
+pub two_bits : (two x a : ℕ) → two < 4 → x + 1 < 64
     → bit (two * 2 ^ x % 2 ^ 64) a ≡ (if a == x then bit two 0 else (if a == x + 1 then bit two 1 else false))
 two_bits two x a h b =
     elim (cases_lt a 64) [
       | inr g ↦ rw (above_bit (two * 2 ^ x % 2 ^ 64) 64 a (omega arith) g) (grind (arith, nat_tests))
       | inl l ↦ rw (up_bit two x a l) (grind (arith, nat_tests, above_bit two 2 (a - x) h))
     ]
+
+-- a row moved up that stays within a row of a square
+pub up_narrow : (w j k : ℕ) → w < 2 ^ j → j + k ≤ 57 → w * 2 ^ k % 2 ^ 64 < 2 ^ 57
+up_narrow w j k h l =
+    let small = shl_lt j k h in
+    let wide : 2 ^ (j + k) ≤ 2 ^ 57 = pow_mono l in
+    omega arith
 
 -- the places at which a run begins
 pub begins_bit : (w i : ℕ) → i < 64 → bit (bit_or (bit_xor w (w / 2 ^ 1) * 2 ^ 1 % 2 ^ 64) 1) i ≡ begins_run (bit w) i

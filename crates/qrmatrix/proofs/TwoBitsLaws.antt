@@ -6,7 +6,7 @@ use Rattle.std.proofs.lemmas.List.{get_or_past}
 use Rattle.std.specs.Prelude.{◌==◌, bit_and, nat_lt, slice_index, if◌then◌else◌}
 use Rattle.std.proofs.lemmas.Bool.{and_parts, cases_lt, le-ltb, lt-ltb}
 use Rattle.std.proofs.lemmas.Bool.Decides.{nat_tests}
-use Rattle.std.proofs.lemmas.Nat.{pow-add, mul-le}
+use Rattle.std.proofs.lemmas.Nat.{pow-add}
 use Rattle.std.proofs.Math.Pow.{pow_mono}
 use Rattle.std.proofs.lemmas.Nat.Bits.{bit_at_cat_high, bit_at_cat_low}
 use Rattle.qrmatrix.specs.Bits.{bit}
@@ -114,16 +114,6 @@ by_four P a b c d (suc zero) l = b
 by_four P a b c d (suc (suc zero)) l = c
 by_four P a b c d (suc (suc (suc zero))) l = d
 by_four P a b c d (suc (suc (suc (suc j)))) l = absurd (omega arith)
-
--- ---- two bits of a row
-
-pub up_narrow : (two x : ℕ) → two < 4 → x + 1 < 57 → two * 2 ^ x % 2 ^ 64 < 2 ^ 57
-up_narrow two x h l =
-    let small : x ≤ 55 = omega arith in
-    let p : 2 ^ x ≤ 2 ^ 55 = pow_mono small in
-    let few : two ≤ 3 = omega arith in
-    let q : two * 2 ^ x ≤ 3 * 2 ^ 55 = mul-le two (2 ^ x) 3 (2 ^ 55) few p in
-    omega arith
 
 -- a word of fewer than eight codewords
 pub narrow_word : (word j : ℕ) → word < 2 ^ (8 * j) → j < 8 → word < 2 ^ 56

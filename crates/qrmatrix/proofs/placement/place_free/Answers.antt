@@ -1,6 +1,7 @@
 use Rattle.std.proofs.Common.{sym, ◌∙◌, ◌+◌, ◌*◌, refl, arith}
 use Rattle.qrmatrix.proofs.CursorLaws.{renumbered, row_placed}
-use Rattle.qrmatrix.proofs.TwoBitsLaws.{bits_after, up_narrow}
+use Rattle.qrmatrix.proofs.TwoBitsLaws.{bits_after}
+use Rattle.qrmatrix.proofs.RowBitsLaws.{up_narrow}
 use Rattle.qrmatrix.proofs.placement.place_free.Goals as goal
 
 pub loop-j-init : goal.loop-j-init
@@ -11,7 +12,7 @@ loop-j-init c = record {
 
 pub flip-requires-clause-row_bits : goal.flip-requires-clause-row_bits
 flip-requires-clause-row_bits c =
-    up_narrow c.two_of-two.result c.args.strip.x c.two_of-two.ensures.bound c.requires.column
+    up_narrow c.two_of-two.result 2 c.args.strip.x c.two_of-two.ensures.bound (omega arith)
 
 pub loop-j-preserved : goal.loop-j-preserved
 loop-j-preserved c = record {

@@ -3,11 +3,11 @@ use Rattle.qrmatrix.specs.Bits.{bit}
 use Rattle.qrmatrix.proofs.RowBitsLaws.{two_bits}
 use Rattle.std.proofs.lemmas.Bool.Decides.{nat_tests}
 use Rattle.qrmatrix.proofs.CursorLaws.{row_placed}
-use Rattle.qrmatrix.proofs.TwoBitsLaws.{up_narrow}
+use Rattle.qrmatrix.proofs.RowBitsLaws.{up_narrow}
 use Rattle.qrmatrix.proofs.placement.place_row.Goals as goal
 
 pub flip-requires-clause-row_bits : goal.flip-requires-clause-row_bits
-flip-requires-clause-row_bits c = up_narrow c.two_of.result c.args.x c.two_of.ensures.bound c.requires.0
+flip-requires-clause-row_bits c = up_narrow c.two_of.result 2 c.args.x c.two_of.ensures.bound (omega arith)
 
 pub returns-clause-placed : goal.returns-clause-placed
 returns-clause-placed c =
@@ -28,4 +28,4 @@ returns-then-two-eq0-clause-placed c =
     inside (omega arith) (omega arith) (record { right = refl; left = refl }) has
     (ap (λ z. bit z 1) (sym none) ∙ two.ensures.high ∙ c.row.ensures.bits (c.args.x + 1) ∙ rw (ex, ey) refl)
     (ap (λ z. bit z 0) (sym none) ∙ two.ensures.low ∙ c.row.ensures.bits c.args.x ∙ rw (ex, ey) refl)
-    (λ a b. rw (two_bits 0 strip.x a (omega arith) inside) (grind (arith, nat_tests)))
+    (λ a b. rw (two_bits 0 strip.x a (omega arith) (omega arith)) (grind (arith, nat_tests)))
