@@ -8,7 +8,7 @@ use Rattle.std.proofs.lemmas.List.Elements.{All-head, All-tail}
 use Rattle.qrmatrix.specs.Bits.{bit}
 use Rattle.qrmatrix.specs.Placement.{codeword_bit}
 use Rattle.qrdata.specs.Bits.{number_of, codewords_of}
-use Rattle.qrmatrix.proofs.ComputedLaws.{all_below, all_below_at}
+use Rattle.qrmatrix.proofs.SumLaws.{all_below, all_below_at}
 
 spelled : ℕ → ℕ
 unfolding number_of

@@ -2,15 +2,8 @@
 use Rattle.std.proofs.Common.{◌≡◌, ℕ, ◌+◌, ◌-◌, ◌<◌, ◌≤◌, sym, ap, ◌∙◌, arith, Bool, true, map}
 use Rattle.std.specs.Prelude.{slice_index_or}
 use Rattle.std.specs.List.{range_with_len}
-use Rattle.std.proofs.lemmas.Bool.{agree_below, agree_below_at}
 use Rattle.std.proofs.lemmas.List.FromFn.{get_or-map-range_with_len}
-
--- whether every number below n passes the test
-abbrev pub all_below : ℕ → (ℕ → Bool) → Bool
-all_below n p = agree_below p (λ k. true) n
-
-pub all_below_at : (n : ℕ) (p : ℕ → Bool) → all_below n p ≡ true → (k : ℕ) → k < n → p k ≡ true
-all_below_at n p h k l = agree_below_at p (λ k. true) n k h l
+use Rattle.qrmatrix.proofs.SumLaws.{all_below, all_below_at}
 
 -- whether every place of a square of n by n passes the test
 abbrev pub all_places : ℕ → (ℕ → ℕ → Bool) → Bool

@@ -9,7 +9,7 @@ use Rattle.qrmatrix.specs.Masks.{is_flipped}
 use Rattle.qrmatrix.specs.Private.Squares.{flip_if}
 use Rattle.qrmatrix.specs.Square.{value_at}
 use Rattle.qrmatrix.specs.Private.Drawing.{IsMaskedTo, module_under_mask}
-use Rattle.qrmatrix.proofs.ComputedLaws.{all_below, all_below_at}
+use Rattle.qrmatrix.proofs.SumLaws.{all_below, all_below_at}
 use Rattle.qrmatrix.proofs.RowBitsLaws.{above_bit, and_bit, same_beq, xor_bit}
 use Rattle.std.proofs.lemmas.Bool.{cases_eq, cases_lt, eq-eqb, le-ltb, lt-ltb, ne_eqb}
 

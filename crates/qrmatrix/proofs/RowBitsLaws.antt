@@ -80,21 +80,11 @@ begins_bit w i l =
     rw (or_bit (changes * 2 ^ 1 % 2 ^ 64) 1 i, low_bit 1 i, up_bit changes 1 i l)
     (grind (arith, nat_tests, xor_bit w (w / 2 ^ 1) (i - 1), shr_bit w 1 (i - 1)))
 
--- TODELETE
 pub same_beq : (a b : Bool) → beq a b ≡ true → a ≡ b
 same_beq a b h = grind arith
 
-pub one_bit : (x a : ℕ) → x < 64 → bit (1 * 2 ^ x % 2 ^ 64) a ≡ (a == x)
-one_bit x a h = elim (cases_lt a 64) [
-  | inr g ↦ rw (above_bit (1 * 2 ^ x % 2 ^ 64) 64 a (omega arith) g) (grind (arith, nat_tests))
-  | inl la ↦ rw (up_bit 1 x a la) (grind (arith, nat_tests, low_bit 1 (a - x)))
-]
-
 pub no_bit : (w x : ℕ) → bit_at w x ≡ 0 → bit w x ≡ false
 no_bit w x h = ap (λ z. z == 1) h
-
-pub not_not : (b : Bool) → not (not b) ≡ b
-not_not b = grind arith
 
 pub beq_true : (b : Bool) → beq b true ≡ b
 beq_true b = grind arith

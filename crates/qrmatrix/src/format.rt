@@ -1,5 +1,5 @@
 //! The format information of a symbol.
-ghost use Rattle.std.specs.Prelude.{◌≡◌, ◌+◌, ◌<◌, ◌≤◌};
+ghost use Rattle.std.specs.Prelude.{◌≡◌, ◌<◌, ◌≤◌};
 ghost use Rattle.qrmatrix.specs.Private.Drawing.{ShowsFormat};
 ghost use Rattle.qrmatrix.specs.Private.FunctionRows;
 
