@@ -82,15 +82,3 @@ begins_bit w i l =
 
 pub same_beq : (a b : Bool) → beq a b ≡ true → a ≡ b
 same_beq a b h = grind arith
-
-pub no_bit : (w x : ℕ) → bit_at w x ≡ 0 → bit w x ≡ false
-no_bit w x h = ap (λ z. z == 1) h
-
-pub beq_true : (b : Bool) → beq b true ≡ b
-beq_true b = grind arith
-
-pub beq_false : (b : Bool) → beq b false ≡ not b
-beq_false b = grind arith
-
-pub all_bit : (i : ℕ) → i < 64 → bit (2 ^ 64 - 1) i ≡ true
-all_bit i l = grind (arith, nat_tests, low_bit 64 i)
