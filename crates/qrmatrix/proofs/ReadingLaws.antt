@@ -1,6 +1,6 @@
 -- Reading inverts drawing.
 use Rattle.std.proofs.Common.{◌≡◌, ℕ, ◌<◌, ◌≤◌, refl, ap, ◌∙◌, Bool, true, false, cond, List}
-use Rattle.std.proofs.Common.{[], ◌∷◌, length, Option, Some, None, eq-eqb, arith}
+use Rattle.std.proofs.Common.{[], ◌∷◌, length, Option, Some, eq-eqb, arith}
 use mathlib.Core.Bool.{xor}
 use Rattle.std.specs.Bool.{beq}
 use Rattle.std.specs.Prelude.{◌==◌, not, find, is_none, option_map, unwrap_or, map, nat_lt, reverse, All}
@@ -52,8 +52,7 @@ flip_twice b d = grind arith
 
 pub free_is_data : (v : ℕ) (level : Level) (mask : ℕ) (r : Option Role) (d : Bool) → is_none r ≡ true
     → unwrap_or (option_map (module_of_role v level mask) r) d ≡ d
-free_is_data v level mask None d h = refl
-free_is_data v level mask (Some r) d h = cc
+free_is_data v level mask r d h = grind arith
 
 pub inside_from : (n x y : ℕ) → x < n → y < n → is_inside n x y ≡ true
 inside_from n x y lx ly = and_from (nat_lt x n) (nat_lt y n) (lt-ltb x n lx) (lt-ltb y n ly)
@@ -107,12 +106,6 @@ module _ (v : ℕ) (level : Level) (mask : ℕ) (codewords : List ℕ) where
 
   -- ---- the function patterns
 
-  agrees_itself : (o : Option Bool) (d : Bool) → beq (unwrap_or o (unwrap_or o d)) (unwrap_or o d) ≡ true
-  agrees_itself None true = refl
-  agrees_itself None false = refl
-  agrees_itself (Some true) d = refl
-  agrees_itself (Some false) d = refl
-
   pub functions_shown : shows_functions v level mask (module_at v level mask codewords) ≡ true
   unfolding shows_functions
   functions_shown =
@@ -121,8 +114,7 @@ module _ (v : ℕ) (level : Level) (mask : ℕ) (codewords : List ℕ) where
       (λ y ly. list_all-range 0 (side_of v) (λ x. beq (unwrap_or (fixed_module v level mask x y)
       (module_at v level mask codewords x y)) (module_at v level mask codewords x y))
       (λ x lx. rw (module_inside x y (inside_from (side_of v) x y (omega arith) (omega arith)))
-      (agrees_itself (fixed_module v level mask x y) (xor (is_flipped mask x y) (codeword_bit codewords
-      (rank v x y))))))
+      (grind arith)))
 
   -- the modules at the places of the bits of a number
   modules_at_role : (places : List (ℕ × ℕ)) (kind : ℕ → Role) (information : ℕ) (is_ : List ℕ)

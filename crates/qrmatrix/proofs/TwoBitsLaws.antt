@@ -1,10 +1,10 @@
 -- Bits of words: eight codewords in a word, and two bits of a row.
 use Rattle.std.proofs.Common.{◌≡◌, ℕ, zero, suc, ◌+◌, ◌-◌, ◌*◌, ◌/◌, ◌%◌, ◌^◌, ◌<◌, ◌≤◌, refl, sym, ap, ◌∙◌, arith}
-use Rattle.std.proofs.Common.{Bool, true, false, ◌&&◌, List, inl, inr, subst, length}
+use Rattle.std.proofs.Common.{true, List, inl, inr, subst, [], ◌∷◌, ◌++◌, drop}
 use Rattle.std.proofs.Math.ListN.{replicate}
-use Rattle.std.proofs.lemmas.List.{get_or_past}
-use Rattle.std.specs.Prelude.{◌==◌, bit_and, nat_lt, slice_index, if◌then◌else◌}
-use Rattle.std.proofs.lemmas.Bool.{and_parts, cases_lt, le-ltb, lt-ltb}
+use Rattle.std.proofs.lemmas.List.{get_or-drop}
+use Rattle.std.specs.Prelude.{◌==◌, bit_and, slice_index}
+use Rattle.std.proofs.lemmas.Bool.{cases_lt}
 use Rattle.std.proofs.lemmas.Bool.Decides.{nat_tests}
 use Rattle.std.proofs.lemmas.Nat.{pow-add}
 use Rattle.std.proofs.Math.Pow.{pow_mono}
@@ -13,10 +13,6 @@ use Rattle.qrmatrix.specs.Bits.{bit}
 use Rattle.qrmatrix.specs.Placement.{codeword_bit}
 use Rattle.qrmatrix.specs.Private.Placing.{HasBits}
 use Rattle.qrmatrix.proofs.RowBitsLaws.{and_bit, shr_bit, up_bit}
-
-and_all : (b : Bool) → (b && true) ≡ b
-and_all true = refl
-and_all false = refl
 
 high_of_pair : (a b i : ℕ) → b < 256 → 8 ≤ i → bit (a * 256 + b) i ≡ bit a (i - 8)
 high_of_pair a b i h l = ap (λ z. z == 1) (bit_at_cat_high a 8 b i h l)
@@ -89,23 +85,19 @@ bits_after count more word i codewords few has j l =
 -- ---- two bits of a word
 
 pub two_low : (w k : ℕ) → bit (bit_and (w / 2 ^ k) 3) 0 ≡ bit w k
-two_low w k =
-    let e : 0 + k ≡ k = omega arith in
-    and_bit (w / 2 ^ k) 3 0 ∙ and_all (bit (w / 2 ^ k) 0) ∙ shr_bit w k 0 ∙ ap (bit w) e
+two_low w k = grind (arith, and_bit (w / 2 ^ k) 3 0, shr_bit w k 0)
 
 pub two_high : (w k : ℕ) → bit (bit_and (w / 2 ^ k) 3) 1 ≡ bit w (k + 1)
-two_high w k =
-    let e : 1 + k ≡ k + 1 = omega arith in
-    and_bit (w / 2 ^ k) 3 1 ∙ and_all (bit (w / 2 ^ k) 1) ∙ shr_bit w k 1 ∙ ap (bit w) e
+two_high w k = grind (arith, and_bit (w / 2 ^ k) 3 1, shr_bit w k 1)
 
 -- a bit of four words
 pub in_each : (a b c d x : ℕ) → bit (bit_and (bit_and (bit_and a b) c) d) x ≡ true
     → (bit a x ≡ true) × (bit b x ≡ true) × (bit c x ≡ true) × (bit d x ≡ true)
 in_each a b c d x h =
-    let last = and_parts (bit (bit_and (bit_and a b) c) x) (bit d x) (sym (and_bit (bit_and (bit_and a b) c) d x) ∙ h) in
-    let third = and_parts (bit (bit_and a b) x) (bit c x) (sym (and_bit (bit_and a b) c x) ∙ last.0) in
-    let first = and_parts (bit a x) (bit b x) (sym (and_bit a b x) ∙ third.0) in
-    (first.0, first.1, third.1, last.1)
+    let last = and_bit (bit_and (bit_and a b) c) d x in
+    let third = and_bit (bit_and a b) c x in
+    let first = and_bit a b x in
+    (grind arith, grind arith, grind arith, grind arith)
 
 -- a fact on each number below four
 pub by_four : (P : ℕ → Type 0) → P 0 → P 1 → P 2 → P 3 → (j : ℕ) → j < 4 → P j
@@ -124,20 +116,12 @@ narrow_word word j h l =
 
 -- ---- the codewords with zeros after them
 
--- the first j codewords, and then zeros
-abbrev pub HasFirst : List ℕ → List ℕ → ℕ → Type 0
-HasFirst bytes codewords j =
-    (k : ℕ) → slice_index bytes k ≡ (if nat_lt k j then slice_index codewords k else 0)
-
-pub zeros : (n k : ℕ) → slice_index (replicate n 0) k ≡ 0
+zeros : (n k : ℕ) → slice_index (replicate n 0) k ≡ 0
 zeros zero k = refl
 zeros (suc n) zero = refl
 zeros (suc n) (suc k) = zeros n k
 
-pub first_all : (bytes codewords : List ℕ) (j : ℕ) → j ≡ length codewords → HasFirst bytes codewords j → (k : ℕ)
-    → slice_index bytes k ≡ slice_index codewords k
-first_all bytes codewords j e has k =
-    has k ∙ elim (cases_lt k j) [
-      | inl l ↦ rw (lt-ltb k j l) refl
-      | inr g ↦ rw (le-ltb k j g) (sym (get_or_past codewords k 0 (omega arith)))
-    ]
+pub before_zeros : (xs : List ℕ) (n m k : ℕ) → slice_index (xs ++ drop n (replicate m 0)) k ≡ slice_index xs k
+before_zeros [] n m k = get_or-drop n (replicate m 0) k 0 ∙ zeros m (n + k)
+before_zeros (x ∷ xs) n m zero = refl
+before_zeros (x ∷ xs) n m (suc k) = before_zeros xs n m k

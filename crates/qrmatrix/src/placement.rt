@@ -69,9 +69,7 @@ fn with_zeros(codewords: &[u8]) -> [u8; ROOM]
     ensures { (j : ℕ) → slice_index result j ≡ slice_index codewords.now j }
 {
     let mut bytes = [0; ROOM];
-    for j in 0..codewords.len() {
-        bytes[j] = codewords[j];
-    }
+    bytes[..codewords.len()].copy_from_slice(codewords);
     bytes
 }
 
