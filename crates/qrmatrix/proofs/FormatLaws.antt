@@ -1,13 +1,13 @@
 -- How far the format information is drawn, bit by bit.
 use Rattle.std.proofs.Common.{◌≡◌, ℕ, ◌+◌, ◌*◌, ◌/◌, ◌%◌, ◌^◌, ◌<◌, ◌≤◌, refl, ◌∙◌, arith, Bool, true, false, ◌&&◌, ◌||◌}
-use Rattle.std.proofs.Common.{Option, None, Some, List, inl, inr, sym}
+use Rattle.std.proofs.Common.{Option, None, Some, List, inl, inr}
 use Rattle.std.specs.Prelude.{bit_and, nat_lt, ◌==◌}
 use Rattle.std.specs.Int.{bit_at}
-use Rattle.std.proofs.lemmas.Bool.{cases_Bool, lt-ltb}
+use Rattle.std.proofs.lemmas.Bool.{cases_Bool}
 use Rattle.std.proofs.lemmas.Bool.Decides.{nat_tests}
 use Rattle.std.proofs.lemmas.Nat.Bits.{bit_at-lt, shr_and_one}
 use Rattle.qrmatrix.specs.Bits.{bit}
-use Rattle.qrmatrix.specs.Functions.{Role, Function, Format, Version, format_bit}
+use Rattle.qrmatrix.specs.Functions.{Role, format_bit}
 use Rattle.qrmatrix.specs.Modules.{is_inside}
 use Rattle.qrmatrix.specs.Private.Drawing.{format_module}
 use Rattle.qrmatrix.specs.Private.FunctionRows.{column_of_bit, row_of_bit}
@@ -100,9 +100,6 @@ few_bits n i x y least lx ly e = grind (arith, nat_tests)
 pub all_drawn : (n information x y : ℕ) (r : Option Role) (z : Bool) → 21 ≤ n → x < n → y < n → index_of r ≡ format_bit n x y
     → flip_if (is_inside n x y && shows_below 15 information (format_bit n x y)) z ≡ flip_if (format_module information r) z
 unfolding index_of
-all_drawn n information x y (Some (Function b)) z least lx ly e = rw (← e, lt-ltb x n lx, lt-ltb y n ly) refl
-all_drawn n information x y (Some (Format i)) z least lx ly e =
-    let few : i < 15 = few_bits n i x y least lx ly (sym e) in
-    rw (← e, lt-ltb x n lx, lt-ltb y n ly, lt-ltb i 15 few) refl
-all_drawn n information x y (Some (Version i)) z least lx ly e = rw (← e, lt-ltb x n lx, lt-ltb y n ly) refl
-all_drawn n information x y None z least lx ly e = rw (← e, lt-ltb x n lx, lt-ltb y n ly) refl
+all_drawn n information x y r z least lx ly e =
+    let few = λ (i : ℕ) (h : format_bit n x y ≡ Some i). few_bits n i x y least lx ly h in
+    grind (arith, nat_tests, few)

@@ -1,11 +1,12 @@
 -- Reading inverts drawing.
 use Rattle.std.proofs.Common.{◌≡◌, ℕ, ◌<◌, ◌≤◌, refl, ap, ◌∙◌, Bool, true, false, cond, List}
-use Rattle.std.proofs.Common.{[], ◌∷◌, length, Option, Some, eq-eqb, arith}
+use Rattle.std.proofs.Common.{[], ◌∷◌, length, Option, Some, eq-eqb, arith, inl, inr}
 use mathlib.Core.Bool.{xor}
 use Rattle.std.specs.Bool.{beq}
 use Rattle.std.specs.Prelude.{◌==◌, not, find, is_none, option_map, unwrap_or, map, nat_lt, reverse, All}
 use Rattle.std.specs.List.{range_with_len, filter, list_all}
-use Rattle.std.proofs.lemmas.Bool.{and_from, and_parts, lt-ltb}
+use Rattle.std.proofs.lemmas.Bool.{and_from, and_parts, cases_lt, lt-leb, lt-ltb}
+use Rattle.std.proofs.lemmas.Bool.Decides.{nat_tests}
 use Rattle.qrdata.specs.declared.level.Level.{Level}
 use Rattle.qrmatrix.specs.Functions.{Role, Format, Version, is_free, role, fixed_module}
 use Rattle.qrmatrix.specs.Functions.{module_of_role}
@@ -23,8 +24,8 @@ use Rattle.qrmatrix.proofs.SumLaws.{list_all-range}
 use Rattle.qrmatrix.proofs.VersionLaws.{is_walked, room, walked}
 use Rattle.qrmatrix.proofs.WalkLaws.{walk_ranks}
 use Rattle.qrmatrix.proofs.CodewordBitLaws.{codewords_of-codeword_bits}
-use Rattle.qrmatrix.proofs.InformationReadingLaws.{HasRoles, first_format, first_version, format_read, second_format}
-use Rattle.qrmatrix.proofs.InformationReadingLaws.{second_version, version_shown}
+use Rattle.qrmatrix.proofs.InformationReadingLaws.{Roles, format_copies, format_read, respelled, roles_at, roles_of}
+use Rattle.qrmatrix.proofs.InformationReadingLaws.{version_copies, version_read}
 
 -- ---- the bits of the codewords
 
@@ -41,6 +42,20 @@ map_filter test inside f g h [] i = refl
 map_filter test inside f g h (x ∷ xs) i =
     let parts = and_parts (inside x) (list_all inside xs) i in
     map_filter_step (test x) f g x (filter test xs) (h x parts.0) (map_filter test inside f g h xs parts.1)
+
+-- two lists whose items are related by two functions are related by two others
+map_related : {X Y A B : Type 0} (h : X → A) (k : Y → A) (f : X → B) (g : Y → B)
+    → ((x : X) (y : Y) → h x ≡ k y → f x ≡ g y) → (xs : List X) (ys : List Y) → map h xs ≡ map k ys
+    → map f xs ≡ map g ys
+map_related h k f g each [] [] e = refl
+map_related h k f g each [] (y ∷ ys) e = cc
+map_related h k f g each (x ∷ xs) [] e = cc
+map_related h k f g each (x ∷ xs) (y ∷ ys) e =
+    let here : h x ≡ k y = cc in
+    let first = each x y here in
+    let there : map h xs ≡ map k ys = cc in
+    let rest = map_related h k f g each xs ys there in
+    cc
 
 map_map : {X Y Z : Type 0} (f : Y → Z) (g : X → Y) (xs : List X) → map (λ x. f (g x)) xs ≡ map f (map g xs)
 map_map f g [] = refl
@@ -116,57 +131,49 @@ module _ (v : ℕ) (level : Level) (mask : ℕ) (codewords : List ℕ) where
       (λ x lx. rw (module_inside x y (inside_from (side_of v) x y (omega arith) (omega arith)))
       (grind arith)))
 
-  -- the modules at the places of the bits of a number
-  modules_at_role : (places : List (ℕ × ℕ)) (kind : ℕ → Role) (information : ℕ) (is_ : List ℕ)
-      → ((i : ℕ) → module_of_role v level mask (kind i) ≡ bit information i)
-      → list_all (λ (p : ℕ × ℕ). is_inside (side_of v) p.0 p.1) places ≡ true
-      → map (λ (p : ℕ × ℕ). role v p.0 p.1) places ≡ map (λ i. Some (kind i)) is_
-      → map (λ (p : ℕ × ℕ). module_at v level mask codewords p.0 p.1) places ≡ map (bit information) is_
+  -- the number at places where its bits have their roles
+  information_at-shown : (places : List (ℕ × ℕ)) (kind : ℕ → Role) (information count : ℕ)
+      → ((i : ℕ) → module_of_role v level mask (kind i) ≡ bit information i) → roles_at v places ≡ roles_of kind count
+      → information_at (module_at v level mask codewords) places ≡ respelled count information
   unfolding fixed_module
-  modules_at_role [] kind information [] h z e = refl
-  modules_at_role [] kind information (i ∷ is_) h z e = cc
-  modules_at_role (p ∷ ps) kind information [] h z e = cc
-  modules_at_role (p ∷ ps) kind information (i ∷ is_) h z e =
-      let here : role v p.0 p.1 ≡ Some (kind i) = cc in
-      let there : map (λ (p : ℕ × ℕ). role v p.0 p.1) ps ≡ map (λ i. Some (kind i)) is_ = cc in
-      let parts = and_parts (is_inside (side_of v) p.0 p.1) (list_all (λ (p : ℕ × ℕ). is_inside (side_of v) p.0 p.1) ps)
-      z in
-      let chosen = xor (is_flipped mask p.0 p.1) (codeword_bit codewords (rank v p.0 p.1)) in
-      let m : unwrap_or (option_map (module_of_role v level mask) (role v p.0 p.1)) chosen ≡ bit information i =
-      rw (here, h i) refl in
-      let at = module_inside p.0 p.1 parts.0 ∙ m in
-      let rest = modules_at_role ps kind information is_ h parts.1 there in
-      cc
+  information_at-shown places kind information count by roles =
+      ap (λ bits. number_of (reverse bits))
+      (map_related (λ (p : ℕ × ℕ). (role v p.0 p.1, is_inside (side_of v) p.0 p.1)) (λ i. (Some (kind i), true))
+      (λ (p : ℕ × ℕ). module_at v level mask codewords p.0 p.1) (bit information)
+      (λ p i e. module_inside p.0 p.1 (ap (λ (r : Option Role × Bool). r.1) e)
+      ∙ rw (ap (λ (r : Option Role × Bool). r.0) e) (by i)) places (range_with_len 0 count) roles)
 
   module _ (at_least : 1 ≤ v) (at_most : v ≤ 10) (mask_below : mask < 8) where
-    -- the number at places where its bits have their roles
-    information_at-shown : (places : List (ℕ × ℕ)) (kind : ℕ → Role) (information count : ℕ)
-        → ((i : ℕ) → module_of_role v level mask (kind i) ≡ bit information i)
-        → HasRoles v kind count places → information_at (module_at v level mask codewords) places
-        ≡ number_of (reverse (map (bit information) (range_with_len 0 count)))
-    information_at-shown places kind information count by roles =
-        ap (λ bits. number_of (reverse bits))
-        (modules_at_role places kind information (range_with_len 0 count) by (ap (λ (r : List (Option Role) × Bool). r.1) roles)
-        (ap (λ (r : List (Option Role) × Bool). r.0) roles))
-
     pub format_shown : read_format (side_of v) (module_at v level mask codewords) ≡ Some (level, mask)
     unfolding read_format
     format_shown =
         let information = format_information level mask in
-        let f = format_read level mask mask_below in
-        let number = ap (λ (r : ℕ × Option (Level × ℕ)). r.0) f in
-        let one = information_at-shown format_copy_1 Format information 15 (λ i. refl) (first_format v at_least at_most) in
+        let copies = format_copies v at_least at_most in
+        let one = information_at-shown format_copy_1 Format information 15 (λ i. refl) (ap (λ (c : Roles × Roles). c.0) copies) in
         let two = information_at-shown (format_copy_2 (side_of v)) Format information 15 (λ i. refl)
-        (second_format v at_least at_most) in
-        rw (one, two, number, eq-eqb information information refl) (ap (λ (r : ℕ × Option (Level × ℕ)). r.1) f)
+        (ap (λ (c : Roles × Roles). c.1) copies) in
+        let read = format_read level mask mask_below in
+        let number = ap (λ (r : ℕ × Option (Level × ℕ)). r.0) read in
+        rw (one, two, number, eq-eqb information information refl) (ap (λ (r : ℕ × Option (Level × ℕ)). r.1) read)
 
     pub version_is_shown : shows_version v (side_of v) (module_at v level mask codewords) ≡ true
+    unfolding shows_version
     version_is_shown =
-        let information = version_information v in
-        version_shown v at_most (module_at v level mask codewords) (λ from. (
-          information_at-shown (version_copy_1 (side_of v)) Version information 18 (λ i. refl) (first_version v from at_most),
-          information_at-shown (version_copy_2 (side_of v)) Version information 18 (λ i. refl) (second_version v from at_most),
-        ))
+        elim (cases_lt v 7) [
+          | inl below ↦ rw (lt-leb 7 v below) refl
+          | inr from ↦
+              let information = version_information v in
+              let copies = version_copies v from at_most in
+              let one = information_at-shown (version_copy_1 (side_of v)) Version information 18 (λ i. refl)
+              (ap (λ (c : Roles × Roles). c.0) copies) in
+              let two = information_at-shown (version_copy_2 (side_of v)) Version information 18 (λ i. refl)
+              (ap (λ (c : Roles × Roles). c.1) copies) in
+              let read = version_read v from at_most in
+              let number = ap (λ (r : ℕ × ℕ × ℕ). r.0) read in
+              let rest = ap (λ (r : ℕ × ℕ × ℕ). r.1) read in
+              let version = ap (λ (r : ℕ × ℕ × ℕ). r.2) read in
+              rw (one, two, number, rest, version) (grind (arith, nat_tests))
+        ]
 
     pub reads_back : length codewords ≡ total_codewords v → All (λ w. w < 256) codewords
         → read_matrix (side_of v) (module_at v level mask codewords)
