@@ -152,18 +152,6 @@ both_free free w x y row bits e low high = (
   ap (value_at free (x + 1)) (sym e) ∙ sym (bits (x + 1)) ∙ high,
 )
 
--- a strip of a symbol
-pub strip_is : (v n number : ℕ) (strip : Strip) → 1 ≤ v → v ≤ 10 → n ≡ side_of v → number < (side_of v - 1) / 2
-    → strip.n ≡ n → strip.number ≡ number → strip.x + 1 ≡ right_column n number → IsStrip v strip
-strip_is v n number strip least most width l side at column =
-    record {
-      least = least;
-      most = most;
-      side = side ∙ width;
-      number = rw at l;
-      column = rw (at, ← width) column;
-    }
-
 -- a whole strip is placed
 pub strip_placed : (v k i j : ℕ) (strip : Strip) (codewords : List ℕ) (start : ℕ → ℕ → Bool)
     (free old new : List (List Bool)) → IsStrip v strip → MarksFree v free → strip.number ≡ k

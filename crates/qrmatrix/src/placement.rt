@@ -6,7 +6,7 @@ ghost use Rattle.qrdata.specs.Versions.{side_of};
 ghost use Rattle.qrmatrix.specs.Functions.{is_free};
 ghost use Rattle.qrmatrix.specs.Bits.{bit};
 ghost use Rattle.qrmatrix.specs.Square.{value_at};
-ghost use Rattle.qrmatrix.specs.Private.Placing.{HasBits, MovesOn, MovesRow, ShowsFree, right_column, row_of};
+ghost use Rattle.qrmatrix.specs.Private.Placing.{HasBits, IsStrip, MovesOn, MovesRow, ShowsFree, row_of};
 ghost use Rattle.qrmatrix.specs.Private.Drawing.{MarksFree, PlacesCodewords};
 
 use crate::square::{SIDE, Square};
@@ -34,8 +34,8 @@ impl Strip {
         requires number { number < (n - 1) / 2 }
         ensures side { result.n ≡ n }
         ensures number { result.number ≡ number }
-        ensures column { result.x + 1 ≡ right_column n number }
         ensures inside { result.x + 1 < n }
+        ensures strip { (v : ℕ) → 1 ≤ v → v ≤ 10 → n ≡ side_of v → IsStrip v result }
     {
         let right = if number < (n - 7) / 2 {
             n - 1 - 2 * number

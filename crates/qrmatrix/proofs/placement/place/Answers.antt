@@ -8,7 +8,7 @@ use Rattle.qrmatrix.specs.Modules.{is_inside}
 use Rattle.std.proofs.lemmas.Bool.{and_right}
 use Rattle.std.proofs.lemmas.Bool.Decides.{nat_tests}
 use Rattle.qrmatrix.specs.Private.Placing.{Placed}
-use Rattle.qrmatrix.proofs.CursorLaws.{placed_none, strip_is, strip_placed}
+use Rattle.qrmatrix.proofs.CursorLaws.{placed_none, strip_placed}
 use Rattle.qrmatrix.proofs.RankLaws.{found_at, outside_at}
 use Rattle.qrmatrix.proofs.placement.place.Goals as goal
 
@@ -34,10 +34,8 @@ loop-pair-preserved c =
     let first = c.place_strip-i in
     let second = c.place_strip-i-in-loop-pair in
     let known = c.side-n.ensures.known in
-    let is_up = strip_is v c.side-n.result k up.result known.0 known.1 width (omega arith) up.ensures.side
-    up.ensures.number up.ensures.column in
-    let is_down = strip_is v c.side-n.result (k + 1) down.result known.0 known.1 width (omega arith) down.ensures.side
-    down.ensures.number down.ensures.column in
+    let is_up = up.ensures.strip v known.0 known.1 width in
+    let is_down = down.ensures.strip v known.0 known.1 width in
     let first_most = first.ensures.bound in
     let second_most = second.ensures.bound in
     let side_up = up.ensures.side in
