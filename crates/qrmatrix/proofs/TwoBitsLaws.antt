@@ -1,86 +1,53 @@
 -- Bits of words: eight codewords in a word, and two bits of a row.
-use Rattle.std.proofs.Common.{◌≡◌, ℕ, zero, suc, ◌+◌, ◌-◌, ◌*◌, ◌/◌, ◌%◌, ◌^◌, ◌<◌, ◌≤◌, refl, sym, ap, ◌∙◌, arith}
-use Rattle.std.proofs.Common.{true, List, inl, inr, subst, [], ◌∷◌, ◌++◌, drop}
+use Rattle.std.proofs.Common.{◌≡◌, ℕ, zero, suc, ◌+◌, ◌-◌, ◌*◌, ◌/◌, ◌%◌, ◌^◌, ◌<◌, ◌≤◌, refl, ◌∙◌, arith}
+use Rattle.std.proofs.Common.{true, List, inl, inr, [], ◌∷◌, ◌++◌, drop}
 use Rattle.std.proofs.Math.ListN.{replicate}
 use Rattle.std.proofs.lemmas.List.{get_or-drop}
-use Rattle.std.specs.Prelude.{◌==◌, bit_and, slice_index}
+use Rattle.std.specs.Prelude.{bit_and, bit_or, slice_index}
 use Rattle.std.proofs.lemmas.Bool.{cases_lt}
 use Rattle.std.proofs.lemmas.Bool.Decides.{nat_tests}
-use Rattle.std.proofs.lemmas.Nat.{pow-add}
-use Rattle.std.proofs.Math.Pow.{pow_mono}
-use Rattle.std.proofs.lemmas.Nat.Bits.{bit_at_cat_high, bit_at_cat_low}
 use Rattle.qrmatrix.specs.Bits.{bit}
 use Rattle.qrmatrix.specs.Placement.{codeword_bit}
 use Rattle.qrmatrix.specs.Private.Placing.{HasBits}
-use Rattle.qrmatrix.proofs.RowBitsLaws.{and_bit, shr_bit, up_bit}
-
-high_of_pair : (a b i : ℕ) → b < 256 → 8 ≤ i → bit (a * 256 + b) i ≡ bit a (i - 8)
-high_of_pair a b i h l = ap (λ z. z == 1) (bit_at_cat_high a 8 b i h l)
-
-low_of_pair : (a b i : ℕ) → i < 8 → bit (a * 256 + b) i ≡ bit b i
-low_of_pair a b i l = ap (λ z. z == 1) (bit_at_cat_low a 8 b i l)
-
--- a number moved up
-left_bit : (w k i : ℕ) → i < 64 → k ≤ i → bit (w * 2 ^ k % 2 ^ 64) i ≡ bit w (i - k)
-left_bit w k i l g = grind (arith, nat_tests, up_bit w k i l)
+use Rattle.qrmatrix.proofs.RowBitsLaws.{above_bit, and_bit, or_bit, shr_bit, up_bit}
 
 -- ---- eight codewords in a word
 
 -- a word of j codewords, from number `first` on
-pub record HasCodewords (word : ℕ) (codewords : List ℕ) (first j : ℕ) : Type 0 where
-  pub narrow : word < 2 ^ (8 * j)
-  pub shows : (m : ℕ) → m < 8 * j → bit word (8 * j - 1 - m) ≡ codeword_bit codewords (8 * first + m)
-
-pub no_codewords : (codewords : List ℕ) (first : ℕ) → HasCodewords 0 codewords first 0
-no_codewords codewords first = record { narrow = omega arith; shows = λ m l. absurd (omega arith) }
+abbrev pub HasCodewords : ℕ → List ℕ → ℕ → ℕ → Type 0
+HasCodewords word codewords first j =
+    (k : ℕ) → k < 8 * j → bit word k ≡ codeword_bit codewords (8 * (first + j) - 1 - k)
 
 -- one codeword more
-pub codeword_more : (word j first b : ℕ) (codewords : List ℕ) → b < 256 → b ≡ slice_index codewords (first + j)
-    → HasCodewords word codewords first j → HasCodewords (word * 256 + b) codewords first (j + 1)
-codeword_more word j first b codewords h is w =
-    record {
-      narrow =
-          let e : 8 * (j + 1) ≡ 8 * j + 8 = omega arith in
-          let p : 2 ^ (8 * (j + 1)) ≡ 2 ^ (8 * j) * 256 = ap (λ z. 2 ^ z) e ∙ pow-add 2 (8 * j) 8 in
-          let n = w.narrow in
-          subst (λ z. word * 256 + b < z) (sym p) (below_next word (2 ^ (8 * j)) b n h);
-      shows = λ m l. elim (cases_lt m (8 * j)) [
-        | inl before ↦
-            let up : 8 ≤ 8 * (j + 1) - 1 - m = omega arith in
-            let same : 8 * (j + 1) - 1 - m - 8 ≡ 8 * j - 1 - m = omega arith in
-            high_of_pair word b (8 * (j + 1) - 1 - m) h up ∙ ap (bit word) same ∙ w.shows m before
-        | inr from ↦
-            let low : 8 * (j + 1) - 1 - m < 8 = omega arith in
-            let at : 8 * (j + 1) - 1 - m ≡ 7 - (8 * first + m) % 8 = omega arith in
-            let in_codeword : first + j ≡ (8 * first + m) / 8 = omega arith in
-            low_of_pair word b (8 * (j + 1) - 1 - m) low ∙ ap (bit b) at
-            ∙ ap (λ z. bit z (7 - (8 * first + m) % 8)) (is ∙ ap (slice_index codewords) in_codeword)
-      ];
-    }
-  where
-    below_next : (w p b : ℕ) → w < p → b < 256 → w * 256 + b < p * 256
-    below_next w p b l h = omega arith
+pub codeword_more : (word j first b : ℕ) (codewords : List ℕ) → j < 8 → b < 256 → b ≡ slice_index codewords (first + j)
+    → HasCodewords word codewords first j → HasCodewords (bit_or (word * 2 ^ 8 % 2 ^ 64) b) codewords first (j + 1)
+codeword_more word j first b codewords few small is has k l =
+    let i = 8 * (first + (j + 1)) - 1 - k in
+    rw (or_bit (word * 2 ^ 8 % 2 ^ 64) b k, up_bit word 8 k (omega arith))
+    (elim (cases_lt k 8) [
+      | inl low ↦
+          let number : i / 8 ≡ first + j = omega arith in
+          let place : 7 - i % 8 ≡ k = omega arith in
+          rw (number, place, ← is) (grind (arith, nat_tests))
+      | inr high ↦
+          let before : 8 * (first + j) - 1 - (k - 8) ≡ i = omega arith in
+          rw (above_bit b 8 k small high, has (k - 8) (omega arith), before) (grind (arith, nat_tests))
+    ])
 
 -- the word from bit i on
 pub word_from : (word i : ℕ) (codewords : List ℕ) → HasCodewords word codewords (i / 8) 8
     → HasBits 57 (word * 2 ^ (i % 8) % 2 ^ 64) codewords i
-word_from word i codewords w j l =
-    let r = i % 8 in
-    let back : r ≤ 63 - j = omega arith in
-    let m : 63 - j - r ≡ 8 * 8 - 1 - (r + j) = omega arith in
-    let at : 8 * (i / 8) + (r + j) ≡ i + j = omega arith in
-    left_bit word r (63 - j) (omega arith) back ∙ ap (bit word) m ∙ w.shows (r + j) (omega arith)
-    ∙ ap (codeword_bit codewords) at
+word_from word i codewords has j l =
+    let at : 8 * (i / 8 + 8) - 1 - (63 - j - i % 8) ≡ i + j = omega arith in
+    rw (up_bit word (i % 8) (63 - j) (omega arith), has (63 - j - i % 8) (omega arith), at) (grind (arith, nat_tests))
 
 -- a word without its first bits
 pub bits_after : (count more word i : ℕ) (codewords : List ℕ) → count + more ≤ 57 → HasBits 57 word codewords i
     → HasBits more (word * 2 ^ count % 2 ^ 64) codewords (i + count)
 bits_after count more word i codewords few has j l =
-    let back : count ≤ 63 - j = omega arith in
     let at : 63 - j - count ≡ 63 - (count + j) = omega arith in
     let is : i + (count + j) ≡ i + count + j = omega arith in
-    left_bit word count (63 - j) (omega arith) back ∙ ap (bit word) at ∙ has (count + j) (omega arith)
-    ∙ ap (codeword_bit codewords) is
+    rw (up_bit word count (63 - j) (omega arith), at, has (count + j) (omega arith), is) (grind (arith, nat_tests))
 
 -- ---- two bits of a word
 
@@ -106,13 +73,6 @@ by_four P a b c d (suc zero) l = b
 by_four P a b c d (suc (suc zero)) l = c
 by_four P a b c d (suc (suc (suc zero))) l = d
 by_four P a b c d (suc (suc (suc (suc j)))) l = absurd (omega arith)
-
--- a word of fewer than eight codewords
-pub narrow_word : (word j : ℕ) → word < 2 ^ (8 * j) → j < 8 → word < 2 ^ 56
-narrow_word word j h l =
-    let few : 8 * j ≤ 56 = omega arith in
-    let p : 2 ^ (8 * j) ≤ 2 ^ 56 = pow_mono few in
-    omega arith
 
 -- ---- the codewords with zeros after them
 

@@ -81,7 +81,7 @@ fn bits_from(bytes: &[u8; ROOM], i: usize) -> u64
     let first = i / 8;
     let mut bits = 0;
     for j in 0..8 {
-        bits = bits * 256 + u64::from(bytes[first + j]);
+        bits = (bits << 8) | u64::from(bytes[first + j]);
     }
     bits << (i % 8)
 }
