@@ -8,31 +8,30 @@ use Rattle.qrmatrix.specs.Bits.{bit}
 use Rattle.qrmatrix.specs.Masks.{is_flipped}
 use Rattle.qrmatrix.specs.Square.{value_at}
 use Rattle.qrmatrix.specs.Private.Drawing.{IsMaskedTo, module_under_mask}
+use Rattle.qrmatrix.proofs.ComputedLaws.{all_places, all_places_at}
 use Rattle.qrmatrix.proofs.SumLaws.{all_below, all_below_at}
 use Rattle.qrmatrix.proofs.RowBitsLaws.{above_bit, and_bit, same_beq, xor_bit}
 use Rattle.std.proofs.lemmas.Bool.Decides.{nat_tests}
 use Rattle.std.proofs.lemmas.Bool.{cases_eq, cases_lt}
 
 -- the row that the table of patterns gives
-abbrev pub mask_row_bits : ℕ → ℕ → ℕ
-mask_row_bits mask place = slice_index_or (slice_index_or {A = List ℕ} PATTERNS mask []) place 0
+abbrev mask_row : ℕ → ℕ → ℕ
+mask_row mask place = slice_index_or (slice_index_or {A = List ℕ} PATTERNS mask []) place 0
 
-is_mask_right : ℕ → ℕ → ℕ → Bool
-is_mask_right mask y x = beq (bit (mask_row_bits mask (y % 12)) x) (is_flipped mask x y)
+is_right : ℕ → ℕ → ℕ → Bool
+is_right mask x y = beq (bit (mask_row mask (y % 12)) x) (is_flipped mask x y)
 
 -- computed for each mask, row and column
-are_masks_right : all_below 8 (λ mask. all_below 57 (λ y. all_below 57 (is_mask_right mask y))) ≡ true
-unfolding is_flipped is_mask_right
-are_masks_right = refl
+are_right : all_below 8 (λ mask. all_places 57 (is_right mask)) ≡ true
+unfolding is_flipped is_right
+are_right = refl
 
-pub bit-mask_row_bits : (mask y x : ℕ) → mask < 8 → y < 57 → x < 57 → bit (mask_row_bits mask (y % 12)) x
-    ≡ is_flipped mask x y
-unfolding is_mask_right
-bit-mask_row_bits mask y x lm ly lx =
-    same_beq _ _ (all_below_at 57 (is_mask_right mask y)
-    (all_below_at 57 (λ y. all_below 57 (is_mask_right mask y))
-    (all_below_at 8 (λ mask. all_below 57 (λ y. all_below 57
-    (is_mask_right mask y))) are_masks_right mask lm) y ly) x lx)
+pub mask_row_is : (mask place x y : ℕ) → mask < 8 → x < 57 → y < 57 → y % 12 ≡ place
+    → bit (mask_row mask place) x ≡ is_flipped mask x y
+unfolding is_right
+mask_row_is mask place x y lm lx ly at =
+    rw (← at) (same_beq _ _ (all_places_at 57 (is_right mask)
+    (all_below_at 8 (λ mask. all_places 57 (is_right mask)) are_right mask lm) x y lx ly))
 
 -- a row of modules that is flipped at the free ones
 pub row_masked : (mask p y : ℕ) (free modules : List (List Bool)) (f w : ℕ) → f < 2 ^ 57

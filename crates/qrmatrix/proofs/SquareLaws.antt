@@ -3,6 +3,7 @@ use Rattle.std.proofs.Common.{◌≡◌, ℕ, zero, suc, ◌^◌, ◌<◌, refl,
 use Rattle.std.proofs.Common.{[], ◌∷◌, get_or, length, inl, inr, set, get_or-set_other, get_or-set_same, ◌&&◌}
 use Rattle.std.proofs.Common.{length-set}
 use Rattle.std.specs.Prelude.{map, ◌==◌, All, slice_index, if◌then◌else◌, bit_xor}
+use Rattle.std.proofs.lemmas.Bool.Decides.{nat_tests}
 use Rattle.std.proofs.lemmas.Bool.{cases_lt, cases_eq, ne_eqb, eq-eqb}
 use Rattle.std.proofs.lemmas.List.{get_or_past}
 use Rattle.std.proofs.lemmas.List.Elements.{All-head, All-tail, All-set}
@@ -57,14 +58,9 @@ pub row_flipped : (ws : List ℕ) (w y : ℕ) → AreRows ws → w < 2 ^ 57 → 
     → value_at (map low_bits (set ws y (bit_xor (get_or ws y 0) w))) a b
     ≡ flip_if ((b == y) && bit w a) (value_at (map low_bits ws) a b)
 row_flipped ws w y rows narrow ly a b =
-    let l : y < length ws = let e = rows.count in omega arith in
-    rw (
-      rows_seen ws rows.narrow a b,
-      rows_seen (set ws y (bit_xor (get_or ws y 0) w))
-          (flipped_rows ws w y rows narrow ly).narrow a b,
-    )
-    (elim (cases_eq b y) [
-      | inl e ↦ rw (e, get_or-set_same ws y (bit_xor (get_or ws y 0) w) 0 l, eq-eqb y y refl)
-          (grind (arith, xor_bit (get_or ws y 0) w a))
-      | inr ne ↦ rw (ne_eqb b y ne) (ap (λ z. bit z a) (get_or-set_other ws y b (bit_xor (get_or ws y 0) w) 0 ne))
-    ])
+    let turned = xor_bit (get_or ws y 0) w a in
+    row_put ws _ y rows (xor_lt 57 _ w (narrow_at ws rows.narrow y) narrow) ly a b
+    ∙ elim (cases_eq b y) [
+      | inl e ↦ rw (e, rows_seen ws rows.narrow a y) (grind (arith, nat_tests))
+      | inr ne ↦ grind (arith, nat_tests)
+    ]

@@ -1,7 +1,7 @@
 -- Windows of lines by bits of rows.
 use Rattle.std.proofs.Common.{◌≡◌, ℕ, ◌+◌, ◌-◌, ◌<◌, ◌≤◌, refl, ap, ◌∙◌, arith, Bool, ◌&&◌, add-one}
 use Rattle.std.specs.Bool.{beq}
-use Rattle.std.specs.Prelude.{not, ◌||◌, if◌then◌else◌}
+use Rattle.std.specs.Prelude.{if◌then◌else◌}
 use Rattle.qrmatrix.specs.Private.Counting.{sum_below, count_below, one_if}
 use Rattle.qrmatrix.specs.Bits.{bit}
 use Rattle.qrmatrix.specs.Penalty.{run_penalty, is_uniform, window_points}
@@ -17,12 +17,6 @@ pub five_equal : (line : ℕ → Bool) (i : ℕ)
     → is_uniform line i 5 ≡ (((beq (line (i + 1)) (line i) && beq (line (i + 2)) (line i))
     && beq (line (i + 3)) (line i)) && beq (line (i + 4)) (line i))
 five_equal line i = grind arith
-
--- a row has no change among the five modules from place i
-pub row_steady : (w i : ℕ) → not ((not (beq (bit w i) (bit w (i + 1))) || not (beq (bit w (i + 1)) (bit w (i + 2))))
-    || (not (beq (bit w (i + 2)) (bit w (i + 3))) || not (beq (bit w (i + 3)) (bit w (i + 4)))))
-    ≡ is_uniform (bit w) i 5
-row_steady w i = grind arith
 
 -- the points of the windows that two words mark: those of one colour, and those that begin a run
 pub windows_counted : (n u b : ℕ) (uniform begins : ℕ → Bool) → n ≤ 57 → ((i : ℕ) → i < 64 → bit u i ≡ uniform i)
