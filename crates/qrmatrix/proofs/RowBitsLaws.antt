@@ -42,6 +42,9 @@ above_bit w k x h g = ap (λ z. z == 1) (bit_at_above w k x h g)
 pub low_bit : (n i : ℕ) → bit (2 ^ n - 1) i ≡ nat_lt i n
 low_bit n i = grind (arith, nat_tests, bit_at_ones n i, bit_at_ones_above n i)
 
+pub ones_narrow : (n : ℕ) → n ≤ 57 → 2 ^ n - 1 < 2 ^ 57
+ones_narrow n h = let p : 2 ^ n ≤ 2 ^ 57 = pow_mono h in omega arith
+
 -- the low k bits of a number are those of its remainder
 pub mod_bit : (k n i : ℕ) → i < k → bit (n % 2 ^ k) i ≡ bit n i
 mod_bit k n i h =

@@ -1,6 +1,6 @@
 -- Sums and counts of the bits of rows.
 use Rattle.std.proofs.Common.{◌≡◌, ℕ, zero, suc, ◌+◌, ◌*◌, ◌<◌, ◌≤◌, refl, sym, ap, ◌∙◌, arith, Bool, false}
-use Rattle.std.proofs.Common.{◌&&◌, inl, inr}
+use Rattle.std.proofs.Common.{inl, inr}
 use Rattle.std.specs.Prelude.{count_ones, bit_and, nat_lt, ◌^◌, if◌then◌else◌}
 use Rattle.std.proofs.lemmas.Bool.{cases_eq}
 use Rattle.std.proofs.lemmas.Bool.Decides.{nat_tests}
@@ -29,10 +29,11 @@ count_cut (suc k) n p q l same none =
           omega arith
     ]
 
-pub weighed : (n : ℕ) (u b : ℕ → Bool) → sum_below n (λ i. if u i then 1 + (if b i then 2 else 0) else 0)
-    ≡ count_below n u + 2 * count_below n (λ i. u i && b i)
-weighed zero u b = refl
-weighed (suc n) u b = grind (arith, weighed n u b)
+-- the points of the places that two words mark
+pub points_counted : (n u b : ℕ) → count_below n (bit u) + 2 * count_below n (bit (bit_and u b))
+    ≡ sum_below n (λ i. if bit u i then 1 + (if bit b i then 2 else 0) else 0)
+points_counted zero u b = refl
+points_counted (suc n) u b = grind (arith, points_counted n u b, and_bit u b n)
 
 pub sum_added : (n : ℕ) (f g : ℕ → ℕ) → sum_below n (λ i. f i + g i) ≡ sum_below n f + sum_below n g
 sum_added zero f g = refl

@@ -81,6 +81,7 @@ pub fn run_starts(row_bits: u64) -> u64
 
 /// Returns the penalty of runs in the lowest `n` places. `uniform` has the places at which windows of one colour begin,
 /// and `begins` those at which a run begins.
+#[tactic(auto, using(crate::proofs::RowSumLaws::points_counted))]
 pub fn run_points(uniform: u64, begins: u64, n: usize) -> u32
     requires { n ≤ SIDE }
     ensures value { result
