@@ -24,59 +24,67 @@ index_of (Some (Version i)) = None
 index_of None = None
 
 -- of a module: whether a pattern has it, whether it is dark there, and which bit of the format information it shows
-abbrev Module : Type 0
-Module = Bool × Bool × Option ℕ
+record Module : Type 0 where
+  taken : Bool
+  dark : Bool
+  index : Option ℕ
+
+-- of a row: whether it has no module beyond the side, and its modules
+record Row : Type 0 where
+  narrow : Bool
+  modules : List Module
 
 -- the module at a column of a row, and the module of a role
 abbrev in_row : ℕ → ℕ → PatternRow → ℕ → Module
-in_row v y row x = (bit row.taken x, bit row.dark x, format_bit (side_of v) x y)
+in_row v y row x = record { taken = bit row.taken x; dark = bit row.dark x; index = format_bit (side_of v) x y }
 
 abbrev of_role : ℕ → Option Role → Module
-of_role v r = (not (is_none r), unmasked_module v r, index_of r)
+of_role v r = record { taken = not (is_none r); dark = unmasked_module v r; index = index_of r }
 
--- whether a row is narrow, and its modules
-abbrev row_modules : ℕ → ℕ → PatternRow → Bool × List Module
-row_modules v y row = (
-  nat_lt row.taken (2 ^ side_of v) && nat_lt row.dark (2 ^ side_of v),
-  map (in_row v y row) (range_with_len 0 (side_of v)),
-)
+-- a row as its bits are, and as the roles ask for it
+abbrev row_drawn : ℕ → ℕ → PatternRow → Row
+row_drawn v y row = record {
+  narrow = nat_lt row.taken (2 ^ side_of v) && nat_lt row.dark (2 ^ side_of v);
+  modules = map (in_row v y row) (range_with_len 0 (side_of v));
+}
 
-abbrev role_modules : ℕ → ℕ → Bool × List Module
-role_modules v y = (true, map (λ x. of_role v (near_role v x y)) (range_with_len 0 (side_of v)))
+abbrev row_asked : ℕ → ℕ → Row
+row_asked v y =
+    record { narrow = true; modules = map (λ x. of_role v (near_role v x y)) (range_with_len 0 (side_of v)) }
 
-rows_right : (v : ℕ) → 1 ≤ v → v ≤ 10 → map (λ y. row_modules v y (function_row v y)) (range_with_len 0 (side_of v))
-    ≡ map (role_modules v) (range_with_len 0 (side_of v))
+rows_right : (v : ℕ) → 1 ≤ v → v ≤ 10 → map (λ y. row_drawn v y (function_row v y)) (range_with_len 0 (side_of v))
+    ≡ map (row_asked v) (range_with_len 0 (side_of v))
 unfolding function_row near_role format_bit index_of version_information binary_remainder
 rows_right =
-    by_version (λ v. map (λ y. row_modules v y (function_row v y)) (range_with_len 0 (side_of v)))
-    (λ v. map (role_modules v) (range_with_len 0 (side_of v))) refl
+    by_version (λ v. map (λ y. row_drawn v y (function_row v y)) (range_with_len 0 (side_of v)))
+    (λ v. map (row_asked v) (range_with_len 0 (side_of v))) refl
 
 module _ (v : ℕ) (l : 1 ≤ v) (h : v ≤ 10) (y : ℕ) (ly : y < side_of v) where
-  row_right : row_modules v y (function_row v y) ≡ role_modules v y
+  row_right : row_drawn v y (function_row v y) ≡ row_asked v y
   row_right =
-      same_at 0 (side_of v) (λ y. row_modules v y (function_row v y)) (role_modules v) (rows_right v l h) y (omega arith)
+      same_at 0 (side_of v) (λ y. row_drawn v y (function_row v y)) (row_asked v) (rows_right v l h) y (omega arith)
       (omega arith)
 
   place_right : (x : ℕ) → x < side_of v → in_row v y (function_row v y) x ≡ of_role v (role v x y)
   place_right x lx =
       same_at 0 (side_of v) (in_row v y (function_row v y)) (λ x. of_role v (near_role v x y))
-      (ap (λ (r : Bool × List Module). r.1) row_right) x (omega arith) (omega arith)
+      (ap (λ (r : Row). r.modules) row_right) x (omega arith) (omega arith)
       ∙ ap (of_role v) (near_role_is v x y)
 
   pub function_row_is : HasFunctions v y (function_row v y)
   unfolding is_free
   function_row_is =
-      let narrow = ap (λ (r : Bool × List Module). r.0) row_right in
+      let narrow = ap (λ (r : Row). r.narrow) row_right in
       record {
-        taken = λ x lx. ap (λ (m : Module). m.0) (place_right x lx);
-        dark = λ x lx. ap (λ (m : Module). m.1) (place_right x lx);
+        taken = λ x lx. ap (λ (m : Module). m.taken) (place_right x lx);
+        dark = λ x lx. ap (λ (m : Module). m.dark) (place_right x lx);
         narrow_taken = grind (arith, nat_tests, narrow);
         narrow_dark = grind (arith, nat_tests, narrow);
       }
 
   -- the role of a module says which bit of the format information it shows
   pub index_right : (x : ℕ) → x < side_of v → index_of (role v x y) ≡ format_bit (side_of v) x y
-  index_right x lx = sym (ap (λ (m : Module). m.2) (place_right x lx))
+  index_right x lx = sym (ap (λ (m : Module). m.index) (place_right x lx))
 
 -- a row of a symbol fits a row of a square
 pub fits : (v w : ℕ) → v ≤ 10 → w < 2 ^ side_of v → w < 2 ^ 57

@@ -46,16 +46,19 @@ free_below_none v =
     (λ y ly. sum_below_zero (side_of v) (λ x. one_if (is_free v x y && nat_lt (key (side_of v) x y) 0))
     (λ x lx. grind (arith, nat_tests)))
 
+-- the place of the key of a module is that of the module, and the key is below that of the strips' end
+pub record IsKeyed (v x y : ℕ) : Type 0 where
+  pub column : place_column (side_of v) (key (side_of v) x y) ≡ x
+  pub row : place_row (side_of v) (key (side_of v) x y) ≡ y
+  pub below : key (side_of v) x y < 2 * side_of v * ((side_of v - 1) / 2)
+
 module _ (v : ℕ) (l : 1 ≤ v) (h : v ≤ 10) where
-  -- the place of the key of a module outside column 6 is that of the module, and every such key is below that of the
-  -- strips' end
-  pub found_at : (x y : ℕ) → x < side_of v → y < side_of v → x ≢ 6 → (place_column (side_of v) (key (side_of v) x y) ≡ x)
-      × (place_row (side_of v) (key (side_of v) x y) ≡ y)
-      × (key (side_of v) x y < 2 * side_of v * ((side_of v - 1) / 2))
+  -- every module outside column 6 is keyed so
+  pub keyed_at : (x y : ℕ) → x < side_of v → y < side_of v → x ≢ 6 → IsKeyed v x y
   unfolding is_keyed
-  found_at x y lx ly ne =
+  keyed_at x y lx ly ne =
       let t = all_places_at (side_of v) (is_keyed (side_of v)) (keyed v l h) x y lx ly in
-      (grind (arith, nat_tests), grind (arith, nat_tests), grind (arith, nat_tests))
+      record { column = grind (arith, nat_tests); row = grind (arith, nat_tests); below = grind (arith, nat_tests) }
 
   -- no other free module has the key of a module
   -- two modules have four coordinates with their bounds; of x, y it is known that it is free, of a, b only that it is
@@ -63,10 +66,14 @@ module _ (v : ℕ) (l : 1 ≤ v) (h : v ≤ 10) where
   pub unique : (x y a b : ℕ) → x < side_of v → y < side_of v → is_free v x y ≡ true → a < side_of v → b < side_of v
       → a ≢ 6 → key (side_of v) x y ≡ key (side_of v) a b → (x ≡ a) × (y ≡ b)
   unique x y a b lx ly free la lb ne e =
-      let p = found_at x y lx ly (outside_at v x y free) in
-      let q = found_at a b la lb ne in
-      let r = ap (place_column (side_of v)) e in
-      let s = ap (place_row (side_of v)) e in
+      let p = keyed_at x y lx ly (outside_at v x y free) in
+      let q = keyed_at a b la lb ne in
+      let columns = ap (place_column (side_of v)) e in
+      let rows = ap (place_row (side_of v)) e in
+      let column = p.column in
+      let row = p.row in
+      let other_column = q.column in
+      let other_row = q.row in
       (cc, cc)
 
   -- the module of key k is counted from k + 1 on

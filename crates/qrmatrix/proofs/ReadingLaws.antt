@@ -24,7 +24,7 @@ use Rattle.qrmatrix.proofs.SumLaws.{list_all-range}
 use Rattle.qrmatrix.proofs.VersionLaws.{is_walked, room, walked}
 use Rattle.qrmatrix.proofs.WalkLaws.{walk_ranks}
 use Rattle.qrmatrix.proofs.CodewordBitLaws.{codewords_of-codeword_bits}
-use Rattle.qrmatrix.proofs.InformationReadingLaws.{Roles, format_copies, format_read, respelled, roles_at, roles_of}
+use Rattle.qrmatrix.proofs.InformationReadingLaws.{Copies, FormatReading, VersionReading, format_copies, format_read, respelled, roles_at, roles_of}
 use Rattle.qrmatrix.proofs.InformationReadingLaws.{version_copies, version_read}
 
 -- ---- the bits of the codewords
@@ -149,12 +149,12 @@ module _ (v : ℕ) (level : Level) (mask : ℕ) (codewords : List ℕ) where
     format_shown =
         let information = format_information level mask in
         let copies = format_copies v at_least at_most in
-        let one = information_at-shown format_copy_1 Format information 15 (λ i. refl) (ap (λ (c : Roles × Roles). c.0) copies) in
+        let one = information_at-shown format_copy_1 Format information 15 (λ i. refl) (ap (λ (c : Copies). c.first) copies) in
         let two = information_at-shown (format_copy_2 (side_of v)) Format information 15 (λ i. refl)
-        (ap (λ (c : Roles × Roles). c.1) copies) in
+        (ap (λ (c : Copies). c.second) copies) in
         let read = format_read level mask mask_below in
-        let number = ap (λ (r : ℕ × Option (Level × ℕ)). r.0) read in
-        rw (one, two, number, eq-eqb information information refl) (ap (λ (r : ℕ × Option (Level × ℕ)). r.1) read)
+        let number = ap (λ (r : FormatReading). r.number) read in
+        rw (one, two, number, eq-eqb information information refl) (ap (λ (r : FormatReading). r.read) read)
 
     pub version_is_shown : shows_version v (side_of v) (module_at v level mask codewords) ≡ true
     unfolding shows_version
@@ -165,13 +165,13 @@ module _ (v : ℕ) (level : Level) (mask : ℕ) (codewords : List ℕ) where
               let information = version_information v in
               let copies = version_copies v from at_most in
               let one = information_at-shown (version_copy_1 (side_of v)) Version information 18 (λ i. refl)
-              (ap (λ (c : Roles × Roles). c.0) copies) in
+              (ap (λ (c : Copies). c.first) copies) in
               let two = information_at-shown (version_copy_2 (side_of v)) Version information 18 (λ i. refl)
-              (ap (λ (c : Roles × Roles). c.1) copies) in
+              (ap (λ (c : Copies). c.second) copies) in
               let read = version_read v from at_most in
-              let number = ap (λ (r : ℕ × ℕ × ℕ). r.0) read in
-              let rest = ap (λ (r : ℕ × ℕ × ℕ). r.1) read in
-              let version = ap (λ (r : ℕ × ℕ × ℕ). r.2) read in
+              let number = ap (λ (r : VersionReading). r.number) read in
+              let rest = ap (λ (r : VersionReading). r.remainder) read in
+              let version = ap (λ (r : VersionReading). r.version) read in
               rw (one, two, number, rest, version) (grind (arith, nat_tests))
         ]
 

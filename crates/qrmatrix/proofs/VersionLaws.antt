@@ -72,21 +72,26 @@ left_is v l h x y lx ly =
     (get_or-map-range_with_len (λ y. (function_row v y).taken) 0 (side_of v) y y 0 ly (omega arith))
     ∙ rw ((function_row_is v l h y ly).taken x lx) (grind arith)
 
--- how many places rows leave free, in the square and on the walk
-counts : ℕ → List ℕ → ℕ × ℕ
+-- how many places are free in the square and on the walk
+record Counts : Type 0 where
+  square : ℕ
+  walk : ℕ
+
+-- how many places rows leave free
+left_by : ℕ → List ℕ → Counts
 unfolding is_left walk
-counts n rows = (
-  sum_below n (λ y. count_below n (λ x. is_left rows x y)),
-  length (filter (λ (p : ℕ × ℕ). is_left rows p.0 p.1) (walk n)),
-)
+left_by n rows = record {
+  square = sum_below n (λ y. count_below n (λ x. is_left rows x y));
+  walk = length (filter (λ (p : ℕ × ℕ). is_left rows p.0 p.1) (walk n));
+}
 
 -- how many modules the codewords and the remainder bits have
 abbrev pub room : ℕ → ℕ
 room v = 8 * total_codewords v + remainder_bits v
 
-left : (v : ℕ) → 1 ≤ v → v ≤ 10 → counts (side_of v) (taken_rows v) ≡ (room v, room v)
-unfolding counts taken_rows total_codewords remainder_bits version_information binary_remainder
-left = by_version (λ v. counts (side_of v) (taken_rows v)) (λ v. (room v, room v)) refl
+left : (v : ℕ) → 1 ≤ v → v ≤ 10 → left_by (side_of v) (taken_rows v) ≡ record { square = room v; walk = room v }
+unfolding left_by taken_rows total_codewords remainder_bits version_information binary_remainder
+left = by_version (λ v. left_by (side_of v) (taken_rows v)) (λ v. record { square = room v; walk = room v }) refl
 
 -- tests that agree inside pass the same places
 same_filter : (p q inside : ℕ × ℕ → Bool) → ((a : ℕ × ℕ) → inside a ≡ true → p a ≡ q a) → (xs : List (ℕ × ℕ))
@@ -98,20 +103,20 @@ same_filter p q inside h (x ∷ xs) i =
 
 module _ (v : ℕ) (l : 1 ≤ v) (h : v ≤ 10) where
   pub counted : free_count v ≡ room v
-  unfolding free_count counts
+  unfolding free_count left_by
   counted =
       let rows = taken_rows v in
       let n = side_of v in
       sum_by-count_by n (λ y x. is_free v x y)
       ∙ sym (sum_below_same n (λ y. count_below n (λ x. is_left rows x y)) (λ y. count_below n (λ x. is_free v x y))
       (λ y ly. sum_below_same n (λ x. one_if (is_left rows x y)) (λ x. one_if (is_free v x y))
-      (λ x lx. ap one_if (left_is v l h x y lx ly)))) ∙ ap (λ (c : ℕ × ℕ). c.0) (left v l h)
+      (λ x lx. ap one_if (left_is v l h x y lx ly)))) ∙ ap (λ (c : Counts). c.square) (left v l h)
 
   pub filtered : length (filter (λ (p : ℕ × ℕ). is_free v p.0 p.1) (walk (side_of v))) ≡ room v
-  unfolding counts
+  unfolding left_by
   filtered =
       let n = side_of v in
       let rows = taken_rows v in
       sym (ap length (same_filter (λ (p : ℕ × ℕ). is_left rows p.0 p.1) (λ (p : ℕ × ℕ). is_free v p.0 p.1) (is_walked n)
       (λ p i. left_is v l h p.0 p.1 (grind (arith, nat_tests)) (grind (arith, nat_tests))) (walk n) (walked v l h)))
-      ∙ ap (λ (c : ℕ × ℕ). c.1) (left v l h)
+      ∙ ap (λ (c : Counts). c.walk) (left v l h)

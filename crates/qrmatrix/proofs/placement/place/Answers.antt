@@ -9,7 +9,7 @@ use Rattle.std.proofs.lemmas.Bool.{and_right}
 use Rattle.std.proofs.lemmas.Bool.Decides.{nat_tests}
 use Rattle.qrmatrix.specs.Private.Placing.{Placed}
 use Rattle.qrmatrix.proofs.CursorLaws.{placed_none, strip_placed}
-use Rattle.qrmatrix.proofs.RankLaws.{found_at, outside_at}
+use Rattle.qrmatrix.proofs.RankLaws.{keyed_at, outside_at}
 use Rattle.qrmatrix.proofs.placement.place.Goals as goal
 
 pub loop-pair-init : goal.loop-pair-init
@@ -62,7 +62,7 @@ returns c =
     let shown = c.loop-pair.invariant.placed.shown in
     record {
       placed = λ x y lx ly free.
-          let below = (found_at v known.0 known.1 x y lx ly (outside_at v x y free)).2 in
+          let below = (keyed_at v known.0 known.1 x y lx ly (outside_at v x y free)).below in
           let dark = c.requires.light x y lx ly free in
           shown x y ∙ rw last (grind (arith, nat_tests))
           ∙ ap (λ w. bit w (7 - rank v x y % 8))
