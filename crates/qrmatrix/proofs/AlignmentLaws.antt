@@ -56,7 +56,8 @@ role_with pattern v x y =
 
 -- the role of a module, with the alignment patterns looked at only where one is near
 unfoldable pub near_role : ℕ → ℕ → ℕ → Option Role
-unfolding role_with alignment_if is_near alignment_coordinates finder timing format_bit is_dark_module version_bit alignment
+unfolding role_with alignment_if is_near alignment_coordinates finder timing format_bit is_dark_module version_bit
+    alignment
 near_role v x y =
     let lines = alignment_coordinates v in
     role_with (alignment_if (is_near lines y && is_near lines x) v x y) v x y

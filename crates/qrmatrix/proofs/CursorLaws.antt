@@ -66,7 +66,8 @@ module _ (v : ℕ) (least : 1 ≤ v) (most : v ≤ 10) (codewords : List ℕ) (o
           | inl here ↦
               let ex : x ≡ a = grind (arith, nat_tests) in
               let ey : y ≡ b = grind (arith, nat_tests) in
-              rw (ex, ey) (grind (arith, nat_tests, flips a b, p.shown a b, at.inside, at.row_inside, at.has, rank_is, is))
+              rw (ex, ey)
+              (grind (arith, nat_tests, flips a b, p.shown a b, at.inside, at.row_inside, at.has, rank_is, is))
           | inr other ↦ grind (arith, flips x y, p.shown x y, before_same x y other)
         ];
       }
@@ -129,7 +130,8 @@ row_placed strip marked m o codewords i t free two word lt lx lf l2 shows has ri
     has_key v x y (k + 1) strip.number t 1 is.number inside (omega arith) column row (omega arith) in
     let free_right = right ∙ marks.inside (x + 1) y r.inside r.row_inside in
     let free_left = left ∙ marks.inside x y l.inside l.row_inside in
-    let first : bit word 63 ≡ codeword_bit codewords i = has 0 (omega arith) ∙ ap (codeword_bit codewords) (add-zero i) in
+    let first : bit word 63 ≡ codeword_bit codewords i =
+    has 0 (omega arith) ∙ ap (codeword_bit codewords) (add-zero i) in
     let second : bit word 62 ≡ codeword_bit codewords (i + 1) = has 1 (omega arith) in
     let half : ℕ → ℕ → Bool = λ a b. flip_if (((a == x + 1) && (b == y)) && bit two 1) (value_at m a b) in
     let i' = i + one_if (is_free v (x + 1) y) in
@@ -138,10 +140,13 @@ row_placed strip marked m o codewords i t free two word lt lx lf l2 shows has ri
     let on_left = step v is.least is.most codewords start half i' (k + 1) x y on_right l (value_at o) (bit two 0)
     (shows.left ∙ rw (free_left, free_right) (ap (λ b. is_free v x y && b)
     (left_bit (is_free v (x + 1) y) (codeword_bit codewords) i (bit word 63) (bit word 62) first second)))
-    (λ a b. flips a b ∙ rw (two_bits two x a l2 (omega arith)) (one_by_one (a == x) (a == x + 1) (b == y) (bit two 0) (bit two 1)
+    (λ a b. flips a b
+    ∙ rw (two_bits two x a l2 (omega arith)) (one_by_one (a == x) (a == x + 1) (b == y) (bit two 0) (bit two 1)
     (value_at m a b) (λ ea eb. grind (arith, nat_tests)))) in
-    let count : (free + 1) / 2 ≡ one_if (is_free v (x + 1) y) + one_if (is_free v x y) = count_of free lf ∙ rw (free_right, free_left) refl in
-    placed_as (i' + one_if (is_free v x y)) (i + (free + 1) / 2) (k + 1 + 1) (2 * side_of v * strip.number + 2 * (t + 1))
+    let count : (free + 1) / 2 ≡ one_if (is_free v (x + 1) y) + one_if (is_free v x y) =
+    count_of free lf ∙ rw (free_right, free_left) refl in
+    placed_as (i' + one_if (is_free v x y)) (i + (free + 1) / 2) (k + 1 + 1)
+    (2 * side_of v * strip.number + 2 * (t + 1))
     (omega arith) (omega arith) on_left
 
 -- both modules of a row are free where the row's bits are ones

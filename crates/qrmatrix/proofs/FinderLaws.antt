@@ -1,6 +1,6 @@
 -- Windows that look like a finder pattern, in two parts: the pattern, and the four light modules beside it.
-use Rattle.std.proofs.Common.{◌≡◌, ℕ, zero, suc, ◌+◌, ◌-◌, ◌/◌, ◌^◌, ◌<◌, ◌≤◌, refl, sym, ap, ◌∙◌, arith, Bool, true, false}
-use Rattle.std.proofs.Common.{◌&&◌, ◌||◌, ◌++◌, add-zero, List, [], ◌∷◌, length, inl, inr}
+use Rattle.std.proofs.Common.{◌≡◌, ℕ, zero, suc, ◌+◌, ◌-◌, ◌/◌, ◌^◌, ◌<◌, ◌≤◌, refl, sym, ap, ◌∙◌, arith, Bool, true}
+use Rattle.std.proofs.Common.{false, ◌&&◌, ◌||◌, ◌++◌, add-zero, List, [], ◌∷◌, length, inl, inr}
 use Rattle.std.specs.Prelude.{nat_le, nat_lt, if◌then◌else◌}
 use Rattle.std.proofs.lemmas.Bool.{cases_eq, le-ltb}
 use Rattle.std.proofs.lemmas.Bool.Decides.{nat_tests}

@@ -1,6 +1,6 @@
 -- How far the format information is drawn, bit by bit.
-use Rattle.std.proofs.Common.{◌≡◌, ℕ, ◌+◌, ◌*◌, ◌/◌, ◌%◌, ◌^◌, ◌<◌, ◌≤◌, refl, ◌∙◌, arith, Bool, true, false, ◌&&◌, ◌||◌}
-use Rattle.std.proofs.Common.{Option, None, Some, List, inl, inr}
+use Rattle.std.proofs.Common.{◌≡◌, ℕ, ◌+◌, ◌*◌, ◌/◌, ◌%◌, ◌^◌, ◌<◌, ◌≤◌, refl, ◌∙◌, arith, Bool, true, false, ◌&&◌}
+use Rattle.std.proofs.Common.{◌||◌, Option, None, Some, List, inl, inr}
 use Rattle.std.specs.Prelude.{bit_and, nat_lt, ◌==◌}
 use Rattle.std.specs.Int.{bit_at}
 use Rattle.std.proofs.lemmas.Bool.{cases_Bool}
@@ -58,16 +58,13 @@ DrawnTo n information i old new = (x y : ℕ) → value_at new x y
     ≡ flip_if (is_inside n x y && shows_below i information (format_bit n x y)) (value_at old x y)
 
 pub none_drawn : (n information : ℕ) (m : List (List Bool)) → DrawnTo n information 0 m m
-none_drawn n information m x y = none (format_bit n x y)
-  where
-    none : (index : Option ℕ) → value_at m x y ≡ flip_if (is_inside n x y && shows_below 0 information index) (value_at m x y)
-    none None = grind arith
-    none (Some k) = grind (arith, nat_tests)
+none_drawn n information m x y = grind (arith, nat_tests)
 
 -- one more bit is drawn
 -- n is the side, and a and b are the places of bit i: m, r and s are before the bit, between its modules and after it
 pub drawn_next : (n information i dark a b : ℕ) (old m r s : List (List Bool)) → 21 ≤ n → n ≤ 57 → i < 15
-    → dark ≡ bit_and (information / 2 ^ i) 1 → a ≡ row_of_bit n i → a < n → b ≡ column_of_bit n i → b < n → DrawnTo n information i old m
+    → dark ≡ bit_and (information / 2 ^ i) 1 → a ≡ row_of_bit n i → a < n → b ≡ column_of_bit n i → b < n
+    → DrawnTo n information i old m
     → ((x y : ℕ) → value_at r x y
     ≡ flip_if ((y == a) && bit (dark * 2 ^ 8 % 2 ^ 64) x) (value_at m x y))
     → ((x y : ℕ) → value_at s x y
@@ -78,9 +75,13 @@ drawn_next n information i dark a b old m r s least most li ed ea la eb lb befor
     let q = (y == 8) && (x == b) in
     let d = bit information i in
     let both : value_at s x y ≡ flip_if (q && d) (flip_if (p && d) (value_at m x y)) =
-    second x y ∙ rw (first x y, moved information i dark 8 x ed (omega arith), moved information i dark b x ed (omega arith)) (grind arith) in
+    second x y
+    ∙ rw (first x y, moved information i dark 8 x ed (omega arith), moved information i dark b x ed (omega arith))
+    (grind arith) in
     let once : value_at s x y ≡ flip_if ((p || q) && d) (value_at m x y) =
-    both ∙ two_flips p q d (value_at m x y) (λ hp hq. apart n i least (grind (arith, nat_tests)) (grind (arith, nat_tests))) in
+    both
+    ∙ two_flips p q d (value_at m x y)
+    (λ hp hq. apart n i least (grind (arith, nat_tests)) (grind (arith, nat_tests))) in
     once ∙ elim (cases_Bool (is_inside n x y)) [
       | inl inside ↦
           let places : shows_bit i (format_bit n x y) ≡ (p || q) =
@@ -97,8 +98,10 @@ unfolding format_bit
 few_bits n i x y least lx ly e = grind (arith, nat_tests)
 
 -- all bits are drawn
-pub all_drawn : (n information x y : ℕ) (r : Option Role) (z : Bool) → 21 ≤ n → x < n → y < n → index_of r ≡ format_bit n x y
-    → flip_if (is_inside n x y && shows_below 15 information (format_bit n x y)) z ≡ flip_if (format_module information r) z
+pub all_drawn : (n information x y : ℕ) (r : Option Role) (z : Bool) → 21 ≤ n → x < n → y < n
+    → index_of r ≡ format_bit n x y
+    → flip_if (is_inside n x y && shows_below 15 information (format_bit n x y)) z
+    ≡ flip_if (format_module information r) z
 unfolding index_of
 all_drawn n information x y r z least lx ly e =
     let few = λ (i : ℕ) (h : format_bit n x y ≡ Some i). few_bits n i x y least lx ly h in

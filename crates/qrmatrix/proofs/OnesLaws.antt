@@ -28,7 +28,8 @@ ones_counted (suc k) n h =
     let r : n % 2 ^ k < 2 ^ k = omega arith in
     let q : n / 2 ^ k < 2 = (div-lt_iff_lt-mul p).1 (omega arith) in
     let top : one_if (bit n k) ≡ n / 2 ^ k = one_if_bit n k ∙ (let m : n / 2 ^ k % 2 ≡ n / 2 ^ k = omega arith in m) in
-    let low = sum_below_same k (λ i. one_if (bit n i)) (λ i. one_if (bit (n % 2 ^ k) i)) (λ i l. ap one_if (sym (mod_bit k n i l))) in
+    let low = sum_below_same k (λ i. one_if (bit n i)) (λ i. one_if (bit (n % 2 ^ k) i))
+    (λ i l. ap one_if (sym (mod_bit k n i l))) in
     let rest = ones_counted k (n % 2 ^ k) r in
     let cat = ones_cat k (n / 2 ^ k) (n % 2 ^ k) r in
     let one = small_ones (n / 2 ^ k) q in

@@ -24,7 +24,8 @@ use Rattle.qrmatrix.proofs.SumLaws.{list_all-range}
 use Rattle.qrmatrix.proofs.VersionLaws.{is_walked, room, walked}
 use Rattle.qrmatrix.proofs.WalkLaws.{walk_ranks}
 use Rattle.qrmatrix.proofs.CodewordBitLaws.{codewords_of-codeword_bits}
-use Rattle.qrmatrix.proofs.InformationReadingLaws.{Copies, FormatReading, VersionReading, format_copies, format_read, respelled, roles_at, roles_of}
+use Rattle.qrmatrix.proofs.InformationReadingLaws.{Copies, FormatReading, VersionReading, format_copies, format_read}
+use Rattle.qrmatrix.proofs.InformationReadingLaws.{respelled, roles_at, roles_of}
 use Rattle.qrmatrix.proofs.InformationReadingLaws.{version_copies, version_read}
 
 -- ---- the bits of the codewords
@@ -149,7 +150,8 @@ module _ (v : ℕ) (level : Level) (mask : ℕ) (codewords : List ℕ) where
     format_shown =
         let information = format_information level mask in
         let copies = format_copies v at_least at_most in
-        let one = information_at-shown format_copy_1 Format information 15 (λ i. refl) (ap (λ (c : Copies). c.first) copies) in
+        let one = information_at-shown format_copy_1 Format information 15 (λ i. refl)
+        (ap (λ (c : Copies). c.first) copies) in
         let two = information_at-shown (format_copy_2 (side_of v)) Format information 15 (λ i. refl)
         (ap (λ (c : Copies). c.second) copies) in
         let read = format_read level mask mask_below in

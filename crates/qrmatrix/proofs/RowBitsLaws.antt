@@ -1,6 +1,6 @@
 -- The bits of rows that operators make.
-use Rattle.std.proofs.Common.{◌≡◌, ℕ, ◌+◌, ◌-◌, ◌*◌, ◌/◌, ◌%◌, ◌^◌, ◌<◌, ◌≤◌, sym, ap, ◌∙◌, arith, Bool, true, false, not}
-use Rattle.std.proofs.Common.{◌&&◌, ◌||◌, inl, inr}
+use Rattle.std.proofs.Common.{◌≡◌, ℕ, ◌+◌, ◌-◌, ◌*◌, ◌/◌, ◌%◌, ◌^◌, ◌<◌, ◌≤◌, sym, ap, ◌∙◌, arith, Bool, true, false}
+use Rattle.std.proofs.Common.{not, ◌&&◌, ◌||◌, inl, inr}
 use Rattle.std.specs.Prelude.{bit_and, bit_or, bit_xor, ◌==◌, nat_le, nat_lt, if◌then◌else◌}
 use Rattle.std.specs.Bool.{beq}
 use Rattle.std.specs.Int.{bit_at, bit_not, w64}

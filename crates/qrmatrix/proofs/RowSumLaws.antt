@@ -56,4 +56,5 @@ pub ones_below : (w low n : ℕ) → n ≤ 57 → low < 2 ^ 57 → ((i : ℕ) �
 ones_below w low n l small is_low =
     ones_counted 57 (bit_and w low) (let a = and_le_r w low in omega arith)
     ∙ count_cut 57 n (bit (bit_and w low)) (bit w) l
-    (λ i h. grind (arith, nat_tests, and_bit w low i, is_low i)) (λ i h. grind (arith, nat_tests, and_bit w low i, is_low i))
+    (λ i h. grind (arith, nat_tests, and_bit w low i, is_low i))
+    (λ i h. grind (arith, nat_tests, and_bit w low i, is_low i))

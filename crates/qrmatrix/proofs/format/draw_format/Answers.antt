@@ -40,8 +40,8 @@ returns c =
     let information = c.format_information-information.ensures in
     record {
       inside = λ x y lx ly. drawn x y
-          ∙ all_drawn n c.format_information-information.result x y (role v x y) (value_at c.args.modules.now x y) (omega arith) lx ly
-          (index_right v known.0 known.1 y ly x lx)
+          ∙ all_drawn n c.format_information-information.result x y (role v x y) (value_at c.args.modules.now x y)
+          (omega arith) lx ly (index_right v known.0 known.1 y ly x lx)
           ∙ ap (λ k. flip_if (format_module k (role v x y)) (value_at c.args.modules.now x y)) information;
       outside = record {
         columns = λ x y l. drawn x y ∙ grind (arith, nat_tests);

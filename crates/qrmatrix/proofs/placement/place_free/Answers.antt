@@ -23,8 +23,8 @@ loop-j-preserved c = record {
       let two = c.two_of-two in
       renumbered c.args.strip.number (i + 2 * j + 2) (i + 2 * (j + 1)) (t + 1) (c.args.t + (j + 1)) (omega arith)
       (omega arith)
-      (row_placed c.args.strip free c.loop-j.modules c.flip.new.self codewords (i + 2 * j) t 3 two.result _ (omega arith)
-      c.requires.column (omega arith) two.ensures.bound two.ensures.value
+      (row_placed c.args.strip free c.loop-j.modules c.flip.new.self codewords (i + 2 * j) t 3 two.result _
+      (omega arith) c.requires.column (omega arith) two.ensures.bound two.ensures.value
       (bits_after (2 * j) 2 c.args.bits i codewords (omega arith) has) (sym rows.1) (sym rows.0)
       (λ a b. c.flip.ensures a b ∙ rw c.row.ensures.value refl) v start is marks
       (c.loop-j.invariant.placed free four codewords i has v start is marks p));

@@ -13,8 +13,8 @@ pub returns-clause-placed : goal.returns-clause-placed
 returns-clause-placed c =
     λ strip t codewords i ex ey lt has.
     let two = c.two_at-two in
-    row_placed strip c.args.free.now c.args.modules.now c.flip.new.self codewords i t two.result c.two_of.result c.args.bits lt
-    (rw (← ex) c.requires.0) two.ensures.bound c.two_of.ensures.bound c.two_of.ensures.value has
+    row_placed strip c.args.free.now c.args.modules.now c.flip.new.self codewords i t two.result c.two_of.result
+    c.args.bits lt (rw (← ex) c.requires.0) two.ensures.bound c.two_of.ensures.bound c.two_of.ensures.value has
     (two.ensures.high ∙ c.row.ensures.bits (c.args.x + 1) ∙ rw (ex, ey) refl)
     (two.ensures.low ∙ c.row.ensures.bits c.args.x ∙ rw (ex, ey) refl) (λ a b. c.flip.ensures a b ∙ rw (ex, ey) refl)
 
