@@ -127,7 +127,6 @@ static PATTERNS: [[u64; 12]; 8] = [
 ];
 
 /// Returns the modules that a mask flips in the rows `place`, `place` + 12 and so on.
-#[tactic(auto, using(crate::proofs::MaskLaws::mask_row_is))]
 fn mask_row_bits(mask: u8, place: usize) -> u64
     requires mask { mask < 8 }
     requires place { place < 12 }

@@ -41,7 +41,6 @@ impl Square {
     }
 
     /// Returns the value at column `x` and row `y`.
-    #[tactic(auto, using(crate::proofs::SquareLaws::rows_seen, std::proofs::lemmas::Nat::Bits::shr_and_one))]
     pub fn get(&self, x: usize, y: usize) -> bool
         requires { (x < SIDE) × (y < SIDE) }
         ensures { result ≡ value_at self.now x y }
@@ -50,7 +49,6 @@ impl Square {
     }
 
     /// Returns the bits of row `y`.
-    #[tactic(auto, using(crate::proofs::SquareLaws::rows_seen, crate::proofs::SquareLaws::narrow_at))]
     pub fn row(&self, y: usize) -> u64
         requires { y < SIDE }
         ensures bits { (x : ℕ) → bit result x ≡ value_at self.now x y }
