@@ -1,6 +1,7 @@
 -- The format and version information that ISO/IEC 18004 lists (Annexes C and D), computed, and their quotients.
-use Rattle.std.proofs.Common.{◌≡◌, ℕ, ◌*◌, ◌+◌, ◌/◌, ◌^◌, refl}
-use Rattle.std.specs.Prelude.{bit_xor}
+use Rattle.std.proofs.Common.{◌≡◌, ℕ, ◌*◌, ◌+◌, ◌/◌, ◌^◌, ◌<◌, refl, sym, ap, arith}
+use Rattle.std.specs.Prelude.{bit_xor, map}
+use Rattle.std.specs.List.{range_with_len}
 use Rattle.gf256.specs.BinaryPolynomial.{binary_product, binary_remainder}
 use Rattle.gf256.proofs.ProductRemainderLaws.{binary_quotient, binary_quotient-lt}
 use Rattle.qrdata.specs.declared.level.Level.{Level}
@@ -9,8 +10,7 @@ use Rattle.qrmatrix.specs.Information.{level_indicator, format_information, vers
 use Rattle.qrmatrix.specs.Information.{FormatInformationIsListed}
 use Rattle.qrmatrix.specs.Information.{FormatInformationIsMultiple, VersionInformationIsListed}
 use Rattle.qrmatrix.specs.Information.{VersionInformationIsMultiple}
-use Rattle.qrmatrix.proofs.ByVersionLaws.{by_version}
-use Rattle.qrmatrix.proofs.InformationReadingLaws.{by_mask}
+use Rattle.qrmatrix.proofs.ComputedLaws.{by_version, same_at}
 
 pub format_information-listed : FormatInformationIsListed
 unfolding format_information binary_remainder
@@ -20,59 +20,43 @@ pub version_information-listed : VersionInformationIsListed
 unfolding version_information binary_remainder
 version_information-listed = refl
 
+-- the message and the product of a number's division by a generator
+abbrev divided : ℕ → ℕ → ℕ → ℕ → ℕ × ℕ
+divided degree generator terms n =
+    (n / 2 ^ degree, binary_product terms generator (binary_quotient degree generator terms n))
+
 -- a number whose division by the generator leaves nothing
-IsMultipleOf-quotient : (degree generator terms message n : ℕ) → n / 2 ^ degree ≡ message
-    → n ≡ binary_product terms generator (binary_quotient degree generator terms n)
+multiple : (degree generator terms message n : ℕ) → divided degree generator terms n ≡ (message, n)
     → IsMultipleOf degree generator terms message n
-IsMultipleOf-quotient degree generator terms message n high whole =
+multiple degree generator terms message n e =
     record {
-      message_bits = high;
+      message_bits = ap (λ (p : ℕ × ℕ). p.0) e;
       quotient = binary_quotient degree generator terms n;
       quotient_degree = binary_quotient-lt degree generator terms n;
-      division = whole;
+      division = sym (ap (λ (p : ℕ × ℕ). p.1) e);
     }
 
-format_code : (level : Level) (mask : ℕ)
-    → bit_xor 0x5412 (format_information level mask) / 2 ^ 10 ≡ level_indicator level * 8 + mask
-    → bit_xor 0x5412 (format_information level mask)
-    ≡ binary_product 5 0x537 (binary_quotient 10 0x537 5 (bit_xor 0x5412 (format_information level mask)))
-    → IsMultipleOf 10 0x537 5 (level_indicator level * 8 + mask) (bit_xor 0x5412 (format_information level mask))
-format_code level mask = IsMultipleOf-quotient 10 0x537 5 (level_indicator level * 8 + mask) (bit_xor 0x5412
-    (format_information level mask))
+-- the format information with its mask taken off
+abbrev format_code : Level → ℕ → ℕ
+format_code level mask = bit_xor 0x5412 (format_information level mask)
 
-abbrev FormatCode : Level → ℕ → Type 0
-FormatCode level mask = IsMultipleOf 10 0x537 5 (level_indicator level * 8 + mask)
-    (bit_xor 0x5412 (format_information level mask))
+format_code-multiple : (level : Level) → map (λ mask. divided 10 0x537 5 (format_code level mask)) (range_with_len 0 8)
+    ≡ map (λ mask. (level_indicator level * 8 + mask, format_code level mask)) (range_with_len 0 8)
+    → (mask : ℕ) → mask < 8 → IsMultipleOf 10 0x537 5 (level_indicator level * 8 + mask) (format_code level mask)
+format_code-multiple level e mask h =
+    multiple 10 0x537 5 (level_indicator level * 8 + mask) (format_code level mask)
+    (same_at 0 8 (λ mask. divided 10 0x537 5 (format_code level mask))
+    (λ mask. (level_indicator level * 8 + mask, format_code level mask)) e mask (omega arith) h)
 
 pub format_information-multiple : FormatInformationIsMultiple
 unfolding format_information binary_remainder binary_product binary_quotient
-format_information-multiple L =
-    by_mask (FormatCode L) (format_code L 0 refl refl) (format_code L 1 refl refl) (format_code L 2 refl refl)
-    (format_code L 3 refl refl)
-    (format_code L 4 refl refl) (format_code L 5 refl refl) (format_code L 6 refl refl) (format_code L 7 refl refl)
-format_information-multiple M =
-    by_mask (FormatCode M) (format_code M 0 refl refl) (format_code M 1 refl refl) (format_code M 2 refl refl)
-    (format_code M 3 refl refl)
-    (format_code M 4 refl refl) (format_code M 5 refl refl) (format_code M 6 refl refl) (format_code M 7 refl refl)
-format_information-multiple Q =
-    by_mask (FormatCode Q) (format_code Q 0 refl refl) (format_code Q 1 refl refl) (format_code Q 2 refl refl)
-    (format_code Q 3 refl refl)
-    (format_code Q 4 refl refl) (format_code Q 5 refl refl) (format_code Q 6 refl refl) (format_code Q 7 refl refl)
-format_information-multiple H =
-    by_mask (FormatCode H) (format_code H 0 refl refl) (format_code H 1 refl refl) (format_code H 2 refl refl)
-    (format_code H 3 refl refl)
-    (format_code H 4 refl refl) (format_code H 5 refl refl) (format_code H 6 refl refl) (format_code H 7 refl refl)
-
-version_code : (v : ℕ) → version_information v / 2 ^ 12 ≡ v
-    → version_information v ≡ binary_product 6 0x1F25 (binary_quotient 12 0x1F25 6 (version_information v))
-    → IsMultipleOf 12 0x1F25 6 v (version_information v)
-version_code v = IsMultipleOf-quotient 12 0x1F25 6 v (version_information v)
+format_information-multiple L mask h = format_code-multiple L refl mask h
+format_information-multiple M mask h = format_code-multiple M refl mask h
+format_information-multiple Q mask h = format_code-multiple Q refl mask h
+format_information-multiple H mask h = format_code-multiple H refl mask h
 
 pub version_information-multiple : VersionInformationIsMultiple
 unfolding version_information binary_remainder binary_product binary_quotient
-version_information-multiple =
-    by_version (λ v. IsMultipleOf 12 0x1F25 6 v (version_information v))
-    (version_code 1 refl refl) (version_code 2 refl refl) (version_code 3 refl refl) (version_code 4 refl refl)
-    (version_code 5 refl refl)
-    (version_code 6 refl refl) (version_code 7 refl refl) (version_code 8 refl refl) (version_code 9 refl refl)
-    (version_code 10 refl refl)
+version_information-multiple v l h =
+    multiple 12 0x1F25 6 v (version_information v)
+    (by_version (λ v. divided 12 0x1F25 6 (version_information v)) (λ v. (v, version_information v)) refl v l h)

@@ -1,8 +1,10 @@
 -- The choice of the mask.
-use Rattle.std.proofs.Common.{◌≡◌, ℕ, ◌+◌, ◌<◌, ◌≤◌, refl, ap, ◌∙◌, arith, Bool, true, zero, suc, inl, inr}
+use Rattle.std.proofs.Common.{◌≡◌, ℕ, ◌+◌, ◌<◌, ◌≤◌, refl, ◌∙◌, arith, zero, suc, inl, inr}
 use Rattle.std.specs.Prelude.{IfSome, List, None, Option, Some, map, nat_le}
 use Rattle.std.specs.List.{range_with_len, list_all, position_or_len}
-use Rattle.std.proofs.lemmas.Bool.{le-leb, false_from_ne_true, leb-true, and_parts, and_from, cases_eq, cases_lt}
+use Rattle.std.proofs.lemmas.Bool.{cases_lt, le-leb, lt-leb}
+use Rattle.std.proofs.lemmas.List.Folds.{list_all-map, list_all_at}
+use Rattle.qrmatrix.proofs.SumLaws.{list_all-range}
 use Rattle.std.proofs.lemmas.List.Sums.{position_or_len_is}
 use Rattle.std.proofs.lemmas.List.FromFn.{get_or-map-range_with_len}
 use Rattle.qrdata.specs.declared.level.Level.{Level}
@@ -30,11 +32,8 @@ Found-lower {f} {n} {k} {value} {next} {low} found last at less =
     record {
       lowest = record {
         among = omega arith;
-        lowest = λ j h. elim (cases_eq j n) [
-          | inl same ↦ rw (last, same) (omega arith)
-          | inr ne ↦ rw last (omega (arith, found.lowest.lowest j (omega arith)))
-        ];
-        first = λ j h. rw last (omega (arith, found.lowest.lowest j (omega arith)));
+        lowest = λ j h. grind (arith, found.lowest.lowest j);
+        first = λ j h. grind (arith, found.lowest.lowest j);
       };
       at = rw last at;
     }
@@ -42,36 +41,14 @@ Found-lower {f} {n} {k} {value} {next} {low} found last at less =
 -- the next number is not lower
 pub Found-kept : {f : ℕ → ℕ} {n k value : ℕ} → Found f n k value → value ≤ f n → Found f (n + 1) k value
 Found-kept {f} {n} {k} {value} found more =
-    let e = found.at in
     record {
       lowest = record {
-        among = let l = found.lowest.among in omega arith;
-        lowest = λ j h. elim (cases_eq j n) [
-          | inl same ↦ rw same (omega arith)
-          | inr ne ↦ found.lowest.lowest j (omega arith)
-        ];
+        among = omega (arith, found.lowest.among);
+        lowest = λ j h. grind (arith, found.lowest.lowest j, found.at);
         first = found.lowest.first;
       };
       at = found.at;
     }
-
--- a test of each of the numbers f 0, f 1, ..
-all_mapped : (f : ℕ → ℕ) (p : ℕ → Bool) (a n : ℕ) → ((j : ℕ) → a ≤ j → j < a + n → p (f j) ≡ true)
-    → list_all p (map f (range_with_len a n)) ≡ true
-all_mapped f p a zero h = refl
-all_mapped f p a (suc n) h =
-    and_from (p (f a)) (list_all p (map f (range_with_len (a + 1) n))) (h a (omega arith) (omega arith))
-    (all_mapped f p (a + 1) n (λ j l m. h j (omega arith) (omega arith)))
-
-pub mapped_all : (f : ℕ → ℕ) (p : ℕ → Bool) (a n : ℕ) → list_all p (map f (range_with_len a n)) ≡ true → (j : ℕ) → a ≤ j
-    → j < a + n → p (f j) ≡ true
-mapped_all f p a zero h j l m = absurd (omega arith)
-mapped_all f p a (suc n) h j l m =
-    let parts = and_parts (p (f a)) (list_all p (map f (range_with_len (a + 1) n))) h in
-    elim (cases_eq j a) [
-      | inl e ↦ ap (λ z. p (f z)) e ∙ parts.0
-      | inr ne ↦ mapped_all f p (a + 1) n parts.1 j (omega arith) (omega arith)
-    ]
 
 -- the place of the lowest of eight numbers
 pub lowest_of_eight : (f : ℕ → ℕ) (k : ℕ) → Lowest f 8 k
@@ -81,46 +58,24 @@ lowest_of_eight f k l =
     let ps = map f (range_with_len 0 8) in
     let among = l.among in
     position_or_len_is (λ p. list_all (nat_le p) ps) ps k 0 (omega arith)
-    (λ j h. rw (at j (omega arith)) (false_from_ne_true _
-    (λ t. let less = l.first j h in let more =
-    leb-true (f j) (f k) (mapped_all f (nat_le (f j)) 0 8 t k (omega arith) (omega arith)) in omega arith)))
-    (λ h. rw (at k h) (all_mapped f (nat_le (f k)) 0 8 (λ j a m. le-leb (f k) (f j) (l.lowest j (omega arith)))))
+    (λ j h. rw (at j (omega arith))
+    (list_all_at (nat_le (f j)) ps k 0 among (rw (at k among) (lt-leb (f j) (f k) (l.first j h)))))
+    (λ h. rw (at k h) (list_all-map (nat_le (f k)) f (range_with_len 0 8)
+    ∙ list_all-range 0 8 (λ j. nat_le (f k) (f j)) (λ j a. le-leb (f k) (f j) (l.lowest j a))))
 
 -- one of the first numbers has the lowest value
 some_lowest : (f : ℕ → ℕ) (n : ℕ) → (k : ℕ) × Lowest f (suc n) k
 some_lowest f zero = (
   0,
-  record {
-    among = omega arith;
-    lowest = λ j h. let same : j ≡ 0 = omega arith in rw same (omega arith);
-    first = λ j h. absurd (omega arith);
-  },
+  record { among = omega arith; lowest = λ j h. grind arith; first = λ j h. absurd (omega arith) },
 )
 some_lowest f (suc n) =
     let before = some_lowest f n in
+    let found : Found f (suc n) before.0 (f before.0) = record { lowest = before.1; at = refl } in
+    let next : suc n + 1 ≡ suc (suc n) = omega arith in
     elim (cases_lt (f (suc n)) (f before.0)) [
-      | inl less ↦ (
-        suc n,
-        record {
-          among = omega arith;
-          lowest = λ j h. elim (cases_lt j (suc n)) [
-            | inl earlier ↦ omega (arith, before.1.lowest j earlier)
-            | inr last ↦ let same : j ≡ suc n = omega arith in rw same (omega arith)
-          ];
-          first = λ j h. omega (arith, before.1.lowest j h);
-        },
-      )
-      | inr more ↦ (
-        before.0,
-        record {
-          among = omega (arith, before.1.among);
-          lowest = λ j h. elim (cases_lt j (suc n)) [
-            | inl earlier ↦ before.1.lowest j earlier
-            | inr last ↦ let same : j ≡ suc n = omega arith in rw same more
-          ];
-          first = before.1.first;
-        },
-      )
+      | inl less ↦ (suc n, rw next at (Found-lower found refl refl less).lowest)
+      | inr more ↦ (before.0, rw next at (Found-kept found more).lowest)
     ]
 
 -- a symbol's mask is 0 to 7

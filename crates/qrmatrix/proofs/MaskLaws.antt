@@ -1,49 +1,37 @@
 -- The rows of the masks, 64 bits each.
-use Rattle.std.proofs.Common.{◌≡◌, ℕ, ◌+◌, ◌%◌, ◌<◌, ◌≤◌, ◌^◌, refl, sym, ap, ◌∙◌, arith, Bool, true, false, not}
-use Rattle.std.proofs.Common.{◌&&◌, List, [], inl, inr}
-use Rattle.std.specs.Prelude.{slice_index_or, ◌==◌, bit_and, bit_xor, if◌then◌else◌, nat_lt}
+use Rattle.std.proofs.Common.{◌≡◌, ℕ, ◌+◌, ◌%◌, ◌<◌, ◌^◌, refl, ◌∙◌, arith, Bool, true}
+use Rattle.std.proofs.Common.{List, [], inl, inr}
+use Rattle.std.specs.Prelude.{slice_index_or, ◌==◌, bit_and, bit_xor, if◌then◌else◌}
 use Rattle.std.specs.Bool.{beq}
-use Rattle.std.specs.Int.{bit_not, w64}
 use Rattle.qrmatrix.specs.declared.mask.TheConstants.{PATTERNS}
 use Rattle.qrmatrix.specs.Bits.{bit}
 use Rattle.qrmatrix.specs.Masks.{is_flipped}
-use Rattle.qrmatrix.specs.Private.Squares.{flip_if}
 use Rattle.qrmatrix.specs.Square.{value_at}
 use Rattle.qrmatrix.specs.Private.Drawing.{IsMaskedTo, module_under_mask}
+use Rattle.qrmatrix.proofs.ComputedLaws.{all_places, all_places_at}
 use Rattle.qrmatrix.proofs.SumLaws.{all_below, all_below_at}
-use Rattle.qrmatrix.proofs.RowBitsLaws.{above_bit, and_bit, not_bit, same_beq, xor_bit}
-use Rattle.std.proofs.lemmas.Bool.{cases_eq, cases_lt, eq-eqb, le-ltb, lt-ltb, ne_eqb}
+use Rattle.qrmatrix.proofs.RowBitsLaws.{above_bit, and_bit, same_beq, xor_bit}
+use Rattle.std.proofs.lemmas.Bool.Decides.{nat_tests}
+use Rattle.std.proofs.lemmas.Bool.{cases_eq, cases_lt}
 
 -- the row that the table of patterns gives
-abbrev pub mask_row_bits : ℕ → ℕ → ℕ
-mask_row_bits mask place = slice_index_or (slice_index_or {A = List ℕ} PATTERNS mask []) place 0
+abbrev mask_row : ℕ → ℕ → ℕ
+mask_row mask place = slice_index_or (slice_index_or {A = List ℕ} PATTERNS mask []) place 0
 
-is_mask_right : ℕ → ℕ → ℕ → Bool
-is_mask_right mask y x = beq (bit (mask_row_bits mask (y % 12)) x) (is_flipped mask x y)
+is_right : ℕ → ℕ → ℕ → Bool
+is_right mask x y = beq (bit (mask_row mask (y % 12)) x) (is_flipped mask x y)
 
 -- computed for each mask, row and column
-are_masks_right : all_below 8 (λ mask. all_below 57 (λ y. all_below 57 (is_mask_right mask y))) ≡ true
-unfolding is_flipped is_mask_right
-are_masks_right = refl
+are_right : all_below 8 (λ mask. all_places 57 (is_right mask)) ≡ true
+unfolding is_flipped is_right
+are_right = refl
 
-pub bit-mask_row_bits : (mask y x : ℕ) → mask < 8 → y < 57 → x < 57 → bit (mask_row_bits mask (y % 12)) x
-    ≡ is_flipped mask x y
-unfolding is_mask_right
-bit-mask_row_bits mask y x lm ly lx =
-    same_beq _ _ (all_below_at 57 (is_mask_right mask y)
-    (all_below_at 57 (λ y. all_below 57 (is_mask_right mask y))
-    (all_below_at 8 (λ mask. all_below 57 (λ y. all_below 57
-    (is_mask_right mask y))) are_masks_right mask lm) y ly) x lx)
-
-masked_bit : (f t b : Bool) → not (beq b (t && f)) ≡ (if f then flip_if t b else b)
-masked_bit true true true = refl
-masked_bit true true false = refl
-masked_bit true false true = refl
-masked_bit true false false = refl
-masked_bit false true true = refl
-masked_bit false true false = refl
-masked_bit false false true = refl
-masked_bit false false false = refl
+pub mask_row_is : (mask place x y : ℕ) → mask < 8 → x < 57 → y < 57 → y % 12 ≡ place
+    → bit (mask_row mask place) x ≡ is_flipped mask x y
+unfolding is_right
+mask_row_is mask place x y lm lx ly at =
+    rw (← at) (same_beq _ _ (all_places_at 57 (is_right mask)
+    (all_below_at 8 (λ mask. all_places 57 (is_right mask)) are_right mask lm) x y lx ly))
 
 -- a row of modules that is flipped at the free ones
 pub row_masked : (mask p y : ℕ) (free modules : List (List Bool)) (f w : ℕ) → f < 2 ^ 57
@@ -51,13 +39,11 @@ pub row_masked : (mask p y : ℕ) (free modules : List (List Bool)) (f w : ℕ) 
     → ((x : ℕ) → bit w x ≡ value_at modules x y) → (x : ℕ)
     → bit (bit_xor w (bit_and p f)) x ≡ module_under_mask mask free modules x y
 row_masked mask p y free modules f w narrow pattern is_free is_module x =
-    xor_bit w (bit_and p f) x ∙ elim (cases_lt x 57) [
-      | inl l ↦ rw (and_bit p f x, pattern x l, is_free x, is_module x)
-          (masked_bit (value_at free x y) (is_flipped mask x y) (value_at modules x y))
-      | inr g ↦
-          let none : bit f x ≡ false = above_bit f 57 x narrow g in
-          let taken : value_at free x y ≡ false = sym (is_free x) ∙ none in
-          rw (and_bit p f x, none, taken, is_module x) (masked_bit false (bit p x) (value_at modules x y))
+    let xor = xor_bit w (bit_and p f) x in
+    let and = and_bit p f x in
+    elim (cases_lt x 57) [
+      | inl l ↦ grind (arith, xor, and, pattern x l, is_free x, is_module x)
+      | inr g ↦ grind (arith, xor, and, above_bit f 57 x narrow g, is_free x, is_module x)
     ]
 
 -- one more row is under the mask
@@ -68,29 +54,6 @@ pub masked_more : (last mask w : ℕ) (free modules start m new : List (List Boo
     → IsMaskedTo (last + 1) mask free modules start new
 masked_more last mask w free modules start m new before put row x y =
     put x y ∙ elim (cases_eq y last) [
-      | inl e ↦ rw (eq-eqb y last e, lt-ltb y (last + 1) (omega arith))
-          (row x ∙ ap (λ z. module_under_mask mask free modules x z) (sym e))
-      | inr ne ↦ rw (ne_eqb y last ne) (before x y ∙ ap
-          (λ z. if z then module_under_mask mask free modules x y else value_at start x y) (same ne))
+      | inl e ↦ rw (e, row x) (grind (arith, nat_tests))
+      | inr ne ↦ rw (before x y) (grind (arith, nat_tests))
     ]
-  where
-    same : (y ≡ last → ⊥) → nat_lt y last ≡ nat_lt y (last + 1)
-    same ne = elim (cases_lt y last) [
-      | inl l ↦ rw (lt-ltb y last l, lt-ltb y (last + 1) (omega arith)) refl
-      | inr g ↦ rw (le-ltb y last g, le-ltb y (last + 1) (omega arith)) refl
-    ]
-
-not_not : (b : Bool) → not (not b) ≡ b
-not_not true = refl
-not_not false = refl
-
--- the modules that patterns leave free in a row
-pub left_free : (low taken n x : ℕ) (free : Bool) → taken < 2 ^ 64 → x < n → n ≤ 57 → bit low x ≡ nat_lt x n
-    → bit taken x ≡ not free → bit (bit_and low (bit_not w64 taken)) x ≡ free
-left_free low taken n x free narrow l small is_low is_taken =
-    and_bit low (bit_not w64 taken) x
-    ∙ rw (is_low, lt-ltb x n l, not_bit taken x narrow (omega arith), is_taken) (not_not free)
-
-pub left_beyond : (low taken n x : ℕ) → n ≤ x → bit low x ≡ nat_lt x n
-    → bit (bit_and low (bit_not w64 taken)) x ≡ false
-left_beyond low taken n x g is_low = and_bit low (bit_not w64 taken) x ∙ rw (is_low, le-ltb x n g) refl

@@ -1,31 +1,17 @@
 -- How many bits of a row are set, as a count over its places.
 use Rattle.std.proofs.Common.{◌≡◌, ℕ, zero, suc, ◌+◌, ◌*◌, ◌/◌, ◌%◌, ◌^◌, ◌<◌, refl, sym, ap, ◌∙◌, arith}
-use Rattle.std.specs.Prelude.{count_ones, ◌==◌}
-use Rattle.std.specs.Int.{bit_at}
+use Rattle.std.specs.Prelude.{count_ones}
 use Rattle.std.specs.Int.Count.{ones}
 use Rattle.std.proofs.lemmas.Nat.{ones_cat, ones_le_self, pow_pos}
-use Rattle.std.proofs.lemmas.Nat.Bits.{bit_at_cat_low}
+use Rattle.std.proofs.lemmas.Bool.Decides.{nat_tests}
 use Rattle.std.proofs.Math.Nat.{pow-suc, div-lt_iff_lt-mul}
 use Rattle.qrmatrix.specs.Private.Counting.{count_below, one_if}
 use Rattle.qrmatrix.specs.Bits.{bit}
+use Rattle.qrmatrix.proofs.RowBitsLaws.{mod_bit}
 use Rattle.qrmatrix.proofs.SumLaws.{sum_below_same}
 
-digit : (d : ℕ) → d < 2 → one_if (d == 1) ≡ d
-digit zero h = refl
-digit (suc zero) h = refl
-digit (suc (suc d)) h = absurd (omega arith)
-
 one_if_bit : (n i : ℕ) → one_if (bit n i) ≡ n / 2 ^ i % 2
-one_if_bit n i = digit (n / 2 ^ i % 2) (omega arith)
-
--- the low k bits of a number are those of its remainder
-low_bits : (k n i : ℕ) → i < k → one_if (bit n i) ≡ one_if (bit (n % 2 ^ k) i)
-low_bits k n i h =
-    let p = pow_pos k in
-    let whole : n ≡ (n / 2 ^ k) * 2 ^ k + n % 2 ^ k = omega arith in
-    let same : bit_at n i ≡ bit_at (n % 2 ^ k) i =
-    ap (λ z. bit_at z i) whole ∙ bit_at_cat_low (n / 2 ^ k) k (n % 2 ^ k) i h in
-    one_if_bit n i ∙ same ∙ sym (one_if_bit (n % 2 ^ k) i)
+one_if_bit n i = grind (arith, nat_tests)
 
 small_ones : (q : ℕ) → q < 2 → count_ones q ≡ q
 unfolding ones
@@ -42,7 +28,8 @@ ones_counted (suc k) n h =
     let r : n % 2 ^ k < 2 ^ k = omega arith in
     let q : n / 2 ^ k < 2 = (div-lt_iff_lt-mul p).1 (omega arith) in
     let top : one_if (bit n k) ≡ n / 2 ^ k = one_if_bit n k ∙ (let m : n / 2 ^ k % 2 ≡ n / 2 ^ k = omega arith in m) in
-    let low = sum_below_same k (λ i. one_if (bit n i)) (λ i. one_if (bit (n % 2 ^ k) i)) (λ i l. low_bits k n i l) in
+    let low = sum_below_same k (λ i. one_if (bit n i)) (λ i. one_if (bit (n % 2 ^ k) i))
+    (λ i l. ap one_if (sym (mod_bit k n i l))) in
     let rest = ones_counted k (n % 2 ^ k) r in
     let cat = ones_cat k (n / 2 ^ k) (n % 2 ^ k) r in
     let one = small_ones (n / 2 ^ k) q in

@@ -1,17 +1,18 @@
 -- How many free modules have a key below k, as k grows along the walk.
-use Rattle.std.proofs.Common.{◌≡◌, ◌≢◌, ℕ, suc, ◌+◌, ◌-◌, ◌*◌, ◌/◌, ◌<◌, refl, sym, ap, subst, ◌∙◌, arith, Bool, true}
-use Rattle.std.proofs.Common.{false, ◌&&◌, inl, inr}
-use Rattle.std.specs.Prelude.{nat_lt, ◌==◌}
-use Rattle.std.proofs.lemmas.Bool.{and_parts, or_cases, eqb-true, ltb-true, both_ways, not-true}
+use Rattle.std.proofs.Common.{◌≡◌, ◌≢◌, ℕ, suc, ◌+◌, ◌-◌, ◌*◌, ◌/◌, ◌%◌, ◌<◌, ◌≤◌, refl, sym, ap, subst, ◌∙◌, arith}
+use Rattle.std.proofs.Common.{Bool, true, false, ◌&&◌, Option, None, Some}
+use Rattle.std.specs.Prelude.{is_none, nat_lt, ◌==◌}
+use Rattle.std.specs.Option.{option_map, option_or}
+use Rattle.std.proofs.lemmas.Bool.{both_ways}
 use Rattle.std.proofs.lemmas.Bool.Decides.{nat_tests}
 use Rattle.qrmatrix.specs.Private.Counting.{sum_below, count_below, one_if}
 use Rattle.qrdata.specs.Versions.{side_of}
-use Rattle.qrmatrix.specs.Functions.{is_free}
+use Rattle.qrmatrix.specs.Functions.{Role, Function, alignment, finder, is_free, role, timing}
 use Rattle.qrmatrix.specs.Placement.{key, rank}
 use Rattle.qrmatrix.specs.Private.Placing.{free_below}
-use Rattle.qrmatrix.proofs.SumLaws.{all_below, all_below_at, sum_below_same, sum_below_one, sum_below_zero}
-use Rattle.qrmatrix.proofs.SumLaws.{sum_by-count_by}
-use Rattle.qrmatrix.proofs.VersionLaws.{Computed, is_found, is_below, is_outside, place_column, place_row}
+use Rattle.qrmatrix.proofs.ComputedLaws.{all_places_at}
+use Rattle.qrmatrix.proofs.SumLaws.{sum_below_same, sum_below_one, sum_below_zero, sum_by-count_by}
+use Rattle.qrmatrix.proofs.VersionLaws.{is_keyed, keyed, place_column, place_row}
 
 pub rank-free_below : (v x y : ℕ) → rank v x y ≡ free_below v (key (side_of v) x y)
 unfolding rank free_below
@@ -19,53 +20,45 @@ rank-free_below v x y =
     let n = side_of v in
     sum_by-count_by n (λ j i. is_free v i j && nat_lt (key n i j) (key n x y))
 
+timed : (f a : Option Bool) (b : Bool) (r : Option Role)
+    → is_none (option_or (option_map Function (option_or f (option_or a (Some b)))) r) ≡ false
+timed None None b r = refl
+timed None (Some a) b r = refl
+timed (Some f) a b r = refl
+
+-- a free module is not in column 6
+pub outside_at : (v x y : ℕ) → is_free v x y ≡ true → x ≢ 6
+unfolding is_free role timing
+outside_at v x y free e =
+    both_ways (is_free v 6 y) (timed (finder (side_of v) 6 y) (alignment v 6 y) (y % 2 == 0) _)
+    (subst (λ z. is_free v z y ≡ true) e free)
+
 cell_same : (b : Bool) (j k : ℕ) → (b ≡ true → j ≢ k) → one_if (b && nat_lt j (suc k)) ≡ one_if (b && nat_lt j k)
-cell_same false j k h = refl
-cell_same true j k h = let ne = h refl in grind (arith, nat_tests)
+cell_same b j k h = grind (arith, nat_tests)
 
 cell_here : (b : Bool) (j k : ℕ) → j ≡ k → one_if (b && nat_lt j (suc k)) ≡ one_if (b && nat_lt j k) + one_if b
-cell_here false j k h = refl
-cell_here true j k h = grind (arith, nat_tests)
+cell_here b j k h = grind (arith, nat_tests)
 
-cell_none : (b : Bool) (j : ℕ) → one_if (b && nat_lt j 0) ≡ 0
-cell_none false j = refl
-cell_none true j = grind (arith, nat_tests)
+pub free_below_none : (v : ℕ) → free_below v 0 ≡ 0
+unfolding free_below
+free_below_none v =
+    sum_below_zero (side_of v) (λ y. count_below (side_of v) (λ x. is_free v x y && nat_lt (key (side_of v) x y) 0))
+    (λ y ly. sum_below_zero (side_of v) (λ x. one_if (is_free v x y && nat_lt (key (side_of v) x y) 0))
+    (λ x lx. grind (arith, nat_tests)))
 
-module _ (v : ℕ) (c : Computed v) where
-  -- the place of the key of a module outside column 6 is that of the module
-  found_at : (x y : ℕ) → x < side_of v → y < side_of v → x ≢ 6 → (place_column (side_of v) (key (side_of v) x y) ≡ x)
-      × (place_row (side_of v) (key (side_of v) x y) ≡ y)
-  unfolding is_found
-  found_at x y lx ly ne =
-      let t = all_below_at (side_of v) (λ x. is_found (side_of v) x y)
-      (all_below_at (side_of v) (λ y. all_below (side_of v) (λ x. is_found (side_of v) x y)) c.found y ly) x lx in
-      elim (or_cases (x == 6) ((place_column (side_of v) (key (side_of v) x y) == x)
-      && (place_row (side_of v) (key (side_of v) x y) == y)) t) [
-        | inl e ↦ absurd (ne (eqb-true x 6 e))
-        | inr e ↦
-            let parts = and_parts (place_column (side_of v) (key (side_of v) x y) == x)
-            (place_row (side_of v) (key (side_of v) x y) == y) e in
-            (eqb-true _ _ parts.0, eqb-true _ _ parts.1)
-      ]
+-- the place of the key of a module is that of the module, and the key is below that of the strips' end
+pub record IsKeyed (v x y : ℕ) : Type 0 where
+  pub column : place_column (side_of v) (key (side_of v) x y) ≡ x
+  pub row : place_row (side_of v) (key (side_of v) x y) ≡ y
+  pub below : key (side_of v) x y < 2 * side_of v * ((side_of v - 1) / 2)
 
-  -- every key outside column 6 is below that of the strips' end
-  pub below_at : (x y : ℕ) → x < side_of v → y < side_of v → x ≢ 6
-      → key (side_of v) x y < 2 * side_of v * ((side_of v - 1) / 2)
-  unfolding is_below
-  below_at x y lx ly ne =
-      let t = all_below_at (side_of v) (λ x. is_below (side_of v) x y)
-      (all_below_at (side_of v) (λ y. all_below (side_of v) (λ x. is_below (side_of v) x y)) c.below y ly) x lx in
-      elim (or_cases (x == 6) (nat_lt (key (side_of v) x y) (2 * side_of v * ((side_of v - 1) / 2))) t) [
-        | inl e ↦ absurd (ne (eqb-true x 6 e))
-        | inr e ↦ ltb-true (key (side_of v) x y) (2 * side_of v * ((side_of v - 1) / 2)) e
-      ]
-
-  -- a free module is not in column 6
-  pub outside_at : (x y : ℕ) → y < side_of v → is_free v x y ≡ true → x ≢ 6
-  unfolding is_outside
-  outside_at x y ly free e =
-      both_ways (is_free v 6 y) (not-true (is_free v 6 y)
-      (all_below_at (side_of v) (λ y. is_outside v y) c.outside y ly)) (subst (λ z. is_free v z y ≡ true) e free)
+module _ (v : ℕ) (l : 1 ≤ v) (h : v ≤ 10) where
+  -- every module outside column 6 is keyed so
+  pub keyed_at : (x y : ℕ) → x < side_of v → y < side_of v → x ≢ 6 → IsKeyed v x y
+  unfolding is_keyed
+  keyed_at x y lx ly ne =
+      let t = all_places_at (side_of v) (is_keyed (side_of v)) (keyed v l h) x y lx ly in
+      record { column = grind (arith, nat_tests); row = grind (arith, nat_tests); below = grind (arith, nat_tests) }
 
   -- no other free module has the key of a module
   -- two modules have four coordinates with their bounds; of x, y it is known that it is free, of a, b only that it is
@@ -73,10 +66,14 @@ module _ (v : ℕ) (c : Computed v) where
   pub unique : (x y a b : ℕ) → x < side_of v → y < side_of v → is_free v x y ≡ true → a < side_of v → b < side_of v
       → a ≢ 6 → key (side_of v) x y ≡ key (side_of v) a b → (x ≡ a) × (y ≡ b)
   unique x y a b lx ly free la lb ne e =
-      let p = found_at x y lx ly (outside_at x y ly free) in
-      let q = found_at a b la lb ne in
-      let r = ap (place_column (side_of v)) e in
-      let s = ap (place_row (side_of v)) e in
+      let p = keyed_at x y lx ly (outside_at v x y free) in
+      let q = keyed_at a b la lb ne in
+      let columns = ap (place_column (side_of v)) e in
+      let rows = ap (place_row (side_of v)) e in
+      let column = p.column in
+      let row = p.row in
+      let other_column = q.column in
+      let other_row = q.row in
       (cc, cc)
 
   -- the module of key k is counted from k + 1 on
@@ -94,10 +91,3 @@ module _ (v : ℕ) (c : Computed v) where
       (λ y ly other. sum_below_same (side_of v) (cell (suc k) y) (cell k y)
       (λ x lx. cell_same (is_free v x y) (key (side_of v) x y) k
       (λ free same. other (unique x y a b lx ly free la lb ne (same ∙ sym e)).1)))
-
-  pub free_below_none : free_below v 0 ≡ 0
-  unfolding free_below
-  free_below_none =
-      sum_below_zero (side_of v) (λ y. count_below (side_of v) (λ x. is_free v x y && nat_lt (key (side_of v) x y) 0))
-      (λ y ly. sum_below_zero (side_of v) (λ x. one_if (is_free v x y && nat_lt (key (side_of v) x y) 0))
-      (λ x lx. cell_none (is_free v x y) (key (side_of v) x y)))

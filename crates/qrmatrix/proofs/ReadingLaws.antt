@@ -1,11 +1,12 @@
 -- Reading inverts drawing.
-use Rattle.std.proofs.Common.{◌≡◌, ℕ, ◌+◌, ◌*◌, ◌<◌, ◌≤◌, refl, ap, ◌∙◌, Bool, true, false, cond, List}
-use Rattle.std.proofs.Common.{[], ◌∷◌, length, Option, Some, None, eq-eqb, arith}
+use Rattle.std.proofs.Common.{◌≡◌, ℕ, ◌<◌, ◌≤◌, refl, ap, ◌∙◌, Bool, true, false, cond, List}
+use Rattle.std.proofs.Common.{[], ◌∷◌, length, Option, Some, eq-eqb, arith, inl, inr}
 use mathlib.Core.Bool.{xor}
 use Rattle.std.specs.Bool.{beq}
-use Rattle.std.specs.Prelude.{◌==◌, find, is_none, option_map, unwrap_or, map, nat_lt, reverse, All}
+use Rattle.std.specs.Prelude.{◌==◌, not, find, is_none, option_map, unwrap_or, map, nat_lt, reverse, All}
 use Rattle.std.specs.List.{range_with_len, filter, list_all}
-use Rattle.std.proofs.lemmas.Bool.{and_from, and_parts, lt-ltb}
+use Rattle.std.proofs.lemmas.Bool.{and_from, and_parts, cases_lt, lt-leb, lt-ltb}
+use Rattle.std.proofs.lemmas.Bool.Decides.{nat_tests}
 use Rattle.qrdata.specs.declared.level.Level.{Level}
 use Rattle.qrmatrix.specs.Functions.{Role, Format, Version, is_free, role, fixed_module}
 use Rattle.qrmatrix.specs.Functions.{module_of_role}
@@ -18,12 +19,14 @@ use Rattle.qrmatrix.specs.Masks.{is_flipped}
 use Rattle.qrmatrix.specs.Placement.{codeword_bit, rank, remainder_bits}
 use Rattle.qrmatrix.specs.Reading.{walk, read_bits, read_matrix, format_copy_1, format_copy_2, version_copy_1}
 use Rattle.qrmatrix.specs.Reading.{version_copy_2, information_at, read_format, shows_version, shows_functions}
-use Rattle.qrmatrix.proofs.ByVersionLaws.{by_version}
+use Rattle.qrmatrix.proofs.ComputedLaws.{by_version}
 use Rattle.qrmatrix.proofs.SumLaws.{list_all-range}
-use Rattle.qrmatrix.proofs.VersionLaws.{Computed, computed}
+use Rattle.qrmatrix.proofs.VersionLaws.{is_walked, room, walked}
 use Rattle.qrmatrix.proofs.WalkLaws.{walk_ranks}
 use Rattle.qrmatrix.proofs.CodewordBitLaws.{codewords_of-codeword_bits}
-use Rattle.qrmatrix.proofs.InformationReadingLaws.{HasRoles, format_read, format_copies, version_copies, version_shown}
+use Rattle.qrmatrix.proofs.InformationReadingLaws.{Copies, FormatReading, VersionReading, format_copies, format_read}
+use Rattle.qrmatrix.proofs.InformationReadingLaws.{respelled, roles_at, roles_of}
+use Rattle.qrmatrix.proofs.InformationReadingLaws.{version_copies, version_read}
 
 -- ---- the bits of the codewords
 
@@ -41,30 +44,38 @@ map_filter test inside f g h (x ∷ xs) i =
     let parts = and_parts (inside x) (list_all inside xs) i in
     map_filter_step (test x) f g x (filter test xs) (h x parts.0) (map_filter test inside f g h xs parts.1)
 
+-- two lists whose items are related by two functions are related by two others
+map_related : {X Y A B : Type 0} (h : X → A) (k : Y → A) (f : X → B) (g : Y → B)
+    → ((x : X) (y : Y) → h x ≡ k y → f x ≡ g y) → (xs : List X) (ys : List Y) → map h xs ≡ map k ys
+    → map f xs ≡ map g ys
+map_related h k f g each [] [] e = refl
+map_related h k f g each [] (y ∷ ys) e = cc
+map_related h k f g each (x ∷ xs) [] e = cc
+map_related h k f g each (x ∷ xs) (y ∷ ys) e =
+    let here : h x ≡ k y = cc in
+    let first = each x y here in
+    let there : map h xs ≡ map k ys = cc in
+    let rest = map_related h k f g each xs ys there in
+    cc
+
 map_map : {X Y Z : Type 0} (f : Y → Z) (g : X → Y) (xs : List X) → map (λ x. f (g x)) xs ≡ map f (map g xs)
 map_map f g [] = refl
 map_map f g (x ∷ xs) = ap (λ ys. f (g x) ∷ ys) (map_map f g xs)
 
 flip_twice : (b d : Bool) → xor b (xor b d) ≡ d
 unfolding xor
-flip_twice true true = refl
-flip_twice true false = refl
-flip_twice false true = refl
-flip_twice false false = refl
+flip_twice b d = grind arith
 
 pub free_is_data : (v : ℕ) (level : Level) (mask : ℕ) (r : Option Role) (d : Bool) → is_none r ≡ true
     → unwrap_or (option_map (module_of_role v level mask) r) d ≡ d
-free_is_data v level mask None d h = refl
-free_is_data v level mask (Some r) d h = cc
+free_is_data v level mask r d h = grind arith
 
 pub inside_from : (n x y : ℕ) → x < n → y < n → is_inside n x y ≡ true
 inside_from n x y lx ly = and_from (nat_lt x n) (nat_lt y n) (lt-ltb x n lx) (lt-ltb y n ly)
 
 -- the version of a side
 version_by_side : (v : ℕ) → 1 ≤ v → v ≤ 10 → find (λ w. side_of w == side_of v) (range_with_len 1 10) ≡ Some v
-version_by_side =
-    by_version (λ v. find (λ w. side_of w == side_of v) (range_with_len 1 10) ≡ Some v) refl refl refl refl refl refl
-    refl refl refl refl
+version_by_side = by_version (λ v. find (λ w. side_of w == side_of v) (range_with_len 1 10)) Some refl
 
 module _ (v : ℕ) (level : Level) (mask : ℕ) (codewords : List ℕ) where
   -- a module in the square
@@ -91,29 +102,25 @@ module _ (v : ℕ) (level : Level) (mask : ℕ) (codewords : List ℕ) where
       )
       (flip_twice (is_flipped mask p.0 p.1) (codeword_bit codewords (rank v p.0 p.1)))
 
-  pub bits_read : Computed v → read_bits v mask (module_at v level mask codewords)
-      ≡ map (codeword_bit codewords) (range_with_len 0 (8 * total_codewords v + remainder_bits v))
+  pub bits_read : 1 ≤ v → v ≤ 10 → read_bits v mask (module_at v level mask codewords)
+      ≡ map (codeword_bit codewords) (range_with_len 0 (room v))
   unfolding read_bits
-  bits_read c =
-      map_filter (λ (p : ℕ × ℕ). is_free v p.0 p.1) (λ (p : ℕ × ℕ). is_inside (side_of v) p.0 p.1)
+  bits_read l h =
+      map_filter (λ (p : ℕ × ℕ). is_free v p.0 p.1) (is_walked (side_of v))
       (λ (p : ℕ × ℕ). xor (is_flipped mask p.0 p.1) (module_at v level mask codewords p.0 p.1))
-      (λ (p : ℕ × ℕ). codeword_bit codewords (rank v p.0 p.1)) unmasked (walk (side_of v)) c.inside
+      (λ (p : ℕ × ℕ). codeword_bit codewords (rank v p.0 p.1))
+      (λ p i. unmasked p (and_parts (is_inside (side_of v) p.0 p.1) (not (p.0 == 6)) i).0) (walk (side_of v))
+      (walked v l h)
       ∙ map_map (codeword_bit codewords) (λ (p : ℕ × ℕ). rank v p.0 p.1)
       (filter (λ (p : ℕ × ℕ). is_free v p.0 p.1) (walk (side_of v)))
-      ∙ ap (map (codeword_bit codewords)) (walk_ranks v c)
+      ∙ ap (map (codeword_bit codewords)) (walk_ranks v l h)
 
-  pub codewords_of-read_bits : Computed v → length codewords ≡ total_codewords v → All (λ w. w < 256) codewords
+  pub codewords_of-read_bits : 1 ≤ v → v ≤ 10 → length codewords ≡ total_codewords v → All (λ w. w < 256) codewords
       → codewords_of (total_codewords v) (read_bits v mask (module_at v level mask codewords)) ≡ codewords
-  codewords_of-read_bits c n h =
-      rw (bits_read c, ← n) (codewords_of-codeword_bits codewords (remainder_bits v) h)
+  codewords_of-read_bits l h n bytes =
+      rw (bits_read l h, ← n) (codewords_of-codeword_bits codewords (remainder_bits v) bytes)
 
   -- ---- the function patterns
-
-  agrees_itself : (o : Option Bool) (d : Bool) → beq (unwrap_or o (unwrap_or o d)) (unwrap_or o d) ≡ true
-  agrees_itself None true = refl
-  agrees_itself None false = refl
-  agrees_itself (Some true) d = refl
-  agrees_itself (Some false) d = refl
 
   pub functions_shown : shows_functions v level mask (module_at v level mask codewords) ≡ true
   unfolding shows_functions
@@ -123,62 +130,52 @@ module _ (v : ℕ) (level : Level) (mask : ℕ) (codewords : List ℕ) where
       (λ y ly. list_all-range 0 (side_of v) (λ x. beq (unwrap_or (fixed_module v level mask x y)
       (module_at v level mask codewords x y)) (module_at v level mask codewords x y))
       (λ x lx. rw (module_inside x y (inside_from (side_of v) x y (omega arith) (omega arith)))
-      (agrees_itself (fixed_module v level mask x y) (xor (is_flipped mask x y) (codeword_bit codewords
-      (rank v x y))))))
+      (grind arith)))
 
-  -- the modules at the places of the bits of a number
-  modules_at_role : (places : List (ℕ × ℕ)) (kind : ℕ → Role) (information : ℕ) (is_ : List ℕ)
-      → ((i : ℕ) → module_of_role v level mask (kind i) ≡ bit information i)
-      → list_all (λ (p : ℕ × ℕ). is_inside (side_of v) p.0 p.1) places ≡ true
-      → map (λ (p : ℕ × ℕ). role v p.0 p.1) places ≡ map (λ i. Some (kind i)) is_
-      → map (λ (p : ℕ × ℕ). module_at v level mask codewords p.0 p.1) places ≡ map (bit information) is_
+  -- the number at places where its bits have their roles
+  information_at-shown : (places : List (ℕ × ℕ)) (kind : ℕ → Role) (information count : ℕ)
+      → ((i : ℕ) → module_of_role v level mask (kind i) ≡ bit information i) → roles_at v places ≡ roles_of kind count
+      → information_at (module_at v level mask codewords) places ≡ respelled count information
   unfolding fixed_module
-  modules_at_role [] kind information [] h z e = refl
-  modules_at_role [] kind information (i ∷ is_) h z e = cc
-  modules_at_role (p ∷ ps) kind information [] h z e = cc
-  modules_at_role (p ∷ ps) kind information (i ∷ is_) h z e =
-      let here : role v p.0 p.1 ≡ Some (kind i) = cc in
-      let there : map (λ (p : ℕ × ℕ). role v p.0 p.1) ps ≡ map (λ i. Some (kind i)) is_ = cc in
-      let parts = and_parts (is_inside (side_of v) p.0 p.1) (list_all (λ (p : ℕ × ℕ). is_inside (side_of v) p.0 p.1) ps)
-      z in
-      let chosen = xor (is_flipped mask p.0 p.1) (codeword_bit codewords (rank v p.0 p.1)) in
-      let m : unwrap_or (option_map (module_of_role v level mask) (role v p.0 p.1)) chosen ≡ bit information i =
-      rw (here, h i) refl in
-      let at = module_inside p.0 p.1 parts.0 ∙ m in
-      let rest = modules_at_role ps kind information is_ h parts.1 there in
-      cc
+  information_at-shown places kind information count by roles =
+      ap (λ bits. number_of (reverse bits))
+      (map_related (λ (p : ℕ × ℕ). (role v p.0 p.1, is_inside (side_of v) p.0 p.1)) (λ i. (Some (kind i), true))
+      (λ (p : ℕ × ℕ). module_at v level mask codewords p.0 p.1) (bit information)
+      (λ p i e. module_inside p.0 p.1 (ap (λ (r : Option Role × Bool). r.1) e)
+      ∙ rw (ap (λ (r : Option Role × Bool). r.0) e) (by i)) places (range_with_len 0 count) roles)
 
   module _ (at_least : 1 ≤ v) (at_most : v ≤ 10) (mask_below : mask < 8) where
-    -- the number at places where its bits have their roles
-    information_at-shown : (places : List (ℕ × ℕ)) (kind : ℕ → Role) (information count : ℕ)
-        → ((i : ℕ) → module_of_role v level mask (kind i) ≡ bit information i)
-        → HasRoles v kind count places → information_at (module_at v level mask codewords) places
-        ≡ number_of (reverse (map (bit information) (range_with_len 0 count)))
-    information_at-shown places kind information count by roles =
-        ap (λ bits. number_of (reverse bits))
-        (modules_at_role places kind information (range_with_len 0 count) by roles.1 roles.0)
-
     pub format_shown : read_format (side_of v) (module_at v level mask codewords) ≡ Some (level, mask)
     unfolding read_format
     format_shown =
+        let information = format_information level mask in
         let copies = format_copies v at_least at_most in
-        let f = format_read level mask mask_below in
-        let by = λ (i : ℕ). let e : module_of_role v level mask (Format i) ≡ bit (format_information level mask) i =
-        refl in e in
-        let one = information_at-shown format_copy_1 Format (format_information level mask) 15 by copies.0 ∙ f.0 in
-        let two = information_at-shown (format_copy_2 (side_of v)) Format
-        (format_information level mask) 15 by copies.1 ∙ f.0 in
-        rw (one, two, eq-eqb (format_information level mask) (format_information level mask) refl) f.1
+        let one = information_at-shown format_copy_1 Format information 15 (λ i. refl)
+        (ap (λ (c : Copies). c.first) copies) in
+        let two = information_at-shown (format_copy_2 (side_of v)) Format information 15 (λ i. refl)
+        (ap (λ (c : Copies). c.second) copies) in
+        let read = format_read level mask mask_below in
+        let number = ap (λ (r : FormatReading). r.number) read in
+        rw (one, two, number, eq-eqb information information refl) (ap (λ (r : FormatReading). r.read) read)
 
     pub version_is_shown : shows_version v (side_of v) (module_at v level mask codewords) ≡ true
+    unfolding shows_version
     version_is_shown =
-        let by = λ (i : ℕ). let e : module_of_role v level mask (Version i) ≡ bit (version_information v) i =
-        refl in e in
-        version_shown v at_least at_most (module_at v level mask codewords) (λ h.
-        let copies = version_copies v at_least at_most h in (
-          information_at-shown (version_copy_1 (side_of v)) Version (version_information v) 18 by copies.0,
-          information_at-shown (version_copy_2 (side_of v)) Version (version_information v) 18 by copies.1,
-        ))
+        elim (cases_lt v 7) [
+          | inl below ↦ rw (lt-leb 7 v below) refl
+          | inr from ↦
+              let information = version_information v in
+              let copies = version_copies v from at_most in
+              let one = information_at-shown (version_copy_1 (side_of v)) Version information 18 (λ i. refl)
+              (ap (λ (c : Copies). c.first) copies) in
+              let two = information_at-shown (version_copy_2 (side_of v)) Version information 18 (λ i. refl)
+              (ap (λ (c : Copies). c.second) copies) in
+              let read = version_read v from at_most in
+              let number = ap (λ (r : VersionReading). r.number) read in
+              let rest = ap (λ (r : VersionReading). r.remainder) read in
+              let version = ap (λ (r : VersionReading). r.version) read in
+              rw (one, two, number, rest, version) (grind (arith, nat_tests))
+        ]
 
     pub reads_back : length codewords ≡ total_codewords v → All (λ w. w < 256) codewords
         → read_matrix (side_of v) (module_at v level mask codewords)
@@ -190,5 +187,5 @@ module _ (v : ℕ) (level : Level) (mask : ℕ) (codewords : List ℕ) where
           format_shown,
           version_is_shown,
           functions_shown,
-          codewords_of-read_bits (computed v at_least at_most) n h,
+          codewords_of-read_bits at_least at_most n h,
         )

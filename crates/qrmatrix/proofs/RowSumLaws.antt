@@ -1,8 +1,9 @@
 -- Sums and counts of the bits of rows.
-use Rattle.std.proofs.Common.{◌≡◌, ℕ, zero, suc, ◌+◌, ◌*◌, ◌<◌, ◌≤◌, refl, sym, ap, ◌∙◌, arith, Bool, true, false, cond}
-use Rattle.std.proofs.Common.{◌&&◌, inl, inr}
-use Rattle.std.specs.Prelude.{count_ones, bit_and, nat_lt, ◌^◌}
-use Rattle.std.proofs.lemmas.Bool.{cases_eq, lt-ltb, le-ltb, and_right}
+use Rattle.std.proofs.Common.{◌≡◌, ℕ, zero, suc, ◌+◌, ◌*◌, ◌<◌, ◌≤◌, refl, sym, ap, ◌∙◌, arith, Bool, false}
+use Rattle.std.proofs.Common.{inl, inr}
+use Rattle.std.specs.Prelude.{count_ones, bit_and, nat_lt, ◌^◌, if◌then◌else◌}
+use Rattle.std.proofs.lemmas.Bool.{cases_eq}
+use Rattle.std.proofs.lemmas.Bool.Decides.{nat_tests}
 use Rattle.std.proofs.lemmas.Nat.{and_le_r}
 use Rattle.qrmatrix.specs.Bits.{bit}
 use Rattle.qrmatrix.proofs.OnesLaws.{ones_counted}
@@ -10,13 +11,9 @@ use Rattle.qrmatrix.proofs.RowBitsLaws.{and_bit}
 use Rattle.qrmatrix.specs.Private.Counting.{sum_below, count_below, one_if}
 use Rattle.qrmatrix.proofs.SumLaws.{sum_below_same, sum_below_zero}
 
-one_if_small : (b : Bool) → one_if b ≤ 1
-one_if_small true = omega arith
-one_if_small false = omega arith
-
 pub count_small : (n : ℕ) (p : ℕ → Bool) → count_below n p ≤ n
 count_small zero p = omega arith
-count_small (suc n) p = let a = count_small n p in let b = one_if_small (p n) in omega arith
+count_small (suc n) p = grind (arith, count_small n p)
 
 -- a count that stops at n
 pub count_cut : (k n : ℕ) (p q : ℕ → Bool) → n ≤ k → ((i : ℕ) → i < n → p i ≡ q i) → ((i : ℕ) → n ≤ i → p i ≡ false)
@@ -32,24 +29,19 @@ count_cut (suc k) n p q l same none =
           omega arith
     ]
 
-weighed_step : (u b : Bool) → cond u (1 + cond b 2 0) 0 ≡ one_if u + 2 * one_if (u && b)
-weighed_step true true = refl
-weighed_step true false = refl
-weighed_step false true = refl
-weighed_step false false = refl
-
-pub weighed : (n : ℕ) (u b : ℕ → Bool) → sum_below n (λ i. cond (u i) (1 + cond (b i) 2 0) 0) ≡ count_below n u
-    + 2 * count_below n (λ i. u i && b i)
-weighed zero u b = refl
-weighed (suc n) u b = let a = weighed n u b in let s = weighed_step (u n) (b n) in omega arith
+-- the points of the places that two words mark
+pub points_counted : (n u b : ℕ) → count_below n (bit u) + 2 * count_below n (bit (bit_and u b))
+    ≡ sum_below n (λ i. if bit u i then 1 + (if bit b i then 2 else 0) else 0)
+points_counted zero u b = refl
+points_counted (suc n) u b = grind (arith, points_counted n u b, and_bit u b n)
 
 pub sum_added : (n : ℕ) (f g : ℕ → ℕ) → sum_below n (λ i. f i + g i) ≡ sum_below n f + sum_below n g
 sum_added zero f g = refl
-sum_added (suc n) f g = let a = sum_added n f g in omega arith
+sum_added (suc n) f g = omega (arith, sum_added n f g)
 
 pub sum_scaled : (n k : ℕ) (f : ℕ → ℕ) → sum_below n (λ i. k * f i) ≡ k * sum_below n f
 sum_scaled zero k f = omega arith
-sum_scaled (suc n) k f = let a = sum_scaled n k f in omega arith
+sum_scaled (suc n) k f = omega (arith, sum_scaled n k f)
 
 -- two sums may change places
 pub sum_exchanged : (n m : ℕ) (f : ℕ → ℕ → ℕ)
@@ -58,17 +50,11 @@ sum_exchanged zero m f = sym (sum_below_zero m (λ y. 0) (λ k l. refl))
 sum_exchanged (suc n) m f = ap (λ z. z + sum_below m (f n)) (sum_exchanged n m f)
     ∙ sym (sum_added m (λ y. sum_below n (λ x. f x y)) (f n))
 
-and_inside : (b t : Bool) → t ≡ true → (b && t) ≡ b
-and_inside true true h = refl
-and_inside false true h = refl
-and_inside true false h = h
-and_inside false false h = refl
-
 -- the ones of a row below n
 pub ones_below : (w low n : ℕ) → n ≤ 57 → low < 2 ^ 57 → ((i : ℕ) → bit low i ≡ nat_lt i n)
     → count_ones (bit_and w low) ≡ count_below n (bit w)
 ones_below w low n l small is_low =
     ones_counted 57 (bit_and w low) (let a = and_le_r w low in omega arith)
     ∙ count_cut 57 n (bit (bit_and w low)) (bit w) l
-    (λ i h. and_bit w low i ∙ and_inside (bit w i) (bit low i) (is_low i ∙ lt-ltb i n h))
-    (λ i h. and_bit w low i ∙ and_right (bit w i) (bit low i) (is_low i ∙ le-ltb i n h))
+    (λ i h. grind (arith, nat_tests, and_bit w low i, is_low i))
+    (λ i h. grind (arith, nat_tests, and_bit w low i, is_low i))

@@ -3,7 +3,7 @@
 use Rattle.qrmatrix.specs.StandardLists.{AgreesWithLists}
 use Rattle.qrmatrix.proofs.InformationLaws.{format_information-listed, format_information-multiple}
 use Rattle.qrmatrix.proofs.InformationLaws.{version_information-listed, version_information-multiple}
-use Rattle.qrmatrix.proofs.VersionLaws.{computed}
+use Rattle.qrmatrix.proofs.VersionLaws.{counted}
 
 pub symbol_laws : AgreesWithLists
 symbol_laws = record {
@@ -11,5 +11,5 @@ symbol_laws = record {
   format_code = format_information-multiple;
   version = version_information-listed;
   version_code = version_information-multiple;
-  room = λ v l h. (computed v l h).count;
+  room = counted;
 }

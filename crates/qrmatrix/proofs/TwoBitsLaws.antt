@@ -1,114 +1,70 @@
 -- Bits of words: eight codewords in a word, and two bits of a row.
-use Rattle.std.proofs.Common.{◌≡◌, ◌≢◌, ℕ, zero, suc, ◌+◌, ◌-◌, ◌*◌, ◌/◌, ◌%◌, ◌^◌, ◌<◌, ◌≤◌, refl, sym, ap, ◌∙◌, arith}
-use Rattle.std.proofs.Common.{Bool, true, false, ◌&&◌, List, inl, inr, subst, length}
+use Rattle.std.proofs.Common.{◌≡◌, ℕ, zero, suc, ◌+◌, ◌-◌, ◌*◌, ◌/◌, ◌%◌, ◌^◌, ◌<◌, ◌≤◌, refl, ◌∙◌, arith}
+use Rattle.std.proofs.Common.{true, List, inl, inr, [], ◌∷◌, ◌++◌, drop}
 use Rattle.std.proofs.Math.ListN.{replicate}
-use Rattle.std.proofs.lemmas.List.{get_or_past}
-use Rattle.std.specs.Prelude.{◌==◌, bit_and, nat_lt, slice_index, if◌then◌else◌}
-use Rattle.std.specs.Int.{bit_at}
-use Rattle.std.proofs.lemmas.Bool.{and_parts, cases_lt, cases_eq, ne_eqb, eq-eqb, le-ltb, lt-ltb}
-use Rattle.std.proofs.lemmas.Nat.{pow_pos, pow-add, mul-le}
-use Rattle.std.proofs.Math.Pow.{pow_mono}
-use Rattle.std.proofs.lemmas.Nat.Bits.{bit_at_cat_high, bit_at_cat_low, bit_at-zero}
+use Rattle.std.proofs.lemmas.List.{get_or-drop}
+use Rattle.std.specs.Prelude.{bit_and, bit_or, slice_index}
+use Rattle.std.proofs.lemmas.Bool.{cases_lt}
+use Rattle.std.proofs.lemmas.Bool.Decides.{nat_tests}
 use Rattle.qrmatrix.specs.Bits.{bit}
 use Rattle.qrmatrix.specs.Placement.{codeword_bit}
 use Rattle.qrmatrix.specs.Private.Placing.{HasBits}
-use Rattle.qrmatrix.proofs.RowBitsLaws.{and_bit, shr_bit, mod_bit, above_bit}
-
-and_all : (b : Bool) → (b && true) ≡ b
-and_all true = refl
-and_all false = refl
-
-high_of_pair : (a b i : ℕ) → b < 256 → 8 ≤ i → bit (a * 256 + b) i ≡ bit a (i - 8)
-high_of_pair a b i h l = ap (λ z. z == 1) (bit_at_cat_high a 8 b i h l)
-
-low_of_pair : (a b i : ℕ) → i < 8 → bit (a * 256 + b) i ≡ bit b i
-low_of_pair a b i l = ap (λ z. z == 1) (bit_at_cat_low a 8 b i l)
-
--- a number moved up
-left_bit : (w k i : ℕ) → i < 64 → k ≤ i → bit (w * 2 ^ k % 2 ^ 64) i ≡ bit w (i - k)
-left_bit w k i l g =
-    let e : w * 2 ^ k ≡ w * 2 ^ k + 0 = omega arith in
-    let p = pow_pos k in
-    mod_bit 64 (w * 2 ^ k) i l ∙ ap (λ z. z == 1) (ap (λ z. bit_at z i) e ∙ bit_at_cat_high w k 0 i p g)
+use Rattle.qrmatrix.proofs.RowBitsLaws.{above_bit, and_bit, or_bit, shr_bit, up_bit}
 
 -- ---- eight codewords in a word
 
 -- a word of j codewords, from number `first` on
-pub record HasCodewords (word : ℕ) (codewords : List ℕ) (first j : ℕ) : Type 0 where
-  pub narrow : word < 2 ^ (8 * j)
-  pub shows : (m : ℕ) → m < 8 * j → bit word (8 * j - 1 - m) ≡ codeword_bit codewords (8 * first + m)
-
-pub no_codewords : (codewords : List ℕ) (first : ℕ) → HasCodewords 0 codewords first 0
-no_codewords codewords first = record { narrow = omega arith; shows = λ m l. absurd (omega arith) }
+abbrev pub HasCodewords : ℕ → List ℕ → ℕ → ℕ → Type 0
+HasCodewords word codewords first j =
+    (k : ℕ) → k < 8 * j → bit word k ≡ codeword_bit codewords (8 * (first + j) - 1 - k)
 
 -- one codeword more
-pub codeword_more : (word j first b : ℕ) (codewords : List ℕ) → b < 256 → b ≡ slice_index codewords (first + j)
-    → HasCodewords word codewords first j → HasCodewords (word * 256 + b) codewords first (j + 1)
-codeword_more word j first b codewords h is w =
-    record {
-      narrow =
-          let e : 8 * (j + 1) ≡ 8 * j + 8 = omega arith in
-          let p : 2 ^ (8 * (j + 1)) ≡ 2 ^ (8 * j) * 256 = ap (λ z. 2 ^ z) e ∙ pow-add 2 (8 * j) 8 in
-          let n = w.narrow in
-          subst (λ z. word * 256 + b < z) (sym p) (below_next word (2 ^ (8 * j)) b n h);
-      shows = λ m l. elim (cases_lt m (8 * j)) [
-        | inl before ↦
-            let up : 8 ≤ 8 * (j + 1) - 1 - m = omega arith in
-            let same : 8 * (j + 1) - 1 - m - 8 ≡ 8 * j - 1 - m = omega arith in
-            high_of_pair word b (8 * (j + 1) - 1 - m) h up ∙ ap (bit word) same ∙ w.shows m before
-        | inr from ↦
-            let low : 8 * (j + 1) - 1 - m < 8 = omega arith in
-            let at : 8 * (j + 1) - 1 - m ≡ 7 - (8 * first + m) % 8 = omega arith in
-            let in_codeword : first + j ≡ (8 * first + m) / 8 = omega arith in
-            low_of_pair word b (8 * (j + 1) - 1 - m) low ∙ ap (bit b) at
-            ∙ ap (λ z. bit z (7 - (8 * first + m) % 8)) (is ∙ ap (slice_index codewords) in_codeword)
-      ];
-    }
-  where
-    below_next : (w p b : ℕ) → w < p → b < 256 → w * 256 + b < p * 256
-    below_next w p b l h = omega arith
+pub codeword_more : (word j first b : ℕ) (codewords : List ℕ) → j < 8 → b < 256 → b ≡ slice_index codewords (first + j)
+    → HasCodewords word codewords first j → HasCodewords (bit_or (word * 2 ^ 8 % 2 ^ 64) b) codewords first (j + 1)
+codeword_more word j first b codewords few small is has k l =
+    let i = 8 * (first + (j + 1)) - 1 - k in
+    rw (or_bit (word * 2 ^ 8 % 2 ^ 64) b k, up_bit word 8 k (omega arith))
+    (elim (cases_lt k 8) [
+      | inl low ↦
+          let number : i / 8 ≡ first + j = omega arith in
+          let place : 7 - i % 8 ≡ k = omega arith in
+          rw (number, place, ← is) (grind (arith, nat_tests))
+      | inr high ↦
+          let before : 8 * (first + j) - 1 - (k - 8) ≡ i = omega arith in
+          rw (above_bit b 8 k small high, has (k - 8) (omega arith), before) (grind (arith, nat_tests))
+    ])
 
 -- the word from bit i on
 pub word_from : (word i : ℕ) (codewords : List ℕ) → HasCodewords word codewords (i / 8) 8
     → HasBits 57 (word * 2 ^ (i % 8) % 2 ^ 64) codewords i
-word_from word i codewords w j l =
-    let r = i % 8 in
-    let back : r ≤ 63 - j = omega arith in
-    let m : 63 - j - r ≡ 8 * 8 - 1 - (r + j) = omega arith in
-    let at : 8 * (i / 8) + (r + j) ≡ i + j = omega arith in
-    left_bit word r (63 - j) (omega arith) back ∙ ap (bit word) m ∙ w.shows (r + j) (omega arith)
-    ∙ ap (codeword_bit codewords) at
+word_from word i codewords has j l =
+    let at : 8 * (i / 8 + 8) - 1 - (63 - j - i % 8) ≡ i + j = omega arith in
+    rw (up_bit word (i % 8) (63 - j) (omega arith), has (63 - j - i % 8) (omega arith), at) (grind (arith, nat_tests))
 
 -- a word without its first bits
 pub bits_after : (count more word i : ℕ) (codewords : List ℕ) → count + more ≤ 57 → HasBits 57 word codewords i
     → HasBits more (word * 2 ^ count % 2 ^ 64) codewords (i + count)
 bits_after count more word i codewords few has j l =
-    let back : count ≤ 63 - j = omega arith in
     let at : 63 - j - count ≡ 63 - (count + j) = omega arith in
     let is : i + (count + j) ≡ i + count + j = omega arith in
-    left_bit word count (63 - j) (omega arith) back ∙ ap (bit word) at ∙ has (count + j) (omega arith)
-    ∙ ap (codeword_bit codewords) is
+    rw (up_bit word count (63 - j) (omega arith), at, has (count + j) (omega arith), is) (grind (arith, nat_tests))
 
 -- ---- two bits of a word
 
 pub two_low : (w k : ℕ) → bit (bit_and (w / 2 ^ k) 3) 0 ≡ bit w k
-two_low w k =
-    let e : 0 + k ≡ k = omega arith in
-    and_bit (w / 2 ^ k) 3 0 ∙ and_all (bit (w / 2 ^ k) 0) ∙ shr_bit w k 0 ∙ ap (bit w) e
+two_low w k = grind (arith, and_bit (w / 2 ^ k) 3 0, shr_bit w k 0)
 
 pub two_high : (w k : ℕ) → bit (bit_and (w / 2 ^ k) 3) 1 ≡ bit w (k + 1)
-two_high w k =
-    let e : 1 + k ≡ k + 1 = omega arith in
-    and_bit (w / 2 ^ k) 3 1 ∙ and_all (bit (w / 2 ^ k) 1) ∙ shr_bit w k 1 ∙ ap (bit w) e
+two_high w k = grind (arith, and_bit (w / 2 ^ k) 3 1, shr_bit w k 1)
 
 -- a bit of four words
 pub in_each : (a b c d x : ℕ) → bit (bit_and (bit_and (bit_and a b) c) d) x ≡ true
     → (bit a x ≡ true) × (bit b x ≡ true) × (bit c x ≡ true) × (bit d x ≡ true)
 in_each a b c d x h =
-    let last = and_parts (bit (bit_and (bit_and a b) c) x) (bit d x) (sym (and_bit (bit_and (bit_and a b) c) d x) ∙ h) in
-    let third = and_parts (bit (bit_and a b) x) (bit c x) (sym (and_bit (bit_and a b) c x) ∙ last.0) in
-    let first = and_parts (bit a x) (bit b x) (sym (and_bit a b x) ∙ third.0) in
-    (first.0, first.1, third.1, last.1)
+    let last = and_bit (bit_and (bit_and a b) c) d x in
+    let third = and_bit (bit_and a b) c x in
+    let first = and_bit a b x in
+    (grind arith, grind arith, grind arith, grind arith)
 
 -- a fact on each number below four
 pub by_four : (P : ℕ → Type 0) → P 0 → P 1 → P 2 → P 3 → (j : ℕ) → j < 4 → P j
@@ -118,74 +74,14 @@ by_four P a b c d (suc (suc zero)) l = c
 by_four P a b c d (suc (suc (suc zero))) l = d
 by_four P a b c d (suc (suc (suc (suc j)))) l = absurd (omega arith)
 
--- ---- two bits of a row
-
-below_bit : (two x a : ℕ) → x + 1 < 57 → a < x → bit (two * 2 ^ x % 2 ^ 64) a ≡ false
-below_bit two x a l h =
-    let e : two * 2 ^ x ≡ two * 2 ^ x + 0 = omega arith in
-    mod_bit 64 (two * 2 ^ x) a (omega arith)
-    ∙ ap (λ z. z == 1) (ap (λ z. bit_at z a) e ∙ bit_at_cat_low two x 0 a h ∙ bit_at-zero a)
-
-pub up_narrow : (two x : ℕ) → two < 4 → x + 1 < 57 → two * 2 ^ x % 2 ^ 64 < 2 ^ 57
-up_narrow two x h l =
-    let small : x ≤ 55 = omega arith in
-    let p : 2 ^ x ≤ 2 ^ 55 = pow_mono small in
-    let few : two ≤ 3 = omega arith in
-    let q : two * 2 ^ x ≤ 3 * 2 ^ 55 = mul-le two (2 ^ x) 3 (2 ^ 55) few p in
-    omega arith
-
--- which bits of a number below 4 that is moved up are set
-pub moved : (two x a : ℕ) → two < 4 → x + 1 < 57
-    → bit (two * 2 ^ x % 2 ^ 64) a ≡ (if a == x then bit two 0 else (if a == x + 1 then bit two 1 else false))
-moved two x a h l =
-    elim (cases_lt a 57) [
-      | inr g ↦
-          let ne : a ≢ x = λ e. omega arith in
-          let ne' : a ≢ x + 1 = λ e. omega arith in
-          above_bit (two * 2 ^ x % 2 ^ 64) 57 a (up_narrow two x h l) g ∙ rw (ne_eqb a x ne, ne_eqb a (x + 1) ne') refl
-      | inl la ↦ elim (cases_lt a x) [
-        | inl b ↦
-            let ne : a ≢ x = λ e. omega arith in
-            let ne' : a ≢ x + 1 = λ e. omega arith in
-            below_bit two x a l b ∙ rw (ne_eqb a x ne, ne_eqb a (x + 1) ne') refl
-        | inr g ↦ left_bit two x a (omega arith) g ∙ from_here g
-      ]
-    ]
-  where
-    from_here : x ≤ a → bit two (a - x) ≡ (if a == x then bit two 0 else (if a == x + 1 then bit two 1 else false))
-    from_here g =
-        elim (cases_eq a x) [
-          | inl e ↦ let z : a - x ≡ 0 = omega arith in rw (z, eq-eqb a x e) refl
-          | inr ne ↦ elim (cases_eq a (x + 1)) [
-            | inl e ↦ let z : a - x ≡ 1 = omega arith in rw (z, ne_eqb a x ne, eq-eqb a (x + 1) e) refl
-            | inr ne' ↦ let z : 2 ≤ a - x = omega arith in
-                rw (ne_eqb a x ne, ne_eqb a (x + 1) ne') (above_bit two 2 (a - x) h z)
-          ]
-        ]
-
--- a word of fewer than eight codewords
-pub narrow_word : (word j : ℕ) → word < 2 ^ (8 * j) → j < 8 → word < 2 ^ 56
-narrow_word word j h l =
-    let few : 8 * j ≤ 56 = omega arith in
-    let p : 2 ^ (8 * j) ≤ 2 ^ 56 = pow_mono few in
-    omega arith
-
 -- ---- the codewords with zeros after them
 
--- the first j codewords, and then zeros
-abbrev pub HasFirst : List ℕ → List ℕ → ℕ → Type 0
-HasFirst bytes codewords j =
-    (k : ℕ) → slice_index bytes k ≡ (if nat_lt k j then slice_index codewords k else 0)
-
-pub zeros : (n k : ℕ) → slice_index (replicate n 0) k ≡ 0
+zeros : (n k : ℕ) → slice_index (replicate n 0) k ≡ 0
 zeros zero k = refl
 zeros (suc n) zero = refl
 zeros (suc n) (suc k) = zeros n k
 
-pub first_all : (bytes codewords : List ℕ) (j : ℕ) → j ≡ length codewords → HasFirst bytes codewords j → (k : ℕ)
-    → slice_index bytes k ≡ slice_index codewords k
-first_all bytes codewords j e has k =
-    has k ∙ elim (cases_lt k j) [
-      | inl l ↦ rw (lt-ltb k j l) refl
-      | inr g ↦ rw (le-ltb k j g) (sym (get_or_past codewords k 0 (omega arith)))
-    ]
+pub before_zeros : (xs : List ℕ) (n m k : ℕ) → slice_index (xs ++ drop n (replicate m 0)) k ≡ slice_index xs k
+before_zeros [] n m k = get_or-drop n (replicate m 0) k 0 ∙ zeros m (n + k)
+before_zeros (x ∷ xs) n m zero = refl
+before_zeros (x ∷ xs) n m (suc k) = before_zeros xs n m k

@@ -1,29 +1,17 @@
 -- The module under a mask: what was drawn for all masks, the format information of this one, and the mask.
-use Rattle.std.proofs.Common.{◌≡◌, ℕ, ◌<◌, refl, ap, Bool, true, false, List}
+use Rattle.std.proofs.Common.{◌≡◌, ℕ, ◌<◌, refl, arith, Bool, true, false, List}
 use Rattle.std.specs.Prelude.{unwrap_or, if◌then◌else◌, Option, Some, None, is_none, option_map}
 use Rattle.std.proofs.lemmas.Bool.{both_ways}
 use Rattle.qrdata.specs.declared.level.Level.{Level}
 use mathlib.Core.Bool.{xor}
 use Rattle.qrdata.specs.Versions.{side_of}
 use Rattle.qrmatrix.specs.Private.Drawing.{module_under_mask, unmasked_module, format_module, IsUnmasked, ShowsFormat}
-use Rattle.qrmatrix.specs.Functions.{Role, Function, Format, Version, fixed_module, module_of_role, role, is_free}
+use Rattle.qrmatrix.specs.Functions.{Role, fixed_module, module_of_role, role, is_free}
 use Rattle.qrmatrix.specs.Information.{format_information}
 use Rattle.qrmatrix.specs.Masks.{is_flipped}
 use Rattle.qrmatrix.specs.Private.Squares.{flip_if}
 use Rattle.qrmatrix.specs.Placement.{codeword_bit, rank}
 use Rattle.qrmatrix.specs.Square.{value_at}
-
--- a light module turned over by a bit
-pub flip_light : (b : Bool) → flip_if b false ≡ b
-flip_light true = refl
-flip_light false = refl
-
-xor-flip_if : (b d : Bool) → xor b d ≡ flip_if b d
-unfolding xor
-xor-flip_if true true = refl
-xor-flip_if true false = refl
-xor-flip_if false true = refl
-xor-flip_if false false = refl
 
 -- nothing is drawn where the codewords go
 pub free_is_light : (v : ℕ) (r : Option Role) → is_none r ≡ true → unmasked_module v r ≡ false
@@ -37,10 +25,8 @@ shown : (v : ℕ) (level : Level) (mask : ℕ) (r : Option Role) (f t chosen old
     → (is_none r ≡ true → old ≡ chosen) → (is_none r ≡ false → old ≡ unmasked_module v r)
     → flip_if (format_module (format_information level mask) r) (if f then flip_if t old else old)
     ≡ unwrap_or (option_map (module_of_role v level mask) r) (xor t chosen)
-shown v level mask (Some (Function b)) f t chosen old e free taken = rw e (taken refl)
-shown v level mask (Some (Format i)) f t chosen old e free taken = rw (e, taken refl) (flip_light _)
-shown v level mask (Some (Version i)) f t chosen old e free taken = rw e (taken refl)
-shown v level mask None f t chosen old e free taken = rw (e, xor-flip_if t chosen) (ap (flip_if t) (free refl))
+unfolding xor
+shown v level mask r f t chosen old e free taken = grind arith
 
 pub under : {v : ℕ} {level : Level} {mask : ℕ} {codewords : List ℕ} {free modules m new : List (List Bool)}
     → IsUnmasked v codewords free modules → ShowsFormat v level mask m new → (x y : ℕ) → x < side_of v → y < side_of v

@@ -1,16 +1,17 @@
 -- The ranks of the free modules in the order of reading are 0, 1, 2, ..
 use mathlib.Core.Path.{fun_ext}
-use Rattle.std.proofs.Common.{◌≡◌, ◌≢◌, ℕ, zero, suc, ◌+◌, ◌-◌, ◌*◌, ◌<◌, refl, ap, Bool, true, false, cond, not, ◌&&◌}
+use Rattle.std.proofs.Common.{◌≡◌, ℕ, zero, suc, ◌+◌, ◌-◌, ◌*◌, ◌≤◌, refl, ap, Bool, true, false, cond, arith}
 use Rattle.std.proofs.Common.{List, [], ◌∷◌, length, add-one, add-zero, ◌∙◌}
-use Rattle.std.specs.Prelude.{map, nat_lt, ◌==◌}
+use Rattle.std.specs.Prelude.{map}
 use Rattle.std.specs.List.{range_with_len, list_all, filter}
-use Rattle.std.proofs.lemmas.Bool.{and_parts, ltb-true, eqb-false, not-true}
+use Rattle.std.proofs.lemmas.Bool.{and_parts}
+use Rattle.std.proofs.lemmas.Bool.Decides.{nat_tests}
 use Rattle.qrmatrix.specs.Private.Counting.{one_if}
-use Rattle.qrdata.specs.Versions.{side_of, total_codewords}
+use Rattle.qrdata.specs.Versions.{side_of}
 use Rattle.qrmatrix.specs.Functions.{is_free}
-use Rattle.qrmatrix.specs.Placement.{key, rank, remainder_bits}
+use Rattle.qrmatrix.specs.Placement.{key, rank}
 use Rattle.qrmatrix.specs.Reading.{walk}
-use Rattle.qrmatrix.proofs.VersionLaws.{Computed, is_walked}
+use Rattle.qrmatrix.proofs.VersionLaws.{filtered, is_walked, keys, room, walked}
 use Rattle.qrmatrix.specs.Private.Placing.{free_below}
 use Rattle.qrmatrix.proofs.RankLaws.{free_below_more, free_below_none, rank-free_below}
 
@@ -23,35 +24,29 @@ step : (b : Bool) (p : ℕ × ℕ) (ps : List (ℕ × ℕ)) (r : ℕ × ℕ → 
 step true p ps r i j e n h = let k = rw n at h in cc
 step false p ps r i j e n h = let k = rw (n, add-zero) at h in k
 
-module _ (v : ℕ) (c : Computed v) where
-  walked_parts : (p : ℕ × ℕ) → is_walked (side_of v) p ≡ true → (p.0 < side_of v) × (p.1 < side_of v) × (p.0 ≢ 6)
-  unfolding is_walked
-  walked_parts p h =
-      let a = and_parts (nat_lt p.0 (side_of v)) (nat_lt p.1 (side_of v) && not (p.0 == 6)) h in
-      let b = and_parts (nat_lt p.1 (side_of v)) (not (p.0 == 6)) a.1 in
-      (ltb-true _ _ a.0, ltb-true _ _ b.0, eqb-false p.0 6 (not-true (p.0 == 6) b.1))
-
+module _ (v : ℕ) (l : 1 ≤ v) (h : v ≤ 10) where
   along : (ps : List (ℕ × ℕ)) (a m : ℕ) → map (λ (p : ℕ × ℕ). key (side_of v) p.0 p.1) ps ≡ range_with_len a m
-      → list_all (λ (p : ℕ × ℕ). is_walked (side_of v) p) ps ≡ true
+      → list_all (is_walked (side_of v)) ps ≡ true
       → map (λ (p : ℕ × ℕ). free_below v (key (side_of v) p.0 p.1)) (filter (λ (p : ℕ × ℕ). is_free v p.0 p.1) ps)
       ≡ range_with_len (free_below v a) (length (filter (λ (p : ℕ × ℕ). is_free v p.0 p.1) ps))
-  along [] a m e h = refl
-  along (p ∷ ps) a zero e h = cc
-  along (p ∷ ps) a (suc m) e h =
-      let parts = and_parts (is_walked (side_of v) p) (list_all (λ (p : ℕ × ℕ). is_walked (side_of v) p) ps) h in
-      let inside = walked_parts p parts.0 in
+  along [] a m e t = refl
+  along (p ∷ ps) a zero e t = cc
+  along (p ∷ ps) a (suc m) e t =
+      let parts = and_parts (is_walked (side_of v) p) (list_all (is_walked (side_of v)) ps) t in
+      let inside = parts.0 in
       let here : key (side_of v) p.0 p.1 ≡ a = cc in
       let there : map (λ (p : ℕ × ℕ). key (side_of v) p.0 p.1) ps ≡ range_with_len (a + 1) m = cc in
-      let more = free_below_more v c p.0 p.1 a inside.0 inside.1 inside.2 here in
+      let more = free_below_more v l h p.0 p.1 a (grind (arith, nat_tests)) (grind (arith, nat_tests))
+      (λ e. grind (arith, nat_tests)) here in
       let next : free_below v (a + 1) ≡ free_below v a + one_if (is_free v p.0 p.1) = rw add-one more in
       step (is_free v p.0 p.1) p (filter (λ (p : ℕ × ℕ). is_free v p.0 p.1) ps)
       (λ (p : ℕ × ℕ). free_below v (key (side_of v) p.0 p.1)) (free_below v a) (free_below v (a + 1))
       (ap (free_below v) here) next (along ps (a + 1) m there parts.1)
 
   pub walk_ranks : map (λ (p : ℕ × ℕ). rank v p.0 p.1) (filter (λ (p : ℕ × ℕ). is_free v p.0 p.1) (walk (side_of v)))
-      ≡ range_with_len 0 (8 * total_codewords v + remainder_bits v)
+      ≡ range_with_len 0 (room v)
   walk_ranks =
       let ranks = fun_ext (λ (p : ℕ × ℕ). rank-free_below v p.0 p.1) in
-      let a = along (walk (side_of v)) 0 (side_of v * (side_of v - 1)) c.keys c.walked in
-      let b = rw (free_below_none v c, c.area) at a in
+      let a = along (walk (side_of v)) 0 (side_of v * (side_of v - 1)) (keys v l h) (walked v l h) in
+      let b = rw (free_below_none v, filtered v l h) at a in
       ap (λ f. map f (filter (λ (p : ℕ × ℕ). is_free v p.0 p.1) (walk (side_of v)))) ranks ∙ b

@@ -1,104 +1,32 @@
 -- Windows of lines by bits of rows.
-use Rattle.std.proofs.Common.{◌≡◌, ℕ, ◌+◌, ◌-◌, ◌<◌, ◌≤◌, refl, sym, ap, ◌∙◌, arith, Bool, true}
-use Rattle.std.proofs.Common.{false, cond, ◌&&◌, add-zero, add-one}
+use Rattle.std.proofs.Common.{◌≡◌, ℕ, ◌+◌, ◌-◌, ◌<◌, ◌≤◌, refl, ap, ◌∙◌, arith, Bool, ◌&&◌, add-one}
 use Rattle.std.specs.Bool.{beq}
-use Rattle.std.specs.Prelude.{not, ◌||◌}
-use Rattle.std.proofs.lemmas.Bool.{and_parts}
+use Rattle.std.specs.Prelude.{if◌then◌else◌}
 use Rattle.qrmatrix.specs.Private.Counting.{sum_below, count_below, one_if}
 use Rattle.qrmatrix.specs.Bits.{bit}
-use Rattle.qrmatrix.specs.Penalty.{run_penalty, is_uniform, begins_run}
-use Rattle.qrmatrix.specs.Penalty.{window_points}
+use Rattle.qrmatrix.specs.Penalty.{run_penalty, is_uniform, window_points}
 use Rattle.qrmatrix.proofs.PenaltySumLaws.{run_penalty-sum}
 use Rattle.qrmatrix.proofs.SumLaws.{sum_below_same}
-use Rattle.qrmatrix.proofs.RowBitsLaws.{same_beq}
 use Rattle.qrmatrix.proofs.RowSumLaws.{sum_exchanged}
-
-beq_self : (b : Bool) → beq b b ≡ true
-beq_self true = refl
-beq_self false = refl
-
-grouped_left : (a b c d : Bool) → (a && (b && (c && (d && true)))) ≡ (((a && b) && c) && d)
-grouped_left false b c d = refl
-grouped_left true false c d = refl
-grouped_left true true false d = refl
-grouped_left true true true false = refl
-grouped_left true true true true = refl
-
--- the test of five modules without its first part
-uniform_five : (line : ℕ → Bool) (i : ℕ)
-    → is_uniform line i 5 ≡ (((beq (line (i + 1)) (line i) && beq (line (i + 2)) (line i))
-    && beq (line (i + 3)) (line i)) && beq (line (i + 4)) (line i))
-uniform_five line i =
-    rw (add-zero i, beq_self (line i))
-    (grouped_left (beq (line (i + 1)) (line i)) (beq (line (i + 2)) (line i)) (beq (line (i + 3)) (line i))
-    (beq (line (i + 4)) (line i)))
-
-window_same : (u v b c : Bool) → u ≡ v → b ≡ c → cond u (1 + cond b 2 0) 0 ≡ cond v (1 + cond c 2 0) 0
-window_same u v b c p q = rw (p, q) refl
 
 pub count_same : (n : ℕ) (p q : ℕ → Bool) → ((i : ℕ) → i < n → p i ≡ q i) → count_below n p ≡ count_below n q
 count_same n p q h = sum_below_same n (λ i. one_if (p i)) (λ i. one_if (q i)) (λ i l. ap one_if (h i l))
 
-pub row_windows : (w u b n : ℕ) → n ≤ 57
-    → ((i : ℕ) → i < 64 → bit u i ≡ is_uniform (bit w) i 5)
-    → ((i : ℕ) → i < 64 → bit b i ≡ begins_run (bit w) i)
-    → sum_below (n - 4) (λ i. cond (bit u i) (1 + cond (bit b i) 2 0) 0) ≡ run_penalty n (bit w)
-row_windows w u b n l uniform begins =
-    rw (run_penalty-sum n (bit w))
-    (sum_below_same (n - 4) (λ i. cond (bit u i) (1 + cond (bit b i) 2 0) 0) (window_points (bit w)) (λ i h.
-    let s : i < 64 = omega arith in
-    window_same (bit u i) (is_uniform (bit w) i 5) (bit b i) (begins_run (bit w) i) (uniform i s) (begins i s)))
+-- the test of five modules without its first part
+pub five_equal : (line : ℕ → Bool) (i : ℕ)
+    → is_uniform line i 5 ≡ (((beq (line (i + 1)) (line i) && beq (line (i + 2)) (line i))
+    && beq (line (i + 3)) (line i)) && beq (line (i + 4)) (line i))
+five_equal line i = grind arith
 
-both : (Bool → Bool) → Bool
-both p = p true && p false
-
-both_at : (p : Bool → Bool) → both p ≡ true → (b : Bool) → p b ≡ true
-unfolding both
-both_at p h true = (and_parts (p true) (p false) h).0
-both_at p h false = (and_parts (p true) (p false) h).1
-
--- no change among five modules
-steady : Bool → Bool → Bool → Bool → Bool → Bool
-steady a b c d e = not ((not (beq a b) || not (beq b c)) || (not (beq c d) || not (beq d e)))
-
-as_the_first : Bool → Bool → Bool → Bool → Bool → Bool
-as_the_first a b c d e = ((beq b a && beq c a) && beq d a) && beq e a
-
-same_steady : Bool → Bool → Bool → Bool → Bool → Bool
-same_steady a b c d e = beq (steady a b c d e) (as_the_first a b c d e)
-
--- computed for all colours of five modules
-all_steady : both (λ a. both (λ b. both (λ c. both (λ d. both (same_steady a b c d))))) ≡ true
-unfolding both same_steady steady as_the_first
-all_steady = refl
-
-steady_is : (a b c d e : Bool) → steady a b c d e ≡ as_the_first a b c d e
-unfolding same_steady
-steady_is a b c d e =
-    same_beq _ _ (both_at (same_steady a b c d) (both_at (λ d. both (same_steady a b c d))
-    (both_at (λ c. both (λ d. both (same_steady a b c d)))
-    (both_at (λ b. both (λ c. both (λ d. both (same_steady a b c d))))
-    (both_at (λ a. both (λ b. both (λ c. both (λ d. both (same_steady a b c d))))) all_steady a) b) c) d) e)
-
--- a row has no change among the five modules from place i
-pub row_steady : (w i : ℕ) → not ((not (beq (bit w i) (bit w (i + 1))) || not (beq (bit w (i + 1)) (bit w (i + 2))))
-    || (not (beq (bit w (i + 2)) (bit w (i + 3))) || not (beq (bit w (i + 3)) (bit w (i + 4)))))
-    ≡ is_uniform (bit w) i 5
-unfolding steady as_the_first
-row_steady w i =
-    steady_is (bit w i) (bit w (i + 1)) (bit w (i + 2)) (bit w (i + 3)) (bit w (i + 4))
-    ∙ sym (uniform_five (bit w) i)
-
-pub column_windows : (m : ℕ → ℕ → Bool) (u b y n : ℕ) → n ≤ 57
-    → ((x : ℕ) → x < 64 → bit u x ≡ (((beq (m x (y + 1)) (m x y) && beq (m x (y + 2)) (m x y))
-    && beq (m x (y + 3)) (m x y)) && beq (m x (y + 4)) (m x y)))
-    → ((x : ℕ) → x < 64 → bit b x ≡ begins_run (m x) y)
-    → sum_below n (λ x. cond (bit u x) (1 + cond (bit b x) 2 0) 0) ≡ sum_below n (λ x. window_points (m x) y)
-column_windows m u b y n l uniform begins =
-    sum_below_same n (λ x. cond (bit u x) (1 + cond (bit b x) 2 0) 0) (λ x. window_points (m x) y) (λ x k.
-    let s : x < 64 = omega arith in
-    window_same (bit u x) (is_uniform (m x) y 5) (bit b x) (begins_run (m x) y)
-    (uniform x s ∙ sym (uniform_five (m x) y)) (begins x s))
+-- the points of the windows that two words mark: those of one colour, and those that begin a run
+pub windows_counted : (n u b : ℕ) (uniform begins : ℕ → Bool) → n ≤ 57 → ((i : ℕ) → i < 64 → bit u i ≡ uniform i)
+    → ((i : ℕ) → i < 64 → bit b i ≡ begins i)
+    → sum_below n (λ i. if bit u i then 1 + (if bit b i then 2 else 0) else 0)
+    ≡ sum_below n (λ i. if uniform i then 1 + (if begins i then 2 else 0) else 0)
+windows_counted n u b uniform begins l is_uniform is_begin =
+    sum_below_same n (λ i. if bit u i then 1 + (if bit b i then 2 else 0) else 0)
+    (λ i. if uniform i then 1 + (if begins i then 2 else 0) else 0)
+    (λ i h. rw (is_uniform i (omega arith), is_begin i (omega arith)) refl)
 
 -- the penalty of the runs of columns, window by window
 pub columns_summed : (n : ℕ) (m : ℕ → ℕ → Bool)

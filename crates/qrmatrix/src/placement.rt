@@ -6,7 +6,7 @@ ghost use Rattle.qrdata.specs.Versions.{side_of};
 ghost use Rattle.qrmatrix.specs.Functions.{is_free};
 ghost use Rattle.qrmatrix.specs.Bits.{bit};
 ghost use Rattle.qrmatrix.specs.Square.{value_at};
-ghost use Rattle.qrmatrix.specs.Private.Placing.{HasBits, MovesOn, MovesRow, ShowsFree, right_column, row_of};
+ghost use Rattle.qrmatrix.specs.Private.Placing.{HasBits, IsStrip, MovesOn, MovesRow, ShowsFree, row_of};
 ghost use Rattle.qrmatrix.specs.Private.Drawing.{MarksFree, PlacesCodewords};
 
 use crate::square::{SIDE, Square};
@@ -34,8 +34,8 @@ impl Strip {
         requires number { number < (n - 1) / 2 }
         ensures side { result.n ≡ n }
         ensures number { result.number ≡ number }
-        ensures column { result.x + 1 ≡ right_column n number }
         ensures inside { result.x + 1 < n }
+        ensures strip { (v : ℕ) → 1 ≤ v → v ≤ 10 → n ≡ side_of v → IsStrip v result }
     {
         let right = if number < (n - 7) / 2 {
             n - 1 - 2 * number
@@ -69,9 +69,7 @@ fn with_zeros(codewords: &[u8]) -> [u8; ROOM]
     ensures { (j : ℕ) → slice_index result j ≡ slice_index codewords.now j }
 {
     let mut bytes = [0; ROOM];
-    for j in 0..codewords.len() {
-        bytes[j] = codewords[j];
-    }
+    bytes[..codewords.len()].copy_from_slice(codewords);
     bytes
 }
 
@@ -83,7 +81,7 @@ fn bits_from(bytes: &[u8; ROOM], i: usize) -> u64
     let first = i / 8;
     let mut bits = 0;
     for j in 0..8 {
-        bits = bits * 256 + u64::from(bytes[first + j]);
+        bits = (bits << 8) | u64::from(bytes[first + j]);
     }
     bits << (i % 8)
 }

@@ -1,8 +1,8 @@
--- What the patterns of a symbol have in each row, 64 bits a row: bit x is the module at column x (ISO/IEC 18004, 6.3,
--- 7.9 and 7.10).
+-- What the patterns of a symbol have in each row, 64 bits a row: bit x is the module at column x; and where the bits of
+-- the format information are (ISO/IEC 18004, 6.3, 7.9 and 7.10).
 use Rattle.std.specs.Prelude.{ℕ, ◌+◌, ◌-◌, ◌*◌, ◌/◌, ◌%◌, ◌^◌, ◌&&◌, ◌||◌, ◌==◌, nat_lt, nat_le, not, if◌then◌else◌}
 use Rattle.std.specs.Prelude.{bit_and, bit_or, slice_index}
-use Rattle.std.specs.Int.{bit_not, reverse_bits, w32, w64}
+use Rattle.std.specs.Int.{bit_not, w64}
 use Rattle.qrdata.specs.Versions.{side_of}
 use Rattle.qrmatrix.specs.Information.{version_information}
 use Rattle.qrmatrix.specs.declared.function.PatternRow.{PatternRow}
@@ -95,13 +95,10 @@ function_row v y =
     let n = side_of v in
     or_else (or_else (or_else (or_else (finders n y) (alignments v y)) (timings n y)) (formats n y)) (versions v y)
 
--- the modules that show a one of the format information
-unfoldable pub format_row : ℕ → ℕ → ℕ → ℕ
-format_row n information y =
-    if y == 8
-    then (let across = reverse_bits w32 information / 2 ^ 17 in
-    bit_or (bit_or (bit_and across 0x3F) (up (bit_and across 0xC0) 1)) (up (across / 2 ^ 7) (n - 8)))
-    else (if nat_lt y 6 then up (bit_and (information / 2 ^ y) 1) 8
-    else (if y == 7 then up (bit_and (information / 2 ^ 6) 1) 8
-    else (if nat_le (n - 7) y then up (bit_and (information / 2 ^ (y + 15 - n)) 1) 8
-    else 0)))
+-- the row of the module in column 8 that has a bit of the format information
+unfoldable pub row_of_bit : ℕ → ℕ → ℕ
+row_of_bit n i = if nat_lt i 6 then i else (if nat_lt i 8 then i + 1 else n + i - 15)
+
+-- the column of the module in row 8 that has a bit of the format information
+unfoldable pub column_of_bit : ℕ → ℕ → ℕ
+column_of_bit n i = if nat_lt i 8 then n - 1 - i else (if i == 8 then 7 else 14 - i)

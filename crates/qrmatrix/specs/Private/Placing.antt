@@ -1,13 +1,15 @@
 -- The placement of the codewords row by row of a strip (ISO/IEC 18004, 7.7.3).
-use Rattle.std.specs.Prelude.{◌≡◌, ◌≤◌, ℕ, ◌+◌, ◌-◌, ◌*◌, ◌/◌, ◌%◌, ◌<◌, Bool, true, false, ◌&&◌, ◌==◌, nat_lt, List}
+use Rattle.std.specs.Prelude.{◌≡◌, ◌≤◌, ℕ, ◌+◌, ◌-◌, ◌*◌, ◌/◌, ◌%◌, ◌<◌, Bool, ◌&&◌, ◌==◌, nat_lt, List}
 use Rattle.std.specs.Prelude.{if◌then◌else◌}
 use Rattle.qrdata.specs.Versions.{side_of}
 use Rattle.qrmatrix.specs.Bits.{bit}
 use Rattle.qrmatrix.specs.Functions.{is_free}
 use Rattle.qrmatrix.specs.Placement.{codeword_bit, key, rank}
+use Rattle.qrmatrix.specs.Modules.{is_inside}
 use Rattle.qrmatrix.specs.Square.{value_at}
 use Rattle.qrmatrix.specs.Private.Counting.{count_below, sum_below}
 use Rattle.qrmatrix.specs.Private.Drawing.{MarksFree}
+use Rattle.qrmatrix.specs.Private.Squares.{flip_if}
 use Rattle.qrmatrix.specs.declared.placement.Strip.{Strip}
 
 -- how many free modules have a key below k
@@ -33,17 +35,14 @@ pub record ShowsFree (two free word : ℕ) : Type 0 where
   pub right : bit two 1 ≡ (bit free 1 && bit word 63)
   pub left : bit two 0 ≡ (bit free 0 && (if bit free 1 then bit word 62 else bit word 63))
 
--- the first i bits are placed on the free modules with a key below k, the other free modules are light, and no
--- other module is written
+-- a free module with a key below k
+abbrev pub is_before : ℕ → ℕ → ℕ → ℕ → Bool
+is_before v k x y = is_inside (side_of v) x y && (is_free v x y && nat_lt (key (side_of v) x y) k)
+
+-- the free modules with a key below k, of which there are i, are turned over by their bits, and no other module is
 pub record Placed (v : ℕ) (codewords : List ℕ) (old new : ℕ → ℕ → Bool) (i k : ℕ) : Type 0 where
   pub counted : i ≡ free_below v k
-  pub placed : (x y : ℕ) → x < side_of v → y < side_of v → is_free v x y ≡ true → key (side_of v) x y < k
-      → new x y ≡ codeword_bit codewords (rank v x y)
-  pub ahead : (x y : ℕ) → x < side_of v → y < side_of v → is_free v x y ≡ true → k ≤ key (side_of v) x y
-      → new x y ≡ false
-  pub others : (x y : ℕ) → x < side_of v → y < side_of v → is_free v x y ≡ false → new x y ≡ old x y
-  pub columns : (x y : ℕ) → side_of v ≤ x → new x y ≡ old x y
-  pub rows : (x y : ℕ) → side_of v ≤ y → new x y ≡ old x y
+  pub shown : (x y : ℕ) → new x y ≡ flip_if (is_before v k x y && codeword_bit codewords (rank v x y)) (old x y)
 
 -- a strip of a symbol of a version
 pub record IsStrip (v : ℕ) (strip : Strip) : Type 0 where

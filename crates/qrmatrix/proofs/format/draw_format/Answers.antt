@@ -1,86 +1,50 @@
-use Rattle.std.proofs.Common.{◌≡◌, ◌-◌, ℕ, Bool, ap, arith, subst}
+use Rattle.std.proofs.Common.{◌≡◌, ◌/◌, ◌^◌, ◌∙◌, ap, arith}
 use Rattle.qrdata.specs.Versions.{side_of}
-use Rattle.qrmatrix.specs.Private.Drawing.{format_module}
 use Rattle.qrmatrix.specs.Functions.{role}
-use Rattle.qrmatrix.specs.Information.{format_information}
+use Rattle.qrmatrix.specs.Private.Drawing.{format_module}
 use Rattle.qrmatrix.specs.Private.Squares.{flip_if}
 use Rattle.qrmatrix.specs.Square.{value_at}
-use Rattle.qrmatrix.proofs.FunctionRowLaws.{fits, format_between, row_shows}
-use Rattle.qrmatrix.proofs.PassLaws.{Mapped, mapped_outside, row_turned, rows_kept}
-use Rattle.qrmatrix.proofs.RowBitsLaws.{above_bit}
+use Rattle.std.proofs.lemmas.Nat.{and_le_r}
+use Rattle.std.proofs.lemmas.Bool.Decides.{nat_tests}
+use Rattle.qrmatrix.proofs.FormatLaws.{all_drawn, drawn_next, none_drawn}
+use Rattle.qrmatrix.proofs.FunctionRowLaws.{index_right}
+use Rattle.qrmatrix.proofs.RowBitsLaws.{up_narrow}
 use Rattle.qrmatrix.proofs.format.draw_format.Goals as goal
 
-pub flip-requires-clause-row_bits : goal.flip-requires-clause-row_bits
-flip-requires-clause-row_bits c =
-    let v = c.args.version in
-    let shows = row_shows v c.side-n.result c.format_information-information.result c.format_row.result c.args.level c.args.mask
-    c.loop-y.y c.side-n.ensures.known.0 c.side-n.ensures.known.1 c.requires (omega arith) c.side-n.ensures.value
-    c.format_information-information.ensures c.format_row.ensures in
-    fits v c.format_row.result c.side-n.ensures.known.1 shows.narrow
+pub loop-i-init : goal.loop-i-init
+loop-i-init c = none_drawn c.side-n.result c.format_information-information.result c.args.modules.now
 
-pub loop-y-preserved : goal.loop-y-preserved
-loop-y-preserved c =
-    let v = c.args.version in
-    let y = c.loop-y.y in
-    let shows = row_shows v c.side-n.result c.format_information-information.result c.format_row.result c.args.level c.args.mask y
-    c.side-n.ensures.known.0 c.side-n.ensures.known.1 c.requires (omega arith) c.side-n.ensures.value
-    c.format_information-information.ensures c.format_row.ensures in
-    record {
-      modules = row_turned (side_of v) y c.format_row.result c.args.modules.now c.loop-y.modules c.flip.new.self
-          (λ x y. flip_if (format_module (format_information c.args.level c.args.mask) (role v x y))
-          (value_at c.args.modules.now x y)) c.loop-y.invariant.modules c.flip.ensures
-          (λ x l. ap (λ z. flip_if z (value_at c.args.modules.now x y)) (shows.shown x l))
-          (λ x g. above_bit c.format_row.result (side_of v) x shows.narrow g);
-      width = c.loop-y.invariant.width;
-    }
+pub flip-requires-in-loop-i-clause-row_bits : goal.flip-requires-in-loop-i-clause-row_bits
+flip-requires-in-loop-i-clause-row_bits c =
+    let column = c.column_of_bit.ensures.inside in
+    let small = and_le_r (c.format_information-information.result / 2 ^ c.loop-i.i) 1 in
+    up_narrow c.from-dark.result 1 c.column_of_bit.result (omega (arith, c.from-dark.ensures)) (omega arith)
 
-pub loop-y-2-init : goal.loop-y-2-init
-loop-y-2-init c =
-    let v = c.args.version in
-    let information = format_information c.args.level c.args.mask in
-    let old = c.args.modules.now in
-    let target : ℕ → ℕ → Bool = λ x y. flip_if (format_module information (role v x y)) (value_at old x y) in
-    let ended : c.loop-y.y ≡ 9 = omega arith in
-    let first : Mapped (side_of v) old c.loop-y.modules target 9 0 =
-    subst (λ k. Mapped (side_of v) old c.loop-y.modules target k 0) ended c.loop-y.invariant.modules in
-    record {
-      modules = rows_kept (side_of v) 9 (c.side-n.result - 7) old c.loop-y.modules target first (omega arith)
-          (λ x y lx low high. ap (λ z. flip_if z (value_at old x y))
-          (format_between v c.side-n.ensures.known.0 c.side-n.ensures.known.1 c.args.level c.args.mask x y c.requires lx
-          low (omega arith)));
-      width = c.side-n.ensures.value;
-    }
-
-pub flip-requires-in-loop-y-2-clause-row_bits : goal.flip-requires-in-loop-y-2-clause-row_bits
-flip-requires-in-loop-y-2-clause-row_bits c =
-    let v = c.args.version in
-    let shows = row_shows v c.side-n.result c.format_information-information.result c.format_row-in-loop-y-2.result c.args.level
-    c.args.mask c.loop-y-2.y c.side-n.ensures.known.0 c.side-n.ensures.known.1 c.requires (omega arith)
-    c.side-n.ensures.value c.format_information-information.ensures c.format_row-in-loop-y-2.ensures in
-    fits v c.format_row-in-loop-y-2.result c.side-n.ensures.known.1 shows.narrow
-
-pub loop-y-2-preserved : goal.loop-y-2-preserved
-loop-y-2-preserved c =
-    let v = c.args.version in
-    let y = c.loop-y-2.y in
-    let shows = row_shows v c.side-n.result c.format_information-information.result c.format_row-in-loop-y-2.result c.args.level
-    c.args.mask y c.side-n.ensures.known.0 c.side-n.ensures.known.1 c.requires (omega arith) c.side-n.ensures.value
-    c.format_information-information.ensures c.format_row-in-loop-y-2.ensures in
-    record {
-      modules = row_turned (side_of v) y c.format_row-in-loop-y-2.result c.args.modules.now c.loop-y-2.modules
-          c.flip-in-loop-y-2.new.self
-          (λ x y. flip_if (format_module (format_information c.args.level c.args.mask) (role v x y))
-          (value_at c.args.modules.now x y)) c.loop-y-2.invariant.modules c.flip-in-loop-y-2.ensures
-          (λ x l. ap (λ z. flip_if z (value_at c.args.modules.now x y)) (shows.shown x l))
-          (λ x g. above_bit c.format_row-in-loop-y-2.result (side_of v) x shows.narrow g);
-      width = c.loop-y-2.invariant.width;
-    }
+pub loop-i-preserved : goal.loop-i-preserved
+loop-i-preserved c =
+    let n = c.side-n.result in
+    let width = c.side-n.ensures.value in
+    drawn_next n c.format_information-information.result c.loop-i.i c.from-dark.result c.row_of_bit.result
+    c.column_of_bit.result c.args.modules.now c.loop-i.modules c.flip.new.self c.flip-in-loop-i.new.self (omega arith)
+    (omega arith) (omega arith) c.from-dark.ensures c.row_of_bit.ensures.value c.row_of_bit.ensures.inside
+    c.column_of_bit.ensures.value c.column_of_bit.ensures.inside c.loop-i.invariant (λ a b. c.flip.ensures a b)
+    (λ a b. c.flip-in-loop-i.ensures a b)
 
 pub returns : goal.returns
 returns c =
-    let n = side_of c.args.version in
-    let e : n ≡ c.loop-y-2.y = omega arith in
+    let v = c.args.version in
+    let n = side_of v in
+    let known = c.side-n.ensures.known in
+    let last : c.loop-i.i ≡ 15 = omega arith in
+    let drawn = rw (last, c.side-n.ensures.value) at c.loop-i.invariant in
+    let information = c.format_information-information.ensures in
     record {
-      inside = λ x y lx ly. c.loop-y-2.invariant.modules.above x y lx (omega arith);
-      outside = mapped_outside n c.loop-y-2.y c.args.modules.now c.loop-y-2.modules _ c.loop-y-2.invariant.modules e;
+      inside = λ x y lx ly. drawn x y
+          ∙ all_drawn n c.format_information-information.result x y (role v x y) (value_at c.args.modules.now x y)
+          (omega arith) lx ly (index_right v known.0 known.1 y ly x lx)
+          ∙ ap (λ k. flip_if (format_module k (role v x y)) (value_at c.args.modules.now x y)) information;
+      outside = record {
+        columns = λ x y l. drawn x y ∙ grind (arith, nat_tests);
+        rows = λ x y l. drawn x y ∙ grind (arith, nat_tests);
+      };
     }

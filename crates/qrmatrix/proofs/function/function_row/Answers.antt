@@ -1,14 +1,14 @@
-use Rattle.std.proofs.Common.{◌≡◌, sym, subst}
+use Rattle.std.proofs.Common.{◌≡◌, refl, sym, subst}
 use Rattle.qrmatrix.specs.Private.Drawing.{HasFunctions}
 use Rattle.qrmatrix.specs.Private.FunctionRows.{function_row}
-use Rattle.qrmatrix.proofs.FunctionRowLaws.{all_patterns, function_row_is}
+use Rattle.qrmatrix.proofs.FunctionRowLaws.{function_row_is}
 use Rattle.qrmatrix.proofs.function.function_row.Goals as goal
 
 pub returns : goal.returns
+unfolding function_row
 returns c =
     let v = c.args.version in
-    let e : c.or_else-4.result ≡ function_row v c.args.y =
-    rw (
+    let e : c.or_else-4.result ≡ function_row v c.args.y = rw (
       c.or_else-4.ensures,
       c.or_else-3.ensures,
       c.or_else-2.ensures,
@@ -20,6 +20,6 @@ returns c =
       c.versions.ensures,
       c.side-n.ensures.value,
     )
-    (all_patterns v c.args.y) in
+    refl in
     subst (HasFunctions v c.args.y) (sym e)
     (function_row_is v c.side-n.ensures.known.0 c.side-n.ensures.known.1 c.args.y c.requires)

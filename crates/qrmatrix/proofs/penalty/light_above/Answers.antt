@@ -4,7 +4,7 @@ use Rattle.std.proofs.lemmas.Bool.{le-leb}
 use Rattle.qrmatrix.specs.Bits.{bit}
 use Rattle.qrmatrix.specs.Private.PenaltyParts.{finder_from, light_from}
 use Rattle.qrmatrix.specs.Square.{value_at}
-use Rattle.qrmatrix.proofs.FinderLaws.{turned}
+use Rattle.std.proofs.Math.Bool.{and_comm}
 use Rattle.qrmatrix.proofs.RowBitsLaws.{and_bit}
 use Rattle.qrmatrix.proofs.WindowLaws.{count_same}
 use Rattle.qrmatrix.proofs.penalty.light_above.Goals as goal
@@ -19,5 +19,5 @@ returns-then-y-ge4-clause-value c =
     ∙ count_same c.args.n (bit _) (λ x. light_from (m x) (y - 4) && finder_from (m x) (y - 4 + 4)) (λ x l.
     and_bit c.args.finders c.light_columns.result x
     ∙ rw (c.requires.finders x (omega arith), c.light_columns.ensures x (omega arith), back)
-    (turned (finder_from (m x) y) (light_from (m x) (y - 4))))
+    (and_comm (finder_from (m x) y) (light_from (m x) (y - 4))))
     ∙ rw reached refl

@@ -1,21 +1,22 @@
-use Rattle.std.proofs.Common.{◌≡◌, ◌+◌, ◌-◌, ◌*◌, ◌/◌, ◌%◌, ◌∙◌, arith, ap, subst}
+use Rattle.std.proofs.Common.{◌≡◌, refl, false, ◌+◌, ◌-◌, ◌*◌, ◌/◌, ◌%◌, ◌∙◌, arith, ap, subst}
 use Rattle.std.specs.Prelude.{slice_index}
 use Rattle.qrdata.specs.Versions.{side_of}
 use Rattle.qrmatrix.specs.Bits.{bit}
 use Rattle.qrmatrix.specs.Placement.{rank}
 use Rattle.qrmatrix.specs.Square.{value_at}
+use Rattle.qrmatrix.specs.Modules.{is_inside}
+use Rattle.std.proofs.lemmas.Bool.{and_right}
+use Rattle.std.proofs.lemmas.Bool.Decides.{nat_tests}
 use Rattle.qrmatrix.specs.Private.Placing.{Placed}
-use Rattle.qrmatrix.proofs.CursorLaws.{placed_none, strip_is, strip_placed}
-use Rattle.qrmatrix.proofs.VersionLaws.{computed}
-use Rattle.qrmatrix.proofs.RankLaws.{outside_at, below_at}
+use Rattle.qrmatrix.proofs.CursorLaws.{placed_none, strip_placed}
+use Rattle.qrmatrix.proofs.RankLaws.{keyed_at, outside_at}
 use Rattle.qrmatrix.proofs.placement.place.Goals as goal
 
 pub loop-pair-init : goal.loop-pair-init
 loop-pair-init c =
     let v = c.args.version in
     record {
-      placed = placed_none v (computed v c.side-n.ensures.known.0 c.side-n.ensures.known.1) c.with_zeros-bytes.result _
-          (2 * side_of v * 0) (omega arith) c.requires.light;
+      placed = placed_none v c.with_zeros-bytes.result _ (2 * side_of v * 0) (omega arith);
       bound = omega arith;
       width = c.side-n.ensures.value;
     }
@@ -33,10 +34,8 @@ loop-pair-preserved c =
     let first = c.place_strip-i in
     let second = c.place_strip-i-in-loop-pair in
     let known = c.side-n.ensures.known in
-    let is_up = strip_is v c.side-n.result k up.result known.0 known.1 width (omega arith) up.ensures.side
-    up.ensures.number up.ensures.column in
-    let is_down = strip_is v c.side-n.result (k + 1) down.result known.0 known.1 width (omega arith) down.ensures.side
-    down.ensures.number down.ensures.column in
+    let is_up = up.ensures.strip v known.0 known.1 width in
+    let is_down = down.ensures.strip v known.0 known.1 width in
     let first_most = first.ensures.bound in
     let second_most = second.ensures.bound in
     let side_up = up.ensures.side in
@@ -56,15 +55,21 @@ loop-pair-preserved c =
 pub returns : goal.returns
 returns c =
     let v = c.args.version in
-    let k = computed v c.side-n.ensures.known.0 c.side-n.ensures.known.1 in
+    let n = side_of v in
+    let known = c.side-n.ensures.known in
     let width = c.side-n.ensures.value in
-    let n : 2 * c.loop-pair.pair ≡ (side_of v - 1) / 2 = omega arith in
-    let placed = c.loop-pair.invariant.placed in
+    let last : 2 * c.loop-pair.pair ≡ (side_of v - 1) / 2 = omega arith in
+    let shown = c.loop-pair.invariant.placed.shown in
     record {
       placed = λ x y lx ly free.
-          placed.placed x y lx ly free (rw n (below_at v k x y lx ly (outside_at v k x y ly free)))
+          let below = (keyed_at v known.0 known.1 x y lx ly (outside_at v x y free)).below in
+          let dark = c.requires.light x y lx ly free in
+          shown x y ∙ rw last (grind (arith, nat_tests))
           ∙ ap (λ w. bit w (7 - rank v x y % 8))
           (c.with_zeros-bytes.ensures (rank v x y / 8) ∙ ap (λ ws. slice_index ws (rank v x y / 8)) c.deref.ensures.0);
-      others = placed.others;
-      outside = record { columns = placed.columns; rows = placed.rows };
+      others = λ x y lx ly taken. shown x y ∙ rw (taken, and_right (is_inside n x y) false refl) refl;
+      outside = record {
+        columns = λ x y l. shown x y ∙ grind (arith, nat_tests);
+        rows = λ x y l. shown x y ∙ grind (arith, nat_tests);
+      };
     }

@@ -1,6 +1,7 @@
 use Rattle.std.proofs.Common.{sym, ◌∙◌, ◌+◌, ◌*◌, refl, arith}
-use Rattle.qrmatrix.proofs.CursorLaws.{for_row, renumbered, row_placed}
-use Rattle.qrmatrix.proofs.TwoBitsLaws.{bits_after, moved, up_narrow}
+use Rattle.qrmatrix.proofs.CursorLaws.{renumbered, row_placed}
+use Rattle.qrmatrix.proofs.TwoBitsLaws.{bits_after}
+use Rattle.qrmatrix.proofs.RowBitsLaws.{up_narrow}
 use Rattle.qrmatrix.proofs.placement.place_free.Goals as goal
 
 pub loop-j-init : goal.loop-j-init
@@ -11,7 +12,7 @@ loop-j-init c = record {
 
 pub flip-requires-clause-row_bits : goal.flip-requires-clause-row_bits
 flip-requires-clause-row_bits c =
-    up_narrow c.two_of-two.result c.args.strip.x c.two_of-two.ensures.bound c.requires.column
+    up_narrow c.two_of-two.result 2 c.args.strip.x c.two_of-two.ensures.bound (omega arith)
 
 pub loop-j-preserved : goal.loop-j-preserved
 loop-j-preserved c = record {
@@ -22,14 +23,11 @@ loop-j-preserved c = record {
       let two = c.two_of-two in
       renumbered c.args.strip.number (i + 2 * j + 2) (i + 2 * (j + 1)) (t + 1) (c.args.t + (j + 1)) (omega arith)
       (omega arith)
-      (row_placed c.args.strip free c.loop-j.modules c.flip.new.self codewords (i + 2 * j) t two.result 2 (omega arith)
-      (λ a b. c.flip.ensures a b ∙ rw (
-        moved two.result c.args.strip.x a two.ensures.bound c.requires.column,
-        c.row.ensures.value,
-      )
-      refl)
-      (for_row _ _ 3 two.result _ (i + 2 * j) codewords (omega arith) two.ensures.value (sym rows.1) (sym rows.0)
-      (bits_after (2 * j) 2 c.args.bits i codewords (omega arith) has)) v start is marks (c.loop-j.invariant.placed free four codewords i has v start is marks p));
+      (row_placed c.args.strip free c.loop-j.modules c.flip.new.self codewords (i + 2 * j) t 3 two.result _
+      (omega arith) c.requires.column (omega arith) two.ensures.bound two.ensures.value
+      (bits_after (2 * j) 2 c.args.bits i codewords (omega arith) has) (sym rows.1) (sym rows.0)
+      (λ a b. c.flip.ensures a b ∙ rw c.row.ensures.value refl) v start is marks
+      (c.loop-j.invariant.placed free four codewords i has v start is marks p));
 }
 
 pub returns : goal.returns

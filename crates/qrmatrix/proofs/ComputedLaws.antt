@@ -1,0 +1,27 @@
+-- What is computed for each number of a range holds for each of them.
+use Rattle.std.proofs.Common.{◌≡◌, ℕ, ◌+◌, ◌-◌, ◌<◌, ◌≤◌, sym, ap, ◌∙◌, arith, Bool, true, map}
+use Rattle.std.specs.Prelude.{slice_index_or}
+use Rattle.std.specs.List.{range_with_len}
+use Rattle.std.proofs.lemmas.List.FromFn.{get_or-map-range_with_len}
+use Rattle.qrmatrix.proofs.SumLaws.{all_below, all_below_at}
+
+-- whether every place of a square of n by n passes the test
+abbrev pub all_places : ℕ → (ℕ → ℕ → Bool) → Bool
+all_places n p = all_below n (λ y. all_below n (λ x. p x y))
+
+pub all_places_at : (n : ℕ) (p : ℕ → ℕ → Bool) → all_places n p ≡ true → (x y : ℕ) → x < n → y < n → p x y ≡ true
+all_places_at n p h x y lx ly =
+    all_below_at n (λ x. p x y) (all_below_at n (λ y. all_below n (λ x. p x y)) h y ly) x lx
+
+-- two functions have the same values from a on
+pub same_at : {A : Type 0} (a n : ℕ) (f g : ℕ → A) → map f (range_with_len a n) ≡ map g (range_with_len a n) → (k : ℕ)
+    → a ≤ k → k < a + n → f k ≡ g k
+same_at a n f g e k l h =
+    sym (get_or-map-range_with_len f a n (k - a) k (f k) (omega arith) (omega arith))
+    ∙ ap (λ xs. slice_index_or xs (k - a) (f k)) e
+    ∙ get_or-map-range_with_len g a n (k - a) k (f k) (omega arith) (omega arith)
+
+-- two functions have the same values at each version
+pub by_version : {A : Type 0} (f g : ℕ → A) → map f (range_with_len 1 10) ≡ map g (range_with_len 1 10) → (v : ℕ)
+    → 1 ≤ v → v ≤ 10 → f v ≡ g v
+by_version f g e v l h = same_at 1 10 f g e v l (omega arith)
