@@ -1,7 +1,7 @@
 -- The value of a polynomial at a point.
-use Rattle.std.proofs.Common.{◌≡◌, ℕ, zero, suc, ◌+◌, ◌<◌, List, [], ◌∷◌, ◌++◌, length, refl, sym, ap, ◌∙◌, arith, zero-add}
+use Rattle.std.proofs.Common.{◌≡◌, ℕ, zero, suc, ◌+◌, ◌<◌, List, [], ◌∷◌, ◌++◌, length, refl, sym, ◌∙◌, arith, zero-add}
 use Rattle.std.specs.Prelude.{bit_xor, All}
-use Rattle.std.proofs.lemmas.List.{length-append, length-map}
+use Rattle.std.proofs.lemmas.List.{length-map}
 use Rattle.std.proofs.lemmas.List.Elements.{All-head, All-tail}
 use Rattle.std.proofs.lemmas.Nat.{xor_of_8}
 use Rattle.gf256.specs.Field.{field_product, field_power, IsElement}
@@ -10,7 +10,7 @@ use Rattle.gf256.specs.Polynomial.{evaluate, polynomial_sum, scalar_multiple, po
 use Rattle.gf256.proofs.DistributivityLaws.{field_product-xor_left, field_product-xor_right, field_product-zero_left}
 use Rattle.gf256.proofs.DistributivityLaws.{field_product-zero_right, xor_medial}
 use Rattle.gf256.proofs.FieldLaws.{field_product-lt, field_product-comm, field_product-assoc, field_product-one_right}
-use Rattle.gf256.proofs.PolynomialSumLaws.{length-zeros, length-polynomial_sum, length-scalar_multiple}
+use Rattle.gf256.proofs.PolynomialSumLaws.{length-append_zeros, length-polynomial_sum, length-scalar_multiple}
 use Rattle.gf256.proofs.DivisionLaws.{All-scalar_multiple, length-polynomial_product}
 
 pub field_power-lt : (x i : ℕ) → x < 256 → field_power x i < 256
@@ -44,13 +44,9 @@ evaluate-polynomial_sum [] q x h = refl
 evaluate-polynomial_sum (a ∷ p) [] x h = absurd (omega arith)
 evaluate-polynomial_sum (a ∷ p) (b ∷ q) x h =
     let tails : length p ≡ length q = omega arith in
+    let long : length (polynomial_sum p q) ≡ length q = omega (arith, length-polynomial_sum p q) in
     let power = field_power x (length q) in
-    rw (
-      length-polynomial_sum p q tails,
-      evaluate-polynomial_sum p q x tails,
-      field_product-xor_left a b power,
-      tails,
-    ) (xor_medial (field_product a power) (field_product b power) (evaluate p x) (evaluate q x))
+    rw (long, evaluate-polynomial_sum p q x tails, field_product-xor_left a b power, tails) (xor_medial (field_product a power) (field_product b power) (evaluate p x) (evaluate q x))
 
 pub evaluate-scalar_multiple : (c : ℕ) (p : List ℕ) (x : ℕ) → c < 256 → All IsElement p → x < 256
     → evaluate (scalar_multiple c p) x ≡ field_product c (evaluate p x)
@@ -78,8 +74,7 @@ evaluate-append_zeros [] n x hp hx = evaluate-zeros n x ∙ sym (field_product-z
 evaluate-append_zeros (c ∷ p) n x hp hx =
     let power = field_power x (length p) in
     rw (
-      length-append p (zeros n),
-      length-zeros n,
+      length-append_zeros p n,
       field_power-add x (length p) n hx,
       evaluate-append_zeros p n x (All-tail IsElement c p hp) hx,
       field_product-xor_left (field_product c power) (evaluate p x) (field_power x n),
@@ -100,8 +95,8 @@ evaluate-polynomial_product (c ∷ p) q b x hp hq hx =
     let hc = All-head IsElement c p hp in
     let hE = evaluate-lt g x hq hx in
     let hpow = field_power-lt x (length p) hx in
-    let lengths : length (S ++ zeros (length p)) ≡ length (0 ∷ P) = length-append S (zeros (length p))
-    ∙ omega (arith, length-scalar_multiple c g, length-zeros (length p), length-polynomial_product p q b) in
+    let lengths : length (S ++ zeros (length p)) ≡ length (0 ∷ P) =
+    omega (arith, length-append_zeros S (length p), length-scalar_multiple c g, length-polynomial_product p q b) in
     evaluate-polynomial_sum (S ++ zeros (length p)) (0 ∷ P) x lengths
     ∙ rw (
       evaluate-append_zeros S (length p) x (All-scalar_multiple c g hc hq) hx,
