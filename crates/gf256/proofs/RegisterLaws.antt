@@ -1,14 +1,14 @@
 -- The multiples of a polynomial in tables, and what the code writes, as lists.
-use Rattle.std.proofs.Common.{◌≡◌, ℕ, zero, suc, ◌+◌, ◌-◌, ◌*◌, ◌/◌, ◌%◌, ◌^◌, ◌<◌, List, [], ◌∷◌, ◌++◌, length, take}
-use Rattle.std.proofs.Common.{drop, get_or, set, refl, sym, ap, ◌∙◌, arith, eqb-true, true, ◌==◌}
+use Rattle.std.proofs.Common.{◌≡◌, ℕ, zero, suc, ◌+◌, ◌-◌, ◌*◌, ◌/◌, ◌%◌, ◌^◌, ◌<◌, ◌≤◌, List, [], ◌∷◌, ◌++◌, length, take}
+use Rattle.std.proofs.Common.{drop, map, get_or, set, refl, sym, ap, ◌∙◌, arith, eqb-true, true, ◌==◌}
 use Rattle.std.specs.Prelude.{bit_xor, All}
 use Rattle.std.specs.Int.Bits.{xor_comm, xor_shifted}
 use Rattle.std.specs.List.{range_with_len}
-use Rattle.std.proofs.lemmas.List.{append_assoc, replicate-append-replicate, take_at}
-use Rattle.std.proofs.lemmas.List.{take_more, take_more_set}
+use Rattle.std.proofs.lemmas.List.{append_assoc, length-map, length-take-le, map-append, replicate-append-replicate}
+use Rattle.std.proofs.lemmas.List.{take_all, take_at, take_more}
 use Rattle.std.proofs.lemmas.List.Elements.{All-head, All-tail}
 use Rattle.std.proofs.lemmas.Simd.{pick_l-range_with_len}
-use Rattle.std.proofs.Math.Seq.{take-append-add}
+use Rattle.std.proofs.Math.Seq.{set-append_seam, take-append-add}
 use Rattle.std.specs.Simd.Lanes.{pick_l, zip2}
 use Rattle.gf256.specs.BinaryPolynomial.{binary_product, binary_remainder}
 use Rattle.gf256.specs.Field.{field_product, IsElement}
@@ -20,23 +20,32 @@ use Rattle.gf256.proofs.DistributivityLaws.{field_product-xor_left, field_produc
 use Rattle.gf256.proofs.FieldLaws.{field_product-assoc, field_product-two_small}
 use Rattle.gf256.proofs.EvaluationLaws.{field_product-one_left}
 use Rattle.gf256.proofs.PolynomialSumLaws.{length-append_zeros, length-polynomial_sum, length-zeros, polynomial_sum-assoc}
-use Rattle.gf256.proofs.PolynomialSumLaws.{polynomial_sum-comm}
+use Rattle.gf256.proofs.PolynomialSumLaws.{length-scalar_multiple, polynomial_sum-comm}
 use Rattle.gf256.proofs.DivisionLaws.{length-next_register, next_register-append_zeros}
 use Rattle.gf256.proofs.GeneratorLaws.{length-low_of, low_of}
 
--- one coefficient more of a polynomial that a loop writes
-pub write_more : (written whole : List ℕ) (j c : ℕ) → j < length written → j < length whole
-    → take j written ≡ take j whole → c ≡ get_or whole j 0 → take (j + 1) (set written j c) ≡ take (j + 1) whole
-write_more written whole j c room inside same is =
-    take_more_set written j c room ∙ ap (λ l. l ++ c ∷ []) same ∙ ap (λ x. take j whole ++ x ∷ []) is
-    ∙ sym (take_more whole j 0 inside)
+-- one coefficient more of a polynomial that a loop writes over zeros
+pub write_more : (f : ℕ → ℕ) (xs written : List ℕ) (n j c : ℕ) → j < length xs → j < n
+    → written ≡ map f (take j xs) ++ zeros (n - j) → c ≡ f (get_or xs j 0)
+    → set written j c ≡ map f (take (j + 1) xs) ++ zeros (n - (j + 1))
+write_more f xs written n j c inside room so_far is =
+    let rest : n - j ≡ suc (n - (j + 1)) = omega arith in
+    let front = map f (take j xs) in
+    let place : j ≡ length front = sym (length-map (take j xs) f ∙ length-take-le j xs (omega arith)) in
+    rw (
+      so_far,
+      rest,
+      take_more xs j 0 inside,
+      map-append f (take j xs) (get_or xs j 0 ∷ []),
+      ← is,
+      append_assoc front (c ∷ []) (zeros (n - (j + 1))),
+    )
+    (ap (λ k. set (front ++ 0 ∷ zeros (n - (j + 1))) k c) place ∙ set-append_seam front 0 (zeros (n - (j + 1))) c)
 
-pub get_or-scalar_multiple : (c : ℕ) (p : List ℕ) (j : ℕ) → j < length p
-    → get_or (scalar_multiple c p) j 0 ≡ field_product c (get_or p j 0)
-unfolding scalar_multiple
-get_or-scalar_multiple c [] j h = absurd (omega arith)
-get_or-scalar_multiple c (a ∷ p) zero h = refl
-get_or-scalar_multiple c (a ∷ p) (suc j) h = get_or-scalar_multiple c p j (omega arith)
+-- all coefficients
+pub written_all : (f : ℕ → ℕ) (xs written : List ℕ) (n j : ℕ) → length xs ≤ j
+    → written ≡ map f (take j xs) ++ zeros (n - j) → written ≡ map f xs ++ zeros (n - j)
+written_all f xs written n j all so_far = so_far ∙ ap (λ l. map f l ++ zeros (n - j)) (take_all j xs all)
 
 pub scalar_multiple-zero : (p : List ℕ) → scalar_multiple 0 p ≡ zeros (length p)
 unfolding scalar_multiple
@@ -154,11 +163,22 @@ zip2-polynomial_sum [] (b ∷ q) same = absurd (omega (arith, same))
 zip2-polynomial_sum (a ∷ p) [] same = absurd (omega (arith, same))
 zip2-polynomial_sum (a ∷ p) (b ∷ q) same = ap (λ l. bit_xor a b ∷ l) (zip2-polynomial_sum p q (omega (arith, same)))
 
-pub zip2-two_sums : (p low high : List ℕ) → length p ≡ length low → length low ≡ length high
-    → zip2 bit_xor (zip2 bit_xor p low) high ≡ polynomial_sum p (polynomial_sum low high)
-zip2-two_sums p low high same as_high = rw (zip2-polynomial_sum p low same)
-    (zip2-polynomial_sum (polynomial_sum p low) high (omega (arith, length-polynomial_sum p low))
-    ∙ polynomial_sum-assoc p low high)
+-- the sum of a vector and the rows of two tables, of which each holds a part of a multiple
+pub zip2-parts : (p low high divisor : List ℕ) (fed : ℕ) → fed < 256 → All IsElement divisor
+    → length p ≡ length divisor → low ≡ scalar_multiple (fed % 16) divisor
+    → high ≡ scalar_multiple (fed / 16) (scalar_multiple 16 divisor)
+    → zip2 bit_xor (zip2 bit_xor p low) high ≡ polynomial_sum p (scalar_multiple fed divisor)
+zip2-parts p low high divisor fed small elements long is_low is_high =
+    let front = scalar_multiple (fed % 16) divisor in
+    let back = scalar_multiple (fed / 16) (scalar_multiple 16 divisor) in
+    rw (
+      is_low,
+      is_high,
+      zip2-polynomial_sum p front (omega (arith, length-scalar_multiple)),
+      zip2-polynomial_sum (polynomial_sum p front) back (omega (arith, length-scalar_multiple, length-polynomial_sum)),
+      polynomial_sum-assoc p front back,
+      multiple-parts fed divisor small elements,
+    ) refl
 
 -- the places 1 to 32 of a register and of a vector of zeros behind it
 pub next_places : (register : List ℕ) → length register ≡ 32
