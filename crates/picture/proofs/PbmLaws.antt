@@ -1,8 +1,9 @@
 -- A plain PBM file reads back as the picture's pixels.
-use Rattle.std.proofs.Common.{◌≡◌, ◌==◌, ℕ, suc, Bool, false, ◌+◌, true, List, [], ◌∷◌, ◌++◌, length}
+use Rattle.std.proofs.Common.{◌≡◌, ◌==◌, ℕ, suc, Bool, false, ◌+◌, true, List, [], ◌∷◌, ◌++◌, length, nat_le}
 use Rattle.std.proofs.Common.{take}
 use Rattle.std.proofs.Common.{drop, map, flat_map, refl, ap, sym, ◌∙◌, arith, codes, decimal, Some, append_assoc}
-use Rattle.std.specs.List.{prefix_len}
+use Rattle.std.specs.List.{prefix_len, list_all}
+use Rattle.device.specs.Lines.{lines}
 use Rattle.std.specs.Str.{bytes_eq}
 use Rattle.std.proofs.lemmas.Bool.{eq-eqb, ne_eqb}
 use Rattle.std.proofs.lemmas.List.FromFn.{length-range_with_len}
@@ -12,13 +13,13 @@ use Rattle.picture.specs.Text.{below, pixel_row, pbm_digit, pbm_row, pbm_text}
 use Rattle.picture.specs.Reading.{is_white, raster_of, pbm_pixels, after_white, leading_number}
 use Rattle.picture.proofs.RasterLaws.{strip, pixels, strip-pbm_rows, all_digits, length-digits, rows-digits}
 use Rattle.picture.proofs.HeaderLaws.{leading_number-decimal, after_white-decimal}
-use Rattle.picture.proofs.ShortLineLaws.{has_short_lines, short_rows, short_header}
+use Rattle.picture.proofs.PbmLineLaws.{short_lines}
 
 -- a text that passes the two tests and the five readings of pbm_pixels has the pixels of what the last one leaves
 -- there is a fact for each of the seven, and a value for each text that is left, as the next reading begins with it:
 -- read_back, the only caller, proves each fact by itself, and the proof rewrites by all of them
 pbm_pixels-steps : (text first second third fourth rest : List ℕ) (width height : ℕ) →
-    has_short_lines text ≡ true → bytes_eq (take 2 text) (codes "P1") ≡ true → after_white (drop 2 text) ≡ Some first →
+    list_all (λ line. nat_le (length line) 70) (lines text) ≡ true → bytes_eq (take 2 text) (codes "P1") ≡ true → after_white (drop 2 text) ≡ Some first →
     leading_number first ≡ Some (width, second) → after_white second ≡ Some third
     → leading_number third ≡ Some (height, fourth)
     → after_white fourth ≡ Some rest →
@@ -59,16 +60,15 @@ grouped w h body = simp append_assoc
 
 -- a plain PBM file reads back as the picture's pixels
 pub pbm_pixels-pbm_text : TextsAreRead pbm_text pbm_pixels IsDrawable
-pbm_pixels-pbm_text p h =
-    let wide = h.wide in
-    let high = h.high in
+pbm_pixels-pbm_text p drawable =
+    let wide = drawable.wide in
+    let high = drawable.high in
     let body = flat_map (pbm_row p) (below p.height) in
     let w = decimal p.width in
     let h = decimal p.height in
     let text = 80 ∷ 49 ∷ 10 ∷ (w ++ 32 ∷ (h ++ 10 ∷ body)) in
-    let short : has_short_lines text ≡ true =
-    ap (λ t. has_short_lines (80 ∷ 49 ∷ 10 ∷ t)) (sym (append_assoc w (32 ∷ h) (10 ∷ body)))
-    ∙ short_header p.width p.height body wide high (short_rows p (below p.height)) in
+    let short = ap (λ t. list_all (λ line. nat_le (length line) 70) (lines t)) (sym (grouped w h body))
+    ∙ short_lines p drawable in
     ap pbm_pixels (grouped w h body)
     ∙ pbm_pixels-steps text (w ++ 32 ∷ (h ++ 10 ∷ body)) (32 ∷ (h ++ 10 ∷ body)) (h ++ 10 ∷ body) (10 ∷ body)
     (drop_white (10 ∷ body)) p.width p.height

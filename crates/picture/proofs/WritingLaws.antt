@@ -13,7 +13,7 @@ use Rattle.std.proofs.lemmas.Grind.{flat_map-append}
 use Rattle.std.proofs.lemmas.List.FromFn.{length-map-range_with_len}
 use Rattle.picture.specs.Picture.{Picture}
 use Rattle.picture.specs.Private.Rows.{piece, row_text}
-use Rattle.picture.specs.Text.{below, pixel_row, pbm_digit, pbm_piece, pbm_row, ascii_pixel, ascii_row}
+use Rattle.picture.specs.Text.{below, pixel_row, pbm_piece, pbm_row, ascii_pixel, ascii_row}
 
 pub range_with_len-add : (a n m : ℕ) → range_with_len a (n + m) ≡ range_with_len a n ++ range_with_len (a + n) m
 range_with_len-add a zero m = rw (zero-add m, add-zero a) refl
@@ -105,27 +105,6 @@ piece_asked dark width k n some size =
           ∙ (ap (take 70) (append-nil line) ∙ take_all 70 line (omega (arith, length-map-range_with_len dark x n))))
       | inr more ↦ take_at line rest 70 (length-map-range_with_len dark x n ∙ omega arith)
     ]))
-
--- a line, and what follows it
-pub line_regrouped : (line rest end : List ℕ) → ((line ++ 10 ∷ []) ++ rest) ++ end ≡ line ++ 10 ∷ (rest ++ end)
-line_regrouped line rest end = simp append_assoc
-
--- what holds of a text with a line of at most 70 pixels before it, where it holds of the text
-module _ (Holds : List ℕ → Type 0) (one_more : (line : List Bool) (rest : List ℕ) → length line ≤ 70 → Holds rest
-    → Holds (map pbm_digit line ++ 10 ∷ rest)) where
-  pieces_hold : (row : List Bool) (ks : List ℕ) (rest : List ℕ) → Holds rest
-      → Holds (flat_map (λ k. pbm_piece (piece row k)) ks ++ rest)
-  pieces_hold row [] rest h = h
-  pieces_hold row (k ∷ ks) rest h =
-      rw (line_regrouped (map pbm_digit (piece row k)) (flat_map (λ k. pbm_piece (piece row k)) ks) rest)
-      (one_more (piece row k) _ (omega (arith, length-take {A = Bool} 70 (drop (70 * k) row)))
-      (pieces_hold row ks rest h))
-
-  -- it holds of the rows
-  pub rows_hold : (p : Picture) (ys : List ℕ) → Holds [] → Holds (flat_map (pbm_row p) ys)
-  rows_hold p [] h = h
-  rows_hold p (y ∷ ys) h =
-      pieces_hold (pixel_row p y) (below (div_ceil p.width 70)) (flat_map (pbm_row p) ys) (rows_hold p ys h)
 
 -- the rows of plain PBM files end with nothing
 pub pbm_rows : (p : Picture) (ys : List ℕ) → flat_map (λ y. row_text pbm_piece [] (pixel_row p y)) ys
