@@ -1,13 +1,17 @@
 -- The modules of a drawn symbol, sampled again.
 use Rattle.std.proofs.Common.{◌≡◌, ℕ, suc, zero, ◌+◌, ◌-◌, ◌*◌, ◌/◌, ◌%◌, ◌<◌, ◌≤◌, Bool, true, false, ◌&&◌}
-use Rattle.std.proofs.Common.{List, [], ◌∷◌, length, map, refl, ap, sym, subst, ◌∙◌, arith, Some, get_or, nat_le}
-use Rattle.std.proofs.Common.{nat_lt, inl, inr}
+use Rattle.std.proofs.Common.{List, [], ◌∷◌, length, map, refl, ap, sym, subst, ◌∙◌, arith, Some, get_or, nat_le, zero-add}
+use Rattle.std.proofs.Common.{nat_lt}
 use Rattle.std.specs.Bool.{beq}
 use Rattle.std.specs.Cmp.Lexicographic.{pointwise}
 use Rattle.std.specs.List.{list_all, range_with_len}
-use Rattle.std.proofs.lemmas.List.FromFn.{get_or-map-range_with_len, fill_by_all}
+use Rattle.std.proofs.lemmas.List.FromFn.{get_or-map-range_with_len, fill_by_all, get_or-range_with_len}
+use Rattle.std.proofs.lemmas.List.FromFn.{length-range_with_len}
+use Rattle.std.proofs.lemmas.List.Elements.{All-from_get_or}
+use Rattle.std.proofs.lemmas.List.Sums.{list_all-from_AllPass}
+use Rattle.std.proofs.lemmas.Bool.Decides.{nat_tests}
 use Rattle.std.proofs.lemmas.Nat.{div-mul-add, mul-add-lt}
-use Rattle.std.proofs.lemmas.Bool.{le-leb, lt-ltb, le-ltb, cases_lt}
+use Rattle.std.proofs.lemmas.Bool.{le-leb}
 use Rattle.std.proofs.Math.Nat.{div-lt_iff_lt-mul, mul-mod_left}
 use Rattle.picture.specs.Picture.{Picture, bars, with_quiet_zone, enlargement}
 use Rattle.picture.specs.declared.quiet_zone.QuietZone.{QuietZone}
@@ -24,17 +28,10 @@ value_at-raster p x y wide high =
     ∙ get_or-map-range_with_len (λ x. p.dark x y) 0 p.width x x false wide (omega arith)
 
 -- what holds of the numbers below n holds of all of them
-pub list_all-range : (f : ℕ → Bool) (a n : ℕ) → ((k : ℕ) → a ≤ k → k < a + n → f k ≡ true)
-    → list_all f (range_with_len a n) ≡ true
-list_all-range f a zero each = refl
-list_all-range f a (suc n) each = rw (
-  each a (omega arith) (omega arith),
-  list_all-range f (a + 1) n
-      (λ k low high. each k (omega arith) (omega arith)),
-) refl
-
-pub list_all-below : (f : ℕ → Bool) (n : ℕ) → ((k : ℕ) → k < n → f k ≡ true) → list_all f (below n) ≡ true
-list_all-below f n each = list_all-range f 0 n (λ k low high. each k (omega arith))
+list_all-below : (f : ℕ → Bool) (n : ℕ) → ((k : ℕ) → k < n → f k ≡ true) → list_all f (below n) ≡ true
+list_all-below f n each = list_all-from_AllPass f (below n) (All-from_get_or (λ k. f k ≡ true) (below n) 0 (λ i h.
+    let inside : i < n = omega (arith, h, length-range_with_len 0 n) in
+    rw (get_or-range_with_len 0 n i 0 inside, zero-add i) (each i inside)))
 
 pub map-range : {X : Type 0} (f g : ℕ → X) (a n : ℕ) → ((k : ℕ) → a ≤ k → k < a + n → f k ≡ g k)
     → map f (range_with_len a n) ≡ map g (range_with_len a n)
@@ -74,11 +71,7 @@ cell-enlargement p scale column row wide high some =
 
 -- a test of a picture in its quiet zone, by the picture within
 nat_lt-add : (a b c : ℕ) → nat_lt (a + c) (b + c) ≡ nat_lt a b
-nat_lt-add a b c = elim (cases_lt a b) [
-  | inl h ↦ lt-ltb (a + c) (b + c) (omega arith)
-      ∙ sym (lt-ltb a b h)
-  | inr h ↦ le-ltb (a + c) (b + c) (omega arith) ∙ sym (le-ltb a b h)
-]
+nat_lt-add a b c = grind (arith, nat_tests)
 
 inside_twice : (inside other dark : Bool) → other ≡ inside → beq (inside && dark) (other && (inside && dark)) ≡ true
 inside_twice true other dark e = rw e (beq-same dark)
@@ -100,16 +93,7 @@ pub dark-with_quiet_zone : (p : Picture) (zone : QuietZone) (column row : ℕ) �
 dark-with_quiet_zone p zone column row wide high =
     let x : (zone.left + column) - zone.left ≡ column = omega arith in
     let y : (zone.top + row) - zone.top ≡ row = omega arith in
-    rw (
-      le-leb zone.left (zone.left + column) (omega arith),
-      lt-ltb (zone.left + column) (zone.left + p.width)
-          (omega arith),
-      le-leb zone.top (zone.top + row) (omega arith),
-      lt-ltb (zone.top + row) (zone.top + p.height)
-          (omega arith),
-      x,
-      y,
-    ) refl
+    rw (x, y) (grind (arith, nat_tests))
 
 are_cells-enlargement : (p : Picture) (zone : QuietZone) (scale : ℕ) → 0 < scale
     → are_cells (raster (enlargement (with_quiet_zone p zone) scale)) scale zone (with_quiet_zone p zone).width

@@ -1,6 +1,6 @@
-use Rattle.std.proofs.Common.{◌≡◌, ◌∙◌, ℕ, Bool, false, List, ap, arith}
+use Rattle.std.proofs.Common.{◌≡◌, ◌∙◌, ℕ, Bool, false, List, ap, arith, inl, inr}
 use Rattle.std.proofs.Math.ListN.{replicate}
-use Rattle.picture.proofs.GridLaws.{pixel_row-above, pixel_row-below, put_mid-pixel_row}
+use Rattle.picture.proofs.GridLaws.{pixel_row-light, put_mid-pixel_row}
 use Rattle.picture.proofs.framed.FramedGrid.read_row.Goals as goal
 use Rattle.picture.proofs.framed.FramedGrid.read_row.Goals.{else-self-y-via-then-self-y+else-y-self}
 use Rattle.picture.proofs.framed.FramedGrid.read_row.Goals.{else-self-y-via-else-self-y}
@@ -20,6 +20,6 @@ returns-else-self-y g c =
     let p = g.G.Grid.picture c.args.self.now.grid in
     let zone = c.args.self.now.zone in
     light_row (c.fill.ensures.after (λ y e. e)) c.requires.whole ∙ elim c.else-self-y.branch [
-      | else-self-y-via-then-self-y+else-y-self w ↦ pixel_row-below p zone c.args.y (omega (arith, w.height.ensures))
-      | else-self-y-via-else-self-y w ↦ pixel_row-above p zone c.args.y (omega arith)
+      | else-self-y-via-then-self-y+else-y-self w ↦ pixel_row-light p zone c.args.y (inr (omega (arith, w.height.ensures)))
+      | else-self-y-via-else-self-y w ↦ pixel_row-light p zone c.args.y (inl (omega arith))
     ]
