@@ -11,7 +11,7 @@ returns-in_err-write_letters g c =
     let n = c.args.len in
     WritesText-begun g.S.Sink _ _ (flat_map ascii_pixel (take (n / 2) ps))
     (flat_map ascii_pixel (slice_range ps (n / 2) n)) _
-    c.from_residual.result c.from_residual.ensures.0 (sym (ascii_halves ps (n / 2) n (omega arith) (omega arith)))
+    c.from_residual.result c.from_residual.ensures.0 (sym (ascii_halves ps (n / 2) n (omega arith)))
     c.in_err-write_letters.ensures
 
 pub returns : goal.returns
@@ -21,5 +21,5 @@ returns g c =
     WritesText-last g.S.Sink g.met.S.Sink.took_joined _ _ _
     (flat_map ascii_pixel (take (n / 2) ps)) (flat_map ascii_pixel (slice_range ps (n / 2) n))
     _ c.write_letters-2.result
-    (ascii_halves ps (n / 2) n (omega arith) (omega arith))
+    (ascii_halves ps (n / 2) n (omega arith))
     (HasWritten-call g.S.Sink _ _ _ c.in_ok-write_letters.ensures) c.write_letters-2.ensures
