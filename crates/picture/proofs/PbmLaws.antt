@@ -1,5 +1,5 @@
 -- A plain PBM file reads back as the picture's pixels.
-use Rattle.std.proofs.Common.{◌≡◌, ◌==◌, ℕ, suc, Bool, false, ◌+◌, true, List, [], ◌∷◌, ◌++◌, length, nat_le}
+use Rattle.std.proofs.Common.{◌≡◌, ◌==◌, ℕ, suc, Bool, false, ◌+◌, ◌*◌, true, List, [], ◌∷◌, ◌++◌, length, nat_le}
 use Rattle.std.proofs.Common.{take}
 use Rattle.std.proofs.Common.{drop, map, flat_map, refl, ap, sym, ◌∙◌, arith, codes, decimal, Some, append_assoc}
 use Rattle.std.specs.List.{prefix_len, list_all}
@@ -9,8 +9,8 @@ use Rattle.std.proofs.lemmas.Bool.{eq-eqb, ne_eqb}
 use Rattle.std.proofs.lemmas.List.FromFn.{length-range_with_len}
 use Rattle.picture.specs.Picture.{Picture}
 use Rattle.picture.specs.ReadingLaws.{TextsAreRead, IsDrawable}
-use Rattle.picture.specs.Text.{below, pixel_row, pbm_digit, pbm_row, pbm_text}
-use Rattle.picture.specs.Reading.{is_white, raster_of, pbm_pixels, after_white, leading_number}
+use Rattle.picture.specs.Text.{below, pbm_digit, pbm_row, pbm_text}
+use Rattle.picture.specs.Reading.{is_white, raster, raster_of, pbm_pixels, after_white, leading_number}
 use Rattle.picture.proofs.RasterLaws.{strip, pixels, strip-pbm_rows, all_digits, length-digits, rows-digits}
 use Rattle.picture.proofs.HeaderLaws.{leading_number-decimal, after_white-decimal}
 use Rattle.picture.proofs.PbmLineLaws.{short_lines}
@@ -28,11 +28,10 @@ unfolding pbm_pixels
 pbm_pixels-steps text first second third fourth rest width height short magic one two three four five =
     rw (short, magic, one, two, three, four, five) refl
 
-raster_of-digits : (p : Picture) (ys : List ℕ) → p.height ≡ length ys →
-    raster_of p.width p.height (map pbm_digit (pixels p ys))
-    ≡ Some (record { width = p.width; height = p.height; rows = map (pixel_row p) ys })
-raster_of-digits p ys e =
-    rw (e, all_digits (pixels p ys), eq-eqb _ _ (length-digits p ys), rows-digits p ys) refl
+raster_of-digits : (p : Picture) → raster_of p.width p.height (map pbm_digit (pixels p (below p.height))) ≡ Some (raster p)
+raster_of-digits p =
+    let size = length-digits p (below p.height) ∙ ap (λ (n : ℕ). p.width * n) (length-range_with_len 0 p.height) in
+    rw (all_digits (pixels p (below p.height)), eq-eqb _ _ size, rows-digits p) refl
 
 -- the text after the white space at its front
 abbrev drop_white : List ℕ → List ℕ
@@ -77,4 +76,4 @@ pbm_pixels-pbm_text p drawable =
     (after_white-decimal p.height 32 (10 ∷ body) high refl) (leading_number-decimal p.height 10 body high refl)
     (after_white-white 10 body refl)
     ∙ ap (raster_of p.width p.height) (strip-drop_white (10 ∷ body) ∙ strip-pbm_rows p (below p.height))
-    ∙ raster_of-digits p (below p.height) (sym (length-range_with_len 0 p.height))
+    ∙ raster_of-digits p

@@ -7,7 +7,7 @@ use Rattle.device.specs.Sink.{RepeatsBytes}
 use Rattle.device.specs.Writing.{WritesText}
 use Rattle.device.specs.declared.sink.Sink.{Ghosts}
 use Rattle.picture.specs.Private.Rows.{EndsWith, repeated}
-use Rattle.picture.proofs.WritingLaws.{flat_map-below_add, flat_map-below_more}
+use Rattle.picture.proofs.WritingLaws.{flat_map-below_add, flat_map-below_more, flat_map-below_suc}
 
 -- one text for each of n numbers, from a or from y on
 pub same_texts : (f : ℕ → List ℕ) (text : List ℕ) (a y n : ℕ) → ((k : ℕ) → y ≤ k → k < y + n → text ≡ f k)
@@ -25,10 +25,7 @@ repeated-add text n m = flat_map-below_add (λ _. text) n m
 pub length-repeated : (text : List ℕ) (n : ℕ) → length (repeated n text) ≡ n * length text
 length-repeated text zero = omega arith
 length-repeated text (suc n) =
-    let next : suc n ≡ n + 1 = omega arith in
-    let more : length (repeated (n + 1) text) ≡ length (repeated n text) + length text =
-    ap length (flat_map-below_more (λ _. text) n) ∙ length-append (repeated n text) text in
-    ap (λ (k : ℕ). length (repeated k text)) next ∙ omega (arith, more, length-repeated text n)
+    rw (flat_map-below_suc (λ _. text) n) (simp length-append (omega (arith, length-repeated text n)))
 
 -- a text that was written n times was written m times last
 pub EndsWith-repeated : {S : Type 0} (took : S → S → List ℕ → Type 0) (s t : S) (text : List ℕ) (n m : ℕ) → m ≤ n

@@ -1,6 +1,6 @@
 -- The texts of rows, piece by piece.
 use Rattle.std.proofs.Common.{◌≡◌, ℕ, suc, zero, ◌+◌, ◌-◌, ◌*◌, ◌<◌, ◌≤◌, min, Bool, List, [], ◌∷◌, ◌++◌, refl, ap, sym}
-use Rattle.std.proofs.Common.{subst, ◌∙◌, arith, flat_map, map, length, take, drop, zero-add, add-zero}
+use Rattle.std.proofs.Common.{◌∙◌, arith, flat_map, map, length, take, drop, zero-add, add-zero}
 use Rattle.std.proofs.Common.{false}
 use Rattle.std.specs.Int.{div_ceil}
 use Rattle.std.specs.List.{range_with_len}
@@ -9,6 +9,7 @@ use Rattle.std.proofs.lemmas.List.{append-nil, take_all, take-take}
 use Rattle.std.proofs.lemmas.List.{length-take}
 use Rattle.std.proofs.lemmas.Slice.{between_is}
 use Rattle.std.proofs.lemmas.Grind.{flat_map-append}
+use Rattle.std.proofs.lemmas.List.Folds.{flat_map-map}
 use Rattle.std.proofs.lemmas.List.FromFn.{get_or-map-range_with_len, length-map-range_with_len}
 use Rattle.std.proofs.lemmas.List.{get_or-drop, get_or-take, length-drop, length-take-le, take_min}
 use Rattle.std.proofs.Math.Seq.{take-add}
@@ -27,15 +28,16 @@ range_with_len-add a (suc n) m =
 -- the texts of the numbers below n + m
 pub flat_map-below_add : (f : ℕ → List ℕ) (n m : ℕ) → flat_map f (below (n + m))
     ≡ flat_map f (below n) ++ flat_map f (range_with_len n m)
-flat_map-below_add f n m =
-    ap (flat_map f) (range_with_len-add 0 n m)
-    ∙ (flat_map-append f (below n) (range_with_len (0 + n) m)
-    ∙ ap (λ (k : ℕ). flat_map f (below n) ++ flat_map f (range_with_len k m)) (zero-add n))
+flat_map-below_add f n m = rw (range_with_len-add 0 n m, zero-add n) (flat_map-append f (below n) (range_with_len n m))
 
 -- the text of one number more
 pub flat_map-below_more : (f : ℕ → List ℕ) (n : ℕ) → flat_map f (below (n + 1)) ≡ flat_map f (below n) ++ f n
 flat_map-below_more f n =
     flat_map-below_add f n 1 ∙ ap (λ (xs : List ℕ). flat_map f (below n) ++ xs) (append-nil (f n))
+
+pub flat_map-below_suc : (f : ℕ → List ℕ) (n : ℕ) → flat_map f (below (suc n)) ≡ flat_map f (below n) ++ f n
+flat_map-below_suc f n =
+    let next : suc n ≡ n + 1 = omega arith in ap (λ (k : ℕ). flat_map f (below k)) next ∙ flat_map-below_more f n
 
 -- the texts of the numbers below n are a front of those below a larger number
 pub flat_map-below_front : (f : ℕ → List ℕ) (n all : ℕ) → n ≤ all
@@ -94,22 +96,17 @@ pub pieces_joined : (text : List Bool → List ℕ) → text [] ≡ []
 pieces_joined text none joined row zero = sym none
 pieces_joined text none joined row (suc k) =
     let next : suc k ≡ k + 1 = omega arith in
-    subst (λ n. flat_map (λ k. text (piece row k)) (below n) ≡ text (take (70 * n) row)) (sym next)
-    (rw (
-      flat_map-below_more (λ k. text (piece row k)) k,
+    rw (
+      flat_map-below_suc (λ k. text (piece row k)) k,
       pieces_joined text none joined row k,
+      next,
       take_piece row k,
       joined (take (70 * k) row) (piece row k),
-    ) refl)
+    ) refl
 
 pub letters_of_pieces : (row : List Bool) (k : ℕ) → flat_map (λ k. flat_map ascii_pixel (piece row k)) (below k)
     ≡ flat_map ascii_pixel (take (70 * k) row)
 letters_of_pieces = pieces_joined (flat_map ascii_pixel) refl (flat_map-append ascii_pixel)
-
-letters_of_row : (dark : ℕ → Bool) (xs : List ℕ) → flat_map ascii_pixel (map dark xs)
-    ≡ flat_map (λ x. ascii_pixel (dark x)) xs
-letters_of_row dark [] = refl
-letters_of_row dark (x ∷ xs) = rw (letters_of_row dark xs) refl
 
 -- the letters of a row are those of its pieces
 pub ascii_rows : (p : Picture) (ys : List ℕ) → flat_map
@@ -120,5 +117,5 @@ ascii_rows p (y ∷ ys) =
     let letters : flat_map (λ k. flat_map ascii_pixel (piece row k)) (below (div_ceil (length row) 70))
     ≡ flat_map (λ x. ascii_pixel (p.dark x y)) (below p.width) =
     letters_of_pieces row (div_ceil (length row) 70)
-    ∙ (ap (flat_map ascii_pixel) (all_pieces row) ∙ letters_of_row (λ x. p.dark x y) (below p.width)) in
+    ∙ (ap (flat_map ascii_pixel) (all_pieces row) ∙ flat_map-map ascii_pixel (λ x. p.dark x y) (below p.width)) in
     rw (letters, ascii_rows p ys) refl
