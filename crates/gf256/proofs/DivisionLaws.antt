@@ -1,6 +1,5 @@
 -- The shift register divides by the generator, and the remainder is the only one.
-use Rattle.std.proofs.Common.{◌≡◌, ℕ, zero, suc, ◌+◌, ◌<◌, ◌≤◌, List, [], ◌∷◌, ◌++◌, length, refl, sym, ap, ◌∙◌}
-use Rattle.std.proofs.Common.{arith}
+use Rattle.std.proofs.Common.{◌≡◌, ℕ, zero, suc, ◌+◌, ◌<◌, ◌≤◌, List, [], ◌∷◌, ◌++◌, length, refl, sym, ap, ◌∙◌, arith}
 use Rattle.std.specs.Prelude.{bit_xor, All}
 use Rattle.std.specs.Int.Bits.{xor_zero_r}
 use Rattle.std.proofs.lemmas.List.{length-append, append-nil, append_assoc}
@@ -11,9 +10,9 @@ use Rattle.gf256.specs.ErrorCorrection.{next_register, register_after}
 use Rattle.gf256.specs.Private.{zeros}
 use Rattle.gf256.specs.Polynomial.{polynomial_sum, scalar_multiple, polynomial_product}
 use Rattle.gf256.proofs.FieldLaws.{field_product-lt, field_product-one_right}
-use Rattle.gf256.proofs.PolynomialSumLaws.{length-append_zeros, length-polynomial_sum, length-scalar_multiple, length-zeros}
-use Rattle.gf256.proofs.PolynomialSumLaws.{polynomial_sum-append, polynomial_sum-assoc, polynomial_sum-comm}
-use Rattle.gf256.proofs.PolynomialSumLaws.{polynomial_sum-twice, polynomial_sum-zeros_left}
+use Rattle.gf256.proofs.PolynomialSumLaws.{length-append_zeros, length-polynomial_sum, length-scalar_multiple}
+use Rattle.gf256.proofs.PolynomialSumLaws.{length-zeros, polynomial_sum-append, polynomial_sum-assoc}
+use Rattle.gf256.proofs.PolynomialSumLaws.{polynomial_sum-comm, polynomial_sum-twice, polynomial_sum-zeros_left}
 
 -- a register for the division by x^k + low: k elements
 pub record IsRegister (low register : List ℕ) : Type 0 where

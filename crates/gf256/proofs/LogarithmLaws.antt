@@ -1,7 +1,6 @@
 -- The tables hold the powers of 2 and their logarithms: tests computed over the whole tables.
-use Rattle.std.proofs.Common.{◌≡◌, ℕ, zero, suc, ◌+◌, ◌*◌, ◌/◌, ◌%◌, ◌<◌, ◌≤◌, true}
-use Rattle.std.proofs.Common.{false, ◌||◌, ◌==◌, get_or, refl, sym, ap, ◌∙◌, arith}
-use Rattle.std.proofs.Common.{eqb-true, ne_eqb}
+use Rattle.std.proofs.Common.{◌≡◌, ℕ, zero, suc, ◌+◌, ◌*◌, ◌/◌, ◌%◌, ◌<◌, ◌≤◌, true, false, ◌||◌, ◌==◌, get_or, refl}
+use Rattle.std.proofs.Common.{sym, ap, ◌∙◌, arith, eqb-true, ne_eqb}
 use Rattle.gf256.specs.BinaryPolynomial.{binary_product, binary_remainder}
 use Rattle.gf256.specs.Field.{field_product, field_power}
 use Rattle.gf256.specs.declared.tables.TheConstants.{POWERS, LOGARITHMS}

@@ -1,6 +1,6 @@
 -- The multiples of a polynomial in tables, and what the code writes, as lists.
-use Rattle.std.proofs.Common.{◌≡◌, ℕ, zero, suc, ◌+◌, ◌-◌, ◌*◌, ◌/◌, ◌%◌, ◌^◌, ◌<◌, ◌≤◌, List, [], ◌∷◌, ◌++◌, length, take}
-use Rattle.std.proofs.Common.{drop, map, get_or, set, refl, sym, ap, ◌∙◌, arith, eqb-true, true, ◌==◌}
+use Rattle.std.proofs.Common.{◌≡◌, ℕ, zero, suc, ◌+◌, ◌-◌, ◌*◌, ◌/◌, ◌%◌, ◌^◌, ◌<◌, ◌≤◌, List, [], ◌∷◌, ◌++◌, length}
+use Rattle.std.proofs.Common.{take, drop, map, get_or, set, refl, sym, ap, ◌∙◌, arith, eqb-true, true, ◌==◌}
 use Rattle.std.specs.Prelude.{bit_xor, All}
 use Rattle.std.specs.Int.Bits.{xor_comm, xor_shifted}
 use Rattle.std.specs.List.{range_with_len}
@@ -19,8 +19,8 @@ use Rattle.gf256.proofs.AllBelowLaws.{all_below, all_below-at}
 use Rattle.gf256.proofs.DistributivityLaws.{field_product-xor_left, field_product-zero_left, field_product-zero_right}
 use Rattle.gf256.proofs.FieldLaws.{field_product-assoc, field_product-two_small}
 use Rattle.gf256.proofs.EvaluationLaws.{field_product-one_left}
-use Rattle.gf256.proofs.PolynomialSumLaws.{length-append_zeros, length-polynomial_sum, length-zeros, polynomial_sum-assoc}
-use Rattle.gf256.proofs.PolynomialSumLaws.{length-scalar_multiple, polynomial_sum-comm}
+use Rattle.gf256.proofs.PolynomialSumLaws.{length-append_zeros, length-polynomial_sum, length-zeros}
+use Rattle.gf256.proofs.PolynomialSumLaws.{polynomial_sum-assoc, length-scalar_multiple, polynomial_sum-comm}
 use Rattle.gf256.proofs.DivisionLaws.{length-next_register, next_register-append_zeros}
 use Rattle.gf256.proofs.GeneratorLaws.{length-low_of, low_of}
 

@@ -1,6 +1,6 @@
 -- Text pictures, read back and cut from a stream.
-use Rattle.std.proofs.Common.{slice_index_or, ◌≡◌, ℕ, suc, ◌-◌, ◌<◌, Bool, true, false, not, ◌==◌, List, [], ◌∷◌}
-use Rattle.std.proofs.Common.{◌++◌, length, map, refl, ap, sym, subst, ◌∙◌, arith, flat_map, codes, append_assoc, Some}
+use Rattle.std.proofs.Common.{slice_index_or, ◌≡◌, ℕ, suc, ◌-◌, ◌<◌, Bool, true, false, not, ◌==◌, List, [], ◌∷◌, ◌++◌}
+use Rattle.std.proofs.Common.{length, map, refl, ap, sym, subst, ◌∙◌, arith, flat_map, codes, append_assoc, Some}
 use Rattle.std.specs.List.{list_all}
 use Rattle.std.specs.Str.{bytes_eq}
 use Rattle.std.proofs.lemmas.List.Folds.{flat_map-map, list_all-append}

@@ -1,6 +1,6 @@
 -- Worked pictures, computed.
-use Rattle.std.specs.Prelude.{◌≡◌, ℕ, ◌/◌, ◌%◌, Bool, ◌==◌, not, List, [], ◌∷◌, ◌++◌, map, length, codes, refl, true, false}
-use Rattle.std.specs.Prelude.{Some, None, replicate, take, slice_set, slice_index_or}
+use Rattle.std.specs.Prelude.{◌≡◌, ℕ, ◌/◌, ◌%◌, Bool, ◌==◌, not, List, [], ◌∷◌, ◌++◌, map, length, codes, refl, true}
+use Rattle.std.specs.Prelude.{false, Some, None, replicate, take, slice_set, slice_index_or}
 use Rattle.std.specs.List.{range_with_len}
 use Rattle.std.specs.Fmt.{digits}
 use Rattle.device.specs.Lines.{lines, ended_lines, open_line}

@@ -1,12 +1,12 @@
 -- Rows of pixels, by their columns.
-use Rattle.std.proofs.Common.{◌≡◌, ℕ, ◌+◌, ◌-◌, ◌*◌, ◌/◌, ◌%◌, ◌<◌, ◌≤◌, Bool, false, List, ◌++◌, map}
-use Rattle.std.proofs.Common.{length, drop, length-append, length-drop, zero-add, refl, ap, sym}
-use Rattle.std.proofs.Common.{◌∙◌, arith, inl, inr, rules, ◌⊎◌}
+use Rattle.std.proofs.Common.{◌≡◌, ℕ, ◌+◌, ◌-◌, ◌*◌, ◌/◌, ◌%◌, ◌<◌, ◌≤◌, Bool, false, List, ◌++◌, map, length, drop}
+use Rattle.std.proofs.Common.{length-append, length-drop, zero-add, refl, ap, sym, ◌∙◌, arith, inl, inr, rules, ◌⊎◌}
 use Rattle.std.proofs.Math.ListN.{get_or, replicate}
 use Rattle.std.proofs.lemmas.Bool.{cases_lt}
 use Rattle.std.proofs.lemmas.Bool.Decides.{nat_tests}
 use Rattle.std.specs.List.{range_with_len}
-use Rattle.std.proofs.lemmas.List.{get_or_append_left, get_or_default, get_or-replicate, length-replicate, places, same_lists}
+use Rattle.std.proofs.lemmas.List.{get_or_append_left, get_or_default, get_or-replicate, length-replicate, places}
+use Rattle.std.proofs.lemmas.List.{same_lists}
 use borrow.Rule.Slice.PartMut.{put_mid}
 use Rattle.std.proofs.lemmas.Nat.{div_below, div-add-mod', div-mul-add, le-div, mul-le}
 use Rattle.std.proofs.lemmas.List.FromFn.{length-map-range_with_len, get_or-map-range_with_len}

@@ -1,6 +1,6 @@
 -- The lengths of the texts of rows.
-use Rattle.std.proofs.Common.{◌≡◌, ℕ, suc, zero, ◌+◌, ◌*◌, Bool, List, [], ◌∷◌, refl, ap, ◌∙◌, arith, flat_map}
-use Rattle.std.proofs.Common.{length, take, length-append}
+use Rattle.std.proofs.Common.{◌≡◌, ℕ, suc, zero, ◌+◌, ◌*◌, Bool, List, [], ◌∷◌, refl, ap, ◌∙◌, arith, flat_map, length}
+use Rattle.std.proofs.Common.{take, length-append}
 use Rattle.std.specs.Int.{div_ceil}
 use Rattle.std.proofs.lemmas.List.{append-nil, length-map}
 use Rattle.picture.specs.Private.Rows.{piece, row_text}

@@ -1,10 +1,10 @@
 -- A plain PBM file reads back as the picture's pixels.
-use Rattle.std.proofs.Common.{◌≡◌, ◌==◌, ℕ, suc, Bool, false, ◌+◌, ◌*◌, true, List, [], ◌∷◌, ◌++◌, length, nat_le}
-use Rattle.std.proofs.Common.{take}
-use Rattle.std.proofs.Common.{drop, map, flat_map, refl, ap, sym, ◌∙◌, arith, codes, decimal, Some, append_assoc}
+use Rattle.std.proofs.Common.{◌≡◌, ◌==◌, ℕ, suc, Bool, false, ◌+◌, ◌*◌, true, List, [], ◌∷◌, ◌++◌, length, nat_le, drop}
+use Rattle.std.proofs.Common.{map, flat_map, refl, ap, sym, ◌∙◌, arith, decimal, Some, append_assoc}
 use Rattle.std.specs.List.{prefix_len, list_all}
 use Rattle.device.specs.Lines.{lines}
-use Rattle.std.specs.Str.{bytes_eq}
+use Rattle.std.specs.Char.{is_digit}
+use Rattle.qrdata.specs.Steps.{◌>>=◌}
 use Rattle.std.proofs.lemmas.Bool.{eq-eqb, ne_eqb}
 use Rattle.std.proofs.lemmas.List.FromFn.{length-range_with_len}
 use Rattle.picture.specs.Picture.{Picture}
@@ -12,21 +12,8 @@ use Rattle.picture.specs.ReadingLaws.{TextsAreRead, IsDrawable}
 use Rattle.picture.specs.Text.{below, pbm_digit, pbm_row, pbm_text}
 use Rattle.picture.specs.Reading.{is_white, raster, raster_of, pbm_pixels, after_white, leading_number}
 use Rattle.picture.proofs.RasterLaws.{strip, pixels, strip-pbm_rows, all_digits, length-digits, rows-digits}
-use Rattle.picture.proofs.HeaderLaws.{leading_number-decimal, after_white-decimal}
+use Rattle.picture.proofs.HeaderLaws.{number_after_white}
 use Rattle.picture.proofs.PbmLineLaws.{short_lines}
-
--- a text that passes the two tests and the five readings of pbm_pixels has the pixels of what the last one leaves
--- there is a fact for each of the seven, and a value for each text that is left, as the next reading begins with it:
--- read_back, the only caller, proves each fact by itself, and the proof rewrites by all of them
-pbm_pixels-steps : (text first second third fourth rest : List ℕ) (width height : ℕ) →
-    list_all (λ line. nat_le (length line) 70) (lines text) ≡ true → bytes_eq (take 2 text) (codes "P1") ≡ true → after_white (drop 2 text) ≡ Some first →
-    leading_number first ≡ Some (width, second) → after_white second ≡ Some third
-    → leading_number third ≡ Some (height, fourth)
-    → after_white fourth ≡ Some rest →
-    pbm_pixels text ≡ raster_of width height (strip rest)
-unfolding pbm_pixels
-pbm_pixels-steps text first second third fourth rest width height short magic one two three four five =
-    rw (short, magic, one, two, three, four, five) refl
 
 raster_of-digits : (p : Picture) → raster_of p.width p.height (map pbm_digit (pixels p (below p.height))) ≡ Some (raster p)
 raster_of-digits p =
@@ -52,6 +39,23 @@ strip-drop_white (b ∷ text) = by_test (strip-drop_white text) (is_white b) ref
   by_test same true e = let more : 1 + prefix_len is_white text ≡ suc (prefix_len is_white text) = omega arith in
       rw (e, more) same
 
+-- a text of these parts, where each number is read with what is before it
+read_sizes : (w h body : List ℕ) (width height : ℕ)
+    → list_all (λ line. nat_le (length line) 70) (lines (80 ∷ 49 ∷ 10 ∷ (w ++ 32 ∷ (h ++ 10 ∷ body)))) ≡ true
+    → ((c : ℕ) (rest : List ℕ) → is_digit c 10 ≡ false
+    → (after_white (10 ∷ w ++ c ∷ rest) >>= leading_number) ≡ Some (width, c ∷ rest))
+    → ((c : ℕ) (rest : List ℕ) → is_digit c 10 ≡ false
+    → (after_white (32 ∷ h ++ c ∷ rest) >>= leading_number) ≡ Some (height, c ∷ rest))
+    → pbm_pixels (80 ∷ 49 ∷ 10 ∷ (w ++ 32 ∷ (h ++ 10 ∷ body))) ≡ raster_of width height (strip body)
+unfolding pbm_pixels
+read_sizes w h body width height short wide high = rw (
+  short,
+  wide 32 (h ++ 10 ∷ body) refl,
+  high 10 body refl,
+  after_white-white 10 body refl,
+  strip-drop_white (10 ∷ body),
+) refl
+
 -- the text, line by line
 grouped : (w h body : List ℕ) → ((((80 ∷ 49 ∷ 10 ∷ []) ++ w) ++ (32 ∷ [])) ++ h) ++ (10 ∷ []) ++ body
     ≡ 80 ∷ 49 ∷ 10 ∷ (w ++ 32 ∷ (h ++ 10 ∷ body))
@@ -60,20 +64,11 @@ grouped w h body = simp append_assoc
 -- a plain PBM file reads back as the picture's pixels
 pub pbm_pixels-pbm_text : TextsAreRead pbm_text pbm_pixels IsDrawable
 pbm_pixels-pbm_text p drawable =
-    let wide = drawable.wide in
-    let high = drawable.high in
-    let body = flat_map (pbm_row p) (below p.height) in
     let w = decimal p.width in
     let h = decimal p.height in
-    let text = 80 ∷ 49 ∷ 10 ∷ (w ++ 32 ∷ (h ++ 10 ∷ body)) in
-    let short = ap (λ t. list_all (λ line. nat_le (length line) 70) (lines t)) (sym (grouped w h body))
-    ∙ short_lines p drawable in
+    let body = flat_map (pbm_row p) (below p.height) in
     ap pbm_pixels (grouped w h body)
-    ∙ pbm_pixels-steps text (w ++ 32 ∷ (h ++ 10 ∷ body)) (32 ∷ (h ++ 10 ∷ body)) (h ++ 10 ∷ body) (10 ∷ body)
-    (drop_white (10 ∷ body)) p.width p.height
-    short refl (after_white-decimal p.width 10 (32 ∷ (h ++ 10 ∷ body)) wide refl)
-    (leading_number-decimal p.width 32 (h ++ 10 ∷ body) wide refl)
-    (after_white-decimal p.height 32 (10 ∷ body) high refl) (leading_number-decimal p.height 10 body high refl)
-    (after_white-white 10 body refl)
-    ∙ ap (raster_of p.width p.height) (strip-drop_white (10 ∷ body) ∙ strip-pbm_rows p (below p.height))
-    ∙ raster_of-digits p
+    ∙ read_sizes w h body p.width p.height (ap (λ t. list_all (λ line. nat_le (length line) 70) (lines t))
+    (sym (grouped w h body)) ∙ short_lines p drawable)
+    (number_after_white p.width 10 drawable.wide refl) (number_after_white p.height 32 drawable.high refl)
+    ∙ ap (raster_of p.width p.height) (strip-pbm_rows p (below p.height)) ∙ raster_of-digits p

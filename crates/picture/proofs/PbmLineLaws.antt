@@ -1,6 +1,6 @@
 -- The lines of a plain PBM file.
-use Rattle.std.proofs.Common.{◌≡◌, ℕ, ◌≤◌, Bool, true, false, not, ◌||◌, ◌==◌, List, [], ◌∷◌, ◌++◌, length, map}
-use Rattle.std.proofs.Common.{refl, ◌∙◌, ◌*◌, ap, arith, append_assoc, length-append, decimal, flat_map, nat_le, drop, codes}
+use Rattle.std.proofs.Common.{◌≡◌, ℕ, ◌≤◌, Bool, true, false, not, ◌||◌, ◌==◌, List, [], ◌∷◌, ◌++◌, length, map, refl}
+use Rattle.std.proofs.Common.{◌∙◌, ◌*◌, ap, arith, append_assoc, length-append, decimal, flat_map, nat_le, drop, codes}
 use Rattle.std.specs.Int.{div_ceil}
 use Rattle.std.specs.List.{list_all}
 use Rattle.std.specs.Str.{bytes_eq}

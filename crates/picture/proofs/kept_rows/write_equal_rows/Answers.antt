@@ -1,9 +1,8 @@
-use Rattle.std.proofs.Common.{◌≡◌, ◌+◌, ◌*◌, ◌^◌, ◌<◌, ◌≤◌, ◌++◌, ◌∙◌, ℕ, List, [], ap, subst, sym, arith, length, max, take}
-use Rattle.std.proofs.Common.{append-nil}
+use Rattle.std.proofs.Common.{◌≡◌, ◌+◌, ◌*◌, ◌^◌, ◌<◌, ◌≤◌, ◌++◌, ◌∙◌, ℕ, List, [], ap, subst, sym, arith, length, max}
+use Rattle.std.proofs.Common.{take, append-nil}
 use Rattle.std.proofs.lemmas.Nat.{mul-le}
 use Rattle.std.proofs.lemmas.List.{length-take-le}
-use Rattle.device.proofs.WritingLaws.{HasWritten, HasWritten-call, WritesText-begun}
-use Rattle.device.proofs.WritingLaws.{WritesText-whole}
+use Rattle.device.proofs.WritingLaws.{HasWritten, HasWritten-call, WritesText-begun, WritesText-whole}
 use Rattle.picture.specs.Private.Rows.{repeated, row_text}
 use Rattle.picture.proofs.RepeatedLaws.{EndsWith-repeated, length-repeated, repeated-add}
 use Rattle.picture.proofs.WritingLaws.{flat_map-below_front}

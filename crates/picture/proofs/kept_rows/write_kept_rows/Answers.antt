@@ -1,5 +1,5 @@
-use Rattle.std.proofs.Common.{◌≡◌, ◌+◌, ◌++◌, ◌∙◌, ℕ, Bool, List, [], append-nil, ap, refl, sym}
-use Rattle.std.proofs.Common.{arith, flat_map, take, length, length-append, length-drop}
+use Rattle.std.proofs.Common.{◌≡◌, ◌+◌, ◌++◌, ◌∙◌, ℕ, Bool, List, [], append-nil, ap, refl, sym, arith, flat_map, take}
+use Rattle.std.proofs.Common.{length, length-append, length-drop}
 use Rattle.std.proofs.lemmas.List.{take_at}
 use Rattle.std.proofs.lemmas.List.FromFn.{length-map-range_with_len}
 use Rattle.device.proofs.WritingLaws.{HasWritten-none, WritesText-whole}

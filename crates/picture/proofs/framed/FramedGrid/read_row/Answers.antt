@@ -1,9 +1,9 @@
 use Rattle.std.proofs.Common.{◌≡◌, ◌∙◌, ℕ, Bool, false, List, ap, arith, inl, inr}
 use Rattle.std.proofs.Math.ListN.{replicate}
 use Rattle.picture.proofs.GridLaws.{pixel_row-light, put_mid-pixel_row}
-use Rattle.picture.proofs.framed.FramedGrid.read_row.Goals as goal
 use Rattle.picture.proofs.framed.FramedGrid.read_row.Goals.{else-self-y-via-then-self-y+else-y-self}
 use Rattle.picture.proofs.framed.FramedGrid.read_row.Goals.{else-self-y-via-else-self-y}
+use Rattle.picture.proofs.framed.FramedGrid.read_row.Goals as goal
 
 -- light pixels, as many as there are columns
 light_row : {row : List Bool} {n width : ℕ} → row ≡ replicate n false → n ≡ width → row ≡ replicate width false
