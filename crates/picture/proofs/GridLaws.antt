@@ -8,7 +8,7 @@ use Rattle.std.specs.List.{range_with_len}
 use Rattle.std.proofs.lemmas.List.{get_or_append_left, get_or_default, get_or-replicate, length-replicate, places}
 use Rattle.std.proofs.lemmas.List.{same_lists}
 use borrow.Rule.Slice.PartMut.{put_mid}
-use Rattle.std.proofs.lemmas.Nat.{div_below, div-add-mod', div-mul-add, le-div, mul-le}
+use Rattle.std.proofs.lemmas.Nat.{div_below, div-add-mod', le-div, mul-le}
 use Rattle.std.proofs.lemmas.List.FromFn.{length-map-range_with_len, get_or-map-range_with_len}
 use Rattle.picture.specs.Picture.{AreEqualRows, Picture, with_quiet_zone, enlargement}
 use Rattle.picture.specs.declared.quiet_zone.QuietZone.{QuietZone}
@@ -83,33 +83,6 @@ module _ (p : Picture) (zone : QuietZone) where
         | inr below ↦ grind (arith, nat_tests)
       ])
 
--- each of the first pixels, repeated
-pixel_row-enlargement : (p : Picture) (s y : ℕ) (bs : List Bool) → 0 < s → length bs ≡ p.width * s
-    → ((x : ℕ) → x < p.width → get_or bs x false ≡ p.dark x (y / s)) →
-    map (λ x. get_or bs (x / s) false) (below (length bs)) ≡ pixel_row (enlargement p s) y
-pixel_row-enlargement p s y bs some size each =
-    ap (λ (n : ℕ). map (λ x. get_or bs (x / s) false) (below n)) size
-    ∙ map-range (λ x. get_or bs (x / s) false) (λ x. p.dark (x / s) (y / s)) 0 (p.width * s)
-    (λ x low h. each (x / s) (div_below x s p.width some (omega arith)))
-
--- the squares of a column more
-module _ (before wide next : List Bool) (x s : ℕ) (some : 0 < s)
-    (wider : (k : ℕ) → (x + 1) * s ≤ k → k < length before → get_or wide k false ≡ get_or before (k / s) false)
-    (same : (k : ℕ) → k < (x + 1) * s → get_or wide k false ≡ get_or before k false)
-    (square : (k : ℕ) → x * s ≤ k → k < (x + 1) * s → get_or next k false ≡ get_or wide x false) where
-  pub spread_square : (k : ℕ) → x * s ≤ k → k < (x + 1) * s → get_or next k false ≡ get_or before (k / s) false
-  spread_square k low high =
-      let product : (x + 1) * s ≡ x * s + s = omega arith in
-      let cut : k ≡ x * s + (k - x * s) = omega arith in
-      let column : k / s ≡ x = ap (λ (n : ℕ). n / s) cut ∙ div-mul-add x s (k - x * s) (omega arith) in
-      let least : (x + 1) * 1 ≤ (x + 1) * s = mul-le (x + 1) 1 (x + 1) s (omega arith) (omega arith) in
-      square k low high ∙ (same x (omega arith) ∙ ap (λ (n : ℕ). get_or before n false) (sym column))
-
-  pub spread_more : ((k : ℕ) → (x + 1) * s ≤ k → get_or next k false ≡ get_or wide k false) →
-      (k : ℕ) → x * s ≤ k → k < length before → get_or next k false ≡ get_or before (k / s) false
-  spread_more after k low size = elim (cases_lt k ((x + 1) * s))
-      [ inl h ↦ spread_square k low h | inr h ↦ after k h ∙ wider k h size ]
-
 -- a row of the picture, over light pixels
 -- `light`, `row` and `w` are the results of fill, read_row and width in the read_row of Framed, the only caller: it
 -- has one fact on each by the call, and two on y by its tests against the zone
@@ -151,8 +124,8 @@ pub spread-pixel_row : (p : Picture) (s y : ℕ) (row before : List Bool) (w : �
 spread-pixel_row p s y row before w some width size same =
     let columns : length row ≡ p.width = ap length same ∙ length-map-range_with_len (λ x. p.dark x (y / s)) 0 p.width in
     let least : p.width * 1 ≤ p.width * s = mul-le p.width 1 p.width s (omega arith) (omega arith) in
-    pixel_row-enlargement p s y (row ++ drop w before) some (length-append row (drop w before)
-    ∙ omega (arith, length-drop w before))
-    (λ x h. get_or_append_left row (drop w before) false x (omega arith)
-    ∙ (ap (λ (t : List Bool). get_or t x false) same
-    ∙ get_or-map-range_with_len (λ x. p.dark x (y / s)) 0 p.width x x false h (zero-add x)))
+    let whole : length (row ++ drop w before) ≡ p.width * s = omega (arith, length-append {A = Bool}, length-drop {A = Bool}) in
+    rw whole (map-range _ (λ x. p.dark (x / s) (y / s)) 0 (p.width * s) (λ x _ h.
+    let inside : x / s < p.width = div_below x s p.width some (omega arith) in
+    get_or_append_left row (drop w before) false (x / s) (omega arith)
+    ∙ rw same (get_or-map-range_with_len (λ x. p.dark x (y / s)) 0 p.width (x / s) (x / s) false inside (zero-add (x / s)))))
