@@ -1,27 +1,22 @@
-use Rattle.std.proofs.Common.{◌≡◌, ◌*◌, ◌∙◌, ℕ, List, [], ap, refl, subst, sym, arith, length, take, append-nil}
-use Rattle.std.proofs.lemmas.List.{length-take-le}
+use Rattle.std.proofs.Common.{◌≡◌, ℕ, List, [], refl, subst, sym, arith, take, append-nil}
 use Rattle.device.proofs.WritingLaws.{HasWritten, HasWritten-none, WritesText-whole}
-use Rattle.picture.specs.Private.Rows.{repeated, row_text}
-use Rattle.picture.proofs.RepeatedLaws.{EndsWith-more, WritesText-repeated, length-repeated}
+use Rattle.picture.specs.Private.Rows.{row_text}
+use Rattle.picture.proofs.RepeatedLaws.{EndsWith-more, WritesText-repeated, length-repeated_row}
 use Rattle.picture.proofs.WritingLoopLaws.{below_more, HasWritten-below_more, WritesText-below_fails}
 use Rattle.picture.proofs.kept_rows.repeat_rows.Goals as goal
 
 pub overflow_mul-count : goal.overflow_mul-count
-overflow_mul-count g c =
-    let row = row_text g.T.PixelText.text g.T.PixelText.row_end (take c.args.width c.args.kept.now) in
-    let size = c.row_len.ensures (take c.args.width c.args.kept.now)
-    (length-take-le c.args.width c.args.kept.now (omega arith)) in
-    let whole : length (repeated c.args.count row) ≡ c.args.count * c.row_len.result =
-    length-repeated row c.args.count ∙ ap (λ (n : ℕ). c.args.count * n) size in
-    omega (arith, whole, c.requires.short)
+overflow_mul-count g c = omega (
+  arith,
+  length-repeated_row _ c.args.kept.now c.args.width c.args.count _ (omega arith) c.row_len.ensures,
+  c.requires.short,
+)
 
 pub returns-then-repeat : goal.returns-then-repeat
 returns-then-repeat g c =
-    let row = row_text g.T.PixelText.text g.T.PixelText.row_end (take c.args.width c.args.kept.now) in
-    let size = c.row_len.ensures (take c.args.width c.args.kept.now)
-    (length-take-le c.args.width c.args.kept.now (omega arith)) in
-    WritesText-repeated g.S.Sink _ _ (repeated c.args.count row) _ c.repeat.result tt c.if-repeat.true
-    (length-repeated row c.args.count ∙ ap (λ (n : ℕ). c.args.count * n) size) c.requires.last c.repeat.ensures
+    WritesText-repeated g.S.Sink _ _ _ _ c.repeat.result tt c.if-repeat.true
+    (length-repeated_row _ c.args.kept.now c.args.width c.args.count _ (omega arith) c.row_len.ensures) c.requires.last
+    c.repeat.ensures
 
 pub loop-again-init : goal.loop-again-init
 loop-again-init g c = record {

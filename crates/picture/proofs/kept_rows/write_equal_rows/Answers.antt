@@ -1,10 +1,8 @@
-use Rattle.std.proofs.Common.{◌≡◌, ◌+◌, ◌*◌, ◌^◌, ◌<◌, ◌≤◌, ◌++◌, ◌∙◌, ℕ, List, [], ap, subst, sym, arith, length, max}
-use Rattle.std.proofs.Common.{take, append-nil}
+use Rattle.std.proofs.Common.{◌≡◌, ◌+◌, ◌++◌, ◌∙◌, ℕ, List, [], ap, subst, sym, arith, take, append-nil}
 use Rattle.std.proofs.lemmas.Nat.{mul-le}
-use Rattle.std.proofs.lemmas.List.{length-take-le}
 use Rattle.device.proofs.WritingLaws.{HasWritten, HasWritten-call, WritesText-begun, WritesText-whole}
-use Rattle.picture.specs.Private.Rows.{repeated, row_text}
-use Rattle.picture.proofs.RepeatedLaws.{EndsWith-repeated, length-repeated, repeated-add}
+use Rattle.picture.specs.Private.Rows.{row_text}
+use Rattle.picture.proofs.RepeatedLaws.{EndsWith-repeated, length-repeated_row, repeated-add}
 use Rattle.picture.proofs.WritingLaws.{flat_map-below_front}
 use Rattle.picture.proofs.WritingLoopLaws.{HasWritten-below_more, WritesText-below_fails}
 use Rattle.picture.proofs.kept_rows.write_equal_rows.Goals as goal
@@ -33,18 +31,17 @@ repeat_rows-requires-clause-last g c =
     c.loop-written.invariant.rows.taken
 
 -- a few rows have no more bytes than those that are repeated at once
-few_bytes : (row : List ℕ) (n most size : ℕ) → n ≤ most → length row ≡ size → most * size ≤ max 4096 size
-    → size < 2 ^ 64 → length (repeated n row) < 2 ^ 64
-few_bytes row n most size few e bound fits =
-    let product : n * size ≤ most * size = mul-le n size most size few (omega arith) in
-    let whole : length (repeated n row) ≡ n * size = length-repeated row n ∙ ap (λ (k : ℕ). n * k) e in
-    omega (arith, product, whole, bound, fits)
-
 pub repeat_rows-requires-clause-short : goal.repeat_rows-requires-clause-short
 repeat_rows-requires-clause-short g c =
-    few_bytes _ c.min-rows.result c.rows_at_once-at_once.result c.row_len.result (omega arith)
-    (c.row_len.ensures (take c.args.width c.args.kept.now) (length-take-le c.args.width c.args.kept.now (omega arith)))
-    c.rows_at_once-at_once.ensures.most c.row_len.type_inv
+    let len = c.row_len.result in
+    let few = mul-le c.min-rows.result len c.rows_at_once-at_once.result len (omega arith) (omega arith) in
+    omega (
+      arith,
+      few,
+      length-repeated_row _ c.args.kept.now c.args.width c.min-rows.result len (omega arith) c.row_len.ensures,
+      c.rows_at_once-at_once.ensures.most,
+      c.row_len.type_inv,
+    )
 
 pub returns-in_err-repeat_rows : goal.returns-in_err-repeat_rows
 returns-in_err-repeat_rows g c =

@@ -17,18 +17,15 @@ length-row : (p : Picture) (y : ℕ) (row : List Bool) → row ≡ pixel_row p y
 length-row p y row read = ap length read ∙ length-map-range_with_len (λ x. p.dark x y) 0 p.width
 
 -- the texts of the rows before y, and of the `count` rows from y on, which equal row y
-module _ (text : List Bool → List ℕ) (p : Picture) (y count width : ℕ) (row rest : List Bool) (wide : width ≡ p.width)
-    (read : row ≡ pixel_row p y) (equal : AreEqualRows p y count) where
-  kept_row : take width (row ++ rest) ≡ row
-  kept_row = take_at row rest width (length-row p y row read ∙ sym wide)
-
-  rows_more : flat_map (λ y. text (pixel_row p y)) (below y) ++ repeated count (text (take width (row ++ rest)))
-      ≡ flat_map (λ y. text (pixel_row p y)) (below (y + count))
-  rows_more =
-      let f : ℕ → List ℕ = λ y. text (pixel_row p y) in
-      ap (λ (t : List ℕ). flat_map f (below y) ++ t) (same_texts f (text (take width (row ++ rest))) 0 y count
-      (λ k low high. ap text (kept_row ∙ (read ∙ pixel_row-equal p y count k equal low high))))
-      ∙ sym (flat_map-below_add f y count)
+rows_more : (text : List Bool → List ℕ) (p : Picture) (y count width : ℕ) (row rest : List Bool) → width ≡ p.width
+    → row ≡ pixel_row p y → AreEqualRows p y count
+    → flat_map (λ y. text (pixel_row p y)) (below y) ++ repeated count (text (take width (row ++ rest)))
+    ≡ flat_map (λ y. text (pixel_row p y)) (below (y + count))
+rows_more text p y count width row rest wide read equal =
+    let f : ℕ → List ℕ = λ y. text (pixel_row p y) in
+    rw (take_at row rest width (length-row p y row read ∙ sym wide), flat_map-below_add f y count)
+    (ap (λ (t : List ℕ). flat_map f (below y) ++ t) (same_texts f (text row) 0 y count
+    (λ k low high. ap text (read ∙ pixel_row-equal p y count k equal low high))))
 
 pub loop-y-init : goal.loop-y-init
 loop-y-init g c = record {
