@@ -1,5 +1,5 @@
 -- A plain PBM file reads back as the picture's pixels.
-use Rattle.std.proofs.Common.{◌≡◌, ◌==◌, ℕ, suc, Bool, false, ◌+◌, ◌*◌, true, List, [], ◌∷◌, ◌++◌, length, nat_le, drop}
+use Rattle.std.proofs.Common.{◌≡◌, ◌<◌, ◌^◌, ◌==◌, ℕ, suc, Bool, false, ◌+◌, ◌*◌, true, List, [], ◌∷◌, ◌++◌, length, nat_le, drop}
 use Rattle.std.proofs.Common.{map, flat_map, refl, ap, sym, ◌∙◌, arith, decimal, Some, append_assoc}
 use Rattle.std.specs.List.{prefix_len, list_all}
 use Rattle.device.specs.Lines.{lines}
@@ -72,3 +72,9 @@ pbm_pixels-pbm_text p drawable =
     (sym (grouped w h body)) ∙ short_lines p drawable)
     (number_after_white p.width 10 drawable.wide refl) (number_after_white p.height 32 drawable.high refl)
     ∙ ap (raster_of p.width p.height) (strip-pbm_rows p (below p.height)) ∙ raster_of-digits p
+
+-- the same where the code has the two sides as its numbers
+pub read_back : (p : Picture) (width height : ℕ) → 0 < p.width → width ≡ p.width → width < 2 ^ 64 → height ≡ p.height
+    → height < 2 ^ 64 → pbm_pixels (pbm_text p) ≡ Some (raster p)
+read_back p width height some as_width wide as_height high = pbm_pixels-pbm_text p
+    (record { some = some; wide = omega (arith, as_width, wide); high = omega (arith, as_height, high) })

@@ -8,12 +8,6 @@ use Rattle.picture.proofs.PbmLaws.{pbm_pixels-pbm_text}
 use Rattle.picture.proofs.WritingLaws.{pbm_rows}
 use Rattle.picture.proofs.pbm.write_pbm.Goals as goal
 
--- the text of a picture that has columns is read back, where the code has the two sides as its numbers
-read_back : (p : Picture) {width height : ℕ} → 0 < p.width → width ≡ p.width → width < 2 ^ 64 → height ≡ p.height
-    → height < 2 ^ 64 → pbm_pixels (pbm_text p) ≡ Some (raster p)
-read_back p some as_width wide as_height high = pbm_pixels-pbm_text p
-    (record { some = some; wide = omega (arith, as_width, wide); high = omega (arith, as_height, high) })
-
 pub returns-in_err-write_whole-clause-writes : goal.returns-in_err-write_whole-clause-writes
 returns-in_err-write_whole-clause-writes g c =
     let p = g.G.Grid.picture c.args.grid.now in
@@ -22,11 +16,6 @@ returns-in_err-write_whole-clause-writes g c =
     rw (c.as_slice.ensures.value, c.header-first.ensures, c.width.ensures, c.height.ensures) refl in
     WritesText-begun g.S.Sink _ _ c.as_slice.result.now rows _ c.from_residual.result c.from_residual.ensures.0
     (sym (ap (λ (t : List ℕ). t ++ rows) first)) c.in_err-write_whole.ensures
-
-pub returns-in_err-write_whole-clause-read : goal.returns-in_err-write_whole-clause-read
-returns-in_err-write_whole-clause-read g c some =
-    read_back (g.G.Grid.picture c.args.grid.now) some c.width.ensures c.width.type_inv c.height.ensures
-    c.height.type_inv
 
 pub returns-clause-writes : goal.returns-clause-writes
 returns-clause-writes g c =
@@ -38,8 +27,3 @@ returns-clause-writes g c =
     (ap (λ (t : List ℕ). t ++ rows) first ∙ ap (λ (t : List ℕ). pbm_header p.width p.height ++ t)
     (pbm_rows p (below p.height)))
     (HasWritten-call g.S.Sink _ _ _ c.in_ok-write_whole.ensures) c.write_rows.ensures
-
-pub returns-clause-read : goal.returns-clause-read
-returns-clause-read g c some =
-    read_back (g.G.Grid.picture c.args.grid.now) some c.width.ensures c.width.type_inv c.height.ensures
-    c.height.type_inv
