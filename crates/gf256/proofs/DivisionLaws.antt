@@ -106,13 +106,8 @@ IsDivision-register_after low (r ∷ rs) (codeword ∷ codewords) pos hl h hw =
     let message = codewords ++ zeros (length low) in
     let product = polynomial_product rest.quotient (1 ∷ low) in
     let behind = zeros n ++ register_after low (next_register low (r ∷ rs) codeword) codewords in
-    let long : length multiple ≤ length (polynomial_sum ahead message) = omega (
-      arith,
-      length-append_zeros (scalar_multiple fed low) n,
-      length-scalar_multiple fed low,
-      length-append_zeros codewords (length low),
-      length-polynomial_sum ahead message,
-    ) in
+    let long : length multiple ≤ length (polynomial_sum ahead message) =
+    omega (arith, length-append_zeros, length-scalar_multiple, length-polynomial_sum) in
     let tail : polynomial_sum ahead message ≡ polynomial_sum (polynomial_sum multiple product) behind =
     sym (polynomial_sum-twice multiple (polynomial_sum ahead message) long)
     ∙ ap (polynomial_sum multiple) (sym (polynomial_sum-assoc multiple ahead message)
@@ -131,13 +126,7 @@ pub length-polynomial_product : (p q : List ℕ) (b : ℕ) → length (polynomia
 unfolding polynomial_product
 length-polynomial_product [] q b = length-zeros (length q) ∙ omega arith
 length-polynomial_product (c ∷ p) q b =
-    length-polynomial_sum (scalar_multiple c (b ∷ q) ++ zeros (length p)) (0 ∷ polynomial_product p (b ∷ q))
-    ∙ omega (
-      arith,
-      length-append_zeros (scalar_multiple c (b ∷ q)) (length p),
-      length-scalar_multiple c (b ∷ q),
-      length-polynomial_product p q b,
-    )
+    omega (arith, length-polynomial_sum, length-append_zeros, length-scalar_multiple, length-polynomial_product p q b)
 
 -- what a long division of n steps leaves: each takes the highest coefficient away, times the divisor
 pub remainder_of : (low : List ℕ) (n : ℕ) → List ℕ → List ℕ
@@ -156,14 +145,8 @@ remainder_of-sum low (f ∷ quotient) p long elements =
     let multiple = scalar_multiple f low ++ zeros n in
     let product = polynomial_product quotient (1 ∷ low) in
     let behind = zeros n ++ p in
-    let size : length multiple ≤ length (polynomial_sum product behind) = omega (
-      arith,
-      length-append_zeros (scalar_multiple f low) n,
-      length-scalar_multiple f low,
-      length-append (zeros n) p,
-      length-zeros n,
-      length-polynomial_sum product behind,
-    ) in
+    let size : length multiple ≤ length (polynomial_sum product behind) =
+    omega (arith, length-append_zeros, length-scalar_multiple, length-polynomial_sum, length-append {A = ℕ}, length-zeros) in
     rw (
       product_with_one f (All-head IsElement f quotient elements),
       polynomial_sum-assoc multiple product behind,
