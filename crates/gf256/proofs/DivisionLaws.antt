@@ -3,7 +3,7 @@ use Rattle.std.proofs.Common.{◌≡◌, ℕ, zero, suc, ◌+◌, ◌<◌, ◌�
 use Rattle.std.specs.Prelude.{bit_xor, All}
 use Rattle.std.specs.Int.Bits.{xor_zero_r}
 use Rattle.std.proofs.lemmas.List.{length-append, append-nil, append_assoc}
-use Rattle.std.proofs.lemmas.List.Elements.{All-head, All-tail, All-cons, All-nil, All-append}
+use Rattle.std.proofs.lemmas.List.Elements.{All-head, All-tail, All-cons, All-nil, All-append, All-replicate}
 use Rattle.std.proofs.lemmas.Nat.{xor_of_8}
 use Rattle.gf256.specs.Field.{field_product, IsElement}
 use Rattle.gf256.specs.ErrorCorrection.{next_register, register_after}
@@ -30,17 +30,13 @@ pub All-polynomial_sum : (p q : List ℕ) → All IsElement p → All IsElement 
 unfolding polynomial_sum
 All-polynomial_sum [] q hp hq = hq
 All-polynomial_sum (a ∷ p) [] hp hq = hp
-All-polynomial_sum (a ∷ p) (b ∷ q) hp hq =
-    All-cons IsElement (bit_xor a b) (polynomial_sum p q)
-    (xor_of_8 a b (All-head IsElement a p hp) (All-head IsElement b q hq))
-    (All-polynomial_sum p q (All-tail IsElement a p hp) (All-tail IsElement b q hq))
+All-polynomial_sum (a ∷ p) (b ∷ q) hp hq = All-cons IsElement _ _ (xor_of_8 a b (All-head IsElement a p hp)
+    (All-head IsElement b q hq)) (All-polynomial_sum p q (All-tail IsElement a p hp) (All-tail IsElement b q hq))
 
 pub All-scalar_multiple : (c : ℕ) (p : List ℕ) → c < 256 → All IsElement p → All IsElement (scalar_multiple c p)
 unfolding scalar_multiple
 All-scalar_multiple c [] hc hp = All-nil IsElement
-All-scalar_multiple c (a ∷ p) hc hp =
-    All-cons IsElement (field_product c a) (scalar_multiple c p)
-    (field_product-lt c a hc (All-head IsElement a p hp))
+All-scalar_multiple c (a ∷ p) hc hp = All-cons IsElement _ _ (field_product-lt c a hc (All-head IsElement a p hp))
     (All-scalar_multiple c p hc (All-tail IsElement a p hp))
 
 pub IsRegister-next : (low register : List ℕ) (codeword : ℕ) → 0 < length low → All IsElement low
@@ -49,10 +45,9 @@ unfolding next_register
 IsRegister-next low [] codeword pos hl h hw = absurd (omega (arith, h.long))
 IsRegister-next low (r ∷ rs) codeword pos hl h hw = record {
   long = length-next_register low (r ∷ rs) codeword pos h.long;
-  elements = All-polynomial_sum (rs ++ 0 ∷ []) (scalar_multiple (bit_xor r codeword) low)
-      (All-append IsElement rs (0 ∷ []) (All-tail IsElement r rs h.elements)
-      (All-cons IsElement 0 [] (omega arith) (All-nil IsElement)))
-      (All-scalar_multiple (bit_xor r codeword) low (xor_of_8 r codeword (All-head IsElement r rs h.elements) hw) hl);
+  elements = All-polynomial_sum _ _ (All-append IsElement rs (0 ∷ []) (All-tail IsElement r rs h.elements)
+      (All-replicate IsElement 1 0 (omega arith)))
+      (All-scalar_multiple _ low (xor_of_8 r codeword (All-head IsElement r rs h.elements) hw) hl);
 }
 
 -- an element times the highest coefficient, 1, with nothing added
