@@ -1,14 +1,14 @@
 -- The multiples of a polynomial in tables, and what the code writes, as lists.
-use Rattle.std.proofs.Common.{◌≡◌, ℕ, zero, suc, ◌+◌, ◌-◌, ◌*◌, ◌/◌, ◌%◌, ◌^◌, ◌<◌, ◌≤◌, List, [], ◌∷◌, ◌++◌, length}
-use Rattle.std.proofs.Common.{take, drop, map, get_or, set, refl, sym, ap, ◌∙◌, arith, eqb-true, true, ◌==◌}
+use Rattle.std.proofs.Common.{◌≡◌, ℕ, zero, suc, ◌+◌, ◌-◌, ◌*◌, ◌/◌, ◌%◌, ◌^◌, ◌<◌, List, [], ◌∷◌, ◌++◌, length}
+use Rattle.std.proofs.Common.{take, drop, refl, sym, ap, ◌∙◌, arith, eqb-true, true, ◌==◌}
 use Rattle.std.specs.Prelude.{bit_xor, All}
 use Rattle.std.specs.Int.Bits.{xor_comm, xor_shifted}
 use Rattle.std.specs.List.{range_with_len}
-use Rattle.std.proofs.lemmas.List.{append_assoc, length-map, length-take-le, map-append, replicate-append-replicate}
-use Rattle.std.proofs.lemmas.List.{take_all, take_at, take_more}
+use Rattle.std.proofs.lemmas.List.{append_assoc, replicate-append-replicate}
+use Rattle.std.proofs.lemmas.List.{take_at}
 use Rattle.std.proofs.lemmas.List.Elements.{All-head, All-tail}
 use Rattle.std.proofs.lemmas.Simd.{pick_l-range_with_len}
-use Rattle.std.proofs.Math.Seq.{set-append_seam, take-append-add}
+use Rattle.std.proofs.Math.Seq.{take-append-add}
 use Rattle.std.specs.Simd.Lanes.{pick_l, zip2}
 use Rattle.gf256.specs.BinaryPolynomial.{binary_product, binary_remainder}
 use Rattle.gf256.specs.Field.{field_product, IsElement}
@@ -23,29 +23,6 @@ use Rattle.gf256.proofs.PolynomialSumLaws.{length-append_zeros, length-polynomia
 use Rattle.gf256.proofs.PolynomialSumLaws.{polynomial_sum-assoc, length-scalar_multiple, polynomial_sum-comm}
 use Rattle.gf256.proofs.DivisionLaws.{length-next_register, next_register-append_zeros}
 use Rattle.gf256.proofs.GeneratorLaws.{length-low_of, low_of}
-
--- one coefficient more of a polynomial that a loop writes over zeros
-pub write_more : (f : ℕ → ℕ) (xs written : List ℕ) (n j c : ℕ) → j < length xs → j < n
-    → written ≡ map f (take j xs) ++ zeros (n - j) → c ≡ f (get_or xs j 0)
-    → set written j c ≡ map f (take (j + 1) xs) ++ zeros (n - (j + 1))
-write_more f xs written n j c inside room so_far is =
-    let rest : n - j ≡ suc (n - (j + 1)) = omega arith in
-    let front = map f (take j xs) in
-    let place : j ≡ length front = sym (length-map (take j xs) f ∙ length-take-le j xs (omega arith)) in
-    rw (
-      so_far,
-      rest,
-      take_more xs j 0 inside,
-      map-append f (take j xs) (get_or xs j 0 ∷ []),
-      ← is,
-      append_assoc front (c ∷ []) (zeros (n - (j + 1))),
-    )
-    (ap (λ k. set (front ++ 0 ∷ zeros (n - (j + 1))) k c) place ∙ set-append_seam front 0 (zeros (n - (j + 1))) c)
-
--- all coefficients
-pub written_all : (f : ℕ → ℕ) (xs written : List ℕ) (n j : ℕ) → length xs ≤ j
-    → written ≡ map f (take j xs) ++ zeros (n - j) → written ≡ map f xs ++ zeros (n - j)
-written_all f xs written n j all so_far = so_far ∙ ap (λ l. map f l ++ zeros (n - j)) (take_all j xs all)
 
 pub scalar_multiple-zero : (p : List ℕ) → scalar_multiple 0 p ≡ zeros (length p)
 unfolding scalar_multiple
