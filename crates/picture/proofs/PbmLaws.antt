@@ -1,6 +1,6 @@
 -- A plain PBM file reads back as the picture's pixels.
-use Rattle.std.proofs.Common.{◌≡◌, ◌<◌, ◌^◌, ◌==◌, ℕ, suc, Bool, false, ◌+◌, ◌*◌, true, List, [], ◌∷◌, ◌++◌, length, nat_le, drop}
-use Rattle.std.proofs.Common.{map, flat_map, refl, ap, sym, ◌∙◌, arith, decimal, Some, append_assoc}
+use Rattle.std.proofs.Common.{◌≡◌, ◌<◌, ◌^◌, ◌==◌, ℕ, suc, Bool, false, ◌+◌, ◌*◌, true, List, [], ◌∷◌, ◌++◌, length}
+use Rattle.std.proofs.Common.{nat_le, drop, map, flat_map, refl, ap, sym, ◌∙◌, arith, decimal, Some, append_assoc}
 use Rattle.std.specs.List.{prefix_len, list_all}
 use Rattle.device.specs.Lines.{lines}
 use Rattle.std.specs.Char.{is_digit}
