@@ -4,7 +4,8 @@ use Rattle.std.proofs.Common.{length, map, refl, ap, sym, subst, ◌∙◌, arit
 use Rattle.std.specs.List.{list_all}
 use Rattle.std.specs.Str.{bytes_eq}
 use Rattle.std.proofs.lemmas.List.Folds.{flat_map-map, list_all-append}
-use Rattle.std.proofs.lemmas.List.FromFn.{length-map-range_with_len, length-range_with_len}
+use Rattle.std.proofs.lemmas.List.FromFn.{get_or-map-range_with_len, length-map-range_with_len}
+use Rattle.std.proofs.lemmas.List.FromFn.{length-range_with_len}
 use Rattle.std.proofs.lemmas.List.{length-map, map-append}
 use Rattle.std.proofs.lemmas.Bool.{eq-eqb}
 use Rattle.std.proofs.lemmas.Grind.{flat_map-append}
@@ -67,28 +68,22 @@ equal_rows p (y ∷ ys) = rw (
   equal_rows p ys,
 ) refl
 
-first_row : (p : Picture) (n : ℕ) → suc n ≡ p.height
-    → length (slice_index_or (map (pixel_row p) (below p.height)) 0 []) ≡ p.width
-first_row p n e = subst (λ (k : ℕ). length (slice_index_or (map (pixel_row p) (below k)) 0 []) ≡ p.width) e
-    (length-map-range_with_len (λ x. p.dark x 0) 0 p.width)
+first_row : (p : Picture) → 0 < p.height → length (slice_index_or (map (pixel_row p) (below p.height)) 0 []) ≡ p.width
+first_row p some = ap length (get_or-map-range_with_len (pixel_row p) 0 p.height 0 0 [] some refl)
+    ∙ length-map-range_with_len (λ x. p.dark x 0) 0 p.width
 
 -- a text picture of some row reads back as the picture's pixels
-read_back : (p : Picture) (n : ℕ) → suc n ≡ p.height → ascii_pixels (ascii_text p) ≡ Some (raster p)
-unfolding ascii_pixels
-read_back p n e =
-    rw (
-      ascii_text-lines p,
-      lines-with_ends (ascii_lines p) (no_line_feeds p (below p.height)),
-      read_rows p (below p.height),
-      first_row p n e,
-      equal_rows p
-          (below p.height),
-      length-map (below p.height) (pixel_row p),
-      length-range_with_len 0 p.height,
-    ) refl
-
 pub ascii_pixels-ascii_text : TextsAreRead ascii_text ascii_pixels (λ p. 0 < p.height)
-ascii_pixels-ascii_text p some = read_back p (p.height - 1) (omega arith)
+unfolding ascii_pixels
+ascii_pixels-ascii_text p some = rw (
+  ascii_text-lines p,
+  lines-with_ends (ascii_lines p) (no_line_feeds p (below p.height)),
+  read_rows p (below p.height),
+  first_row p some,
+  equal_rows p (below p.height),
+  length-map (below p.height) (pixel_row p),
+  length-range_with_len 0 p.height,
+) refl
 
 abbrev is_blank : List ℕ → Bool
 is_blank line = bytes_eq line (codes "\n")

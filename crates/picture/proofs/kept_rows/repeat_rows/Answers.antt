@@ -26,8 +26,7 @@ loop-again-init g c = record {
 
 pub repeat_row-requires-clause-last : goal.repeat_row-requires-clause-last
 repeat_row-requires-clause-last g c =
-    let row = row_text g.T.PixelText.text g.T.PixelText.row_end (take c.args.width c.args.kept.now) in
-    EndsWith-more g.S.Sink.took g.met.S.Sink.took_joined _ _ row c.args.count c.loop-again._again c.requires.some
+    EndsWith-more g.S.Sink.took g.met.S.Sink.took_joined _ _ _ c.args.count c.loop-again._again c.requires.some
     c.requires.last c.loop-again.invariant.rows.taken
 
 pub returns-in_err-repeat_row : goal.returns-in_err-repeat_row

@@ -26,8 +26,7 @@ loop-written-init g c =
 
 pub repeat_rows-requires-clause-last : goal.repeat_rows-requires-clause-last
 repeat_rows-requires-clause-last g c =
-    let row = row_text g.T.PixelText.text g.T.PixelText.row_end (take c.args.width c.args.kept.now) in
-    EndsWith-repeated g.S.Sink.took _ _ row c.loop-written.written c.min-rows.result (omega arith)
+    EndsWith-repeated g.S.Sink.took _ _ _ c.loop-written.written c.min-rows.result (omega arith)
     c.loop-written.invariant.rows.taken
 
 -- a few rows have no more bytes than those that are repeated at once
