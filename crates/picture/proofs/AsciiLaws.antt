@@ -1,11 +1,10 @@
 -- Text pictures, read back and cut from a stream.
-use Rattle.std.proofs.Common.{slice_index_or, ◌≡◌, ℕ, suc, ◌-◌, ◌<◌, Bool, true, false, not, ◌==◌, List, [], ◌∷◌, ◌++◌}
-use Rattle.std.proofs.Common.{length, map, refl, ap, sym, subst, ◌∙◌, arith, flat_map, codes, append_assoc, Some}
+use Rattle.std.proofs.Common.{slice_index_or, ◌≡◌, ℕ, ◌<◌, Bool, true, false, not, ◌==◌, List, [], ◌∷◌, ◌++◌, length}
+use Rattle.std.proofs.Common.{map, refl, ap, sym, ◌∙◌, arith, flat_map, codes, append_assoc, Some}
 use Rattle.std.specs.List.{list_all}
 use Rattle.std.specs.Str.{bytes_eq}
 use Rattle.std.proofs.lemmas.List.Folds.{flat_map-map, list_all-append}
-use Rattle.std.proofs.lemmas.List.FromFn.{get_or-map-range_with_len, length-map-range_with_len}
-use Rattle.std.proofs.lemmas.List.FromFn.{length-range_with_len}
+use Rattle.std.proofs.lemmas.List.FromFn.{get_or-map-range_with_len, length-map-range_with_len, length-range_with_len}
 use Rattle.std.proofs.lemmas.List.{length-map, map-append}
 use Rattle.std.proofs.lemmas.Bool.{eq-eqb}
 use Rattle.std.proofs.lemmas.Grind.{flat_map-append}
@@ -13,7 +12,7 @@ use Rattle.device.specs.Lines.{LF, with_ends}
 use Rattle.picture.specs.Picture.{Picture}
 use Rattle.picture.specs.ReadingLaws.{FilesAreTexts, TextsAreRead}
 use Rattle.picture.specs.Text.{below, ascii_pixel, ascii_text, pixel_row}
-use Rattle.picture.specs.Reading.{raster, line_pixels, lines_pixels, ascii_pixels, ascii_files}
+use Rattle.picture.specs.Reading.{line_pixels, lines_pixels, ascii_pixels, ascii_files}
 use Rattle.picture.proofs.LineLaws.{has_no_line_feed, lines-with_ends}
 use Rattle.picture.proofs.CutLaws.{cut_after, cut_after-part, ended, files-flat_map}
 

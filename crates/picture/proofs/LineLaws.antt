@@ -11,17 +11,15 @@ use Rattle.device.proofs.LinesLaws.{ended_lines-cut, open_line-cut}
 abbrev pub has_no_line_feed : List ℕ → Bool
 has_no_line_feed bytes = list_all (λ b. not (b == LF)) bytes
 
-HasNoLF-from_test : (bytes : List ℕ) → has_no_line_feed bytes ≡ true → HasNoLF bytes
-HasNoLF-from_test [] none = All-nil (λ b. b ≢ LF)
-HasNoLF-from_test (b ∷ bytes) none =
-    let parts = and_parts (not (b == LF)) (has_no_line_feed bytes) none in
-    All-cons (λ b. b ≢ LF) b bytes (eqb-false b LF (not-true (b == LF) parts.0)) (HasNoLF-from_test bytes parts.1)
+All-from_test : {X : Type 0} (P : X → Type 0) (test : X → Bool) → ((x : X) → test x ≡ true → P x) → (xs : List X)
+    → list_all test xs ≡ true → All P xs
+All-from_test P test each [] all = All-nil P
+All-from_test P test each (x ∷ xs) all =
+    let parts = and_parts (test x) (list_all test xs) all in
+    All-cons P x xs (each x parts.0) (All-from_test P test each xs parts.1)
 
-each_HasNoLF : (ls : List (List ℕ)) → list_all has_no_line_feed ls ≡ true → All HasNoLF ls
-each_HasNoLF [] none = All-nil HasNoLF
-each_HasNoLF (line ∷ ls) none =
-    let parts = and_parts (has_no_line_feed line) (list_all has_no_line_feed ls) none in
-    All-cons HasNoLF line ls (HasNoLF-from_test line parts.0) (each_HasNoLF ls parts.1)
+HasNoLF-from_test : (bytes : List ℕ) → has_no_line_feed bytes ≡ true → HasNoLF bytes
+HasNoLF-from_test = All-from_test (λ b. b ≢ LF) (λ b. not (b == LF)) (λ b e. eqb-false b LF (not-true (b == LF) e))
 
 -- lines, each with its line feed, are cut into these lines again
 pub lines-with_ends : (ls : List (List ℕ)) → list_all has_no_line_feed ls ≡ true → lines (with_ends ls) ≡ ls
@@ -29,7 +27,7 @@ unfolding lines
 lines-with_ends ls none =
     let cut : IsCut (with_ends ls) ls [] = record {
       whole = sym (append-nil (with_ends ls));
-      each = each_HasNoLF ls none;
+      each = All-from_test HasNoLF has_no_line_feed HasNoLF-from_test ls none;
       rest_open = All-nil (λ b. b ≢ LF);
     } in
     rw (ended_lines-cut cut, open_line-cut cut) (append-nil ls)

@@ -56,9 +56,11 @@ EndsWith-more took took_joined s t text n k some last more =
     record {
       first = last.first;
       before = last.before ++ repeated (n + k - 1) text;
-      whole = subst (took last.first t) (append_assoc last.before (repeated n text) (repeated k text)
-          ∙ (ap (λ (xs : List ℕ). last.before ++ xs) texts
-          ∙ sym (append_assoc last.before (repeated (n + k - 1) text) text)))
+      whole = rw (
+        append_assoc last.before (repeated (n + k - 1) text) text,
+        ← texts,
+        ← append_assoc last.before (repeated n text) (repeated k text),
+      )
           (took_joined last.first s t (last.before ++ repeated n text) (repeated k text) last.whole more);
     }
 
