@@ -1,6 +1,6 @@
 -- The tables hold the powers of 2 and their logarithms: tests computed over the whole tables.
-use Rattle.std.proofs.Common.{◌≡◌, ℕ, zero, suc, ◌+◌, ◌*◌, ◌/◌, ◌%◌, ◌<◌, ◌≤◌, true, false, ◌||◌, ◌==◌, get_or, refl}
-use Rattle.std.proofs.Common.{sym, ap, ◌∙◌, arith, eqb-true, ne_eqb}
+use Rattle.std.proofs.Common.{◌≡◌, ℕ, zero, suc, ◌+◌, ◌*◌, ◌/◌, ◌%◌, ◌<◌, ◌≤◌, true, ◌==◌, get_or, refl, sym, ap, ◌∙◌}
+use Rattle.std.proofs.Common.{arith, eqb-true}
 use Rattle.gf256.specs.BinaryPolynomial.{binary_product, binary_remainder}
 use Rattle.gf256.specs.Field.{field_product, field_power}
 use Rattle.gf256.specs.declared.tables.TheConstants.{POWERS, LOGARITHMS}
@@ -41,12 +41,11 @@ pub field_power-table : (i : ℕ) → exp (i % 255) ≡ field_power 2 i
 field_power-table i =
     exp-power (i % 255) (omega arith) ∙ sym (turns (i / 255) (i % 255)) ∙ ap (field_power 2) (omega arith)
 
-logs : all_below (λ a. a == 0 || exp (log a % 255) == a) 256 ≡ true
+logs : all_below (λ a. exp (log (suc a) % 255) == suc a) 255 ≡ true
 unfolding all_below exp log
 logs = refl
 
 pub power-log : (a : ℕ) → 0 < a → a < 256 → field_power 2 (log a) ≡ a
-power-log a some h =
-    let not_zero : (a == 0) ≡ false = ne_eqb a 0 (λ z. absurd (omega arith)) in
-    let back = rw not_zero at (all_below-at (λ a. a == 0 || exp (log a % 255) == a) 256 a logs h) in
-    sym (field_power-table (log a)) ∙ eqb-true _ _ back
+power-log zero some h = absurd (omega arith)
+power-log (suc a) some h = sym (field_power-table (log (suc a)))
+    ∙ eqb-true _ _ (all_below-at (λ a. exp (log (suc a) % 255) == suc a) 255 a logs (omega arith))

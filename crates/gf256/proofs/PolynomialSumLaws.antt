@@ -10,11 +10,6 @@ use Rattle.gf256.specs.Polynomial.{polynomial_sum, scalar_multiple}
 pub length-zeros : (n : ℕ) → length (zeros n) ≡ n
 length-zeros n = length-replicate {A = ℕ} n 0
 
-pub polynomial_sum-nil : (p : List ℕ) → polynomial_sum p [] ≡ p
-unfolding polynomial_sum
-polynomial_sum-nil [] = refl
-polynomial_sum-nil (a ∷ p) = refl
-
 pub polynomial_sum-assoc : (p q r : List ℕ) → polynomial_sum (polynomial_sum p q) r
     ≡ polynomial_sum p (polynomial_sum q r)
 unfolding polynomial_sum
@@ -25,7 +20,8 @@ polynomial_sum-assoc (a ∷ p) (b ∷ q) (c ∷ r) = rw (xor_assoc a b c, polyno
 
 pub polynomial_sum-comm : (p q : List ℕ) → polynomial_sum p q ≡ polynomial_sum q p
 unfolding polynomial_sum
-polynomial_sum-comm [] q = sym (polynomial_sum-nil q)
+polynomial_sum-comm [] [] = refl
+polynomial_sum-comm [] (b ∷ q) = refl
 polynomial_sum-comm (a ∷ p) [] = refl
 polynomial_sum-comm (a ∷ p) (b ∷ q) = λ i. xor_comm a b i ∷ polynomial_sum-comm p q i
 

@@ -1,10 +1,9 @@
 -- The product of the field is a remainder, and the only one: tests computed over all elements.
-use Rattle.std.proofs.Common.{◌≡◌, ℕ, zero, suc, ◌+◌, ◌-◌, ◌*◌, ◌^◌, ◌<◌, ◌≤◌, true, ◌||◌, ◌==◌, nat_le, refl, sym, ap}
-use Rattle.std.proofs.Common.{subst, ◌∙◌, arith, inl, inr, eqb-true, leb-true}
+use Rattle.std.proofs.Common.{◌≡◌, ℕ, zero, suc, ◌+◌, ◌-◌, ◌*◌, ◌^◌, ◌<◌, ◌≤◌, true, nat_le, refl, sym, ap, subst, ◌∙◌}
+use Rattle.std.proofs.Common.{arith, leb-true}
 use Rattle.std.specs.Prelude.{bit_xor}
 use Rattle.std.specs.Int.{bit_at}
 use Rattle.std.specs.Int.Bits.{xor_zero_r, xor_assoc, xor_comm, xor_self, xor_lt}
-use Rattle.std.proofs.lemmas.Bool.{or_cases}
 use Rattle.std.proofs.lemmas.Nat.{mul-le}
 use Rattle.std.proofs.lemmas.Nat.Bits.{bit_at_cat_low, bit_at_cat_high, bit_at_lowest, bit_at-lt}
 use Rattle.std.proofs.Math.Nat.{pow-suc, mod-eq_of_lt}
@@ -76,17 +75,18 @@ IsFieldProduct-field_product a b ha hb = record {
 }
 
 -- a multiple of the modulus has degree 8 or more, or is 0
-multiples : all_below (λ q. (q == 0) || nat_le 256 (binary_product 7 field_modulus q)) 128 ≡ true
+multiples : all_below (λ q. nat_le 256 (binary_product 7 field_modulus (suc q))) 127 ≡ true
 unfolding all_below binary_product
 multiples = refl
 
 multiple_below : (q : ℕ) → q < 128 → binary_product 7 field_modulus q < 256 → q ≡ 0
-multiple_below q hq small =
-    elim (or_cases (q == 0) (nat_le 256 (binary_product 7 field_modulus q))
-    (all_below-at (λ x. (x == 0) || nat_le 256 (binary_product 7 field_modulus x)) 128 q multiples hq)) [
-      | inl e ↦ eqb-true _ _ e
-      | inr e ↦ absurd (omega (arith, leb-true 256 (binary_product 7 field_modulus q) e, small))
-    ]
+multiple_below zero below small = refl
+multiple_below (suc q) below small = absurd (omega (
+  arith,
+  small,
+  leb-true _ _ (all_below-at
+      (λ q. nat_le 256 (binary_product 7 field_modulus (suc q))) 127 q multiples (omega arith)),
+))
 
 pub IsFieldProduct-unique : (a b r s : ℕ) → IsFieldProduct a b r → IsFieldProduct a b s → r ≡ s
 IsFieldProduct-unique a b r s h k =
