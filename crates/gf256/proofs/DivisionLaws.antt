@@ -141,7 +141,7 @@ remainder_of-sum low (f ∷ quotient) p long elements =
     let product = polynomial_product quotient (1 ∷ low) in
     let behind = zeros n ++ p in
     let size : length multiple ≤ length (polynomial_sum product behind) =
-    omega (arith, length-append_zeros, length-scalar_multiple, length-polynomial_sum, length-append {A = ℕ}, length-zeros) in
+    omega (arith, length-scalar_multiple, length-polynomial_sum, length-append {A = ℕ}, length-zeros) in
     rw (
       product_with_one f (All-head IsElement f quotient elements),
       polynomial_sum-assoc multiple product behind,

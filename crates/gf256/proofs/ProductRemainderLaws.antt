@@ -98,7 +98,8 @@ IsFieldProduct-unique a b r s h k =
     xor_medial P R r s ∙ rw (← h.division, ← k.division) (xor_self (binary_product 8 a b)) in
     let same : binary_product 7 field_modulus (bit_xor q t) ≡ bit_xor r s =
     binary_product-xor_right 7 field_modulus q t ∙ same_from_xor (bit_xor P R) (bit_xor r s) none in
-    let equal : q ≡ t = same_from_xor q t (multiple_below (bit_xor q t) (xor_lt 7 q t h.quotient_degree k.quotient_degree)
+    let equal : q ≡ t = same_from_xor q t (multiple_below (bit_xor q t)
+    (xor_lt 7 q t h.quotient_degree k.quotient_degree)
     (omega (arith, same, xor_lt 8 r s h.element k.element))) in
     same_from_xor r s (sym same ∙ binary_product-xor_right 7 field_modulus q t ∙ rw equal (xor_self R))
 

@@ -99,7 +99,8 @@ next_register-zeros low (r ∷ rs) codeword n some long =
     let fed = bit_xor r codeword in
     let one_more : n + 1 ≡ suc n = omega arith in
     let behind : (rs ++ zeros n) ++ 0 ∷ [] ≡ rs ++ zeros (suc n) =
-    append_assoc rs (zeros n) (0 ∷ []) ∙ ap (λ l. rs ++ l) (replicate-append-replicate {A = ℕ} n 1 0 ∙ ap zeros one_more)
+    append_assoc rs (zeros n) (0 ∷ []) ∙ ap (λ l. rs ++ l) (replicate-append-replicate {A = ℕ} n 1 0
+    ∙ ap zeros one_more)
     in
     (λ i. polynomial_sum (behind i) (scalar_multiple-append_zeros fed low n i))
     ∙ polynomial_sum-comm (rs ++ zeros (suc n)) (scalar_multiple fed low ++ zeros n)

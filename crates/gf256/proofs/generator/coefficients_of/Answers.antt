@@ -22,10 +22,12 @@ returns c =
     let low = map (field_power alpha) logarithms in
     let h = c.loop-j.invariant in
     let long : length low ≡ k = omega (arith, length-map logarithms (field_power alpha)) in
-    rw (c.logarithms_of-logarithms.ensures.coefficients) (same_number_lists c.loop-j.coefficients (low ++ zeros (32 - k))
+    rw (c.logarithms_of-logarithms.ensures.coefficients) (same_number_lists c.loop-j.coefficients (low ++ zeros
+    (32 - k))
     (omega (arith, h.whole, length-append_zeros low (32 - k))) (λ i inside. elim (cases_lt i k) [
       | inl before ↦ h.so_far i (omega arith) ∙ sym (get_or_append_left low (zeros (32 - k)) 0 i (omega arith)
           ∙ get_or-map (field_power alpha) logarithms i 0 0 (omega arith))
-      | inr past ↦ h.behind i (omega arith) (omega (arith, inside, h.whole)) ∙ sym (get_or-append_right low (zeros (32 - k)) k i 0 long past
+      | inr past ↦ h.behind i (omega arith) (omega (arith, inside, h.whole))
+          ∙ sym (get_or-append_right low (zeros (32 - k)) k i 0 long past
           ∙ get_or-replicate (32 - k) (i - k) 0 0 (omega (arith, inside, h.whole)))
     ]))

@@ -16,7 +16,8 @@ returns-in_err-write_wide_piece g c =
     let row = pixel_row p c.args.y in
     let text : ℕ → List ℕ = λ k. g.T.PixelText.text (piece row k) in
     let size : length row ≡ p.width = length-map-range_with_len (λ x. p.dark x c.args.y) 0 p.width in
-    WritesText-below_fails g.S.Sink g.met.S.Sink.took_joined text _ _ _ c.loop-k.k _ _ (below_more text c.loop-k.k _ refl)
+    WritesText-below_fails g.S.Sink g.met.S.Sink.took_joined text _ _ _ c.loop-k.k _ _
+    (below_more text c.loop-k.k _ refl)
     c.loop-k.invariant.written (div_ceil (length row) 70) g.T.PixelText.row_end _ c.from_residual.result
     c.from_residual.ensures.0 (omega (arith, c.width.ensures)) refl c.in_err-write_wide_piece.ensures
 

@@ -16,6 +16,7 @@ returns c =
     c.copy_from_slice.ensures.after
     ∙ ap (take width) c.bits_of-row.ensures
     ∙ take-map-range_with_len (bit row) 0 64 width (omega arith)
-    ∙ map-range (bit row) (λ x. is_dark c.args.self.now x c.args.y) 0 width (λ x _ inside. c.rows.ensures.bits x c.args.y
+    ∙ map-range (bit row) (λ x. is_dark c.args.self.now x c.args.y) 0 width
+    (λ x _ inside. c.rows.ensures.bits x c.args.y
     ∙ rw (lt-ltb x side (omega arith), lt-ltb c.args.y side c.requires.in_height) refl)
     ∙ ap (λ n. map (λ x. is_dark c.args.self.now x c.args.y) (below n)) c.requires.whole
