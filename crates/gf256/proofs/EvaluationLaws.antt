@@ -46,8 +46,8 @@ evaluate-polynomial_sum (a ∷ p) (b ∷ q) x h =
     let tails : length p ≡ length q = omega arith in
     let long : length (polynomial_sum p q) ≡ length q = omega (arith, length-polynomial_sum p q) in
     let power = field_power x (length q) in
-    rw (long, evaluate-polynomial_sum p q x tails, field_product-xor_left a b power, tails) (xor_medial
-    (field_product a power) (field_product b power) (evaluate p x) (evaluate q x))
+    rw (long, evaluate-polynomial_sum p q x tails, field_product-xor_left a b power, tails)
+    (xor_medial (field_product a power) (field_product b power) (evaluate p x) (evaluate q x))
 
 pub evaluate-scalar_multiple : (c : ℕ) (p : List ℕ) (x : ℕ) → c < 256 → All IsElement p → x < 256
     → evaluate (scalar_multiple c p) x ≡ field_product c (evaluate p x)

@@ -93,8 +93,8 @@ pub put_mid-pixel_row : (p : Picture) (zone : QuietZone) (y : ℕ) (light row : 
 put_mid-pixel_row p zone y light row w e width low high same =
     let n = zone.left + p.width + zone.right in
     let part : zone.left + w - zone.left ≡ p.width = omega arith in
-    let size : length row ≡ p.width = ap length same ∙ length-map-range_with_len (λ x. p.dark x
-    (y - zone.top)) 0 p.width in
+    let size : length row ≡ p.width =
+    ap length same ∙ length-map-range_with_len (λ x. p.dark x (y - zone.top)) 0 p.width in
     let long : length light ≡ n = ap length e ∙ length-replicate n false in
     let whole = put_mid zone.left p.width light row in
     let light_at : (k : ℕ) → k < n → get_or light k false ≡ false = λ k h. rw e (get_or-replicate n k false false h) in
@@ -125,10 +125,10 @@ pub spread-pixel_row : (p : Picture) (s y : ℕ) (row before : List Bool) (w : �
 spread-pixel_row p s y row before w some width size same =
     let columns : length row ≡ p.width = ap length same ∙ length-map-range_with_len (λ x. p.dark x (y / s)) 0 p.width in
     let least : p.width * 1 ≤ p.width * s = mul-le p.width 1 p.width s (omega arith) (omega arith) in
-    let whole : length (row ++ drop w before) ≡ p.width * s = omega
-    (arith, length-append {A = Bool}, length-drop {A = Bool}) in
+    let whole : length (row ++ drop w before) ≡ p.width * s =
+    omega (arith, length-append {A = Bool}, length-drop {A = Bool}) in
     rw whole (map-range _ (λ x. p.dark (x / s) (y / s)) 0 (p.width * s) (λ x _ h.
     let inside : x / s < p.width = div_below x s p.width some (omega arith) in
     get_or_append_left row (drop w before) false (x / s) (omega arith)
-    ∙ rw same (get_or-map-range_with_len (λ x. p.dark x (y / s)) 0 p.width (x / s) (x / s) false inside (zero-add
-    (x / s)))))
+    ∙ rw same (get_or-map-range_with_len (λ x. p.dark x (y / s)) 0 p.width (x / s) (x / s) false inside
+    (zero-add (x / s)))))

@@ -56,5 +56,5 @@ pub ascii_halves : (ps : List Bool) (half n : ℕ) → half ≤ n
     ≡ flat_map ascii_pixel (take n ps)
 ascii_halves ps half n low =
     sym (flat_map-append ascii_pixel (take half ps) (slice_range ps half n))
-    ∙ ap (flat_map ascii_pixel) (rw (between_is ps half n, ← take-take half n ps low) (take-append-drop half
-    (take n ps)))
+    ∙ ap (flat_map ascii_pixel)
+    (rw (between_is ps half n, ← take-take half n ps low) (take-append-drop half (take n ps)))

@@ -15,8 +15,8 @@ use Rattle.picture.proofs.RasterLaws.{strip, pixels, strip-pbm_rows, all_digits,
 use Rattle.picture.proofs.HeaderLaws.{number_after_white}
 use Rattle.picture.proofs.PbmLineLaws.{short_lines}
 
-raster_of-digits : (p : Picture) → raster_of p.width p.height (map pbm_digit (pixels p (below p.height))) ≡ Some
-    (raster p)
+raster_of-digits : (p : Picture)
+    → raster_of p.width p.height (map pbm_digit (pixels p (below p.height))) ≡ Some (raster p)
 raster_of-digits p =
     let size = length-digits p (below p.height) ∙ ap (λ (n : ℕ). p.width * n) (length-range_with_len 0 p.height) in
     rw (all_digits (pixels p (below p.height)), eq-eqb _ _ size, rows-digits p) refl

@@ -48,8 +48,8 @@ cell-enlargement : (p : Picture) (scale column row : ℕ) → column < p.width �
     → cell (raster (enlargement p scale)) scale column row ≡ p.dark column row
 cell-enlargement p scale column row wide high some =
     value_at-raster (enlargement p scale) (column * scale) (row * scale)
-    (omega (arith, mul-add-lt column scale 0 p.width wide some)) (omega
-    (arith, mul-add-lt row scale 0 p.height high some))
+    (omega (arith, mul-add-lt column scale 0 p.width wide some))
+    (omega (arith, mul-add-lt row scale 0 p.height high some))
     ∙ rw (mul-div_cancel column some, mul-div_cancel row some) refl
 
 -- a test of a picture in its quiet zone, by the picture within
@@ -91,8 +91,8 @@ sampled : (p : Picture) (zone : QuietZone) (scale : ℕ) → 0 < scale →
     (zone.top + row)) (below p.width)) (below p.height) ≡ map (pixel_row p) (below p.height)
 sampled p zone scale some = map-range _ (pixel_row p) 0 p.height (λ row _ high.
     map-range _ (λ x. p.dark x row) 0 p.width (λ column _ wide.
-    cell-enlargement (with_quiet_zone p zone) scale (zone.left + column) (zone.top + row) (omega arith)
-    (omega arith) some
+    cell-enlargement (with_quiet_zone p zone) scale (zone.left + column) (zone.top + row)
+    (omega arith) (omega arith) some
     ∙ dark-with_quiet_zone p zone column row (omega arith) (omega arith)))
 
 -- what was drawn is sampled

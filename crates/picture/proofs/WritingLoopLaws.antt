@@ -17,8 +17,8 @@ below_more f k next same = rw same (sym (flat_map-below_more f k))
 -- result are all parts of the goals.
 module _ {S : Type 0} (sink : Ghosts S) (took_joined : (s t u : S) (xs ys : List ℕ) → sink.took s t xs
     → sink.took t u ys → sink.took s u (xs ++ ys)) (f : ℕ → List ℕ) (s t u : S) (k n : ℕ) (next : List ℕ)
-    (same : flat_map f (below k) ++ next ≡ flat_map f (below n)) (before : HasWritten sink s t (flat_map f
-    (below k))) where
+    (same : flat_map f (below k) ++ next ≡ flat_map f (below n))
+    (before : HasWritten sink s t (flat_map f (below k))) where
   -- the turn writes its text
   pub HasWritten-below_more : {T E : Type 0} {x : T} → WritesText {E = E} sink t u next (Ok x)
       → HasWritten sink s u (flat_map f (below n))

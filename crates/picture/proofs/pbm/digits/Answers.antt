@@ -7,7 +7,7 @@ use Rattle.picture.proofs.pbm.digits.Goals as goal
 pub returns : goal.returns
 returns c =
     let ps = c.args.pixels.now in
-    same_number_lists c.loop-i.text (map pbm_digit ps) (omega
-    (arith, c.loop-i.invariant.whole, length-map ps pbm_digit))
-    (λ k h. c.loop-i.invariant.so_far k (omega (arith, h, c.loop-i.invariant.whole))
-    ∙ sym (get_or-map pbm_digit ps k false 0 (omega (arith, h, c.loop-i.invariant.whole))))
+    let whole = c.loop-i.invariant.whole in
+    same_number_lists c.loop-i.text (map pbm_digit ps) (omega (arith, whole, length-map ps pbm_digit)) (λ k h.
+    c.loop-i.invariant.so_far k (omega (arith, h, whole))
+    ∙ sym (get_or-map pbm_digit ps k false 0 (omega (arith, h, whole))))

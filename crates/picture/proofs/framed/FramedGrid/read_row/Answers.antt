@@ -15,7 +15,7 @@ returns-else-self-y g c =
     let p = g.G.Grid.picture c.args.self.now.grid in
     let zone = c.args.self.now.zone in
     (rw c.requires.whole at (c.fill.ensures.after (λ y e. e))) ∙ elim c.else-self-y.branch [
-      | else-self-y-via-then-self-y+else-y-self w ↦ pixel_row-light p zone c.args.y (inr (omega
-          (arith, w.height.ensures)))
+      | else-self-y-via-then-self-y+else-y-self w ↦
+          pixel_row-light p zone c.args.y (inr (omega (arith, w.height.ensures)))
       | else-self-y-via-else-self-y w ↦ pixel_row-light p zone c.args.y (inl (omega arith))
     ]
