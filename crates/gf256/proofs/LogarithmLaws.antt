@@ -1,8 +1,6 @@
 -- The tables hold the powers of 2 and their logarithms: tests computed over the whole tables.
-use Rattle.std.proofs.Common.{◌≡◌, ℕ, zero, suc, ◌+◌, ◌*◌, ◌/◌, ◌%◌, ◌<◌, ◌≤◌, List, [], ◌∷◌, true}
-use Rattle.std.proofs.Common.{false, ◌&&◌, ◌||◌, ◌==◌, nat_lt, get_or, refl, sym, ap, ◌∙◌, arith}
-use Rattle.std.proofs.Common.{eqb-true, ne_eqb, ltb-true}
-use Rattle.std.proofs.lemmas.Bool.{and_parts}
+use Rattle.std.proofs.Common.{◌≡◌, ℕ, zero, suc, ◌+◌, ◌*◌, ◌/◌, ◌%◌, ◌<◌, ◌≤◌, true, ◌==◌, get_or, refl, sym, ap, ◌∙◌}
+use Rattle.std.proofs.Common.{arith, eqb-true}
 use Rattle.gf256.specs.BinaryPolynomial.{binary_product, binary_remainder}
 use Rattle.gf256.specs.Field.{field_product, field_power}
 use Rattle.gf256.specs.declared.tables.TheConstants.{POWERS, LOGARITHMS}
@@ -15,25 +13,16 @@ exp i = get_or POWERS i 0
 unfoldable pub log : ℕ → ℕ
 log a = get_or LOGARITHMS a 0
 
--- p, twice p, four times p ..: n elements
-unfoldable doublings : (n p : ℕ) → List ℕ
-doublings zero p = []
-doublings (suc n) p = p ∷ doublings n (field_product 2 p)
-
-get_or-doublings : (n k i : ℕ) → i < n → get_or (doublings n (field_power 2 k)) i 0 ≡ field_power 2 (k + i)
-unfolding doublings field_power
-get_or-doublings zero k i h = absurd (omega arith)
-get_or-doublings (suc n) k zero h = ap (field_power 2) (omega arith)
-get_or-doublings (suc n) k (suc i) h = get_or-doublings n (suc k) i (omega arith) ∙ ap (field_power 2) (omega arith)
-
-powers : POWERS ≡ doublings 511 (field_power 2 0)
-unfolding doublings field_power field_product binary_product binary_remainder
-powers = refl
+steps : all_below (λ i. exp (suc i) == field_product 2 (exp i)) 510 ≡ true
+unfolding all_below exp field_product binary_product binary_remainder
+steps = refl
 
 pub exp-power : (i : ℕ) → i ≤ 510 → exp i ≡ field_power 2 i
-unfolding exp
-exp-power i h =
-    ap (λ l. get_or l i 0) powers ∙ get_or-doublings 511 0 i (omega arith) ∙ ap (field_power 2) (omega arith)
+unfolding exp field_power
+exp-power zero h = refl
+exp-power (suc i) h =
+    eqb-true _ _ (all_below-at (λ i. exp (suc i) == field_product 2 (exp i)) 510 i steps (omega arith))
+    ∙ ap (field_product 2) (exp-power i (omega arith))
 
 -- the powers begin again
 period : (i : ℕ) → field_power 2 (255 + i) ≡ field_power 2 i
@@ -52,14 +41,11 @@ pub field_power-table : (i : ℕ) → exp (i % 255) ≡ field_power 2 i
 field_power-table i =
     exp-power (i % 255) (omega arith) ∙ sym (turns (i / 255) (i % 255)) ∙ ap (field_power 2) (omega arith)
 
-logs : all_below (λ a. nat_lt (log a) 255 && (a == 0 || exp (log a) == a)) 256 ≡ true
+logs : all_below (λ a. exp (log (suc a) % 255) == suc a) 255 ≡ true
 unfolding all_below exp log
 logs = refl
 
 pub power-log : (a : ℕ) → 0 < a → a < 256 → field_power 2 (log a) ≡ a
-power-log a some h =
-    let not_zero : (a == 0) ≡ false = ne_eqb a 0 (λ z. absurd (omega arith)) in
-    let parts = and_parts (nat_lt (log a) 255) (a == 0 || exp (log a) == a)
-    (all_below-at (λ k. nat_lt (log k) 255 && (k == 0 || exp (log k) == k)) 256 a logs h) in
-    let back : (exp (log a) == a) ≡ true = rw not_zero at parts.1 in
-    sym (exp-power (log a) (omega (arith, ltb-true _ _ parts.0))) ∙ eqb-true _ _ back
+power-log zero some h = absurd (omega arith)
+power-log (suc a) some h = sym (field_power-table (log (suc a)))
+    ∙ eqb-true _ _ (all_below-at (λ a. exp (log (suc a) % 255) == suc a) 255 a logs (omega arith))

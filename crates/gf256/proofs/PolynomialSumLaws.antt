@@ -1,8 +1,8 @@
 -- Sums of polynomials, as lists of coefficients.
-use Rattle.std.proofs.Common.{◌≡◌, ℕ, zero, suc, ◌≤◌, List, [], ◌∷◌, ◌++◌, length, refl, sym, ap, ◌∙◌, arith}
+use Rattle.std.proofs.Common.{◌≡◌, ℕ, zero, suc, ◌+◌, ◌≤◌, max, List, [], ◌∷◌, ◌++◌, length, refl, sym, ap, ◌∙◌, arith}
 use Rattle.std.specs.Prelude.{bit_xor}
 use Rattle.std.specs.Int.Bits.{xor_assoc, xor_comm, xor_self}
-use Rattle.std.proofs.lemmas.List.{length-map, length-replicate}
+use Rattle.std.proofs.lemmas.List.{length-append, length-map, length-replicate}
 use Rattle.gf256.specs.Field.{field_product}
 use Rattle.gf256.specs.Private.{zeros}
 use Rattle.gf256.specs.Polynomial.{polynomial_sum, scalar_multiple}
@@ -10,32 +10,25 @@ use Rattle.gf256.specs.Polynomial.{polynomial_sum, scalar_multiple}
 pub length-zeros : (n : ℕ) → length (zeros n) ≡ n
 length-zeros n = length-replicate {A = ℕ} n 0
 
-pub polynomial_sum-nil : (p : List ℕ) → polynomial_sum p [] ≡ p
-unfolding polynomial_sum
-polynomial_sum-nil [] = refl
-polynomial_sum-nil (a ∷ p) = refl
-
 pub polynomial_sum-assoc : (p q r : List ℕ) → polynomial_sum (polynomial_sum p q) r
     ≡ polynomial_sum p (polynomial_sum q r)
 unfolding polynomial_sum
 polynomial_sum-assoc [] q r = refl
 polynomial_sum-assoc (a ∷ p) [] r = refl
 polynomial_sum-assoc (a ∷ p) (b ∷ q) [] = refl
-polynomial_sum-assoc (a ∷ p) (b ∷ q) (c ∷ r) =
-    ap (λ x. x ∷ polynomial_sum (polynomial_sum p q) r) (xor_assoc a b c)
-    ∙ ap (λ l. bit_xor a (bit_xor b c) ∷ l) (polynomial_sum-assoc p q r)
+polynomial_sum-assoc (a ∷ p) (b ∷ q) (c ∷ r) = rw (xor_assoc a b c, polynomial_sum-assoc p q r) refl
 
 pub polynomial_sum-comm : (p q : List ℕ) → polynomial_sum p q ≡ polynomial_sum q p
 unfolding polynomial_sum
-polynomial_sum-comm [] q = sym (polynomial_sum-nil q)
+polynomial_sum-comm [] [] = refl
+polynomial_sum-comm [] (b ∷ q) = refl
 polynomial_sum-comm (a ∷ p) [] = refl
-polynomial_sum-comm (a ∷ p) (b ∷ q) =
-    ap (λ x. x ∷ polynomial_sum p q) (xor_comm a b) ∙ ap (λ l. bit_xor b a ∷ l) (polynomial_sum-comm p q)
+polynomial_sum-comm (a ∷ p) (b ∷ q) = λ i. xor_comm a b i ∷ polynomial_sum-comm p q i
 
 pub polynomial_sum-self : (p : List ℕ) → polynomial_sum p p ≡ zeros (length p)
 unfolding polynomial_sum
 polynomial_sum-self [] = refl
-polynomial_sum-self (a ∷ p) = ap (λ x. x ∷ polynomial_sum p p) (xor_self a) ∙ ap (λ l. 0 ∷ l) (polynomial_sum-self p)
+polynomial_sum-self (a ∷ p) = λ i. xor_self a i ∷ polynomial_sum-self p i
 
 pub polynomial_sum-zeros_left : (n : ℕ) (p : List ℕ) → n ≤ length p → polynomial_sum (zeros n) p ≡ p
 unfolding polynomial_sum
@@ -49,14 +42,13 @@ polynomial_sum-zeros_right n p h = polynomial_sum-comm p (zeros n) ∙ polynomia
 -- adding p twice changes nothing
 pub polynomial_sum-twice : (p q : List ℕ) → length p ≤ length q → polynomial_sum p (polynomial_sum p q) ≡ q
 polynomial_sum-twice p q h =
-    sym (polynomial_sum-assoc p p q) ∙ ap (λ l. polynomial_sum l q) (polynomial_sum-self p)
-    ∙ polynomial_sum-zeros_left (length p) q h
+    sym (polynomial_sum-assoc p p q) ∙ rw (polynomial_sum-self p) (polynomial_sum-zeros_left (length p) q h)
 
-pub length-polynomial_sum : (p q : List ℕ) → length p ≡ length q → length (polynomial_sum p q) ≡ length q
+pub length-polynomial_sum : (p q : List ℕ) → length (polynomial_sum p q) ≡ max (length p) (length q)
 unfolding polynomial_sum
-length-polynomial_sum [] q h = refl
-length-polynomial_sum (a ∷ p) [] h = absurd (omega arith)
-length-polynomial_sum (a ∷ p) (b ∷ q) h = ap suc (length-polynomial_sum p q (omega arith))
+length-polynomial_sum [] q = omega arith
+length-polynomial_sum (a ∷ p) [] = omega arith
+length-polynomial_sum (a ∷ p) (b ∷ q) = omega (arith, length-polynomial_sum p q)
 
 -- a sum of parts of equal length
 pub polynomial_sum-append : (p q r s : List ℕ) → length p ≡ length r
@@ -70,3 +62,6 @@ polynomial_sum-append (a ∷ p) q (c ∷ r) s h = ap (λ l. bit_xor a c ∷ l) (
 pub length-scalar_multiple : (c : ℕ) (p : List ℕ) → length (scalar_multiple c p) ≡ length p
 unfolding scalar_multiple
 length-scalar_multiple c p = length-map p (field_product c)
+
+pub length-append_zeros : (p : List ℕ) (n : ℕ) → length (p ++ zeros n) ≡ length p + n
+length-append_zeros p n = length-append p (zeros n) ∙ omega (arith, length-zeros n)

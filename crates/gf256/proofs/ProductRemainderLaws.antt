@@ -1,16 +1,15 @@
 -- The product of the field is a remainder, and the only one: tests computed over all elements.
-use Rattle.std.proofs.Common.{◌≡◌, ℕ, zero, suc, ◌+◌, ◌-◌, ◌*◌, ◌^◌, ◌<◌, ◌≤◌, true, ◌||◌, ◌==◌, nat_le, refl, sym, ap}
-use Rattle.std.proofs.Common.{subst, ◌∙◌, arith, inl, inr, eqb-true, leb-true}
+use Rattle.std.proofs.Common.{◌≡◌, ℕ, zero, suc, ◌+◌, ◌-◌, ◌*◌, ◌^◌, ◌<◌, ◌≤◌, true, nat_le, refl, sym, ap, subst, ◌∙◌}
+use Rattle.std.proofs.Common.{arith, leb-true}
 use Rattle.std.specs.Prelude.{bit_xor}
 use Rattle.std.specs.Int.{bit_at}
 use Rattle.std.specs.Int.Bits.{xor_zero_r, xor_assoc, xor_comm, xor_self, xor_lt}
-use Rattle.std.proofs.lemmas.Bool.{or_cases}
 use Rattle.std.proofs.lemmas.Nat.{mul-le}
 use Rattle.std.proofs.lemmas.Nat.Bits.{bit_at_cat_low, bit_at_cat_high, bit_at_lowest, bit_at-lt}
 use Rattle.std.proofs.Math.Nat.{pow-suc, mod-eq_of_lt}
 use Rattle.gf256.specs.BinaryPolynomial.{binary_product, binary_remainder}
 use Rattle.gf256.specs.Private.{field_modulus}
-use Rattle.gf256.specs.Field.{field_product, IsFieldProduct}
+use Rattle.gf256.specs.Field.{field_product, IsFieldProduct, IsTheFieldProduct}
 use Rattle.gf256.proofs.AllBelowLaws.{all_below, all_below-at}
 use Rattle.gf256.proofs.DistributivityLaws.{binary_product-xor_right, xor_medial}
 use Rattle.gf256.proofs.FieldLaws.{field_product-lt}
@@ -30,15 +29,21 @@ binary_quotient-lt d modulus (suc n) a =
     let double : 2 ^ suc n ≡ 2 ^ n * 2 = pow-suc 2 n in
     omega (arith, low, high, double)
 
+-- adding a number twice changes nothing
+xor_twice : (a b : ℕ) → bit_xor (bit_xor a b) b ≡ a
+xor_twice a b = rw (xor_assoc a b b, xor_self b) (xor_zero_r a)
+
+-- two numbers whose sum is 0 are equal
+same_from_xor : (a b : ℕ) → bit_xor a b ≡ 0 → a ≡ b
+same_from_xor a b h = sym (xor_twice a b) ∙ ap (λ x. bit_xor x b) h
+
 -- the terms of b from x^k on do not count
 binary_product-low : (n k modulus u q : ℕ) → n ≤ k → binary_product n modulus (u * 2 ^ k + q)
     ≡ binary_product n modulus q
 unfolding binary_product
 binary_product-low zero k modulus u q h = refl
 binary_product-low (suc n) k modulus u q h =
-    ap (λ x. bit_xor x (bit_at (u * 2 ^ k + q) n * (modulus * 2 ^ n)))
-    (binary_product-low n k modulus u q (omega arith))
-    ∙ ap (λ v. bit_xor (binary_product n modulus q) (v * (modulus * 2 ^ n))) (bit_at_cat_low u k q n (omega arith))
+    rw (binary_product-low n k modulus u q (omega arith), bit_at_cat_low u k q n (omega arith)) refl
 
 -- what was divided is the quotient times the modulus plus the remainder
 pub binary_division : (d modulus n a : ℕ) →
@@ -56,14 +61,9 @@ binary_division d modulus (suc n) a =
     let top : bit_at (u * 2 ^ n + q) n ≡ u =
     bit_at_cat_high u n q n (binary_quotient-lt d modulus n rest) (omega arith)
     ∙ ap (bit_at u) place ∙ bit_at_lowest u ∙ mod-eq_of_lt (bit_at-lt a (d + n)) in
-    let whole : binary_product (suc n) modulus (u * 2 ^ n + q) ≡ bit_xor P M =
-    ap (λ x. bit_xor x (bit_at (u * 2 ^ n + q) n * (modulus * 2 ^ n)))
-    (binary_product-low n n modulus u q (omega arith))
-    ∙ ap (λ v. bit_xor P (v * (modulus * 2 ^ n))) top in
-    sym (xor_zero_r a) ∙ ap (bit_xor a) (sym (xor_self M)) ∙ sym (xor_assoc a M M)
-    ∙ ap (λ x. bit_xor x M) (binary_division d modulus n rest)
-    ∙ xor_assoc P r M ∙ ap (bit_xor P) (xor_comm r M) ∙ sym (xor_assoc P M r)
-    ∙ ap (λ x. bit_xor x r) (sym whole)
+    sym (xor_twice a M) ∙ ap (λ x. bit_xor x M) (binary_division d modulus n rest)
+    ∙ rw (top, binary_product-low n n modulus u q (omega arith), xor_assoc P r M, xor_comm r M)
+    (sym (xor_assoc P M r))
 
 pub IsFieldProduct-field_product : (a b : ℕ) → a < 256 → b < 256 → IsFieldProduct a b (field_product a b)
 unfolding field_product
@@ -75,22 +75,18 @@ IsFieldProduct-field_product a b ha hb = record {
 }
 
 -- a multiple of the modulus has degree 8 or more, or is 0
-multiples : all_below (λ q. (q == 0) || nat_le 256 (binary_product 7 field_modulus q)) 128 ≡ true
+multiples : all_below (λ q. nat_le 256 (binary_product 7 field_modulus (suc q))) 127 ≡ true
 unfolding all_below binary_product
 multiples = refl
 
 multiple_below : (q : ℕ) → q < 128 → binary_product 7 field_modulus q < 256 → q ≡ 0
-multiple_below q hq small =
-    elim (or_cases (q == 0) (nat_le 256 (binary_product 7 field_modulus q))
-    (all_below-at (λ x. (x == 0) || nat_le 256 (binary_product 7 field_modulus x)) 128 q multiples hq)) [
-      | inl e ↦ eqb-true _ _ e
-      | inr e ↦ absurd (omega (arith, leb-true 256 (binary_product 7 field_modulus q) e, small))
-    ]
-
--- two numbers whose sum is 0 are equal
-same_from_xor : (a b : ℕ) → bit_xor a b ≡ 0 → a ≡ b
-same_from_xor a b h =
-    sym (xor_zero_r a) ∙ ap (bit_xor a) (sym (xor_self b)) ∙ sym (xor_assoc a b b) ∙ ap (λ x. bit_xor x b) h
+multiple_below zero below small = refl
+multiple_below (suc q) below small = absurd (omega (
+  arith,
+  small,
+  leb-true _ _ (all_below-at
+      (λ q. nat_le 256 (binary_product 7 field_modulus (suc q))) 127 q multiples (omega arith)),
+))
 
 pub IsFieldProduct-unique : (a b r s : ℕ) → IsFieldProduct a b r → IsFieldProduct a b s → r ≡ s
 IsFieldProduct-unique a b r s h k =
@@ -98,21 +94,17 @@ IsFieldProduct-unique a b r s h k =
     let t = k.quotient in
     let P = binary_product 7 field_modulus q in
     let R = binary_product 7 field_modulus t in
-    let zero_sum : bit_xor (bit_xor P R) (bit_xor r s) ≡ 0 =
-    xor_medial P R r s ∙ ap (λ x. bit_xor x (bit_xor R s)) (sym h.division ∙ k.division) ∙ xor_self (bit_xor R s) in
+    let none : bit_xor (bit_xor P R) (bit_xor r s) ≡ 0 =
+    xor_medial P R r s ∙ rw (← h.division, ← k.division) (xor_self (binary_product 8 a b)) in
     let same : binary_product 7 field_modulus (bit_xor q t) ≡ bit_xor r s =
-    binary_product-xor_right 7 field_modulus q t ∙ same_from_xor (bit_xor P R) (bit_xor r s) zero_sum in
-    let small : bit_xor r s < 2 ^ 8 = xor_lt 8 r s h.element k.element in
-    let none : bit_xor q t ≡ 0 = multiple_below (bit_xor q t) (xor_lt 7 q t h.quotient_degree k.quotient_degree)
-    (omega (arith, same, small)) in
-    let product_zero : binary_product 7 field_modulus (bit_xor q t) ≡ 0 =
-    ap (binary_product 7 field_modulus) none ∙ binary_product-xor_right 7 field_modulus 0 0
-    ∙ xor_self (binary_product 7 field_modulus 0) in
-    same_from_xor r s (sym same ∙ product_zero)
+    binary_product-xor_right 7 field_modulus q t ∙ same_from_xor (bit_xor P R) (bit_xor r s) none in
+    let equal : q ≡ t = same_from_xor q t (multiple_below (bit_xor q t)
+    (xor_lt 7 q t h.quotient_degree k.quotient_degree)
+    (omega (arith, same, xor_lt 8 r s h.element k.element))) in
+    same_from_xor r s (sym same ∙ binary_product-xor_right 7 field_modulus q t ∙ rw equal (xor_self R))
 
--- the clauses of the product, for what equals it
-pub of_product : (a b r : ℕ) → a < 256 → b < 256 → r ≡ field_product a b →
-    (r ≡ field_product a b) × IsFieldProduct a b r × ((s : ℕ) → IsFieldProduct a b s → s ≡ r)
-of_product a b r ha hb same =
-    let product = subst (IsFieldProduct a b) (sym same) (IsFieldProduct-field_product a b ha hb) in
-    (same, product, λ s h. IsFieldProduct-unique a b s r h product)
+-- what equals the product has its clauses
+pub IsTheFieldProduct-from_value : (a b r : ℕ) → a < 256 → b < 256 → r ≡ field_product a b → IsTheFieldProduct a b r
+IsTheFieldProduct-from_value a b r ha hb value =
+    let remainder = subst (IsFieldProduct a b) (sym value) (IsFieldProduct-field_product a b ha hb) in
+    record { value = value; remainder = remainder; only = λ s h. IsFieldProduct-unique a b s r h remainder }

@@ -1,11 +1,10 @@
 -- The multiples of a polynomial in tables, and what the code writes, as lists.
 use Rattle.std.proofs.Common.{◌≡◌, ℕ, zero, suc, ◌+◌, ◌-◌, ◌*◌, ◌/◌, ◌%◌, ◌^◌, ◌<◌, List, [], ◌∷◌, ◌++◌, length, take}
-use Rattle.std.proofs.Common.{drop, get_or, set, refl, sym, ap, ◌∙◌, arith, eqb-true, true, ◌==◌, take_all}
+use Rattle.std.proofs.Common.{drop, refl, sym, ap, ◌∙◌, arith, eqb-true, true, ◌==◌}
 use Rattle.std.specs.Prelude.{bit_xor, All}
 use Rattle.std.specs.Int.Bits.{xor_comm, xor_shifted}
 use Rattle.std.specs.List.{range_with_len}
-use Rattle.std.proofs.lemmas.List.{append_assoc, length-append, replicate-append-replicate, take-append-le}
-use Rattle.std.proofs.lemmas.List.{take_more, take_more_set}
+use Rattle.std.proofs.lemmas.List.{append_assoc, replicate-append-replicate, take_at}
 use Rattle.std.proofs.lemmas.List.Elements.{All-head, All-tail}
 use Rattle.std.proofs.lemmas.Simd.{pick_l-range_with_len}
 use Rattle.std.proofs.Math.Seq.{take-append-add}
@@ -19,24 +18,10 @@ use Rattle.gf256.proofs.AllBelowLaws.{all_below, all_below-at}
 use Rattle.gf256.proofs.DistributivityLaws.{field_product-xor_left, field_product-zero_left, field_product-zero_right}
 use Rattle.gf256.proofs.FieldLaws.{field_product-assoc, field_product-two_small}
 use Rattle.gf256.proofs.EvaluationLaws.{field_product-one_left}
-use Rattle.gf256.proofs.PolynomialSumLaws.{length-polynomial_sum, length-zeros, polynomial_sum-assoc}
-use Rattle.gf256.proofs.PolynomialSumLaws.{polynomial_sum-comm}
-use Rattle.gf256.proofs.DivisionLaws.{length-next_register, length-register_after, next_register-append_zeros}
+use Rattle.gf256.proofs.PolynomialSumLaws.{length-append_zeros, length-polynomial_sum, length-zeros}
+use Rattle.gf256.proofs.PolynomialSumLaws.{polynomial_sum-assoc, length-scalar_multiple, polynomial_sum-comm}
+use Rattle.gf256.proofs.DivisionLaws.{length-next_register, next_register-append_zeros}
 use Rattle.gf256.proofs.GeneratorLaws.{length-low_of, low_of}
-
--- one coefficient more of a polynomial that a loop writes
-pub write_more : (written whole : List ℕ) (j c : ℕ) → j < length written → j < length whole
-    → take j written ≡ take j whole → c ≡ get_or whole j 0 → take (j + 1) (set written j c) ≡ take (j + 1) whole
-write_more written whole j c room inside same is =
-    take_more_set written j c room ∙ ap (λ l. l ++ c ∷ []) same ∙ ap (λ x. take j whole ++ x ∷ []) is
-    ∙ sym (take_more whole j 0 inside)
-
-pub get_or-scalar_multiple : (c : ℕ) (p : List ℕ) (j : ℕ) → j < length p
-    → get_or (scalar_multiple c p) j 0 ≡ field_product c (get_or p j 0)
-unfolding scalar_multiple
-get_or-scalar_multiple c [] j h = absurd (omega arith)
-get_or-scalar_multiple c (a ∷ p) zero h = refl
-get_or-scalar_multiple c (a ∷ p) (suc j) h = get_or-scalar_multiple c p j (omega arith)
 
 pub scalar_multiple-zero : (p : List ℕ) → scalar_multiple 0 p ≡ zeros (length p)
 unfolding scalar_multiple
@@ -75,19 +60,19 @@ pub multiple-even : (i : ℕ) (p : List ℕ) → i < 128 → All IsElement p
     → scalar_multiple 2 (scalar_multiple i p) ≡ scalar_multiple (2 * i) p
 multiple-even i p h elements =
     let twice : i * 2 % 256 ≡ 2 * i = omega arith in
-    scalar_multiple-product 2 i p (omega arith) (omega arith) elements
-    ∙ ap (λ c. scalar_multiple c p) (sym (field_product-two_small i h) ∙ twice)
+    rw (scalar_multiple-product 2 i p (omega arith) (omega arith) elements, ← field_product-two_small i h, twice) refl
 
 pub multiple-odd : (i : ℕ) (p : List ℕ) → i < 128 → All IsElement p
     → polynomial_sum (scalar_multiple 2 (scalar_multiple i p)) p ≡ scalar_multiple (2 * i + 1) p
 multiple-odd i p h elements =
     let twice : 2 * i ≡ i * 2 ^ 1 = omega arith in
-    let more : i * 2 ^ 1 + 1 ≡ 2 * i + 1 = omega arith in
-    ap (λ l. polynomial_sum l p) (multiple-even i p h elements)
-    ∙ ap (polynomial_sum (scalar_multiple (2 * i) p)) (sym (scalar_multiple-one p elements))
-    ∙ scalar_multiple-sum (2 * i) 1 p
-    ∙ ap (λ c. scalar_multiple (bit_xor c 1) p) twice
-    ∙ ap (λ c. scalar_multiple c p) (xor_shifted i 1 1 (omega arith) ∙ more)
+    rw (
+      multiple-even i p h elements,
+      twice,
+      ← xor_shifted i 1 1 (omega arith),
+      ← scalar_multiple-sum (i * 2 ^ 1) 1 p,
+      scalar_multiple-one p elements,
+    ) refl
 
 sixteens : all_below (λ i. field_product i 16 == i * 2 ^ 4) 16 ≡ true
 unfolding all_below field_product binary_product binary_remainder
@@ -101,12 +86,9 @@ multiple-parts f p h elements =
     let whole : f / 16 * 2 ^ 4 + f % 16 ≡ f = omega arith in
     let sixteen : field_product (f / 16) 16 ≡ f / 16 * 2 ^ 4 =
     eqb-true _ _ (all_below-at (λ i. field_product i 16 == i * 2 ^ 4) 16 (f / 16) sixteens (omega arith)) in
-    ap (polynomial_sum (scalar_multiple (f % 16) p))
-    (scalar_multiple-product (f / 16) 16 p (omega arith) (omega arith) elements
-    ∙ ap (λ c. scalar_multiple c p) sixteen)
-    ∙ scalar_multiple-sum (f % 16) (f / 16 * 2 ^ 4) p
-    ∙ ap (λ c. scalar_multiple c p)
-    (xor_comm (f % 16) (f / 16 * 2 ^ 4) ∙ xor_shifted (f / 16) 4 (f % 16) (omega arith) ∙ whole)
+    rw (scalar_multiple-product (f / 16) 16 p (omega arith) (omega arith) elements, sixteen)
+    (scalar_multiple-sum (f % 16) (f / 16 * 2 ^ 4) p ∙ ap (λ c. scalar_multiple c p)
+    (xor_comm (f % 16) (f / 16 * 2 ^ 4) ∙ xor_shifted (f / 16) 4 (f % 16) (omega arith) ∙ whole))
 
 -- a register with zeros behind it, where the generator has them too
 next_register-zeros : (low register : List ℕ) (codeword n : ℕ) → 0 < length low → length register ≡ length low
@@ -117,7 +99,8 @@ next_register-zeros low (r ∷ rs) codeword n some long =
     let fed = bit_xor r codeword in
     let one_more : n + 1 ≡ suc n = omega arith in
     let behind : (rs ++ zeros n) ++ 0 ∷ [] ≡ rs ++ zeros (suc n) =
-    append_assoc rs (zeros n) (0 ∷ []) ∙ ap (λ l. rs ++ l) (replicate-append-replicate {A = ℕ} n 1 0 ∙ ap zeros one_more)
+    append_assoc rs (zeros n) (0 ∷ []) ∙ ap (λ l. rs ++ l) (replicate-append-replicate {A = ℕ} n 1 0
+    ∙ ap zeros one_more)
     in
     (λ i. polynomial_sum (behind i) (scalar_multiple-append_zeros fed low n i))
     ∙ polynomial_sum-comm (rs ++ zeros (suc n)) (scalar_multiple fed low ++ zeros n)
@@ -129,28 +112,25 @@ register_after-zeros : (low register codewords : List ℕ) (n : ℕ) → 0 < len
 unfolding register_after
 register_after-zeros low register [] n some long = refl
 register_after-zeros low register (codeword ∷ codewords) n some long =
-    ap (λ l. register_after (low ++ zeros n) l codewords) (next_register-zeros low register codeword n some long)
-    ∙ register_after-zeros low (next_register low register codeword) codewords n some
-    (length-next_register low register codeword some long)
+    rw (next_register-zeros low register codeword n some long)
+    (register_after-zeros low (next_register low register codeword) codewords n some
+    (length-next_register low register codeword some long))
 
 -- the k codewords are in front of the 32 places of a register
 pub ec_codewords-padded : (k : ℕ) (codewords : List ℕ) → IsEcCodewordCount k
+    → length (ec_codewords_of k codewords) ≡ k
     → take k (register_after (padded_generator k) (zeros 32) codewords) ≡ ec_codewords_of k codewords
 unfolding padded_generator ec_codewords_of low_of
-ec_codewords-padded k codewords few =
+ec_codewords-padded k codewords few long =
     let low = drop 1 (generator k) in
-    let ec_codewords = register_after low (zeros k) codewords in
-    let long_low : length low ≡ k = length-low_of k in
-    let same : length (zeros k) ≡ length low = length-zeros k ∙ sym long_low in
-    let some : 0 < length low = omega (arith, long_low, few.0) in
     let all : k + (32 - k) ≡ 32 = omega (arith, few.1) in
     let start : zeros 32 ≡ zeros k ++ zeros (32 - k) =
     sym (replicate-append-replicate {A = ℕ} k (32 - k) 0 ∙ ap zeros all) in
-    let long : length ec_codewords ≡ k = length-register_after low (zeros k) codewords some same ∙ long_low in
-    ap (λ l. take k (register_after (low ++ zeros (32 - k)) l codewords)) start
-    ∙ ap (take k) (register_after-zeros low (zeros k) codewords (32 - k) some same)
-    ∙ take-append-le k ec_codewords (zeros (32 - k)) (omega (arith, long))
-    ∙ take_all k ec_codewords (omega (arith, long))
+    rw (
+      start,
+      register_after-zeros low (zeros k) codewords (32 - k) (omega (arith, length-low_of k, few.0))
+          (length-zeros k ∙ sym (length-low_of k)),
+    ) (take_at (register_after low (zeros k) codewords) (zeros (32 - k)) k long)
 
 -- an operator on two vectors
 pub zip2-polynomial_sum : (p q : List ℕ) → length p ≡ length q → zip2 bit_xor p q ≡ polynomial_sum p q
@@ -160,12 +140,22 @@ zip2-polynomial_sum [] (b ∷ q) same = absurd (omega (arith, same))
 zip2-polynomial_sum (a ∷ p) [] same = absurd (omega (arith, same))
 zip2-polynomial_sum (a ∷ p) (b ∷ q) same = ap (λ l. bit_xor a b ∷ l) (zip2-polynomial_sum p q (omega (arith, same)))
 
-pub zip2-two_sums : (p low high : List ℕ) → length p ≡ length low → length low ≡ length high
-    → zip2 bit_xor (zip2 bit_xor p low) high ≡ polynomial_sum p (polynomial_sum low high)
-zip2-two_sums p low high same as_high =
-    ap (λ l. zip2 bit_xor l high) (zip2-polynomial_sum p low same)
-    ∙ zip2-polynomial_sum (polynomial_sum p low) high (length-polynomial_sum p low same ∙ as_high)
-    ∙ polynomial_sum-assoc p low high
+-- the sum of a vector and the rows of two tables, of which each holds a part of a multiple
+pub zip2-parts : (p low high divisor : List ℕ) (fed : ℕ) → fed < 256 → All IsElement divisor
+    → length p ≡ length divisor → low ≡ scalar_multiple (fed % 16) divisor
+    → high ≡ scalar_multiple (fed / 16) (scalar_multiple 16 divisor)
+    → zip2 bit_xor (zip2 bit_xor p low) high ≡ polynomial_sum p (scalar_multiple fed divisor)
+zip2-parts p low high divisor fed small elements long is_low is_high =
+    let front = scalar_multiple (fed % 16) divisor in
+    let back = scalar_multiple (fed / 16) (scalar_multiple 16 divisor) in
+    rw (
+      is_low,
+      is_high,
+      zip2-polynomial_sum p front (omega (arith, length-scalar_multiple)),
+      zip2-polynomial_sum (polynomial_sum p front) back (omega (arith, length-scalar_multiple, length-polynomial_sum)),
+      polynomial_sum-assoc p front back,
+      multiple-parts fed divisor small elements,
+    ) refl
 
 -- the places 1 to 32 of a register and of a vector of zeros behind it
 pub next_places : (register : List ℕ) → length register ≡ 32
@@ -174,5 +164,5 @@ next_places [] long = absurd (omega (arith, long))
 next_places (r ∷ rs) long =
     let all = (r ∷ rs) ++ zeros 32 in
     let one_more : length rs + 1 ≡ 32 = omega (arith, long) in
-    pick_l-range_with_len 0 all 1 32 (omega (arith, long, length-append (r ∷ rs) (zeros 32), length-zeros 32))
+    pick_l-range_with_len 0 all 1 32 (omega (arith, long, length-append_zeros (r ∷ rs) 32))
     ∙ ap (λ n. take n (rs ++ zeros 32)) (sym one_more) ∙ take-append-add rs (zeros 32) 1

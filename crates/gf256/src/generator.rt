@@ -131,8 +131,9 @@ fn coefficients_of(k: usize) -> Multiple
     ensures { result ≡ padded_generator k }
 {
     let mut coefficients = [0; PLACES];
-    for (j, logarithm) in logarithms_of(k).iter().enumerate() {
-        coefficients[j] = power_of(*logarithm);
+    let logarithms = logarithms_of(k);
+    for j in 0..k {
+        coefficients[j] = power_of(logarithms[j]);
     }
     coefficients
 }

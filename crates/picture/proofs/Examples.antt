@@ -1,6 +1,6 @@
 -- Worked pictures, computed.
-use Rattle.std.specs.Prelude.{◌≡◌, ℕ, ◌/◌, ◌%◌, Bool, ◌==◌, not, List, [], ◌∷◌, ◌++◌, map, length, codes, refl, true, false}
-use Rattle.std.specs.Prelude.{Some, None, replicate, take, slice_set, slice_index_or}
+use Rattle.std.specs.Prelude.{◌≡◌, ℕ, ◌/◌, ◌%◌, Bool, ◌==◌, not, List, [], ◌∷◌, ◌++◌, map, length, codes, refl, true}
+use Rattle.std.specs.Prelude.{false, Some, None, replicate, take, slice_set, slice_index_or}
 use Rattle.std.specs.List.{range_with_len}
 use Rattle.std.specs.Fmt.{digits}
 use Rattle.device.specs.Lines.{lines, ended_lines, open_line}
@@ -23,10 +23,6 @@ pbm_ean8 : pbm_text ean8_picture
     ≡ codes "P1\n81 1\n0000000101011101101111010110001001100101010100001010011101000010100010\n01010000000\n"
 unfolding digits
 pbm_ean8 = refl
-
-pbm_ean8_length : length (pbm_text ean8_picture) ≡ 91
-unfolding digits
-pbm_ean8_length = refl
 
 pbm_ean8_read : pbm_pixels (pbm_text ean8_picture) ≡ Some (raster ean8_picture)
 unfolding digits pbm_pixels lines ended_lines open_line
@@ -84,42 +80,26 @@ white : map is_white (8 ∷ 9 ∷ 10 ∷ 11 ∷ 12 ∷ 13 ∷ 14 ∷ 31 ∷ 32 �
     false ∷ true ∷ true ∷ false ∷ false ∷ true ∷ false ∷ false ∷ true ∷ false ∷ []
 white = refl
 
-spaced : pbm_pixels (codes "P1\t2\r\n1\n\n1\t0 \r") ≡ Some (record {
-  width = 2;
-  height = 1;
-  rows = (true ∷ false ∷ []) ∷ [];
-})
-unfolding pbm_pixels lines ended_lines open_line
-spaced = refl
-
-nine_wide : pbm_pixels (codes "P1\n9 1\n111111110\n") ≡ Some (record {
-  width = 9;
-  height = 1;
-  rows = (true ∷ true ∷ true ∷ true ∷ true ∷ true ∷ true ∷ true ∷ false ∷ []) ∷ [];
-})
-unfolding pbm_pixels lines ended_lines open_line
-nine_wide = refl
-
--- neither a letter as a digit, nor 71 characters in a line, nor a text in the place of the one white byte
-no_pixels : map pbm_pixels (codes "P1\na 1\n1111111111\n"
-    ∷ codes "P1\n71 1\n11111111111111111111111111111111111111111111111111111111111111111111111\n"
-    ∷ codes "P1\n1 1" ∷ []) ≡ None ∷ None ∷ None ∷ []
-unfolding pbm_pixels lines ended_lines open_line
-no_pixels = refl
-
--- the digits row by row, as many as the size says, each 0 or 1 (pbm(5)), after `P1` and white space
 abbrev rows_of : List (List ℕ) → List (List Bool)
 rows_of texts = map (λ text. map (λ b. b == 49) text) texts
 
-three_rows : pbm_pixels (codes "P1\n2 3\n110010\n")
-    ≡ Some (record { width = 2; height = 3; rows = rows_of (codes "11" ∷ codes "00" ∷ codes "10" ∷ []) })
+-- the digits row by row, as many as the size says, each 0 or 1 (pbm(5)), after `P1` and white space
+files_read : map pbm_pixels (codes "P1\t2\r\n1\n\n1\t0 \r" ∷ codes "P1\n9 1\n111111110\n" ∷ codes "P1\n2 3\n110010\n"
+    ∷ []) ≡
+    Some (record { width = 2; height = 1; rows = rows_of (codes "10" ∷ []) })
+    ∷ Some (record { width = 9; height = 1; rows = rows_of (codes "111111110" ∷ []) })
+    ∷ Some (record { width = 2; height = 3; rows = rows_of (codes "11" ∷ codes "00" ∷ codes "10" ∷ []) }) ∷ []
 unfolding pbm_pixels lines ended_lines open_line
-three_rows = refl
+files_read = refl
 
-no_raster : map pbm_pixels (codes "P1\n2 3\n11001\n" ∷ codes "P1\n2 3\n1100101\n" ∷ codes "P1\n2 1\n12\n"
-    ∷ codes "P4\n1 1\n1\n" ∷ codes "P11 1\n1\n" ∷ codes "P1\n11\n1\n" ∷ []) ≡ replicate 6 None
+-- neither a letter as a digit, nor 71 characters in a line, nor a text in the place of the one white byte, nor another
+-- number of digits or another digit than the raster has, nor another beginning
+not_read : map pbm_pixels (codes "P1\na 1\n1111111111\n"
+    ∷ codes "P1\n71 1\n11111111111111111111111111111111111111111111111111111111111111111111111\n"
+    ∷ codes "P1\n1 1" ∷ codes "P1\n2 3\n11001\n" ∷ codes "P1\n2 3\n1100101\n" ∷ codes "P1\n2 1\n12\n"
+    ∷ codes "P4\n1 1\n1\n" ∷ codes "P11 1\n1\n" ∷ codes "P1\n11\n1\n" ∷ []) ≡ replicate 9 None
 unfolding pbm_pixels lines ended_lines open_line
-no_raster = refl
+not_read = refl
 
 -- a text picture has lines of equal length, each of pairs of one letter, and then an empty line
 text_pixels : ascii_pixels (codes "##  ##\n    ##\n\n")

@@ -1,29 +1,20 @@
 -- The lengths of the texts of rows.
-use Rattle.std.proofs.Common.{◌≡◌, ℕ, suc, zero, ◌+◌, ◌*◌, Bool, List, [], ◌∷◌, refl, ap, sym, ◌∙◌, arith, flat_map, map}
-use Rattle.std.proofs.Common.{length, take, length-append}
+use Rattle.std.proofs.Common.{◌≡◌, ℕ, suc, zero, ◌+◌, ◌*◌, Bool, List, [], ◌∷◌, refl, ap, ◌∙◌, arith, flat_map, length}
+use Rattle.std.proofs.Common.{take, length-append}
 use Rattle.std.specs.Int.{div_ceil}
 use Rattle.std.proofs.lemmas.List.{append-nil, length-map}
 use Rattle.picture.specs.Private.Rows.{piece, row_text}
-use Rattle.picture.specs.Text.{below, pbm_digit, pbm_piece, ascii_pixel}
+use Rattle.picture.specs.Text.{below, pbm_piece, ascii_pixel}
 use Rattle.picture.proofs.LetterLaws.{length-letters}
-use Rattle.picture.proofs.WritingLaws.{all_pieces, flat_map-below_more, letters_of_pieces, take_piece}
+use Rattle.picture.proofs.WritingLaws.{all_pieces, flat_map-below_suc, letters_of_pieces, take_piece}
 
 length-pbm_pieces : (row : List Bool) (k : ℕ) → length (flat_map (λ k. pbm_piece (piece row k)) (below k))
     ≡ length (take (70 * k) row) + k
 length-pbm_pieces row zero = refl
 length-pbm_pieces row (suc k) =
     let next : suc k ≡ k + 1 = omega arith in
-    let pieces : ℕ → List ℕ = λ n. flat_map (λ k. pbm_piece (piece row k)) (below n) in
-    let last = piece row k in
-    let one : length (pbm_piece last) ≡ length last + 1 =
-    length-append (map pbm_digit last) (10 ∷ []) ∙ ap (λ (n : ℕ). n + 1) (length-map last pbm_digit) in
-    let more : length (pieces (k + 1)) ≡ length (pieces k) + length (pbm_piece last) =
-    ap length (flat_map-below_more (λ k. pbm_piece (piece row k)) k) ∙ length-append (pieces k) (pbm_piece last) in
-    let pixels : length (take (70 * (k + 1)) row) ≡ length (take (70 * k) row) + length last =
-    ap length (take_piece row k) ∙ length-append (take (70 * k) row) last in
-    let sum : length (pieces (k + 1)) ≡ length (take (70 * (k + 1)) row) + (k + 1) =
-    omega (arith, one, more, pixels, length-pbm_pieces row k) in
-    ap (λ (n : ℕ). length (pieces n)) next ∙ (sum ∙ ap (λ (n : ℕ). length (take (70 * n) row) + n) (sym next))
+    rw (flat_map-below_suc (λ k. pbm_piece (piece row k)) k, next, take_piece row k)
+    (simp (length-append, length-map) (omega (arith, length-pbm_pieces row k)))
 
 -- a digit for each pixel, and a line feed for each piece
 pub length-pbm_row : (row : List Bool) → length (row_text pbm_piece [] row) ≡ length row + div_ceil (length row) 70

@@ -7,10 +7,10 @@ pub mod LengthLaws
 pub mod LetterLaws
 pub mod LineLaws
 pub mod PbmLaws
+pub mod PbmLineLaws
 pub mod RasterLaws
 pub mod RepeatedLaws
 pub mod SampleLaws
-pub mod ShortLineLaws
 pub mod WritingLaws
 pub mod WritingLoopLaws
 pub mod Theorems

@@ -1,37 +1,25 @@
 -- A plain PBM file reads back as the picture's pixels.
-use Rattle.std.proofs.Common.{◌≡◌, ◌==◌, ℕ, suc, Bool, false, ◌+◌, true, List, [], ◌∷◌, ◌++◌, length}
-use Rattle.std.proofs.Common.{take}
-use Rattle.std.proofs.Common.{drop, map, flat_map, refl, ap, sym, ◌∙◌, arith, codes, decimal, Some, append_assoc}
-use Rattle.std.specs.List.{prefix_len}
-use Rattle.std.specs.Str.{bytes_eq}
+use Rattle.std.proofs.Common.{◌≡◌, ◌<◌, ◌^◌, ◌==◌, ℕ, suc, Bool, false, ◌+◌, ◌*◌, true, List, [], ◌∷◌, ◌++◌, length}
+use Rattle.std.proofs.Common.{nat_le, drop, map, flat_map, refl, ap, sym, ◌∙◌, arith, decimal, Some, append_assoc}
+use Rattle.std.specs.List.{prefix_len, list_all}
+use Rattle.device.specs.Lines.{lines}
+use Rattle.std.specs.Char.{is_digit}
+use Rattle.qrdata.specs.Steps.{◌>>=◌}
 use Rattle.std.proofs.lemmas.Bool.{eq-eqb, ne_eqb}
 use Rattle.std.proofs.lemmas.List.FromFn.{length-range_with_len}
 use Rattle.picture.specs.Picture.{Picture}
 use Rattle.picture.specs.ReadingLaws.{TextsAreRead, IsDrawable}
-use Rattle.picture.specs.Text.{below, pixel_row, pbm_digit, pbm_row, pbm_text}
-use Rattle.picture.specs.Reading.{is_white, raster_of, pbm_pixels, after_white, leading_number}
+use Rattle.picture.specs.Text.{below, pbm_digit, pbm_row, pbm_text}
+use Rattle.picture.specs.Reading.{is_white, raster, raster_of, pbm_pixels, after_white, leading_number}
 use Rattle.picture.proofs.RasterLaws.{strip, pixels, strip-pbm_rows, all_digits, length-digits, rows-digits}
-use Rattle.picture.proofs.HeaderLaws.{leading_number-decimal, after_white-decimal}
-use Rattle.picture.proofs.ShortLineLaws.{has_short_lines, short_rows, short_header}
+use Rattle.picture.proofs.HeaderLaws.{number_after_white}
+use Rattle.picture.proofs.PbmLineLaws.{short_lines}
 
--- a text that passes the two tests and the five readings of pbm_pixels has the pixels of what the last one leaves
--- there is a fact for each of the seven, and a value for each text that is left, as the next reading begins with it:
--- read_back, the only caller, proves each fact by itself, and the proof rewrites by all of them
-pbm_pixels-steps : (text first second third fourth rest : List ℕ) (width height : ℕ) →
-    has_short_lines text ≡ true → bytes_eq (take 2 text) (codes "P1") ≡ true → after_white (drop 2 text) ≡ Some first →
-    leading_number first ≡ Some (width, second) → after_white second ≡ Some third
-    → leading_number third ≡ Some (height, fourth)
-    → after_white fourth ≡ Some rest →
-    pbm_pixels text ≡ raster_of width height (strip rest)
-unfolding pbm_pixels
-pbm_pixels-steps text first second third fourth rest width height short magic one two three four five =
-    rw (short, magic, one, two, three, four, five) refl
-
-raster_of-digits : (p : Picture) (ys : List ℕ) → p.height ≡ length ys →
-    raster_of p.width p.height (map pbm_digit (pixels p ys))
-    ≡ Some (record { width = p.width; height = p.height; rows = map (pixel_row p) ys })
-raster_of-digits p ys e =
-    rw (e, all_digits (pixels p ys), eq-eqb _ _ (length-digits p ys), rows-digits p ys) refl
+raster_of-digits : (p : Picture)
+    → raster_of p.width p.height (map pbm_digit (pixels p (below p.height))) ≡ Some (raster p)
+raster_of-digits p =
+    let size = length-digits p (below p.height) ∙ ap (λ (n : ℕ). p.width * n) (length-range_with_len 0 p.height) in
+    rw (all_digits (pixels p (below p.height)), eq-eqb _ _ size, rows-digits p) refl
 
 -- the text after the white space at its front
 abbrev drop_white : List ℕ → List ℕ
@@ -52,6 +40,23 @@ strip-drop_white (b ∷ text) = by_test (strip-drop_white text) (is_white b) ref
   by_test same true e = let more : 1 + prefix_len is_white text ≡ suc (prefix_len is_white text) = omega arith in
       rw (e, more) same
 
+-- a text of these parts, where each number is read with what is before it
+read_sizes : (w h body : List ℕ) (width height : ℕ)
+    → list_all (λ line. nat_le (length line) 70) (lines (80 ∷ 49 ∷ 10 ∷ (w ++ 32 ∷ (h ++ 10 ∷ body)))) ≡ true
+    → ((c : ℕ) (rest : List ℕ) → is_digit c 10 ≡ false
+    → (after_white (10 ∷ w ++ c ∷ rest) >>= leading_number) ≡ Some (width, c ∷ rest))
+    → ((c : ℕ) (rest : List ℕ) → is_digit c 10 ≡ false
+    → (after_white (32 ∷ h ++ c ∷ rest) >>= leading_number) ≡ Some (height, c ∷ rest))
+    → pbm_pixels (80 ∷ 49 ∷ 10 ∷ (w ++ 32 ∷ (h ++ 10 ∷ body))) ≡ raster_of width height (strip body)
+unfolding pbm_pixels
+read_sizes w h body width height short wide high = rw (
+  short,
+  wide 32 (h ++ 10 ∷ body) refl,
+  high 10 body refl,
+  after_white-white 10 body refl,
+  strip-drop_white (10 ∷ body),
+) refl
+
 -- the text, line by line
 grouped : (w h body : List ℕ) → ((((80 ∷ 49 ∷ 10 ∷ []) ++ w) ++ (32 ∷ [])) ++ h) ++ (10 ∷ []) ++ body
     ≡ 80 ∷ 49 ∷ 10 ∷ (w ++ 32 ∷ (h ++ 10 ∷ body))
@@ -59,22 +64,18 @@ grouped w h body = simp append_assoc
 
 -- a plain PBM file reads back as the picture's pixels
 pub pbm_pixels-pbm_text : TextsAreRead pbm_text pbm_pixels IsDrawable
-pbm_pixels-pbm_text p h =
-    let wide = h.wide in
-    let high = h.high in
-    let body = flat_map (pbm_row p) (below p.height) in
+pbm_pixels-pbm_text p drawable =
     let w = decimal p.width in
     let h = decimal p.height in
-    let text = 80 ∷ 49 ∷ 10 ∷ (w ++ 32 ∷ (h ++ 10 ∷ body)) in
-    let short : has_short_lines text ≡ true =
-    ap (λ t. has_short_lines (80 ∷ 49 ∷ 10 ∷ t)) (sym (append_assoc w (32 ∷ h) (10 ∷ body)))
-    ∙ short_header p.width p.height body wide high (short_rows p (below p.height)) in
+    let body = flat_map (pbm_row p) (below p.height) in
     ap pbm_pixels (grouped w h body)
-    ∙ pbm_pixels-steps text (w ++ 32 ∷ (h ++ 10 ∷ body)) (32 ∷ (h ++ 10 ∷ body)) (h ++ 10 ∷ body) (10 ∷ body)
-    (drop_white (10 ∷ body)) p.width p.height
-    short refl (after_white-decimal p.width 10 (32 ∷ (h ++ 10 ∷ body)) wide refl)
-    (leading_number-decimal p.width 32 (h ++ 10 ∷ body) wide refl)
-    (after_white-decimal p.height 32 (10 ∷ body) high refl) (leading_number-decimal p.height 10 body high refl)
-    (after_white-white 10 body refl)
-    ∙ ap (raster_of p.width p.height) (strip-drop_white (10 ∷ body) ∙ strip-pbm_rows p (below p.height))
-    ∙ raster_of-digits p (below p.height) (sym (length-range_with_len 0 p.height))
+    ∙ read_sizes w h body p.width p.height (ap (λ t. list_all (λ line. nat_le (length line) 70) (lines t))
+    (sym (grouped w h body)) ∙ short_lines p drawable)
+    (number_after_white p.width 10 drawable.wide refl) (number_after_white p.height 32 drawable.high refl)
+    ∙ ap (raster_of p.width p.height) (strip-pbm_rows p (below p.height)) ∙ raster_of-digits p
+
+-- the same where the code has the two sides as its numbers
+pub read_back : (p : Picture) (width height : ℕ) → 0 < p.width → width ≡ p.width → width < 2 ^ 64 → height ≡ p.height
+    → height < 2 ^ 64 → pbm_pixels (pbm_text p) ≡ Some (raster p)
+read_back p width height some as_width wide as_height high = pbm_pixels-pbm_text p
+    (record { some = some; wide = omega (arith, as_width, wide); high = omega (arith, as_height, high) })

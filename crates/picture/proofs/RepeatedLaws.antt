@@ -1,22 +1,22 @@
 -- A text that is written many times.
 use Rattle.std.proofs.Common.{◌≡◌, ℕ, suc, zero, ◌+◌, ◌-◌, ◌*◌, ◌<◌, ◌≤◌, Bool, true, List, ◌++◌, Ok, refl, ap, sym}
-use Rattle.std.proofs.Common.{subst, ◌∙◌, arith, append_assoc, flat_map, length, length-append}
+use Rattle.std.proofs.Common.{subst, ◌∙◌, arith, append_assoc, flat_map, length, length-append, take}
 use Rattle.std.specs.List.{range_with_len}
 use Rattle.std.proofs.lemmas.Bool.{false≢true}
+use Rattle.std.proofs.lemmas.List.{length-take-le}
 use Rattle.device.specs.Sink.{RepeatsBytes}
 use Rattle.device.specs.Writing.{WritesText}
 use Rattle.device.specs.declared.sink.Sink.{Ghosts}
 use Rattle.picture.specs.Private.Rows.{EndsWith, repeated}
-use Rattle.picture.proofs.WritingLaws.{flat_map-below_add, flat_map-below_more}
+use Rattle.picture.proofs.WritingLaws.{flat_map-below_add, flat_map-below_more, flat_map-below_suc}
 
 -- one text for each of n numbers, from a or from y on
 pub same_texts : (f : ℕ → List ℕ) (text : List ℕ) (a y n : ℕ) → ((k : ℕ) → y ≤ k → k < y + n → text ≡ f k)
     → flat_map (λ _. text) (range_with_len a n) ≡ flat_map f (range_with_len y n)
 same_texts f text a y zero same = refl
 same_texts f text a y (suc n) same =
-    ap (λ (t : List ℕ). t ++ flat_map (λ _. text) (range_with_len (a + 1) n)) (same y (omega arith) (omega arith))
-    ∙ ap (λ (t : List ℕ). f y ++ t)
-    (same_texts f text (a + 1) (y + 1) n (λ k low high. same k (omega arith) (omega arith)))
+    rw (← same y (omega arith) (omega arith)) (ap (λ (t : List ℕ). text ++ t)
+    (same_texts f text (a + 1) (y + 1) n (λ k low high. same k (omega arith) (omega arith))))
 
 pub repeated-add : (text : List ℕ) (n m : ℕ) → repeated (n + m) text ≡ repeated n text ++ repeated m text
 repeated-add text n m = flat_map-below_add (λ _. text) n m
@@ -25,10 +25,14 @@ repeated-add text n m = flat_map-below_add (λ _. text) n m
 pub length-repeated : (text : List ℕ) (n : ℕ) → length (repeated n text) ≡ n * length text
 length-repeated text zero = omega arith
 length-repeated text (suc n) =
-    let next : suc n ≡ n + 1 = omega arith in
-    let more : length (repeated (n + 1) text) ≡ length (repeated n text) + length text =
-    ap length (flat_map-below_more (λ _. text) n) ∙ length-append (repeated n text) text in
-    ap (λ (k : ℕ). length (repeated k text)) next ∙ omega (arith, more, length-repeated text n)
+    rw (flat_map-below_suc (λ _. text) n) (simp length-append (omega (arith, length-repeated text n)))
+
+-- the rows of a width have texts of one length
+pub length-repeated_row : (text : List Bool → List ℕ) (kept : List Bool) (width count len : ℕ) → width ≤ length kept
+    → ((row : List Bool) → length row ≡ width → length (text row) ≡ len)
+    → length (repeated count (text (take width kept))) ≡ count * len
+length-repeated_row text kept width count len fits each = rw (length-repeated (text (take width kept)) count)
+    (ap (λ (n : ℕ). count * n) (each (take width kept) (length-take-le width kept fits)))
 
 -- a text that was written n times was written m times last
 pub EndsWith-repeated : {S : Type 0} (took : S → S → List ℕ → Type 0) (s t : S) (text : List ℕ) (n m : ℕ) → m ≤ n
@@ -52,9 +56,11 @@ EndsWith-more took took_joined s t text n k some last more =
     record {
       first = last.first;
       before = last.before ++ repeated (n + k - 1) text;
-      whole = subst (took last.first t) (append_assoc last.before (repeated n text) (repeated k text)
-          ∙ (ap (λ (xs : List ℕ). last.before ++ xs) texts
-          ∙ sym (append_assoc last.before (repeated (n + k - 1) text) text)))
+      whole = rw (
+        append_assoc last.before (repeated (n + k - 1) text) text,
+        ← texts,
+        ← append_assoc last.before (repeated n text) (repeated k text),
+      )
           (took_joined last.first s t (last.before ++ repeated n text) (repeated k text) last.whole more);
     }
 

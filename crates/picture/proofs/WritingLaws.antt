@@ -1,19 +1,20 @@
 -- The texts of rows, piece by piece.
 use Rattle.std.proofs.Common.{◌≡◌, ℕ, suc, zero, ◌+◌, ◌-◌, ◌*◌, ◌<◌, ◌≤◌, min, Bool, List, [], ◌∷◌, ◌++◌, refl, ap, sym}
-use Rattle.std.proofs.Common.{subst, ◌∙◌, arith, append_assoc, flat_map, map, length, take, drop, zero-add, add-zero}
-use Rattle.std.proofs.Common.{inl, inr}
+use Rattle.std.proofs.Common.{◌∙◌, arith, flat_map, map, length, take, drop, zero-add, add-zero, false}
 use Rattle.std.specs.Int.{div_ceil}
 use Rattle.std.specs.List.{range_with_len}
 use Rattle.std.specs.Prelude.{slice_range}
-use Rattle.std.proofs.lemmas.Bool.{cases_lt}
-use Rattle.std.proofs.lemmas.List.{append-nil, map-append, take_at, drop_at, take_all, take-take, drop-take}
-use Rattle.std.proofs.lemmas.List.{length-take}
+use Rattle.std.proofs.lemmas.List.{append-nil, take_all, take-take, length-take, get_or-drop, get_or-take, length-drop}
+use Rattle.std.proofs.lemmas.List.{length-take-le, take_min}
 use Rattle.std.proofs.lemmas.Slice.{between_is}
 use Rattle.std.proofs.lemmas.Grind.{flat_map-append}
-use Rattle.std.proofs.lemmas.List.FromFn.{length-map-range_with_len}
+use Rattle.std.proofs.lemmas.List.Folds.{flat_map-map}
+use Rattle.std.proofs.lemmas.List.FromFn.{get_or-map-range_with_len, length-map-range_with_len}
+use Rattle.std.proofs.Math.Seq.{take-add}
+use Rattle.picture.proofs.GridLaws.{filled_from}
 use Rattle.picture.specs.Picture.{Picture}
 use Rattle.picture.specs.Private.Rows.{piece, row_text}
-use Rattle.picture.specs.Text.{below, pixel_row, pbm_digit, pbm_piece, pbm_row, ascii_pixel, ascii_row}
+use Rattle.picture.specs.Text.{below, pixel_row, pbm_piece, pbm_row, ascii_pixel, ascii_row}
 
 pub range_with_len-add : (a n m : ℕ) → range_with_len a (n + m) ≡ range_with_len a n ++ range_with_len (a + n) m
 range_with_len-add a zero m = rw (zero-add m, add-zero a) refl
@@ -25,15 +26,16 @@ range_with_len-add a (suc n) m =
 -- the texts of the numbers below n + m
 pub flat_map-below_add : (f : ℕ → List ℕ) (n m : ℕ) → flat_map f (below (n + m))
     ≡ flat_map f (below n) ++ flat_map f (range_with_len n m)
-flat_map-below_add f n m =
-    ap (flat_map f) (range_with_len-add 0 n m)
-    ∙ (flat_map-append f (below n) (range_with_len (0 + n) m)
-    ∙ ap (λ (k : ℕ). flat_map f (below n) ++ flat_map f (range_with_len k m)) (zero-add n))
+flat_map-below_add f n m = rw (range_with_len-add 0 n m, zero-add n) (flat_map-append f (below n) (range_with_len n m))
 
 -- the text of one number more
 pub flat_map-below_more : (f : ℕ → List ℕ) (n : ℕ) → flat_map f (below (n + 1)) ≡ flat_map f (below n) ++ f n
 flat_map-below_more f n =
     flat_map-below_add f n 1 ∙ ap (λ (xs : List ℕ). flat_map f (below n) ++ xs) (append-nil (f n))
+
+pub flat_map-below_suc : (f : ℕ → List ℕ) (n : ℕ) → flat_map f (below (suc n)) ≡ flat_map f (below n) ++ f n
+flat_map-below_suc f n =
+    let next : suc n ≡ n + 1 = omega arith in ap (λ (k : ℕ). flat_map f (below k)) next ∙ flat_map-below_more f n
 
 -- the texts of the numbers below n are a front of those below a larger number
 pub flat_map-below_front : (f : ℕ → List ℕ) (n all : ℕ) → n ≤ all
@@ -44,88 +46,36 @@ flat_map-below_front f n all h =
       ap (λ (m : ℕ). flat_map f (below m)) size ∙ flat_map-below_add f n (all - n),
     )
 
--- the pixels below x + n
-pub map-below_add : (dark : ℕ → Bool) (x n : ℕ) → map dark (below (x + n))
-    ≡ map dark (below x) ++ map dark (range_with_len x n)
-map-below_add dark x n =
-    ap (map dark) (range_with_len-add 0 x n)
-    ∙ (map-append dark (below x) (range_with_len (0 + x) n)
-    ∙ ap (λ (k : ℕ). map dark (below x) ++ map dark (range_with_len k n)) (zero-add x))
-
-take_add : {X : Type 0} → (n m : ℕ) (xs : List X) → take (n + m) xs ≡ take n xs ++ take m (drop n xs)
-take_add {X} zero m xs = rw (zero-add m) refl
-take_add {X} (suc n) m [] = rw (take_all {A = X} (suc n + m) [] (omega arith), take_all {A = X} m [] (omega arith)) refl
-take_add {X} (suc n) m (x ∷ xs) = let more : suc n + m ≡ suc (n + m) = omega arith in rw (more, take_add n m xs) refl
-
 -- the pixels before a piece, and the piece
 pub take_piece : (row : List Bool) (k : ℕ) → take (70 * (k + 1)) row ≡ take (70 * k) row ++ piece row k
 take_piece row k = let place : 70 * (k + 1) ≡ 70 * k + 70 = omega arith in ap (λ (n : ℕ). take n row) place
-    ∙ take_add (70 * k) 70 row
+    ∙ take-add (70 * k) 70 row
 
 -- all pieces of a row are the row
 pub all_pieces : (row : List Bool) → take (70 * div_ceil (length row) 70) row ≡ row
 all_pieces row = take_all (70 * div_ceil (length row) 70) row (omega arith)
 
 -- a piece of a row at the front of a longer list, from the 80 pixels that begin with it
-pub piece_held : (room : List Bool) (width k n : ℕ) → 70 * k < width → n ≡ min 70 (width - 70 * k)
-    → take n (slice_range room (70 * k) (70 * k + 80)) ≡ piece (take width room) k
-piece_held room width k n some size =
+pub piece_held : (room : List Bool) (width k n : ℕ) → 70 * k < width → width + 80 ≤ length room
+    → n ≡ min 70 (width - 70 * k) → take n (slice_range room (70 * k) (70 * k + 80)) ≡ piece (take width room) k
+piece_held room width k n some long size =
     let x = 70 * k in
-    let m = width - x in
-    let d = drop x room in
-    let whole : width ≡ x + m = omega arith in
-    let left : take n (slice_range room x (x + 80)) ≡ take n d =
-    ap (take n) (between_is room x (x + 80) ∙ drop-take x 80 room) ∙ take-take n 80 d (omega arith) in
-    let right : piece (take width room) k ≡ take 70 (take m d) = ap (λ (w : ℕ). take 70 (drop x (take w room))) whole
-    ∙ ap (take 70) (drop-take x m room) in
-    left ∙ (elim (cases_lt m 70) [
-      | inl less ↦ (let same : n ≡ m = omega arith in ap (λ (w : ℕ). take w d) same
-          ∙ sym (take_all 70 (take m d) (omega (arith, length-take m d))))
-      | inr more ↦ (let same : n ≡ 70 = omega arith in ap (λ (w : ℕ). take w d) same ∙ sym (take-take 70 m d more))
-    ] ∙ sym right)
+    let rest = take (width - x) (drop x room) in
+    let all : length rest ≡ width - x = length-take-le (width - x) (drop x room) (omega (arith, length-drop x room)) in
+    take-take n (x + 80 - x) (drop x room) (omega arith)
+    ∙ sym (ap (take 70) (sym (between_is room x width)) ∙ sym (take_min 70 rest)
+    ∙ rw (all, ← size) (take-take n (width - x) (drop x room) (omega arith)))
 
 -- a piece of a row that the grid is asked for
 pub piece_asked : (dark : ℕ → Bool) (width k n : ℕ) → 70 * k < width → n ≡ min 70 (width - 70 * k)
     → map dark (range_with_len (70 * k) n) ≡ piece (map dark (below width)) k
 piece_asked dark width k n some size =
     let x = 70 * k in
-    let r = width - (x + n) in
-    let line = map dark (range_with_len x n) in
-    let rest = map dark (range_with_len (x + n) r) in
-    let whole : width ≡ (x + n) + r = omega arith in
-    let cut : map dark (below width) ≡ map dark (below x) ++ (line ++ rest) =
-    ap (λ (w : ℕ). map dark (below w)) whole
-    ∙ (map-below_add dark (x + n) r
-    ∙ (ap (λ (t : List Bool). t ++ rest) (map-below_add dark x n) ∙ append_assoc (map dark (below x)) line rest)) in
-    sym (ap (λ (t : List Bool). take 70 (drop x t)) cut
-    ∙ (ap (take 70) (drop_at (map dark (below x)) (line ++ rest) x (length-map-range_with_len dark 0 x))
-    ∙ elim (cases_lt n 70) [
-      | inl less ↦ (let none : r ≡ 0 = omega arith in
-          ap (λ (w : ℕ). take 70 (line ++ map dark (range_with_len (x + n) w))) none
-          ∙ (ap (take 70) (append-nil line) ∙ take_all 70 line (omega (arith, length-map-range_with_len dark x n))))
-      | inr more ↦ take_at line rest 70 (length-map-range_with_len dark x n ∙ omega arith)
-    ]))
-
--- a line, and what follows it
-pub line_regrouped : (line rest end : List ℕ) → ((line ++ 10 ∷ []) ++ rest) ++ end ≡ line ++ 10 ∷ (rest ++ end)
-line_regrouped line rest end = simp append_assoc
-
--- what holds of a text with a line of at most 70 pixels before it, where it holds of the text
-module _ (Holds : List ℕ → Type 0) (one_more : (line : List Bool) (rest : List ℕ) → length line ≤ 70 → Holds rest
-    → Holds (map pbm_digit line ++ 10 ∷ rest)) where
-  pieces_hold : (row : List Bool) (ks : List ℕ) (rest : List ℕ) → Holds rest
-      → Holds (flat_map (λ k. pbm_piece (piece row k)) ks ++ rest)
-  pieces_hold row [] rest h = h
-  pieces_hold row (k ∷ ks) rest h =
-      rw (line_regrouped (map pbm_digit (piece row k)) (flat_map (λ k. pbm_piece (piece row k)) ks) rest)
-      (one_more (piece row k) _ (omega (arith, length-take {A = Bool} 70 (drop (70 * k) row)))
-      (pieces_hold row ks rest h))
-
-  -- it holds of the rows
-  pub rows_hold : (p : Picture) (ys : List ℕ) → Holds [] → Holds (flat_map (pbm_row p) ys)
-  rows_hold p [] h = h
-  rows_hold p (y ∷ ys) h =
-      pieces_hold (pixel_row p y) (below (div_ceil p.width 70)) (flat_map (pbm_row p) ys) (rows_hold p ys h)
+    let row = map dark (below width) in
+    let long = length-map-range_with_len dark 0 width in
+    sym (filled_from dark x (piece row k) n (simp (length-take, length-drop) (omega arith)) (λ i h.
+    get_or-take 70 (drop x row) i false (omega arith) ∙ get_or-drop x row i false
+    ∙ get_or-map-range_with_len dark 0 width (x + i) (x + i) false (omega arith) (zero-add (x + i))))
 
 -- the rows of plain PBM files end with nothing
 pub pbm_rows : (p : Picture) (ys : List ℕ) → flat_map (λ y. row_text pbm_piece [] (pixel_row p y)) ys
@@ -144,22 +94,17 @@ pub pieces_joined : (text : List Bool → List ℕ) → text [] ≡ []
 pieces_joined text none joined row zero = sym none
 pieces_joined text none joined row (suc k) =
     let next : suc k ≡ k + 1 = omega arith in
-    subst (λ n. flat_map (λ k. text (piece row k)) (below n) ≡ text (take (70 * n) row)) (sym next)
-    (rw (
-      flat_map-below_more (λ k. text (piece row k)) k,
+    rw (
+      flat_map-below_suc (λ k. text (piece row k)) k,
       pieces_joined text none joined row k,
+      next,
       take_piece row k,
       joined (take (70 * k) row) (piece row k),
-    ) refl)
+    ) refl
 
 pub letters_of_pieces : (row : List Bool) (k : ℕ) → flat_map (λ k. flat_map ascii_pixel (piece row k)) (below k)
     ≡ flat_map ascii_pixel (take (70 * k) row)
 letters_of_pieces = pieces_joined (flat_map ascii_pixel) refl (flat_map-append ascii_pixel)
-
-letters_of_row : (dark : ℕ → Bool) (xs : List ℕ) → flat_map ascii_pixel (map dark xs)
-    ≡ flat_map (λ x. ascii_pixel (dark x)) xs
-letters_of_row dark [] = refl
-letters_of_row dark (x ∷ xs) = rw (letters_of_row dark xs) refl
 
 -- the letters of a row are those of its pieces
 pub ascii_rows : (p : Picture) (ys : List ℕ) → flat_map
@@ -170,5 +115,5 @@ ascii_rows p (y ∷ ys) =
     let letters : flat_map (λ k. flat_map ascii_pixel (piece row k)) (below (div_ceil (length row) 70))
     ≡ flat_map (λ x. ascii_pixel (p.dark x y)) (below p.width) =
     letters_of_pieces row (div_ceil (length row) 70)
-    ∙ (ap (flat_map ascii_pixel) (all_pieces row) ∙ letters_of_row (λ x. p.dark x y) (below p.width)) in
+    ∙ (ap (flat_map ascii_pixel) (all_pieces row) ∙ flat_map-map ascii_pixel (λ x. p.dark x y) (below p.width)) in
     rw (letters, ascii_rows p ys) refl

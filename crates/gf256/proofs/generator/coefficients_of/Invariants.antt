@@ -1,9 +1,11 @@
-use Rattle.std.proofs.Common.{◌≡◌, ◌-◌, drop, length, take}
-use Rattle.gf256.specs.Private.{padded_generator, zeros}
+use Rattle.std.proofs.Common.{◌≡◌, ◌<◌, ◌≤◌, ℕ, get_or, length}
+use Rattle.gf256.specs.Field.{alpha, field_power}
 use Rattle.gf256.proofs.generator.coefficients_of.Given as goal
 
--- behind what is written, the coefficients are 0
+-- the coefficients so far, and zeros
 abbrev pub invariant-loop-j : goal.invariant-loop-j
-invariant-loop-j l = (length l.coefficients ≡ 32)
-    × (take l.j l.coefficients ≡ take l.j (padded_generator l.k))
-    × (drop l.j l.coefficients ≡ zeros (32 - l.j))
+invariant-loop-j l = record {
+  whole : length l.coefficients ≡ 32;
+  so_far : (i : ℕ) → i < l.j → get_or l.coefficients i 0 ≡ field_power alpha (get_or l.logarithms i 0);
+  behind : (i : ℕ) → l.j ≤ i → i < 32 → get_or l.coefficients i 0 ≡ 0;
+}

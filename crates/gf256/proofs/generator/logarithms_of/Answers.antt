@@ -12,4 +12,4 @@ returns-clause-coefficients c =
     let first = k * (k - 1) / 2 in
     let count : first + k - first ≡ k = omega arith in
     subst (λ n. generator k ≡ 1 ∷ map (field_power 2) (take n (drop first GENERATORS))) (sym count)
-    (generator-logarithms k c.requires.0 c.requires.1)
+    (generator-logarithms k c.requires.1)

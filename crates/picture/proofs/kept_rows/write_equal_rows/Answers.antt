@@ -1,12 +1,10 @@
-use Rattle.std.proofs.Common.{◌≡◌, ◌+◌, ◌*◌, ◌^◌, ◌<◌, ◌≤◌, ◌++◌, ◌∙◌, ℕ, List, ap, subst, sym, arith, length, max, take}
-use Rattle.std.proofs.Common.{append-nil}
+use Rattle.std.proofs.Common.{◌≡◌, ◌+◌, ◌++◌, ◌∙◌, ℕ, List, [], ap, subst, sym, arith, take, append-nil}
 use Rattle.std.proofs.lemmas.Nat.{mul-le}
-use Rattle.std.proofs.lemmas.List.{length-take-le}
-use Rattle.device.proofs.WritingLaws.{HasWritten, HasWritten-call, HasWritten-more, WritesText-begun, WritesText-fails}
-use Rattle.device.proofs.WritingLaws.{WritesText-whole}
-use Rattle.picture.specs.Private.Rows.{repeated, row_text}
-use Rattle.picture.proofs.RepeatedLaws.{EndsWith-repeated, length-repeated, repeated-add}
+use Rattle.device.proofs.WritingLaws.{HasWritten, HasWritten-call, WritesText-begun, WritesText-whole}
+use Rattle.picture.specs.Private.Rows.{row_text}
+use Rattle.picture.proofs.RepeatedLaws.{EndsWith-repeated, length-repeated_row, repeated-add}
 use Rattle.picture.proofs.WritingLaws.{flat_map-below_front}
+use Rattle.picture.proofs.WritingLoopLaws.{HasWritten-below_more, WritesText-below_fails}
 use Rattle.picture.proofs.kept_rows.write_equal_rows.Goals as goal
 
 pub returns-in_err-write_row : goal.returns-in_err-write_row
@@ -28,34 +26,30 @@ loop-written-init g c =
 
 pub repeat_rows-requires-clause-last : goal.repeat_rows-requires-clause-last
 repeat_rows-requires-clause-last g c =
-    let row = row_text g.T.PixelText.text g.T.PixelText.row_end (take c.args.width c.args.kept.now) in
-    EndsWith-repeated g.S.Sink.took _ _ row c.loop-written.written c.min-rows.result (omega arith)
+    EndsWith-repeated g.S.Sink.took _ _ _ c.loop-written.written c.min-rows.result (omega arith)
     c.loop-written.invariant.rows.taken
 
 -- a few rows have no more bytes than those that are repeated at once
-few_bytes : (row : List ℕ) (n most size : ℕ) → n ≤ most → length row ≡ size → most * size ≤ max 4096 size
-    → size < 2 ^ 64 → length (repeated n row) < 2 ^ 64
-few_bytes row n most size few e bound fits =
-    let product : n * size ≤ most * size = mul-le n size most size few (omega arith) in
-    let whole : length (repeated n row) ≡ n * size = length-repeated row n ∙ ap (λ (k : ℕ). n * k) e in
-    omega (arith, product, whole, bound, fits)
-
 pub repeat_rows-requires-clause-short : goal.repeat_rows-requires-clause-short
 repeat_rows-requires-clause-short g c =
-    few_bytes _ c.min-rows.result c.rows_at_once-at_once.result c.row_len.result (omega arith)
-    (c.row_len.ensures (take c.args.width c.args.kept.now) (length-take-le c.args.width c.args.kept.now (omega arith)))
-    c.rows_at_once-at_once.ensures.most c.row_len.type_inv
+    let len = c.row_len.result in
+    let few = mul-le c.min-rows.result len c.rows_at_once-at_once.result len (omega arith) (omega arith) in
+    omega (
+      arith,
+      few,
+      length-repeated_row _ c.args.kept.now c.args.width c.min-rows.result len (omega arith) c.row_len.ensures,
+      c.rows_at_once-at_once.ensures.most,
+      c.row_len.type_inv,
+    )
 
 pub returns-in_err-repeat_rows : goal.returns-in_err-repeat_rows
 returns-in_err-repeat_rows g c =
     let row = row_text g.T.PixelText.text g.T.PixelText.row_end (take c.args.width c.args.kept.now) in
     let k = c.loop-written.written in
     let n = c.min-rows.result in
-    let front = flat_map-below_front (λ _. row) (k + n) c.args.count (omega arith) in
-    WritesText-fails g.S.Sink g.met.S.Sink.took_joined _ _ _ (repeated k row) (repeated n row) front.0 _
-    c.from_residual-in_err-repeat_rows.result c.from_residual-in_err-repeat_rows.ensures.0
-    (front.1 ∙ ap (λ (t : List ℕ). t ++ front.0) (repeated-add row k n)) c.loop-written.invariant.rows
-    c.in_err-repeat_rows.ensures
+    WritesText-below_fails g.S.Sink g.met.S.Sink.took_joined (λ _. row) _ _ _ k (k + n) _ (sym (repeated-add row k n))
+    c.loop-written.invariant.rows c.args.count [] _ c.from_residual-in_err-repeat_rows.result
+    c.from_residual-in_err-repeat_rows.ensures.0 (omega arith) (sym (append-nil _)) c.in_err-repeat_rows.ensures
 
 pub loop-written-preserved : goal.loop-written-preserved
 loop-written-preserved g c =
@@ -65,13 +59,11 @@ loop-written-preserved g c =
     record {
       some = omega arith;
       most = omega arith;
-      rows = HasWritten-more g.S.Sink g.met.S.Sink.took_joined _ _ _ (repeated k row) (repeated n row)
-          (repeated (k + n) row) (sym (repeated-add row k n)) c.loop-written.invariant.rows c.in_ok-repeat_rows.ensures;
+      rows = HasWritten-below_more g.S.Sink g.met.S.Sink.took_joined (λ _. row) _ _ _ k (k + n) _
+          (sym (repeated-add row k n)) c.loop-written.invariant.rows c.in_ok-repeat_rows.ensures;
     }
 
 pub returns : goal.returns
 returns g c =
-    let row = row_text g.T.PixelText.text g.T.PixelText.row_end (take c.args.width c.args.kept.now) in
-    let written : ℕ → Type 0 = λ n. HasWritten g.S.Sink c.args.sink.now c.loop-written.sink (repeated n row) in
-    let last : c.loop-written.written ≡ c.args.count = omega (arith, c.loop-written.invariant.most) in
-    WritesText-whole g.S.Sink _ _ _ tt (subst written last c.loop-written.invariant.rows)
+    let last : c.args.count ≡ c.loop-written.written = omega (arith, c.loop-written.invariant.most) in
+    rw last (WritesText-whole g.S.Sink _ _ _ tt c.loop-written.invariant.rows)

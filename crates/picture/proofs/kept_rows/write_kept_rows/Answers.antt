@@ -1,14 +1,15 @@
-use Rattle.std.proofs.Common.{◌≡◌, ◌+◌, ◌++◌, ◌∙◌, ℕ, Bool, List, ap, refl, subst, sym}
-use Rattle.std.proofs.Common.{arith, flat_map, take, drop, length, length-append, length-drop}
+use Rattle.std.proofs.Common.{◌≡◌, ◌+◌, ◌++◌, ◌∙◌, ℕ, Bool, List, [], append-nil, ap, refl, sym, arith, flat_map, take}
+use Rattle.std.proofs.Common.{length, length-append, length-drop}
 use Rattle.std.proofs.lemmas.List.{take_at}
 use Rattle.std.proofs.lemmas.List.FromFn.{length-map-range_with_len}
-use Rattle.device.proofs.WritingLaws.{HasWritten, HasWritten-none, HasWritten-more, WritesText-fails, WritesText-whole}
+use Rattle.device.proofs.WritingLaws.{HasWritten-none, WritesText-whole}
 use Rattle.picture.specs.Picture.{AreEqualRows, Picture}
 use Rattle.picture.specs.Private.Rows.{repeated, row_text}
 use Rattle.picture.specs.Text.{below, pixel_row}
 use Rattle.picture.proofs.GridLaws.{pixel_row-equal}
 use Rattle.picture.proofs.RepeatedLaws.{same_texts}
-use Rattle.picture.proofs.WritingLaws.{flat_map-below_add, flat_map-below_front}
+use Rattle.picture.proofs.WritingLaws.{flat_map-below_add}
+use Rattle.picture.proofs.WritingLoopLaws.{HasWritten-below_more, WritesText-below_fails}
 use Rattle.picture.proofs.kept_rows.write_kept_rows.Goals as goal
 
 -- a row that was read is as long as the picture is wide
@@ -16,18 +17,15 @@ length-row : (p : Picture) (y : ℕ) (row : List Bool) → row ≡ pixel_row p y
 length-row p y row read = ap length read ∙ length-map-range_with_len (λ x. p.dark x y) 0 p.width
 
 -- the texts of the rows before y, and of the `count` rows from y on, which equal row y
-module _ (text : List Bool → List ℕ) (p : Picture) (y count width : ℕ) (row rest : List Bool) (wide : width ≡ p.width)
-    (read : row ≡ pixel_row p y) (equal : AreEqualRows p y count) where
-  kept_row : take width (row ++ rest) ≡ row
-  kept_row = take_at row rest width (length-row p y row read ∙ sym wide)
-
-  rows_more : flat_map (λ y. text (pixel_row p y)) (below y) ++ repeated count (text (take width (row ++ rest)))
-      ≡ flat_map (λ y. text (pixel_row p y)) (below (y + count))
-  rows_more =
-      let f : ℕ → List ℕ = λ y. text (pixel_row p y) in
-      ap (λ (t : List ℕ). flat_map f (below y) ++ t) (same_texts f (text (take width (row ++ rest))) 0 y count
-      (λ k low high. ap text (kept_row ∙ (read ∙ pixel_row-equal p y count k equal low high))))
-      ∙ sym (flat_map-below_add f y count)
+rows_more : (text : List Bool → List ℕ) (p : Picture) (y count width : ℕ) (row rest : List Bool) → width ≡ p.width
+    → row ≡ pixel_row p y → AreEqualRows p y count
+    → flat_map (λ y. text (pixel_row p y)) (below y) ++ repeated count (text (take width (row ++ rest)))
+    ≡ flat_map (λ y. text (pixel_row p y)) (below (y + count))
+rows_more text p y count width row rest wide read equal =
+    let f : ℕ → List ℕ = λ y. text (pixel_row p y) in
+    rw (take_at row rest width (length-row p y row read ∙ sym wide), flat_map-below_add f y count)
+    (ap (λ (t : List ℕ). flat_map f (below y) ++ t) (same_texts f (text row) 0 y count
+    (λ k low high. ap text (read ∙ pixel_row-equal p y count k equal low high))))
 
 pub loop-y-init : goal.loop-y-init
 loop-y-init g c = record {
@@ -40,39 +38,30 @@ pub returns-in_err-write_equal_rows : goal.returns-in_err-write_equal_rows
 returns-in_err-write_equal_rows g c =
     let p = g.G.Grid.picture c.args.grid.now in
     let text = row_text g.T.PixelText.text g.T.PixelText.row_end in
-    let f : ℕ → List ℕ = λ y. text (pixel_row p y) in
     let y = c.loop-y.y in
     let n = c.equal_rows-count.result in
-    let front = flat_map-below_front f (y + n) p.height c.equal_rows-count.ensures.inside in
-    WritesText-fails g.S.Sink g.met.S.Sink.took_joined _ _ _ (flat_map f (below y)) _ front.0 _
-    c.from_residual.result c.from_residual.ensures.0
-    (front.1 ∙ ap (λ (t : List ℕ). t ++ front.0) (sym (rows_more text p y n _ _ _ c.width-width.ensures
-    c.read_row.ensures c.equal_rows-count.ensures)))
-    c.loop-y.invariant.written c.in_err-write_equal_rows.ensures
+    WritesText-below_fails g.S.Sink g.met.S.Sink.took_joined (λ y. text (pixel_row p y)) _ _ _ y (y + n) _
+    (rows_more text p y n _ _ _ c.width-width.ensures c.read_row.ensures c.equal_rows-count.ensures)
+    c.loop-y.invariant.written p.height [] _ c.from_residual.result c.from_residual.ensures.0
+    c.equal_rows-count.ensures.inside (sym (append-nil _)) c.in_err-write_equal_rows.ensures
 
 pub loop-y-preserved : goal.loop-y-preserved
 loop-y-preserved g c =
     let p = g.G.Grid.picture c.args.grid.now in
     let text = row_text g.T.PixelText.text g.T.PixelText.row_end in
-    let h = c.loop-y.invariant in
+    let y = c.loop-y.y in
+    let n = c.equal_rows-count.result in
     let row = c.read_row.new.pixels in
+    let long = length-row p y row c.read_row.ensures in
     record {
       inside = c.equal_rows-count.ensures.inside;
-      size = omega (
-        arith,
-        length-row p c.loop-y.y row c.read_row.ensures,
-        length-append row (drop c.width-width.result c.loop-y.kept),
-        length-drop c.width-width.result c.loop-y.kept,
-      );
-      written = HasWritten-more g.S.Sink g.met.S.Sink.took_joined _ _ _ _ _ _
-          (rows_more text p c.loop-y.y c.equal_rows-count.result _ _ _ c.width-width.ensures c.read_row.ensures
-          c.equal_rows-count.ensures) h.written c.in_ok-write_equal_rows.ensures;
+      size = omega (arith, long, length-append {A = Bool}, length-drop {A = Bool});
+      written = HasWritten-below_more g.S.Sink g.met.S.Sink.took_joined (λ y. text (pixel_row p y)) _ _ _ y (y + n) _
+          (rows_more text p y n _ _ _ c.width-width.ensures c.read_row.ensures c.equal_rows-count.ensures)
+          c.loop-y.invariant.written c.in_ok-write_equal_rows.ensures;
     }
 
 pub returns : goal.returns
 returns g c =
-    let p = g.G.Grid.picture c.args.grid.now in
-    let row : ℕ → List ℕ = λ y. row_text g.T.PixelText.text g.T.PixelText.row_end (pixel_row p y) in
-    let written : ℕ → Type 0 = λ n. HasWritten g.S.Sink c.args.sink.now c.loop-y.sink (flat_map row (below n)) in
-    let last : c.loop-y.y ≡ p.height = omega (arith, c.height-height.ensures) in
-    WritesText-whole g.S.Sink _ _ _ tt (subst written last c.loop-y.invariant.written)
+    let last : (g.G.Grid.picture c.args.grid.now).height ≡ c.loop-y.y = omega (arith, c.height-height.ensures) in
+    rw last (WritesText-whole g.S.Sink _ _ _ tt c.loop-y.invariant.written)

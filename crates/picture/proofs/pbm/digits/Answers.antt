@@ -1,12 +1,13 @@
-use Rattle.std.proofs.Common.{arith}
-use Rattle.picture.proofs.LetterLaws.{digits_step, digits_all}
+use Rattle.std.proofs.Common.{◌∙◌, arith, false, map, sym}
+use Rattle.std.proofs.lemmas.Grind.{same_number_lists}
+use Rattle.std.proofs.lemmas.List.{get_or-map, length-map}
+use Rattle.picture.specs.Text.{pbm_digit}
 use Rattle.picture.proofs.pbm.digits.Goals as goal
 
-pub loop-i-preserved : goal.loop-i-preserved
-loop-i-preserved c = record {
-  so_far = digits_step c.args.pixels.now c.loop-i.i c.digit.result c.loop-i.text
-      (omega arith) (omega arith) c.digit.ensures c.loop-i.invariant.so_far;
-}
-
 pub returns : goal.returns
-returns c = digits_all c.args.pixels.now c.loop-i.i c.loop-i.text (omega arith) c.requires c.loop-i.invariant.so_far
+returns c =
+    let ps = c.args.pixels.now in
+    let whole = c.loop-i.invariant.whole in
+    same_number_lists c.loop-i.text (map pbm_digit ps) (omega (arith, whole, length-map ps pbm_digit)) (λ k h.
+    c.loop-i.invariant.so_far k (omega (arith, h, whole))
+    ∙ sym (get_or-map pbm_digit ps k false 0 (omega (arith, h, whole))))

@@ -1,7 +1,9 @@
-use Rattle.std.proofs.Common.{◌≡◌, ◌+◌, ◌-◌, ◌/◌, ◌∙◌, ◌*◌, ℕ, false, length, zero-mul, ap, arith}
+use Rattle.std.proofs.Common.{◌≡◌, ◌+◌, ◌-◌, ◌/◌, ◌∙◌, ◌*◌, ℕ, false, length, zero-mul, ap, arith, inl, inr, ◌≤◌}
 use Rattle.std.proofs.Math.ListN.{get_or}
 use Rattle.std.proofs.lemmas.List.FromFn.{fill_by_all}
-use Rattle.picture.proofs.GridLaws.{spread_more}
+use Rattle.std.proofs.lemmas.Bool.{cases_lt}
+use Rattle.std.proofs.lemmas.Nat.{mul-le}
+use Rattle.std.proofs.Math.Nat.{div-eq_of_lt-le}
 use Rattle.picture.proofs.scaled.widen_each.Goals as goal
 
 pub loop-x-preserved : goal.loop-x-preserved
@@ -14,9 +16,13 @@ loop-x-preserved c =
     let e = c.widen.ensures in
     record {
       size = e.size ∙ h.size;
-      done = λ k low inside. spread_more c.args.pixels.now c.loop-x.pixels c.widen.new.pixels x s (omega arith)
-          (λ k low inside. h.done k (omega arith) (omega arith)) (λ k low. h.rest k (omega arith))
-          e.square e.after k low (omega arith);
+      done = λ k low inside. elim (cases_lt k ((x + 1) * s)) [
+        | inl square ↦
+            let least : (x + 1) * 1 ≤ (x + 1) * s = mul-le (x + 1) 1 (x + 1) s (omega arith) (omega arith) in
+            let column : k / s ≡ x = div-eq_of_lt-le s (omega arith) square in
+            rw column (e.square k (omega arith) square ∙ h.rest x (omega arith))
+        | inr past ↦ e.after k past ∙ h.done k (omega arith) (omega arith)
+      ];
       rest = λ k low. e.before k low ∙ h.rest k (omega arith);
     }
 

@@ -1,11 +1,8 @@
-use Rattle.std.proofs.Common.{◌≡◌, ◌++◌, ◌*◌, ◌∙◌, ℕ, List, Bool, false, map, drop, take, length, ap, subst, arith}
+use Rattle.std.proofs.Common.{◌≡◌, ◌*◌, ◌∙◌, ℕ, Bool, false, map, drop, length, ap, arith}
 use Rattle.std.specs.List.{range_with_len}
 use Rattle.std.proofs.Math.ListN.{replicate}
 use Rattle.std.proofs.lemmas.List.{length-take-le, take_at}
 use Rattle.std.proofs.lemmas.List.FromFn.{length-map-range_with_len}
-use Rattle.device.specs.Writing.{WritesText}
-use Rattle.picture.specs.Private.Rows.{piece}
-use Rattle.picture.specs.Text.{below}
 use Rattle.picture.proofs.WritingLaws.{piece_asked}
 use Rattle.picture.proofs.wide_rows.write_wide_piece.Goals as goal
 
@@ -15,13 +12,9 @@ returns g c =
     let dark : ℕ → Bool = λ x. p.dark x c.args.y in
     let n = c.min-len.result in
     let row = c.read_piece.new.pixels in
-    let asked : row ≡ map dark (range_with_len (70 * c.args.k) n) = c.read_piece.ensures
-    ∙ ap (λ (m : ℕ). map dark (range_with_len (70 * c.args.k) m)) (length-take-le n (replicate 80 false) (omega arith))
-    in
+    let some = length-take-le n (replicate 80 false) (omega arith) in
+    let asked : row ≡ map dark (range_with_len (70 * c.args.k) n) = rw some at c.read_piece.ensures in
     let size : length row ≡ n = ap length asked ∙ length-map-range_with_len dark (70 * c.args.k) n in
-    let piece_text : take n (row ++ drop n (replicate 80 false)) ≡ piece (map dark (below p.width)) c.args.k =
-    take_at row (drop n (replicate 80 false)) n size
-    ∙ (asked ∙ piece_asked dark p.width c.args.k n c.requires.in_width (omega (arith, c.width-width.ensures))) in
-    subst (λ (ps : List Bool). WritesText g.S.Sink c.args.sink.now c.write_piece.new.sink (g.T.PixelText.text ps)
-    c.write_piece.result)
-    piece_text c.write_piece.ensures
+    rw (take_at row (drop n (replicate 80 false)) n size ∙ asked
+    ∙ piece_asked dark p.width c.args.k n c.requires.in_width (omega (arith, c.width-width.ensures)))
+    at c.write_piece.ensures

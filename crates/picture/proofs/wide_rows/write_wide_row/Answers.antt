@@ -1,10 +1,10 @@
-use Rattle.std.proofs.Common.{◌≡◌, ◌++◌, ℕ, List, flat_map, length, ap, refl, ◌∙◌, arith}
+use Rattle.std.proofs.Common.{◌≡◌, ℕ, List, length, refl, arith}
 use Rattle.std.specs.Int.{div_ceil}
 use Rattle.std.proofs.lemmas.List.FromFn.{length-map-range_with_len}
 use Rattle.device.proofs.WritingLaws.{HasWritten-none, WritesText-last}
 use Rattle.picture.specs.Private.Rows.{piece}
-use Rattle.picture.specs.Text.{below, pixel_row}
-use Rattle.picture.proofs.WritingLoopLaws.{HasWritten-below_more, WritesText-below_fails}
+use Rattle.picture.specs.Text.{pixel_row}
+use Rattle.picture.proofs.WritingLoopLaws.{below_more, HasWritten-below_more, WritesText-below_fails}
 use Rattle.picture.proofs.wide_rows.write_wide_row.Goals as goal
 
 pub loop-k-init : goal.loop-k-init
@@ -14,30 +14,27 @@ pub returns-in_err-write_wide_piece : goal.returns-in_err-write_wide_piece
 returns-in_err-write_wide_piece g c =
     let p = g.G.Grid.picture c.args.grid.now in
     let row = pixel_row p c.args.y in
+    let text : ℕ → List ℕ = λ k. g.T.PixelText.text (piece row k) in
     let size : length row ≡ p.width = length-map-range_with_len (λ x. p.dark x c.args.y) 0 p.width in
-    WritesText-below_fails g.S.Sink g.met.S.Sink.took_joined (λ k. g.T.PixelText.text (piece row k)) _ _ _ c.loop-k.k _
-    refl c.loop-k.invariant.written (div_ceil (length row) 70) g.T.PixelText.row_end _ c.from_residual.result
+    WritesText-below_fails g.S.Sink g.met.S.Sink.took_joined text _ _ _ c.loop-k.k _ _
+    (below_more text c.loop-k.k _ refl)
+    c.loop-k.invariant.written (div_ceil (length row) 70) g.T.PixelText.row_end _ c.from_residual.result
     c.from_residual.ensures.0 (omega (arith, c.width.ensures)) refl c.in_err-write_wide_piece.ensures
 
 pub loop-k-preserved : goal.loop-k-preserved
 loop-k-preserved g c =
     let row = pixel_row (g.G.Grid.picture c.args.grid.now) c.args.y in
+    let text : ℕ → List ℕ = λ k. g.T.PixelText.text (piece row k) in
     record {
-      written = HasWritten-below_more g.S.Sink g.met.S.Sink.took_joined (λ k. g.T.PixelText.text (piece row k)) _ _ _
-          c.loop-k.k _ refl c.loop-k.invariant.written c.in_ok-write_wide_piece.ensures;
+      written = HasWritten-below_more g.S.Sink g.met.S.Sink.took_joined text _ _ _ c.loop-k.k _ _
+          (below_more text c.loop-k.k _ refl) c.loop-k.invariant.written c.in_ok-write_wide_piece.ensures;
     }
 
 pub returns : goal.returns
 returns g c =
     let p = g.G.Grid.picture c.args.grid.now in
     let row = pixel_row p c.args.y in
-    let piece_text : ℕ → List ℕ = λ k. g.T.PixelText.text (piece row k) in
-    let pieces : ℕ → List ℕ = λ n. flat_map piece_text (below n) in
     let size : length row ≡ p.width = length-map-range_with_len (λ x. p.dark x c.args.y) 0 p.width in
-    let last : c.loop-k.k ≡ div_ceil (length row) 70 = omega (arith, c.width.ensures) in
-    let text : pieces c.loop-k.k ++ c.row_end.result.now ≡ pieces (div_ceil (length row) 70) ++ g.T.PixelText.row_end =
-    ap (λ (n : ℕ). pieces n ++ c.row_end.result.now) last
-    ∙ ap (λ (t : List ℕ). pieces (div_ceil (length row) 70) ++ t) c.row_end.ensures in
-    WritesText-last g.S.Sink g.met.S.Sink.took_joined _ _ _ (pieces c.loop-k.k)
-    c.row_end.result.now _ c.write_whole.result text
-    c.loop-k.invariant.written c.write_whole.ensures
+    let last : div_ceil (length row) 70 ≡ c.loop-k.k = omega (arith, c.width.ensures) in
+    WritesText-last g.S.Sink g.met.S.Sink.took_joined _ _ _ _ c.row_end.result.now _ c.write_whole.result
+    (rw (last, c.row_end.ensures) refl) c.loop-k.invariant.written c.write_whole.ensures

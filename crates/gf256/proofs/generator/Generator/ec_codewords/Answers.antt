@@ -27,13 +27,13 @@ returns c =
     let k = c.args.self.now in
     let block = c.args.block.now in
     let register = c.loop-codeword.register in
+    let remainder = IsRemainder-ec_codewords_of k block (omega (arith, c.self.invariant.0.0))
+    (All-from_get_or IsElement block 0 (λ i h. omega (arith, c.type_inv.block i))) in
     let whole = ap (register_after (padded_generator k) register)
     (sym (drop_all c.loop-codeword.codeword-index block c.loop-codeword-test.false)) ∙ c.loop-codeword.invariant in
     let value : c.copy_from_slice.new.self ≡ ec_codewords_of k block =
     c.copy_from_slice.ensures.after ∙ (λ i. take (c.self.view_is i) (whole i))
-    ∙ ec_codewords-padded k block (rw c.self.view_is at c.self.invariant.0) in
-    let remainder = IsRemainder-ec_codewords_of k block (omega (arith, c.self.invariant.0.0))
-    (All-from_get_or IsElement block 0 (λ i h. omega (arith, c.type_inv.block i))) in
+    ∙ ec_codewords-padded k block (rw c.self.view_is at c.self.invariant.0) remainder.ec_codewords_length in
     rw value (record {
       value = refl;
       remainder = remainder;

@@ -1,4 +1,4 @@
-use Rattle.std.proofs.Common.{◌≡◌, ◌/◌, ◌%◌, ◌<◌, [], ◌∷◌, ◌∙◌, ◌++◌, ap, arith, drop, get_or, length, Fits, sym, w8}
+use Rattle.std.proofs.Common.{◌≡◌, ◌/◌, ◌%◌, ◌<◌, [], ◌∷◌, ◌∙◌, ◌++◌, ap, arith, drop, get_or, length, Fits, w8}
 use Rattle.std.specs.Prelude.{bit_xor}
 use Rattle.std.proofs.lemmas.Grind.{get_or_default_zero}
 use Rattle.std.proofs.lemmas.List.{length-append, length-drop}
@@ -8,8 +8,7 @@ use Rattle.gf256.specs.ErrorCorrection.{next_register}
 use Rattle.gf256.specs.Polynomial.{polynomial_sum, scalar_multiple}
 use Rattle.gf256.specs.Private.{padded_generator}
 use Rattle.gf256.proofs.GeneratorLaws.{All-padded_generator, length-padded_generator}
-use Rattle.gf256.proofs.PolynomialSumLaws.{length-scalar_multiple}
-use Rattle.gf256.proofs.RegisterLaws.{multiple-parts, zip2-two_sums}
+use Rattle.gf256.proofs.RegisterLaws.{zip2-parts}
 use Rattle.gf256.proofs.generator.Generator.next.Goals as goal
 
 pub returns : goal.returns
@@ -30,16 +29,8 @@ returns c =
     let small : fed < 256 = omega (arith, element, is) in
     let is_low = c.self.invariant.1 (fed % 16) (omega arith) in
     let is_high = c.self.invariant.2 (fed / 16) (omega (arith, small)) in
-    let added : polynomial_sum low high ≡ scalar_multiple fed divisor =
-    (λ i. polynomial_sum (is_low i) (is_high i)) ∙ multiple-parts fed divisor small (All-padded_generator c.self.inside.count)
-    in
     let long = length-padded_generator c.self.inside.count c.self.invariant.0 in
-    let long_low = ap length is_low ∙ length-scalar_multiple (fed % 16) divisor ∙ long in
-    let long_high = ap length is_high ∙ length-scalar_multiple (fed / 16) (scalar_multiple 16 divisor)
-    ∙ length-scalar_multiple 16 divisor ∙ long in
-    let long_moved : length moved ≡ 32 =
-    length-append (drop 1 c.args.register) (0 ∷ []) ∙ omega (arith, length-drop 1 c.args.register, c.fits-register.0) in
-    zip2-two_sums c.moved_up.result low high (ap length c.moved_up.ensures ∙ long_moved ∙ sym long_low)
-    (long_low ∙ sym long_high)
-    ∙ (λ i. polynomial_sum (c.moved_up.ensures i) (added i))
-    ∙ (λ i. polynomial_sum moved (scalar_multiple (is i) (padded_generator (c.self.view_is i))))
+    zip2-parts c.moved_up.result low high divisor fed small (All-padded_generator c.self.inside.count)
+    (ap length c.moved_up.ensures ∙ length-append (drop 1 c.args.register) (0 ∷ [])
+    ∙ omega (arith, long, length-drop 1 c.args.register, c.fits-register.0)) is_low is_high
+    ∙ (λ i. polynomial_sum (c.moved_up.ensures i) (scalar_multiple (is i) (padded_generator (c.self.view_is i))))
