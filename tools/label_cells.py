@@ -1,4 +1,4 @@
-"""Rows and cells of a table: what a label can show of them, and why it cannot. A code is taken only where it is sure."""
+"""Rows and cells of a table: what a label can show of them, and why not. A code is taken only where it is sure."""
 
 import argparse
 import re

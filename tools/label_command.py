@@ -8,7 +8,7 @@ from contextlib import contextmanager, suppress
 from io import RawIOBase, TextIOWrapper
 from typing import Any, BinaryIO, Callable, Iterator, NoReturn, Optional
 
-BAD_ARGUMENTS, INTERRUPTED = 2, 130
+BAD_ARGUMENTS = 2
 
 
 class ToolError(Exception):
@@ -43,6 +43,7 @@ def complain(tool: str, message: str) -> None:
 
 def main_of(tool: str, function: Callable[[], Optional[int]]) -> NoReturn:
     """Runs a tool, and ends with its status (None is 0), or with a message and a status for ToolError and OSError."""
+    on_signals()
     if sys.stderr is None:  # Python would write messages to standard output, which may be a printer
         sys.stderr = open(os.devnull, "w")
     try:
@@ -61,8 +62,6 @@ def main_of(tool: str, function: Callable[[], Optional[int]]) -> NoReturn:
     except OSError as error:
         complain(tool, f"{error.filename or 'standard output'}: {error.strerror or error}")
         status = 1
-    except KeyboardInterrupt:
-        status = INTERRUPTED
     for stream in filter(None, (sys.stdout, sys.stderr)):
         try:
             stream.flush()

@@ -31,8 +31,7 @@ show_layout, layout_path = PangoCairo.show_layout, PangoCairo.layout_path
 DARK, INSET = re.compile("1+"), 0.01
 # the first letter that may leave its line; the room at the sides of lines as a part of the size of letters
 LATIN, SIDE = "\u0250", 16
-# what shows a control character of Code 128
-SHOWN = {code: 0x2400 + code for code in range(32)} | {127: 0x2421}
+SHOWN = {code: 0x2400 + code for code in range(32)} | {127: 0x2421}  # control characters of Code 128
 REVERSED = bytes(int(f"{byte:08b}"[::-1], 2) for byte in range(256))
 PIXELS = bytes.maketrans(b"01", b"\xff\0")
 # a picture in dots: width, height, and rows of whole bytes, in which 1 is dark
@@ -42,8 +41,7 @@ ESCPOS_START, ESCPOS_CUT, MOST_ESCPOS_ROWS = b"\x1b@", b"\x1bd\x03\x1dV\x42\x00"
 OBJECT, LIGHT = re.compile(rb"([0-9]{10}) [0-9]{5} n"), bytes(range(255, -1, -1))
 # the most bytes of a graphic field of ZPL; seconds after which progress is shown, and between two times that it is
 MOST_ZPL_BYTES, QUIET, BETWEEN = 99_999, 2.0, 0.2
-# labels of a page, with the upper left corners of their areas
-Page = list[tuple[Label, tuple[int, int]]]
+Page = list[tuple[Label, tuple[int, int]]]  # labels, with the upper left corners of their areas
 # how a text is drawn: its letters, where it is from the top (0) to the bottom (1) of its box, the most lines that each
 # line of it takes, the last of which may end in an ellipsis, or 0 where it is whole
 Style = NamedTuple(
@@ -257,11 +255,6 @@ def dots_of(width: int, height: int, pen: Pen, page: Page) -> Dots:
     surface.flush()
     data, stride, size = bytes(surface.get_data()).translate(REVERSED), surface.get_stride(), bytes_a_row(width)
     return Dots(width, height, [data[start : start + size] for start in range(0, stride * height, stride)])
-
-
-def fault_of(label: Label, pen: Pen, planner: Planner) -> Optional[str]:
-    """What is wrong with a label as it is drawn in its cell, if anything."""
-    return fault_in(dots_of(planner.width, planner.height, pen, [(label, (0, 0))]), label)
 
 
 def fault_in(dots: Dots, label: Label) -> Optional[str]:

@@ -9,10 +9,11 @@ import os
 import re
 import subprocess
 import sys
+import tempfile
 from dataclasses import dataclass
 from io import BytesIO
 from pathlib import Path
-from typing import Any, Iterator, Optional
+from typing import IO, Any, Iterator, Optional
 
 from label_command import ToolError
 
@@ -24,9 +25,8 @@ KEYS = FIELDS | {"labels": int, "table": str, "end": int, "lines": int, "left_ou
 UNPRINTABLE = re.compile("[\x00-\x09\x0b-\x1f\x7f-\x9f\u2028\u2029\ud800-\udfff]")
 DIGITS_WITHOUT_CHECK = {"ean13": 12, "ean8": 7, "upca": 11}
 ESCAPE, ESCAPED = re.compile(rb"\\(?:x([0-9A-Fa-f]{2})|([n\\]))"), {b"n": b"\n", b"\\": b"\\"}
-REFUSAL, PICTURE = re.compile(r"line ([0-9]+): (.+)"), re.compile(rb"P1\n([0-9]+) ([0-9]+)\n([01\n]+)")
-# where a label is from: the table, `row` or (where that is not known) `line`, and its number
-Place = tuple[str, str, int]
+REFUSAL, PICTURE = re.compile(r"line ([0-9]+): (.+)"), re.compile(rb"P1\n([0-9]+) ([0-9]+)\n")
+Place = tuple[str, str, int]  # of a label: its table, `row` or (where that is not known) `line`, and its number
 # width, height and modules of a picture: rows of whole bytes, one after another, in which 1 is dark
 Modules = tuple[int, int, bytes]
 
@@ -141,11 +141,14 @@ def run_labels(data: bytes, words: list[str]) -> tuple[dict[int, Modules], dict[
     `words` are options for it. Raises ToolError where it is not there, or fails: status 2 for bad arguments, else 3.
     """
     command = [os.environ.get("LABELS") or "labels", *words, "--format", "pbm", "--scale", "1", "--height", "1"]
-    try:  # in a session of its own: Ctrl-C on the terminal is for the tool alone
-        done = subprocess.run(command, input=data, capture_output=True, start_new_session=True)
-    except OSError as error:
-        hint = "install labels on the path, or name it in $LABELS"
-        raise ToolError(f"cannot run {command[0]}: {error.strerror}: {hint}") from error
+    with tempfile.TemporaryFile() as drawing:
+        try:  # in a session of its own: Ctrl-C on the terminal is for the tool alone
+            done = subprocess.run(command, input=data, stdout=drawing, stderr=subprocess.PIPE, start_new_session=True)
+        except OSError as error:
+            hint = "install labels on the path, or name it in $LABELS"
+            raise ToolError(f"cannot run {command[0]}: {error.strerror}: {hint}") from error
+        drawing.seek(0)
+        pictures = list(pictures_in(drawing))
     said = done.stderr.decode("utf-8", "backslashreplace").splitlines()
     if done.returncode not in (0, 1):
         message = f"labels ended with status {done.returncode}: {'; '.join(said[-1:])}"
@@ -153,20 +156,21 @@ def run_labels(data: bytes, words: list[str]) -> tuple[dict[int, Modules], dict[
     refused = {int(match[1]): match[2] for match in map(REFUSAL.fullmatch, said) if match}
     lines = (number for number, line in enumerate(lines_of(data), 1) if line and not line.startswith(b"#"))
     drawn = [number for number in lines if number not in refused]
-    pictures = list(map(modules_of, PICTURE.finditer(done.stdout)))
     if len(drawn) != len(pictures):
         raise ToolError("labels did not draw or refuse each line: which is which is not known", LABELS_FAILED)
     return dict(zip(drawn, pictures)), refused
 
 
-def modules_of(picture: re.Match[bytes]) -> Modules:
-    """The modules of a picture of plain PBM; of bars, whose rows are alike, one row."""
-    width, height, pixels = int(picture[1]), int(picture[2]), picture[3].replace(b"\n", b"")
-    if not pixels or len(pixels) != width * height:
-        raise ToolError("labels drew what is no picture of plain PBM", LABELS_FAILED)
-    rows = [pixels[start : start + width] for start in range(0, len(pixels), width)]
-    packed = ((int(row, 2) << -width % 8).to_bytes(bytes_a_row(width), "big") for row in rows)
-    return width, height, next(packed) if len(set(rows)) == 1 else b"".join(packed)
+def pictures_in(drawing: IO[bytes]) -> Iterator[Modules]:
+    """The modules of each picture of plain PBM, whose lines have at most 70 pixels; of bars one row."""
+    while size := PICTURE.fullmatch(drawing.readline() + drawing.readline()):
+        width, height = int(size[1]), int(size[2])
+        pixels = drawing.read(height * (width + -(-width // 70))).replace(b"\n", b"")
+        if len(pixels) != width * height or not pixels or pixels.strip(b"01"):
+            raise ToolError("labels drew what is no picture of plain PBM", LABELS_FAILED)
+        rows = [pixels[start : start + width] for start in range(0, len(pixels), width)]
+        packed = ((int(row, 2) << -width % 8).to_bytes(bytes_a_row(width), "big") for row in rows)
+        yield width, height, next(packed) if len(set(rows)) == 1 else b"".join(packed)
 
 
 def bytes_a_row(width: int) -> int:

@@ -77,7 +77,8 @@ def rows_of_workbook(data: bytes, name: str, wanted: str | None, signs: Signs) -
                 if has_key or part.flag_bits & 1 or part.compress_type not in (ZIP_STORED, ZIP_DEFLATED):
                     raise ToolError("has a password, or is packed as no spreadsheet is: save it again without one")
             is_ods = "mimetype" in archive.namelist() and b"opendocument.spreadsheet" in archive.read("mimetype")
-            yield from chosen(ods_sheets(archive) if is_ods else xlsx_sheets(archive, signs), wanted)
+            sheets = ((*key, (row for _, row in rows)) for key, rows in groupby(ods_rows(archive), lambda one: one[0]))
+            yield from chosen(sheets if is_ods else xlsx_sheets(archive, signs), wanted)
     except ToolError as error:
         raise ToolError(f"{name} {error}", error.status) from None
     except DAMAGE as error:
@@ -249,11 +250,6 @@ def string_of(element: Element) -> str:
         text = ESCAPED.sub(lambda match: chr(int(match[1], 16)), text)
         text = text.encode("utf-16", "surrogatepass").decode("utf-16", "replace")
     return text
-
-
-def ods_sheets(archive: ZipFile) -> Iterator[Sheet]:
-    for (name, is_visible), rows in groupby(ods_rows(archive), lambda found: found[0]):
-        yield name, is_visible, (row for _, row in rows)
 
 
 def ods_rows(archive: ZipFile) -> Iterator[tuple[tuple[str, bool], Row]]:

@@ -16,7 +16,7 @@ import zxingcpp
 import jobs
 import support
 import label_layout
-from label_draw import Pen, Style, dots_of, fault_in, fault_of, ink_of
+from label_draw import Pen, Style, dots_of, fault_in, ink_of
 from label_file import Label, parse_file, run_labels
 from label_layout import Planner
 
@@ -49,6 +49,11 @@ def planned(data: bytes, cell: Tuple[float, float], dpi: int, *sizes: float) -> 
         label.width, label.height, label.modules = pictures[label.number]
     pen.lay_out(labels, planner)
     return labels, pen, planner
+
+
+def fault_of(label: Label, pen: Pen, planner: Planner) -> Optional[str]:
+    """What is wrong with a label as it is drawn in its cell, if anything."""
+    return fault_in(dots_of(planner.width, planner.height, pen, [(label, (0, 0))]), label)
 
 
 class Rows(unittest.TestCase):
