@@ -173,11 +173,11 @@ fn flush_both<O: Sink, E: Sink>(out: &mut O, err: &mut E) -> Result<(), RunFault
     ensures counts { CountsFault (O.failures out.old) (O.failures out.new)
         (E.failures err.old) (E.failures err.new) result }
 {
-    if out.flush().is_err() {
+    let Ok(()) = out.flush() else {
         return Err(RunFault::WriteOut);
-    }
-    if err.flush().is_err() {
+    };
+    let Ok(()) = err.flush() else {
         return Err(RunFault::WriteMessages);
-    }
+    };
     Ok(())
 }

@@ -70,9 +70,9 @@ fn refuse<O: Sink, E: Sink>(
     ensures status { IfOk result (λ status. status ≡ Status.Refused) }
     ensures sinks { FlushesNeither O.Sink E.Sink out.old out.new err.old err.new result }
 {
-    if out.pass_on().is_err() {
+    let Ok(()) = out.pass_on() else {
         return Err(RunFault::WriteOut);
-    }
+    };
     match write_fault(number, fault, err) {
         Ok(()) => Ok(Status::Refused),
         Err(_) => Err(RunFault::WriteMessages),

@@ -2,12 +2,12 @@ use Rattle.filter.proofs.Words.{[], Images, Messages, flushes}
 use Rattle.filter.proofs.ScriptLaws.{event_took, none_taken, Stops-first}
 use Rattle.filter.proofs.filter.flush_both.Goals as goal
 
-pub returns-then-is_err-clause-sends : goal.returns-then-is_err-clause-sends
-returns-then-is_err-clause-sends g c options =
+pub returns-in_default-clause-sends : goal.returns-in_default-clause-sends
+returns-in_default-clause-sends g c options =
     Stops-first options _ Images flushes [] (none_taken _ _ c.flush.ensures.bytes (g.met.E.Sink.took_none _))
 
-pub returns-then-is_err-2-clause-sends : goal.returns-then-is_err-2-clause-sends
-returns-then-is_err-2-clause-sends g c options =
+pub returns-in_default-flush-clause-sends : goal.returns-in_default-flush-clause-sends
+returns-in_default-flush-clause-sends g c options =
     Stops-first options _ Messages flushes [] (none_taken _ _ c.flush.ensures.bytes c.flush-2.ensures.bytes)
 
 pub returns-clause-sends : goal.returns-clause-sends
