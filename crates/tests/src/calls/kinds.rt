@@ -7,7 +7,7 @@ use std::cell::Cell;
 use std::io::{self, ErrorKind, Read, Write};
 
 /// Each kind of error that std has.
-pub const KINDS: [ErrorKind; 42] = [
+const KINDS: [ErrorKind; 42] = [
     ErrorKind::NotFound,
     ErrorKind::PermissionDenied,
     ErrorKind::ConnectionRefused,

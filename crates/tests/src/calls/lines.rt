@@ -2,9 +2,9 @@
 //! as on a terminal that shows both outputs.
 ghost use Rattle.std.specs.Prelude.{◌<◌};
 
-use crate::runs::support::{low, result_of};
+use crate::runs::support::low;
 use device::{Buffered, IoFault, MemSink, MemSource, Sink, Source};
-use filter::Status;
+use filter::{Status, run};
 use std::alloc::Global;
 use std::cell::RefCell;
 use std::process::Abort;
@@ -221,9 +221,7 @@ fn assert_runs(
         mark: MESSAGE,
         mark_of_flush: FLUSH_OF_MESSAGES,
     };
-    assert!(rt;
-        result_of(low(rt).with_escapes(true), &mut source, out, &mut err) == Ok(Status::Refused)
-    );
+    assert!(rt; run(low(rt).with_escapes(true), &mut source, out, &mut err) == Ok(Status::Refused));
 }
 
 /// A sink of the pictures whose calls are recorded.

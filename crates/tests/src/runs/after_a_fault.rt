@@ -154,3 +154,16 @@ fn a_call_for_messages_fails(rt: HostRuntime) {
         assert!(rt; ran.messages.took(MESSAGES, messages, failing));
     }
 }
+
+#[test]
+fn shows_faults(rt: HostRuntime) {
+    for (fault, text) in [
+        (RunFault::Read, "read failed"),
+        (RunFault::WriteOut, "write failed"),
+        (RunFault::WriteMessages, "message write failed"),
+        (RunFault::Spent, "filter is spent"),
+    ] {
+        let shown = format!(in rt.alloc(); "{fault}").expect(&rt, "memory");
+        assert!(rt; shown.as_str() == text);
+    }
+}
