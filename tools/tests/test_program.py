@@ -91,6 +91,10 @@ REFUSED = (
 
 OPTIONS = ("--height", "1", "--mask", "2", "--escapes")
 
+# How the format information of level M and of level H begins under mask 0 (ISO/IEC 18004, Annex C).
+M_0 = "101010"
+H_0 = "001011"
+
 BAD_ARGUMENTS = (2, b"", b"labels: bad words\n")
 NO_FILE = (3, b"", b"labels: cannot open file\n")
 NO_MEMORY = (3, b"", b"labels: no memory\n")
@@ -175,7 +179,7 @@ def rows_of(picture: bytes) -> List[str]:
 
 
 def format_bits(rows: Sequence[str]) -> str:
-    """The first bits of a QR symbol's format information, to the left of its upper left finder pattern's corner."""
+    """The first six bits of a QR symbol's format information: below its upper left finder pattern, from the left."""
     return rows[4 + 8][4 : 4 + 6]
 
 
@@ -198,7 +202,7 @@ def in_pieces(pieces: Sequence[bytes], *arguments: str) -> Ran:
     return running.returncode, out, err
 
 
-class Arguments(unittest.TestCase):
+class InFolder(unittest.TestCase):
     folder: str
 
     @classmethod
@@ -207,14 +211,16 @@ class Arguments(unittest.TestCase):
         cls.folder = cls.enterClassContext(tempfile.TemporaryDirectory())
         Path(cls.folder, "a-file").write_bytes(b"ean8 7351353\n")
 
-    def ran(self, *arguments: str) -> Ran:
-        return ran(*arguments, cwd=self.folder)
+    def ran(self, *arguments: str, **variables: str) -> Ran:
+        return ran(*arguments, cwd=self.folder, **variables)
 
+
+class Arguments(InFolder):
     def test_no_arguments(self) -> None:
         """Plain PBM at scale 1 and height 50 of standard input, level M, version 1, mask 0 for this symbol."""
         self.assertEqual(ran(data=b"ean8 7351353\n"), (0, pbm(50 * [EAN8]), b""))
         status, out, err = ran(data=b"qr 01234567\n")
-        self.assertEqual((status, len(rows_of(out)), format_bits(rows_of(out)), err), (0, 29, "101010", b""))
+        self.assertEqual((status, len(rows_of(out)), format_bits(rows_of(out)), err), (0, 29, M_0, b""))
         # A backslash is a plain byte: three characters of Code 128, its start, check and stop, and quiet zones.
         self.assertEqual(ran(data=b"code128 a\\x\n")[1][:9], b"P1\n88 50\n")
 
@@ -224,7 +230,7 @@ class Arguments(unittest.TestCase):
         drawing = "--format ascii --scale=8 --height 1 --level H --min-version 10 --mask 0 --escapes -"
         status, out, err = ran(data=b"qr,level=H,min-version=10,mask=0 aA\n")
         symbol = rows_of(out)
-        self.assertEqual((status, len(symbol), format_bits(symbol), err), (0, 65, "001011", b""))
+        self.assertEqual((status, len(symbol), format_bits(symbol), err), (0, 65, H_0, b""))
         pictures = text(scaled([EAN8], 8)) + text(scaled(symbol, 8))
         self.assertEqual(self.ran(*drawing.split()), (0, pictures, b""))
 
@@ -253,20 +259,9 @@ class Arguments(unittest.TestCase):
             self.assertEqual(ran(argument), (0, HELP, b""))
 
 
-class Files(unittest.TestCase):
-    folder: str
-
-    @classmethod
-    def setUpClass(cls) -> None:
-        """A folder with a file of one label."""
-        cls.folder = cls.enterClassContext(tempfile.TemporaryDirectory())
-        Path(cls.folder, "a-label.txt").write_bytes(b"ean8 7351353\n")
-
-    def ran(self, name: str, **variables: str) -> Ran:
-        return ran("--height", "1", name, cwd=self.folder, **variables)
-
+class Files(InFolder):
     def test_a_file_is_read(self) -> None:
-        self.assertEqual(self.ran("a-label.txt"), (0, pbm([EAN8]), b""))
+        self.assertEqual(self.ran("--height", "1", "a-file"), (0, pbm([EAN8]), b""))
 
     def test_a_folder_cannot_be_read(self) -> None:
         """The system opens a folder, and then fails to read it."""
@@ -285,7 +280,7 @@ class Files(unittest.TestCase):
         subprocess.run(command, input=REFUSING.encode(), check=True)
         for number, name in sorted(errno.errorcode.items()):
             wanted = NO_MEMORY if number == errno.ENOMEM else NO_FILE
-            found = self.ran("a-label.txt", LD_PRELOAD=str(library), ERROR=str(number))
+            found = self.ran("a-file", LD_PRELOAD=str(library), ERROR=str(number))
             self.assertEqual(found, wanted, name)
 
 

@@ -46,8 +46,9 @@ fn assert_steps(rt: &impl Abort, piece: usize, failing: u64, steps: &[Step])
 {
     let mut sink: Small = Buffered::new(FailAt::new(MemSink::new(piece, 32), failing));
     for (call, succeeds, buffered, calls) in steps {
-        assert!(rt; does(&mut sink, *call) == *succeeds);
-        assert!(rt; sink.buffered() == *buffered && sink.sink().calls() == *calls);
+        let is_right = does(&mut sink, *call) == *succeeds;
+        let (held, made) = (sink.buffered(), sink.sink().calls());
+        assert!(rt; is_right & (held == *buffered) & (made == *calls));
     }
 }
 
@@ -118,7 +119,7 @@ fn takes_letters(sink: &mut Sunk, count: usize) -> bool {
 
 /// Whether `buffered` bytes are buffered, and `calls` calls reached the sink below.
 fn has(sink: &Sunk, buffered: usize, calls: u64) -> bool {
-    sink.buffered().len() == buffered && sink.sink().calls() == calls
+    (sink.buffered().len() == buffered) & (sink.sink().calls() == calls)
 }
 
 /// Nothing is passed on before the buffer is full and one more byte comes; then all of its bytes are passed on at once.
@@ -135,15 +136,15 @@ fn a_full_buffer_goes_on_in_one_write(rt: HostRuntime) {
         (65_537, 1, 2),
     ] {
         let mut sink = sunk(66000, 0);
-        assert!(rt; takes_letters(&mut sink, count) && has(&sink, buffered, calls));
-        assert!(rt; passes_on(&mut sink) && passes_on(&mut sink) && has(&sink, 0, calls + 1));
-        assert!(rt; flushes(&mut sink) && has(&sink, 0, calls + 2));
+        assert!(rt; takes_letters(&mut sink, count) & has(&sink, buffered, calls));
+        assert!(rt; passes_on(&mut sink) & passes_on(&mut sink) & has(&sink, 0, calls + 1));
+        assert!(rt; flushes(&mut sink) & has(&sink, 0, calls + 2));
     }
 }
 
 #[test]
 fn a_repeat_needs_room(rt: HostRuntime) {
     let mut sink = sunk(66000, 0);
-    assert!(rt; takes_letters(&mut sink, 32_766) && !sink.repeat(3) && has(&sink, 32_766, 0));
-    assert!(rt; sink.repeat(2) && has(&sink, 32_768, 0) && !sink.repeat(1));
+    assert!(rt; takes_letters(&mut sink, 32_766) & !sink.repeat(3) & has(&sink, 32_766, 0));
+    assert!(rt; sink.repeat(2) & has(&sink, 32_768, 0) & !sink.repeat(1));
 }

@@ -1,5 +1,5 @@
 //! Runs whose buffered images fail to go out.
-use crate::runs::support::{TWO_EAN8, low};
+use crate::runs::support::{EAN8, TWO_EAN8, low};
 use device::{Buffered, FailAt, MemSink, MemSource};
 use filter::{RunFault, run};
 use std::process::Abort;
@@ -19,10 +19,10 @@ fn assert_sending_fails(rt: &impl Abort, lines: &[u8], piece: usize, sent: usize
     let mut err: MemSink<52> = MemSink::new(52, 52);
     let result = run(low(rt), &mut source, &mut out, &mut err);
     assert!(rt;
-        result == Err(RunFault::WriteOut)
-            && err.bytes() == &REFUSED_IN_TURN[..26 * sent]
-            && out.sink().device().bytes() == &TWO_EAN8[..91 * sent]
-            && out.buffered() == &TWO_EAN8[..91]
+        (result == Err(RunFault::WriteOut))
+            & (err.bytes() == &REFUSED_IN_TURN[..26 * sent])
+            & (out.sink().device().bytes() == &TWO_EAN8[..91 * sent])
+            & (out.buffered() == EAN8.as_slice())
     );
 }
 
