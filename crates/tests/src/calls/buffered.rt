@@ -8,11 +8,9 @@ use std::process::Abort;
 /// A buffered sink over counted calls of memory.
 type Sunk = Buffered<FailAt<MemSink<66000>>>;
 
-/// A sink over memory that takes `piece` bytes a call and fails at one of its calls, counted from 1; 0 is none.
-fn sunk(piece: usize, failing: u64) -> Sunk
-    requires { 0 < piece }
-{
-    Buffered::new(FailAt::new(MemSink::new(piece, 66000), failing))
+/// A sink over memory that takes all bytes of a call, and fails at none.
+fn sunk() -> Sunk {
+    Buffered::new(FailAt::new(MemSink::new(66000, 66000), 0))
 }
 
 /// A call of a buffered sink.
@@ -135,7 +133,7 @@ fn a_full_buffer_goes_on_in_one_write(rt: HostRuntime) {
         (65_536, 32_768, 1),
         (65_537, 1, 2),
     ] {
-        let mut sink = sunk(66000, 0);
+        let mut sink = sunk();
         assert!(rt; takes_letters(&mut sink, count) & has(&sink, buffered, calls));
         assert!(rt; passes_on(&mut sink) & passes_on(&mut sink) & has(&sink, 0, calls + 1));
         assert!(rt; flushes(&mut sink) & has(&sink, 0, calls + 2));
@@ -144,7 +142,7 @@ fn a_full_buffer_goes_on_in_one_write(rt: HostRuntime) {
 
 #[test]
 fn a_repeat_needs_room(rt: HostRuntime) {
-    let mut sink = sunk(66000, 0);
+    let mut sink = sunk();
     assert!(rt; takes_letters(&mut sink, 32_766) & !sink.repeat(3) & has(&sink, 32_766, 0));
     assert!(rt; sink.repeat(2) & has(&sink, 32_768, 0) & !sink.repeat(1));
 }
