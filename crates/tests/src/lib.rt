@@ -1,10 +1,9 @@
-//! All tests, by public calls alone: of the layers below the filter (`layers`), of runs (`runs`), of the calls that
-//! reach devices (`calls`), of the command's arguments (`arguments`), of the names of files (`names`) and of the
-//! crates' pages (`pages`). They are a crate, so that the other crates are proved without reading what tests read.
+//! The tests that call functions, by public calls alone: of the layers below the filter (`layers`), of runs (`runs`),
+//! of the calls that reach devices (`calls`), of the names of files (`names`) and of the crates' pages (`pages`). They
+//! are a crate, so that the other crates are proved without reading what tests read. What the program shows is tried on
+//! the program: `tools/tests/test_program.py`.
 #![tactic(auto)]
 
-#[cfg(test)]
-mod arguments;
 #[cfg(test)]
 mod calls;
 #[cfg(test)]

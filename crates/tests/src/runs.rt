@@ -1,7 +1,6 @@
-//! Worked labels, devices that fail, hostile input: the filter as a whole.
+//! Devices that fail, hostile input, and a symbol without a line: the filter as a whole.
 mod after_a_fault;
 mod entry_points;
 mod hostile;
 mod passing_on;
-mod rows;
 pub mod support;

@@ -7,7 +7,7 @@ use std::cell::Cell;
 use std::io::{self, ErrorKind, Read, Write};
 
 /// Each kind of error that std has.
-pub const KINDS: [ErrorKind; 42] = [
+const KINDS: [ErrorKind; 42] = [
     ErrorKind::NotFound,
     ErrorKind::PermissionDenied,
     ErrorKind::ConnectionRefused,
@@ -130,17 +130,16 @@ fn one_read_fails(kind: ErrorKind, failing: u32) -> bool {
         counts: &counts,
     });
     let mut buf = [0; 4];
+    let mut is_right = true;
     for call in 1..4u32 {
-        let is_right = if call == failing {
+        let is_as_wanted = if call == failing {
             gives_none(&mut source, &mut buf)
         } else {
             gives(&mut source, &mut buf, 2)
         };
-        if !is_right || !counts.are(call, 0) {
-            return false;
-        }
+        is_right = is_right & is_as_wanted & counts.are(call, 0);
     }
-    true
+    is_right
 }
 
 /// Whether of three writes the one of this number fails, and no call of the writer is added or left out; and then of
@@ -152,22 +151,19 @@ fn one_write_fails(kind: ErrorKind, failing: u32) -> bool {
         call: failing,
         counts: &counts,
     });
+    let mut is_right = true;
     for call in 1..4u32 {
-        let is_right = if call == failing {
+        let is_as_wanted = if call == failing {
             takes_none(&mut sink, b"abc")
         } else {
             takes_some(&mut sink, b"abc", 2)
         };
-        if !is_right || !passes_on(&mut sink) || !counts.are(call, 0) {
-            return false;
-        }
+        is_right = is_right & is_as_wanted & passes_on(&mut sink) & counts.are(call, 0);
     }
     for call in 1..4u32 {
-        if flushes(&mut sink) == (call == failing) || !counts.are(3, call) {
-            return false;
-        }
+        is_right = is_right & (flushes(&mut sink) != (call == failing)) & counts.are(3, call);
     }
-    true
+    is_right
 }
 
 #[test]
@@ -188,13 +184,13 @@ fn is_one_call(moved: usize) -> bool {
     let mut source = StdSource::new(counts.never_failing());
     let mut sink = StdSink::new(counts.never_failing());
     let mut text = *b"0123456789abcde";
-    gives(&mut source, &mut text, moved)
-        && (if moved == 0 {
-            takes_none(&mut sink, &text)
-        } else {
-            takes_some(&mut sink, &text, moved)
-        })
-        && counts.are(2, 0)
+    let is_read = gives(&mut source, &mut text, moved);
+    let is_written = if moved == 0 {
+        takes_none(&mut sink, &text)
+    } else {
+        takes_some(&mut sink, &text, moved)
+    };
+    is_read & is_written & counts.are(2, 0)
 }
 
 #[test]
@@ -214,8 +210,8 @@ fn a_call_moves_all_bytes(rt: HostRuntime) {
         let mut sink = StdSink::new(counts.never_failing());
         assert!(rt;
             gives(&mut source, &mut bytes[..amount], amount)
-                && takes(&mut sink, &bytes[..amount])
-                && counts.are(2, 0)
+                & takes(&mut sink, &bytes[..amount])
+                & counts.are(2, 0)
         );
     }
 }

@@ -2,11 +2,11 @@
 //! as on a terminal that shows both outputs.
 ghost use Rattle.std.specs.Prelude.{◌<◌};
 
-use crate::runs::support::{low, result_of};
+use crate::runs::support::low;
 use device::{Buffered, IoFault, MemSink, MemSource, Sink, Source};
-use filter::Status;
+use filter::{Status, run};
 use std::alloc::Global;
-use std::cell::RefCell;
+use std::cell::Cell;
 use std::process::Abort;
 
 /// The marks of calls in a record.
@@ -22,22 +22,46 @@ const FLUSH: u8 = b'!';
 
 const FLUSH_OF_MESSAGES: u8 = b'$';
 
-/// A device whose calls are recorded.
+/// The marks of the calls that a run has to make, and the place of the next one. After a wrong call it is no place.
+#[derive(Drop)]
+struct Record<'a> {
+    marks: &'a [u8],
+    place: Cell<usize>,
+}
+
+impl<'a> Record<'a> {
+    /// A record of which no call was made.
+    fn new(marks: &'a [u8]) -> Self {
+        Record {
+            marks,
+            place: Cell::new(0),
+        }
+    }
+
+    /// Notes a call.
+    fn note(&self, mark: u8) {
+        let place = self.place.get();
+        let is_right = self.marks.get(place) == Some(&mark);
+        self.place.set(if is_right {
+            place.saturating_add(1)
+        } else {
+            usize::MAX
+        });
+    }
+
+    /// Whether all calls were made, in their order, and no other one.
+    fn is_whole(&self) -> bool {
+        self.place.get() == self.marks.len()
+    }
+}
+
+/// A device whose calls are noted.
 #[derive(Drop)]
 struct Recorded<'a, D: Drop> {
     device: D,
-    record: &'a RefCell<Vec<u8>>,
+    record: &'a Record<'a>,
     mark: u8,
     mark_of_flush: u8,
-}
-
-impl<D: Drop> Recorded<'_, D> {
-    /// Adds a mark to the record.
-    fn note(&self, mark: u8) {
-        if let Ok(mut record) = self.record.try_borrow_mut() {
-            let _ = record.push(mark);
-        }
-    }
 }
 
 impl<S: Source + Drop> Source for Recorded<'_, S> {
@@ -50,7 +74,7 @@ impl<S: Source + Drop> Source for Recorded<'_, S> {
     ghost ends = { λ s. S.ends s.device };
 
     fn read(&mut self, buf: &mut [u8]) -> Result<usize, IoFault> {
-        self.note(self.mark);
+        self.record.note(self.mark);
         self.device.read(buf)
     }
 
@@ -67,17 +91,17 @@ impl<S: Sink + Drop> Sink for Recorded<'_, S> {
     ghost took = { λ s t xs. S.took s.device t.device xs };
 
     fn write(&mut self, bytes: &[u8]) -> Result<usize, IoFault> {
-        self.note(self.mark);
+        self.record.note(self.mark);
         self.device.write(bytes)
     }
 
     fn flush(&mut self) -> Result<(), IoFault> {
-        self.note(self.mark_of_flush);
+        self.record.note(self.mark_of_flush);
         self.device.flush()
     }
 
     fn pass_on(&mut self) -> Result<(), IoFault> {
-        self.note(PASSING_ON);
+        self.record.note(PASSING_ON);
         self.device.pass_on()
     }
 
@@ -200,12 +224,12 @@ const PIECES: [usize; 3] = [13, 4096, 100_000];
 /// The bytes that the run asks for at each read.
 const BUFFER: usize = 4096;
 
-/// A run over the input, `piece` bytes a read, whose status is that of refused lines.
+/// A run over the input, `piece` bytes a read, makes the calls of the record. Its status is that of refused lines.
 fn assert_runs(
     rt: &impl Abort,
     input: &[u8],
     piece: usize,
-    record: &RefCell<Vec<u8>>,
+    record: &Record<'_>,
     out: &mut impl Sink,
 ) {
     assert!(rt; piece > 0);
@@ -221,13 +245,12 @@ fn assert_runs(
         mark: MESSAGE,
         mark_of_flush: FLUSH_OF_MESSAGES,
     };
-    assert!(rt;
-        result_of(low(rt).with_escapes(true), &mut source, out, &mut err) == Ok(Status::Refused)
-    );
+    let result = run(low(rt).with_escapes(true), &mut source, out, &mut err);
+    assert!(rt; (result == Ok(Status::Refused)) & record.is_whole());
 }
 
-/// A sink of the pictures whose calls are recorded.
-fn pictures(record: &RefCell<Vec<u8>>) -> Recorded<'_, MemSink<32768>> {
+/// A sink of the pictures whose calls are noted.
+fn pictures<'a>(record: &'a Record<'a>) -> Recorded<'a, MemSink<32768>> {
     Recorded {
         device: MemSink::new(32768, 32768),
         record,
@@ -236,22 +259,17 @@ fn pictures(record: &RefCell<Vec<u8>>) -> Recorded<'_, MemSink<32768>> {
     }
 }
 
-/// The record of a run over the input whose pictures are buffered, or are not.
-fn record_of_run(
-    rt: &impl Abort,
-    alloc: Global,
-    input: &[u8],
-    piece: usize,
-    is_buffered: bool,
-) -> Vec<u8> {
-    let record = RefCell::new(Vec::new(alloc));
-    if is_buffered {
-        let mut out = Buffered::new(pictures(&record));
-        assert_runs(rt, input, piece, &record, &mut out);
-    } else {
-        assert_runs(rt, input, piece, &record, &mut pictures(&record));
-    }
-    record.into_inner()
+/// A run over the input makes these calls.
+fn assert_calls(rt: &impl Abort, input: &[u8], piece: usize, calls: &[u8]) {
+    let record = Record::new(calls);
+    assert_runs(rt, input, piece, &record, &mut pictures(&record));
+}
+
+/// A run over the input whose pictures are buffered makes these calls.
+fn assert_buffered_calls(rt: &impl Abort, input: &[u8], piece: usize, calls: &[u8]) {
+    let record = Record::new(calls);
+    let mut out = Buffered::new(pictures(&record));
+    assert_runs(rt, input, piece, &record, &mut out);
 }
 
 /// Buffered pictures go out before each read and each message.
@@ -261,10 +279,8 @@ fn the_calls_of_300_lines_are_in_order(rt: HostRuntime) {
     let input = input_of(alloc);
     for piece in PIECES {
         let calls = record_of(alloc, input.len(), BUFFER.min(piece));
-        let record = record_of_run(&rt, alloc, input.as_slice(), piece, false);
-        assert!(rt; record.as_slice() == calls.as_slice());
+        assert_calls(&rt, input.as_slice(), piece, calls.as_slice());
         let buffered_calls = buffered_record_of(alloc, calls.as_slice());
-        let record = record_of_run(&rt, alloc, input.as_slice(), piece, true);
-        assert!(rt; record.as_slice() == buffered_calls.as_slice());
+        assert_buffered_calls(&rt, input.as_slice(), piece, buffered_calls.as_slice());
     }
 }

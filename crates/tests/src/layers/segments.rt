@@ -262,6 +262,7 @@ fn same_as_slow_on_mixed_texts(rt: HostRuntime) {
     }
 }
 
+/// Texts of one mode at the limits of versions 9 and 10 and of the character counts, and one character more.
 #[test]
 fn same_as_slow_at_the_limits(rt: HostRuntime) {
     for character in [b'1', b'A', b'a'] {
@@ -271,6 +272,11 @@ fn same_as_slow_at_the_limits(rt: HostRuntime) {
             expect_same(&rt, &text[..limit + 1]);
         }
     }
+}
+
+/// Digits with another character in front of them, or at both ends.
+#[test]
+fn same_as_slow_at_the_limits_of_two_modes(rt: HostRuntime) {
     for front in [b'A', b'a'] {
         let mut text = [b'1'; 652];
         for len in [229, 334, 394, 545, 549, 551, 645, 649, 651] {

@@ -10,6 +10,7 @@ use qrdata::{Codewords, Level, Version};
 use qrmatrix::Matrix;
 use slow::penalty::penalty;
 use slow::{mask_of_lowest_penalty, modules_under};
+use std::process::Abort;
 
 /// What the codewords of a symbol are made of.
 #[derive(Clone, Copy)]
@@ -58,29 +59,32 @@ fn agrees(version: Version, level: Level, mask: Option<u8>, codewords: &Codeword
     matrix.mask() == slow_mask && u64::from(matrix.penalty()) == penalty(&slow, version.side())
 }
 
-/// Whether the symbols of a version and a level agree, with no mask given and with each.
-fn all_agree(version: Version, level: Level) -> bool {
-    for filling in [Filling::Zeros, Filling::Ones, Filling::Places] {
-        let codewords = filling.codewords(version.total_codewords());
-        if codewords.len() != version.total_codewords()
-            || !agrees(version, level, None, &codewords)
-        {
+/// Whether the symbols of these codewords agree, with no mask given and with each.
+fn all_agree(version: Version, level: Level, codewords: &Codewords) -> bool
+    requires { length codewords.now.items ≡ total_codewords version }
+{
+    for mask in 0..8 {
+        if !agrees(version, level, Some(mask), codewords) {
             return false;
         }
-        for mask in 0..8 {
-            if !agrees(version, level, Some(mask), &codewords) {
-                return false;
-            }
-        }
     }
-    true
+    agrees(version, level, None, codewords)
+}
+
+/// The symbols of a version and a level agree with each filling.
+fn assert_agree(rt: &impl Abort, version: Version, level: Level) {
+    for filling in [Filling::Zeros, Filling::Ones, Filling::Places] {
+        let codewords = filling.codewords(version.total_codewords());
+        assert!(rt; codewords.len() == version.total_codewords());
+        assert!(rt; all_agree(version, level, &codewords));
+    }
 }
 
 #[test]
 fn every_symbol_agrees_with_the_slow_form(rt: HostRuntime) {
     for number in 1..11u8 {
         for level in LEVELS {
-            assert!(rt; all_agree(Version::of(number), level));
+            assert_agree(&rt, Version::of(number), level);
         }
     }
 }

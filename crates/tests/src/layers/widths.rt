@@ -1,10 +1,24 @@
 //! Rows at the widths where their form changes, against the slow form, which asks for each pixel.
+ghost use Rattle.std.specs.Prelude.{◌≤◌, length};
+
 use device::{Buffered, IoFault, MemSink, Sink, write_whole};
 use picture::{Bars, Framed, Grid, QuietZone, write_ascii, write_pbm};
 
-/// About a line, the room for a row at scale 1, and the room for any label's row.
-const WIDTHS: [usize; 12] = [
-    1, 69, 70, 71, 140, 1119, 1120, 1121, 14399, 14400, 14401, 15000,
+/// About a line, the room for a row at scale 1, and the room for any label's row; each with the headers of a picture of
+/// two rows and of one of four.
+const WIDTHS: [(usize, &str, &str); 12] = [
+    (1, "P1\n1 2\n", "P1\n1 4\n"),
+    (69, "P1\n69 2\n", "P1\n69 4\n"),
+    (70, "P1\n70 2\n", "P1\n70 4\n"),
+    (71, "P1\n71 2\n", "P1\n71 4\n"),
+    (140, "P1\n140 2\n", "P1\n140 4\n"),
+    (1119, "P1\n1119 2\n", "P1\n1119 4\n"),
+    (1120, "P1\n1120 2\n", "P1\n1120 4\n"),
+    (1121, "P1\n1121 2\n", "P1\n1121 4\n"),
+    (14399, "P1\n14399 2\n", "P1\n14399 4\n"),
+    (14400, "P1\n14400 2\n", "P1\n14400 4\n"),
+    (14401, "P1\n14401 2\n", "P1\n14401 4\n"),
+    (15000, "P1\n15000 2\n", "P1\n15000 4\n"),
 ];
 
 /// Every third column is dark, from the first in row 0 and from the second in row 1. It says of no rows that they are
@@ -63,9 +77,9 @@ fn has_same_pbm(grid: &impl Grid, header: &str) -> bool {
     let mut sink = Buffered::new(MemSink::<61000>::new(4096, 61000));
     let mut slow = MemSink::<61000>::new(4096, 61000);
     write_pbm(grid, &mut sink).is_ok()
-        && sink.flush().is_ok()
-        && write_pbm_slowly(grid, &mut slow).is_ok()
-        && sink.sink().bytes().strip_prefix(header.as_bytes()) == Some(slow.bytes())
+        & sink.flush().is_ok()
+        & write_pbm_slowly(grid, &mut slow).is_ok()
+        & (sink.sink().bytes().strip_prefix(header.as_bytes()) == Some(slow.bytes()))
 }
 
 /// Whether the text picture of a grid of at most four rows is that of the slow form, through a sink that buffers.
@@ -73,32 +87,47 @@ fn has_same_ascii(grid: &impl Grid) -> bool {
     let mut sink = Buffered::new(MemSink::<121000>::new(4096, 121000));
     let mut slow = MemSink::<121000>::new(4096, 121000);
     write_ascii(grid, &mut sink).is_ok()
-        && sink.flush().is_ok()
-        && write_ascii_slowly(grid, &mut slow).is_ok()
-        && sink.sink().bytes() == slow.bytes()
+        & sink.flush().is_ok()
+        & write_ascii_slowly(grid, &mut slow).is_ok()
+        & (sink.sink().bytes() == slow.bytes())
 }
 
-/// Stripes, and bars whose light row, two equal rows and light row are known to be equal.
+/// A light row, two equal rows of these modules, and a light row, which are known to be equal.
+fn framed(modules: &[bool]) -> Framed<Bars<'_>>
+    requires { length modules.now ≤ 15000 }
+{
+    let zone = QuietZone {
+        left: 0,
+        right: 0,
+        top: 1,
+        bottom: 1,
+    };
+    Framed::new(Bars::new(modules, 2), zone)
+}
+
+/// Whether stripes have the pixels of the slow form, in both formats.
+fn has_same_stripes(width: usize, header: &str) -> bool {
+    let stripes = Stripes { width };
+    has_same_pbm(&stripes, header) & has_same_ascii(&stripes)
+}
+
+/// Whether bars in light rows have the pixels of the slow form, in both formats.
+fn has_same_bars(modules: &[bool], header: &str) -> bool
+    requires { length modules.now ≤ 15000 }
+{
+    let bars = framed(modules);
+    has_same_pbm(&bars, header) & has_same_ascii(&bars)
+}
+
 #[test]
 fn rows_have_the_pixels_of_the_slow_form(rt: HostRuntime) {
     let mut modules = [false; 15000];
     for i in 0..15000 {
         modules[i] = i % 5 == 0 || i % 7 == 3;
     }
-    for width in WIDTHS {
-        let stripes = Stripes { width };
-        let header = format!(in rt.alloc(); "P1\n{width} 2\n").expect(&rt, "memory");
-        assert!(rt; has_same_pbm(&stripes, header.as_str()) && has_same_ascii(&stripes));
+    for (width, header, framed_header) in WIDTHS {
+        assert!(rt; has_same_stripes(width, header));
         let all = &modules[..];
-        let bars = Bars::new(&all[..width.min(15000)], 2);
-        let zone = QuietZone {
-            left: 0,
-            right: 0,
-            top: 1,
-            bottom: 1,
-        };
-        let framed = Framed::new(bars, zone);
-        let header = format!(in rt.alloc(); "P1\n{width} 4\n").expect(&rt, "memory");
-        assert!(rt; has_same_pbm(&framed, header.as_str()) && has_same_ascii(&framed));
+        assert!(rt; has_same_bars(&all[..width.min(15000)], framed_header));
     }
 }

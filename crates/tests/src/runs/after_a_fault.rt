@@ -32,19 +32,20 @@ impl Read for LineReader {
     }
 }
 
-/// Takes all bytes of each write, but fails at one of its calls, counted from 1; with 0 at none.
+/// Takes all bytes of each write that are the next ones of its text, but fails at one of its calls, counted from 1; with
+/// 0 at none.
 #[derive(Drop)]
 struct OnceFailing {
-    bytes: Vec<u8>,
+    rest: &'static [u8],
     calls: u32,
     failing: u32,
 }
 
 impl OnceFailing {
-    /// A writer that took nothing.
-    fn new(alloc: Global, failing: u32) -> Self {
+    /// A writer that took nothing of this text.
+    fn new(text: &'static [u8], failing: u32) -> Self {
         OnceFailing {
-            bytes: Vec::new(alloc),
+            rest: text,
             calls: 0,
             failing,
         }
@@ -56,9 +57,9 @@ impl OnceFailing {
         self.calls == self.failing
     }
 
-    /// Whether it took this many bytes of a text, in this many calls.
+    /// Whether it took this many bytes of its text, in this many calls.
     fn took(&self, text: &[u8], len: usize, calls: u32) -> bool {
-        self.calls == calls && self.bytes.len() == len && text.starts_with(self.bytes.as_slice())
+        (self.calls == calls) & (text.get(len..) == Some(self.rest))
     }
 }
 
@@ -67,7 +68,10 @@ impl Write for OnceFailing {
         if self.fails_now() {
             return Err(ErrorKind::Other.into());
         }
-        self.bytes.extend_from_slice(bytes)?;
+        match self.rest.strip_prefix(bytes) {
+            Some(rest) => self.rest = rest,
+            None => return Err(ErrorKind::Other.into()),
+        }
         Ok(bytes.len())
     }
 
@@ -82,65 +86,63 @@ impl Write for OnceFailing {
 /// The messages of the second and the fourth line.
 const MESSAGES: &[u8; 52] = b"line 2: unknown symbology\nline 4: unknown symbology\n";
 
-/// What a run did: how it ended, and what its writers took.
-#[derive(Drop)]
-struct Ran {
-    result: Result<Status, RunFault>,
-    images: OnceFailing,
-    messages: OnceFailing,
-}
-
-/// Runs over four lines, of which two are drawn and two refused. The source, the images or the messages fail at a call.
-fn run_failing(rt: &impl Abort, alloc: Global, source: u32, images: u32, messages: u32) -> Ran {
-    let mut images = OnceFailing::new(alloc, images);
-    let mut messages = OnceFailing::new(alloc, messages);
+/// A run over four lines, of which two are drawn and two refused, ends with this result. The source, the images and the
+/// messages fail at these calls, and the images and the messages take this many bytes in this many calls.
+fn assert_ends(
+    rt: &impl Abort,
+    failing: (u32, u32, u32),
+    wanted: Result<Status, RunFault>,
+    drawn: (usize, u32),
+    reported: (usize, u32),
+) {
+    let mut images = OnceFailing::new(TWO_EAN8, failing.1);
+    let mut messages = OnceFailing::new(MESSAGES, failing.2);
     let mut reader = StdSource::new(LineReader {
         calls: 0,
-        failing: source,
+        failing: failing.0,
     });
     let mut out = Buffered::new(StdSink::new(&mut images));
     let mut err = StdSink::new(&mut messages);
     let result = run_streams(low(rt), &mut reader, &mut out, &mut err);
-    Ran {
-        result,
-        images,
-        messages,
-    }
+    assert!(rt;
+        (result == wanted)
+            & images.took(TWO_EAN8, drawn.0, drawn.1)
+            & messages.took(MESSAGES, reported.0, reported.1)
+    );
 }
 
 /// With no failure there are three calls of each writer: two writes and a flush.
 #[test]
 fn each_writer_is_called_three_times(rt: HostRuntime) {
-    let ran = run_failing(&rt, rt.alloc(), 0, 0, 0);
-    assert!(rt; ran.result == Ok(Status::Refused));
-    assert!(rt; ran.images.took(TWO_EAN8, 182, 3) && ran.messages.took(MESSAGES, 52, 3));
+    assert_ends(&rt, (0, 0, 0), Ok(Status::Refused), (182, 3), (52, 3));
 }
 
 /// After a failed read the writer has the images of the ended lines, and it is asked for nothing more.
 #[test]
 fn a_read_fails(rt: HostRuntime) {
-    for (failing, images, written, messages, reported) in [
-        (1, 0, 0, 0, 0),
-        (2, 91, 1, 0, 0),
-        (3, 91, 1, 26, 1),
-        (4, 182, 2, 26, 1),
-        (5, 182, 2, 52, 2),
+    for (failing, drawn, reported) in [
+        (1, (0, 0), (0, 0)),
+        (2, (91, 1), (0, 0)),
+        (3, (91, 1), (26, 1)),
+        (4, (182, 2), (26, 1)),
+        (5, (182, 2), (52, 2)),
     ] {
-        let ran = run_failing(&rt, rt.alloc(), failing, 0, 0);
-        assert!(rt; ran.result == Err(RunFault::Read));
-        assert!(rt; ran.images.took(TWO_EAN8, images, written));
-        assert!(rt; ran.messages.took(MESSAGES, messages, reported));
+        assert_ends(&rt, (failing, 0, 0), Err(RunFault::Read), drawn, reported);
     }
 }
 
 /// After a failed write or flush of images nothing is written again: a second write would succeed. No message follows.
 #[test]
 fn a_call_for_images_fails(rt: HostRuntime) {
-    for (failing, images, messages, reported) in [(1, 0, 0, 0), (2, 91, 26, 1), (3, 182, 52, 2)] {
-        let ran = run_failing(&rt, rt.alloc(), 0, failing, 0);
-        assert!(rt; ran.result == Err(RunFault::WriteOut));
-        assert!(rt; ran.images.took(TWO_EAN8, images, failing));
-        assert!(rt; ran.messages.took(MESSAGES, messages, reported));
+    for (failing, images, reported) in [(1, 0, (0, 0)), (2, 91, (26, 1)), (3, 182, (52, 2))] {
+        let drawn = (images, failing);
+        assert_ends(
+            &rt,
+            (0, failing, 0),
+            Err(RunFault::WriteOut),
+            drawn,
+            reported,
+        );
     }
 }
 
@@ -148,9 +150,28 @@ fn a_call_for_images_fails(rt: HostRuntime) {
 #[test]
 fn a_call_for_messages_fails(rt: HostRuntime) {
     for (failing, images, messages) in [(1, 91, 0), (2, 182, 26), (3, 182, 52)] {
-        let ran = run_failing(&rt, rt.alloc(), 0, 0, failing);
-        assert!(rt; ran.result == Err(RunFault::WriteMessages));
-        assert!(rt; ran.images.took(TWO_EAN8, images, failing));
-        assert!(rt; ran.messages.took(MESSAGES, messages, failing));
+        let fault = RunFault::WriteMessages;
+        let (drawn, reported) = ((images, failing), (messages, failing));
+        assert_ends(&rt, (0, 0, failing), Err(fault), drawn, reported);
+    }
+}
+
+/// Whether a fault is shown as this text.
+fn shows(alloc: Global, fault: RunFault, text: &str) -> bool {
+    match format!(in alloc; "{fault}") {
+        Ok(shown) => shown.as_str() == text,
+        Err(_) => false,
+    }
+}
+
+#[test]
+fn shows_faults(rt: HostRuntime) {
+    for (fault, text) in [
+        (RunFault::Read, "read failed"),
+        (RunFault::WriteOut, "write failed"),
+        (RunFault::WriteMessages, "message write failed"),
+        (RunFault::Spent, "filter is spent"),
+    ] {
+        assert!(rt; shows(rt.alloc(), fault, text));
     }
 }

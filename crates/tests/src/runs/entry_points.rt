@@ -1,16 +1,38 @@
-//! One symbol without a line: the call of the filter that no other test makes.
+//! The calls that no other test makes: one symbol without a line, and options that are set one by one.
 use crate::runs::support::{EAN8, low};
 use device::StdSink;
 use filter::draw;
-use labelcore::{Fault, Symbology};
+use labelcore::{Fault, Format, Options, Symbology};
+use qrdata::Level;
 
 #[test]
 fn one_symbol_is_drawn_without_a_line(rt: HostRuntime) {
     let options = low(&rt);
     let mut images = Vec::new(rt.alloc());
     let mut out = StdSink::new(&mut images);
-    assert!(rt; draw(&options, Symbology::Ean8, b"7351353", &mut out) == Ok(Ok(())));
+    let drawn = draw(&options, Symbology::Ean8, b"7351353", &mut out);
+    let refused = draw(&options, Symbology::Ean8, b"73513530", &mut out);
     let refusal = Fault::WrongCheckDigit { given: 0, right: 7 };
-    assert!(rt; draw(&options, Symbology::Ean8, b"73513530", &mut out) == Ok(Err(refusal)));
-    assert!(rt; images.as_slice() == EAN8.as_slice());
+    let is_right = (drawn == Ok(Ok(()))) & (refused == Ok(Err(refusal)));
+    assert!(rt; is_right & (images.as_slice() == EAN8.as_slice()));
+}
+
+/// Options, each set by its own call.
+fn all_set() -> Option<Options> {
+    Options::default()
+        .with_format(Format::Ascii)
+        .with_level(Level::H)
+        .with_escapes(true)
+        .with_scale(8)?
+        .with_height(1)?
+        .with_min_version(10)?
+        .with_mask(Some(0))
+}
+
+/// They are those that are made at once; and the defaults are those that the help text names.
+#[test]
+fn options_are_set_one_by_one(rt: HostRuntime) {
+    let all = Options::new(Format::Ascii, 8, 1, Level::H, 10, Some(0), true);
+    let defaults = Options::new(Format::Pbm, 1, 50, Level::M, 1, None, false);
+    assert!(rt; (all_set() == all) & (defaults == Some(Options::default())));
 }

@@ -1,25 +1,18 @@
-//! Hostile use: devices that fail at each call, and very long lines.
-use crate::runs::support::{EAN8, assert_wrote, low, result_of, run_by};
+//! Devices that fail at each of their calls, over a line that is too long, a comment and a label.
+use crate::runs::support::{EAN8, low};
 use device::{FailAt, MemSink, MemSource};
-use filter::RunFault;
-use std::alloc::{AllocError, Global};
+use filter::{RunFault, run};
 use std::process::Abort;
 
 /// The message of a line that is too long.
 const TOO_LONG: &[u8] = b"line 1: line is longer than 1100 bytes\n";
 
-/// A line that is too long, of this many letters, a comment of this many letters, and a label.
-fn long_lines(alloc: Global, letters: usize, comment: usize) -> Result<Vec<u8>, AllocError> {
-    let mut lines = Vec::new(alloc);
-    for _ in 0..letters {
-        lines.push(b'a')?;
-    }
-    lines.extend_from_slice(b"\n#")?;
-    for _ in 0..comment {
-        lines.push(b'a')?;
-    }
-    lines.extend_from_slice(b"\nean8 7351353")?;
-    Ok(lines)
+/// A line that is too long by a letter, a comment of 2,000 letters, and a label: 3,116 bytes.
+fn long_lines() -> [u8; 3116] {
+    let mut lines = [b'a'; 3116];
+    lines[1101..1103].copy_from_slice(b"\n#");
+    lines[3103..].copy_from_slice(b"\nean8 7351353");
+    lines
 }
 
 /// A run whose devices fail at these calls, of the source, the images and the messages, counted from 1; 0 is none. Each
@@ -36,18 +29,25 @@ fn assert_fails(
     let mut source = FailAt::new(MemSource::new(input, 1, false), failing.0);
     let mut out = FailAt::new(MemSink::<91>::new(1, 91), failing.1);
     let mut err = FailAt::new(MemSink::<39>::new(1, 39), failing.2);
-    let result = result_of(low(rt), &mut source, &mut out, &mut err);
-    assert!(rt; result == Err(fault) && (source.calls(), out.calls(), err.calls()) == calls);
+    let result = run(low(rt), &mut source, &mut out, &mut err);
     let (images, messages) = (out.device().bytes(), err.device().bytes());
-    assert!(rt; EAN8.get(..held.0) == Some(images) && TOO_LONG.get(..held.1) == Some(messages));
+    assert!(rt;
+        (result == Err(fault))
+            & (source.calls() == calls.0)
+            & (out.calls() == calls.1)
+            & (err.calls() == calls.2)
+            & (images.len() == held.0)
+            & (messages.len() == held.1)
+            & EAN8.starts_with(images)
+            & TOO_LONG.starts_with(messages)
+    );
 }
 
 /// Each read fails, each write of the image and its flush, and each write of the message and its flush.
 #[test]
 fn each_call_fails(rt: HostRuntime) {
-    let lines = long_lines(rt.alloc(), 1101, 2000).expect(&rt, "memory");
-    let input = lines.as_slice();
-    assert!(rt; input.len() == 3116);
+    let lines = long_lines();
+    let input = &lines[..];
     for call in 1..3118u64 {
         let err = if call <= 1102 { 0 } else { 39 };
         let calls = (call, 0, err as u64);
@@ -71,13 +71,4 @@ fn each_call_fails(rt: HostRuntime) {
         assert_fails(&rt, input, (0, 0, call), fault, (1102, 0, call), (0, sent));
     }
     assert_fails(&rt, input, (0, 0, 40), fault, (3117, 92, 40), (91, 39));
-}
-
-#[test]
-fn lines_of_ten_million_letters(rt: HostRuntime) {
-    let alloc = rt.alloc();
-    let input = long_lines(alloc, 10_000_000, 10_000_000).expect(&rt, "memory");
-    assert!(rt; input.len() == 20_000_015);
-    let ran = run_by(alloc, low(&rt), input.as_slice(), 4096);
-    assert_wrote(&rt, &ran, EAN8, TOO_LONG);
 }

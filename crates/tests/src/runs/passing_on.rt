@@ -1,7 +1,7 @@
 //! Runs whose buffered images fail to go out.
-use crate::runs::support::{TWO_EAN8, low, result_of};
+use crate::runs::support::{EAN8, TWO_EAN8, low};
 use device::{Buffered, FailAt, MemSink, MemSource};
-use filter::RunFault;
+use filter::{RunFault, run};
 use std::process::Abort;
 
 /// Lines that are drawn and refused in turn, each of 13 or 6 bytes.
@@ -17,12 +17,12 @@ fn assert_sending_fails(rt: &impl Abort, lines: &[u8], piece: usize, sent: usize
     let mut source = MemSource::new(lines, piece, false);
     let mut out = Buffered::new(FailAt::new(MemSink::<182>::new(182, 182), sent as u64 + 1));
     let mut err: MemSink<52> = MemSink::new(52, 52);
-    let result = result_of(low(rt), &mut source, &mut out, &mut err);
+    let result = run(low(rt), &mut source, &mut out, &mut err);
     assert!(rt;
-        result == Err(RunFault::WriteOut)
-            && err.bytes() == &REFUSED_IN_TURN[..26 * sent]
-            && out.sink().device().bytes() == &TWO_EAN8[..91 * sent]
-            && out.buffered() == &TWO_EAN8[..91]
+        (result == Err(RunFault::WriteOut))
+            & (err.bytes() == &REFUSED_IN_TURN[..26 * sent])
+            & (out.sink().device().bytes() == &TWO_EAN8[..91 * sent])
+            & (out.buffered() == EAN8.as_slice())
     );
 }
 

@@ -32,7 +32,7 @@ fn line_penalty(line: &[bool]) -> u64 {
         });
     }
     for window in line.windows(11) {
-        if window == FINDERS[0].as_slice() || window == FINDERS[1].as_slice() {
+        if (window == FINDERS[0].as_slice()) | (window == FINDERS[1].as_slice()) {
             points = points.saturating_add(40);
         }
     }
@@ -65,9 +65,9 @@ fn squares(modules: &Square, n: usize) -> u64
     for y in 1..n {
         for x in 1..n {
             let dark = modules.get(x, y);
-            if modules.get(x - 1, y) == dark
-                && modules.get(x, y - 1) == dark
-                && modules.get(x - 1, y - 1) == dark
+            if (modules.get(x - 1, y) == dark)
+                & (modules.get(x, y - 1) == dark)
+                & (modules.get(x - 1, y - 1) == dark)
             {
                 points = points.saturating_add(3);
             }

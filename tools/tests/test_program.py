@@ -1,0 +1,319 @@
+"""The program `labels`: its arguments and help text, files that cannot be opened, and lines of each kind, in pieces.
+
+Expected values come from the standards, the man page, and other programs: none of them is output of `labels` itself.
+"""
+
+import errno
+import socket
+import subprocess
+import tempfile
+import unittest
+from pathlib import Path
+from typing import List, Sequence, Tuple
+
+import support
+
+Ran = Tuple[int, bytes, bytes]
+
+EAN8 = "000000010101110110111101011000100110010101010000101001110100001010001001010000000"
+
+# `qr 01234567` at level M under mask 2 (ISO/IEC 18004, Annex I), without its quiet zone.
+SYMBOL = """
+111111100101101111111
+100000100111101000001
+101110101000001011101
+101110101100001011101
+101110101011101011101
+100000101000101000001
+111111101010101111111
+000000001001100000000
+101111100100101111100
+000101011010100101100
+001000110101010011111
+000010000100000111100
+000111111001010010000
+000000001011111001100
+111111100110101100000
+100000101011111000101
+101110101000100101100
+101110101100100100000
+101110101011010010100
+100000100000000110110
+111111101111010010100
+""".split()
+
+QR = [29 * "0"] * 4 + [f"0000{row}0000" for row in SYMBOL] + [29 * "0"] * 4
+
+# A line and the rows of its picture, one module high, under mask 2 and with escapes.
+DRAWN = (
+    (b"ean8 7351353", [EAN8]),
+    (
+        b"ean13 4006381333931",
+        [
+            "0000000000010100011010100111010111101111010001001011001101010100001010"
+            "0001010000101110100100001011001101010000000"
+        ],
+    ),
+    (
+        b"upca 03600029145",
+        [
+            "0000000001010001101011110101011110001101000110100011010101011011001110"
+            "1001100110101110010011101101100101000000000"
+        ],
+    ),
+    (
+        b"code128 A123456",
+        [
+            "0000000000110100100001010001100010111011110101100111001000101100011100"
+            "0101101001000011011000111010110000000000"
+        ],
+    ),
+    # A setting and escaped digits, and then a shift between code sets.
+    (rb"ean8,height=2 73\x35\x31353", [EAN8, EAN8]),
+    (
+        rb"code128 a\x01b",
+        ["0000000000110100100001001011000011110100010100101100001001000011011011" "00110011000111010110000000000"],
+    ),
+    (b"qr 01234567", QR),
+)
+
+# A line for each refusal that no setting causes, with escapes, and what the message says of it.
+REFUSED = (
+    (b"ean8 73x1353", b"not a digit at byte 3"),
+    (b"ean13 123", b"wrong number of digits: 3"),
+    (b"qr", b"no data"),
+    (b"qr ", b"no data"),
+    (b" qr x", b"unknown symbology"),
+    (rb"code128 a\q", b"bad escape at byte 2"),
+    (b"code128 \xc3\xa9", b"byte 1 is not ASCII"),
+    (b"code128 " + 81 * b"a", b"data is longer than 80 bytes"),
+)
+
+OPTIONS = ("--height", "1", "--mask", "2", "--escapes")
+
+# How the format information of level M and of level H begins under mask 0 (ISO/IEC 18004, Annex C).
+M_0 = "101010"
+H_0 = "001011"
+
+BAD_ARGUMENTS = (2, b"", b"labels: bad words\n")
+NO_FILE = (3, b"", b"labels: cannot open file\n")
+NO_MEMORY = (3, b"", b"labels: no memory\n")
+
+HELP = rb"""labels 1.0.0
+
+Draws EAN, UPC, Code 128 and QR Code labels: one picture for each line of the input.
+
+Usage: labels [OPTIONS] [FILE]
+
+Arguments:
+  [FILE]  The file to read; standard input if there is none
+
+Options:
+      --format <pbm|ascii>  How pictures are written: as plain PBM or as text [default: pbm]
+      --scale <1-8>         The width and height of a module in pixels [default: 1]
+      --height <1-500>      The height of EAN, UPC and Code 128 symbols in modules [default: 50]
+      --level <L|M|Q|H>     The error correction level of QR symbols [default: M]
+      --min-version <1-10>  The smallest version of QR symbols [default: 1]
+      --mask <0-7>          The mask of QR symbols [default: the mask with the lowest penalty]
+      --escapes             Read \\, \n and \xHH in the data as one byte each
+  -h, --help                Print help
+
+Lines: NAME[,KEY=VALUE].. DATA, where NAME and DATA are
+  ean13 400638133393       12 digits, or 13 with the check digit
+  ean8 7351353             7 digits, or 8 with the check digit
+  upca 03600029145         11 digits, or 12 with the check digit
+  code128 SHELF-7          1 to 80 bytes of ASCII
+  qr https://example.com   any bytes that fit in version 10
+and KEY is height, or for qr level, min-version or mask (0 to 7, or auto). Empty lines and
+lines that begin with # draw nothing. A refused line gives a message on standard error.
+
+Status: 0 no line was refused, 1 at least one line was refused, 2 labels does not take the
+arguments (bad words), 3 reading, writing or opening FILE failed, or memory ran out.
+
+Example: echo 'ean13 400638133393' | labels --scale 4 --height 70 > pencil.pbm
+"""
+
+# A library that is loaded before the C library: the first opening of a file fails with the error of this number, and
+# each later one for want of permission, since the system's call is made anew where it was interrupted.
+REFUSING = """
+#include <errno.h>
+#include <stdlib.h>
+
+static int refuse(void) {
+    static int calls;
+    errno = calls++ ? EACCES : atoi(getenv("ERROR"));
+    return -1;
+}
+
+int open(const char *path, int flags, ...) { return refuse(); }
+int open64(const char *path, int flags, ...) { return refuse(); }
+int openat(int folder, const char *path, int flags, ...) { return refuse(); }
+int openat64(int folder, const char *path, int flags, ...) { return refuse(); }
+"""
+
+
+def pbm(rows: Sequence[str]) -> bytes:
+    """The plain PBM of rows of pixels: a line feed after each 70 pixels and at the end of each row."""
+    lines = [row[start : start + 70] for row in rows for start in range(0, len(row), 70)]
+    return "\n".join([f"P1\n{len(rows[0])} {len(rows)}", *lines, ""]).encode()
+
+
+def text(rows: Sequence[str]) -> bytes:
+    """The text picture of rows of pixels: two letters for a pixel, and an empty line at the end."""
+    return ("\n".join(rows).replace("0", "  ").replace("1", "##") + "\n\n").encode()
+
+
+def scaled(rows: Sequence[str], scale: int) -> List[str]:
+    """Rows of `scale` by `scale` pixels a module."""
+    wide = ["".join(scale * pixel for pixel in row) for row in rows]
+    return [row for row in wide for _ in range(scale)]
+
+
+def rows_of(picture: bytes) -> List[str]:
+    """The rows of pixels of one plain PBM."""
+    mark, size, *lines = picture.decode().split("\n")
+    width, height = map(int, size.split())
+    pixels = "".join(lines)
+    assert (mark, len(pixels)) == ("P1", width * height)
+    return [pixels[start : start + width] for start in range(0, len(pixels), width)]
+
+
+def format_bits(rows: Sequence[str]) -> str:
+    """The first six bits of a QR symbol's format information: below its upper left finder pattern, from the left."""
+    return rows[4 + 8][4 : 4 + 6]
+
+
+def ran(*arguments: str, data: bytes = b"", cwd: str = ".", **variables: str) -> Ran:
+    """The status, standard output and standard error of a run."""
+    done = support.run(support.labels_program(), *arguments, input=data, cwd=cwd, **variables)
+    return done.returncode, done.stdout, done.stderr
+
+
+def in_pieces(pieces: Sequence[bytes], *arguments: str) -> Ran:
+    """The same of a run that is given one of these pieces a read: the socket keeps packets apart."""
+    command = [support.labels_program(), *arguments]
+    ours, theirs = socket.socketpair(socket.AF_UNIX, socket.SOCK_SEQPACKET)
+    with ours, subprocess.Popen(command, stdin=theirs, stdout=subprocess.PIPE, stderr=subprocess.PIPE) as running:
+        theirs.close()
+        for piece in pieces:
+            ours.send(piece)
+        ours.shutdown(socket.SHUT_WR)
+        out, err = running.communicate(timeout=support.SECONDS)
+    return running.returncode, out, err
+
+
+class InFolder(unittest.TestCase):
+    folder: str
+
+    @classmethod
+    def setUpClass(cls) -> None:
+        """A folder with a file of one label."""
+        cls.folder = cls.enterClassContext(tempfile.TemporaryDirectory())
+        Path(cls.folder, "a-file").write_bytes(b"ean8 7351353\n")
+
+    def ran(self, *arguments: str, **variables: str) -> Ran:
+        return ran(*arguments, cwd=self.folder, **variables)
+
+
+class Arguments(InFolder):
+    def test_no_arguments(self) -> None:
+        """Plain PBM at scale 1 and height 50 of standard input, level M, version 1, mask 0 for this symbol."""
+        self.assertEqual(ran(data=b"ean8 7351353\n"), (0, pbm(50 * [EAN8]), b""))
+        status, out, err = ran(data=b"qr 01234567\n")
+        self.assertEqual((status, len(rows_of(out)), format_bits(rows_of(out)), err), (0, 29, M_0, b""))
+        # A backslash is a plain byte: three characters of Code 128, its start, check and stop, and quiet zones.
+        self.assertEqual(ran(data=b"code128 a\\x\n")[1][:9], b"P1\n88 50\n")
+
+    def test_each_option(self) -> None:
+        """`-` is the name of a file. What options say of a QR symbol, a line's settings say as well."""
+        Path(self.folder, "-").write_bytes(b"ean8 7351353\nqr a\\x41\n")
+        drawing = "--format ascii --scale=8 --height 1 --level H --min-version 10 --mask 0 --escapes -"
+        status, out, err = ran(data=b"qr,level=H,min-version=10,mask=0 aA\n")
+        symbol = rows_of(out)
+        self.assertEqual((status, len(symbol), format_bits(symbol), err), (0, 65, H_0, b""))
+        pictures = text(scaled([EAN8], 8)) + text(scaled(symbol, 8))
+        self.assertEqual(self.ran(*drawing.split()), (0, pictures, b""))
+
+    def test_many_arguments_are_bad(self) -> None:
+        for argument, first_bad in (
+            ("--no-such-option", 1),
+            ("-x", 1),
+            ("--scale=9", 1),
+            ("--scale=2", 2),
+            ("--escapes", 2),
+            ("--level=L", 2),
+            ("a-file", 2),
+        ):
+            for count in (1, 2, 3, 10, 15, 16, 30, 100, 1000):
+                if count >= first_bad:
+                    self.assertEqual(self.ran(*count * [argument]), BAD_ARGUMENTS, (argument, count))
+
+    def test_the_most_arguments(self) -> None:
+        """Each option and a file are taken, and no argument more."""
+        options = "--format pbm --scale 1 --height 50 --level M --min-version 1 --mask 7 --escapes -- a-file"
+        self.assertEqual(self.ran(*options.split()), (0, pbm(50 * [EAN8]), b""))
+        self.assertEqual(self.ran(*options.split(), 5000 * "a"), BAD_ARGUMENTS)
+
+    def test_help_is_whole(self) -> None:
+        for argument in ("--help", "-h"):
+            self.assertEqual(ran(argument), (0, HELP, b""))
+
+
+class Files(InFolder):
+    def test_a_file_is_read(self) -> None:
+        self.assertEqual(self.ran("--height", "1", "a-file"), (0, pbm([EAN8]), b""))
+
+    def test_a_folder_cannot_be_read(self) -> None:
+        """The system opens a folder, and then fails to read it."""
+        self.assertEqual(self.ran("."), (3, b"", b"labels: read failed\n"))
+
+    def test_names_of_no_file(self) -> None:
+        names = ["", "there-is-no-such-folder/a-file", "there-is-no-such-file"]
+        for name in [*names, *(count * "a" for count in (255, 256, 4095, 4096, 5000))]:
+            self.assertEqual(self.ran(name), NO_FILE, name)
+
+    def test_only_an_error_of_memory_is_no_memory(self) -> None:
+        """Each error that the system has, at the opening of a file that is there."""
+        support.needs("cc")
+        library = Path(self.folder, "refusing.so")
+        command = ["cc", "-shared", "-fPIC", "-o", str(library), "-x", "c", "-"]
+        subprocess.run(command, input=REFUSING.encode(), check=True)
+        for number, name in sorted(errno.errorcode.items()):
+            wanted = NO_MEMORY if number == errno.ENOMEM else NO_FILE
+            found = self.ran("a-file", LD_PRELOAD=str(library), ERROR=str(number))
+            self.assertEqual(found, wanted, name)
+
+
+class Lines(unittest.TestCase):
+    def assert_wrote(self, data: bytes, options: Sequence[str], out: bytes, err: bytes) -> None:
+        """A run over the data writes this, read in pieces of several sizes and in two at each cut."""
+        wanted = (1 if err else 0, out, err)
+        for size in (1, 2, 7, 4096):
+            pieces = [data[start : start + size] for start in range(0, len(data), size)]
+            self.assertEqual(in_pieces(pieces, *options), wanted, (data, size))
+        for cut in range(1, len(data)):
+            self.assertEqual(in_pieces([data[:cut], data[cut:]], *options), wanted, (data, cut))
+
+    def test_lines_are_drawn(self) -> None:
+        for line, rows in DRAWN:
+            self.assert_wrote(line + b"\n", OPTIONS, pbm(rows), b"")
+
+    def test_lines_are_drawn_as_text(self) -> None:
+        for line, rows in (DRAWN[0], DRAWN[-1]):
+            self.assert_wrote(line + b"\n", (*OPTIONS, "--format", "ascii"), text(rows), b"")
+
+    def test_lines_are_refused(self) -> None:
+        data = b"".join(line + b"\n" for line, _ in REFUSED)
+        said = b"".join(b"line %d: %s\n" % (number, fault) for number, (_, fault) in enumerate(REFUSED, 1))
+        self.assert_wrote(data, OPTIONS, b"", said)
+
+    def test_lines_of_ten_million_letters(self) -> None:
+        """A line that is too long, a comment, and a label that no line feed ends."""
+        letters = 10_000_000 * b"a"
+        data = b"\n".join((letters, b"#" + letters, b"ean8 7351353"))
+        said = b"line 1: line is longer than 1100 bytes\n"
+        self.assertEqual(ran("--height", "1", data=data), (1, pbm([EAN8]), said))
+
+
+if __name__ == "__main__":
+    unittest.main()
