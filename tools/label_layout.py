@@ -22,8 +22,7 @@ TEMPLATES = Path("/usr/share/libglabels-3.0/templates")
 # millimetres of each unit; a length without one is in points
 UNITS = {"mm": 1.0, "cm": 10.0, "in": 25.4, "pt": 25.4 / 72, "pc": 25.4 / 6, "": 25.4 / 72}
 LENGTH = re.compile(r"\s*(-?[0-9.]+(?:[eE][+-]?[0-9]+)?)\s*(mm|cm|in|pt|pc|)\s*")
-# cells may leave their page by this length in millimetres: the sizes of makers are rounded
-MOST_BEYOND = 1.0
+MOST_BEYOND = 1.0  # millimetres by which cells may leave their page: makers round sizes
 # sizes of letters in points, and the distance of two base lines in sizes; millimetres in a point
 TITLE, TEXT, LINE, POINT = 9.5, 8.0, 1.2, 25.4 / 72
 PRICE_SIZES = (17, 16, 15, 14, 13, 12, 11, 10)
