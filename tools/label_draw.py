@@ -114,7 +114,7 @@ class Pen:
         x = max(-ink.left, min(x, width - ink.width - ink.left))
         return layout, x, max(-ink.top, min(y, height - ink.height - ink.top))
 
-    @lru_cache(maxsize=1024)
+    @lru_cache(maxsize=8192)
     def kept(self, text: str, style: Style, width: int, height: int) -> tuple[Any, int, int]:
         """As fitted(), for a text that many labels have."""
         layout, x, y = self.fitted(text, style, width, height)
