@@ -38,7 +38,7 @@ class Definition:
         return "\n".join(self.lines)
 
     def is_worked(self):
-        """Whether it states something without variables, a module's among them: it is computed of written values."""
+        """Whether it states something without variables, its module's too: what it says is computed."""
         if self.lines[0].startswith(" "):
             return False
         own = re.compile(rf"\s*(unfolding\b|{re.escape(self.key.name)}\b[^:]*=)")
