@@ -4,8 +4,13 @@ use Rattle.std.proofs.Common.{sym, ◌∙◌, arith, add-zero, length-append, ap
 use Rattle.labelcore.specs.declared.symbology.Symbology.{Symbology}
 use Rattle.labelcore.specs.declared.fault.Fault.{Fault}
 use Rattle.labelcore.specs.OptionValues.{LabelValues}
-use Rattle.labelcore.proofs.KeptLaws.{Ok_from_bind}
 use Rattle.labelcore.specs.Settings.{◌>>=◌, with_setting, with_settings, IsFirstBad}
+
+-- a step that found something went on from something
+Ok_from_bind : {A B : Type 0} (r : Result A Fault) (f : A → Result B Fault) (b : B) → (r >>= f) ≡ Ok b
+    → (a : A) × (r ≡ Ok a) × (f a ≡ Ok b)
+Ok_from_bind (Err fault) f b e = cc
+Ok_from_bind (Ok a) f b e = (a, refl, e)
 
 module _ (symbology : Symbology) where
   -- settings after others
