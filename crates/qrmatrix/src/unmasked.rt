@@ -12,7 +12,7 @@ use crate::function::function_row;
 use crate::mask::write_masked;
 use crate::penalty::{penalty, penalty_below};
 use crate::placement::place;
-use crate::row::low_ones;
+use crate::row_bits::low_ones;
 use crate::square::Square;
 use qrdata::{Codewords, Level, Mask, Version};
 
