@@ -1,7 +1,6 @@
 pub mod Buffered
 pub mod Device
 pub mod FailAt
-pub mod Lines
 pub mod Memory
 pub mod New
 pub mod Passing

@@ -68,7 +68,8 @@ pbm_pixels-pbm_text p drawable =
     let h = decimal p.height in
     let body = flat_map (pbm_row p) (below p.height) in
     ap pbm_pixels (grouped w h body)
-    ∙ read_sizes w h body p.width p.height (ap (λ t. are_short (slice_split (λ b. b == 10) t)) (sym (grouped w h body)) ∙ short_lines p drawable)
+    ∙ read_sizes w h body p.width p.height
+    (ap (λ t. are_short (slice_split (λ b. b == 10) t)) (sym (grouped w h body)) ∙ short_lines p drawable)
     (number_after_white p.width 10 drawable.wide refl) (number_after_white p.height 32 drawable.high refl)
     ∙ ap (raster_of p.width p.height) (strip-pbm_rows p (below p.height)) ∙ raster_of-digits p
 
