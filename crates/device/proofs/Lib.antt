@@ -1,4 +1,2 @@
-pub mod LinesLaws
 pub mod PassingLaws
 pub mod WritingLaws
-pub mod Theorems

@@ -1,12 +1,10 @@
 pub mod Buffered
 pub mod Device
-pub mod FailAt
-pub mod Lines
-pub mod Memory
 pub mod New
 pub mod Passing
 pub mod Private
 pub mod Sink
 pub mod Source
 pub mod Streams
+pub mod Testing
 pub mod Writing

@@ -1,24 +1,22 @@
 //! Devices: what gives bytes ([`Source`]) and what takes them ([`Sink`]).
 //!
-//! [`StdSource`] and [`StdSink`] are the readers and writers of std, [`MemSource`] and [`MemSink`] keep their bytes in
-//! memory, [`Buffered`] buffers bytes before another sink, and [`FailAt`] fails at one call, for tests.
+//! For work: [`StdSource`] and [`StdSink`] are the readers and writers of std, and [`Buffered`] buffers bytes before
+//! another sink. For tests: [`MemSource`] and [`MemSink`] have their bytes in memory, and [`FailAt`] fails at one call.
 //! [`write_whole`] writes a text in as many writes as a sink needs. The README of this crate has an example.
 #![tactic(auto)]
 
 mod buffered;
-mod fail_at;
 mod io_fault;
-mod memory;
 mod sink;
 mod source;
 mod streams;
+mod testing;
 mod write;
 
 pub use buffered::Buffered;
-pub use fail_at::FailAt;
 pub use io_fault::IoFault;
-pub use memory::{MemSink, MemSource};
 pub use sink::Sink;
 pub use source::Source;
 pub use streams::{StdSink, StdSource};
+pub use testing::{FailAt, MemSink, MemSource};
 pub use write::write_whole;

@@ -2,7 +2,7 @@
 use mathlib.Core.Bool.{xor}
 use Rattle.std.proofs.Common.{◌≡◌, ℕ, List, [], ◌∷◌, map, refl, None, Some, Err, codes, false, Bool, ◌++◌, drop}
 use Rattle.std.specs.Prelude.{◌==◌, slice_set, slice_index_or}
-use Rattle.device.specs.Lines.{lines, ended_lines, open_line}
+use Rattle.labelcore.specs.Lines.{lines, ended_lines, open_line}
 use Rattle.gf256.specs.BinaryPolynomial.{binary_product, binary_remainder}
 use Rattle.gf256.specs.Field.{field_product, field_power}
 use Rattle.gf256.specs.Polynomial.{evaluate}

@@ -8,7 +8,8 @@ use Rattle.filter.proofs.Words.{Clean, Refused, All-append, held_line, line_limi
 use Rattle.filter.proofs.Words.{Stops, Took, RunFault, MatchResult}
 use Rattle.std.specs.List.{list_any}
 use Rattle.std.proofs.lemmas.List.Folds.{list_any-append}
-use Rattle.device.proofs.LinesLaws.{ended_lines-push_lf, some_added, IsCut-ended_lines, ended_lines-cut, open_line-cut}
+use Rattle.labelcore.proofs.LinesLaws.{ended_lines-push_lf, some_added}
+use Rattle.labelcore.proofs.LinesLaws.{IsCut-ended_lines, ended_lines-cut, open_line-cut}
 use Rattle.filter.specs.Private.{worst}
 
 -- the status of two scripts

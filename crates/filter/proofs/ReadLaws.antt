@@ -9,7 +9,7 @@ use Rattle.filter.proofs.Words.{drawn_symbols, image_of, picture_of, text_of, ou
 use Rattle.filter.proofs.Words.{quiet_zone, symbol_of, linear_symbol, qr_modules, cases_lt, le-ltb, get_or_past}
 use Rattle.std.specs.List.{AllByRecursion, flat_map, list_all}
 use Rattle.std.proofs.Math.Nat.{mul-pos, mul-le-mul_right}
-use Rattle.device.proofs.LinesLaws.{AllOf-lines}
+use Rattle.labelcore.proofs.LinesLaws.{AllOf-lines}
 use Rattle.labelcore.specs.declared.options.Format.{Format}
 use Rattle.labelcore.specs.declared.options.Format.TheVariants.{Pbm, Ascii}
 use Rattle.labelcore.specs.declared.symbology.Symbology.{Symbology}

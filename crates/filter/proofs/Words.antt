@@ -1,7 +1,7 @@
 -- The words that proofs of this crate use: of std, of the crates below, and its own.
 pub use Rattle.device.specs.Device.{Begins, Rises}
-pub use Rattle.device.specs.Lines.{HasNoLF, IsCut, LF, unless_empty, with_ends}
-unfoldable pub use Rattle.device.specs.Lines.{ended_lines, lines, open_line}
+pub use Rattle.labelcore.specs.Lines.{HasNoLF, IsCut, LF, unless_empty, with_ends}
+unfoldable pub use Rattle.labelcore.specs.Lines.{ended_lines, lines, open_line}
 pub use Rattle.filter.specs.Filter.{CountsFault, Feeds, FilterState, FlushesImagesFirst, FlushesNeither, IsAfter, Sends}
 pub use Rattle.filter.specs.Filter.{Stops, Took, fault_of, other, refusal_of, taken}
 pub use Rattle.filter.specs.Output.{Channel, Event, Images, Messages, bytes_for, ended_script, flushes, image_of}

@@ -4,7 +4,7 @@
 use Rattle.std.specs.Prelude.{◌≡◌, ℕ, ◌-◌, ◌^◌, ◌<◌, min, All, Bool, true, false, List, ◌∷◌, ◌++◌, length, Result, Ok, Err}
 use Rattle.std.specs.Prelude.{◌≢◌, IfOk, MatchResult, OnOk}
 use Rattle.device.specs.Device.{Begins, Rises, Unflushed}
-use Rattle.device.specs.Lines.{ended_lines, open_line}
+use Rattle.labelcore.specs.Lines.{ended_lines, open_line}
 use Rattle.device.specs.Writing.{WritesText}
 use Rattle.device.specs.declared.sink.Sink.{Ghosts}
 use Rattle.labelcore.specs.declared.fault.Fault.{Fault}

@@ -2,7 +2,7 @@
 -- Why: `outcome`, `script`, `sent`, `status_of`: "depend on nothing but options and input, as specified".
 use Rattle.std.specs.Prelude.{ℕ, ◌+◌, ◌-◌, ◌^◌, min, Bool, true, false, if◌then◌else◌, Option, Some, None, List, [], ◌∷◌, ◌++◌}
 use Rattle.std.specs.List.{filter_map, flat_map, list_any}
-use Rattle.device.specs.Lines.{lines, ended_lines}
+use Rattle.labelcore.specs.Lines.{lines, ended_lines}
 use Rattle.labelcore.specs.declared.options.Format.{Format}
 use Rattle.labelcore.specs.declared.options.Format.TheVariants.{Pbm, Ascii}
 use Rattle.labelcore.specs.OptionValues.{OptionValues}

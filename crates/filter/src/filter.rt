@@ -1,6 +1,6 @@
 //! The filter, fed piece by piece.
 ghost use Rattle.std.specs.Prelude.{◌≡◌, ℕ, ◌<◌, true, false, All, List, [], ◌∷◌, ◌++◌, Err, IfOk, MatchResult, OnErr};
-ghost use Rattle.device.specs.Lines.{HasNoLF, LF};
+ghost use Rattle.labelcore.specs.Lines.{HasNoLF, LF};
 ghost use Rattle.labelcore.specs.OptionValues.{OptionValues};
 ghost use Rattle.filter.specs.Filter.{CountsFault, FilterState, FlushesImagesFirst, FlushesNeither, IsAfter};
 ghost use Rattle.filter.specs.Filter.{Feeds, Sends, Stops, Took, taken};

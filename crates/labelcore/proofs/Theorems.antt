@@ -2,6 +2,7 @@
 use Rattle.std.specs.Prelude.{◌≡◌, ◌↔◌, ℕ, List, Ok, Err}
 use Rattle.labelcore.specs.declared.fault.Fault.{Fault}
 use Rattle.labelcore.specs.declared.symbology.Symbology.{Symbology}
+use Rattle.labelcore.specs.Lines.{lines, ended_lines, open_line, ended_text, IsCut}
 use Rattle.labelcore.specs.Escapes.{unescaped}
 use Rattle.labelcore.specs.LineItem.{item, HasData}
 use Rattle.labelcore.specs.declared.options.Options.{Options}
@@ -12,6 +13,7 @@ use Rattle.labelcore.proofs.FirstBadLaws.{first_bad, first_bad_decides}
 use Rattle.labelcore.proofs.KeptLaws.{item-has_data}
 use Rattle.labelcore.proofs.UnitLaws.{unescaped-AreUnits, AreUnits-from_unescaped, unescaped-IsBadEscape}
 use Rattle.labelcore.proofs.UnitLaws.{IsBadEscape-from_unescaped}
+use Rattle.labelcore.proofs.LinesLaws.{IsCut-ended_lines, ended_lines-cut, open_line-cut, lines-ended_text}
 
 -- a line that is drawn has data
 pub items_of_lines : (options : Options) (line : List ℕ) → HasData (item options line)
@@ -30,3 +32,14 @@ pub first_bad_settings : (symbology : Symbology) (settings : List (List ℕ)) (o
     → (with_settings symbology 1 settings options ≡ Err fault) ↔ IsFirstBad symbology settings options fault
 first_bad_settings symbology settings options fault =
     (first_bad symbology settings options fault, first_bad_decides symbology settings options fault)
+
+-- a text is cut into lines in one way alone: into those that contracts name
+pub lines_of_text : (text : List ℕ) → IsCut text (ended_lines text) (open_line text)
+lines_of_text = IsCut-ended_lines
+
+pub only_lines_of_text : (text rest : List ℕ) (ended : List (List ℕ)) → IsCut text ended rest
+    → (ended_lines text ≡ ended) × (open_line text ≡ rest)
+only_lines_of_text text rest ended cut = (ended_lines-cut cut, open_line-cut cut)
+
+pub lines_of_ended_text : (text : List ℕ) → lines (ended_text text) ≡ ended_lines text
+lines_of_ended_text = lines-ended_text

@@ -8,13 +8,12 @@ use Rattle.std.proofs.lemmas.List.FromFn.{get_or-map-range_with_len, length-map-
 use Rattle.std.proofs.lemmas.List.{length-map, map-append}
 use Rattle.std.proofs.lemmas.Bool.{eq-eqb}
 use Rattle.std.proofs.lemmas.Grind.{flat_map-append}
-use Rattle.device.specs.Lines.{LF, with_ends}
 use Rattle.picture.specs.Picture.{Picture}
 use Rattle.picture.specs.ReadingLaws.{FilesAreTexts, TextsAreRead}
 use Rattle.picture.specs.Text.{below, ascii_pixel, ascii_text, pixel_row}
 use Rattle.picture.specs.Reading.{line_pixels, lines_pixels, ascii_pixels, ascii_files}
-use Rattle.picture.proofs.LineLaws.{has_no_line_feed, lines-with_ends}
-use Rattle.picture.proofs.CutLaws.{cut_after, cut_after-part, ended, files-flat_map}
+use Rattle.picture.proofs.LineLaws.{has_no_line_feed, with_ends}
+use Rattle.picture.proofs.CutLaws.{cut_after, cut_after-part, cut_after-with_ends, ended, files-flat_map}
 
 -- the letters of a row
 abbrev letters : Picture → ℕ → List ℕ
@@ -25,8 +24,8 @@ abbrev ascii_lines : Picture → List (List ℕ)
 ascii_lines p = map (letters p) (below p.height) ++ [] ∷ []
 
 ascii_text-lines : (p : Picture) → ascii_text p ≡ with_ends (ascii_lines p)
-ascii_text-lines p = sym (flat_map-append (λ line. line ++ LF ∷ []) (map (letters p) (below p.height)) ([] ∷ [])
-    ∙ ap (λ (t : List ℕ). t ++ LF ∷ []) (flat_map-map (λ line. line ++ LF ∷ []) (letters p) (below p.height)))
+ascii_text-lines p = sym (flat_map-append (λ line. line ++ 10 ∷ []) (map (letters p) (below p.height)) ([] ∷ [])
+    ∙ ap (λ (t : List ℕ). t ++ 10 ∷ []) (flat_map-map (λ line. line ++ 10 ∷ []) (letters p) (below p.height)))
 
 pixel_no_line_feed : (dark : Bool) → has_no_line_feed (ascii_pixel dark) ≡ true
 pixel_no_line_feed true = refl
@@ -36,25 +35,26 @@ letters_no_line_feed : (p : Picture) (y : ℕ) (xs : List ℕ)
     → has_no_line_feed (flat_map (λ x. ascii_pixel (p.dark x y)) xs) ≡ true
 letters_no_line_feed p y [] = refl
 letters_no_line_feed p y (x ∷ xs) =
-    list_all-append (λ b. not (b == LF)) (ascii_pixel (p.dark x y)) (flat_map (λ x. ascii_pixel (p.dark x y)) xs)
+    list_all-append (λ b. not (b == 10)) (ascii_pixel (p.dark x y)) (flat_map (λ x. ascii_pixel (p.dark x y)) xs)
     ∙ rw (pixel_no_line_feed (p.dark x y), letters_no_line_feed p y xs) refl
 
 no_line_feeds : (p : Picture) (ys : List ℕ) → list_all has_no_line_feed (map (letters p) ys ++ [] ∷ []) ≡ true
 no_line_feeds p [] = refl
 no_line_feeds p (y ∷ ys) = rw (letters_no_line_feed p y (below p.width), no_line_feeds p ys) refl
 
-read_pixel : (dark : Bool) (rest : List ℕ) (pixels : List Bool) → line_pixels rest ≡ Some pixels
-    → line_pixels (ascii_pixel dark ++ rest) ≡ Some (dark ∷ pixels)
+read_pixel : (dark : Bool) (rest : List ℕ) (pixels : List Bool) → line_pixels (rest ++ 10 ∷ []) ≡ Some pixels
+    → line_pixels ((ascii_pixel dark ++ rest) ++ 10 ∷ []) ≡ Some (dark ∷ pixels)
 read_pixel true rest pixels e = rw e refl
 read_pixel false rest pixels e = rw e refl
 
-read_letters : (p : Picture) (y : ℕ) (xs : List ℕ) → line_pixels (flat_map (λ x. ascii_pixel (p.dark x y)) xs)
-    ≡ Some (map (λ x. p.dark x y) xs)
+read_letters : (p : Picture) (y : ℕ) (xs : List ℕ)
+    → line_pixels (flat_map (λ x. ascii_pixel (p.dark x y)) xs ++ 10 ∷ []) ≡ Some (map (λ x. p.dark x y) xs)
 read_letters p y [] = refl
 read_letters p y (x ∷ xs) = read_pixel (p.dark x y) (flat_map (λ x. ascii_pixel (p.dark x y)) xs)
     (map (λ x. p.dark x y) xs) (read_letters p y xs)
 
-read_rows : (p : Picture) (ys : List ℕ) → lines_pixels (map (letters p) ys ++ [] ∷ []) ≡ Some (map (pixel_row p) ys)
+read_rows : (p : Picture) (ys : List ℕ)
+    → lines_pixels (ended (map (letters p) ys ++ [] ∷ [])) ≡ Some (map (pixel_row p) ys)
 read_rows p [] = refl
 read_rows p (y ∷ []) = rw (read_letters p y (below p.width)) refl
 read_rows p (y ∷ z ∷ ys) = rw (read_letters p y (below p.width), read_rows p (z ∷ ys)) refl
@@ -76,7 +76,7 @@ pub ascii_pixels-ascii_text : TextsAreRead ascii_text ascii_pixels (λ p. 0 < p.
 unfolding ascii_pixels
 ascii_pixels-ascii_text p some = rw (
   ascii_text-lines p,
-  lines-with_ends (ascii_lines p) (no_line_feeds p (below p.height)),
+  cut_after-with_ends (ascii_lines p) (no_line_feeds p (below p.height)),
   read_rows p (below p.height),
   first_row p some,
   equal_rows p (below p.height),
@@ -87,12 +87,12 @@ ascii_pixels-ascii_text p some = rw (
 abbrev is_blank : List ℕ → Bool
 is_blank line = bytes_eq line (codes "\n")
 
-pixel_not_blank : (dark : Bool) (rest : List ℕ) → is_blank ((ascii_pixel dark ++ rest) ++ LF ∷ []) ≡ false
+pixel_not_blank : (dark : Bool) (rest : List ℕ) → is_blank ((ascii_pixel dark ++ rest) ++ 10 ∷ []) ≡ false
 pixel_not_blank true rest = refl
 pixel_not_blank false rest = refl
 
 letters_not_blank : (p : Picture) (y : ℕ) (xs : List ℕ) → 0 < length xs
-    → is_blank (flat_map (λ x. ascii_pixel (p.dark x y)) xs ++ LF ∷ []) ≡ false
+    → is_blank (flat_map (λ x. ascii_pixel (p.dark x y)) xs ++ 10 ∷ []) ≡ false
 letters_not_blank p y [] some = absurd (omega arith)
 letters_not_blank p y (x ∷ xs) some = pixel_not_blank (p.dark x y) (flat_map (λ x. ascii_pixel (p.dark x y)) xs)
 
@@ -114,6 +114,6 @@ ascii_files-flat_map = files-flat_map ascii_text ascii_lines (λ line next. is_b
       first p ps some =
           let rows = ended (map (letters p) (below p.height)) in
           let more = ended (flat_map ascii_lines ps) in
-          rw (map-append (λ line. line ++ LF ∷ []) (map (letters p) (below p.height)) ([] ∷ []))
-          (ap (cut_after is_blank) (append_assoc rows ((LF ∷ []) ∷ []) more)
-          ∙ cut_after-part is_blank rows (LF ∷ []) more (rows_not_blank p (below p.height) some) refl)
+          rw (map-append (λ line. line ++ 10 ∷ []) (map (letters p) (below p.height)) ([] ∷ []))
+          (ap (cut_after is_blank) (append_assoc rows ((10 ∷ []) ∷ []) more)
+          ∙ cut_after-part is_blank rows (10 ∷ []) more (rows_not_blank p (below p.height) some) refl)

@@ -1,7 +1,6 @@
 -- Streams of files, cut again.
 use Rattle.std.proofs.Common.{◌≡◌, ℕ, Bool, true, false, not, ◌==◌, List, [], ◌∷◌, ◌++◌, map, refl, ap, sym, ◌∙◌}
 use Rattle.std.proofs.Common.{flat_map, append_assoc, if◌then◌else◌, codes, take}
-use Rattle.device.specs.Lines.{LF, with_ends}
 use Rattle.std.specs.List.{list_all, onto_first, concat, AllByRecursion}
 use Rattle.std.proofs.lemmas.List.{map-append}
 use Rattle.std.proofs.lemmas.List.Folds.{list_all-append}
@@ -12,7 +11,7 @@ use Rattle.picture.specs.Picture.{Picture}
 use Rattle.picture.specs.ReadingLaws.{IsDrawable, FilesAreTexts}
 use Rattle.picture.specs.Text.{pbm_text}
 use Rattle.picture.specs.Reading.{cut_between, files, pbm_files}
-use Rattle.picture.proofs.LineLaws.{has_no_line_feed}
+use Rattle.picture.proofs.LineLaws.{has_no_line_feed, with_ends}
 use Rattle.picture.proofs.PbmLineLaws.{is_magic, pbm_lines, pbm_text-lines, no_line_feeds, no_more_magic}
 
 -- parts with an element before them: it is a part of its own, or the front of the first
@@ -58,20 +57,20 @@ cut_before-part begins x (z ∷ xs) more none next =
 
 -- lines, each with its line feed
 abbrev pub ended : List (List ℕ) → List (List ℕ)
-ended ls = map (λ line. line ++ LF ∷ []) ls
+ended ls = map (λ line. line ++ 10 ∷ []) ls
 
 concat-ended : (ls : List (List ℕ)) → concat (ended ls) ≡ with_ends ls
 concat-ended [] = refl
-concat-ended (line ∷ ls) = ap (λ (rest : List ℕ). (line ++ LF ∷ []) ++ rest) (concat-ended ls)
+concat-ended (line ∷ ls) = ap (λ (rest : List ℕ). (line ++ 10 ∷ []) ++ rest) (concat-ended ls)
 
-cut_after-with_ends : (ls : List (List ℕ)) → list_all has_no_line_feed ls ≡ true
-    → cut_after (λ b. b == LF) (with_ends ls) ≡ ended ls
+pub cut_after-with_ends : (ls : List (List ℕ)) → list_all has_no_line_feed ls ≡ true
+    → cut_after (λ b. b == 10) (with_ends ls) ≡ ended ls
 cut_after-with_ends [] none = refl
 cut_after-with_ends (line ∷ ls) none =
     let parts = and_parts (has_no_line_feed line) (list_all has_no_line_feed ls) none in
-    ap (cut_after (λ b. b == LF)) (append_assoc line (LF ∷ []) (with_ends ls))
-    ∙ cut_after-part (λ b. b == LF) line LF (with_ends ls) parts.0 refl
-    ∙ ap (λ (rest : List (List ℕ)). (line ++ LF ∷ []) ∷ rest) (cut_after-with_ends ls parts.1)
+    ap (cut_after (λ b. b == 10)) (append_assoc line (10 ∷ []) (with_ends ls))
+    ∙ cut_after-part (λ b. b == 10) line 10 (with_ends ls) parts.0 refl
+    ∙ ap (λ (rest : List (List ℕ)). (line ++ 10 ∷ []) ∷ rest) (cut_after-with_ends ls parts.1)
 
 -- a stream of texts of whole lines is cut into these texts, where the lines of the first are a part of all lines
 module _ (text : Picture → List ℕ) (text_lines : Picture → List (List ℕ)) (is_cut : List ℕ → List ℕ → Bool)
@@ -83,7 +82,7 @@ module _ (text : Picture → List ℕ) (text_lines : Picture → List (List ℕ)
   stream_lines : (ps : List Picture) → flat_map text ps ≡ with_ends (flat_map text_lines ps)
   stream_lines [] = refl
   stream_lines (p ∷ ps) = rw (whole p, stream_lines ps)
-      (sym (flat_map-append (λ line. line ++ LF ∷ []) (text_lines p) (flat_map text_lines ps)))
+      (sym (flat_map-append (λ line. line ++ 10 ∷ []) (text_lines p) (flat_map text_lines ps)))
 
   no_more_line_feeds : (ps : List Picture) → AllByRecursion IsSuch ps
       → list_all has_no_line_feed (flat_map text_lines ps) ≡ true
@@ -96,7 +95,7 @@ module _ (text : Picture → List ℕ) (text_lines : Picture → List (List ℕ)
   cut_again [] all = refl
   cut_again (p ∷ ps) all =
       ap (λ ls. map concat (cut_between is_cut ls))
-      (map-append (λ line. line ++ LF ∷ []) (text_lines p) (flat_map text_lines ps))
+      (map-append (λ line. line ++ 10 ∷ []) (text_lines p) (flat_map text_lines ps))
       ∙ rw (first p ps all.0, concat-ended (text_lines p), whole p, cut_again ps all.1) refl
 
   pub files-flat_map : FilesAreTexts text (files is_cut) IsSuch

@@ -3,7 +3,6 @@ use Rattle.std.specs.Prelude.{◌≡◌, ℕ, ◌/◌, ◌%◌, Bool, ◌==◌, 
 use Rattle.std.specs.Prelude.{false, Some, None, replicate, take, slice_set, slice_index_or}
 use Rattle.std.specs.List.{range_with_len}
 use Rattle.std.specs.Fmt.{digits}
-use Rattle.device.specs.Lines.{lines, ended_lines, open_line}
 use Rattle.picture.specs.Picture.{Picture, bars, with_quiet_zone, enlargement}
 use Rattle.picture.specs.declared.quiet_zone.QuietZone.{QuietZone}
 use Rattle.picture.specs.Text.{pbm_text, ascii_text}
@@ -25,7 +24,7 @@ unfolding digits
 pbm_ean8 = refl
 
 pbm_ean8_read : pbm_pixels (pbm_text ean8_picture) ≡ Some (raster ean8_picture)
-unfolding digits pbm_pixels lines ended_lines open_line
+unfolding digits pbm_pixels
 pbm_ean8_read = refl
 
 ascii_ean8_length : length (ascii_text ean8_picture) ≡ 164
@@ -35,7 +34,7 @@ ascii_ean8_head : take 18 (ascii_text ean8_picture) ≡ codes "              ## 
 ascii_ean8_head = refl
 
 ascii_ean8_read : ascii_pixels (ascii_text ean8_picture) ≡ Some (raster ean8_picture)
-unfolding ascii_pixels lines ended_lines open_line
+unfolding ascii_pixels
 ascii_ean8_read = refl
 
 -- three times as large, cut from a stream, and sampled
@@ -89,7 +88,7 @@ files_read : map pbm_pixels (codes "P1\t2\r\n1\n\n1\t0 \r" ∷ codes "P1\n9 1\n1
     Some (record { width = 2; height = 1; rows = rows_of (codes "10" ∷ []) })
     ∷ Some (record { width = 9; height = 1; rows = rows_of (codes "111111110" ∷ []) })
     ∷ Some (record { width = 2; height = 3; rows = rows_of (codes "11" ∷ codes "00" ∷ codes "10" ∷ []) }) ∷ []
-unfolding pbm_pixels lines ended_lines open_line
+unfolding pbm_pixels
 files_read = refl
 
 -- neither a letter as a digit, nor 71 characters in a line, nor a text in the place of the one white byte, nor another
@@ -98,21 +97,22 @@ not_read : map pbm_pixels (codes "P1\na 1\n1111111111\n"
     ∷ codes "P1\n71 1\n11111111111111111111111111111111111111111111111111111111111111111111111\n"
     ∷ codes "P1\n1 1" ∷ codes "P1\n2 3\n11001\n" ∷ codes "P1\n2 3\n1100101\n" ∷ codes "P1\n2 1\n12\n"
     ∷ codes "P4\n1 1\n1\n" ∷ codes "P11 1\n1\n" ∷ codes "P1\n11\n1\n" ∷ []) ≡ replicate 9 None
-unfolding pbm_pixels lines ended_lines open_line
+unfolding pbm_pixels
 not_read = refl
 
 -- a text picture has lines of equal length, each of pairs of one letter, and then an empty line
 text_pixels : ascii_pixels (codes "##  ##\n    ##\n\n")
     ≡ Some (record { width = 3; height = 2; rows = rows_of (codes "101" ∷ codes "001" ∷ []) })
-unfolding ascii_pixels lines ended_lines open_line
+unfolding ascii_pixels
 text_pixels = refl
 
 no_text_pixels : map ascii_pixels (codes "##\n####\n\n" ∷ codes "####\n##\n\n" ∷ codes "##\n" ∷ codes "##\n##" ∷ [] ∷ [])
     ≡ replicate 5 None
-unfolding ascii_pixels lines ended_lines open_line
+unfolding ascii_pixels
 no_text_pixels = refl
 
-no_pairs : map line_pixels (codes "# " ∷ codes " #" ∷ codes "00" ∷ codes "###" ∷ codes "##00" ∷ []) ≡ replicate 5 None
+no_pairs : map line_pixels (codes "# \n" ∷ codes " #\n" ∷ codes "00\n" ∷ codes "###\n" ∷ codes "##00\n" ∷ codes "##" ∷ [])
+    ≡ replicate 6 None
 no_pairs = refl
 
 -- three modules in a quiet zone of another width on each side, a pixel for each: in the quiet zone no pixel is dark

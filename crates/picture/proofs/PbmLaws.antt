@@ -1,8 +1,7 @@
 -- A plain PBM file reads back as the picture's pixels.
-use Rattle.std.proofs.Common.{◌≡◌, ◌<◌, ◌^◌, ◌==◌, ℕ, suc, Bool, false, ◌+◌, ◌*◌, true, List, [], ◌∷◌, ◌++◌, length}
-use Rattle.std.proofs.Common.{nat_le, drop, map, flat_map, refl, ap, sym, ◌∙◌, arith, decimal, Some, append_assoc}
-use Rattle.std.specs.List.{prefix_len, list_all}
-use Rattle.device.specs.Lines.{lines}
+use Rattle.std.proofs.Common.{◌≡◌, ◌<◌, ◌^◌, ◌==◌, ℕ, suc, Bool, false, ◌+◌, ◌*◌, true, List, [], ◌∷◌, ◌++◌}
+use Rattle.std.proofs.Common.{drop, map, flat_map, refl, ap, sym, ◌∙◌, arith, decimal, Some, append_assoc}
+use Rattle.std.specs.List.{prefix_len, slice_split}
 use Rattle.std.specs.Char.{is_digit}
 use Rattle.qrdata.specs.Steps.{◌>>=◌}
 use Rattle.std.proofs.lemmas.Bool.{eq-eqb, ne_eqb}
@@ -13,7 +12,7 @@ use Rattle.picture.specs.Text.{below, pbm_digit, pbm_row, pbm_text}
 use Rattle.picture.specs.Reading.{is_white, raster, raster_of, pbm_pixels, after_white, leading_number}
 use Rattle.picture.proofs.RasterLaws.{strip, pixels, strip-pbm_rows, all_digits, length-digits, rows-digits}
 use Rattle.picture.proofs.HeaderLaws.{number_after_white}
-use Rattle.picture.proofs.PbmLineLaws.{short_lines}
+use Rattle.picture.proofs.PbmLineLaws.{are_short, short_lines}
 
 raster_of-digits : (p : Picture)
     → raster_of p.width p.height (map pbm_digit (pixels p (below p.height))) ≡ Some (raster p)
@@ -42,7 +41,7 @@ strip-drop_white (b ∷ text) = by_test (strip-drop_white text) (is_white b) ref
 
 -- a text of these parts, where each number is read with what is before it
 read_sizes : (w h body : List ℕ) (width height : ℕ)
-    → list_all (λ line. nat_le (length line) 70) (lines (80 ∷ 49 ∷ 10 ∷ (w ++ 32 ∷ (h ++ 10 ∷ body)))) ≡ true
+    → are_short (slice_split (λ b. b == 10) (80 ∷ 49 ∷ 10 ∷ (w ++ 32 ∷ (h ++ 10 ∷ body)))) ≡ true
     → ((c : ℕ) (rest : List ℕ) → is_digit c 10 ≡ false
     → (after_white (10 ∷ w ++ c ∷ rest) >>= leading_number) ≡ Some (width, c ∷ rest))
     → ((c : ℕ) (rest : List ℕ) → is_digit c 10 ≡ false
@@ -69,8 +68,8 @@ pbm_pixels-pbm_text p drawable =
     let h = decimal p.height in
     let body = flat_map (pbm_row p) (below p.height) in
     ap pbm_pixels (grouped w h body)
-    ∙ read_sizes w h body p.width p.height (ap (λ t. list_all (λ line. nat_le (length line) 70) (lines t))
-    (sym (grouped w h body)) ∙ short_lines p drawable)
+    ∙ read_sizes w h body p.width p.height
+    (ap (λ t. are_short (slice_split (λ b. b == 10) t)) (sym (grouped w h body)) ∙ short_lines p drawable)
     (number_after_white p.width 10 drawable.wide refl) (number_after_white p.height 32 drawable.high refl)
     ∙ ap (raster_of p.width p.height) (strip-pbm_rows p (below p.height)) ∙ raster_of-digits p
 

@@ -2,7 +2,7 @@
 use Rattle.std.proofs.Common.{◌≡◌, ℕ, ◌≤◌, Bool, true, false, not, ◌||◌, ◌==◌, List, [], ◌∷◌, ◌++◌, length, map, refl}
 use Rattle.std.proofs.Common.{◌∙◌, ◌*◌, ap, arith, append_assoc, length-append, decimal, flat_map, nat_le, drop, codes}
 use Rattle.std.specs.Int.{div_ceil}
-use Rattle.std.specs.List.{list_all}
+use Rattle.std.specs.List.{list_all, slice_split}
 use Rattle.std.specs.Str.{bytes_eq}
 use Rattle.std.specs.Str.Parse.{AllDigits}
 use Rattle.std.proofs.lemmas.Bool.{le-leb, ne_eqb}
@@ -11,13 +11,12 @@ use Rattle.std.proofs.lemmas.List.{length-map, length-take}
 use Rattle.std.proofs.lemmas.List.Folds.{flat_map-map, list_all-append, list_all-map}
 use Rattle.std.proofs.lemmas.Fmt.{length-decimal-le}
 use Rattle.std.proofs.lemmas.Str.Parse.{digit_from_value}
-use Rattle.device.specs.Lines.{LF, lines, with_ends}
 use Rattle.picture.specs.Picture.{Picture}
 use Rattle.picture.specs.Private.Rows.{piece}
 use Rattle.picture.specs.ReadingLaws.{IsDrawable}
 use Rattle.picture.specs.Text.{below, pbm_digit, pbm_row, pbm_text, pixel_row}
 use Rattle.picture.proofs.HeaderLaws.{digits-decimal}
-use Rattle.picture.proofs.LineLaws.{has_no_line_feed, lines-with_ends}
+use Rattle.picture.proofs.LineLaws.{has_no_line_feed, slice_split-with_ends, with_ends}
 
 -- the digits of a row, in pieces
 abbrev pub row_lines : Picture → ℕ → List (List ℕ)
@@ -29,8 +28,8 @@ pbm_lines p = codes "P1" ∷ (decimal p.width ++ 32 ∷ decimal p.height) ∷ fl
 pub pbm_rows-lines : (p : Picture) (ys : List ℕ) → flat_map (pbm_row p) ys ≡ with_ends (flat_map (row_lines p) ys)
 pbm_rows-lines p [] = refl
 pbm_rows-lines p (y ∷ ys) = rw (
-  flat_map-append (λ line. line ++ LF ∷ []) (row_lines p y) (flat_map (row_lines p) ys),
-  flat_map-map (λ line. line ++ LF ∷ []) (λ k. map pbm_digit (piece (pixel_row p y) k)) (below (div_ceil p.width 70)),
+  flat_map-append (λ line. line ++ 10 ∷ []) (row_lines p y) (flat_map (row_lines p) ys),
+  flat_map-map (λ line. line ++ 10 ∷ []) (λ k. map pbm_digit (piece (pixel_row p y) k)) (below (div_ceil p.width 70)),
   pbm_rows-lines p ys,
 ) refl
 
@@ -70,14 +69,17 @@ no_line_feed_digits (d ∷ ds) all =
 
 pub no_line_feeds : (p : Picture) → IsDrawable p → list_all has_no_line_feed (pbm_lines p) ≡ true
 no_line_feeds p drawable = rw (
-  list_all-append (λ b. not (b == LF)) (decimal p.width) (32 ∷ decimal p.height),
+  list_all-append (λ b. not (b == 10)) (decimal p.width) (32 ∷ decimal p.height),
   no_line_feed_digits (decimal p.width) (digits-decimal p.width drawable.wide),
   no_line_feed_digits (decimal p.height) (digits-decimal p.height drawable.high),
   rows_pass has_no_line_feed (λ pixels short. no_line_feed_pixels pixels) p (below p.height),
 ) refl
 
--- no line is longer than 70 characters
-pub short_lines : (p : Picture) → IsDrawable p → list_all (λ line. nat_le (length line) 70) (lines (pbm_text p)) ≡ true
+-- lines of at most 70 characters
+abbrev pub are_short : List (List ℕ) → Bool
+are_short ls = list_all (λ line. nat_le (length line) 70) ls
+
+pub short_lines : (p : Picture) → IsDrawable p → are_short (slice_split (λ b. b == 10) (pbm_text p)) ≡ true
 short_lines p drawable =
     let wide = drawable.wide in
     let high = drawable.high in
@@ -87,9 +89,10 @@ short_lines p drawable =
       length-decimal-le 20 p.width (omega arith) (omega arith) wide,
       length-decimal-le 20 p.height (omega arith) (omega arith) high,
     ) in
-    rw (
-      pbm_text-lines p,
-      lines-with_ends (pbm_lines p) (no_line_feeds p drawable),
+    ap are_short (ap (slice_split (λ b. b == 10)) (pbm_text-lines p)
+    ∙ slice_split-with_ends (pbm_lines p) (no_line_feeds p drawable))
+    ∙ list_all-append (λ line. nat_le (length line) 70) (pbm_lines p) ([] ∷ [])
+    ∙ rw (
       le-leb (length (decimal p.width ++ 32 ∷ decimal p.height)) 70 sizes,
       rows_pass (λ line. nat_le (length line) 70) (λ pixels short. le-leb (length (map pbm_digit pixels)) 70
           (omega (arith, length-map pixels pbm_digit))) p (below p.height),
@@ -99,23 +102,23 @@ short_lines p drawable =
 abbrev pub is_magic : List ℕ → Bool
 is_magic line = bytes_eq line (codes "P1\n") || bytes_eq line (codes "P1")
 
-pixels_not_magic : (pixels : List Bool) → is_magic (map pbm_digit pixels ++ LF ∷ []) ≡ false
+pixels_not_magic : (pixels : List Bool) → is_magic (map pbm_digit pixels ++ 10 ∷ []) ≡ false
 pixels_not_magic [] = refl
 pixels_not_magic (true ∷ pixels) = refl
 pixels_not_magic (false ∷ pixels) = refl
 
-sizes_not_magic : (ds rest : List ℕ) → AllDigits 10 ds → is_magic ((ds ++ 32 ∷ rest) ++ LF ∷ []) ≡ false
+sizes_not_magic : (ds rest : List ℕ) → AllDigits 10 ds → is_magic ((ds ++ 32 ∷ rest) ++ 10 ∷ []) ≡ false
 sizes_not_magic [] rest all = refl
 sizes_not_magic (d ∷ ds) rest all = let range = digit_from_value d all.0 in rw (ne_eqb d 80 (λ e. omega arith)) refl
 
 -- only the first line begins a file
 pub no_more_magic : (p : Picture) → IsDrawable p
-    → list_all (λ line. not (is_magic line)) (map (λ line. line ++ LF ∷ []) (drop 1 (pbm_lines p))) ≡ true
+    → list_all (λ line. not (is_magic line)) (map (λ line. line ++ 10 ∷ []) (drop 1 (pbm_lines p))) ≡ true
 no_more_magic p drawable =
     let rows = flat_map (row_lines p) (below p.height) in
     rw (
       sizes_not_magic (decimal p.width) (decimal p.height) (digits-decimal p.width drawable.wide),
-      list_all-map (λ line. not (is_magic line)) (λ (line : List ℕ). line ++ LF ∷ []) rows,
-      rows_pass (λ line. not (is_magic (line ++ LF ∷ []))) (λ pixels short. ap not (pixels_not_magic pixels)) p
+      list_all-map (λ line. not (is_magic line)) (λ (line : List ℕ). line ++ 10 ∷ []) rows,
+      rows_pass (λ line. not (is_magic (line ++ 10 ∷ []))) (λ pixels short. ap not (pixels_not_magic pixels)) p
           (below p.height),
     ) refl

@@ -3,13 +3,12 @@ use Rattle.std.specs.Prelude.{ℕ, ◌+◌, ◌-◌, ◌*◌, ◌/◌, ◌%◌, 
 use Rattle.std.specs.Prelude.{filter}
 use Rattle.std.specs.Prelude.{take, drop, length, codes, Option, Some, None, option_map, nat_le, nat_lt, ◌==◌}
 use Rattle.std.specs.Prelude.{if◌then◌else◌, slice_index_or}
-use Rattle.std.specs.List.{list_all, prefix_len, onto_first, concat}
+use Rattle.std.specs.List.{list_all, prefix_len, onto_first, concat, slice_split}
 use Rattle.std.specs.Bool.{beq, then_some}
 use Rattle.std.specs.Cmp.Lexicographic.{pointwise}
 use Rattle.std.specs.Str.{bytes_eq}
 use Rattle.std.specs.Str.Parse.{digits_value}
 use Rattle.std.specs.Char.{is_digit}
-use Rattle.device.specs.Lines.{LF, lines}
 use Rattle.qrdata.specs.Steps.{◌>>=◌}
 use Rattle.qrmatrix.specs.Square.{value_at}
 use Rattle.picture.specs.declared.quiet_zone.QuietZone.{QuietZone}
@@ -43,43 +42,19 @@ leading_number text =
 -- the raster of width times height digits 0 and 1, row by row
 abbrev pub raster_of : ℕ → ℕ → List ℕ → Option Raster
 raster_of width height digits =
-    then_some (list_all (λ b. b == 48 || b == 49) digits && length digits == width * height) (record {
-      width = width;
-      height = height;
-      rows = map (λ y. map (λ b. b == 49) (take width (drop (width * y) digits))) (below height);
-    })
+    let rows = map (λ y. map (λ b. b == 49) (take width (drop (width * y) digits))) (below height) in
+    then_some (list_all (λ b. b == 48 || b == 49) digits && length digits == width * height)
+    (record { width = width; height = height; rows = rows })
 
 -- the pixels of a plain PBM file, pbm(5): its advice that no line has more than 70 characters is a rule here
 unfoldable pub pbm_pixels : List ℕ → Option Raster
 pbm_pixels text = do
-  sizes ← then_some (list_all (λ line. nat_le (length line) 70) (lines text) && bytes_eq (take 2 text) (codes "P1"))
-      (drop 2 text)
+  sizes ← then_some (list_all (λ line. nat_le (length line) 70) (slice_split (λ b. b == 10) text)
+      && bytes_eq (take 2 text) (codes "P1")) (drop 2 text)
   width ← after_white sizes >>= leading_number
   height ← after_white width.1 >>= leading_number
   rest ← after_white height.1
   raster_of width.0 height.0 (filter (λ b. not (is_white b)) rest)
-
--- the pixels of a line of pairs: two number signs are dark, two spaces light
-abbrev pub line_pixels : List ℕ → Option (List Bool)
-line_pixels [] = Some []
-line_pixels (b ∷ []) = None
-line_pixels (b ∷ c ∷ rest) =
-    if b == c && (b == 35 || b == 32) then option_map (λ pixels. (b == 35) ∷ pixels) (line_pixels rest) else None
-
--- the pixels of lines, of which the last is empty and ends the picture
-abbrev pub lines_pixels : List (List ℕ) → Option (List (List Bool))
-lines_pixels [] = None
-lines_pixels (line ∷ []) = then_some (length line == 0) []
-lines_pixels (line ∷ next ∷ more) = do
-  pixels ← line_pixels line
-  option_map (λ rows. pixels ∷ rows) (lines_pixels (next ∷ more))
-
--- the pixels of a text picture: lines of equal length, and then an empty line
-unfoldable pub ascii_pixels : List ℕ → Option Raster
-ascii_pixels text = do
-  rows ← lines_pixels (lines text)
-  let width = length (slice_index_or rows 0 [])
-  then_some (list_all (λ row. length row == width) rows) (record { width = width; height = length rows; rows = rows })
 
 -- the parts of a list, which is cut between two neighbours where they pass the test
 abbrev pub cut_between : {X : Type 0} → (X → X → Bool) → List X → List (List X)
@@ -88,9 +63,35 @@ cut_between is_cut (x ∷ []) = (x ∷ []) ∷ []
 cut_between is_cut (x ∷ y ∷ xs) =
     let more = cut_between is_cut (y ∷ xs) in if is_cut x y then (x ∷ []) ∷ more else onto_first x more
 
--- the files of a stream, which is cut between two neighbouring lines where they pass the test; a line has its line feed
+-- the lines of a text, each with its line feed, which the last may lack
+abbrev pub whole_lines : List ℕ → List (List ℕ)
+whole_lines text = cut_between (λ b next. b == 10) text
+
+-- the pixels of a line of pairs, which ends with a line feed: two number signs are dark, two spaces light
+abbrev pub line_pixels : List ℕ → Option (List Bool)
+line_pixels [] = None
+line_pixels (b ∷ []) = then_some (b == 10) []
+line_pixels (b ∷ c ∷ rest) =
+    if b == c && (b == 35 || b == 32) then option_map (λ pixels. (b == 35) ∷ pixels) (line_pixels rest) else None
+
+-- the pixels of lines, of which the last is a line feed alone and ends the picture
+abbrev pub lines_pixels : List (List ℕ) → Option (List (List Bool))
+lines_pixels [] = None
+lines_pixels (line ∷ []) = then_some (bytes_eq line (codes "\n")) []
+lines_pixels (line ∷ next ∷ more) = do
+  pixels ← line_pixels line
+  option_map (λ rows. pixels ∷ rows) (lines_pixels (next ∷ more))
+
+-- the pixels of a text picture: lines of equal length, and then an empty line
+unfoldable pub ascii_pixels : List ℕ → Option Raster
+ascii_pixels text = do
+  rows ← lines_pixels (whole_lines text)
+  let width = length (slice_index_or rows 0 [])
+  then_some (list_all (λ row. length row == width) rows) (record { width = width; height = length rows; rows = rows })
+
+-- the files of a stream, which is cut between two neighbouring lines where they pass the test
 abbrev pub files : (List ℕ → List ℕ → Bool) → List ℕ → List (List ℕ)
-files is_cut stream = map concat (cut_between is_cut (cut_between (λ b next. b == LF) stream))
+files is_cut stream = map concat (cut_between is_cut (whole_lines stream))
 
 -- the plain PBM files of a stream: each begins with a line `P1`, which may have no line feed at the stream's end
 abbrev pub pbm_files : List ℕ → List (List ℕ)

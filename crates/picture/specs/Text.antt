@@ -1,10 +1,9 @@
 -- Pictures as text: plain PBM files (pbm(5), the plain format), and text pictures.
 -- Why: `pbm_text`, `ascii_text`: pbm(5), the plain format.
-use Rattle.std.specs.Prelude.{ℕ, ◌*◌, Bool, List, [], ◌∷◌, ◌++◌, map, flat_map, take, drop, codes, decimal}
+use Rattle.std.specs.Prelude.{ℕ, ◌*◌, Bool, List, ◌++◌, map, flat_map, take, drop, codes, decimal}
 use Rattle.std.specs.Prelude.{if◌then◌else◌}
 use Rattle.std.specs.Int.{div_ceil}
 use Rattle.std.specs.List.{range_with_len}
-use Rattle.device.specs.Lines.{LF}
 use Rattle.picture.specs.Picture.{Picture}
 
 -- the numbers below n
@@ -21,7 +20,7 @@ pixel_row p y = map (λ x. p.dark x y) (below p.width)
 
 -- a piece of a row: its digits, and a line feed
 abbrev pub pbm_piece : List Bool → List ℕ
-pbm_piece pixels = map pbm_digit pixels ++ LF ∷ []
+pbm_piece pixels = map pbm_digit pixels ++ codes "\n"
 
 -- the row y in pieces of 70 pixels, of which the last may be shorter
 abbrev pub pbm_row : Picture → ℕ → List ℕ
@@ -41,8 +40,8 @@ ascii_pixel dark = if dark then codes "##" else codes "  "
 
 -- the row y: the letters of its pixels, and a line feed
 abbrev pub ascii_row : Picture → ℕ → List ℕ
-ascii_row p y = flat_map (λ x. ascii_pixel (p.dark x y)) (below p.width) ++ LF ∷ []
+ascii_row p y = flat_map (λ x. ascii_pixel (p.dark x y)) (below p.width) ++ codes "\n"
 
 -- a text picture: its rows, and an empty line
 abbrev pub ascii_text : Picture → List ℕ
-ascii_text p = flat_map (ascii_row p) (below p.height) ++ LF ∷ []
+ascii_text p = flat_map (ascii_row p) (below p.height) ++ codes "\n"

@@ -28,12 +28,11 @@ pub fn write_ascii<G: Grid, S: Sink>(grid: &G, sink: &mut S) -> Result<(), IoFau
 struct AsciiPixels;
 
 impl PixelText for AsciiPixels {
-    ghost use Rattle.std.specs.Prelude.{flat_map};
-    ghost use Rattle.device.specs.Lines.{LF};
+    ghost use Rattle.std.specs.Prelude.{flat_map, codes};
 
     ghost text = { λ pixels. flat_map ascii_pixel pixels };
 
-    ghost row_end = { LF ∷ [] };
+    ghost row_end = { codes "\n" };
 
     // It writes two halves, so that no text is longer than 70 bytes.
     fn write_piece<S: Sink>(pixels: &[bool], len: usize, sink: &mut S) -> Result<(), IoFault> {

@@ -2,7 +2,7 @@ use Rattle.std.proofs.Common.{◌≡◌, ◌==◌, ◌++◌, ◌∷◌, List, �
 use Rattle.std.specs.Borrow.{Bor}
 use Rattle.std.specs.Prelude.{IfSome, is_some}
 use Rattle.std.specs.List.{after_first, before_first, list_any}
-use Rattle.device.specs.Lines.{HasNoLF, LF}
+use Rattle.labelcore.specs.Lines.{HasNoLF, LF}
 use Rattle.labelcore.proofs.PositionLaws.{cut_at_first, none_before}
 use Rattle.labelcore.proofs.cut.split_line.Goals as goal
 

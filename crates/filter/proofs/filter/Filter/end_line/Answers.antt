@@ -1,7 +1,7 @@
 use Rattle.filter.proofs.Words.{◌≡◌, ◌<◌, ◌∙◌, Ok, Err, [], ◌∷◌, ap, arith, length-append, refl, subst, sym, All-push}
 use Rattle.filter.proofs.Words.{LF, ended_lines, open_line, held_line, FilterState, IsAfter, of_line, outcome}
 use Rattle.filter.proofs.Words.{status_of}
-use Rattle.device.proofs.LinesLaws.{ended_lines-push_lf, open_line-push_lf}
+use Rattle.labelcore.proofs.LinesLaws.{ended_lines-push_lf, open_line-push_lf}
 use Rattle.filter.proofs.FilterLaws.{Sends-line, line_number-counts, of_open_line, ended_script-lf, status_of-append}
 use Rattle.filter.proofs.filter.Filter.end_line.Goals as goal
 

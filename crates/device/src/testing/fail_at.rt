@@ -2,8 +2,8 @@
 ghost use Rattle.std.specs.Prelude.{◌≡◌, ◌+◌, ◌-◌, ◌^◌, ◌<◌, ◌↔◌, length, min};
 ghost use Rattle.std.specs.Prelude.{IsTrue};
 ghost use Rattle.device.specs.Device.{CountsFailure, total_failures};
-ghost use Rattle.device.specs.FailAt.{device_of, calls_of, failing_call, own_failures, FailsNext, CountsCall};
-ghost use Rattle.device.specs.FailAt.{FailsInTurn};
+ghost use Rattle.device.specs.Testing.FailAt.{device_of, calls_of, failing_call, own_failures, FailsNext, CountsCall};
+ghost use Rattle.device.specs.Testing.FailAt.{FailsInTurn};
 ghost use Rattle.device.specs.Sink.{Flushes, PassesBuffered, WritesSome};
 ghost use Rattle.device.specs.Source.{ReadsSome};
 

@@ -9,8 +9,8 @@ use Rattle.std.proofs.lemmas.List.{append-nil}
 use Rattle.std.proofs.lemmas.List.Concat.{flat_map-cons}
 use Rattle.std.proofs.lemmas.List.Elements.{All-nil, All-cons, All-head, All-tail, All-push, All-weaker}
 use Rattle.std.proofs.lemmas.List.Splits.{slice_split_none, slice_split_at}
-use Rattle.device.specs.Lines.{LF, parts, ended_lines, open_line, with_ends, ended_text}
-use Rattle.device.specs.Lines.{HasNoLF, IsCut, unless_empty, lines}
+use Rattle.labelcore.specs.Lines.{LF, parts, ended_lines, open_line, with_ends, ended_text}
+use Rattle.labelcore.specs.Lines.{HasNoLF, IsCut, unless_empty, lines}
 
 -- the last part of a list to which one is added, and the parts before it
 length-push : (ps : List (List ℕ)) (p : List ℕ) → length (ps ++ p ∷ []) - 1 ≡ length ps

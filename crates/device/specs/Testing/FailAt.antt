@@ -1,7 +1,7 @@
 -- A device that fails at one call, as its clauses see it (docs/SPECIFICATION.md, The filter as a library).
 use Rattle.std.specs.Prelude.{◌≡◌, ℕ, ◌+◌, ◌-◌, ◌^◌, ◌<◌, min, Result, IsErr}
 use Rattle.device.specs.Device.{CountsFailure}
-use Rattle.device.specs.declared.fail_at.FailAt.{FailAt}
+use Rattle.device.specs.declared.testing.fail_at.FailAt.{FailAt}
 
 -- the device below
 abbrev pub device_of : {D : Type 0} → FailAt D → D

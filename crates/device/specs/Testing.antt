@@ -1,0 +1,3 @@
+-- What the devices for tests are, as their clauses see them.
+pub mod FailAt
+pub mod Memory
