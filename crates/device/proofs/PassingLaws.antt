@@ -87,11 +87,11 @@ end_of_buffered bytes s e n low high =
 
 -- the last bytes that were taken, buffered once more
 pub PassesOn-repeated : {S : Type 0} (took : S → S → List ℕ → Type 0) (before s : S) (old front last : List ℕ)
-    (bytes : List ℕ) (start end n : ℕ) → took s s [] → start + n ≤ end → end + n ≤ length bytes → length last ≡ n
+    (bytes room : List ℕ) (start end n : ℕ) → took s s [] → start + n ≤ end → end + n ≤ length bytes
+    → room ≡ put_mid end n bytes (slice_range bytes (end - n) end) → length last ≡ n
     → PassesOn took before s old (slice_range bytes start end) (front ++ last)
-    → PassesOn took s s (slice_range bytes start end)
-    (slice_range (put_mid end n bytes (slice_range bytes (end - n) end)) start (end + n)) last
-PassesOn-repeated took before s old front last bytes start end n none low high size h =
+    → PassesOn took s s (slice_range bytes start end) (slice_range room start (end + n)) last
+PassesOn-repeated took before s old front last bytes room start end n none low high put size h =
     let held = slice_range bytes start end in
     let held_size : length held ≡ end - start =
     ap length (between_is bytes start end) ∙ omega (arith, length-drop start (take end bytes), length-take end bytes) in
@@ -105,6 +105,7 @@ PassesOn-repeated took before s old front last bytes start end n none low high s
       taken = none;
       cut =
           ap (λ (xs : List ℕ). held ++ xs) (sym same)
-          ∙ sym (buffered_more bytes (slice_range bytes (end - n) end) start end n (omega (arith, low))
-          (omega (arith, high)) (sym (ap length same ∙ size)));
+          ∙ sym (ap (λ (xs : List ℕ). slice_range xs start (end + n)) put ∙ buffered_more bytes
+          (slice_range bytes (end - n) end) start end n (omega (arith, low)) (omega (arith, high))
+          (sym (ap length same ∙ size)));
     }

@@ -34,19 +34,10 @@ pub WritesText-begun : {S T E U F : Type 0} {fault : F} (sink : Ghosts S) (s t :
     (r : Result T E) → IsErr r → text ≡ first ++ more →
     WritesText {T = U} sink s t first (Err fault) → WritesText sink s t text r
 WritesText-begun sink s t first more text (Ok x) err e w = absurd (false≢true err)
-WritesText-begun sink s t first more text (Err x) err e w = record {
-  bytes = (
-    w.bytes.0,
-    (
-      w.bytes.1.0 ++ more,
-      e ∙ (ap (λ (xs : List ℕ). xs ++ more) w.bytes.1.1
-          ∙ append_assoc w.bytes.0 w.bytes.1.0 more),
-    ),
-    w.bytes.2,
-  );
-  count = w.count;
-  unflushed = w.unflushed;
-}
+WritesText-begun sink s t first more text (Err x) err e w =
+    let (front, (rest, whole), taken) = w.bytes in
+    let cut = e ∙ (ap (λ (xs : List ℕ). xs ++ more) whole ∙ append_assoc front rest more) in
+    record { bytes = (front, (rest ++ more, cut), taken); count = w.count; unflushed = w.unflushed }
 
 module _ {S : Type 0} (sink : Ghosts S) (took_joined : (s t u : S) (xs ys : List ℕ) → sink.took s t xs
     → sink.took t u ys → sink.took s u (xs ++ ys)) where
@@ -62,11 +53,9 @@ module _ {S : Type 0} (sink : Ghosts S) (took_joined : (s t u : S) (xs ys : List
   -- a beginning of what follows a text that was written
   Begins-next : (s t u : S) (front more rest text : List ℕ) → text ≡ (front ++ more) ++ rest → sink.took s t front
       → Begins (sink.took t u) more → Begins (sink.took s u) text
-  Begins-next s t u front more rest text e h k = (
-    front ++ k.0,
-    (k.1.0 ++ rest, e ∙ (ap (λ (xs : List ℕ). (front ++ xs) ++ rest) k.1.1 ∙ simp append_assoc)),
-    took_joined s t u front k.0 h k.2,
-  )
+  Begins-next s t u front more rest text e h (begun, (left, whole), taken) =
+      let cut = e ∙ (ap (λ (xs : List ℕ). (front ++ xs) ++ rest) whole ∙ simp append_assoc) in
+      (front ++ begun, (left ++ rest, cut), took_joined s t u front begun h taken)
 
   -- a call fails after a text was written
   pub WritesText-fails : {T E U F : Type 0} {fault : F} (s t u : S) (front more rest text : List ℕ) (r : Result T E)

@@ -5,7 +5,7 @@ ghost use Rattle.picture.specs.Reading.{ascii_pixels, raster};
 ghost use Rattle.picture.specs.Text.{ascii_pixel, ascii_text};
 
 use crate::grid::Grid;
-use crate::rows::{PixelText, write_rows};
+use crate::pixel_text::{PixelText, write_rows};
 use device::{IoFault, Sink, write_whole};
 
 /// Writes the grid as text: a line for each row, with `##` for a dark pixel and two spaces for a light one, and then an

@@ -4,7 +4,7 @@ ghost use Rattle.device.specs.Writing.{WritesText};
 ghost use Rattle.picture.specs.Private.Rows.{EndsWith, repeated, row_text, rows_text};
 
 use crate::grid::Grid;
-use crate::rows::{PIECE, PIECE_ROOM, PixelText};
+use crate::pixel_text::{PIECE, PIECE_ROOM, PixelText};
 use device::{IoFault, Sink, write_whole};
 
 /// The bytes of rows that are repeated at once: one long copy takes less than many short ones, and a short one has a

@@ -12,8 +12,8 @@ mod grid;
 mod kept_rows;
 mod matrix;
 mod pbm;
+mod pixel_text;
 mod quiet_zone;
-mod rows;
 mod scaled;
 mod wide_rows;
 

@@ -5,7 +5,7 @@ ghost use Rattle.picture.specs.Reading.{pbm_pixels, raster};
 ghost use Rattle.picture.specs.Text.{pbm_digit, pbm_header, pbm_text};
 
 use crate::grid::Grid;
-use crate::rows::{PIECE, PIECE_ROOM, PixelText, write_rows};
+use crate::pixel_text::{PIECE, PIECE_ROOM, PixelText, write_rows};
 use arrayvec::ArrayVec;
 use device::{IoFault, Sink, write_whole};
 use itoa::Buffer;

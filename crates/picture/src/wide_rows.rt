@@ -6,7 +6,7 @@ ghost use Rattle.picture.specs.Private.Rows.{piece, row_text, rows_text};
 ghost use Rattle.picture.specs.Text.{pixel_row};
 
 use crate::grid::Grid;
-use crate::rows::{PIECE, PIECE_ROOM, PixelText};
+use crate::pixel_text::{PIECE, PIECE_ROOM, PixelText};
 use device::{IoFault, Sink, write_whole};
 
 /// Writes the rows of the grid.

@@ -1,6 +1,6 @@
 use Rattle.std.proofs.Common.{◌≡◌, ℕ, List, [], refl, subst, sym, arith, take, append-nil}
 use Rattle.device.proofs.WritingLaws.{HasWritten, HasWritten-none, WritesText-whole}
-use Rattle.picture.specs.Private.Rows.{row_text}
+use Rattle.picture.specs.Private.Rows.{repeated, row_text}
 use Rattle.picture.proofs.RepeatedLaws.{EndsWith-more, WritesText-repeated, length-repeated_row}
 use Rattle.picture.proofs.WritingLoopLaws.{below_more, HasWritten-below_more, WritesText-below_fails}
 use Rattle.picture.proofs.kept_rows.repeat_rows.Goals as goal
@@ -48,5 +48,7 @@ loop-again-preserved g c =
 
 pub returns : goal.returns
 returns g c =
+    let row = row_text g.T.PixelText.text g.T.PixelText.row_end (take c.args.width c.args.kept.now) in
     let last : c.args.count ≡ c.loop-again._again = omega arith in
-    rw last (WritesText-whole g.S.Sink _ _ _ tt c.loop-again.invariant.rows)
+    rw last (WritesText-whole g.S.Sink _ c.loop-again.sink (repeated c.loop-again._again row) tt
+    c.loop-again.invariant.rows)

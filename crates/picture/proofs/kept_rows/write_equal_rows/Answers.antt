@@ -1,7 +1,7 @@
 use Rattle.std.proofs.Common.{◌≡◌, ◌+◌, ◌++◌, ◌∙◌, ℕ, List, [], ap, subst, sym, arith, take, append-nil}
 use Rattle.std.proofs.lemmas.Nat.{mul-le}
 use Rattle.device.proofs.WritingLaws.{HasWritten, HasWritten-call, WritesText-begun, WritesText-whole}
-use Rattle.picture.specs.Private.Rows.{row_text}
+use Rattle.picture.specs.Private.Rows.{repeated, row_text}
 use Rattle.picture.proofs.RepeatedLaws.{EndsWith-repeated, length-repeated_row, repeated-add}
 use Rattle.picture.proofs.WritingLaws.{flat_map-below_front}
 use Rattle.picture.proofs.WritingLoopLaws.{HasWritten-below_more, WritesText-below_fails}
@@ -65,5 +65,6 @@ loop-written-preserved g c =
 
 pub returns : goal.returns
 returns g c =
+    let row = row_text g.T.PixelText.text g.T.PixelText.row_end (take c.args.width c.args.kept.now) in
     let last : c.args.count ≡ c.loop-written.written = omega (arith, c.loop-written.invariant.most) in
-    rw last (WritesText-whole g.S.Sink _ _ _ tt c.loop-written.invariant.rows)
+    rw last (WritesText-whole g.S.Sink _ _ (repeated c.loop-written.written row) tt c.loop-written.invariant.rows)

@@ -1,8 +1,9 @@
-use Rattle.std.proofs.Common.{◌≡◌, ℕ, List, length, take, ap, refl, arith}
+use Rattle.std.proofs.Common.{◌≡◌, ℕ, List, length, take, ap, refl, arith, flat_map}
 use Rattle.std.specs.Int.{div_ceil}
 use Rattle.std.proofs.lemmas.List.{length-take-le}
 use Rattle.device.proofs.WritingLaws.{HasWritten-none, WritesText-last}
-use Rattle.picture.specs.Private.Rows.{piece}
+use Rattle.picture.specs.Private.Rows.{piece, row_text}
+use Rattle.picture.specs.Text.{below}
 use Rattle.picture.proofs.WritingLaws.{piece_held}
 use Rattle.picture.proofs.WritingLoopLaws.{below_more, HasWritten-below_more, WritesText-below_fails}
 use Rattle.picture.proofs.kept_rows.write_row.Goals as goal
@@ -39,5 +40,7 @@ returns g c =
     let row = take c.args.width c.args.kept.now in
     let size : length row ≡ c.args.width = length-take-le c.args.width c.args.kept.now (omega arith) in
     let last : div_ceil (length row) 70 ≡ c.loop-k.k = omega arith in
-    WritesText-last g.S.Sink g.met.S.Sink.took_joined _ _ _ _ c.row_end.result.now _ c.write_whole.result
-    (rw (last, c.row_end.ensures) refl) c.loop-k.invariant.written c.write_whole.ensures
+    WritesText-last g.S.Sink g.met.S.Sink.took_joined _ _ c.write_whole.new.sink
+    (flat_map (λ k. g.T.PixelText.text (piece row k)) (below c.loop-k.k)) c.row_end.result.now
+    (row_text g.T.PixelText.text g.T.PixelText.row_end row) _ (rw (last, c.row_end.ensures) refl)
+    c.loop-k.invariant.written c.write_whole.ensures

@@ -1,4 +1,4 @@
-//! Values by their names.
+//! Texts compared with words, and the level that a letter names.
 ghost use Rattle.std.specs.Prelude.{◌≡◌};
 ghost use Rattle.std.specs.Str.{bytes_eq};
 ghost use Rattle.labelcore.specs.OptionValues.{level_named};

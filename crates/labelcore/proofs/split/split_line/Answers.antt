@@ -4,7 +4,7 @@ use Rattle.std.specs.Prelude.{IfSome, is_some}
 use Rattle.std.specs.List.{after_first, before_first, list_any}
 use Rattle.labelcore.specs.Lines.{HasNoLF, LF}
 use Rattle.labelcore.proofs.PositionLaws.{cut_at_first, none_before}
-use Rattle.labelcore.proofs.cut.split_line.Goals as goal
+use Rattle.labelcore.proofs.split.split_line.Goals as goal
 
 cut_at_lf : (bytes : List ℕ) (r : Option (Bor (List ℕ) × Bor (List ℕ))) → is_some r ≡ list_any (λ b. b == LF) bytes
     → IfSome r (λ cut. cut.0.now ≡ before_first (λ b. b == LF) bytes)
