@@ -1,35 +1,26 @@
 -- The first bad setting from the left is the one that is reported.
 use Rattle.std.proofs.Common.{◌≡◌, ℕ, ◌+◌, List, [], ◌∷◌, ◌++◌, length, Result, Ok, Err, refl, ap}
-use Rattle.std.proofs.Common.{sym, ◌∙◌, arith, add-zero, length-append, append_assoc, subst}
+use Rattle.std.proofs.Common.{sym, ◌∙◌, arith, length-append, append_assoc, subst}
 use Rattle.labelcore.specs.declared.symbology.Symbology.{Symbology}
 use Rattle.labelcore.specs.declared.fault.Fault.{Fault}
 use Rattle.labelcore.specs.OptionValues.{LabelValues}
 use Rattle.labelcore.specs.Settings.{◌>>=◌, with_setting, with_settings, IsFirstBad}
-
--- a step that found something went on from something
-Ok_from_bind : {A B : Type 0} (r : Result A Fault) (f : A → Result B Fault) (b : B) → (r >>= f) ≡ Ok b
-    → (a : A) × (r ≡ Ok a) × (f a ≡ Ok b)
-Ok_from_bind (Err fault) f b e = cc
-Ok_from_bind (Ok a) f b e = (a, refl, e)
 
 module _ (symbology : Symbology) where
   -- settings after others
   settings_after : (n : ℕ) (front more : List (List ℕ)) (options left : LabelValues)
       → with_settings symbology n front options ≡ Ok left
       → with_settings symbology n (front ++ more) options ≡ with_settings symbology (n + length front) more left
-  settings_after n [] more options left e =
-      rw (add-zero n) (ap (λ r. r >>= (λ next. with_settings symbology n more next)) e)
+  settings_after n [] more options left e = grind (arith, e)
   settings_after n (setting ∷ front) more options left e =
-      let next = Ok_from_bind (with_setting symbology n setting options) _ left e in
-      rw (next.1) (settings_after (n + 1) front more next.0 left next.2
-      ∙ ap (λ k. with_settings symbology k more left) (omega arith))
+      let later = λ (next : LabelValues). settings_after (n + 1) front more next left in grind (arith, e, later)
 
   pub first_bad_decides : (settings : List (List ℕ)) (options : LabelValues) (fault : Fault)
       → IsFirstBad symbology settings options fault → with_settings symbology 1 settings options ≡ Err fault
   first_bad_decides settings options fault h =
-      ap (λ all. with_settings symbology 1 all options) h.cut
-      ∙ settings_after 1 h.front (h.setting ∷ h.rest) options h.left h.good
-      ∙ ap (λ r. r >>= (λ next. with_settings symbology ((1 + length h.front) + 1) h.rest next)) h.bad
+      let after = settings_after 1 h.front (h.setting ∷ h.rest) options h.left h.good in
+      let cut = h.cut in
+      let bad = h.bad in grind (arith, after, cut, bad)
 
   -- the first bad setting of those that come after some good ones
   after_good : (front settings : List (List ℕ)) (options left : LabelValues) (fault : Fault)
