@@ -2,12 +2,13 @@
 use Rattle.filter.proofs.Words.{All, IfOk, nat_lt, ⊤, IfSome, ok_or, option_and_then, ◌≡◌, ℕ, ◌+◌, ◌*◌, ◌^◌, ◌<◌, ◌≤◌}
 use Rattle.filter.proofs.Words.{List, [], ◌∷◌, ◌++◌, map, Some, refl, ap, arith, Result, Ok, Err, subst, Bool, true}
 use Rattle.filter.proofs.Words.{false, length, sym, ◌∙◌, get_or, inl, inr, ◌==◌, eq-eqb, Option, None, and-false}
-use Rattle.filter.proofs.Words.{All-from_recursion, recursion_from_All, All-map, All-weaker, lines, skipped, refused}
+use Rattle.filter.proofs.Words.{All-from_get_or, All-from_recursion, recursion_from_All, All-map, All-weaker, lines, skipped, refused}
 use Rattle.filter.proofs.Words.{drawn, outcome_of, Outcome, Request, item, OptionValues, IsMask, Fault, Ean13, Ean8}
 use Rattle.filter.proofs.Words.{UpcA, Code128, Qr, Event, Images, of_line, flushes, events_after, script, sent}
 use Rattle.filter.proofs.Words.{drawn_symbols, image_of, picture_of, text_of, outcome, outcome_of_item, Symbol}
 use Rattle.filter.proofs.Words.{quiet_zone, symbol_of, linear_symbol, qr_modules, cases_lt, le-ltb, get_or_past}
 use Rattle.std.specs.List.{AllByRecursion, flat_map, list_all}
+use Rattle.std.proofs.Common.{Fits, w8}
 use Rattle.std.proofs.Math.Nat.{mul-pos, mul-le-mul_right}
 use Rattle.device.proofs.LinesLaws.{AllOf-lines}
 use Rattle.labelcore.specs.declared.options.Format.{Format}
@@ -260,11 +261,12 @@ module _ (options : OptionValues) (range : AreInRange options) where
   outcome_read (Err fault) h = tt
 
   -- the image of data is read as its full data
-  pub image_of_data_read : (symbology : Symbology) (bytes : List ℕ) → All (λ b. b < 256) bytes
+  pub image_of_data_read : (symbology : Symbology) (bytes : List ℕ) → ((i : ℕ) → Fits w8 (get_or bytes i 0))
       → IfOk (symbol_of options symbology bytes)
       (λ symbol. IsRead options.format options.scale (image_of options (drawn symbol)) symbol)
-  image_of_data_read symbology bytes w = outcome_read (symbol_of options symbology bytes)
-      (symbol_readable options range symbology bytes (recursion_from_All (λ b. b < 256) bytes w))
+  image_of_data_read symbology bytes fits = outcome_read (symbol_of options symbology bytes)
+      (symbol_readable options range symbology bytes (recursion_from_All (λ b. b < 256) bytes
+      (All-from_get_or (λ b. b < 256) bytes 0 (λ i within. omega (arith, fits i)))))
 
   -- a stream of images
   stream_cut : (format : Format) (pictures : List Picture) → All IsDrawable pictures

@@ -27,6 +27,7 @@ use qrmatrix::{Matrix, QUIET_ZONE};
 /// # Errors
 ///
 /// [`IoFault`] where a write fails: the sink took a beginning of the image.
+#[tactic(auto, unfolding(crate::specs::Symbol::symbol_of))]
 pub fn draw<O: Sink>(
     options: &Options,
     symbology: Symbology,
@@ -40,21 +41,6 @@ pub fn draw<O: Sink>(
         IsRead options.now.format options.now.scale (image_of options.now (drawn symbol)) symbol) }
 {
     options.ranges();
-    draw_symbol(options, symbology, bytes, out)
-}
-
-/// Draws one symbol.
-#[tactic(auto, unfolding(crate::specs::Symbol::symbol_of))]
-fn draw_symbol<O: Sink>(
-    options: &Options,
-    symbology: Symbology,
-    bytes: &[u8],
-    out: &mut O,
-) -> Result<Result<(), Fault>, IoFault>
-    requires { bytes.now ≢ [] }
-    ensures { DrawsOutcome O.Sink out.old out.new options.now
-        (outcome_of (symbol_of options.now symbology bytes.now)) result }
-{
     match symbology {
         Symbology::Ean13 => draw_linear::<Ean13, O>(options, bytes, out),
         Symbology::Ean8 => draw_linear::<Ean8, O>(options, bytes, out),
@@ -78,10 +64,10 @@ fn draw_linear<L: Linear, O: Sink>(
 {
     let mut row = Row::new();
     match L::encode(bytes, &mut row) {
-        Ok(()) => {
-            write_bars(options, row.as_slice(), L::QUIET_ZONES, out)?;
-            Ok(Ok(()))
-        }
+        Ok(()) => match write_bars(options, row.as_slice(), L::QUIET_ZONES, out) {
+            Ok(()) => Ok(Ok(())),
+            Err(fault) => Err(fault),
+        },
         Err(refusal) => Ok(Err(Fault::from(refusal))),
     }
 }
@@ -95,9 +81,8 @@ fn write_bars<O: Sink>(
 ) -> Result<(), IoFault>
     requires fits { length row.now ≤ MAX_MODULES }
     requires narrow { zones.left + zones.right ≤ 20 }
-    ensures writes { WritesText O.Sink out.old out.new (image_in (beside zones) options.now
+    ensures { WritesText O.Sink out.old out.new (image_in (beside zones) options.now
         (bars row.now options.now.height)) result }
-    ensures height { (1 ≤ options.now.height) × (options.now.height ≤ 500) }
 {
     let bars = Bars::new(row, usize::from(options.height()));
     let zone = QuietZone {
@@ -121,10 +106,10 @@ fn draw_qr<O: Sink>(
 {
     let min_version = Version::of(options.min_version());
     match choose(min_version, options.level(), bytes) {
-        Ok(plan) => {
-            write_plan(options, &plan, out)?;
-            Ok(Ok(()))
-        }
+        Ok(plan) => match write_plan(options, &plan, out) {
+            Ok(()) => Ok(Ok(())),
+            Err(fault) => Err(fault),
+        },
         Err(refusal) => Ok(Err(Fault::from(refusal))),
     }
 }

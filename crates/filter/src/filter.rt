@@ -145,8 +145,7 @@ impl Filter {
             return Err(RunFault::Spent);
         }
         self.end_open_line(out, err)?;
-        flush_both(out, err)?;
-        Ok(self.status)
+        flush_both(self.status, out, err)
     }
 
     /// Ends the open line, if it has a byte.
@@ -163,11 +162,16 @@ impl Filter {
     }
 }
 
-/// Flushes the images, and then the messages.
-fn flush_both<O: Sink, E: Sink>(out: &mut O, err: &mut E) -> Result<(), RunFault>
+/// Flushes the images, and then the messages. Returns this status.
+fn flush_both<O: Sink, E: Sink>(
+    status: Status,
+    out: &mut O,
+    err: &mut E,
+) -> Result<Status, RunFault>
     ensures sends { (options : OptionValues) → MatchResult result
         (λ _. Took options (taken (O.took out.old out.new) (E.took err.old err.new)) (flushes ∷ []))
         (Stops options (taken (O.took out.old out.new) (E.took err.old err.new)) (flushes ∷ [])) }
+    ensures status { IfOk result (λ same. same ≡ status) }
     ensures flushed { FlushesImagesFirst (O.is_flushed out.old) (O.is_flushed out.new)
         (E.is_flushed err.old) (E.is_flushed err.new) result }
     ensures counts { CountsFault (O.failures out.old) (O.failures out.new)
@@ -179,5 +183,5 @@ fn flush_both<O: Sink, E: Sink>(out: &mut O, err: &mut E) -> Result<(), RunFault
     let Ok(()) = err.flush() else {
         return Err(RunFault::WriteMessages);
     };
-    Ok(())
+    Ok(status)
 }
