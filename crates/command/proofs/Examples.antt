@@ -8,7 +8,8 @@ use Rattle.filter.specs.declared.status.RunFault.TheVariants.{Read, WriteOut, Wr
 use Rattle.filter.specs.declared.status.Status.TheVariants.{Clean, Refused}
 use Rattle.labelcore.specs.declared.options.Format.TheVariants.{Pbm, Ascii}
 use Rattle.qrdata.specs.declared.level.Level.TheVariants.{M, H}
-use Rattle.labelcore.specs.OptionValues.{OptionValues, level_named}
+use Rattle.labelcore.specs.declared.options.Options.{Options}
+use Rattle.labelcore.specs.OptionValues.{LabelValues, level_named}
 
 scale-9 : invocation_of (codes "--scale" ∷ codes "9" ∷ []) ≡ bad
 unfolding clap_on_literals level_named
@@ -34,8 +35,11 @@ helped : invocation_of (codes "--format" ∷ codes "x" ∷ codes "-h" ∷ []) �
 unfolding clap_on_literals level_named
 helped = refl
 
-full : OptionValues
-full = record { format = Ascii; scale = 8; height = 500; level = H; min_version = 10; mask = Some 0; escapes = true }
+full : Options
+full = record {
+  run = record { format = Ascii; scale = 8; escapes = true };
+  label = record { height = 500; level = H; min_version = 10; mask = Some 0 };
+}
 
 all-named : invocation_of (codes "--format" ∷ codes "ascii" ∷ codes "--scale=8" ∷ codes "--height" ∷ codes "500"
     ∷ codes "--level" ∷ codes "H" ∷ codes "--min-version" ∷ codes "10"
@@ -44,17 +48,20 @@ unfolding clap_on_literals level_named full
 all-named = refl
 
 -- the defaults, and each number at the low end of its range (docs/SPECIFICATION.md, Options)
-plain : OptionValues
-plain = record { format = Pbm; scale = 1; height = 50; level = M; min_version = 1; mask = None; escapes = false }
+label : LabelValues
+label = record { height = 50; level = M; min_version = 1; mask = None }
+
+plain : Options
+plain = record { run = record { format = Pbm; scale = 1; escapes = false }; label = label }
 
 no-words : invocation_of [] ≡ run plain None
-unfolding clap_on_literals level_named plain
+unfolding clap_on_literals level_named plain label
 no-words = refl
 
 lowest : invocation_of (codes "--scale=1" ∷ codes "--height=1" ∷ codes "--min-version=1" ∷ codes "--mask=7"
     ∷ codes "--format=pbm" ∷ codes "label.txt" ∷ []) ≡
-    run (record plain { height = 1; mask = Some 7 }) (Some (codes "label.txt"))
-unfolding clap_on_literals level_named plain
+    run (record plain { label = record label { height = 1; mask = Some 7 } }) (Some (codes "label.txt"))
+unfolding clap_on_literals level_named plain label
 lowest = refl
 
 -- beside the ranges

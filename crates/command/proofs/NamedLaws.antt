@@ -7,7 +7,8 @@ use Rattle.std.specs.Str.{bytes_eq}
 use Rattle.clap.specs.Words.{Row, Text, one_text, rows_of}
 use Rattle.clap.specs.declared.parser.matches.Found.{Found}
 use Rattle.clap.proofs.WalkLemmas.{first_value-rows, one_text-rows}
-use Rattle.labelcore.specs.OptionValues.{IsMask, OptionValues}
+use Rattle.labelcore.specs.OptionValues.{IsMask}
+use Rattle.labelcore.specs.declared.options.Options.{Options}
 use Rattle.command.specs.CommandLine.{is_on, number_named, number_written}
 use Rattle.command.specs.Private.Checked.{HoldsNumber, IsNumberIn}
 
@@ -72,7 +73,7 @@ switch_read f id b none on off holds = go (one_text f id) refl holds
     go (Some t) e (inr is) = rw (e, is) (off (e ∙ ap Some is))
 
 -- what is made of values in their ranges
-pub made : {P : Type 0} (r : Option OptionValues) (s : OptionValues) → (IsSome r ↔ P) → IfSome r (λ o. o ≡ s) → P
+pub made : {P : Type 0} (r : Option Options) (s : Options) → (IsSome r ↔ P) → IfSome r (λ o. o ≡ s) → P
     → r ≡ Some s
 made None s valid value p = let some : false ≡ true = valid.1 p in cc
 made (Some o) s valid value p = ap Some value

@@ -17,7 +17,8 @@ use Rattle.labelcore.specs.declared.options.Format.TheVariants.{Pbm, Ascii}
 use Rattle.qrdata.specs.declared.level.Level.{Level}
 use Rattle.labelcore.specs.Names.{listed}
 use Rattle.labelcore.specs.Defaults.{default_options}
-use Rattle.labelcore.specs.OptionValues.{OptionValues, level_named}
+use Rattle.labelcore.specs.declared.options.Options.{Options}
+use Rattle.labelcore.specs.OptionValues.{level_named}
 
 -- ---- the command
 
@@ -82,26 +83,30 @@ format_of text = listed text ((codes "pbm", Pbm) ∷ (codes "ascii", Ascii) ∷ 
 
 -- the format given, or the default
 abbrev pub format_in : List Row → Option Format
-format_in rows = option_map_or format_of (first_of (codes "format") rows) (Some default_options.format)
+format_in rows = option_map_or format_of (first_of (codes "format") rows) (Some default_options.run.format)
 
 -- the level given, or the default
 abbrev pub level_in : List Row → Option Level
-level_in rows = option_map_or level_named (first_of (codes "level") rows) (Some default_options.level)
+level_in rows = option_map_or level_named (first_of (codes "level") rows) (Some default_options.label.level)
 
 -- the options given, with the defaults for the others
-abbrev pub options_with : List Row → Format → Level → OptionValues
+abbrev pub options_with : List Row → Format → Level → Options
 options_with rows format level = record {
-  format = format;
-  scale = unwrap_or (number_named (codes "scale") rows) default_options.scale;
-  height = unwrap_or (number_named (codes "height") rows) default_options.height;
-  level = level;
-  min_version = unwrap_or (number_named (codes "min-version") rows) default_options.min_version;
-  mask = number_named (codes "mask") rows;
-  escapes = is_on (codes "escapes") rows;
+  run = record {
+    format = format;
+    scale = unwrap_or (number_named (codes "scale") rows) default_options.run.scale;
+    escapes = is_on (codes "escapes") rows;
+  };
+  label = record {
+    height = unwrap_or (number_named (codes "height") rows) default_options.label.height;
+    level = level;
+    min_version = unwrap_or (number_named (codes "min-version") rows) default_options.label.min_version;
+    mask = number_named (codes "mask") rows;
+  };
 }
 
 -- the options that the matches name, with the defaults for the others; none if the format or the level is not listed
-abbrev pub options_named : List Row → Option OptionValues
+abbrev pub options_named : List Row → Option Options
 options_named rows = option_and_then (λ format.
     option_map (λ level. options_with rows format level) (level_in rows)) (format_in rows)
 
@@ -110,7 +115,7 @@ options_named rows = option_and_then (λ format.
 -- what arguments ask for: a run with these options over the named file or standard input, or the help text; or they are
 -- bad, and the command does not take them
 pub data Invocation : Type 0 where
-  run : OptionValues → Option Text → Invocation
+  run : Options → Option Text → Invocation
   help : Invocation
   bad : Invocation
 

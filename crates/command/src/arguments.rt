@@ -51,7 +51,7 @@ fn format_in(matches: &ArgMatches<'_>) -> Option<Format>
 {
     match matches.get_str("format") {
         Some(name) => format_of(name),
-        None => Some(Options::default().format()),
+        None => Some(Options::default().run.format()),
     }
 }
 
@@ -62,7 +62,7 @@ fn level_in(matches: &ArgMatches<'_>) -> Option<Level>
 {
     match matches.get_str("level") {
         Some(name) => level_of(name.as_bytes()),
-        None => Some(Options::default().level()),
+        None => Some(Options::default().label.level()),
     }
 }
 
@@ -91,9 +91,10 @@ fn options_named(matches: &ArgMatches<'_>) -> Option<Options>
     let defaults = Options::default();
     let format = format_in(matches)?;
     let level = level_in(matches)?;
-    let scale = small_number(matches, "scale").unwrap_or(defaults.scale());
-    let height = number(matches, "height").unwrap_or(defaults.height());
-    let min_version = small_number(matches, "min-version").unwrap_or(defaults.min_version());
+    let scale = small_number(matches, "scale").unwrap_or(defaults.run.scale());
+    let height = number(matches, "height").unwrap_or(defaults.label.height());
+    let lowest = defaults.label.min_version().number();
+    let min_version = small_number(matches, "min-version").unwrap_or(lowest);
     let mask = small_number(matches, "mask");
     let escapes = matches.get_flag("escapes");
     Options::new(format, scale, height, level, min_version, mask, escapes)

@@ -3,13 +3,18 @@ use Rattle.std.proofs.Common.{◌≡◌, ℕ, ◌+◌, List, [], ◌∷◌, ◌+
 use Rattle.std.proofs.Common.{sym, ◌∙◌, arith, add-zero, length-append, append_assoc, subst}
 use Rattle.labelcore.specs.declared.symbology.Symbology.{Symbology}
 use Rattle.labelcore.specs.declared.fault.Fault.{Fault}
-use Rattle.labelcore.specs.OptionValues.{OptionValues}
-use Rattle.labelcore.proofs.KeptLaws.{Ok_from_bind}
+use Rattle.labelcore.specs.OptionValues.{LabelValues}
 use Rattle.labelcore.specs.Settings.{◌>>=◌, with_setting, with_settings, IsFirstBad}
+
+-- a step that found something went on from something
+Ok_from_bind : {A B : Type 0} (r : Result A Fault) (f : A → Result B Fault) (b : B) → (r >>= f) ≡ Ok b
+    → (a : A) × (r ≡ Ok a) × (f a ≡ Ok b)
+Ok_from_bind (Err fault) f b e = cc
+Ok_from_bind (Ok a) f b e = (a, refl, e)
 
 module _ (symbology : Symbology) where
   -- settings after others
-  settings_after : (n : ℕ) (front more : List (List ℕ)) (options left : OptionValues)
+  settings_after : (n : ℕ) (front more : List (List ℕ)) (options left : LabelValues)
       → with_settings symbology n front options ≡ Ok left
       → with_settings symbology n (front ++ more) options ≡ with_settings symbology (n + length front) more left
   settings_after n [] more options left e =
@@ -19,7 +24,7 @@ module _ (symbology : Symbology) where
       rw (next.1) (settings_after (n + 1) front more next.0 left next.2
       ∙ ap (λ k. with_settings symbology k more left) (omega arith))
 
-  pub first_bad_decides : (settings : List (List ℕ)) (options : OptionValues) (fault : Fault)
+  pub first_bad_decides : (settings : List (List ℕ)) (options : LabelValues) (fault : Fault)
       → IsFirstBad symbology settings options fault → with_settings symbology 1 settings options ≡ Err fault
   first_bad_decides settings options fault h =
       ap (λ all. with_settings symbology 1 all options) h.cut
@@ -27,7 +32,7 @@ module _ (symbology : Symbology) where
       ∙ ap (λ r. r >>= (λ next. with_settings symbology ((1 + length h.front) + 1) h.rest next)) h.bad
 
   -- the first bad setting of those that come after some good ones
-  after_good : (front settings : List (List ℕ)) (options left : OptionValues) (fault : Fault)
+  after_good : (front settings : List (List ℕ)) (options left : LabelValues) (fault : Fault)
       → with_settings symbology 1 front options ≡ Ok left
       → with_settings symbology (1 + length front) settings left ≡ Err fault
       → IsFirstBad symbology (front ++ settings) options fault
@@ -35,7 +40,7 @@ module _ (symbology : Symbology) where
   after_good front (setting ∷ more) options left fault good e =
       let longer = front ++ setting ∷ [] in
       let place : (1 + length front) + 1 ≡ 1 + length longer = omega (arith, length-append front (setting ∷ [])) in
-      let by_result : (r : Result OptionValues Fault) → with_setting symbology (1 + length front) setting left ≡ r
+      let by_result : (r : Result LabelValues Fault) → with_setting symbology (1 + length front) setting left ≡ r
       → (r >>= (λ next. with_settings symbology ((1 + length front) + 1) more next)) ≡ Err fault
       → IsFirstBad symbology (front ++ setting ∷ more) options fault =
       elim [
@@ -56,6 +61,6 @@ module _ (symbology : Symbology) where
       ] in
       by_result (with_setting symbology (1 + length front) setting left) refl e
 
-  pub first_bad : (settings : List (List ℕ)) (options : OptionValues) (fault : Fault)
+  pub first_bad : (settings : List (List ℕ)) (options : LabelValues) (fault : Fault)
       → with_settings symbology 1 settings options ≡ Err fault → IsFirstBad symbology settings options fault
   first_bad settings options fault e = after_good [] settings options options fault refl e

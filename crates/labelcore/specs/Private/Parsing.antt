@@ -5,13 +5,13 @@ use Rattle.std.specs.Char.{is_digit}
 use Rattle.std.specs.List.{list_all}
 use Rattle.std.specs.Str.Parse.{digits_value}
 use Rattle.labelcore.specs.declared.fault.Fault.TheVariants.{LineTooLong}
-use Rattle.labelcore.specs.OptionValues.{OptionValues}
+use Rattle.labelcore.specs.declared.options.Options.{Options}
 use Rattle.labelcore.specs.HeldLine.{HeldLine}
 use Rattle.labelcore.specs.LineItem.{Outcome, Request, skipped, refused, is_skipped, outcome_of, request}
 use Rattle.labelcore.specs.Escapes.{naming, unescaped_from}
 
 -- what a line asks for, by what is held of it
-abbrev pub item_of_held : OptionValues → HeldLine → Outcome Request
+abbrev pub item_of_held : Options → HeldLine → Outcome Request
 item_of_held options line =
     if is_skipped line.bytes then skipped
     else if line.is_too_long then refused LineTooLong

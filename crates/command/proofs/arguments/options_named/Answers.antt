@@ -9,11 +9,11 @@ returns c =
     let is = c.default-defaults.ensures in
     let flag = c.get_flag-escapes.ensures in
     let scale = NumberIs-read f (codes "scale") _ c.small_number.ensures 1 8 _ _ _ c.requires.scale (omega arith)
-    (omega arith) (c.scale.ensures.value ∙ ap (λ o. o.scale) is) c.unwrap_or-scale.ensures in
+    (omega arith) (c.scale.ensures.value ∙ ap (λ o. o.run.scale) is) c.unwrap_or-scale.ensures in
     let height = NumberIs-read f (codes "height") _ c.number.ensures 1 500 _ _ _ c.requires.height (omega arith)
-    (omega arith) (c.height.ensures.value ∙ ap (λ o. o.height) is) c.unwrap_or-height.ensures in
+    (omega arith) (c.height.ensures.value ∙ ap (λ o. o.label.height) is) c.unwrap_or-height.ensures in
     let version = NumberIs-read f (codes "min-version") _ c.small_number-2.ensures 1 10 _ _ _ c.requires.min_version
-    (omega arith) (omega arith) (c.min_version.ensures.value ∙ ap (λ o. o.min_version) is)
+    (omega arith) (omega arith) (c.number-lowest.ensures.value ∙ c.min_version.ensures ∙ ap (λ o. o.label.min_version) is)
     c.unwrap_or-min_version.ensures in
     made c.new.result _ c.new.ensures.some c.new.ensures.value (record {
       scale_low = scale.at_least;
