@@ -23,7 +23,7 @@ returns-in_err-end_open_line g c =
     let call = c.in_err-end_open_line.ensures in
     rw (p.1, p.2) (record {
       sends = λ options text at. let h = call.feeds options text at in
-          Sends-longer options {took = taken (g.O.Sink.took c.args.out.now c.end_open_line.new.out) (g.E.Sink.took
+          Sends-longer options.run {took = taken (g.O.Sink.took c.args.out.now c.end_open_line.new.out) (g.E.Sink.took
           c.args.err.now c.end_open_line.new.err)} (flushes ∷ []) h.1 h.2.sends;
       status = λ options text at. tt;
       flushed = (λ other. call.sinks.out_unflushed, call.sinks.err_unflushed);
@@ -39,8 +39,8 @@ returns g c =
     let r = c.flush_both.result in
     record {
       sends = λ options text at. let h = before.feeds options text at in
-          Sends-append g.met.O.Sink.took_joined g.met.E.Sink.took_joined options r h.2.sends
-          (record { added = flushes ∷ []; grown = h.1; sends = flush.sends options });
+          Sends-append g.met.O.Sink.took_joined g.met.E.Sink.took_joined options.run r h.2.sends
+          (record { added = flushes ∷ []; grown = h.1; sends = flush.sends options.run });
       status = λ options text at. let h = before.feeds options text at in
           subst (λ (status : Status). IfOk r (λ same. same ≡ status))
           (ap (λ (s : FilterState). s.status) c.self-2.view_is ∙ (h.2.is_after.status_is

@@ -1,6 +1,6 @@
 use Rattle.filter.proofs.Words.{refl, Ean13, Ean8, UpcA, Code128, symbol_of}
 use Rattle.filter.proofs.ReadLaws.{image_of_data_read}
-use Rattle.filter.proofs.drawing.draw.Goals as goal
+use Rattle.filter.proofs.symbol.draw.Goals as goal
 
 pub returns-in-Ean13-clause-drawn : goal.returns-in-Ean13-clause-drawn
 unfolding symbol_of

@@ -1,11 +1,11 @@
 use Rattle.filter.proofs.Words.{refl, symbol_of}
-use Rattle.filter.proofs.drawing.draw_qr.Goals as goal
+use Rattle.filter.proofs.symbol.draw_qr.Goals as goal
 
 pub returns-in-Err-write_plan : goal.returns-in-Err-write_plan
 unfolding symbol_of
 returns-in-Err-write_plan g c =
     let plan = c.in-Ok.ensures.plan in
-    let version = rw (c.of-min_version.ensures, c.min_version.ensures.value, c.level.ensures) at plan.version in
+    let version = rw (c.min_version.ensures, c.level.ensures) at plan.version in
     let written = c.in-Err-write_plan.ensures in
     rw (version, ← plan.same_bytes) (record {
       writes = record { bytes = written.bytes; count = written.count; unflushed = written.unflushed };
@@ -16,7 +16,7 @@ pub returns-in-Ok-write_plan : goal.returns-in-Ok-write_plan
 unfolding symbol_of
 returns-in-Ok-write_plan g c =
     let plan = c.in-Ok.ensures.plan in
-    let version = rw (c.of-min_version.ensures, c.min_version.ensures.value, c.level.ensures) at plan.version in
+    let version = rw (c.min_version.ensures, c.level.ensures) at plan.version in
     let written = c.in-Ok-write_plan.ensures in
     rw (version, ← plan.same_bytes) (record {
       writes = record { bytes = written.bytes; count = written.count; unflushed = written.unflushed };
