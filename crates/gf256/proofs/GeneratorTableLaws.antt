@@ -1,5 +1,5 @@
 -- The generator polynomials by the logarithms of their coefficients: tests computed over all of them.
-use Rattle.std.proofs.Common.{◌≡◌, ℕ, ◌-◌, ◌*◌, ◌/◌, ◌%◌, ◌≤◌, List, ◌∷◌, map, take, drop, refl, ◌∙◌, arith, Bool, true}
+use Rattle.std.proofs.Common.{◌≡◌, ℕ, ◌-◌, ◌*◌, ◌/◌, ◌%◌, ◌≤◌, List, ◌∷◌, map, take, drop, refl, ◌∙◌, arith, true}
 use Rattle.std.specs.Str.{bytes_eq}
 use Rattle.std.proofs.lemmas.Slice.Eq.{bytes_eq-Decides}
 use Rattle.gf256.specs.BinaryPolynomial.{binary_product, binary_remainder}
@@ -10,24 +10,17 @@ use Rattle.gf256.specs.declared.tables.TheConstants.{GENERATORS}
 use Rattle.gf256.proofs.AllBelowLaws.{all_below, all_below-at}
 use Rattle.gf256.proofs.LogarithmLaws.{exp, field_power-table}
 
--- whether two lists of numbers are the same
-abbrev pub same_numbers : List ℕ → List ℕ → Bool
-same_numbers xs ys = bytes_eq xs ys
-
-pub same_numbers-is : (xs ys : List ℕ) → same_numbers xs ys ≡ true → xs ≡ ys
-same_numbers-is xs ys h = (bytes_eq-Decides xs ys).0 h
-
 -- the logarithms of the generator of k error correction codewords in the table
 unfoldable pub logarithms_at : ℕ → List ℕ
 logarithms_at k = take k (drop (k * (k - 1) / 2) GENERATORS)
 
-generators : all_below (λ k. same_numbers (generator k) (1 ∷ map (λ e. exp (e % 255)) (logarithms_at k))) 31 ≡ true
+generators : all_below (λ k. bytes_eq (generator k) (1 ∷ map (λ e. exp (e % 255)) (logarithms_at k))) 31 ≡ true
 unfolding all_below exp logarithms_at generator polynomial_product polynomial_sum scalar_multiple field_power
     field_product binary_product binary_remainder
 generators = refl
 
 pub generator-logarithms : (k : ℕ) → k ≤ 30 → generator k ≡ 1 ∷ map (field_power 2) (logarithms_at k)
 generator-logarithms k most =
-    same_numbers-is (generator k) (1 ∷ map (λ e. exp (e % 255)) (logarithms_at k)) (all_below-at
-    (λ k. same_numbers (generator k) (1 ∷ map (λ e. exp (e % 255)) (logarithms_at k))) 31 k generators (omega arith))
+    (bytes_eq-Decides (generator k) (1 ∷ map (λ e. exp (e % 255)) (logarithms_at k))).0 (all_below-at
+    (λ k. bytes_eq (generator k) (1 ∷ map (λ e. exp (e % 255)) (logarithms_at k))) 31 k generators (omega arith))
     ∙ (λ i. 1 ∷ map (λ e. field_power-table e i) (logarithms_at k))

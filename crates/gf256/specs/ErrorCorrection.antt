@@ -40,16 +40,6 @@ pub record IsRemainder (k : ℕ) (message ec_codewords : List ℕ) : Type 0 wher
 abbrev pub HasRoots : (k : ℕ) → List ℕ → Type 0
 HasRoots k p = (i : ℕ) → i < k → evaluate p (field_power alpha i) ≡ 0
 
--- the error correction codewords of a block by the definition above are a remainder
-abbrev pub EcCodewordsAreRemainder : Type 0
-EcCodewordsAreRemainder =
-    (k : ℕ) (message : List ℕ) → 0 < k → All IsElement message → IsRemainder k message (ec_codewords_of k message)
-
--- a block followed by a remainder is a multiple of the generator
-abbrev pub RemaindersHaveRoots : Type 0
-RemaindersHaveRoots =
-    (k : ℕ) (message ec_codewords : List ℕ) → IsRemainder k message ec_codewords → HasRoots k (message ++ ec_codewords)
-
 -- a block has 1 to 30 error correction codewords
 abbrev pub IsEcCodewordCount : ℕ → Type 0
 IsEcCodewordCount k = (1 ≤ k) × (k ≤ 30)

@@ -23,9 +23,11 @@ const NEXT_PLACES: [usize; PLACES] = [
 /// A multiple of a generator polynomial: its coefficients from high to low, but for the highest, and zeros after them.
 type Multiple = [u8; PLACES];
 
-/// The generator polynomial of blocks with a given number of error correction codewords. Clauses see it as that number.
+/// The multiples of the generator polynomial of blocks with a given number of error correction codewords. Clauses see it
+/// as that number, which is the degree of the polynomial.
 #[derive(Drop)]
 pub struct Generator {
+    /// The number of error correction codewords of a block.
     count: usize,
     /// The multiples by the elements 0 to 15.
     low: [Multiple; 16],
@@ -44,8 +46,8 @@ impl Model for Generator {
 }
 
 impl Generator {
-    /// Makes the generator polynomial of blocks with `k` error correction codewords, 1 to 30: the product of x +
-    /// alpha^i over the i below `k`.
+    /// Makes the multiples of the generator polynomial of blocks with `k` error correction codewords, 1 to 30. The
+    /// polynomial is the product of x + alpha^i over the i below `k`.
     pub fn new(k: usize) -> Generator
         requires { IsEcCodewordCount k }
         ensures { result ≡ k }

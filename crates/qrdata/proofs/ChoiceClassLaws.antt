@@ -37,6 +37,10 @@ IsRun-first : (mode : Mode) (b : ℕ) (bytes : List ℕ) (n : ℕ) → IsRun mod
 IsRun-first mode b bytes zero run = absurd (omega (arith, run.some))
 IsRun-first mode b bytes (suc n) run = (and_parts _ _ run.characters).0
 
+IsRun-rest : (mode : Mode) (b : ℕ) (bytes : List ℕ) (n : ℕ) → 0 < n → IsRun mode (b ∷ bytes) (suc n) → IsRun mode bytes n
+IsRun-rest mode b bytes n some run =
+    record { some = some; inside = omega (arith, run.inside); characters = (and_parts _ _ run.characters).1 }
+
 -- what one byte more does to a class of lengths
 pub record Steps (mode : Mode) (class next added : ℕ) : Type 0 where
   pub to : (n : ℕ) → class_of mode n ≡ class → class_of mode (suc n) ≡ next
@@ -141,11 +145,8 @@ module _ {version b : ℕ} {bytes : List ℕ} {mode : Mode} {class next added : 
   lowest_longer zero more run same = absurd (omega arith)
   lowest_longer (suc n) more run same =
       let here = steps.back n same in
-      let before : Beats c (total version bytes mode n) n = old.lowest n (record {
-        some = omega arith;
-        inside = omega (arith, run.inside);
-        characters = (and_parts _ _ run.characters).1;
-      }) here in
+      let before : Beats c (total version bytes mode n) n =
+      old.lowest n (IsRun-rest mode b bytes n (omega arith) run) here in
       let adds = steps.adds n (omega arith) here in
       record { low = omega (arith, before.low); strict = λ less. omega (arith, before.strict (omega arith)) }
 

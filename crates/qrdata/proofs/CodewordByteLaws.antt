@@ -4,7 +4,6 @@ use Rattle.qrdata.proofs.SegmentReadingLaws.{AreBytes-drop, AreBytes-take}
 use Rattle.std.specs.Prelude.{IfSome, None, Option, Some, slice_get}
 use Rattle.std.specs.List.{AllByRecursion, cons_option, flat_map, range_with_len}
 use Rattle.gf256.specs.ErrorCorrection.{ec_codewords_of}
-use Rattle.gf256.proofs.GeneratorLaws.{HasRoots-remainder, IsRemainder-ec_codewords_of}
 use Rattle.qrdata.specs.declared.level.Level.{Level}
 use Rattle.qrdata.specs.declared.mode.Segment.{Segment}
 use Rattle.qrdata.specs.Codewords.{codewords_at, data_codewords_of, final_message, interleaving, split_by}
@@ -69,8 +68,7 @@ AreBytes-symbol_codewords version level segments bytes low high =
     let message = data_codewords_of (data_codewords version level) (segments_bits version segments bytes) in
     let w = AreBytes-data_codewords_of (data_codewords version level) (segments_bits version segments bytes) in
     let blocks = split_by lengths message in
-    let law = have_ec_codewords IsRemainder-ec_codewords_of HasRoots-remainder k
-    (IsSound-of version level (low, high)).some_ec_codewords lengths message w in
+    let law = have_ec_codewords k (IsSound-of version level (low, high)).some_ec_codewords lengths message w in
     AreBytes-append (interleaving blocks) (interleaving (map (ec_codewords_of k) blocks))
     (AreBytes-interleaving blocks (AreBytes-split lengths message w))
     (AreBytes-interleaving (map (ec_codewords_of k) blocks) (AreBytes-ec_codewords k blocks law))

@@ -12,8 +12,8 @@ use Rattle.std.proofs.lemmas.List.Folds.{sum_by-replicate}
 use Rattle.std.proofs.lemmas.List.Elements.{All-from_get_or, All-from_recursion, recursion_from_All}
 use Rattle.gf256.specs.Field.{alpha, field_power, IsElement}
 use Rattle.gf256.specs.Polynomial.{evaluate}
-use Rattle.gf256.specs.ErrorCorrection.{ec_codewords_of, HasRoots, IsRemainder, EcCodewordsAreRemainder}
-use Rattle.gf256.specs.ErrorCorrection.{RemaindersHaveRoots}
+use Rattle.gf256.specs.ErrorCorrection.{ec_codewords_of, HasRoots, IsRemainder}
+use Rattle.gf256.proofs.GeneratorLaws.{HasRoots-remainder, IsRemainder-ec_codewords_of}
 use Rattle.qrdata.specs.declared.level.Level.{Level}
 use Rattle.qrdata.specs.declared.mode.Segment.{Segment}
 use Rattle.qrdata.specs.Bits.{number_of, codewords_of}
@@ -47,12 +47,12 @@ roots_pass p (suc n) low h =
     let here = eq-eqb (evaluate p (field_power alpha low)) 0 (h low (omega arith)) in
     rw (here, roots_pass p n (low + 1) (λ i less. h i (omega arith))) refl
 
-HasEcCodewords-from_law : EcCodewordsAreRemainder → RemaindersHaveRoots → (k : ℕ) → 0 < k → (block : List ℕ)
-    → AreBytes block → HasEcCodewords k block
-HasEcCodewords-from_law remainder codeword k some block w =
+HasEcCodewords-of : (k : ℕ) → 0 < k → (block : List ℕ) → AreBytes block → HasEcCodewords k block
+HasEcCodewords-of k some block w =
     let here : IsRemainder k block (ec_codewords_of k block) =
-    remainder k block some (All-from_recursion IsElement block w) in
-    let roots : HasRoots k (block ++ ec_codewords_of k block) = codeword k block (ec_codewords_of k block) here in
+    IsRemainder-ec_codewords_of k block some (All-from_recursion IsElement block w) in
+    let roots : HasRoots k (block ++ ec_codewords_of k block) =
+    HasRoots-remainder k block (ec_codewords_of k block) here in
     record {
       count = here.ec_codewords_length;
       roots = roots_pass (block ++ ec_codewords_of k block) k 0 (λ i h. roots i (omega arith));
@@ -60,13 +60,13 @@ HasEcCodewords-from_law remainder codeword k some block w =
     }
 
 -- the same of each block of a message
-pub have_ec_codewords : EcCodewordsAreRemainder → RemaindersHaveRoots → (k : ℕ) → 0 < k → (lengths message : List ℕ)
-    → AreBytes message → AllByRecursion (HasEcCodewords k) (split_by lengths message)
+pub have_ec_codewords : (k : ℕ) → 0 < k → (lengths message : List ℕ) → AreBytes message
+    → AllByRecursion (HasEcCodewords k) (split_by lengths message)
 unfolding split_by
-have_ec_codewords remainder codeword k some [] message w = tt
-have_ec_codewords remainder codeword k some (n ∷ lengths) message w = (
-  HasEcCodewords-from_law remainder codeword k some (take n message) (AreBytes-take n message w),
-  have_ec_codewords remainder codeword k some lengths (drop n message) (AreBytes-drop n message w),
+have_ec_codewords k some [] message w = tt
+have_ec_codewords k some (n ∷ lengths) message w = (
+  HasEcCodewords-of k some (take n message) (AreBytes-take n message w),
+  have_ec_codewords k some lengths (drop n message) (AreBytes-drop n message w),
 )
 
 ec_lengths : (k : ℕ) (blocks : Blocks) → AllByRecursion (HasEcCodewords k) blocks
@@ -179,15 +179,12 @@ IsDealtBack-of version level codewords low high size_is law =
     }
 
 -- what is read of the codewords of a symbol
--- four values and seven facts on them: write_codewords, the only caller, has two facts by `known`, two by what it
--- requires itself, and one by the type of its bytes; two are laws of gf256
 pub data_in-symbol_codewords : (version : ℕ) (level : Level) (segments : List Segment) (bytes : List ℕ)
     → 1 ≤ version → version ≤ 10 → AreBytes bytes → IsSegmentation version segments bytes
     → cost version segments ≤ 8 * data_codewords version level
-    → EcCodewordsAreRemainder → RemaindersHaveRoots
     → data_in version level (symbol_codewords version level segments bytes) ≡ Some bytes
 unfolding data_in symbol_codewords
-data_in-symbol_codewords version level segments bytes low high w cut fits remainder codeword =
+data_in-symbol_codewords version level segments bytes low high w cut fits =
     let size = data_codewords version level in
     let k = ec_codewords_per_block version level in
     let lengths = block_lengths version level in
@@ -195,8 +192,8 @@ data_in-symbol_codewords version level segments bytes low high w cut fits remain
     let codewords = data_codewords_of size bits in
     let bits_fit : length bits ≤ 8 * size = omega (arith, length-segments_bits version segments bytes cut, fits) in
     let size_is : length codewords ≡ size = length-data_codewords_of size bits bits_fit in
-    let law = have_ec_codewords remainder codeword k (IsSound-of version level (low, high)).some_ec_codewords lengths
-    codewords (AreBytes-data_codewords_of size bits) in
+    let law = have_ec_codewords k (IsSound-of version level (low, high)).some_ec_codewords lengths codewords
+    (AreBytes-data_codewords_of size bits) in
     let dealt = IsDealtBack-of version level codewords low high size_is law in
     let valid = all_have_roots k (split_by lengths codewords) law in
     let joined : concat (split_by lengths codewords) ≡ codewords =

@@ -35,7 +35,7 @@ segment_at-segment_bits version mode bytes rest w h fits =
     let payload = payload_bits mode bytes ++ rest in
     let count = bits_of (count_width version mode) (length bytes) in
     rw (
-      append_assoc,
+      append_assoc (bits_of 4 (mode_indicator mode) ++ count) (payload_bits mode bytes) rest,
       append_assoc,
       number_at-bits_of 16 4 (mode_indicator mode) (count ++ payload) below below,
       mode_named-indicator mode,
@@ -50,14 +50,16 @@ not_end bits long high = grind (arith, nat_tests)
 is_end-segment_bits : (version : ℕ) (mode : Mode) (bytes : List ℕ) (rest : List Bool)
     → is_end (segment_bits version mode bytes ++ rest) ≡ false
 is_end-segment_bits version mode bytes rest =
-    let after = bits_of (count_width version mode) (length bytes) ++ (payload_bits mode bytes ++ rest) in
+    let count = bits_of (count_width version mode) (length bytes) in
+    let after = count ++ (payload_bits mode bytes ++ rest) in
     let indicator = bits_of 4 (mode_indicator mode) in
     let four : length indicator ≡ 4 = length-bits_of 4 (mode_indicator mode) in
     let long : 4 ≤ length (indicator ++ after) = omega (arith, length-append indicator after) in
     let value : number_of (take 4 (indicator ++ after)) ≡ mode_indicator mode =
     rw (take_front 4 indicator after four, number_of-bits_of 4 (mode_indicator mode))
     (mod-eq_of_lt (indicator_range mode).1) in
-    rw (append_assoc, append_assoc) (not_end (indicator ++ after) long (omega (arith, (indicator_range mode).0)))
+    rw (append_assoc (indicator ++ count) (payload_bits mode bytes) rest, append_assoc)
+    (not_end (indicator ++ after) long (omega (arith, (indicator_range mode).0)))
 
 segments_at-end : (version n : ℕ) (bits : List Bool) → is_end bits ≡ true → segments_at version n bits ≡ Some []
 unfolding segments_at

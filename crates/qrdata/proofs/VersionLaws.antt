@@ -1,10 +1,11 @@
 -- Facts of the table of versions: tests computed over all of it.
 use Rattle.std.proofs.Common.{◌≡◌, ℕ, suc, zero, ◌+◌, ◌-◌, ◌*◌, ◌/◌, ◌%◌, ◌<◌, ◌≤◌, List, [], ◌∷◌, ◌++◌, replicate}
 use Rattle.std.proofs.Common.{refl, arith, Bool, true, false, cond, inl, inr}
-use Rattle.std.specs.Prelude.{nat_lt, nat_le, ◌==◌, slice_index, slice_index_or}
+use Rattle.std.specs.Prelude.{bytes_eq, nat_lt, nat_le, ◌==◌, slice_index, slice_index_or}
 use Rattle.std.specs.List.{list_all}
 use Rattle.std.proofs.lemmas.Bool.{agree_below, agree_below_at, cases_lt, eqb-true, leb-true, ltb-true}
 use Rattle.std.proofs.lemmas.List.Sums.{AllPass-from_list_all}
+use Rattle.std.proofs.lemmas.Slice.Eq.{bytes_eq-Decides}
 use Rattle.qrdata.specs.declared.level.Level.{Level}
 use Rattle.qrdata.specs.declared.level.Level.TheVariants.{L, M, Q, H}
 use Rattle.qrdata.specs.declared.mode.Mode.TheVariants.{Byte}
@@ -13,7 +14,6 @@ use Rattle.qrdata.specs.Private.Blocks.{block_count, place_of}
 use Rattle.qrdata.specs.Segments.{count_width}
 use Rattle.qrdata.specs.Versions.{IsVersion, block_lengths, block_table, capacity, data_codewords}
 use Rattle.qrdata.specs.Versions.{ec_codewords_per_block, groups_of, total_codewords}
-use Rattle.gf256.proofs.GeneratorTableLaws.{same_numbers, same_numbers-is}
 
 -- the data bits of the greatest version whose character counts are as wide
 abbrev pub widest : ℕ → ℕ
@@ -53,7 +53,7 @@ tests level version =
     nat_lt 0 blocks ∷ nat_le blocks 8 ∷ nat_lt 0 ec_codewords ∷ nat_le ec_codewords 30
     ∷ (codewords + blocks * ec_codewords == total) ∷ nat_le total 346
     ∷ nat_le (8 * codewords) (widest version) ∷ nat_le (data_codewords (version - 1) level) codewords
-    ∷ same_numbers (even_lengths blocks codewords) (block_lengths version level)
+    ∷ bytes_eq (even_lengths blocks codewords) (block_lengths version level)
     ∷ (slice_index TOTAL (version - 1) == total)
     ∷ (coded BLOCKS version level == blocks) ∷ (coded EC_CODEWORDS version level == ec_codewords) ∷ []
 
@@ -81,7 +81,7 @@ IsSound-of (suc k) level known =
       few_codewords = leb-true _ _ (test 5 true (omega arith));
       few_bits = leb-true _ _ (test 6 true (omega arith));
       more = leb-true _ _ (test 7 true (omega arith));
-      even = same_numbers-is _ _ (test 8 true (omega arith));
+      even = (bytes_eq-Decides _ _).0 (test 8 true (omega arith));
       coded_total = eqb-true _ _ (test 9 true (omega arith));
       coded_blocks = eqb-true _ _ (test 10 true (omega arith));
       coded_ec_codewords = eqb-true _ _ (test 11 true (omega arith));

@@ -7,7 +7,7 @@
 
 mod bits;
 mod blocks;
-mod final_message;
+mod codeword_sequence;
 mod firsts;
 mod level;
 mod mask;
@@ -17,7 +17,7 @@ mod segmentation;
 mod version;
 
 pub use blocks::Codewords;
-pub use final_message::codewords;
+pub use codeword_sequence::codewords;
 pub use level::Level;
 pub use mask::Mask;
 pub use mode::{Mode, Segment};

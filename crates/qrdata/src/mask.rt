@@ -43,7 +43,7 @@ impl Mask {
     /// Returns the number of the mask, 0 to 7.
     pub fn number(self) -> u8
         ensures value { result ≡ self }
-        ensures known { result < 8 }
+        ensures known { self < 8 }
     {
         self.number
     }

@@ -117,8 +117,7 @@ pub fn choose<'a>(
     ensures level { IfErr result (λ refusal. refusal.level ≡ level) }
     ensures refused { IfErr result (λ _. FitsNowhere min_version level bytes.now) }
 {
-    min_version.known();
-    match plan_from(min_version.number(), level, bytes) {
+    match plan_from(min_version, level, bytes) {
         Some(plan) => Ok(plan),
         None => Err(DoesNotFit { level }),
     }
@@ -126,49 +125,52 @@ pub fn choose<'a>(
 
 /// Makes the plan of the smallest version from `lowest` to 10. One table of best segments serves all versions up to 9,
 /// and a second one version 10.
-fn plan_from<'a>(lowest: u8, level: Level, bytes: &'a [u8]) -> Option<Plan<'a>>
-    requires { IsVersion lowest }
+fn plan_from<'a>(lowest: Version, level: Level, bytes: &'a [u8]) -> Option<Plan<'a>>
     ensures some { IfSome result (IsSmallestPlan lowest 10 level bytes.now) }
     ensures none { IfNone result (NoPlan lowest 10 level bytes.now) }
 {
+    lowest.known();
     if bytes.len() > MAX_BYTES {
         return None;
     }
-    if lowest < 10 {
-        if let Some(plan) = plan_between(lowest, 9, level, bytes) {
+    if lowest.number() < 10 {
+        if let Some(plan) = plan_between(lowest, Version::of(9), level, bytes) {
             return Some(plan);
         }
     }
-    plan_between(10, 10, level, bytes)
+    plan_between(Version::of(10), Version::of(10), level, bytes)
 }
 
 /// Makes the plan of the smallest version from `lowest` to `highest`. In all of these a character count has the
 /// same bits, so that the best segments are the same.
-fn plan_between<'a>(lowest: u8, highest: u8, level: Level, bytes: &'a [u8]) -> Option<Plan<'a>>
+fn plan_between<'a>(
+    lowest: Version,
+    highest: Version,
+    level: Level,
+    bytes: &'a [u8],
+) -> Option<Plan<'a>>
     requires few { length bytes.now ≤ MAX_BYTES }
-    requires range { (1 ≤ lowest) × (lowest ≤ highest) × (highest ≤ 10) }
     requires same { (v : ℕ) → lowest ≤ v → v ≤ highest → SameWidths v highest }
     ensures some { IfSome result (IsSmallestPlan lowest highest level bytes.now) }
     ensures none { IfNone result (NoPlan lowest highest level bytes.now) }
 {
-    let widest = Version::of(highest);
+    highest.known();
     // Three bytes have ten bits at least.
-    if 10 * bytes.len() > 3 * widest.capacity(level) {
+    if 10 * bytes.len() > 3 * highest.capacity(level) {
         return None;
     }
     let mut firsts = Firsts::new();
-    let bits = fill(widest, bytes, &mut firsts);
+    let bits = fill(highest, bytes, &mut firsts);
     let version = smallest_version(lowest, highest, level, bits)?;
     Some(plan_of(version, level, bytes, &firsts, bits as u32))
 }
 
 /// Returns the smallest version, from `lowest` to `highest`, that has `bits` data bits.
-fn smallest_version(lowest: u8, highest: u8, level: Level, bits: usize) -> Option<Version>
-    requires { (1 ≤ lowest) × (highest ≤ 10) }
+fn smallest_version(lowest: Version, highest: Version, level: Level, bits: usize) -> Option<Version>
     ensures some { IfSome result (HasRoom lowest highest level bits) }
     ensures none { IfNone result (HaveNoRoom lowest (highest + 1) level bits) }
 {
-    for number in lowest..highest + 1 {
+    for number in lowest.number()..highest.number() + 1 {
         let version = Version::of(number);
         if bits <= version.capacity(level) {
             return Some(version);

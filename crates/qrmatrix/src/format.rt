@@ -5,7 +5,7 @@ ghost use Rattle.qrmatrix.specs.Private.FunctionRows;
 
 use crate::information::format_information;
 use crate::square::{SIDE, Square};
-use qrdata::{Level, Version};
+use qrdata::{Level, Mask, Version};
 
 /// Returns the row of the module in column 8 that has bit `i` of the format information (ISO/IEC 18004, 7.9).
 #[tactic(auto, unfolding(crate::specs::Private::FunctionRows::row_of_bit))]
@@ -44,8 +44,7 @@ fn column_of_bit(n: usize, i: usize) -> usize
 }
 
 /// Draws the format information for a mask over modules that are light: each bit in column 8 and in row 8.
-pub fn draw_format(version: Version, level: Level, mask: u8, modules: &mut Square)
-    requires { mask < 8 }
+pub fn draw_format(version: Version, level: Level, mask: Mask, modules: &mut Square)
     ensures { ShowsFormat version level mask modules.old modules.new }
 {
     let information = format_information(level, mask);

@@ -5,7 +5,7 @@ ghost use Rattle.qrmatrix.specs.Private.Drawing.{HasFunctions};
 ghost use Rattle.qrmatrix.specs.Private.FunctionRows;
 
 use crate::information::version_information;
-use crate::row::low_ones;
+use crate::row_bits::low_ones;
 use crate::square::SIDE;
 use qrdata::Version;
 

@@ -1,8 +1,8 @@
 //! The format information and the version information as numbers.
-ghost use Rattle.std.specs.Prelude.{◌≡◌, ◌<◌, ◌≤◌};
+ghost use Rattle.std.specs.Prelude.{◌≡◌, ◌≤◌};
 ghost use Rattle.qrmatrix.specs.Information;
 
-use qrdata::{Level, Version};
+use qrdata::{Level, Mask, Version};
 
 /// The format information of 15 bits (ISO/IEC 18004, Annex C): a row for each level indicator, and in it a number for
 /// each mask.
@@ -41,11 +41,10 @@ fn level_indicator(level: Level) -> usize
 
 /// Returns the format information of 15 bits: level and mask with their check bits, under the mask of the format
 /// information (ISO/IEC 18004, 7.9).
-pub fn format_information(level: Level, mask: u8) -> u32
-    requires { mask < 8 }
+pub fn format_information(level: Level, mask: Mask) -> u32
     ensures { result ≡ Information.format_information level mask }
 {
-    FORMATS[level_indicator(level)][usize::from(mask)]
+    FORMATS[level_indicator(level)][usize::from(mask.number())]
 }
 
 /// Returns the version information of 18 bits: the version with its check bits (ISO/IEC 18004, 7.10).

@@ -5,6 +5,7 @@ ghost use Rattle.qrmatrix.specs.Private.Drawing.{IsMaskedTo};
 ghost use Rattle.qrmatrix.specs.Masks;
 
 use crate::square::{SIDE, Square};
+use qrdata::Mask;
 
 /// A one in every sixth place.
 const SIXTHS: u64 = 0x0041041041041041;
@@ -127,20 +128,19 @@ static PATTERNS: [[u64; 12]; 8] = [
 ];
 
 /// Returns the modules that a mask flips in the rows `place`, `place` + 12 and so on.
-fn mask_row_bits(mask: u8, place: usize) -> u64
-    requires mask { mask < 8 }
-    requires place { place < 12 }
+fn mask_row_bits(mask: Mask, place: usize) -> u64
+    requires { place < 12 }
     ensures { (x y : ℕ) → x < SIDE → y < SIDE → y % 12 ≡ place
         → bit result x ≡ Masks.is_flipped mask x y }
 {
-    PATTERNS[usize::from(mask)][place]
+    PATTERNS[usize::from(mask.number())][place]
 }
 
 /// Writes `count` rows from row `first` on, with the free modules flipped by the mask.
 fn write_rows(
     first: usize,
     count: usize,
-    mask: u8,
+    mask: Mask,
     free: &Square,
     modules: &Square,
     masked: &mut Square,
@@ -148,7 +148,6 @@ fn write_rows(
     requires first { first % 12 ≡ 0 }
     requires count { count ≤ 12 }
     requires inside { first + count ≤ SIDE }
-    requires mask { mask < 8 }
     ensures { (start : List (List Bool)) → IsMaskedTo first mask free.now modules.now start masked.old
         → IsMaskedTo (first + count) mask free.now modules.now start masked.new }
 {
@@ -161,9 +160,8 @@ fn write_rows(
 
 /// Writes the modules, the free ones flipped by the mask, into the first `n` rows of `masked`: twelve rows at a time,
 /// since the masks repeat after them.
-pub fn write_masked(n: usize, mask: u8, free: &Square, modules: &Square, masked: &mut Square)
-    requires side { n ≤ SIDE }
-    requires mask { mask < 8 }
+pub fn write_masked(n: usize, mask: Mask, free: &Square, modules: &Square, masked: &mut Square)
+    requires { n ≤ SIDE }
     ensures { IsMaskedTo n mask free.now modules.now masked.old masked.new }
 {
     for block in 0..n / 12 {

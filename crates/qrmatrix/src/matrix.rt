@@ -1,5 +1,5 @@
 //! A drawn symbol.
-ghost use Rattle.std.specs.Prelude.{◌≡◌, ℕ, ◌<◌, ◌≤◌, ◌&&◌, All, IfSome, length};
+ghost use Rattle.std.specs.Prelude.{◌≡◌, ℕ, ◌<◌, ◌≤◌, ◌&&◌, All, length};
 ghost use Rattle.std.specs.Prelude.{slice_index};
 ghost use Rattle.qrdata.specs.Versions.{side_of, total_codewords};
 ghost use Rattle.qrmatrix.specs.Bits.{bit};
@@ -11,7 +11,7 @@ ghost use Rattle.qrmatrix.specs.Private.Squares.{IsWithin};
 use crate::penalty::penalty;
 use crate::square::{SIDE, Square};
 use crate::unmasked::Unmasked;
-use qrdata::{Codewords, Level, Version};
+use qrdata::{Codewords, Level, Mask, Version};
 use std::marker::Model;
 
 /// The width of the quiet zone on each side of a symbol, in modules (ISO/IEC 18004, 9.1).
@@ -21,7 +21,7 @@ pub const QUIET_ZONE: usize = 4;
 #[derive(Drop)]
 pub struct Matrix {
     side: usize,
-    mask: u8,
+    mask: Mask,
     modules: Square,
 }
 
@@ -33,7 +33,6 @@ impl Model for Matrix {
     ghost invariant = { λ m. record {
       least : 21 ≤ m.side;
       most : m.side ≤ side_of 10;
-      mask : m.mask < 8;
       within : IsWithin m.side m.modules;
     } };
 }
@@ -45,12 +44,11 @@ fn are_bytes(bytes: &[u8])
 {}
 
 impl Matrix {
-    /// Draws the codewords of a symbol under the given mask, 0 to 7, or else under the mask of the lowest penalty,
+    /// Draws the codewords of a symbol under the given mask, or else under the mask of the lowest penalty,
     /// the first of several (ISO/IEC 18004, 7.7 to 7.10). The modules read back as the version, the level and the
     /// codewords.
-    pub fn draw(version: Version, level: Level, mask: Option<u8>, codewords: &Codewords) -> Matrix
-        requires count { length codewords.now.items ≡ total_codewords version }
-        requires mask { IfSome mask (λ k. k < 8) }
+    pub fn draw(version: Version, level: Level, mask: Option<Mask>, codewords: &Codewords) -> Matrix
+        requires { length codewords.now.items ≡ total_codewords version }
         ensures { IsSymbolOf version level mask codewords.now.items result }
     {
         are_bytes(codewords);
@@ -92,10 +90,9 @@ impl Matrix {
         self.side
     }
 
-    /// Returns the number of the mask, 0 to 7.
-    pub fn mask(&self) -> u8
-        ensures value { result ≡ self.now.mask }
-        ensures bound { result < 8 }
+    /// Returns the mask.
+    pub fn mask(&self) -> Mask
+        ensures { result ≡ self.now.mask }
     {
         self.mask
     }

@@ -12,9 +12,9 @@ use crate::function::function_row;
 use crate::mask::write_masked;
 use crate::penalty::{penalty, penalty_below};
 use crate::placement::place;
-use crate::row::low_ones;
+use crate::row_bits::low_ones;
 use crate::square::Square;
-use qrdata::{Codewords, Level, Version};
+use qrdata::{Codewords, Level, Mask, Version};
 
 /// Draws the function patterns on two blank squares: the modules that they leave free, and those of theirs that are
 /// dark.
@@ -44,8 +44,7 @@ pub struct Unmasked {
 /// A symbol under a mask.
 #[derive(Drop)]
 pub struct Masked {
-    /// The number of the mask, 0 to 7.
-    pub mask: u8,
+    pub mask: Mask,
     /// The modules that are dark.
     pub modules: Square,
 }
@@ -80,8 +79,7 @@ impl Unmasked {
     }
 
     /// Returns the symbol under a mask.
-    pub fn under(&self, mask: u8) -> Masked
-        requires { mask < 8 }
+    pub fn under(&self, mask: Mask) -> Masked
         ensures mask { result.mask ≡ mask }
         ensures modules { (codewords : List ℕ) → Places self.now codewords
             → ShowsSymbol self.now codewords result }
@@ -98,8 +96,7 @@ impl Unmasked {
 
     /// Draws the symbol under a mask, with the format information for it, over a blank one or over that under another
     /// mask.
-    fn draw_under(&self, mask: u8, masked: &mut Masked)
-        requires { mask < 8 }
+    fn draw_under(&self, mask: Mask, masked: &mut Masked)
         ensures mask { masked.new.mask ≡ mask }
         ensures modules { (codewords : List ℕ) → Places self.now codewords
             → IsWithin (side_of self.now.version) masked.old.modules → ShowsSymbol self.now codewords masked.new }
@@ -141,13 +138,12 @@ impl Unmasked {
             ≡ chosen_mask self.now.version self.now.level None codewords }
         ensures modules { (codewords : List ℕ) → Places self.now codewords
             → ShowsSymbol self.now codewords result }
-        ensures bound { result.mask < 8 }
     {
-        let mut next = self.under(0);
+        let mut next = self.under(Mask::of(0));
         let mut lowest = self.penalty_of(&next);
         let mut best = next.copied();
-        for mask in 1..8 {
-            self.draw_under(mask, &mut next);
+        for number in 1..8 {
+            self.draw_under(Mask::of(number), &mut next);
             if let Some(penalty) = self.penalty_below(&next, lowest) {
                 lowest = penalty;
                 best = next.copied();

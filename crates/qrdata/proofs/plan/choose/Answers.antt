@@ -1,4 +1,3 @@
-use Rattle.qrdata.specs.Private.SmallestPlan.{IsSmallestPlan, NoPlan}
 use Rattle.qrdata.specs.Segments.{IsSegmentation}
 use Rattle.qrdata.proofs.FewestBitsLaws.{chosen_segments-is, chosen_segments-le_cost}
 use Rattle.qrdata.proofs.LengthLaws.{length-segments_bits}
@@ -10,8 +9,7 @@ returns-in-Some-clause-plan c =
     let level = c.args.level in
     let bytes = c.args.bytes.now in
     let plan = c.in-Some.plan in
-    let h : IsSmallestPlan c.args.min_version 10 level bytes plan =
-    rw c.number.ensures.value at c.in-Some.ensures.some in
+    let h = c.in-Some.ensures.some in
     let cut : IsSegmentation plan.version plan.segments bytes =
     rw h.same_segments (chosen_segments-is plan.version bytes) in
     record {
@@ -28,9 +26,7 @@ returns-in-Some-clause-plan c =
 
 pub returns-in-None-clause-refused : goal.returns-in-None-clause-refused
 returns-in-None-clause-refused c =
-    let none : NoPlan c.args.min_version 10 c.args.level c.args.bytes.now =
-    rw c.number.ensures.value at c.in-None.ensures.none in
     record {
-      version = chosen_version-none c.args.min_version c.args.level c.args.bytes.now none;
-      nowhere = λ v from to. NoneFits-from_chosen v c.args.level c.args.bytes.now (none v from to);
+      version = chosen_version-none c.args.min_version c.args.level c.args.bytes.now c.in-None.ensures.none;
+      nowhere = λ v from to. NoneFits-from_chosen v c.args.level c.args.bytes.now (c.in-None.ensures.none v from to);
     }

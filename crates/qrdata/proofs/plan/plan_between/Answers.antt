@@ -14,9 +14,9 @@ returns-then-bytes-capacity-clause-none c = λ v from to.
     omega (
       arith,
       c.if-bytes-capacity.true,
-      (rw c.of-widest.ensures at c.capacity.ensures.value),
+      c.capacity.ensures.value,
       third v segments c.args.bytes.now (chosen_segments-is v c.args.bytes.now),
-      capacity-rising c.args.level v c.args.highest to c.requires.range.2,
+      capacity-rising c.args.level v c.args.highest to c.known.ensures.1,
     )
 
 pub overflow_cast-bits : goal.overflow_cast-bits
@@ -28,7 +28,7 @@ pub plan_of-requires-clause-table : goal.plan_of-requires-clause-table
 plan_of-requires-clause-table c =
     let room = c.in_ok-version.ensures.some in
     let same = c.requires.same c.in_ok-version.version room.from room.to in
-    let firsts = rw c.of-widest.ensures at c.fill-bits.ensures.firsts in
+    let firsts = c.fill-bits.ensures.firsts in
     let wide = capacity_as_wide c.in_ok-version.version c.args.highest c.args.level same room.known.0 room.known.1 in
     record {
       few = c.requires.few;
@@ -43,12 +43,12 @@ plan_of-requires-clause-bits c =
     let room = c.in_ok-version.ensures.some in
     FitsBits-of c.in_ok-version.version c.args.highest c.args.level c.fill-bits.result
     (c.requires.same c.in_ok-version.version room.from room.to) room.known c.args.bytes.now c.requires.few
-    (rw c.of-widest.ensures at c.fill-bits.ensures.bits) room.fits
+    c.fill-bits.ensures.bits room.fits
 
 pub returns-clause-some : goal.returns-clause-some
 returns-clause-some c =
     let room = c.in_ok-version.ensures.some in
-    let fewest = rw c.of-widest.ensures at c.fill-bits.ensures.bits in
+    let fewest = c.fill-bits.ensures.bits in
     let bits = FitsBits-of c.in_ok-version.version c.args.highest c.args.level c.fill-bits.result
     (c.requires.same c.in_ok-version.version room.from room.to) room.known c.args.bytes.now c.requires.few fewest
     room.fits in
@@ -70,7 +70,7 @@ returns-clause-some c =
 pub returns-in_err-version-clause-none : goal.returns-in_err-version-clause-none
 returns-in_err-version-clause-none c = rw c.from_residual.ensures (λ v from to. omega (
   arith,
-  (rw c.of-widest.ensures at c.fill-bits.ensures.bits),
+  c.fill-bits.ensures.bits,
   c.in_err-version.ensures.none v from (omega (arith, to)),
   fewest_bits-below v c.args.highest (c.requires.same v from to) c.args.bytes.now,
 ))

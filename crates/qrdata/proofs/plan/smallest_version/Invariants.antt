@@ -3,4 +3,4 @@ use Rattle.qrdata.proofs.plan.smallest_version.Given as goal
 
 -- no version before has room
 abbrev pub invariant-loop-number : goal.invariant-loop-number
-invariant-loop-number l = HaveNoRoom l.lowest l.number l.level l.bits
+invariant-loop-number l = HaveNoRoom l.fn.lowest l.number l.level l.bits

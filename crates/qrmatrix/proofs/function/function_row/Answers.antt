@@ -20,6 +20,6 @@ returns c =
       c.versions.ensures,
       c.side-n.ensures.value,
     )
-    refl in
+    (refl {a = function_row v c.args.y}) in
     subst (HasFunctions v c.args.y) (sym e)
     (function_row_is v c.side-n.ensures.known.0 c.side-n.ensures.known.1 c.args.y c.requires)

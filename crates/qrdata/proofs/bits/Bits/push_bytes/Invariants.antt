@@ -5,5 +5,7 @@ use Rattle.qrdata.proofs.bits.Bits.push_bytes.Given as goal
 
 -- what is written and what is to come are all the bits, and there is room for them
 abbrev pub invariant-loop-byte : goal.invariant-loop-byte
-invariant-loop-byte l = (bits_in l.self ++ byte_bits (drop l.byte-index l.bytes) ≡ bits_in l.fn.self
-    ++ byte_bits l.bytes) × (length (bits_in l.self) + 8 * (length l.bytes - l.byte-index) ≤ 2192)
+invariant-loop-byte l = record {
+  written : bits_in l.self ++ byte_bits (drop l.byte-index l.bytes) ≡ bits_in l.fn.self ++ byte_bits l.bytes;
+  room : length (bits_in l.self) + 8 * (length l.bytes - l.byte-index) ≤ 2192;
+}

@@ -48,7 +48,7 @@ loop-count-preserved c =
     let pushed : c.push.new.self.items ≡ codewords ++ value / 2 ^ n ∷ [] =
     rw (← c.power_of_two-unit-in-loop-count.ensures) c.push.ensures.items in
     rw c.power_of_two-unit-in-loop-count.ensures (record {
-      written = rw (pushed, byte_bits-append, byte_bits-single, append_assoc, bits_of-low)
+      written = rw (pushed, byte_bits-append, byte_bits-single, append_assoc (byte_bits codewords), bits_of-low)
           (rw parts at c.loop-count.invariant.written);
       small = mod-lt value (pow_pos n);
       few = omega (arith, c.loop-count.invariant.few);

@@ -1,9 +1,10 @@
-use Rattle.std.proofs.Common.{◌≡◌, ◌+◌, ◌-◌, ◌++◌, drop, take, length, get_or, append_assoc, append-nil, arith, ap}
+use Rattle.std.proofs.Common.{◌≡◌, ◌+◌, ◌-◌, ◌++◌, drop, take, length, get_or, append-nil, arith, ap}
 use Rattle.std.proofs.Common.{length-append, Bool}
 use Rattle.std.proofs.lemmas.List.{drop-drop, drop_all, drop_more, length-drop}
 use Rattle.std.proofs.lemmas.List.Sums.{sum_by-cons}
 use Rattle.qrdata.specs.Private.BitsInCodewords.{bits_in}
 use Rattle.qrdata.specs.Segments.{segment_bits, segment_length, segments_bits}
+use Rattle.qrdata.proofs.BitStringLaws.{next_written}
 use Rattle.qrdata.proofs.LengthLaws.{default_segment, length-segment_bits_front}
 use Rattle.qrdata.proofs.bits.Bits.push_segments.Goals as goal
 
@@ -17,26 +18,27 @@ loop-segment-preserved c =
     let rest = drop place c.args.bytes.now in
     let s = get_or segments i default_segment in
     let next = drop_more segments i default_segment c.loop-segment-test.true in
-    let held = rw next at c.loop-segment.invariant.3 in
+    let held = rw next at c.loop-segment.invariant.cut in
     let piece : place + c.from.result - place ≡ s.len = omega (arith, c.from.ensures) in
     let written : bits_in c.push_segment.new.self ≡ bits_in c.loop-segment.self
-    ++ segment_bits version s.mode (take s.len rest) = rw piece at c.push_segment.ensures in (
-      rw (written, c.from.ensures, append_assoc, ← drop-drop s.len place c.args.bytes.now)
-          (rw next at c.loop-segment.invariant.0),
-      omega (
+    ++ segment_bits version s.mode (take s.len rest) = rw piece at c.push_segment.ensures in
+    record {
+      written = rw (c.from.ensures, ← drop-drop s.len place c.args.bytes.now)
+          (next_written _ _ _ written (rw next at c.loop-segment.invariant.written));
+      room = omega (
         arith,
         ap length written,
         length-append {A = Bool},
         length-segment_bits_front version s.mode s.len rest held.0.inside,
         sum_by-cons (segment_length version) s (drop (i + 1) segments),
-        (rw next at c.loop-segment.invariant.1),
-      ),
-      omega (arith, held.0.inside, length-drop place c.args.bytes.now, c.from.ensures, c.loop-segment.invariant.2),
-      rw (c.from.ensures, ← drop-drop s.len place c.args.bytes.now) held.1,
-    )
+        (rw next at c.loop-segment.invariant.room),
+      );
+      inside = omega (arith, held.0.inside, length-drop place c.args.bytes.now, c.from.ensures);
+      cut = rw (c.from.ensures, ← drop-drop s.len place c.args.bytes.now) held.1;
+    }
 
 pub returns : goal.returns
 unfolding segments_bits
 returns c =
     rw (drop_all c.loop-segment.segment-index c.args.segments.now c.loop-segment-test.false, append-nil)
-    at c.loop-segment.invariant.0
+    at c.loop-segment.invariant.written

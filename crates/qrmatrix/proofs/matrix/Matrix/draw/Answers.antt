@@ -50,7 +50,7 @@ returns c =
       mask = mask_is c;
       modules = shown c;
       reads = rw (same, c.side.ensures.value) (reads_back v c.args.level mask codewords c.side.ensures.known.0
-          c.side.ensures.known.1 (below c) c.requires.count bytes);
+          c.side.ensures.known.1 (below c) c.requires bytes);
     }
 
 pub invariant_of-result : goal.invariant_of-result
@@ -58,7 +58,6 @@ invariant_of-result c =
     record {
       least = let a = c.side.ensures.known.0 in omega arith;
       most = let a = c.side.ensures.known.1 in omega arith;
-      mask = below c;
       within = λ x y out.
           shown c x y
           ∙ module_outside c.args.version c.args.level c.match-mask.masked.mask c.args.codewords.now.items x y
