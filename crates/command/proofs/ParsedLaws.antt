@@ -1,14 +1,15 @@
 -- What a parse that succeeds has checked, by the rules of the command.
-use Rattle.std.proofs.Common.{◌≡◌, ◌∙◌, ◌<◌, ◌⊎◌, ◌==◌, ◌||◌, not, Err, ap, refl, sym, subst, codes, cond, drop, ℕ}
+use Rattle.std.proofs.lemmas.Option.{IfSome_then}
+use Rattle.std.proofs.lemmas.Bool.Decides.{nat_tests}
+use Rattle.std.proofs.Common.{◌≡◌, ◌∙◌, ◌<◌, ◌⊎◌, ◌||◌, not, Err, ap, refl, sym, subst, codes, ℕ}
 use Rattle.std.proofs.Common.{zero, suc, Bool, true, false, List, [], ◌∷◌, length, map, Option, Some, None, inl, inr}
 use Rattle.std.proofs.Common.{arith}
-use Rattle.std.specs.Prelude.{IfSome, Ok, Result, option_map, slice_get, pos, unwrap_or}
+use Rattle.std.specs.Prelude.{IfSome, Ok, Result, option_map, slice_get, pos}
 use Rattle.std.specs.Result.{OnOk, is_err}
 use Rattle.std.specs.List.{All, Any}
 use Rattle.std.specs.Str.{bytes_eq}
-use Rattle.std.specs.Str.Parse.{IsNumeral, starts_with_minus, without_leading_plus}
 use Rattle.std.specs.Borrow.{Bor}
-use Rattle.std.proofs.lemmas.Bool.{eqb-true, ne_eqb}
+use Rattle.std.proofs.lemmas.Bool.{eqb-true}
 use Rattle.std.proofs.lemmas.Int.{ints}
 use Rattle.std.proofs.lemmas.List.Elements.{All-get_or}
 use Rattle.std.proofs.lemmas.Slice.Eq.{bytes_eq-Decides}
@@ -51,23 +52,15 @@ abbrev pub SomeRule : (Rule → Type 0) → Text → List Rule → Type 0
 SomeRule P id [] = ⊥
 SomeRule P id (r ∷ rs) = EitherBy (bytes_eq r.id id) (P r) (SomeRule P id rs)
 
-here : (t : Bool) (A B : Type 0) → t ≡ true → A → EitherBy t A B
-here true A B e a = inl a
-here false A B e a = cc
-
-later : (t : Bool) (A B : Type 0) → B → EitherBy t A B
-later true A B b = inr b
-later false A B b = b
-
 -- an argument of this id whose rule has P makes some rule of the id have it
 some_rule : (P : Rule → Type 0) (id : Text) (xs : List Arg)
     → Any (λ a. (bytes_eq a.id.now id ≡ true) × P (rule_of a)) xs → SomeRule P id (map rule_of xs)
 some_rule P id [] (k, a, inside, at, holds) = absurd (omega arith)
 some_rule P id (x ∷ xs) (zero, a, inside, at, (same, p)) =
-    here (bytes_eq x.id.now id) _ _ (ap (λ (y : Arg). bytes_eq y.id.now id) at ∙ same)
-    (subst (λ (y : Arg). P (rule_of y)) (sym at) p)
+    let key : bytes_eq x.id.now id ≡ true = ap (λ (y : Arg). bytes_eq y.id.now id) at ∙ same in
+    let holds : P (rule_of x) = subst (λ (y : Arg). P (rule_of y)) (sym at) p in grind (arith, key, holds)
 some_rule P id (x ∷ xs) (suc k, a, inside, at, holds) =
-    later (bytes_eq x.id.now id) _ _ (some_rule P id xs (k, a, omega arith, at, holds))
+    let more = some_rule P id xs (k, a, omega arith, at, holds) in grind (arith, more)
 
 abbrev pub Accepted : Text → Rule → Type 0
 Accepted v r = Accepts r.ignore_case (parser_of_value r.parser) v
@@ -133,34 +126,11 @@ module _ (c : Command) (f : Found) (passes : ValuesPass c f) (no_groups : groups
 
 -- ---- numbers
 
-without_minus-cond : (t : Text) → without_minus t ≡ cond (starts_with_minus t) (drop 1 t) t
-without_minus-cond [] = refl
-without_minus-cond (x ∷ xs) = go (x == 45)
-  where
-    go : (b : Bool) → unwrap_or (cond b (Some xs) None) (x ∷ xs) ≡ cond b xs (x ∷ xs)
-    go true = refl
-    go false = refl
-
-no_plus : (ds : Text) → IsNumeral 10 ds → without_leading_plus ds ≡ ds
-no_plus [] h = refl
-no_plus (d ∷ ds) h =
-    let plus : (d == 43) ≡ false = ne_eqb _ _ (λ e. omega (arith, digit_from_value d h.1.0)) in
-    ap (λ (b : Bool). drop (cond b 1 0) (d ∷ ds)) plus
-
 -- a text in a range with no negative number reads as a number in it
 signed_number : (low high : ℕ) (v : Text) → IsSignedIn (pos low) (pos high) v → IsNumberIn low high (without_minus v)
-signed_number low high v passed = rw without_minus-cond (go (starts_with_minus v) refl)
-  where
-    go : (b : Bool) → starts_with_minus v ≡ b → IsNumberIn low high (cond (starts_with_minus v) (drop 1 v) v)
-    go true minus =
-        let low_ok = rw minus at passed.2 in
-        let numeral : IsNumeral 10 (drop 1 v) = rw minus at passed.0 in
-        rw (minus, no_plus (drop 1 v) numeral) (numeral, omega (arith, ints), omega (arith, ints))
-    go false minus =
-        let low_ok = rw minus at passed.2 in
-        let high_ok = rw minus at passed.3 in
-        let numeral = rw minus at passed.0 in
-        rw minus (numeral, omega (arith, ints), omega (arith, ints))
+signed_number low high [] passed = grind (arith, nat_tests, ints, passed)
+signed_number low high (d ∷ ds) passed =
+    let digit = digit_from_value in grind (arith, nat_tests, ints, passed, digit)
 
 -- ---- this command
 
@@ -171,13 +141,9 @@ number_holds : (f : Found) (id : Text) (low high : ℕ) → IfSome (one_text f i
     → ((v : Text) → SomeRule (Accepted v) id rules → IsSignedIn (pos low) (pos high) v)
     → ((how : Reading) → SomeRule (ReadHow how) id rules → reading.WithoutMinus ≡ how)
     → HoldsNumber low high id f
-number_holds f id low high read accepted how = go (one_text f id) read
-  where
-    go : (o : Option Text) → IfSome o (ReadByRules rules id) → IfSome o (IsNumberIn low high)
-    go None h = tt
-    go (Some text) h =
-        let is : text ≡ without_minus h.value = h.is ∙ ap (λ r. read_as r h.value) (sym (how h.how h.read)) in
-        rw is (signed_number low high h.value (accepted h.value h.accepted))
+number_holds f id low high read accepted how = IfSome_then (one_text f id) read (λ text h.
+    let is : text ≡ without_minus h.value = h.is ∙ ap (λ r. read_as r h.value) (sym (how h.how h.read)) in
+    rw is (signed_number low high h.value (accepted h.value h.accepted)))
 
 only : {A : Type 0} → A ⊎ ⊥ → A
 only (inl a) = a
@@ -185,24 +151,15 @@ only (inr b) = absurd b
 
 bool_texts : (v : Text) → (bytes_eq v (codes "true") || bytes_eq v (codes "false")) ≡ true
     → (v ≡ codes "true") ⊎ (v ≡ codes "false")
-bool_texts v h = go (bytes_eq v (codes "true")) refl
-  where
-    go : (b : Bool) → bytes_eq v (codes "true") ≡ b → (v ≡ codes "true") ⊎ (v ≡ codes "false")
-    go true e = inl ((bytes_eq-Decides v (codes "true")).0 e)
-    go false e =
-        let off : bytes_eq v (codes "false") ≡ true = rw e at h in
-        inr ((bytes_eq-Decides v (codes "false")).0 off)
+bool_texts v h =
+    let on = bytes_eq-Decides v (codes "true") in
+    let off = bytes_eq-Decides v (codes "false") in grind (arith, h, on, off)
 
 flag_holds : (f : Found) → IfSome (one_text f (codes "escapes")) (ReadByRules rules (codes "escapes"))
     → IfSome (one_text f (codes "escapes")) (λ t. (t ≡ codes "true") ⊎ (t ≡ codes "false"))
-flag_holds f read = go (one_text f (codes "escapes")) read
-  where
-    go : (o : Option Text) → IfSome o (ReadByRules rules (codes "escapes"))
-        → IfSome o (λ t. (t ≡ codes "true") ⊎ (t ≡ codes "false"))
-    go None h = tt
-    go (Some text) h =
-        let is : text ≡ h.value = h.is ∙ ap (λ r. read_as r h.value) (sym (only h.read)) in
-        rw is (bool_texts h.value (only h.accepted))
+flag_holds f read = IfSome_then (one_text f (codes "escapes")) read (λ text h.
+    let is : text ≡ h.value = h.is ∙ ap (λ r. read_as r h.value) (sym (only h.read)) in
+    rw is (bool_texts h.value (only h.accepted)))
 
 no_items : {X : Type 0} (xs : List X) → is_empty xs ≡ true → xs ≡ []
 no_items [] e = refl
@@ -211,8 +168,7 @@ no_items (x ∷ xs) e =
     absurd (omega arith)
 
 not_true : (b : Bool) → not b ≡ true → b ≡ false
-not_true true e = cc
-not_true false e = refl
+not_true b e = grind (arith, e)
 
 named : (x : ℕ) (xs : Text) → x ∷ xs ≡ [] → ⊥
 named x xs e = cc
@@ -261,9 +217,4 @@ pub refused : (kinds : Kinds) (rows : List Row) (e : Error) (fault : ArgumentsFa
     → HasKind kinds e → (kind_of e ≡ OutOfMemory → fault ≡ Memory) → Refuses (invocation_refused (kind_of e)) fault
     → Chooses (invocation_by kinds rows) (Err fault)
 unfolding IsOneAtMost
-refused kinds rows e fault one (inl memory) as_memory other = rw (as_memory memory) tt
-refused [] rows e fault one (inr among) as_memory other = absurd among
-refused (k ∷ []) rows e fault one (inr (inl is)) as_memory other =
-    subst (λ x. Refuses (invocation_refused x) fault) is other
-refused (k ∷ []) rows e fault one (inr (inr never)) as_memory other = absurd never
-refused (k ∷ l ∷ ks) rows e fault one (inr among) as_memory other = absurd one
+refused kinds rows e fault one has as_memory other = grind (arith, one, has, as_memory, other)

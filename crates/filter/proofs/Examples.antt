@@ -18,7 +18,7 @@ use Rattle.qrmatrix.specs.Reading.{read_bits, read_format, read_matrix, shows_fu
 use Rattle.picture.specs.Reading.{pbm_pixels, ascii_pixels, sample}
 use Rattle.labelcore.specs.declared.options.Format.TheVariants.{Pbm, Ascii}
 use Rattle.qrdata.specs.declared.level.Level.TheVariants.{M}
-use Rattle.labelcore.specs.OptionValues.{OptionValues}
+use Rattle.labelcore.specs.declared.options.Options.{Options}
 use Rattle.std.specs.Fmt.{digits}
 use Rattle.labelcore.specs.LineItem.{request, head_read, symbology_named}
 use Rattle.labelcore.specs.HeldLine.{line_limit}
@@ -32,8 +32,11 @@ use Rattle.filter.specs.Output.{Images, Messages, drawn_symbols, ended_script, e
 use Rattle.filter.specs.Output.{script, sent, status_of}
 use Rattle.filter.specs.Readback.{read_image, read_modules}
 
-abbrev settings : OptionValues
-settings = record { format = Pbm; scale = 1; height = 1; level = M; min_version = 1; mask = None; escapes = false }
+abbrev settings : Options
+settings = record {
+  run = record { format = Pbm; scale = 1; escapes = false };
+  label = record { height = 1; level = M; min_version = 1; mask = None };
+}
 
 abbrev input : List (List ℕ)
 input = codes "ean8 7351353" ∷ codes "pdf x" ∷ codes "#" ∷ codes "ean8 73513530" ∷ []
@@ -42,12 +45,12 @@ full_data_of_input : map (λ (l : Symbol). l.full) (drawn_symbols (events_after 
 unfolding drawn_symbols events_after outcome symbol_of request head_read symbology_named line_limit
 full_data_of_input = refl
 
-images_of_input : sent settings Images (events_after settings 0 input)
+images_of_input : sent settings.run Images (events_after settings 0 input)
     ≡ codes "P1\n81 1\n0000000101011101101111010110001001100101010100001010011101000010100010\n01010000000\n"
 unfolding events_after outcome symbol_of request head_read symbology_named line_limit digits number_set_a
 images_of_input = refl
 
-messages_of_input : sent settings Messages (events_after settings 0 input)
+messages_of_input : sent settings.run Messages (events_after settings 0 input)
     ≡ codes "line 2: unknown symbology\nline 4: check digit is 0, should be 7\n"
 unfolding events_after outcome symbol_of request head_read symbology_named line_limit digits
 messages_of_input = refl
@@ -63,17 +66,17 @@ unfolding beside
 zones = refl
 
 -- a digit more than with the check digit, and one less than without it
-wrong_numbers : map (λ bytes. symbol_of settings Ean13 bytes) (codes "40063813339" ∷ codes "40063813339311" ∷ []) ≡
+wrong_numbers : map (λ bytes. symbol_of settings.label Ean13 bytes) (codes "40063813339" ∷ codes "40063813339311" ∷ []) ≡
     Err (WrongNumberOfDigits 11) ∷ Err (WrongNumberOfDigits 14) ∷ []
 unfolding symbol_of
 wrong_numbers = refl
 
-wrong_numbers_8 : map (λ bytes. symbol_of settings Ean8 bytes) (codes "735135" ∷ codes "735135377" ∷ []) ≡
+wrong_numbers_8 : map (λ bytes. symbol_of settings.label Ean8 bytes) (codes "735135" ∷ codes "735135377" ∷ []) ≡
     Err (WrongNumberOfDigits 6) ∷ Err (WrongNumberOfDigits 9) ∷ []
 unfolding symbol_of
 wrong_numbers_8 = refl
 
-wrong_numbers_a : map (λ bytes. symbol_of settings UpcA bytes) (codes "0360002914" ∷ codes "0360002914522" ∷ []) ≡
+wrong_numbers_a : map (λ bytes. symbol_of settings.label UpcA bytes) (codes "0360002914" ∷ codes "0360002914522" ∷ []) ≡
     Err (WrongNumberOfDigits 10) ∷ Err (WrongNumberOfDigits 13) ∷ []
 unfolding symbol_of
 wrong_numbers_a = refl
@@ -83,7 +86,7 @@ line_numbers : map line_number (0 ∷ 1 ∷ 18446744073709551613 ∷ 18446744073
     1 ∷ 2 ∷ 18446744073709551614 ∷ 18446744073709551615 ∷ 18446744073709551615 ∷ []
 line_numbers = refl
 
-second_message : sent settings Messages (events_after settings 9 (codes "#" ∷ codes "pdf x" ∷ []))
+second_message : sent settings.run Messages (events_after settings 9 (codes "#" ∷ codes "pdf x" ∷ []))
     ≡ codes "line 11: unknown symbology\n"
 unfolding events_after outcome symbol_of request head_read symbology_named line_limit digits
 second_message = refl
@@ -92,9 +95,9 @@ second_message = refl
 unended : List ℕ
 unended = codes "pdf x\n#\nqr"
 
-numbers_in_a_script : (sent settings Messages (script settings unended)
+numbers_in_a_script : (sent settings.run Messages (script settings unended)
     ≡ codes "line 1: unknown symbology\nline 3: no data\n")
-    × (sent settings Messages (ended_script settings unended) ≡ codes "line 1: unknown symbology\n")
+    × (sent settings.run Messages (ended_script settings unended) ≡ codes "line 1: unknown symbology\n")
 unfolding unended events_after outcome symbol_of request head_read symbology_named line_limit digits lines ended_lines
     open_line
 numbers_in_a_script = (refl, refl)

@@ -2,7 +2,7 @@
 use Rattle.filter.proofs.Words.{◌≡◌, ◌≢◌, ℕ, ◌+◌, Bool, ◌||◌, true, false, List, [], ◌∷◌, ◌++◌, length, append_assoc}
 use Rattle.filter.proofs.Words.{refl, ap, sym, ◌∙◌, arith, add-zero, zero-add, if◌then◌else◌, ◌-◌, ◌^◌, min, take}
 use Rattle.filter.proofs.Words.{Result, length-take, or-false, append-nil, LF, lines, ended_lines, open_line}
-use Rattle.filter.proofs.Words.{unless_empty, HasNoLF, IsCut, with_ends, OptionValues, Event, of_line, outcome}
+use Rattle.filter.proofs.Words.{unless_empty, HasNoLF, IsCut, with_ends, Options, Event, of_line, outcome}
 use Rattle.filter.proofs.Words.{events_after, ended_script, script, flushes, is_refusal, line_number, status_of}
 use Rattle.filter.proofs.Words.{Clean, Refused, All-append, held_line, line_limit, FilterState, IsAfter, Sends, taken}
 use Rattle.filter.proofs.Words.{Stops, Took, RunFault, MatchResult}
@@ -29,7 +29,7 @@ unfolding status_of
 status_of-flushes xs = ap (λ (b : Bool). if b then Refused else Clean)
     (list_any-append is_refusal xs (flushes ∷ []) ∙ or-false (list_any is_refusal xs))
 
-module _ (options : OptionValues) where
+module _ (options : Options) where
   events_after-append : (n : ℕ) (xs ys : List (List ℕ))
       → events_after options n (xs ++ ys) ≡ events_after options n xs ++ events_after options (n + length xs) ys
   unfolding events_after
@@ -106,14 +106,14 @@ ended_lines-more text bytes no_lf = ended_lines-cut (cut_more text bytes no_lf)
 pub open_line-more : (text bytes : List ℕ) → HasNoLF bytes → open_line (text ++ bytes) ≡ open_line text ++ bytes
 open_line-more text bytes no_lf = open_line-cut (cut_more text bytes no_lf)
 
-module _ (options : OptionValues) (state : FilterState) (text : List ℕ) (at : IsAfter options state text) where
+module _ (options : Options) (state : FilterState) (text : List ℕ) (at : IsAfter options state text) where
   -- the number of the line that ends
   pub line_number-counts : (n : ℕ) → n ≡ min (state.line_count + 1) (2 ^ 64 - 1)
       → n ≡ line_number (length (ended_lines text))
   line_number-counts n e = omega (arith, at.line_count)
 
   -- what holds of the line that is held, whichever it is, holds of the open line
-  pub of_open_line : (P : OptionValues → List ℕ → ℕ → Type 0) (n : ℕ) → n ≡ min (state.line_count + 1) (2 ^ 64 - 1)
+  pub of_open_line : (P : Options → List ℕ → ℕ → Type 0) (n : ℕ) → n ≡ min (state.line_count + 1) (2 ^ 64 - 1)
       → ((line : List ℕ) → state.line ≡ held_line line → P state.options line n)
       → P options (open_line text) (line_number (length (ended_lines text)))
   of_open_line P n counts each =
@@ -124,14 +124,14 @@ module _ (options : OptionValues) (state : FilterState) (text : List ℕ) (at : 
   -- what is sent of the line that is held ends the open line
   pub Sends-line : {T : Type 0} {out err : List ℕ → Type 0} (r : Result T RunFault) (n : ℕ)
       → n ≡ min (state.line_count + 1) (2 ^ 64 - 1) → ((line : List ℕ) → state.line ≡ held_line line → MatchResult r
-      (λ _. Took state.options (taken out err) (of_line n (outcome state.options line) ∷ []))
-      (Stops state.options (taken out err) (of_line n (outcome state.options line) ∷ [])))
-      → Sends {T = T} options (taken out err) (ended_script options text) (ended_script options (text ++ LF ∷ [])) r
+      (λ _. Took state.options.run (taken out err) (of_line n (outcome state.options line) ∷ []))
+      (Stops state.options.run (taken out err) (of_line n (outcome state.options line) ∷ [])))
+      → Sends {T = T} options.run (taken out err) (ended_script options text) (ended_script options (text ++ LF ∷ [])) r
   Sends-line {out = out} {err = err} r n counts each = record {
     added = of_line (line_number (length (ended_lines text))) (outcome options (open_line text)) ∷ [];
     grown = ended_script-lf options text;
     sends = of_open_line (λ own line m. let events = of_line m (outcome own line) ∷ [] in
-        MatchResult r (λ _. Took own (taken out err) events) (Stops own (taken out err) events)) n counts each;
+        MatchResult r (λ _. Took own.run (taken out err) events) (Stops own.run (taken out err) events)) n counts each;
   }
 
 -- what is held of a line is empty where the line is

@@ -2,12 +2,13 @@
 use Rattle.filter.proofs.Words.{All, IfOk, nat_lt, ⊤, IfSome, ok_or, option_and_then, ◌≡◌, ℕ, ◌+◌, ◌*◌, ◌^◌, ◌<◌, ◌≤◌}
 use Rattle.filter.proofs.Words.{List, [], ◌∷◌, ◌++◌, map, Some, refl, ap, arith, Result, Ok, Err, subst, Bool, true}
 use Rattle.filter.proofs.Words.{false, length, sym, ◌∙◌, get_or, inl, inr, ◌==◌, eq-eqb, Option, None, and-false}
-use Rattle.filter.proofs.Words.{All-from_recursion, recursion_from_All, All-map, All-weaker, lines, skipped, refused}
-use Rattle.filter.proofs.Words.{drawn, outcome_of, Outcome, Request, item, OptionValues, IsMask, Fault, Ean13, Ean8}
+use Rattle.filter.proofs.Words.{All-from_get_or, All-from_recursion, recursion_from_All, All-map, All-weaker, lines, skipped, refused}
+use Rattle.filter.proofs.Words.{drawn, outcome_of, Outcome, Request, item, LabelValues, Options, RunValues, IsMask, Fault, Ean13, Ean8}
 use Rattle.filter.proofs.Words.{UpcA, Code128, Qr, Event, Images, of_line, flushes, events_after, script, sent}
 use Rattle.filter.proofs.Words.{drawn_symbols, image_of, picture_of, text_of, outcome, outcome_of_item, Symbol}
 use Rattle.filter.proofs.Words.{quiet_zone, symbol_of, linear_symbol, qr_modules, cases_lt, le-ltb, get_or_past}
 use Rattle.std.specs.List.{AllByRecursion, flat_map, list_all}
+use Rattle.std.proofs.Common.{Fits, w8}
 use Rattle.std.proofs.Math.Nat.{mul-pos, mul-le-mul_right}
 use Rattle.labelcore.proofs.LinesLaws.{AllOf-lines}
 use Rattle.labelcore.specs.declared.options.Format.{Format}
@@ -24,7 +25,6 @@ use Rattle.picture.proofs.SampleLaws.{sample-raster, value_at-raster, common_row
 use Rattle.filter.specs.Readback.{cut, pixels, read_image, AreRead, IsRead, ReadsBack, read_modules}
 use Rattle.std.proofs.lemmas.List.FromFn.{get_or-map-range_with_len, length-map-range_with_len}
 use mathlib.Core.Path.{fun_ext}
-use Rattle.gf256.proofs.GeneratorLaws.{HasRoots-remainder, IsRemainder-ec_codewords_of}
 use Rattle.labelcore.specs.Settings.{◌>>=◌}
 use Rattle.labelcore.specs.declared.fault.Fault.TheVariants.{DoesNotFit}
 use Rattle.linear.specs.Code128.{full_code128, code128_row}
@@ -122,58 +122,58 @@ mask_below : (asked : Option ℕ) → IsMask asked → IfSome asked (λ mask. ma
 mask_below None fits = tt
 mask_below (Some mask) fits = omega arith
 
-module _ (options : OptionValues) (range : AreInRange options) where
+module _ (run : RunValues) (label : LabelValues) (range : AreInRange run label) where
   -- bars of a row that is read and short
   linear_readable : (symbology : Symbology) (row : List ℕ → List Bool) (reading : List Bool → Option (List ℕ))
       → ((rows : List (List Bool)) → read_modules symbology rows ≡ option_and_then reading (common_row rows))
       → reading [] ≡ None → (found : Result (List ℕ) Refusal) → IfOk found (λ full. reading (row full) ≡ Some full)
       → IfOk found (λ full. length (row full) ≤ 1795)
-      → HasReadable (outcome_of (linear_symbol symbology row options found))
+      → HasReadable (outcome_of (linear_symbol symbology row label found))
   linear_readable symbology row reading rule none (Err refusal) read short = tt
   linear_readable symbology row reading rule none (Ok full) read short = record {
     some_columns = some_row reading (row full) full none read;
     columns = short;
     some_rows = range.height_low;
     rows = range.height_high;
-    read = rule (raster (bars (row full) options.height)).rows
-        ∙ (ap (option_and_then reading) (common_row-bars (row full) options.height range.height_low) ∙ read);
+    read = rule (raster (bars (row full) label.height)).rows
+        ∙ (ap (option_and_then reading) (common_row-bars (row full) label.height range.height_low) ∙ read);
   }
 
   -- the modules of the version that is chosen
   modules_readable : (bytes : List ℕ) (version : ℕ) → AreBytes bytes
-      → chosen_version options.min_version options.level bytes ≡ Some version
-      → IsReadable (record { symbology = Qr; full = bytes; modules = qr_modules options bytes version })
+      → chosen_version label.min_version label.level bytes ≡ Some version
+      → IsReadable (record { symbology = Qr; full = bytes; modules = qr_modules label bytes version })
   unfolding qr_modules
   modules_readable bytes version w chosen =
-      let level = options.level in
-      let found = chosen_version-found options.min_version level bytes version chosen in
+      let level = label.level in
+      let found = chosen_version-found label.min_version level bytes version chosen in
       let low : 1 ≤ version = omega (arith, range.version_low, found.0) in
       let segments = chosen_segments version bytes in
       let codewords = symbol_codewords version level segments bytes in
       let read = data_in-symbol_codewords version level segments bytes low found.1 w
-      (chosen_segments-is version bytes) found.2 IsRemainder-ec_codewords_of HasRoots-remainder in
+      (chosen_segments-is version bytes) found.2 in
       let are_bytes = All-from_recursion (λ b. b < 256) codewords
       (AreBytes-symbol_codewords version level segments bytes low found.1) in
-      let mask = chosen_mask version level options.mask codewords in
-      let below = chosen_mask-lt version level options.mask codewords (mask_below options.mask range.mask_fits) in
+      let mask = chosen_mask version level label.mask codewords in
+      let below = chosen_mask-lt version level label.mask codewords (mask_below label.mask range.mask_fits) in
       qr_readable (side_of version) (module_at version level mask codewords)
       (module_outside version level mask codewords) version level codewords bytes (omega arith)
       (omega (arith, found.1)) (reads_back version level mask codewords low found.1 below
       (length-read version level codewords bytes read) are_bytes) read
 
   qr_is_readable : (bytes : List ℕ) → AreBytes bytes → (found : Option ℕ)
-      → chosen_version options.min_version options.level bytes ≡ found
-      → HasReadable (outcome_of (ok_or found (DoesNotFit options.level) >>= (λ version. Ok (record {
+      → chosen_version label.min_version label.level bytes ≡ found
+      → HasReadable (outcome_of (ok_or found (DoesNotFit label.level) >>= (λ version. Ok (record {
         symbology = Qr;
         full = bytes;
-        modules = qr_modules options bytes version;
+        modules = qr_modules label bytes version;
       }))))
   qr_is_readable bytes w None e = tt
   qr_is_readable bytes w (Some version) e = modules_readable bytes version w e
 
   -- what is drawn of data is read as its full data
   symbol_readable : (symbology : Symbology) (bytes : List ℕ) → AreBytes bytes
-      → HasReadable (outcome_of (symbol_of options symbology bytes))
+      → HasReadable (outcome_of (symbol_of label symbology bytes))
   unfolding symbol_of
   symbol_readable Ean13 bytes w = linear_readable Ean13 ean13_row read_ean13 (λ rows. refl) refl (full_digits 12 bytes)
       (ean13_read_back bytes) (ean13_short bytes)
@@ -184,18 +184,18 @@ module _ (options : OptionValues) (range : AreInRange options) where
   symbol_readable Code128 bytes w = linear_readable Code128 code128_row read_code128 (λ rows. refl) refl
       (full_code128 bytes) (code128_read_back bytes) (code128_short bytes)
   symbol_readable Qr bytes w =
-      qr_is_readable bytes w (chosen_version options.min_version options.level bytes) refl
+      qr_is_readable bytes w (chosen_version label.min_version label.level bytes) refl
 
-item_readable : (asked : Outcome Request) → HasRanges asked → HasReadable (outcome_of_item asked)
-item_readable skipped h = tt
-item_readable (refused fault) h = tt
-item_readable (drawn asked) h = symbol_readable asked.options h.0 asked.symbology asked.bytes h.1
+item_readable : (run : RunValues) (asked : Outcome Request) → HasRanges run asked → HasReadable (outcome_of_item asked)
+item_readable run skipped h = tt
+item_readable run (refused fault) h = tt
+item_readable run (drawn asked) h = symbol_readable run asked.options h.0 asked.symbology asked.bytes h.1
 
 -- the modules of what is drawn of a line of bytes are read
-outcome_readable : (options : OptionValues) → AreInRange options → (line : List ℕ) → AreBytes line
+outcome_readable : (options : Options) → AreInRange options.run options.label → (line : List ℕ) → AreBytes line
     → HasReadable (outcome options line)
 unfolding outcome
-outcome_readable options range line w = item_readable (item options line) (item-ranges options line range w)
+outcome_readable options range line w = item_readable options.run (item options line) (item-ranges options line range w)
 
 -- the quiet zones are narrow
 zone_small : (symbology : Symbology) → ((quiet_zone symbology).left + (quiet_zone symbology).right ≤ 20)
@@ -225,46 +225,39 @@ first_of_two : (xs ys : List Event) → AllByRecursion EventIsReadable (xs ++ ys
 first_of_two [] ys h = tt
 first_of_two (x ∷ xs) ys h = (h.0, first_of_two xs ys h.1)
 
-module _ (options : OptionValues) (range : AreInRange options) where
-  drawable : (symbol : Symbol) → IsReadable symbol → IsDrawable (picture_of options symbol)
+module _ (run : RunValues) (label : LabelValues) (range : AreInRange run label) where
+  drawable : (symbol : Symbol) → IsReadable symbol → IsDrawable (picture_of run symbol)
   drawable symbol h =
       let zone = quiet_zone symbol.symbology in
       record {
-        some = side_some zone.left symbol.modules.width zone.right options.scale h.some_columns range.scale_low;
-        wide = side_small zone.left symbol.modules.width zone.right options.scale (zone_small symbol.symbology).0
+        some = side_some zone.left symbol.modules.width zone.right run.scale h.some_columns range.scale_low;
+        wide = side_small zone.left symbol.modules.width zone.right run.scale (zone_small symbol.symbology).0
             h.columns range.scale_high;
-        high = side_small zone.top symbol.modules.height zone.bottom options.scale (zone_small symbol.symbology).1
+        high = side_small zone.top symbol.modules.height zone.bottom run.scale (zone_small symbol.symbology).1
             (omega (arith, h.rows)) range.scale_high;
       }
 
   text_read : (format : Format) (symbol : Symbol) → IsReadable symbol
-      → pixels format (text_of format (picture_of options symbol)) ≡ Some (raster (picture_of options symbol))
-  text_read Pbm symbol h = pbm_pixels-pbm_text (picture_of options symbol) (drawable symbol h)
+      → pixels format (text_of format (picture_of run symbol)) ≡ Some (raster (picture_of run symbol))
+  text_read Pbm symbol h = pbm_pixels-pbm_text (picture_of run symbol) (drawable symbol h)
   text_read Ascii symbol h =
       let zone = quiet_zone symbol.symbology in
-      ascii_pixels-ascii_text (picture_of options symbol)
-      (side_some zone.top symbol.modules.height zone.bottom options.scale h.some_rows range.scale_low)
+      ascii_pixels-ascii_text (picture_of run symbol)
+      (side_some zone.top symbol.modules.height zone.bottom run.scale h.some_rows range.scale_low)
 
   -- the image of modules that are read
   image_read : (format : Format) (symbol : Symbol) → IsReadable symbol
-      → IsRead format options.scale (text_of format (picture_of options symbol)) symbol
+      → IsRead format run.scale (text_of format (picture_of run symbol)) symbol
   unfolding read_image
   image_read format symbol h = rw (
     text_read format symbol h,
-    sample-raster symbol.modules (quiet_zone symbol.symbology) options.scale range.scale_low,
+    sample-raster symbol.modules (quiet_zone symbol.symbology) run.scale range.scale_low,
   ) h.read
 
   outcome_read : (found : Result Symbol Fault) → HasReadable (outcome_of found)
-      → IfOk found (λ symbol. IsRead options.format options.scale (image_of options (drawn symbol)) symbol)
-  outcome_read (Ok symbol) h = image_read options.format symbol h
+      → IfOk found (λ symbol. IsRead run.format run.scale (image_of run (drawn symbol)) symbol)
+  outcome_read (Ok symbol) h = image_read run.format symbol h
   outcome_read (Err fault) h = tt
-
-  -- the image of data is read as its full data
-  pub image_of_data_read : (symbology : Symbology) (bytes : List ℕ) → All (λ b. b < 256) bytes
-      → IfOk (symbol_of options symbology bytes)
-      (λ symbol. IsRead options.format options.scale (image_of options (drawn symbol)) symbol)
-  image_of_data_read symbology bytes w = outcome_read (symbol_of options symbology bytes)
-      (symbol_readable options range symbology bytes (recursion_from_All (λ b. b < 256) bytes w))
 
   -- a stream of images
   stream_cut : (format : Format) (pictures : List Picture) → All IsDrawable pictures
@@ -274,34 +267,43 @@ module _ (options : OptionValues) (range : AreInRange options) where
       ascii_files-flat_map pictures (All-weaker IsDrawable (λ p. 0 < p.width) (λ p h. h.some) pictures all)
 
   all_read : (symbols : List Symbol) → AllByRecursion IsReadable symbols
-      → AreRead options.format options.scale (map (text_of options.format) (map (picture_of options) symbols)) symbols
+      → AreRead run.format run.scale (map (text_of run.format) (map (picture_of run) symbols)) symbols
   unfolding AreRead
   all_read [] all = tt
-  all_read (symbol ∷ symbols) all = (image_read options.format symbol all.0, all_read symbols all.1)
+  all_read (symbol ∷ symbols) all = (image_read run.format symbol all.0, all_read symbols all.1)
 
   -- the symbols of a script, and their images
   symbols_readable : (events : List Event) → AllByRecursion EventIsReadable events
-      → AllByRecursion IsReadable (drawn_symbols events) × (sent options Images events
-      ≡ flat_map (text_of options.format) (map (picture_of options) (drawn_symbols events)))
+      → AllByRecursion IsReadable (drawn_symbols events) × (sent run Images events
+      ≡ flat_map (text_of run.format) (map (picture_of run) (drawn_symbols events)))
   unfolding drawn_symbols
   symbols_readable [] w = (tt, refl)
   symbols_readable (of_line number skipped ∷ events) w = symbols_readable events w.1
   symbols_readable (of_line number (refused fault) ∷ events) w = symbols_readable events w.1
   symbols_readable (of_line number (drawn symbol) ∷ events) w = let later = symbols_readable events w.1 in
-      ((w.0, later.0), ap (λ (bytes : List ℕ). text_of options.format (picture_of options symbol) ++ bytes) later.1)
+      ((w.0, later.0), ap (λ (bytes : List ℕ). text_of run.format (picture_of run symbol) ++ bytes) later.1)
   symbols_readable (flushes ∷ events) w = symbols_readable events w.1
 
   -- the images of a script, cut, are read as the full data of its symbols
   images_of_events_read : (events : List Event) → AllByRecursion EventIsReadable events
-      → AreRead options.format options.scale (cut options.format (sent options Images events)) (drawn_symbols events)
+      → AreRead run.format run.scale (cut run.format (sent run Images events)) (drawn_symbols events)
   images_of_events_read events w =
       let symbols = drawn_symbols events in
       let found = symbols_readable events w in
-      let drawables = All-map IsDrawable (picture_of options) symbols
-      (All-weaker IsReadable (λ symbol. IsDrawable (picture_of options symbol)) drawable symbols
+      let drawables = All-map IsDrawable (picture_of run) symbols
+      (All-weaker IsReadable (λ symbol. IsDrawable (picture_of run symbol)) drawable symbols
       (All-from_recursion IsReadable symbols found.0)) in
-      rw (found.1, stream_cut options.format (map (picture_of options) symbols) drawables)
+      rw (found.1, stream_cut run.format (map (picture_of run) symbols) drawables)
       (all_read symbols found.0)
+
+module _ (options : Options) (range : AreInRange options.run options.label) where
+  -- the image of data is read as its full data
+  pub image_of_data_read : (symbology : Symbology) (bytes : List ℕ) → ((i : ℕ) → Fits w8 (get_or bytes i 0))
+      → IfOk (symbol_of options.label symbology bytes)
+      (λ symbol. IsRead options.run.format options.run.scale (image_of options.run (drawn symbol)) symbol)
+  image_of_data_read symbology bytes fits = outcome_read options.run options.label range _
+      (symbol_readable options.run options.label range symbology bytes (recursion_from_All (λ b. b < 256) bytes
+      (All-from_get_or (λ b. b < 256) bytes 0 (λ i within. omega (arith, fits i)))))
 
   script_readable : (before : ℕ) (lines : List (List ℕ)) → AllByRecursion AreBytes lines
       → AllByRecursion EventIsReadable (events_after options before lines ++ flushes ∷ [])
@@ -311,7 +313,7 @@ module _ (options : OptionValues) (range : AreInRange options) where
       (outcome_readable options range line w.0, script_readable (before + 1) lines w.1)
 
   -- what the script of a text sends reads back
-  pub script_of_text_read : (text : List ℕ) → All (λ b. b < 256) text → ReadsBack options (script options text)
-  script_of_text_read text w front later cut = images_of_events_read front (first_of_two front later
+  pub script_of_text_read : (text : List ℕ) → All (λ b. b < 256) text → ReadsBack options.run (script options text)
+  script_of_text_read text w front later cut = images_of_events_read options.run options.label range front (first_of_two front later
       (subst (AllByRecursion EventIsReadable) cut (script_readable 0 (lines text)
       (AllOf-lines (λ b. b < 256) text (recursion_from_All (λ b. b < 256) text w)))))

@@ -1,6 +1,6 @@
 -- From the calls of a filter to a run over a whole input.
 use Rattle.filter.proofs.Words.{◌≡◌, ◌≢◌, ℕ, ◌-◌, ◌^◌, ◌≤◌, ◌<◌, ◌∙◌, ◌⊎◌, All, Bool, Result, Ok, Err, List, [], ◌++◌}
-use Rattle.filter.proofs.Words.{length, true, subst, sym, refl, IfOk, MatchResult, OnOk, Rises, OptionValues}
+use Rattle.filter.proofs.Words.{length, true, subst, sym, refl, IfOk, MatchResult, OnOk, Rises, Options}
 use Rattle.filter.proofs.Words.{CountsFault, FilterState, FlushesImagesFirst, Feeds, FlushesNeither, Sends, Stops, Took}
 use Rattle.filter.proofs.Words.{fault_of, taken, Channel, Images, Messages, ended_script, script, status_of, RunFault}
 use Rattle.filter.proofs.Words.{Read, WriteOut, WriteMessages, Spent, Status}
@@ -18,10 +18,10 @@ not_read : (failed : Channel) → Read ≡ fault_of failed → ⊥
 not_read Images e = cc
 not_read Messages e = cc
 
-module _ (options : OptionValues) where
+module _ (options : Options) where
   -- what calls of sinks send, as a run's
   TookText-sinks : (took : Channel → List ℕ → Type 0) (text : List ℕ) (r : Result Status RunFault)
-      → MatchResult r (λ _. Took options took (script options text)) (Stops options took (script options text))
+      → MatchResult r (λ _. Took options.run took (script options text)) (Stops options.run took (script options text))
       → TookText options took text r
   TookText-sinks took text (Ok status) h = h
   TookText-sinks took text (Err Read) s = absurd (not_read s.failed s.fault_is)
@@ -33,16 +33,16 @@ module _ (options : OptionValues) where
   pub TookText-by : {took took' : Channel → List ℕ → Type 0}
       (widen : (channel : Channel) (bytes : List ℕ) → took channel bytes → took' channel bytes) (text : List ℕ)
       (r : Result Status RunFault) → TookText options took text r → TookText options took' text r
-  TookText-by widen text (Ok status) h = Took-by options widen (script options text) h
-  TookText-by widen text (Err Read) h = Took-by options widen (ended_script options text) h
-  TookText-by widen text (Err WriteOut) h = Stops-by options widen h
-  TookText-by widen text (Err WriteMessages) h = Stops-by options widen h
-  TookText-by widen text (Err Spent) h = Stops-by options widen h
+  TookText-by widen text (Ok status) h = Took-by options.run widen (script options text) h
+  TookText-by widen text (Err Read) h = Took-by options.run widen (ended_script options text) h
+  TookText-by widen text (Err WriteOut) h = Stops-by options.run widen h
+  TookText-by widen text (Err WriteMessages) h = Stops-by options.run widen h
+  TookText-by widen text (Err Spent) h = Stops-by options.run widen h
 
   -- calls of sinks that send the whole script of a text, or stop in it
-  pub Produces-sends : (range : AreInRange options) {gave : List ℕ → Type 0} {took : Channel → List ℕ → Type 0}
+  pub Produces-sends : (range : AreInRange options.run options.label) {gave : List ℕ → Type 0} {took : Channel → List ℕ → Type 0}
       (text : List ℕ) (r : Result Status RunFault) → gave text → All (λ b. b < 256) text
-      → Sends options took (ended_script options []) (script options text) r
+      → Sends options.run took (ended_script options []) (script options text) r
       → IfOk r (λ status. status ≡ status_of (script options text)) → Produces options gave took r
   Produces-sends range {gave} {took} text r given bytes sends status =
       let all = rw (ended_script-nil options) at sends in
@@ -100,7 +100,7 @@ module _ {O E T : Type 0} {out : SinkGhosts O} {err : SinkGhosts E} {o : O} {o' 
 
 -- a run so far: the filter was fed what the source gave, each turn gave a byte or more, and no device failed
 pub record HasRun {S O E : Type 0} (source : SourceGhosts S) (out : SinkGhosts O) (err : SinkGhosts E)
-    (options : OptionValues) (s s' : S) (o o' : O) (e e' : E) (state : FilterState) (given : List ℕ) : Type 0 where
+    (options : Options) (s s' : S) (o o' : O) (e e' : E) (state : FilterState) (given : List ℕ) : Type 0 where
   pub gave : source.gave s s' given
   pub count : source.failures s' ≡ source.failures s
   pub fed : Feeds {T = Unit {0}} options (taken (out.took o o') (err.took e e')) state [] given (Ok tt)
@@ -109,7 +109,7 @@ pub record HasRun {S O E : Type 0} (source : SourceGhosts S) (out : SinkGhosts O
 module _ {S O E : Type 0} {source : SourceGhosts S} {out : SinkGhosts O} {err : SinkGhosts E}
     (out_joined : (s t u : O) (xs ys : List ℕ) → out.took s t xs → out.took t u ys → out.took s u (xs ++ ys))
     (err_joined : (s t u : E) (xs ys : List ℕ) → err.took s t xs → err.took t u ys → err.took s u (xs ++ ys))
-    {options : OptionValues} {s : S} {s' : S} {o : O} {o' : O} {e : E} {e' : E} {state : FilterState} {given : List ℕ}
+    {options : Options} {s : S} {s' : S} {o : O} {o' : O} {e : E} {e' : E} {state : FilterState} {given : List ℕ}
     (h : HasRun source out err options s s' o o' e e' state given) where
   -- a call of the filter or of a sink that succeeds, and flushes nothing
   pub HasRun-append : {s'' : S} {o'' : O} {e'' : E} {state' : FilterState} {text : List ℕ}
@@ -121,7 +121,7 @@ module _ {S O E : Type 0} {source : SourceGhosts S} {out : SinkGhosts O} {err : 
     gave = gave;
     count = count ∙ h.count;
     fed = record {
-      sends = Sends-append out_joined err_joined options (Ok tt) h.fed.sends fed.sends;
+      sends = Sends-append out_joined err_joined options.run (Ok tt) h.fed.sends fed.sends;
       is_after = fed.is_after;
     };
     sinks = FlushesNeither-append h.sinks (Ok tt) sinks;
@@ -132,13 +132,13 @@ module _ {S O E : Type 0} {source : SourceGhosts S} {out : SinkGhosts O} {err : 
       → PassesBuffered {T = T} {E = F} out.failures out.is_flushed out.took o' o'' (Ok x)
       → HasRun source out err options s s' o o'' e e' state given
   HasRun-passed none_err passed = HasRun-append h.gave refl
-      (record { sends = Sends-none options tt refl passed.bytes none_err; is_after = h.fed.is_after })
+      (record { sends = Sends-none options.run tt refl passed.bytes none_err; is_after = h.fed.is_after })
       (record { counts = (passed.count, refl); out_unflushed = λ e. sym passed.flushed ∙ e; err_unflushed = λ e. e })
 
   -- the run ends in a call of the filter or of a sink
   pub Runs-after : {s'' : S} {o'' : O} {e'' : E} (text : List ℕ) (r : Result Status RunFault)
       → source.gave s s'' text → source.failures s'' ≡ source.failures s' → All (λ b. b < 256) text
-      → Sends options (taken (out.took o' o'') (err.took e' e'')) (ended_script options given) (script options text) r
+      → Sends options.run (taken (out.took o' o'') (err.took e' e'')) (ended_script options given) (script options text) r
       → IfOk r (λ status. status ≡ status_of (script options text))
       → OnOk r ((source.at_end s'' ≡ true) × source.ends s'')
       → CountsFault (out.failures o') (out.failures o'') (err.failures e') (err.failures e'') r
@@ -147,7 +147,7 @@ module _ {S O E : Type 0} {source : SourceGhosts S} {out : SinkGhosts O} {err : 
   Runs-after text r gave count bytes sends status ended counts marks = record {
     produces = Produces-sends options h.fed.is_after.range text r
         (gave, RunCounts-sinks _ _ _ _ _ _ (count ∙ h.count) r text (CountsFault-after h.sinks _ _ r counts)) bytes
-        (Sends-append out_joined err_joined options r h.fed.sends sends) status;
+        (Sends-append out_joined err_joined options.run r h.fed.sends sends) status;
     ended = ended;
     flushed = FlushesImagesFirst-after h.sinks _ _ r marks;
   }

@@ -1,6 +1,6 @@
 -- Calls one after another, in one script.
 use Rattle.filter.proofs.Words.{◌≡◌, ℕ, List, [], ◌∷◌, ◌++◌, Result, Ok, Err, append_assoc, refl, ap, sym, subst, ◌∙◌}
-use Rattle.filter.proofs.Words.{MatchResult, append-nil, Begins, OptionValues, taken, Took, Stops, Sends, fault_of}
+use Rattle.filter.proofs.Words.{MatchResult, append-nil, Begins, RunValues, taken, Took, Stops, Sends, fault_of}
 use Rattle.filter.proofs.Words.{other, Event, Channel, Images, Messages, bytes_for, sent, RunFault}
 use Rattle.std.proofs.lemmas.Grind.{flat_map-append}
 
@@ -15,18 +15,18 @@ pub images_by : (out out' err : List ℕ → Type 0) → ((bytes : List ℕ) →
 images_by out out' err widen Images bytes h = widen bytes h
 images_by out out' err widen Messages bytes h = h
 
-module _ (options : OptionValues) where
+module _ (run : RunValues) where
   -- the bytes of one event
-  pub event_took : (out err : List ℕ → Type 0) (event : Event) → out (bytes_for options Images event)
-      → err (bytes_for options Messages event) → Took options (taken out err) (event ∷ [])
-  event_took out err event image message Images = subst out (sym (append-nil (bytes_for options Images event))) image
+  pub event_took : (out err : List ℕ → Type 0) (event : Event) → out (bytes_for run Images event)
+      → err (bytes_for run Messages event) → Took run (taken out err) (event ∷ [])
+  event_took out err event image message Images = subst out (sym (append-nil (bytes_for run Images event))) image
   event_took out err event image message Messages =
-      subst err (sym (append-nil (bytes_for options Messages event))) message
+      subst err (sym (append-nil (bytes_for run Messages event))) message
 
   -- a beginning of the bytes of one event
   pub event_stops : (took : Channel → List ℕ → Type 0) (failed : Channel) (event : Event) (later : List Event)
-      → Begins (took failed) (bytes_for options failed event) → took (other failed) []
-      → Stops options took (event ∷ later) (fault_of failed)
+      → Begins (took failed) (bytes_for run failed event) → took (other failed) []
+      → Stops run took (event ∷ later) (fault_of failed)
   event_stops took failed event later begun none = record {
     failed = failed;
     fault_is = refl;
@@ -40,13 +40,13 @@ module _ (options : OptionValues) where
 
   -- a sink failed before it took a byte
   pub Stops-first : (took : Channel → List ℕ → Type 0) (failed : Channel) (event : Event) (later : List Event)
-      → ((channel : Channel) → took channel []) → Stops options took (event ∷ later) (fault_of failed)
+      → ((channel : Channel) → took channel []) → Stops run took (event ∷ later) (fault_of failed)
   Stops-first took failed event later none = event_stops took failed event later
-      ([], (bytes_for options failed event, refl), none failed) (none (other failed))
+      ([], (bytes_for run failed event, refl), none failed) (none (other failed))
 
   -- a call that sends nothing
   pub Sends-none : {T : Type 0} (x : T) {out err : List ℕ → Type 0} {before after : List Event} → after ≡ before
-      → out [] → err [] → Sends {T = T} options (taken out err) before after (Ok x)
+      → out [] → err [] → Sends {T = T} run (taken out err) before after (Ok x)
   Sends-none x {out} {err} {before} same none_out none_err = record {
     added = [];
     grown = same ∙ sym (append-nil before);
@@ -54,7 +54,7 @@ module _ (options : OptionValues) where
   }
 
   pub Stops-longer : {took : Channel → List ℕ → Type 0} {events : List Event} {fault : RunFault} (more : List Event)
-      → Stops options took events fault → Stops options took (events ++ more) fault
+      → Stops run took events fault → Stops run took (events ++ more) fault
   Stops-longer more s = record {
     failed = s.failed;
     fault_is = s.fault_is;
@@ -69,7 +69,7 @@ module _ (options : OptionValues) where
   -- a call that failed, in a longer script
   pub Sends-longer : {T U : Type 0} {took : Channel → List ℕ → Type 0} {before middle after : List Event}
       {fault : RunFault} (more : List Event) → after ≡ middle ++ more
-      → Sends {T = T} options took before middle (Err fault) → Sends {T = U} options took before after (Err fault)
+      → Sends {T = T} run took before middle (Err fault) → Sends {T = U} run took before after (Err fault)
   Sends-longer {before = before} more cut s = record {
     added = s.added ++ more;
     grown = cut ∙ (ap (λ (es : List Event). es ++ more) s.grown ∙ append_assoc before s.added more);
@@ -79,11 +79,11 @@ module _ (options : OptionValues) where
   -- what took a text took it in another sense too
   module _ {took took' : Channel → List ℕ → Type 0}
       (widen : (channel : Channel) (bytes : List ℕ) → took channel bytes → took' channel bytes) where
-    pub Took-by : (events : List Event) → Took options took events → Took options took' events
-    Took-by events h = λ channel. widen channel (sent options channel events) (h channel)
+    pub Took-by : (events : List Event) → Took run took events → Took run took' events
+    Took-by events h = λ channel. widen channel (sent run channel events) (h channel)
 
-    pub Stops-by : {events : List Event} {fault : RunFault} → Stops options took events fault
-        → Stops options took' events fault
+    pub Stops-by : {events : List Event} {fault : RunFault} → Stops run took events fault
+        → Stops run took' events fault
     Stops-by s = record {
       failed = s.failed;
       fault_is = s.fault_is;
@@ -91,15 +91,15 @@ module _ (options : OptionValues) where
       event = s.event;
       later = s.later;
       cut = s.cut;
-      own = (s.own.0, s.own.1, widen s.failed (sent options s.failed s.done ++ s.own.0) s.own.2);
-      others = widen (other s.failed) (sent options (other s.failed) s.done) s.others;
+      own = (s.own.0, s.own.1, widen s.failed (sent run s.failed s.done ++ s.own.0) s.own.2);
+      others = widen (other s.failed) (sent run (other s.failed) s.done) s.others;
     }
 
 -- calls one after another, at sinks whose states are O and E
 module _ {O E : Type 0} {out : O → O → List ℕ → Type 0} {err : E → E → List ℕ → Type 0}
     (out_joined : (s t u : O) (xs ys : List ℕ) → out s t xs → out t u ys → out s u (xs ++ ys))
     (err_joined : (s t u : E) (xs ys : List ℕ) → err s t xs → err t u ys → err s u (xs ++ ys))
-    (options : OptionValues) where
+    (run : RunValues) where
   joined : (o o' o'' : O) (e e' e'' : E) (channel : Channel) (xs ys : List ℕ) → taken (out o o') (err e e') channel xs
       → taken (out o' o'') (err e' e'') channel ys → taken (out o o'') (err e e'') channel (xs ++ ys)
   joined o o' o'' e e' e'' Images xs ys first second = out_joined o o' o'' xs ys first second
@@ -107,11 +107,11 @@ module _ {O E : Type 0} {out : O → O → List ℕ → Type 0} {err : E → E �
 
   -- the events of both calls
   pub both : (o o' o'' : O) (e e' e'' : E) {T : Type 0} (xs ys : List Event) (r : Result T RunFault)
-      → Took options (taken (out o o') (err e e')) xs
-      → MatchResult r (λ _. Took options (taken (out o' o'') (err e' e'')) ys)
-      (Stops options (taken (out o' o'') (err e' e'')) ys)
-      → MatchResult r (λ _. Took options (taken (out o o'') (err e e'')) (xs ++ ys))
-      (Stops options (taken (out o o'') (err e e'')) (xs ++ ys))
+      → Took run (taken (out o o') (err e e')) xs
+      → MatchResult r (λ _. Took run (taken (out o' o'') (err e' e'')) ys)
+      (Stops run (taken (out o' o'') (err e' e'')) ys)
+      → MatchResult r (λ _. Took run (taken (out o o'') (err e e'')) (xs ++ ys))
+      (Stops run (taken (out o o'') (err e e'')) (xs ++ ys))
   both o o' o'' e e' e'' xs ys (Ok x) h k =
       λ channel. rw flat_map-append (joined o o' o'' e e' e'' channel _ _ (h channel) (k channel))
   both o o' o'' e e' e'' xs ys (Err fault) h s = record {
@@ -130,9 +130,9 @@ module _ {O E : Type 0} {out : O → O → List ℕ → Type 0} {err : E → E �
   }
 
   pub Sends-append : {o o' o'' : O} {e e' e'' : E} {T U : Type 0} {x : U} (r : Result T RunFault)
-      {before middle after : List Event} → Sends {T = U} options (taken (out o o') (err e e')) before middle (Ok x)
-      → Sends {T = T} options (taken (out o' o'') (err e' e'')) middle after r
-      → Sends {T = T} options (taken (out o o'') (err e e'')) before after r
+      {before middle after : List Event} → Sends {T = U} run (taken (out o o') (err e e')) before middle (Ok x)
+      → Sends {T = T} run (taken (out o' o'') (err e' e'')) middle after r
+      → Sends {T = T} run (taken (out o o'') (err e e'')) before after r
   Sends-append {o} {o'} {o''} {e} {e'} {e''} r {before} one two = record {
     added = one.added ++ two.added;
     grown = two.grown

@@ -1,6 +1,5 @@
 -- The state of a filter, and what a call does to its two sinks (docs/SPECIFICATION.md, The filter as a library).
--- Why: `FilterState`, `IsAfter`: what a `Filter` keeps, and what it was fed; `Took`, `Stops`, `Sends`: what `feed`,
--- `finish` and `run` promise of their sinks.
+-- Why: `FilterState`, `IsAfter`: what a `Filter` keeps and was fed; `Took`, `Stops`, `Sends`: what calls promise of sinks.
 use Rattle.std.specs.Prelude.{◌≡◌, ℕ, ◌-◌, ◌^◌, ◌<◌, min, All, Bool, true, false, List, ◌∷◌, ◌++◌, length, Result, Ok, Err}
 use Rattle.std.specs.Prelude.{◌≢◌, IfOk, MatchResult, OnOk}
 use Rattle.device.specs.Device.{Begins, Rises, Unflushed}
@@ -10,7 +9,8 @@ use Rattle.device.specs.declared.sink.Sink.{Ghosts}
 use Rattle.labelcore.specs.declared.fault.Fault.{Fault}
 use Rattle.labelcore.specs.HeldLine.{HeldLine, held_line}
 use Rattle.labelcore.specs.LineItem.{Outcome, refused}
-use Rattle.labelcore.specs.OptionValues.{OptionValues, IsInRange}
+use Rattle.labelcore.specs.declared.options.Options.{Options}
+use Rattle.labelcore.specs.OptionValues.{IsInRange, RunValues}
 use Rattle.filter.specs.Output.{Event, Channel, Images, Messages, bytes_for, ended_script, image_of, sent}
 use Rattle.filter.specs.Output.{status_of}
 use Rattle.filter.specs.Symbol.{Symbol}
@@ -20,16 +20,16 @@ use Rattle.filter.specs.declared.status.Status.{Status}
 
 -- what a filter keeps between pieces
 pub record FilterState : Type 0 where
-  pub options : OptionValues
+  pub options : Options
   pub line : HeldLine
   pub line_count : ℕ
   pub status : Status
   pub is_spent : Bool
 
 -- the filter has these options, each in its range, and was fed this text of bytes
-pub record IsAfter (options : OptionValues) (state : FilterState) (text : List ℕ) : Type 0 where
+pub record IsAfter (options : Options) (state : FilterState) (text : List ℕ) : Type 0 where
   pub options_are : state.options ≡ options
-  pub range : IsInRange options.scale options.height options.min_version options.mask
+  pub range : IsInRange options.run.scale options.label.height options.label.min_version options.label.mask
   pub bytes : All (λ b. b < 256) text
   pub line : state.line ≡ held_line (open_line text)
   pub line_count : state.line_count ≡ min (length (ended_lines text)) (2 ^ 64 - 1)
@@ -42,8 +42,8 @@ taken out err Images = out
 taken out err Messages = err
 
 -- each sink took its bytes of the events
-abbrev pub Took : OptionValues → (took : Channel → List ℕ → Type 0) → List Event → Type 0
-Took options took events = (channel : Channel) → took channel (sent options channel events)
+abbrev pub Took : RunValues → (took : Channel → List ℕ → Type 0) → List Event → Type 0
+Took run took events = (channel : Channel) → took channel (sent run channel events)
 
 -- the fault of a sink
 abbrev pub fault_of : Channel → RunFault
@@ -57,7 +57,7 @@ other Messages = Images
 
 -- A sink failed in one of the events. Each sink took its bytes of the events before that one, and the sink that failed
 -- took a beginning of its bytes of that one too.
-pub record Stops (options : OptionValues) (took : Channel → List ℕ → Type 0) (events : List Event) (fault : RunFault)
+pub record Stops (run : RunValues) (took : Channel → List ℕ → Type 0) (events : List Event) (fault : RunFault)
     : Type 0 where
   pub failed : Channel
   pub fault_is : fault ≡ fault_of failed
@@ -65,20 +65,20 @@ pub record Stops (options : OptionValues) (took : Channel → List ℕ → Type 
   pub event : Event
   pub later : List Event
   pub cut : events ≡ done ++ event ∷ later
-  pub own : Begins (λ bytes. took failed (sent options failed done ++ bytes)) (bytes_for options failed event)
-  pub others : took (other failed) (sent options (other failed) done)
+  pub own : Begins (λ bytes. took failed (sent run failed done ++ bytes)) (bytes_for run failed event)
+  pub others : took (other failed) (sent run (other failed) done)
 
 -- a call that sends what one script has after another: at `Ok` all of it, and at `Err` a sink failed in it
-pub record Sends {T : Type 0} (options : OptionValues) (took : Channel → List ℕ → Type 0) (before after : List Event)
+pub record Sends {T : Type 0} (run : RunValues) (took : Channel → List ℕ → Type 0) (before after : List Event)
     (r : Result T RunFault) : Type 0 where
   pub added : List Event
   pub grown : after ≡ before ++ added
-  pub sends : MatchResult r (λ _. Took options took added) (Stops options took added)
+  pub sends : MatchResult r (λ _. Took run took added) (Stops run took added)
 
 -- a call of a filter that was fed one text: it feeds it up to another, and sends what the lines that this ends send
-pub record Feeds {T : Type 0} (options : OptionValues) (took : Channel → List ℕ → Type 0) (state : FilterState)
+pub record Feeds {T : Type 0} (options : Options) (took : Channel → List ℕ → Type 0) (state : FilterState)
     (before after : List ℕ) (r : Result T RunFault) : Type 0 where
-  pub sends : Sends options took (ended_script options before) (ended_script options after) r
+  pub sends : Sends options.run took (ended_script options before) (ended_script options after) r
   pub is_after : OnOk r (IsAfter options state after)
 
 -- The counts of failures of the images' sink, `o`, and of the messages' sink, `e`: at `Ok` none rises, at `Err` that of the
@@ -108,7 +108,7 @@ refusal_of (refused fault) = Err fault
 refusal_of other = Ok tt
 
 -- the image is written, or nothing where there is none; and a refusal is returned
-pub record DrawsOutcome {S E : Type 0} (sink : Ghosts S) (old new : S) (options : OptionValues)
+pub record DrawsOutcome {S E : Type 0} (sink : Ghosts S) (old new : S) (run : RunValues)
     (outcome : Outcome Symbol) (r : Result (Result (Unit {0}) Fault) E) : Type 0 where
-  pub writes : WritesText sink old new (image_of options outcome) r
+  pub writes : WritesText sink old new (image_of run outcome) r
   pub refusal : IfOk r (λ drawn. drawn ≡ refusal_of outcome)

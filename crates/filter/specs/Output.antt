@@ -5,7 +5,8 @@ use Rattle.std.specs.List.{filter_map, flat_map, list_any}
 use Rattle.labelcore.specs.Lines.{lines, ended_lines}
 use Rattle.labelcore.specs.declared.options.Format.{Format}
 use Rattle.labelcore.specs.declared.options.Format.TheVariants.{Pbm, Ascii}
-use Rattle.labelcore.specs.OptionValues.{OptionValues}
+use Rattle.labelcore.specs.declared.options.Options.{Options}
+use Rattle.labelcore.specs.OptionValues.{RunValues}
 use Rattle.labelcore.specs.LineItem.{Outcome, Request, skipped, refused, drawn, item, outcome_of}
 use Rattle.labelcore.specs.Message.{message}
 use Rattle.picture.specs.Picture.{Picture, with_quiet_zone, enlargement}
@@ -21,13 +22,12 @@ outcome_of_item (refused fault) = refused fault
 outcome_of_item (drawn asked) = outcome_of (symbol_of asked.options asked.symbology asked.bytes)
 
 -- what is drawn of a line
-unfoldable pub outcome : OptionValues → List ℕ → Outcome Symbol
+unfoldable pub outcome : Options → List ℕ → Outcome Symbol
 outcome options line = outcome_of_item (item options line)
 
 -- the symbol in its quiet zone, each module a square of pixels
-abbrev pub picture_of : OptionValues → Symbol → Picture
-picture_of options symbol =
-    enlargement (with_quiet_zone symbol.modules (quiet_zone symbol.symbology)) options.scale
+abbrev pub picture_of : RunValues → Symbol → Picture
+picture_of run symbol = enlargement (with_quiet_zone symbol.modules (quiet_zone symbol.symbology)) run.scale
 
 -- the text of a picture in a format
 abbrev pub text_of : Format → Picture → List ℕ
@@ -35,9 +35,9 @@ text_of Pbm p = pbm_text p
 text_of Ascii p = ascii_text p
 
 -- the image of what is drawn, or nothing
-abbrev pub image_of : OptionValues → Outcome Symbol → List ℕ
-image_of options (drawn symbol) = text_of options.format (picture_of options symbol)
-image_of options other = []
+abbrev pub image_of : RunValues → Outcome Symbol → List ℕ
+image_of run (drawn symbol) = text_of run.format (picture_of run symbol)
+image_of run other = []
 
 -- the message of a refusal, or nothing
 abbrev pub message_of : ℕ → Outcome Symbol → List ℕ
@@ -54,17 +54,17 @@ abbrev pub line_number : ℕ → ℕ
 line_number before = min (before + 1) (2 ^ 64 - 1)
 
 -- what is sent of lines that come after `before` lines, in order
-unfoldable pub events_after : OptionValues → ℕ → List (List ℕ) → List Event
+unfoldable pub events_after : Options → ℕ → List (List ℕ) → List Event
 events_after options before [] = []
 events_after options before (line ∷ lines) =
     of_line (line_number before) (outcome options line) ∷ events_after options (before + 1) lines
 
 -- the script of the lines of a text that have ended
-abbrev pub ended_script : OptionValues → List ℕ → List Event
+abbrev pub ended_script : Options → List ℕ → List Event
 ended_script options text = events_after options 0 (ended_lines text)
 
 -- the script of a text: what is sent of its lines, and then the flushes
-abbrev pub script : OptionValues → List ℕ → List Event
+abbrev pub script : Options → List ℕ → List Event
 script options text = events_after options 0 (lines text) ++ flushes ∷ []
 
 -- the two sinks
@@ -73,14 +73,14 @@ pub data Channel : Type 0 where
   Messages : Channel
 
 -- the bytes of an event for a sink: of a line its image or its message
-abbrev pub bytes_for : OptionValues → Channel → Event → List ℕ
-bytes_for options Images (of_line number outcome) = image_of options outcome
-bytes_for options Messages (of_line number outcome) = message_of number outcome
-bytes_for options channel flushes = []
+abbrev pub bytes_for : RunValues → Channel → Event → List ℕ
+bytes_for run Images (of_line number outcome) = image_of run outcome
+bytes_for run Messages (of_line number outcome) = message_of number outcome
+bytes_for run channel flushes = []
 
 -- the bytes of a script for a sink
-abbrev pub sent : OptionValues → Channel → List Event → List ℕ
-sent options channel events = flat_map (bytes_for options channel) events
+abbrev pub sent : RunValues → Channel → List Event → List ℕ
+sent run channel events = flat_map (bytes_for run channel) events
 
 -- the symbol that is drawn, or none
 abbrev pub symbol_in : Event → Option Symbol

@@ -1,6 +1,6 @@
 -- Definitions that only the contracts of private functions cite: nothing here has to be believed.
 use Rattle.std.specs.Prelude.{List, ℕ}
-use Rattle.labelcore.specs.OptionValues.{OptionValues}
+use Rattle.labelcore.specs.OptionValues.{RunValues}
 use Rattle.linear.specs.declared.linear.QuietZones.{QuietZones}
 use Rattle.picture.specs.Picture.{Picture, enlargement, with_quiet_zone}
 use Rattle.picture.specs.declared.quiet_zone.QuietZone.{QuietZone}
@@ -13,9 +13,9 @@ abbrev pub worst : Status → Status → Status
 worst Clean other = other
 worst Refused other = Refused
 
--- the text of modules in a quiet zone, as the options say
-abbrev pub image_in : QuietZone → OptionValues → Picture → List ℕ
-image_in zone options modules = text_of options.format (enlargement (with_quiet_zone modules zone) options.scale)
+-- the text of modules in a quiet zone, as the options of the run say
+abbrev pub image_in : QuietZone → RunValues → Picture → List ℕ
+image_in zone run modules = text_of run.format (enlargement (with_quiet_zone modules zone) run.scale)
 
 -- quiet zones before and after a row
 abbrev pub beside : QuietZones → QuietZone

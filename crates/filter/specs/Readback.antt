@@ -14,7 +14,7 @@ use Rattle.qrdata.specs.Reading.{data_in}
 use Rattle.qrmatrix.specs.Reading.{read_matrix}
 use Rattle.qrmatrix.specs.Square.{value_at}
 use Rattle.picture.specs.Reading.{Raster, pbm_files, ascii_files, pbm_pixels, ascii_pixels, sample, common_row}
-use Rattle.labelcore.specs.OptionValues.{OptionValues}
+use Rattle.labelcore.specs.OptionValues.{RunValues}
 use Rattle.filter.specs.Output.{Event, Images, drawn_symbols, sent}
 use Rattle.filter.specs.Symbol.{Symbol, quiet_zone}
 
@@ -56,6 +56,6 @@ AreRead format scale images symbols = AllZip (IsRead format scale) images symbol
 
 -- the images that a script sends, cut from their stream, are read as the full data of its symbols; and so are those of
 -- each front of the script
-abbrev pub ReadsBack : OptionValues → List Event → Type 0
-ReadsBack options script = (front later : List Event) → script ≡ front ++ later
-    → AreRead options.format options.scale (cut options.format (sent options Images front)) (drawn_symbols front)
+abbrev pub ReadsBack : RunValues → List Event → Type 0
+ReadsBack run script = (front later : List Event) → script ≡ front ++ later
+    → AreRead run.format run.scale (cut run.format (sent run Images front)) (drawn_symbols front)

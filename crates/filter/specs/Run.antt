@@ -4,7 +4,7 @@ use Rattle.std.specs.Prelude.{◌≡◌, ℕ, ◌-◌, ◌^◌, ◌≤◌, ◌�
 use Rattle.device.specs.Device.{Rises}
 use Rattle.device.specs.declared.sink.Sink.{Ghosts as SinkGhosts}
 use Rattle.device.specs.declared.source.Source.{Ghosts as SourceGhosts}
-use Rattle.labelcore.specs.OptionValues.{OptionValues}
+use Rattle.labelcore.specs.declared.options.Options.{Options}
 use Rattle.filter.specs.Output.{Channel, ended_script, script, status_of}
 use Rattle.filter.specs.Readback.{ReadsBack}
 use Rattle.filter.specs.Filter.{FlushesImagesFirst, Took, Stops, taken}
@@ -14,20 +14,20 @@ use Rattle.filter.specs.declared.status.Status.{Status}
 
 -- What the sinks took of a text: at `Ok` all that its script sends. At `Err` a sink failed in the script; or, where a read
 -- failed, they took all that is sent of the ended lines.
-abbrev pub TookText : OptionValues → (took : Channel → List ℕ → Type 0) (text : List ℕ) → Result Status RunFault → Type 0
-TookText options took text (Ok status) = Took options took (script options text)
-TookText options took text (Err Read) = Took options took (ended_script options text)
-TookText options took text (Err fault) = Stops options took (script options text) fault
+abbrev pub TookText : Options → (took : Channel → List ℕ → Type 0) (text : List ℕ) → Result Status RunFault → Type 0
+TookText options took text (Ok status) = Took options.run took (script options text)
+TookText options took text (Err Read) = Took options.run took (ended_script options text)
+TookText options took text (Err fault) = Stops options.run took (script options text) fault
 
 -- Of the one text that the source gave, the sinks took what its script sends, and the status is the script's. And what
 -- the script sends reads back.
-pub record Produces (options : OptionValues) (gave : List ℕ → Type 0) (took : Channel → List ℕ → Type 0)
+pub record Produces (options : Options) (gave : List ℕ → Type 0) (took : Channel → List ℕ → Type 0)
     (r : Result Status RunFault) : Type 0 where
   pub text : List ℕ
   pub given : gave text
   pub sends : TookText options took text r
   pub status : IfOk r (λ status. status ≡ status_of (script options text))
-  pub read : ReadsBack options (script options text)
+  pub read : ReadsBack options.run (script options text)
 
 -- what was buffered was passed on, and nothing of it is left; or that failed too, and the count of failures rises
 abbrev pub IsPassedOn : (left : List ℕ) (old new : ℕ) → Type 0
@@ -47,7 +47,7 @@ RunCounts images s s' o o' e e' (Err Spent) text = ⊥
 -- One statement of a run, from the states of a source and two sinks before it to those after it: what it produces of
 -- what the source gave, whose counts of failures rise, that at `Ok` the source is at its end, and which sinks are flushed.
 pub record Runs {S O E : Type 0} (source : SourceGhosts S) (out : SinkGhosts O) (err : SinkGhosts E)
-    (images : ℕ → ℕ → Type 0) (options : OptionValues) (s s' : S) (o o' : O) (e e' : E)
+    (images : ℕ → ℕ → Type 0) (options : Options) (s s' : S) (o o' : O) (e e' : E)
     (r : Result Status RunFault) : Type 0 where
   pub produces : Produces options (λ text. source.gave s s' text × RunCounts images (source.failures s)
       (source.failures s') (out.failures o) (out.failures o') (err.failures e) (err.failures e') r text)

@@ -6,7 +6,7 @@ use Rattle.labelcore.specs.declared.symbology.Symbology.TheVariants.{Ean13, Ean8
 use Rattle.labelcore.specs.declared.fault.Fault.{Fault}
 use Rattle.labelcore.specs.declared.fault.Fault.TheVariants.{DoesNotFit}
 use Rattle.labelcore.specs.Faults.{fault_of}
-use Rattle.labelcore.specs.OptionValues.{OptionValues}
+use Rattle.labelcore.specs.OptionValues.{LabelValues}
 use Rattle.labelcore.specs.Settings.{◌>>=◌}
 use Rattle.linear.specs.declared.refusal.Refusal.{Refusal}
 use Rattle.linear.specs.Digits.{full_digits}
@@ -34,27 +34,27 @@ quiet_zone UpcA = record { left = 9; right = 9; top = 0; bottom = 0 }
 quiet_zone Code128 = record { left = 10; right = 10; top = 0; bottom = 0 }
 quiet_zone Qr = record { left = 4; right = 4; top = 4; bottom = 4 }
 
--- the row of full data as bars, as high as the options say
-abbrev pub linear_symbol : Symbology → (List ℕ → List Bool) → OptionValues → Result (List ℕ) Refusal
+-- the row of full data as bars, as high as the label's options say
+abbrev pub linear_symbol : Symbology → (List ℕ → List Bool) → LabelValues → Result (List ℕ) Refusal
     → Result Symbol Fault
-linear_symbol symbology row options found =
-    result_map_both (λ full. record { symbology = symbology; full = full; modules = bars (row full) options.height })
+linear_symbol symbology row label found =
+    result_map_both (λ full. record { symbology = symbology; full = full; modules = bars (row full) label.height })
     fault_of found
 
--- the modules of the data in a version, under the mask of the options, or else the first with the lowest penalty
-unfoldable pub qr_modules : OptionValues → List ℕ → ℕ → Picture
-qr_modules options bytes version =
-    let codewords = symbol_codewords version options.level (chosen_segments version bytes) bytes in
-    let mask = chosen_mask version options.level options.mask codewords in
+-- the modules of the data in a version, under the mask of the label, or else the first with the lowest penalty
+unfoldable pub qr_modules : LabelValues → List ℕ → ℕ → Picture
+qr_modules label bytes version =
+    let codewords = symbol_codewords version label.level (chosen_segments version bytes) bytes in
+    let mask = chosen_mask version label.level label.mask codewords in
     let side = side_of version in
-    record { width = side; height = side; dark = module_at version options.level mask codewords }
+    record { width = side; height = side; dark = module_at version label.level mask codewords }
 
 -- the symbol of the data, or why there is none
-unfoldable pub symbol_of : OptionValues → Symbology → List ℕ → Result Symbol Fault
-symbol_of options Ean13 bytes = linear_symbol Ean13 ean13_row options (full_digits 12 bytes)
-symbol_of options Ean8 bytes = linear_symbol Ean8 ean8_row options (full_digits 7 bytes)
-symbol_of options UpcA bytes = linear_symbol UpcA upca_row options (full_digits 11 bytes)
-symbol_of options Code128 bytes = linear_symbol Code128 code128_row options (full_code128 bytes)
-symbol_of options Qr bytes = do
-  version ← ok_or (chosen_version options.min_version options.level bytes) (DoesNotFit options.level)
-  Ok (record { symbology = Qr; full = bytes; modules = qr_modules options bytes version })
+unfoldable pub symbol_of : LabelValues → Symbology → List ℕ → Result Symbol Fault
+symbol_of label Ean13 bytes = linear_symbol Ean13 ean13_row label (full_digits 12 bytes)
+symbol_of label Ean8 bytes = linear_symbol Ean8 ean8_row label (full_digits 7 bytes)
+symbol_of label UpcA bytes = linear_symbol UpcA upca_row label (full_digits 11 bytes)
+symbol_of label Code128 bytes = linear_symbol Code128 code128_row label (full_code128 bytes)
+symbol_of label Qr bytes = do
+  version ← ok_or (chosen_version label.min_version label.level bytes) (DoesNotFit label.level)
+  Ok (record { symbology = Qr; full = bytes; modules = qr_modules label bytes version })

@@ -1,7 +1,8 @@
 //! The filter, fed piece by piece.
 ghost use Rattle.std.specs.Prelude.{◌≡◌, ℕ, ◌<◌, true, false, All, List, [], ◌∷◌, ◌++◌, Err, IfOk, MatchResult, OnErr};
 ghost use Rattle.labelcore.specs.Lines.{HasNoLF, LF};
-ghost use Rattle.labelcore.specs.OptionValues.{OptionValues};
+ghost use Rattle.labelcore.specs.OptionValues.{RunValues};
+ghost use Rattle.labelcore.specs.declared.options.Options.{Options};
 ghost use Rattle.filter.specs.Filter.{CountsFault, FilterState, FlushesImagesFirst, FlushesNeither, IsAfter};
 ghost use Rattle.filter.specs.Filter.{Feeds, Sends, Stops, Took, taken};
 ghost use Rattle.filter.specs.Output.{ended_script, flushes, script, status_of};
@@ -55,7 +56,7 @@ impl Filter {
     /// Holds bytes of the open line.
     fn hold(&mut self, bytes: &[u8])
         requires { HasNoLF bytes.now }
-        ensures { (options : OptionValues) (text : List ℕ) → IsAfter options self.old text
+        ensures { (options : Options) (text : List ℕ) → IsAfter options self.old text
             → IsAfter options self.new (text ++ bytes.now) }
     {
         self.line.extend(bytes);
@@ -63,7 +64,7 @@ impl Filter {
 
     /// Takes the LF that ends the open line.
     fn end_line<O: Sink, E: Sink>(&mut self, out: &mut O, err: &mut E) -> Result<(), RunFault>
-        ensures feeds { (options : OptionValues) (text : List ℕ) → IsAfter options self.old text
+        ensures feeds { (options : Options) (text : List ℕ) → IsAfter options self.old text
             → Feeds options (taken (O.took out.old out.new) (E.took err.old err.new)) self.new
             text (text ++ LF ∷ []) result }
         ensures spent { OnErr result (self.new.is_spent ≡ true) }
@@ -96,7 +97,7 @@ impl Filter {
         out: &mut O,
         err: &mut E,
     ) -> Result<(), RunFault>
-        ensures feeds { (options : OptionValues) (text : List ℕ) → IsAfter options self.old text
+        ensures feeds { (options : Options) (text : List ℕ) → IsAfter options self.old text
             → Feeds options (taken (O.took out.old out.new) (E.took err.old err.new)) self.new
             text (text ++ piece.now) result }
         ensures bytes { All (λ b. b < 256) piece.now }
@@ -128,10 +129,10 @@ impl Filter {
     /// `WriteOut` where a call of `out` failed, `WriteMessages` where one of `err` did, in that line or in a flush. A
     /// filter that was spent returns `Spent` and calls no sink.
     pub fn finish<O: Sink, E: Sink>(mut self, out: &mut O, err: &mut E) -> Result<Status, RunFault>
-        ensures sends { (options : OptionValues) (text : List ℕ) → IsAfter options self text
-            → Sends options (taken (O.took out.old out.new) (E.took err.old err.new))
+        ensures sends { (options : Options) (text : List ℕ) → IsAfter options self text
+            → Sends options.run (taken (O.took out.old out.new) (E.took err.old err.new))
             (ended_script options text) (script options text) result }
-        ensures status { (options : OptionValues) (text : List ℕ) → IsAfter options self text
+        ensures status { (options : Options) (text : List ℕ) → IsAfter options self text
             → IfOk result (λ status. status ≡ status_of (script options text)) }
         ensures flushed { FlushesImagesFirst (O.is_flushed out.old) (O.is_flushed out.new)
             (E.is_flushed err.old) (E.is_flushed err.new) result }
@@ -145,13 +146,12 @@ impl Filter {
             return Err(RunFault::Spent);
         }
         self.end_open_line(out, err)?;
-        flush_both(out, err)?;
-        Ok(self.status)
+        flush_both(self.status, out, err)
     }
 
     /// Ends the open line, if it has a byte.
     fn end_open_line<O: Sink, E: Sink>(&mut self, out: &mut O, err: &mut E) -> Result<(), RunFault>
-        ensures feeds { (options : OptionValues) (text : List ℕ) → IsAfter options self.old text → (all : List ℕ)
+        ensures feeds { (options : Options) (text : List ℕ) → IsAfter options self.old text → (all : List ℕ)
             × (script options text ≡ ended_script options all ++ flushes ∷ [])
             × Feeds options (taken (O.took out.old out.new) (E.took err.old err.new)) self.new text all result }
         ensures sinks { FlushesNeither O.Sink E.Sink out.old out.new err.old err.new result }
@@ -163,11 +163,16 @@ impl Filter {
     }
 }
 
-/// Flushes the images, and then the messages.
-fn flush_both<O: Sink, E: Sink>(out: &mut O, err: &mut E) -> Result<(), RunFault>
-    ensures sends { (options : OptionValues) → MatchResult result
-        (λ _. Took options (taken (O.took out.old out.new) (E.took err.old err.new)) (flushes ∷ []))
-        (Stops options (taken (O.took out.old out.new) (E.took err.old err.new)) (flushes ∷ [])) }
+/// Flushes the images, and then the messages. Returns this status.
+fn flush_both<O: Sink, E: Sink>(
+    status: Status,
+    out: &mut O,
+    err: &mut E,
+) -> Result<Status, RunFault>
+    ensures sends { (run : RunValues) → MatchResult result
+        (λ _. Took run (taken (O.took out.old out.new) (E.took err.old err.new)) (flushes ∷ []))
+        (Stops run (taken (O.took out.old out.new) (E.took err.old err.new)) (flushes ∷ [])) }
+    ensures status { IfOk result (λ same. same ≡ status) }
     ensures flushed { FlushesImagesFirst (O.is_flushed out.old) (O.is_flushed out.new)
         (E.is_flushed err.old) (E.is_flushed err.new) result }
     ensures counts { CountsFault (O.failures out.old) (O.failures out.new)
@@ -179,5 +184,5 @@ fn flush_both<O: Sink, E: Sink>(out: &mut O, err: &mut E) -> Result<(), RunFault
     let Ok(()) = err.flush() else {
         return Err(RunFault::WriteMessages);
     };
-    Ok(())
+    Ok(status)
 }

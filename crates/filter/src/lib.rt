@@ -5,15 +5,15 @@
 //! this crate has an example. None of these calls takes memory from the heap.
 #![tactic(auto)]
 
-mod drawing;
 mod filter;
 mod line;
+mod read_loop;
 mod status;
 mod streams;
-mod whole_run;
+mod symbol;
 
-pub use drawing::draw;
 pub use filter::Filter;
+pub use read_loop::run;
 pub use status::{RunFault, Status};
 pub use streams::run_streams;
-pub use whole_run::run;
+pub use symbol::draw;

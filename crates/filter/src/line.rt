@@ -2,15 +2,15 @@
 ghost use Rattle.std.specs.Prelude.{◌≡◌, ℕ, List, [], ◌∷◌, IfOk, MatchResult};
 ghost use Rattle.labelcore.specs.HeldLine.{held_line};
 ghost use Rattle.labelcore.specs.ItemView.{item_seen};
-ghost use Rattle.labelcore.specs.LineItem.{HasData, KeepsRun, refused};
-ghost use Rattle.labelcore.specs.OptionValues.{OptionValues};
+ghost use Rattle.labelcore.specs.LineItem.{HasData, refused};
+ghost use Rattle.labelcore.specs.OptionValues.{RunValues};
 ghost use Rattle.filter.specs.Output.{of_line, outcome, outcome_of_item, status_of};
 ghost use Rattle.filter.specs.Filter.{DrawsOutcome, FlushesNeither, Stops, Took, taken};
 
-use crate::drawing::draw;
 use crate::status::{RunFault, Status};
+use crate::symbol::draw;
 use device::{IoFault, Sink};
-use labelcore::{Fault, Item, LineBuf, Options, Scratch, parse, write_fault};
+use labelcore::{Fault, Item, LineBuf, Options, RunOptions, Scratch, parse, write_fault};
 
 /// Writes the image or the message of the line with this number, and flushes nothing. Returns the status of this line.
 ///
@@ -25,8 +25,8 @@ pub fn finish_line<O: Sink, E: Sink>(
     err: &mut E,
 ) -> Result<Status, RunFault>
     ensures sends { (text : List ℕ) → line.now ≡ held_line text
-        → MatchResult result (λ _. Took options.now (taken (O.took out.old out.new) (E.took err.old err.new))
-        (of_line number (outcome options.now text) ∷ [])) (Stops options.now
+        → MatchResult result (λ _. Took options.now.run (taken (O.took out.old out.new) (E.took err.old err.new))
+        (of_line number (outcome options.now text) ∷ [])) (Stops options.now.run
         (taken (O.took out.old out.new) (E.took err.old err.new)) (of_line number (outcome options.now text) ∷ [])) }
     ensures status { (text : List ℕ) → line.now ≡ held_line text → IfOk result (λ status.
         status ≡ status_of (of_line number (outcome options.now text) ∷ [])) }
@@ -34,7 +34,7 @@ pub fn finish_line<O: Sink, E: Sink>(
 {
     let mut scratch = Scratch::new();
     let item = parse(options, line, &mut scratch);
-    match draw_item(item, out) {
+    match draw_item(&options.run, item, out) {
         Ok(Ok(())) => Ok(Status::Clean),
         Ok(Err(fault)) => refuse(number, &fault, out, err),
         Err(_) => Err(RunFault::WriteOut),
@@ -42,16 +42,21 @@ pub fn finish_line<O: Sink, E: Sink>(
 }
 
 /// Draws what a line asks for. The inner result is the fault where the line is refused.
-fn draw_item<O: Sink>(item: Item, out: &mut O) -> Result<Result<(), Fault>, IoFault>
+fn draw_item<O: Sink>(
+    run: &RunOptions,
+    item: Item,
+    out: &mut O,
+) -> Result<Result<(), Fault>, IoFault>
     requires { HasData (item_seen item) }
-    ensures { (options : OptionValues) → KeepsRun options (item_seen item.entry)
-        → DrawsOutcome O.Sink out.old out.new options
+    ensures { DrawsOutcome O.Sink out.old out.new run.now
         (outcome_of_item (item_seen item.entry)) result }
 {
     match item {
         Item::Skipped => Ok(Ok(())),
         Item::Refused(fault) => Ok(Err(fault)),
-        Item::Drawn(symbology, own, bytes) => draw(&own, symbology, bytes, out),
+        Item::Drawn(symbology, label, bytes) => {
+            draw(&Options { run: *run, label }, symbology, bytes, out)
+        }
     }
 }
 
@@ -62,10 +67,10 @@ fn refuse<O: Sink, E: Sink>(
     out: &mut O,
     err: &mut E,
 ) -> Result<Status, RunFault>
-    ensures sends { (options : OptionValues) → MatchResult result
-        (λ _. Took options (taken (O.took out.old out.new) (E.took err.old err.new))
+    ensures sends { (run : RunValues) → MatchResult result
+        (λ _. Took run (taken (O.took out.old out.new) (E.took err.old err.new))
         (of_line number (refused fault.now) ∷ []))
-        (Stops options (taken (O.took out.old out.new) (E.took err.old err.new))
+        (Stops run (taken (O.took out.old out.new) (E.took err.old err.new))
         (of_line number (refused fault.now) ∷ [])) }
     ensures status { IfOk result (λ status. status ≡ Status.Refused) }
     ensures sinks { FlushesNeither O.Sink E.Sink out.old out.new err.old err.new result }

@@ -6,8 +6,8 @@ ghost use Rattle.device.specs.Streams.{reader_of, writer_of};
 ghost use Rattle.filter.specs.Run.{IsPassedOn, Produces, Runs};
 ghost use Rattle.filter.specs.Filter.{taken};
 
+use crate::read_loop::run;
 use crate::status::{RunFault, Status};
-use crate::whole_run::run;
 use device::{Buffered, Sink, Source, StdSink, StdSource};
 use labelcore::Options;
 use std::io::{Read, Write};

@@ -1,12 +1,12 @@
 use Rattle.filter.proofs.Words.{◌∙◌, [], ap, refl, sym, subst, ◌≡◌, ℕ, List, ◌∷◌, Ok, Err, refused, Outcome, Request}
 use Rattle.filter.proofs.Words.{skipped, drawn, item, Images, image_of, of_line, outcome_of_item, message_of, outcome}
-use Rattle.filter.proofs.Words.{status_of, OptionValues, Fault, Symbol, Clean, Refused, refusal_of, taken}
+use Rattle.filter.proofs.Words.{status_of, Options, Fault, Symbol, Clean, Refused, refusal_of, taken}
 use Rattle.labelcore.specs.ItemView.{item_seen}
 use Rattle.filter.proofs.ScriptLaws.{both, event_stops, event_took, none_taken}
 use Rattle.filter.proofs.line.finish_line.Goals as goal
 
 -- what is drawn of a line, by its item
-outcome-seen : (options : OptionValues) (line : List ℕ) (seen : Outcome Request) → seen ≡ item options line
+outcome-seen : (options : Options) (line : List ℕ) (seen : Outcome Request) → seen ≡ item options line
     → outcome options line ≡ outcome_of_item seen
 unfolding outcome
 outcome-seen options line seen same = ap outcome_of_item (sym same)
@@ -33,12 +33,12 @@ pub returns-in-Ok-Ok : goal.returns-in-Ok-Ok
 returns-in-Ok-Ok g c =
     let options = c.args.options.now in
     let o = outcome_of_item (item_seen c.parse-item.result) in
-    let h = c.in-Ok-Ok.ensures options c.parse-item.ensures.form in
+    let h = c.in-Ok-Ok.ensures in
     let clean = drawn_line c.args.number o (sym h.refusal ∙ c.in-Ok-Ok.field-0-is) in
     let took = g.E.Sink.took c.args.err.now c.args.err.now in
     record {
       sends = λ text at. rw (outcome-seen options text _ (c.parse-item.ensures.item text at))
-          (event_took options _ took (of_line c.args.number o) h.writes.bytes
+          (event_took options.run _ took (of_line c.args.number o) h.writes.bytes
           (subst took clean.0 (g.met.E.Sink.took_none c.args.err.now)));
       status = λ text at. rw (outcome-seen options text _ (c.parse-item.ensures.item text at)) clean.1;
       sinks = record { counts = (h.writes.count, refl); out_unflushed = h.writes.unflushed; err_unflushed = λ e. e };
@@ -48,16 +48,16 @@ pub returns-in-Ok-Err : goal.returns-in-Ok-Err
 returns-in-Ok-Err g c =
     let options = c.args.options.now in
     let o = outcome_of_item (item_seen c.parse-item.result) in
-    let h = c.in-Ok-Err.ensures options c.parse-item.ensures.form in
+    let h = c.in-Ok-Err.ensures in
     let is = refused_outcome o c.in-Ok-Err.fault (sym h.refusal ∙ c.in-Ok-Err.field-0-is) in
-    let none = subst (g.O.Sink.took c.args.out.now c.draw_item.new.out) (ap (image_of options) is) h.writes.bytes in
+    let none = subst (g.O.Sink.took c.args.out.now c.draw_item.new.out) (ap (image_of options.run) is) h.writes.bytes in
     let refuse = c.refuse.ensures in
     record {
       sends = λ text at. rw (outcome-seen options text _ (c.parse-item.ensures.item text at) ∙ is)
-          (both g.met.O.Sink.took_joined g.met.E.Sink.took_joined options c.args.out.now c.draw_item.new.out
+          (both g.met.O.Sink.took_joined g.met.E.Sink.took_joined options.run c.args.out.now c.draw_item.new.out
           c.refuse.new.out c.args.err.now c.args.err.now c.refuse.new.err []
           (of_line c.args.number (refused c.in-Ok-Err.fault) ∷ []) c.refuse.result
-          (none_taken _ _ none (g.met.E.Sink.took_none c.args.err.now)) (refuse.sends options));
+          (none_taken _ _ none (g.met.E.Sink.took_none c.args.err.now)) (refuse.sends options.run));
       status = λ text at. rw (
         outcome-seen options text _ (c.parse-item.ensures.item text at) ∙ is,
         sym (refused_status c.args.number c.in-Ok-Err.fault),
@@ -72,12 +72,12 @@ returns-in-Ok-Err g c =
 pub returns-in-Err : goal.returns-in-Err
 returns-in-Err g c =
     let options = c.args.options.now in
-    let writes = (c.in-Err.ensures options c.parse-item.ensures.form).writes in
+    let writes = c.in-Err.ensures.writes in
     let out = g.O.Sink.took c.args.out.now c.draw_item.new.out in
     let err = g.E.Sink.took c.args.err.now c.args.err.now in
     record {
       sends = λ text at. rw (outcome-seen options text _ (c.parse-item.ensures.item text at))
-          (event_stops options (taken out err) Images (of_line c.args.number (outcome_of_item (item_seen c.parse-item.result))) []
+          (event_stops options.run (taken out err) Images (of_line c.args.number (outcome_of_item (item_seen c.parse-item.result))) []
           writes.bytes (g.met.E.Sink.took_none c.args.err.now));
       status = λ text at. tt;
       sinks = record { counts = (writes.count, refl); out_unflushed = writes.unflushed; err_unflushed = λ e. e };

@@ -24,7 +24,7 @@ returns-in-Ok g c =
       whole = record {
         text = p.text;
         given = Consumes-whole _ _ p.text (λ bytes. p.text ≡ bytes) p.given.0 h.ended.1 refl;
-        sends = Took-by c.args.options (images_by _ _ _ (λ bytes took.
+        sends = Took-by c.args.options.run (images_by _ _ _ (λ bytes took.
             c.reaches.ensures.bytes h.flushed.0 _ _ bytes took)) (script c.args.options p.text) p.sends;
         status = p.status;
         read = p.read;

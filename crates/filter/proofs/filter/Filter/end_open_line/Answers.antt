@@ -13,7 +13,7 @@ returns-then-is_empty-clause-feeds g c options text at =
       text,
       script-ended options text (no_byte (open_line text) none),
       record {
-        sends = Sends-none options tt refl (g.met.O.Sink.took_none _) (g.met.E.Sink.took_none _);
+        sends = Sends-none options.run tt refl (g.met.O.Sink.took_none _) (g.met.E.Sink.took_none _);
         is_after = at;
       },
     )

@@ -10,7 +10,7 @@ loop-line-init g c = record {
   fed = [];
   whole = refl;
   feeds = λ options text at. rw (append-nil text) (record {
-    sends = Sends-none options tt refl (g.met.O.Sink.took_none _) (g.met.E.Sink.took_none _);
+    sends = Sends-none options.run tt refl (g.met.O.Sink.took_none _) (g.met.E.Sink.took_none _);
     is_after = at;
   });
   sinks = record { counts = (refl, refl); out_unflushed = λ e. e; err_unflushed = λ e. e };
@@ -31,7 +31,7 @@ loop-line-preserved g c =
           let next = c.in_ok-end_line.ensures.feeds options ((text ++ h.fed) ++ line)
           (c.hold.ensures options (text ++ h.fed) before.is_after) in
           rw (← append_assoc text h.fed (line ++ LF ∷ []), ← append_assoc (text ++ h.fed) line (LF ∷ [])) (record {
-            sends = Sends-append g.met.O.Sink.took_joined g.met.E.Sink.took_joined options (Ok (tt {0})) before.sends
+            sends = Sends-append g.met.O.Sink.took_joined g.met.E.Sink.took_joined options.run (Ok (tt {0})) before.sends
                 (rw (ended_lines-more (text ++ h.fed) line c.in-Some.ensures.line) at next.sends);
             is_after = next.is_after;
           });
@@ -50,9 +50,9 @@ returns-in_err-end_line-clause-feeds g c options text at =
     let out = g.O.Sink.took c.args.out.now c.end_line.new.out in
     let err = g.E.Sink.took c.args.err.now c.end_line.new.err in
     rw (p.1, p.2) (record {
-      sends = Sends-longer options {took = taken out err} more.0
+      sends = Sends-longer options.run {took = taken out err} more.0
           (ap (ended_script options) (simp (h.whole, c.in-Some.ensures.cut, append_assoc)) ∙ more.1)
-          (Sends-append g.met.O.Sink.took_joined g.met.E.Sink.took_joined options (Err c.in_err-end_line.field-0.0)
+          (Sends-append g.met.O.Sink.took_joined g.met.E.Sink.took_joined options.run (Err c.in_err-end_line.field-0.0)
           before.sends (rw (ended_lines-more (text ++ h.fed) line c.in-Some.ensures.line) at next.sends));
       is_after = tt;
     })

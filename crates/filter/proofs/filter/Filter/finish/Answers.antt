@@ -1,4 +1,4 @@
-use Rattle.filter.proofs.Words.{◌≡◌, ◌∙◌, Ok, Err, [], ◌∷◌, ap, refl, sym, err_from_is_err_and, FilterState}
+use Rattle.filter.proofs.Words.{◌≡◌, ◌∙◌, [], ◌∷◌, ap, refl, subst, sym, err_from_is_err_and, FilterState, IfOk, Status}
 use Rattle.filter.proofs.Words.{flushes, status_of, taken}
 use Rattle.filter.proofs.FilterLaws.{status_of-flushes}
 use Rattle.filter.proofs.RunLaws.{CountsFault-after, FlushesImagesFirst-after}
@@ -23,7 +23,7 @@ returns-in_err-end_open_line g c =
     let call = c.in_err-end_open_line.ensures in
     rw (p.1, p.2) (record {
       sends = λ options text at. let h = call.feeds options text at in
-          Sends-longer options {took = taken (g.O.Sink.took c.args.out.now c.end_open_line.new.out) (g.E.Sink.took
+          Sends-longer options.run {took = taken (g.O.Sink.took c.args.out.now c.end_open_line.new.out) (g.E.Sink.took
           c.args.err.now c.end_open_line.new.err)} (flushes ∷ []) h.1 h.2.sends;
       status = λ options text at. tt;
       flushed = (λ other. call.sinks.out_unflushed, call.sinks.err_unflushed);
@@ -31,36 +31,21 @@ returns-in_err-end_open_line g c =
       spent = λ spent. cc;
     })
 
-pub returns-in_err-flush_both : goal.returns-in_err-flush_both
-returns-in_err-flush_both g c =
-    let p = err_from_is_err_and c.from_residual-in_err-flush_both.result c.from_residual-in_err-flush_both.ensures.1 in
-    let isnt = ap (λ (s : FilterState). s.is_spent) (sym c.self.view_is) ∙ c.if-self.false in
-    let before = c.in_ok-end_open_line.ensures in
-    let flush = c.in_err-flush_both.ensures in
-    let fault = c.in_err-flush_both.field-0.0 in
-    rw (p.1, p.2) (record {
-      sends = λ options text at. let h = before.feeds options text at in
-          Sends-append g.met.O.Sink.took_joined g.met.E.Sink.took_joined options (Err fault) h.2.sends
-          (record { added = flushes ∷ []; grown = h.1; sends = flush.sends options });
-      status = λ options text at. tt;
-      flushed = FlushesImagesFirst-after before.sinks {U = Unit {0}} _ _ (Err fault) flush.flushed;
-      counts = λ e. CountsFault-after before.sinks {U = Unit {0}} _ _ (Err fault) flush.counts;
-      spent = λ spent. cc;
-    })
-
 pub returns : goal.returns
 returns g c =
     let isnt = ap (λ (s : FilterState). s.is_spent) (sym c.self.view_is) ∙ c.if-self.false in
     let before = c.in_ok-end_open_line.ensures in
-    let flush = c.in_ok-flush_both.ensures in
+    let flush = c.flush_both.ensures in
+    let r = c.flush_both.result in
     record {
       sends = λ options text at. let h = before.feeds options text at in
-          Sends-append g.met.O.Sink.took_joined g.met.E.Sink.took_joined options (Ok c.self-2.inside.status) h.2.sends
-          (record { added = flushes ∷ []; grown = h.1; sends = flush.sends options });
+          Sends-append g.met.O.Sink.took_joined g.met.E.Sink.took_joined options.run r h.2.sends
+          (record { added = flushes ∷ []; grown = h.1; sends = flush.sends options.run });
       status = λ options text at. let h = before.feeds options text at in
-          ap (λ (s : FilterState). s.status) c.self-2.view_is ∙ (h.2.is_after.status_is
-          ∙ (sym (status_of-flushes _) ∙ ap status_of (sym h.1)));
-      flushed = flush.flushed;
-      counts = λ e. CountsFault-after before.sinks _ _ (Ok (tt {0})) flush.counts;
+          subst (λ (status : Status). IfOk r (λ same. same ≡ status))
+          (ap (λ (s : FilterState). s.status) c.self-2.view_is ∙ (h.2.is_after.status_is
+          ∙ (sym (status_of-flushes _) ∙ ap status_of (sym h.1)))) flush.status;
+      flushed = FlushesImagesFirst-after before.sinks _ _ r flush.flushed;
+      counts = λ e. CountsFault-after before.sinks _ _ r flush.counts;
       spent = λ spent. cc;
     }

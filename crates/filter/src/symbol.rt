@@ -13,10 +13,10 @@ ghost use Rattle.filter.specs.Private.{beside, image_in};
 ghost use Rattle.filter.specs.Symbol.{linear_symbol, qr_modules, quiet_zone, symbol_of};
 
 use device::{IoFault, Sink};
-use labelcore::{Fault, Format, Options, Symbology};
+use labelcore::{Fault, Format, LabelOptions, Options, RunOptions, Symbology};
 use linear::{Code128, Ean8, Ean13, Linear, QuietZones, Row, UpcA};
 use picture::{Bars, Framed, Grid, QuietZone, Scaled, write_ascii, write_pbm};
-use qrdata::{Codewords, Plan, Version, choose, codewords};
+use qrdata::{Codewords, Plan, choose, codewords};
 use qrmatrix::{Matrix, QUIET_ZONE};
 
 /// Draws one symbol: writes the image of `bytes` in a symbology, under these options, and flushes nothing. `bytes` is
@@ -27,6 +27,7 @@ use qrmatrix::{Matrix, QUIET_ZONE};
 /// # Errors
 ///
 /// [`IoFault`] where a write fails: the sink took a beginning of the image.
+#[tactic(auto, unfolding(crate::specs::Symbol::symbol_of))]
 pub fn draw<O: Sink>(
     options: &Options,
     symbology: Symbology,
@@ -34,27 +35,12 @@ pub fn draw<O: Sink>(
     out: &mut O,
 ) -> Result<Result<(), Fault>, IoFault>
     requires { bytes.now ≢ [] }
-    ensures drawn { DrawsOutcome O.Sink out.old out.new options.now
-        (outcome_of (symbol_of options.now symbology bytes.now)) result }
-    ensures read { IfOk (symbol_of options.now symbology bytes.now) (λ symbol.
-        IsRead options.now.format options.now.scale (image_of options.now (drawn symbol)) symbol) }
+    ensures drawn { DrawsOutcome O.Sink out.old out.new options.now.run
+        (outcome_of (symbol_of options.now.label symbology bytes.now)) result }
+    ensures read { IfOk (symbol_of options.now.label symbology bytes.now) (λ symbol.
+        IsRead options.now.run.format options.now.run.scale (image_of options.now.run (drawn symbol)) symbol) }
 {
     options.ranges();
-    draw_symbol(options, symbology, bytes, out)
-}
-
-/// Draws one symbol.
-#[tactic(auto, unfolding(crate::specs::Symbol::symbol_of))]
-fn draw_symbol<O: Sink>(
-    options: &Options,
-    symbology: Symbology,
-    bytes: &[u8],
-    out: &mut O,
-) -> Result<Result<(), Fault>, IoFault>
-    requires { bytes.now ≢ [] }
-    ensures { DrawsOutcome O.Sink out.old out.new options.now
-        (outcome_of (symbol_of options.now symbology bytes.now)) result }
-{
     match symbology {
         Symbology::Ean13 => draw_linear::<Ean13, O>(options, bytes, out),
         Symbology::Ean8 => draw_linear::<Ean8, O>(options, bytes, out),
@@ -73,15 +59,15 @@ fn draw_linear<L: Linear, O: Sink>(
     requires some { bytes.now ≢ [] }
     requires narrow { L.QUIET_ZONES.left + L.QUIET_ZONES.right ≤ 20 }
     ensures { (symbology : Symbology) → quiet_zone symbology ≡ beside L.QUIET_ZONES
-        → DrawsOutcome O.Sink out.old out.new options.now
-        (outcome_of (linear_symbol symbology L.row_of options.now (L.full_data bytes.now))) result }
+        → DrawsOutcome O.Sink out.old out.new options.now.run
+        (outcome_of (linear_symbol symbology L.row_of options.now.label (L.full_data bytes.now))) result }
 {
     let mut row = Row::new();
     match L::encode(bytes, &mut row) {
-        Ok(()) => {
-            write_bars(options, row.as_slice(), L::QUIET_ZONES, out)?;
-            Ok(Ok(()))
-        }
+        Ok(()) => match write_bars(options, row.as_slice(), L::QUIET_ZONES, out) {
+            Ok(()) => Ok(Ok(())),
+            Err(fault) => Err(fault),
+        },
         Err(refusal) => Ok(Err(Fault::from(refusal))),
     }
 }
@@ -95,18 +81,17 @@ fn write_bars<O: Sink>(
 ) -> Result<(), IoFault>
     requires fits { length row.now ≤ MAX_MODULES }
     requires narrow { zones.left + zones.right ≤ 20 }
-    ensures writes { WritesText O.Sink out.old out.new (image_in (beside zones) options.now
-        (bars row.now options.now.height)) result }
-    ensures height { (1 ≤ options.now.height) × (options.now.height ≤ 500) }
+    ensures { WritesText O.Sink out.old out.new (image_in (beside zones) options.now.run
+        (bars row.now options.now.label.height)) result }
 {
-    let bars = Bars::new(row, usize::from(options.height()));
+    let bars = Bars::new(row, usize::from(options.label.height()));
     let zone = QuietZone {
         left: zones.left,
         right: zones.right,
         top: 0,
         bottom: 0,
     };
-    write_picture(options, bars, zone, out)
+    write_picture(&options.run, bars, zone, out)
 }
 
 /// Draws a QR symbol.
@@ -116,15 +101,14 @@ fn draw_qr<O: Sink>(
     bytes: &[u8],
     out: &mut O,
 ) -> Result<Result<(), Fault>, IoFault>
-    ensures { DrawsOutcome O.Sink out.old out.new options.now
-        (outcome_of (symbol_of options.now Qr bytes.now)) result }
+    ensures { DrawsOutcome O.Sink out.old out.new options.now.run
+        (outcome_of (symbol_of options.now.label Qr bytes.now)) result }
 {
-    let min_version = Version::of(options.min_version());
-    match choose(min_version, options.level(), bytes) {
-        Ok(plan) => {
-            write_plan(options, &plan, out)?;
-            Ok(Ok(()))
-        }
+    match choose(options.label.min_version(), options.label.level(), bytes) {
+        Ok(plan) => match write_plan(options, &plan, out) {
+            Ok(()) => Ok(Ok(())),
+            Err(fault) => Err(fault),
+        },
         Err(refusal) => Ok(Err(Fault::from(refusal))),
     }
 }
@@ -132,9 +116,9 @@ fn draw_qr<O: Sink>(
 /// Writes the image of a plan.
 fn write_plan<O: Sink>(options: &Options, plan: &Plan, out: &mut O) -> Result<(), IoFault>
     requires chosen { plan.now.segments ≡ chosen_segments plan.now.version plan.now.bytes }
-    requires level { plan.now.level ≡ options.now.level }
-    ensures { WritesText O.Sink out.old out.new (image_in (quiet_zone Qr) options.now
-        (qr_modules options.now plan.now.bytes plan.now.version)) result }
+    requires level { plan.now.level ≡ options.now.label.level }
+    ensures { WritesText O.Sink out.old out.new (image_in (quiet_zone Qr) options.now.run
+        (qr_modules options.now.label plan.now.bytes plan.now.version)) result }
 {
     let zone = QuietZone {
         left: QUIET_ZONE,
@@ -142,35 +126,35 @@ fn write_plan<O: Sink>(options: &Options, plan: &Plan, out: &mut O) -> Result<()
         top: QUIET_ZONE,
         bottom: QUIET_ZONE,
     };
-    write_picture(options, matrix_of(options, plan), zone, out)
+    write_picture(&options.run, matrix_of(&options.label, plan), zone, out)
 }
 
 /// The symbol of a plan.
 #[tactic(auto, unfolding(crate::specs::Symbol::qr_modules))]
-fn matrix_of(options: &Options, plan: &Plan) -> Matrix
+fn matrix_of(label: &LabelOptions, plan: &Plan) -> Matrix
     requires chosen { plan.now.segments ≡ chosen_segments plan.now.version plan.now.bytes }
-    requires level { plan.now.level ≡ options.now.level }
-    ensures modules { symbol_picture result ≡ qr_modules options.now plan.now.bytes plan.now.version }
+    requires level { plan.now.level ≡ label.now.level }
+    ensures modules { symbol_picture result ≡ qr_modules label.now plan.now.bytes plan.now.version }
     ensures side { result.side ≤ 57 }
 {
     let mut all = Codewords::new();
     codewords(plan, &mut all);
-    Matrix::draw(plan.version(), plan.level(), options.mask(), &all)
+    Matrix::draw(plan.version(), plan.level(), label.mask(), &all)
 }
 
-/// Writes the image of a grid in its quiet zone, enlarged by the scale of the options.
+/// Writes the image of a grid in its quiet zone, enlarged by the scale of the run.
 fn write_picture<G: Grid + Drop, O: Sink>(
-    options: &Options,
+    run: &RunOptions,
     grid: G,
     zone: QuietZone,
     out: &mut O,
 ) -> Result<(), IoFault>
     requires width { zone.left + (G.picture grid).width + zone.right ≤ 1815 }
     requires height { zone.top + (G.picture grid).height + zone.bottom ≤ 500 }
-    ensures { WritesText O.Sink out.old out.new (image_in zone options.now (G.picture grid)) result }
+    ensures { WritesText O.Sink out.old out.new (image_in zone run.now (G.picture grid)) result }
 {
-    let picture = Scaled::new(Framed::new(grid, zone), usize::from(options.scale()));
-    write_text(options.format(), &picture, out)
+    let picture = Scaled::new(Framed::new(grid, zone), usize::from(run.scale()));
+    write_text(run.format(), &picture, out)
 }
 
 /// Writes the text of a picture in a format.

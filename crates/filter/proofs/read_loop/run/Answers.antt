@@ -4,7 +4,7 @@ use Rattle.filter.proofs.Words.{Result, Ok, Images, WriteOut, taken}
 use Rattle.filter.proofs.FilterLaws.{some_later}
 use Rattle.filter.proofs.RunLaws.{HasRun-append, HasRun-passed, Runs-after, Runs-read}
 use Rattle.filter.proofs.ScriptLaws.{none_taken, Sends-longer, Sends-none, Stops-first}
-use Rattle.filter.proofs.whole_run.run.Goals as goal
+use Rattle.filter.proofs.read_loop.run.Goals as goal
 
 pub loop-turn-init : goal.loop-turn-init
 loop-turn-init g c = record {
@@ -14,7 +14,7 @@ loop-turn-init g c = record {
     gave = g.met.S.Source.gave_none c.args.source.now;
     count = refl;
     fed = record {
-      sends = Sends-none c.args.options tt refl (g.met.O.Sink.took_none _) (g.met.E.Sink.took_none _);
+      sends = Sends-none c.args.options.run tt refl (g.met.O.Sink.took_none _) (g.met.E.Sink.took_none _);
       is_after = c.new-filter.ensures;
     };
     sinks = record { counts = (refl, refl); out_unflushed = λ e. e; err_unflushed = λ e. e };
@@ -30,7 +30,7 @@ returns-in_default g c =
     h.so_far.fed.is_after.bytes (record {
       added = later.0 ∷ later.1;
       grown = later.2;
-      sends = Stops-first options _ Images later.0 later.1
+      sends = Stops-first options.run _ Images later.0 later.1
           (none_taken _ _ c.pass_on.ensures.bytes (g.met.E.Sink.took_none c.loop-turn.err));
     })
     tt tt (c.in_default.ensures.count, refl) (λ other is. sym c.pass_on.ensures.flushed ∙ is, λ is. is)
@@ -82,7 +82,7 @@ returns-in_err-feed g c =
     rw (p.1, p.2) (Runs-after g.met.O.Sink.took_joined g.met.E.Sink.took_joined passed (given ++ piece)
     (Err c.in_err-feed.field-0.0) (g.met.S.Source.gave_joined _ _ _ _ _ h.gave c.in-Ok-read.ensures.bytes)
     c.in-Ok-read.ensures.count (All-append (λ b. b < 256) given piece h.fed.is_after.bytes c.in_err-feed.ensures.bytes)
-    (Sends-longer options {took = taken (g.O.Sink.took c.pass_on.new.self c.feed.new.out) (g.E.Sink.took c.loop-turn.err
+    (Sends-longer options.run {took = taken (g.O.Sink.took c.pass_on.new.self c.feed.new.out) (g.E.Sink.took c.loop-turn.err
     c.feed.new.err)} (later.0 ∷ later.1) later.2 (c.in_err-feed.ensures.feeds options given h.fed.is_after).sends)
     tt tt sinks.counts (λ other. sinks.out_unflushed, sinks.err_unflushed))
 

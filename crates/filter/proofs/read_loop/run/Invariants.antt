@@ -1,6 +1,6 @@
 use Rattle.filter.proofs.Words.{◌≤◌, List, ℕ, length}
 use Rattle.filter.proofs.RunLaws.{HasRun}
-use Rattle.filter.proofs.whole_run.run.Given as goal
+use Rattle.filter.proofs.read_loop.run.Given as goal
 
 -- the filter was fed what the source gave so far, and each turn gave a byte or more
 abbrev pub invariant-loop-turn : goal.invariant-loop-turn
