@@ -17,8 +17,8 @@ returns-in_err-feed-clause-produces g c =
     rw (p.1, p.2) (Produces-sends options after.range (c.args.first.now ++ c.args.second.now)
     (Err c.in_err-feed.field-0.0) refl
     (All-append (λ b. b < 256) c.args.first.now c.args.second.now c.in_err-feed.ensures.bytes bytes)
-    (Sends-longer options (later.0 ∷ later.1) later.2
-    (Sends-longer options {U = Unit {0}} more.0 more.1 (c.in_err-feed.ensures.feeds options [] after).sends)) tt)
+    (Sends-longer options.run (later.0 ∷ later.1) later.2
+    (Sends-longer options.run {U = Unit {0}} more.0 more.1 (c.in_err-feed.ensures.feeds options [] after).sends)) tt)
 
 pub returns-in_err-feed-2-clause-produces : goal.returns-in_err-feed-2-clause-produces
 returns-in_err-feed-2-clause-produces g c =
@@ -30,8 +30,8 @@ returns-in_err-feed-2-clause-produces g c =
     rw (p.1, p.2) (Produces-sends options after.range (c.args.first.now ++ c.args.second.now)
     (Err c.in_err-feed-2.field-0.0) refl
     (All-append (λ b. b < 256) c.args.first.now c.args.second.now fed.is_after.bytes c.in_err-feed-2.ensures.bytes)
-    (Sends-longer options (later.0 ∷ later.1) later.2
-    (Sends-append g.met.O.Sink.took_joined g.met.E.Sink.took_joined options (Err c.in_err-feed-2.field-0.0) fed.sends
+    (Sends-longer options.run (later.0 ∷ later.1) later.2
+    (Sends-append g.met.O.Sink.took_joined g.met.E.Sink.took_joined options.run (Err c.in_err-feed-2.field-0.0) fed.sends
     (c.in_err-feed-2.ensures.feeds options c.args.first.now fed.is_after).sends)) tt)
 
 pub returns-clause-produces : goal.returns-clause-produces
@@ -41,10 +41,10 @@ returns-clause-produces g c =
     let text = c.args.first.now ++ c.args.second.now in
     let fed = c.in_ok-feed.ensures.feeds options [] after in
     let fed_too = c.in_ok-feed-2.ensures.feeds options c.args.first.now fed.is_after in
-    let sends = Sends-append g.met.O.Sink.took_joined g.met.E.Sink.took_joined options (Ok (tt {0})) fed.sends
+    let sends = Sends-append g.met.O.Sink.took_joined g.met.E.Sink.took_joined options.run (Ok (tt {0})) fed.sends
     fed_too.sends in
     Produces-sends options after.range text c.finish.result refl fed_too.is_after.bytes
-    (Sends-append g.met.O.Sink.took_joined g.met.E.Sink.took_joined options c.finish.result sends
+    (Sends-append g.met.O.Sink.took_joined g.met.E.Sink.took_joined options.run c.finish.result sends
     (c.finish.ensures.sends options text fed_too.is_after)) (c.finish.ensures.status options text fed_too.is_after)
 
 pub returns-clause-counts : goal.returns-clause-counts
