@@ -60,7 +60,7 @@ fn page_of_qrmatrix(rt: HostRuntime) {
     let mut symbol = Codewords::new();
     codewords(&plan, &mut symbol);
     let matrix = Matrix::draw(plan.version(), plan.level(), None, &symbol);
-    assert!(rt; matrix.side() == 21 && matrix.mask() == 0 && matrix.penalty() == 297);
+    assert!(rt; matrix.side() == 21 && matrix.mask().number() == 0 && matrix.penalty() == 297);
 }
 
 #[test]
@@ -80,16 +80,16 @@ fn page_of_picture(rt: HostRuntime) {
 
 #[test]
 fn page_of_labelcore(rt: HostRuntime) {
-    let Some(options) = Options::default().with_height(30) else {
+    let mut options = Options::default();
+    let Some(label) = options.label.with_height(30) else {
         panic!(rt; "30 is a height");
     };
+    options.label = label;
     let mut line = LineBuf::new();
     line.extend(b"ean8 7351353");
     let mut scratch = Scratch::new();
     let data = b"7351353".as_slice();
-    assert!(rt;
-        parse(&options, &line, &mut scratch) == Item::Drawn(Symbology::Ean8, options, data)
-    );
+    assert!(rt; parse(&options, &line, &mut scratch) == Item::Drawn(Symbology::Ean8, label, data));
     line.clear();
     line.push(b'x');
     assert!(rt; parse(&options, &line, &mut scratch) == Item::Refused(Fault::UnknownSymbology));
@@ -117,7 +117,7 @@ fn page_of_command(rt: HostRuntime) -> Result<(), Fail> {
     arguments.push(String::from_str(alloc, "labels.txt")?)?;
     match options_of(alloc, arguments.as_slice()) {
         Ok(choice) => {
-            assert!(rt; choice.options.scale() == 4);
+            assert!(rt; choice.options.run.scale() == 4);
             assert!(rt; choice.file.as_deref() == Some("labels.txt"));
         }
         Err(ArgumentsFault::Memory) => {}

@@ -245,7 +245,9 @@ fn assert_runs(
         mark: MESSAGE,
         mark_of_flush: FLUSH_OF_MESSAGES,
     };
-    let result = run(low(rt).with_escapes(true), &mut source, out, &mut err);
+    let mut options = low(rt);
+    options.run = options.run.with_escapes(true);
+    let result = run(options, &mut source, out, &mut err);
     assert!(rt; (result == Ok(Status::Refused)) & record.is_whole());
 }
 

@@ -1,12 +1,12 @@
 //! Symbols of every version, level and mask against the slow form.
-ghost use Rattle.std.specs.Prelude.{◌≡◌, ◌<◌, IfSome, length};
+ghost use Rattle.std.specs.Prelude.{◌≡◌, length};
 ghost use Rattle.qrdata.specs.Versions.{total_codewords};
 
 mod slow;
 
 use crate::layers::LEVELS;
 use arrayvec::ArrayVec;
-use qrdata::{Codewords, Level, Version};
+use qrdata::{Codewords, Level, Mask, Version};
 use qrmatrix::Matrix;
 use slow::penalty::penalty;
 use slow::{mask_of_lowest_penalty, modules_under};
@@ -39,13 +39,12 @@ impl Filling {
 }
 
 /// Whether the symbol has the modules, the mask and the penalty of the slow form.
-fn agrees(version: Version, level: Level, mask: Option<u8>, codewords: &Codewords) -> bool
-    requires count { length codewords.now.items ≡ total_codewords version }
-    requires mask { IfSome mask (λ k. k < 8) }
+fn agrees(version: Version, level: Level, mask: Option<Mask>, codewords: &Codewords) -> bool
+    requires { length codewords.now.items ≡ total_codewords version }
 {
     let matrix = Matrix::draw(version, level, mask, codewords);
     let slow_mask = match mask {
-        Some(mask) => mask,
+        Some(mask) => mask.number(),
         None => mask_of_lowest_penalty(version, level, codewords),
     };
     let slow = modules_under(version, level, slow_mask, codewords);
@@ -56,15 +55,16 @@ fn agrees(version: Version, level: Level, mask: Option<u8>, codewords: &Codeword
             }
         }
     }
-    matrix.mask() == slow_mask && u64::from(matrix.penalty()) == penalty(&slow, version.side())
+    matrix.mask().number() == slow_mask
+        && u64::from(matrix.penalty()) == penalty(&slow, version.side())
 }
 
 /// Whether the symbols of these codewords agree, with no mask given and with each.
 fn all_agree(version: Version, level: Level, codewords: &Codewords) -> bool
     requires { length codewords.now.items ≡ total_codewords version }
 {
-    for mask in 0..8 {
-        if !agrees(version, level, Some(mask), codewords) {
+    for number in 0..8u8 {
+        if !agrees(version, level, Some(Mask::of(number)), codewords) {
             return false;
         }
     }

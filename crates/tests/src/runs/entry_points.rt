@@ -3,7 +3,7 @@ use crate::runs::support::{EAN8, low};
 use device::StdSink;
 use filter::draw;
 use labelcore::{Fault, Format, Options, Symbology};
-use qrdata::Level;
+use qrdata::{Level, Mask, Version};
 
 #[test]
 fn one_symbol_is_drawn_without_a_line(rt: HostRuntime) {
@@ -19,14 +19,18 @@ fn one_symbol_is_drawn_without_a_line(rt: HostRuntime) {
 
 /// Options, each set by its own call.
 fn all_set() -> Option<Options> {
-    Options::default()
-        .with_format(Format::Ascii)
-        .with_level(Level::H)
-        .with_escapes(true)
-        .with_scale(8)?
-        .with_height(1)?
-        .with_min_version(10)?
-        .with_mask(Some(0))
+    let Options { run, label } = Options::default();
+    Some(Options {
+        run: run
+            .with_format(Format::Ascii)
+            .with_escapes(true)
+            .with_scale(8)?,
+        label: label
+            .with_level(Level::H)
+            .with_min_version(Version::new(10)?)
+            .with_mask(Mask::new(0))
+            .with_height(1)?,
+    })
 }
 
 /// They are those that are made at once; and the defaults are those that the help text names.

@@ -13,7 +13,9 @@ pub const TWO_EAN8: &[u8; 182] =
 
 /// The options of pictures one module high.
 pub fn low(rt: &impl Abort) -> Options {
-    Options::default()
-        .with_height(1)
-        .expect(rt, "1 is a height")
+    let Options { run, label } = Options::default();
+    Options {
+        run,
+        label: label.with_height(1).expect(rt, "1 is a height"),
+    }
 }
