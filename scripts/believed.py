@@ -192,6 +192,7 @@ def read_lists(top):
         named = declared.named_in(types)
         items = declared.code_items(top, CRATES, named)
         of_call = [call, *(it for it in items if (it.crate, it.file, it.name) in named or is_named(it, words))]
+        words |= {word for it in of_call for word in it.words}
     rest = others(files, reached)
     of_rest = [it for one in rest for it in rests_on(files, one) if isinstance(it, tuple)]
     every = declared.code_items(top, CRATES, named | declared.named_in(of_rest))

@@ -23,8 +23,8 @@ NAME = re.compile(r"◌\S+◌|[^\W\d][\w']*(?:-[\w']+)*")
 
 @dataclass(frozen=True)
 class CodeItem:
-    """An item: its crate, its file in src/ without the ending, its description, its lines, and the definitions that
-    these name, as (crate, module, name)."""
+    """An item: its crate, its file in src/ without the ending, its description, its lines, the definitions that these
+    name, as (crate, module, name), and the words of the type that it is or shows: its fields name more types."""
 
     kind: str
     name: str
@@ -33,6 +33,7 @@ class CodeItem:
     about: str
     text: tuple
     definitions: tuple
+    words: frozenset = frozenset()
 
     @property
     def lines(self):
@@ -61,9 +62,9 @@ def ghost_names(text):
     return found
 
 
-def item_of(kind, name, crate, file, about, lines, names):
+def item_of(kind, name, crate, file, about, lines, names, words=frozenset()):
     definitions = dict.fromkeys(names[word] for word in NAME.findall("\n".join(lines)) if word in names)
-    return CodeItem(kind, name, crate, file, about, tuple(lines), tuple(definitions))
+    return CodeItem(kind, name, crate, file, about, tuple(lines), tuple(definitions), words)
 
 
 def statement(item):
@@ -97,6 +98,7 @@ def of_file(crate, file, text, public, all_public, named):
     """The items of a file of code: traits and views for callers, and the types and constants in `named`."""
     items = sources.items_of(text)
     types, names = public | from_other_crates(items, all_public), ghost_names(text)
+    words = {it.name: frozenset(re.findall(r"\w+", it.text)) for it in items if it.kind == "struct"}
     for item in items:
         found = []
         if item.kind == "trait" and item.name in public:
@@ -106,7 +108,7 @@ def of_file(crate, file, text, public, all_public, named):
         elif item.kind == "impl":
             found = of_impl(item, types, all_public, names)
         for kind, name, about, lines in found:
-            yield item_of(kind, name, crate, file, about, lines, names)
+            yield item_of(kind, name, crate, file, about, lines, names, words.get(name, frozenset()))
 
 
 def named_in(declared):
