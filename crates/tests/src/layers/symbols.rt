@@ -42,11 +42,11 @@ impl Filling {
 fn agrees(version: Version, level: Level, mask: Option<Mask>, codewords: &Codewords) -> bool
     requires { length codewords.now.items ≡ total_codewords version }
 {
-    let matrix = Matrix::draw(version, level, mask, codewords);
-    let slow_mask = match mask {
+    let slow_mask = match &mask {
         Some(mask) => mask.number(),
         None => mask_of_lowest_penalty(version, level, codewords),
     };
+    let matrix = Matrix::draw(version, level, mask, codewords);
     let slow = modules_under(version, level, slow_mask, codewords);
     for y in 0..matrix.side() {
         for x in 0..matrix.side() {
