@@ -23,8 +23,8 @@ const NEXT_PLACES: [usize; PLACES] = [
 /// A multiple of a generator polynomial: its coefficients from high to low, but for the highest, and zeros after them.
 type Multiple = [u8; PLACES];
 
-/// The multiples of the generator polynomial of blocks with a given number of error correction codewords. Clauses see it
-/// as that number, which is the degree of the polynomial.
+/// The multiples of the generator polynomial of blocks with a given number of error correction codewords. Clauses see
+/// it as that number, which is the degree of the polynomial.
 #[derive(Drop)]
 pub struct Generator {
     /// The number of error correction codewords of a block.

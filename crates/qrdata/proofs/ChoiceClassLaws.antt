@@ -37,7 +37,8 @@ IsRun-first : (mode : Mode) (b : ℕ) (bytes : List ℕ) (n : ℕ) → IsRun mod
 IsRun-first mode b bytes zero run = absurd (omega (arith, run.some))
 IsRun-first mode b bytes (suc n) run = (and_parts _ _ run.characters).0
 
-IsRun-rest : (mode : Mode) (b : ℕ) (bytes : List ℕ) (n : ℕ) → 0 < n → IsRun mode (b ∷ bytes) (suc n) → IsRun mode bytes n
+IsRun-rest : (mode : Mode) (b : ℕ) (bytes : List ℕ) (n : ℕ) → 0 < n → IsRun mode (b ∷ bytes) (suc n)
+    → IsRun mode bytes n
 IsRun-rest mode b bytes n some run =
     record { some = some; inside = omega (arith, run.inside); characters = (and_parts _ _ run.characters).1 }
 
