@@ -5,12 +5,16 @@ use Rattle.filter.proofs.Words.{Result, length-take, or-false, append-nil, LF, l
 use Rattle.filter.proofs.Words.{unless_empty, HasNoLF, IsCut, with_ends, Options, Event, of_line, outcome}
 use Rattle.filter.proofs.Words.{events_after, ended_script, script, flushes, is_refusal, line_number, status_of}
 use Rattle.filter.proofs.Words.{Clean, Refused, All-append, held_line, line_limit, FilterState, IsAfter, Sends, taken}
-use Rattle.filter.proofs.Words.{Stops, Took, RunFault, MatchResult}
+use Rattle.filter.proofs.Words.{Stops, Took, RunFault, MatchResult, All, All-from_get_or, Fits, get_or, w8, ◌<◌}
 use Rattle.std.specs.List.{list_any}
 use Rattle.std.proofs.lemmas.List.Folds.{list_any-append}
 use Rattle.labelcore.proofs.LinesLaws.{ended_lines-push_lf, some_added}
 use Rattle.labelcore.proofs.LinesLaws.{IsCut-ended_lines, ended_lines-cut, open_line-cut}
 use Rattle.filter.specs.Private.{worst}
+
+-- the elements of a slice of bytes
+pub are_bytes : (bytes : List ℕ) → ((i : ℕ) → Fits w8 (get_or bytes i 0)) → All (λ b. b < 256) bytes
+are_bytes bytes fits = All-from_get_or (λ b. b < 256) bytes 0 (λ i within. omega (arith, fits i))
 
 -- the status of two scripts
 worst_of_two : (a b : Bool) → (if a || b then Refused else Clean)

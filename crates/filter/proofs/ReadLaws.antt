@@ -1,14 +1,14 @@
 -- What the definitions draw reads back as the full data of its line, whoever computes it.
-use Rattle.filter.proofs.Words.{All, IfOk, nat_lt, ⊤, IfSome, ok_or, option_and_then, ◌≡◌, ℕ, ◌+◌, ◌*◌, ◌^◌, ◌<◌, ◌≤◌}
+use Rattle.filter.proofs.FilterLaws.{are_bytes}
+use Rattle.filter.proofs.Words.{All, Fits, w8, IfOk, nat_lt, ⊤, IfSome, ok_or, option_and_then, ◌≡◌, ℕ, ◌+◌, ◌*◌, ◌^◌, ◌<◌, ◌≤◌}
 use Rattle.filter.proofs.Words.{List, [], ◌∷◌, ◌++◌, map, Some, refl, ap, arith, Result, Ok, Err, subst, Bool, true}
 use Rattle.filter.proofs.Words.{false, length, sym, ◌∙◌, get_or, inl, inr, ◌==◌, eq-eqb, Option, None, and-false}
-use Rattle.filter.proofs.Words.{All-from_get_or, All-from_recursion, recursion_from_All, All-map, All-weaker, lines, skipped, refused}
+use Rattle.filter.proofs.Words.{All-from_recursion, recursion_from_All, All-map, All-weaker, lines, skipped, refused}
 use Rattle.filter.proofs.Words.{drawn, outcome_of, Outcome, Request, item, LabelValues, Options, RunValues, IsMask, Fault, Ean13, Ean8}
 use Rattle.filter.proofs.Words.{UpcA, Code128, Qr, Event, Images, of_line, flushes, events_after, script, sent}
 use Rattle.filter.proofs.Words.{drawn_symbols, image_of, picture_of, text_of, outcome, outcome_of_item, Symbol}
 use Rattle.filter.proofs.Words.{quiet_zone, symbol_of, linear_symbol, qr_modules, cases_lt, le-ltb, get_or_past}
 use Rattle.std.specs.List.{AllByRecursion, flat_map, list_all}
-use Rattle.std.proofs.Common.{Fits, w8}
 use Rattle.std.proofs.Math.Nat.{mul-pos, mul-le-mul_right}
 use Rattle.labelcore.proofs.LinesLaws.{AllOf-lines}
 use Rattle.labelcore.specs.declared.options.Format.{Format}
@@ -119,8 +119,7 @@ some_row reading [] full none read = cc
 some_row reading (b ∷ row) full none read = omega arith
 
 mask_below : (asked : Option ℕ) → IsMask asked → IfSome asked (λ mask. mask < 8)
-mask_below None fits = tt
-mask_below (Some mask) fits = omega arith
+mask_below asked fits = grind arith
 
 module _ (run : RunValues) (label : LabelValues) (range : AreInRange run label) where
   -- bars of a row that is read and short
@@ -200,11 +199,7 @@ outcome_readable options range line w = item_readable options.run (item options 
 -- the quiet zones are narrow
 zone_small : (symbology : Symbology) → ((quiet_zone symbology).left + (quiet_zone symbology).right ≤ 20)
     × ((quiet_zone symbology).top + (quiet_zone symbology).bottom ≤ 20)
-zone_small Ean13 = (omega arith, omega arith)
-zone_small Ean8 = (omega arith, omega arith)
-zone_small UpcA = (omega arith, omega arith)
-zone_small Code128 = (omega arith, omega arith)
-zone_small Qr = (omega arith, omega arith)
+zone_small symbology = grind arith
 
 -- a side of a picture: modules and their quiet zone, enlarged
 side_some : (before inner after scale : ℕ) → 0 < inner → 1 ≤ scale → 0 < (before + inner + after) * scale
@@ -303,7 +298,7 @@ module _ (options : Options) (range : AreInRange options.run options.label) wher
       (λ symbol. IsRead options.run.format options.run.scale (image_of options.run (drawn symbol)) symbol)
   image_of_data_read symbology bytes fits = outcome_read options.run options.label range _
       (symbol_readable options.run options.label range symbology bytes (recursion_from_All (λ b. b < 256) bytes
-      (All-from_get_or (λ b. b < 256) bytes 0 (λ i within. omega (arith, fits i)))))
+      (are_bytes bytes fits)))
 
   script_readable : (before : ℕ) (lines : List (List ℕ)) → AllByRecursion AreBytes lines
       → AllByRecursion EventIsReadable (events_after options before lines ++ flushes ∷ [])

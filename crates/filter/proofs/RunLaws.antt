@@ -2,8 +2,8 @@
 use Rattle.filter.proofs.Words.{◌≡◌, ◌≢◌, ℕ, ◌-◌, ◌^◌, ◌≤◌, ◌<◌, ◌∙◌, ◌⊎◌, All, Bool, Result, Ok, Err, List, [], ◌++◌}
 use Rattle.filter.proofs.Words.{length, true, subst, sym, refl, IfOk, MatchResult, OnOk, Rises, Options}
 use Rattle.filter.proofs.Words.{CountsFault, FilterState, FlushesImagesFirst, Feeds, FlushesNeither, Sends, Stops, Took}
-use Rattle.filter.proofs.Words.{fault_of, taken, Channel, Images, Messages, ended_script, script, status_of, RunFault}
-use Rattle.filter.proofs.Words.{Read, WriteOut, WriteMessages, Spent, Status}
+use Rattle.filter.proofs.Words.{fault_of, taken, Channel, ended_script, script, status_of, RunFault}
+use Rattle.filter.proofs.Words.{Read, WriteOut, WriteMessages, Spent, Status, arith}
 use Rattle.device.specs.Sink.{PassesBuffered}
 use Rattle.device.specs.declared.sink.Sink.{Ghosts as SinkGhosts}
 use Rattle.device.specs.declared.source.Source.{Ghosts as SourceGhosts}
@@ -15,8 +15,7 @@ use Rattle.filter.proofs.ScriptLaws.{Sends-append, Sends-none, Stops-by, Took-by
 
 -- no sink's fault is that of a read
 not_read : (failed : Channel) → Read ≡ fault_of failed → ⊥
-not_read Images e = cc
-not_read Messages e = cc
+not_read failed e = grind arith
 
 module _ (options : Options) where
   -- what calls of sinks send, as a run's

@@ -1,6 +1,6 @@
 use Rattle.filter.proofs.Words.{◌∙◌, [], ap, refl, sym, subst, ◌≡◌, ℕ, List, ◌∷◌, Ok, Err, refused, Outcome, Request}
 use Rattle.filter.proofs.Words.{skipped, drawn, item, Images, image_of, of_line, outcome_of_item, message_of, outcome}
-use Rattle.filter.proofs.Words.{status_of, Options, Fault, Symbol, Clean, Refused, refusal_of, taken}
+use Rattle.filter.proofs.Words.{arith, status_of, Options, Fault, Symbol, Clean, Refused, refusal_of, taken}
 use Rattle.labelcore.specs.ItemView.{item_seen}
 use Rattle.filter.proofs.ScriptLaws.{both, event_stops, event_took, none_taken}
 use Rattle.filter.proofs.line.finish_line.Goals as goal
@@ -21,9 +21,7 @@ drawn_line number (drawn symbol) e = (refl, refl)
 
 -- a line that is refused
 refused_outcome : (o : Outcome Symbol) (fault : Fault) → refusal_of o ≡ Err fault → o ≡ refused fault
-refused_outcome skipped fault e = cc
-refused_outcome (refused why) fault e = let same : why ≡ fault = cc in ap refused same
-refused_outcome (drawn symbol) fault e = cc
+refused_outcome o fault e = grind arith
 
 refused_status : (number : ℕ) (fault : Fault) → Refused ≡ status_of (of_line number (refused fault) ∷ [])
 unfolding status_of

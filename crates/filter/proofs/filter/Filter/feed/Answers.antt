@@ -1,6 +1,6 @@
-use Rattle.filter.proofs.Words.{◌<◌, ℕ, ◌∷◌, [], ◌++◌, Ok, Err, refl, ap, ◌∙◌, append_assoc, arith, length}
-use Rattle.filter.proofs.Words.{length-append, append-nil, All-from_get_or, err_from_is_err_and, LF, ended_script, taken}
-use Rattle.filter.proofs.FilterLaws.{ended_lines-more, ended_script-more}
+use Rattle.filter.proofs.Words.{ℕ, ◌∷◌, [], ◌++◌, Ok, Err, refl, ap, ◌∙◌, append_assoc, arith, length}
+use Rattle.filter.proofs.Words.{length-append, append-nil, err_from_is_err_and, LF, ended_script, taken}
+use Rattle.filter.proofs.FilterLaws.{are_bytes, ended_lines-more, ended_script-more}
 use Rattle.filter.proofs.RunLaws.{FlushesNeither-append}
 use Rattle.filter.proofs.ScriptLaws.{Sends-none, Sends-append, Sends-longer}
 use Rattle.filter.proofs.filter.Filter.feed.Goals as goal
@@ -74,5 +74,10 @@ returns-clause-feeds g c options text at =
     })
 
 pub returns-clause-bytes : goal.returns-clause-bytes
-returns-clause-bytes g c = All-from_get_or (λ b. b < 256) c.args.piece.now 0
-    (λ i within. omega (arith, c.type_inv.piece i))
+returns-clause-bytes g c = are_bytes _ c.type_inv.piece
+
+pub returns-in_err-end_line-clause-bytes : goal.returns-in_err-end_line-clause-bytes
+returns-in_err-end_line-clause-bytes g c = are_bytes _ c.type_inv.piece
+
+pub returns-then-self-clause-bytes : goal.returns-then-self-clause-bytes
+returns-then-self-clause-bytes g c = are_bytes _ c.type_inv.piece
