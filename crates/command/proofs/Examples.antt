@@ -9,7 +9,8 @@ use Rattle.filter.specs.declared.status.Status.TheVariants.{Clean, Refused}
 use Rattle.labelcore.specs.declared.options.Format.TheVariants.{Pbm, Ascii}
 use Rattle.qrdata.specs.declared.level.Level.TheVariants.{M, H}
 use Rattle.labelcore.specs.declared.options.Options.{Options}
-use Rattle.labelcore.specs.OptionValues.{LabelValues, level_named}
+use Rattle.labelcore.specs.Names.{level_named}
+use Rattle.labelcore.specs.OptionValues.{LabelValues}
 
 scale-9 : invocation_of (codes "--scale" ∷ codes "9" ∷ []) ≡ bad
 unfolding clap_on_literals level_named

@@ -5,7 +5,7 @@ use Rattle.std.specs.Prelude.{IfSome, IsSome, option_map, unwrap_or}
 use Rattle.clap.specs.Words.{Row, Text, one_text, rows_of}
 use Rattle.clap.specs.declared.parser.matches.Found.{Found}
 use Rattle.clap.proofs.WalkLemmas.{first_value-rows, one_text-rows}
-use Rattle.labelcore.specs.OptionValues.{IsMask}
+use Rattle.labelcore.specs.Ranges.{IsMask}
 use Rattle.labelcore.specs.declared.options.Options.{Options}
 use Rattle.command.specs.CommandLine.{is_on, number_named, number_written}
 use Rattle.command.specs.Private.Checked.{HoldsNumber}

@@ -18,7 +18,7 @@ use Rattle.qrdata.specs.declared.level.Level.{Level}
 use Rattle.labelcore.specs.Names.{listed}
 use Rattle.labelcore.specs.Defaults.{default_options}
 use Rattle.labelcore.specs.declared.options.Options.{Options}
-use Rattle.labelcore.specs.OptionValues.{level_named}
+use Rattle.labelcore.specs.Names.{level_named}
 
 -- ---- the command
 

@@ -17,7 +17,8 @@ pub use Rattle.filter.specs.declared.status.Status.TheVariants.{Clean, Refused}
 pub use Rattle.labelcore.specs.HeldLine.{held_line}
 unfoldable pub use Rattle.labelcore.specs.HeldLine.{line_limit}
 pub use Rattle.labelcore.specs.LineItem.{Outcome, Request, drawn, item, outcome_of, refused, skipped}
-pub use Rattle.labelcore.specs.OptionValues.{IsMask, LabelValues, RunValues}
+pub use Rattle.labelcore.specs.OptionValues.{LabelValues, RunValues}
+pub use Rattle.labelcore.specs.Ranges.{IsMask}
 pub use Rattle.labelcore.specs.declared.fault.Fault.{Fault}
 pub use Rattle.labelcore.specs.declared.options.Options.{Options}
 pub use Rattle.labelcore.specs.declared.symbology.Symbology.TheVariants.{Code128, Ean13, Ean8, Qr, UpcA}

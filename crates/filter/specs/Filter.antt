@@ -10,9 +10,9 @@ use Rattle.labelcore.specs.declared.fault.Fault.{Fault}
 use Rattle.labelcore.specs.HeldLine.{HeldLine, held_line}
 use Rattle.labelcore.specs.LineItem.{Outcome, refused}
 use Rattle.labelcore.specs.declared.options.Options.{Options}
-use Rattle.labelcore.specs.OptionValues.{IsInRange, RunValues}
-use Rattle.filter.specs.Output.{Event, Channel, Images, Messages, bytes_for, ended_script, image_of, sent}
-use Rattle.filter.specs.Output.{status_of}
+use Rattle.labelcore.specs.OptionValues.{RunValues}
+use Rattle.labelcore.specs.Ranges.{IsInRange}
+use Rattle.filter.specs.Output.{Event, Channel, Images, Messages, bytes_for, ended_script, image_of, sent, status_of}
 use Rattle.filter.specs.Symbol.{Symbol}
 use Rattle.filter.specs.declared.status.RunFault.{RunFault}
 use Rattle.filter.specs.declared.status.RunFault.TheVariants.{WriteOut, WriteMessages}

@@ -1,12 +1,12 @@
 //! Texts compared with words, and the level that a letter names.
 ghost use Rattle.std.specs.Prelude.{◌≡◌};
 ghost use Rattle.std.specs.Str.{bytes_eq};
-ghost use Rattle.labelcore.specs.OptionValues.{level_named};
+ghost use Rattle.labelcore.specs.Names.{level_named};
 
 use qrdata::Level;
 
 /// Returns the level of this letter, `L`, `M`, `Q` or `H`, or `None` for any other text.
-#[tactic(auto, unfolding(crate::specs::OptionValues::level_named))]
+#[tactic(auto, unfolding(crate::specs::Names::level_named))]
 pub fn level_of(letter: &[u8]) -> Option<Level>
     ensures { result ≡ level_named letter.now }
 {
