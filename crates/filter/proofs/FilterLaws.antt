@@ -1,11 +1,12 @@
 -- What more lines add to the script and its status, and to a filter's state.
-use Rattle.filter.proofs.Words.{◌≡◌, ◌≢◌, ℕ, ◌+◌, Bool, ◌||◌, true, false, List, [], ◌∷◌, ◌++◌, length, append_assoc}
+use Rattle.filter.proofs.Words.{◌≡◌, ◌≢◌, ℕ, ◌+◌, Bool, ◌||◌, List, [], ◌∷◌, ◌++◌, length, append_assoc}
 use Rattle.filter.proofs.Words.{refl, ap, sym, ◌∙◌, arith, add-zero, zero-add, if◌then◌else◌, ◌-◌, ◌^◌, min, take}
 use Rattle.filter.proofs.Words.{Result, length-take, or-false, append-nil, LF, lines, ended_lines, open_line}
 use Rattle.filter.proofs.Words.{unless_empty, HasNoLF, IsCut, with_ends, Options, Event, of_line, outcome}
 use Rattle.filter.proofs.Words.{events_after, ended_script, script, flushes, is_refusal, line_number, status_of}
 use Rattle.filter.proofs.Words.{Clean, Refused, All-append, held_line, line_limit, FilterState, IsAfter, Sends, taken}
-use Rattle.filter.proofs.Words.{Stops, Took, RunFault, MatchResult, All, All-from_get_or, Fits, get_or, w8, ◌<◌}
+use Rattle.filter.proofs.Words.{Stops, Took, RunFault, MatchResult, All, All-from_get_or, Fits, get_or, w8, ◌*◌, ◌<◌, ◌≤◌}
+use Rattle.std.proofs.Math.Nat.{mul-le-mul_right}
 use Rattle.std.specs.List.{list_any}
 use Rattle.std.proofs.lemmas.List.Folds.{list_any-append}
 use Rattle.labelcore.proofs.LinesLaws.{ended_lines-push_lf, some_added}
@@ -16,11 +17,14 @@ use Rattle.filter.specs.Private.{worst}
 pub are_bytes : (bytes : List ℕ) → ((i : ℕ) → Fits w8 (get_or bytes i 0)) → All (λ b. b < 256) bytes
 are_bytes bytes fits = All-from_get_or (λ b. b < 256) bytes 0 (λ i within. omega (arith, fits i))
 
+-- a side of a picture, enlarged
+pub enlarged : (side scale : ℕ) → side ≤ 1815 → scale ≤ 8 → side * scale ≤ 65535
+enlarged side scale small low = let most : side * scale ≤ 1815 * scale = mul-le-mul_right scale small in omega arith
+
 -- the status of two scripts
 worst_of_two : (a b : Bool) → (if a || b then Refused else Clean)
     ≡ worst (if a then Refused else Clean) (if b then Refused else Clean)
-worst_of_two true b = refl
-worst_of_two false b = refl
+worst_of_two a b = grind arith
 
 pub status_of-append : (xs ys : List Event) → status_of (xs ++ ys) ≡ worst (status_of xs) (status_of ys)
 unfolding status_of

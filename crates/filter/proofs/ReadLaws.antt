@@ -1,5 +1,5 @@
 -- What the definitions draw reads back as the full data of its line, whoever computes it.
-use Rattle.filter.proofs.FilterLaws.{are_bytes}
+use Rattle.filter.proofs.FilterLaws.{are_bytes, enlarged}
 use Rattle.filter.proofs.Words.{All, Fits, w8, IfOk, nat_lt, ⊤, IfSome, ok_or, option_and_then, ◌≡◌, ℕ, ◌+◌, ◌*◌, ◌^◌, ◌<◌, ◌≤◌}
 use Rattle.filter.proofs.Words.{List, [], ◌∷◌, ◌++◌, map, Some, refl, ap, arith, Result, Ok, Err, subst, Bool, true}
 use Rattle.filter.proofs.Words.{false, length, sym, ◌∙◌, get_or, inl, inr, ◌==◌, eq-eqb, Option, None, and-false}
@@ -9,7 +9,7 @@ use Rattle.filter.proofs.Words.{UpcA, Code128, Qr, Event, Images, of_line, flush
 use Rattle.filter.proofs.Words.{drawn_symbols, image_of, picture_of, text_of, outcome, outcome_of_item, Symbol}
 use Rattle.filter.proofs.Words.{quiet_zone, symbol_of, linear_symbol, qr_modules, cases_lt, le-ltb, get_or_past}
 use Rattle.std.specs.List.{AllByRecursion, flat_map, list_all}
-use Rattle.std.proofs.Math.Nat.{mul-pos, mul-le-mul_right}
+use Rattle.std.proofs.Math.Nat.{mul-pos}
 use Rattle.labelcore.proofs.LinesLaws.{AllOf-lines}
 use Rattle.labelcore.specs.declared.options.Format.{Format}
 use Rattle.labelcore.specs.declared.options.Format.TheVariants.{Pbm, Ascii}
@@ -208,8 +208,7 @@ side_some before inner after scale some low = mul-pos (let sum : 0 < before + in
 side_small : (before inner after scale : ℕ) → before + after ≤ 20 → inner ≤ 1795 → scale ≤ 8
     → (before + inner + after) * scale < 2 ^ 64
 side_small before inner after scale narrow inside high =
-    let sum : before + inner + after ≤ 1815 = omega arith in
-    let most : (before + inner + after) * scale ≤ 1815 * scale = mul-le-mul_right scale sum in omega arith
+    let most = enlarged (before + inner + after) scale (omega arith) high in omega arith
 
 -- the modules of an event's symbol are read; of other events nothing is said
 abbrev EventIsReadable : Event → Type 0

@@ -1,6 +1,6 @@
 -- From the calls of a filter to a run over a whole input.
 use Rattle.filter.proofs.Words.{◌≡◌, ◌≢◌, ℕ, ◌-◌, ◌^◌, ◌≤◌, ◌<◌, ◌∙◌, ◌⊎◌, All, Bool, Result, Ok, Err, List, [], ◌++◌}
-use Rattle.filter.proofs.Words.{length, true, subst, sym, refl, IfOk, MatchResult, OnOk, Rises, Options}
+use Rattle.filter.proofs.Words.{length, true, sym, refl, IfOk, MatchResult, OnOk, Rises, Options}
 use Rattle.filter.proofs.Words.{CountsFault, FilterState, FlushesImagesFirst, Feeds, FlushesNeither, Sends, Stops, Took}
 use Rattle.filter.proofs.Words.{fault_of, taken, Channel, ended_script, script, status_of, RunFault}
 use Rattle.filter.proofs.Words.{Read, WriteOut, WriteMessages, Spent, Status, arith}
@@ -22,11 +22,7 @@ module _ (options : Options) where
   TookText-sinks : (took : Channel → List ℕ → Type 0) (text : List ℕ) (r : Result Status RunFault)
       → MatchResult r (λ _. Took options.run took (script options text)) (Stops options.run took (script options text))
       → TookText options took text r
-  TookText-sinks took text (Ok status) h = h
-  TookText-sinks took text (Err Read) s = absurd (not_read s.failed s.fault_is)
-  TookText-sinks took text (Err WriteOut) s = s
-  TookText-sinks took text (Err WriteMessages) s = s
-  TookText-sinks took text (Err Spent) s = s
+  TookText-sinks took text r h = grind (arith, h, not_read)
 
   -- what took a text took it in another sense too
   pub TookText-by : {took took' : Channel → List ℕ → Type 0}
@@ -56,11 +52,7 @@ module _ (options : Options) where
 -- the counts of the sinks, as a run's
 RunCounts-sinks : (s s' o o' e e' : ℕ) → s' ≡ s → (r : Result Status RunFault) (text : List ℕ)
     → CountsFault o o' e e' r → RunCounts (λ old new. new ≡ old) s s' o o' e e' r text
-RunCounts-sinks s s' o o' e e' same (Ok status) text counts = (same, counts.0, counts.1)
-RunCounts-sinks s s' o o' e e' same (Err Read) text counts = absurd counts
-RunCounts-sinks s s' o o' e e' same (Err WriteOut) text counts = (same, counts.0, counts.1)
-RunCounts-sinks s s' o o' e e' same (Err WriteMessages) text counts = (same, counts.0, counts.1)
-RunCounts-sinks s s' o o' e e' same (Err Spent) text counts = absurd counts
+RunCounts-sinks s s' o o' e e' same r text counts = grind (arith, same, counts)
 
 -- the run's fault, and then what is buffered is passed on: what is left of it, and the counts of each device
 module _ (left : List ℕ) (first counted new s s' e e' : ℕ) (text : List ℕ) where
@@ -68,11 +60,7 @@ module _ (left : List ℕ) (first counted new s s' e e' : ℕ) (text : List ℕ)
       → (fault ≢ WriteOut → IsPassedOn left counted new)
       → RunCounts (λ old new. new ≡ old) s s' first counted e e' (Err fault) text
       → RunCounts (IsPassedOn left) s s' first new e e' (Err fault) text
-  RunCounts-passed Read same passed h = (h.0, subst (λ (n : ℕ). IsPassedOn left n new) h.1 (passed (λ w. cc)), h.2)
-  RunCounts-passed WriteOut same passed h = (h.0, subst (Rises first) (sym (same refl)) h.1, h.2)
-  RunCounts-passed WriteMessages same passed h =
-      (h.0, subst (λ (n : ℕ). IsPassedOn left n new) h.1 (passed (λ w. cc)), h.2)
-  RunCounts-passed Spent same passed h = absurd h
+  RunCounts-passed fault same passed h = grind (arith, same, passed, h)
 
 -- a call after one in which no sink failed, and none was flushed
 module _ {O E T : Type 0} {out : SinkGhosts O} {err : SinkGhosts E} {o : O} {o' : O} {e : E} {e' : E} {x : T}

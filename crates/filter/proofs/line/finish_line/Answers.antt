@@ -1,5 +1,5 @@
 use Rattle.filter.proofs.Words.{◌∙◌, [], ap, refl, sym, subst, ◌≡◌, ℕ, List, ◌∷◌, Ok, Err, refused, Outcome, Request}
-use Rattle.filter.proofs.Words.{skipped, drawn, item, Images, image_of, of_line, outcome_of_item, message_of, outcome}
+use Rattle.filter.proofs.Words.{item, Images, image_of, of_line, outcome_of_item, message_of, outcome}
 use Rattle.filter.proofs.Words.{arith, status_of, Options, Fault, Symbol, Clean, Refused, refusal_of, taken}
 use Rattle.labelcore.specs.ItemView.{item_seen}
 use Rattle.filter.proofs.ScriptLaws.{both, event_stops, event_took, none_taken}
@@ -15,9 +15,7 @@ outcome-seen options line seen same = ap outcome_of_item (sym same)
 drawn_line : (number : ℕ) (o : Outcome Symbol) → refusal_of o ≡ Ok tt
     → ([] ≡ message_of number o) × (Clean ≡ status_of (of_line number o ∷ []))
 unfolding status_of
-drawn_line number skipped e = (refl, refl)
-drawn_line number (refused fault) e = cc
-drawn_line number (drawn symbol) e = (refl, refl)
+drawn_line number o e = grind arith
 
 -- a line that is refused
 refused_outcome : (o : Outcome Symbol) (fault : Fault) → refusal_of o ≡ Err fault → o ≡ refused fault

@@ -1,6 +1,6 @@
 use Rattle.filter.proofs.Words.{◌<◌, [], ◌∷◌, ◌++◌, Err, take, refl, ◌∙◌, subst, arith, length-append, length-take}
 use Rattle.filter.proofs.Words.{inl, inr, rules, sym, append-nil, All-append, err_from_is_err_and, OnOk}
-use Rattle.filter.proofs.Words.{Result, Ok, Images, WriteOut, taken}
+use Rattle.filter.proofs.Words.{Result, Images, WriteOut, taken}
 use Rattle.filter.proofs.FilterLaws.{some_later}
 use Rattle.filter.proofs.RunLaws.{HasRun-append, HasRun-passed, Runs-after, Runs-read}
 use Rattle.filter.proofs.ScriptLaws.{none_taken, Sends-longer, Sends-none, Stops-first}
@@ -52,8 +52,7 @@ returns g c = let h = c.loop-turn.invariant in
 
 -- where the call returned, a fact
 at_ok : {T E : Type 0} {P : Type 0} (r : Result T E) → P → OnOk r P
-at_ok (Ok x) holds = holds
-at_ok (Err fault) holds = tt
+at_ok r holds = grind (arith, holds)
 
 pub returns-then-count-eq0 : goal.returns-then-count-eq0
 returns-then-count-eq0 g c =
