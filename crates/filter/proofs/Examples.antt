@@ -41,7 +41,8 @@ settings = record {
 abbrev input : List (List ℕ)
 input = codes "ean8 7351353" ∷ codes "pdf x" ∷ codes "#" ∷ codes "ean8 73513530" ∷ []
 
-full_data_of_input : map (λ (l : Symbol). l.full) (drawn_symbols (events_after settings 0 input)) ≡ codes "73513537" ∷ []
+full_data_of_input : map (λ (s : Symbol). s.full) (drawn_symbols (events_after settings 0 input))
+    ≡ codes "73513537" ∷ []
 unfolding drawn_symbols events_after outcome symbol_of request head_read symbology_named line_limit
 full_data_of_input = refl
 
@@ -66,8 +67,8 @@ unfolding beside
 zones = refl
 
 -- a digit more than with the check digit, and one less than without it
-wrong_numbers : map (λ bytes. symbol_of settings.label Ean13 bytes) (codes "40063813339" ∷ codes "40063813339311" ∷ []) ≡
-    Err (WrongNumberOfDigits 11) ∷ Err (WrongNumberOfDigits 14) ∷ []
+wrong_numbers : map (λ bytes. symbol_of settings.label Ean13 bytes) (codes "40063813339" ∷ codes "40063813339311" ∷ [])
+    ≡ Err (WrongNumberOfDigits 11) ∷ Err (WrongNumberOfDigits 14) ∷ []
 unfolding symbol_of
 wrong_numbers = refl
 
@@ -103,8 +104,8 @@ unfolding unended events_after outcome symbol_of request head_read symbology_nam
 numbers_in_a_script = (refl, refl)
 
 -- the status is `Refused` where a line is refused, and else `Clean`
-statuses : map (λ lines. status_of (events_after settings 0 lines)) ([] ∷ (codes "#" ∷ []) ∷ (codes "pdf x" ∷ []) ∷ (codes "#" ∷ codes "pdf x" ∷ [])
-    ∷ []) ≡ Clean ∷ Clean ∷ Refused ∷ Refused ∷ []
+statuses : map (λ lines. status_of (events_after settings 0 lines)) ([] ∷ (codes "#" ∷ []) ∷ (codes "pdf x" ∷ [])
+    ∷ (codes "#" ∷ codes "pdf x" ∷ []) ∷ []) ≡ Clean ∷ Clean ∷ Refused ∷ Refused ∷ []
 unfolding status_of events_after outcome symbol_of request head_read symbology_named line_limit
 statuses = refl
 
@@ -150,9 +151,9 @@ qr_rows =
     ∷ codes "101110101011010010100" ∷ codes "100000100000000110110" ∷ codes "111111101111010010100" ∷ []
 
 qr_read : read_modules Qr (shown qr_rows) ≡ Some (codes "01234567")
-unfolding shown qr_rows read_matrix xor total_codewords read_format shows_version shows_functions read_bits walk codewords_of
-    number_of fixed_module role is_free is_flipped format_information version_information binary_remainder bits_of
-    byte_bits ec_codewords_per_block data_codewords block_lengths groups_of block_table evaluate field_power
+unfolding shown qr_rows read_matrix xor total_codewords read_format shows_version shows_functions read_bits walk
+    codewords_of number_of fixed_module role is_free is_flipped format_information version_information binary_remainder
+    bits_of byte_bits ec_codewords_per_block data_codewords block_lengths groups_of block_table evaluate field_power
     field_product binary_product number_at digits_at segment_at segments_at deinterleaving data_in
 qr_read = refl
 

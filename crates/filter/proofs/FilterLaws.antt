@@ -1,11 +1,11 @@
 -- What more lines add to the script and its status, and to a filter's state.
-use Rattle.filter.proofs.Words.{◌≡◌, ◌≢◌, ℕ, ◌+◌, Bool, ◌||◌, List, [], ◌∷◌, ◌++◌, length, append_assoc}
-use Rattle.filter.proofs.Words.{refl, ap, sym, ◌∙◌, arith, add-zero, zero-add, if◌then◌else◌, ◌-◌, ◌^◌, min, take}
-use Rattle.filter.proofs.Words.{Result, length-take, or-false, append-nil, LF, lines, ended_lines, open_line}
-use Rattle.filter.proofs.Words.{unless_empty, HasNoLF, IsCut, with_ends, Options, Event, of_line, outcome}
-use Rattle.filter.proofs.Words.{events_after, ended_script, script, flushes, is_refusal, line_number, status_of}
-use Rattle.filter.proofs.Words.{Clean, Refused, All-append, held_line, line_limit, FilterState, IsAfter, Sends, taken}
-use Rattle.filter.proofs.Words.{Stops, Took, RunFault, MatchResult, All, All-from_get_or, Fits, get_or, w8, ◌*◌, ◌<◌, ◌≤◌}
+use Rattle.filter.proofs.Words.{◌≡◌, ◌≢◌, ℕ, ◌+◌, Bool, ◌||◌, List, [], ◌∷◌, ◌++◌, length, append_assoc, refl, ap, sym}
+use Rattle.filter.proofs.Words.{◌∙◌, arith, add-zero, zero-add, if◌then◌else◌, ◌-◌, ◌^◌, min, take, Result}
+use Rattle.filter.proofs.Words.{length-take, or-false, append-nil, LF, lines, ended_lines, open_line, unless_empty}
+use Rattle.filter.proofs.Words.{HasNoLF, IsCut, with_ends, Options, Event, of_line, outcome, events_after}
+use Rattle.filter.proofs.Words.{ended_script, script, flushes, is_refusal, line_number, status_of, Clean, Refused}
+use Rattle.filter.proofs.Words.{All-append, held_line, line_limit, FilterState, IsAfter, Sends, taken, Stops, Took}
+use Rattle.filter.proofs.Words.{RunFault, MatchResult, All, All-from_get_or, Fits, get_or, w8, ◌*◌, ◌<◌, ◌≤◌}
 use Rattle.std.proofs.Math.Nat.{mul-le-mul_right}
 use Rattle.std.specs.List.{list_any}
 use Rattle.std.proofs.lemmas.List.Folds.{list_any-append}

@@ -1,13 +1,14 @@
 -- What the definitions draw reads back as the full data of its line, whoever computes it.
 use Rattle.filter.proofs.FilterLaws.{are_bytes, enlarged}
-use Rattle.filter.proofs.Words.{All, Fits, w8, IfOk, nat_lt, ⊤, IfSome, ok_or, option_and_then, ◌≡◌, ℕ, ◌+◌, ◌*◌, ◌^◌, ◌<◌, ◌≤◌}
-use Rattle.filter.proofs.Words.{List, [], ◌∷◌, ◌++◌, map, Some, refl, ap, arith, Result, Ok, Err, subst, Bool, true}
-use Rattle.filter.proofs.Words.{false, length, sym, ◌∙◌, get_or, inl, inr, ◌==◌, eq-eqb, Option, None, and-false}
-use Rattle.filter.proofs.Words.{All-from_recursion, recursion_from_All, All-map, All-weaker, lines, skipped, refused}
-use Rattle.filter.proofs.Words.{drawn, outcome_of, Outcome, Request, item, LabelValues, Options, RunValues, IsMask, Fault, Ean13, Ean8}
-use Rattle.filter.proofs.Words.{UpcA, Code128, Qr, Event, Images, of_line, flushes, events_after, script, sent}
-use Rattle.filter.proofs.Words.{drawn_symbols, image_of, picture_of, text_of, outcome, outcome_of_item, Symbol}
-use Rattle.filter.proofs.Words.{quiet_zone, symbol_of, linear_symbol, qr_modules, cases_lt, le-ltb, get_or_past}
+use Rattle.filter.proofs.Words.{All, Fits, w8, IfOk, nat_lt, ⊤, IfSome, ok_or, option_and_then, ◌≡◌, ℕ, ◌+◌, ◌*◌, ◌^◌}
+use Rattle.filter.proofs.Words.{◌<◌, ◌≤◌, List, [], ◌∷◌, ◌++◌, map, Some, refl, ap, arith, Result, Ok, Err, subst}
+use Rattle.filter.proofs.Words.{Bool, true, false, length, sym, ◌∙◌, get_or, inl, inr, ◌==◌, eq-eqb, Option, None}
+use Rattle.filter.proofs.Words.{and-false, All-from_recursion, recursion_from_All, All-map, All-weaker, lines, skipped}
+use Rattle.filter.proofs.Words.{refused, drawn, outcome_of, Outcome, Request, item, LabelValues, Options, RunValues}
+use Rattle.filter.proofs.Words.{IsMask, Fault, Ean13, Ean8, UpcA, Code128, Qr, Event, Images, of_line, flushes}
+use Rattle.filter.proofs.Words.{events_after, script, sent, drawn_symbols, image_of, picture_of, text_of, outcome}
+use Rattle.filter.proofs.Words.{outcome_of_item, Symbol, quiet_zone, symbol_of, linear_symbol, qr_modules, cases_lt}
+use Rattle.filter.proofs.Words.{le-ltb, get_or_past}
 use Rattle.std.specs.List.{AllByRecursion, flat_map, list_all}
 use Rattle.std.proofs.Math.Nat.{mul-pos}
 use Rattle.labelcore.proofs.LinesLaws.{AllOf-lines}
@@ -234,10 +235,8 @@ module _ (run : RunValues) (label : LabelValues) (range : AreInRange run label) 
   text_read : (format : Format) (symbol : Symbol) → IsReadable symbol
       → pixels format (text_of format (picture_of run symbol)) ≡ Some (raster (picture_of run symbol))
   text_read Pbm symbol h = pbm_pixels-pbm_text (picture_of run symbol) (drawable symbol h)
-  text_read Ascii symbol h =
-      let zone = quiet_zone symbol.symbology in
-      ascii_pixels-ascii_text (picture_of run symbol)
-      (side_some zone.top symbol.modules.height zone.bottom run.scale h.some_rows range.scale_low)
+  text_read Ascii symbol h = ascii_pixels-ascii_text (picture_of run symbol)
+      (side_some _ symbol.modules.height _ run.scale h.some_rows range.scale_low)
 
   -- the image of modules that are read
   image_read : (format : Format) (symbol : Symbol) → IsReadable symbol
@@ -308,6 +307,6 @@ module _ (options : Options) (range : AreInRange options.run options.label) wher
 
   -- what the script of a text sends reads back
   pub script_of_text_read : (text : List ℕ) → All (λ b. b < 256) text → ReadsBack options.run (script options text)
-  script_of_text_read text w front later cut = images_of_events_read options.run options.label range front (first_of_two front later
-      (subst (AllByRecursion EventIsReadable) cut (script_readable 0 (lines text)
+  script_of_text_read text w front later cut = images_of_events_read options.run options.label range front
+      (first_of_two front later (subst (AllByRecursion EventIsReadable) cut (script_readable 0 (lines text)
       (AllOf-lines (λ b. b < 256) text (recursion_from_All (λ b. b < 256) text w)))))

@@ -35,9 +35,9 @@ module _ (options : Options) where
   TookText-by widen text (Err Spent) h = Stops-by options.run widen h
 
   -- calls of sinks that send the whole script of a text, or stop in it
-  pub Produces-sends : (range : AreInRange options.run options.label) {gave : List ℕ → Type 0} {took : Channel → List ℕ → Type 0}
-      (text : List ℕ) (r : Result Status RunFault) → gave text → All (λ b. b < 256) text
-      → Sends options.run took (ended_script options []) (script options text) r
+  pub Produces-sends : (range : AreInRange options.run options.label) {gave : List ℕ → Type 0}
+      {took : Channel → List ℕ → Type 0} (text : List ℕ) (r : Result Status RunFault) → gave text
+      → All (λ b. b < 256) text → Sends options.run took (ended_script options []) (script options text) r
       → IfOk r (λ status. status ≡ status_of (script options text)) → Produces options gave took r
   Produces-sends range {gave} {took} text r given bytes sends status =
       let all = rw (ended_script-nil options) at sends in
@@ -125,8 +125,8 @@ module _ {S O E : Type 0} {source : SourceGhosts S} {out : SinkGhosts O} {err : 
   -- the run ends in a call of the filter or of a sink
   pub Runs-after : {s'' : S} {o'' : O} {e'' : E} (text : List ℕ) (r : Result Status RunFault)
       → source.gave s s'' text → source.failures s'' ≡ source.failures s' → All (λ b. b < 256) text
-      → Sends options.run (taken (out.took o' o'') (err.took e' e'')) (ended_script options given) (script options text) r
-      → IfOk r (λ status. status ≡ status_of (script options text))
+      → Sends options.run (taken (out.took o' o'') (err.took e' e'')) (ended_script options given)
+      (script options text) r → IfOk r (λ status. status ≡ status_of (script options text))
       → OnOk r ((source.at_end s'' ≡ true) × source.ends s'')
       → CountsFault (out.failures o') (out.failures o'') (err.failures e') (err.failures e'') r
       → FlushesImagesFirst (out.is_flushed o') (out.is_flushed o'') (err.is_flushed e') (err.is_flushed e'') r

@@ -22,10 +22,10 @@ pub use Rattle.labelcore.specs.Ranges.{IsMask}
 pub use Rattle.labelcore.specs.declared.fault.Fault.{Fault}
 pub use Rattle.labelcore.specs.declared.options.Options.{Options}
 pub use Rattle.labelcore.specs.declared.symbology.Symbology.TheVariants.{Code128, Ean13, Ean8, Qr, UpcA}
-pub use Rattle.std.proofs.Common.{Bool, Err, Fits, List, None, Ok, Option, Result, Some, [], add-zero, ap, append_assoc}
-pub use Rattle.std.proofs.Common.{arith, eq-eqb, false, get_or, if◌then◌else◌, inl, inr, length, length-append}
-pub use Rattle.std.proofs.Common.{length-take, map, min, refl, rules, subst, sym, take, true, w8, zero-add, ℕ, ◌*◌, ◌++◌}
-pub use Rattle.std.proofs.Common.{◌+◌, ◌-◌, ◌<◌, ◌==◌, ◌^◌, ◌||◌, ◌∙◌, ◌∷◌, ◌≡◌, ◌≢◌, ◌≤◌, ◌⊎◌}
+pub use Rattle.std.proofs.Common.{Bool, Err, Fits, List, None, Ok, Option, Result, Some, [], add-zero, ap}
+pub use Rattle.std.proofs.Common.{append_assoc, arith, eq-eqb, false, get_or, if◌then◌else◌, inl, inr, length}
+pub use Rattle.std.proofs.Common.{length-append, length-take, map, min, refl, rules, subst, sym, take, true, w8}
+pub use Rattle.std.proofs.Common.{zero-add, ℕ, ◌*◌, ◌++◌, ◌+◌, ◌-◌, ◌<◌, ◌==◌, ◌^◌, ◌||◌, ◌∙◌, ◌∷◌, ◌≡◌, ◌≢◌, ◌≤◌, ◌⊎◌}
 pub use Rattle.std.proofs.Math.Bool.{and-false, or-false}
 pub use Rattle.std.proofs.lemmas.Bool.{cases_lt, false≢true, le-ltb}
 pub use Rattle.std.proofs.lemmas.List.{append-nil, get_or_past}

@@ -1,7 +1,7 @@
 -- The state of a filter, and what a call does to its two sinks (docs/SPECIFICATION.md, The filter as a library).
--- Why: `FilterState`, `IsAfter`: what a `Filter` keeps and was fed; `Took`, `Stops`, `Sends`: what calls promise of sinks.
-use Rattle.std.specs.Prelude.{◌≡◌, ℕ, ◌-◌, ◌^◌, ◌<◌, min, All, Bool, true, false, List, ◌∷◌, ◌++◌, length, Result, Ok, Err}
-use Rattle.std.specs.Prelude.{◌≢◌, IfOk, MatchResult, OnOk}
+-- Why: `FilterState`, `IsAfter`: what a `Filter` keeps and was fed; `Took`, `Stops`, `Sends`: what calls do to sinks.
+use Rattle.std.specs.Prelude.{◌≡◌, ℕ, ◌-◌, ◌^◌, ◌<◌, min, All, Bool, true, false, List, ◌∷◌, ◌++◌, length, Result, Ok}
+use Rattle.std.specs.Prelude.{Err, ◌≢◌, IfOk, MatchResult, OnOk}
 use Rattle.device.specs.Device.{Begins, Rises, Unflushed}
 use Rattle.labelcore.specs.Lines.{ended_lines, open_line}
 use Rattle.device.specs.Writing.{WritesText}
@@ -81,23 +81,23 @@ pub record Feeds {T : Type 0} (options : Options) (took : Channel → List ℕ �
   pub sends : Sends options.run took (ended_script options before) (ended_script options after) r
   pub is_after : OnOk r (IsAfter options state after)
 
--- The counts of failures of the images' sink, `o`, and of the messages' sink, `e`: at `Ok` none rises, at `Err` that of the
--- sink that failed.
+-- The counts of failures of the images' sink, `o`, and of the messages' sink, `e`: at `Ok` none rises, at `Err` that of
+-- the sink that failed.
 abbrev pub CountsFault : {T : Type 0} → (o o' e e' : ℕ) → Result T RunFault → Type 0
 CountsFault o o' e e' (Ok x) = (o' ≡ o) × (e' ≡ e)
 CountsFault o o' e e' (Err WriteOut) = Rises o o' × (e' ≡ e)
 CountsFault o o' e e' (Err WriteMessages) = (o' ≡ o) × Rises e e'
 CountsFault o o' e e' (Err fault) = ⊥
 
--- The flush marks of both: at `Ok` both sinks are flushed; at `Err` none is that was not before, but for the images where
--- the messages failed, since they are flushed first.
+-- The flush marks of both: at `Ok` both sinks are flushed; at `Err` none is that was not before, but for the images
+-- where the messages failed, since they are flushed first.
 abbrev pub FlushesImagesFirst : {T : Type 0} → (o o' e e' : Bool) → Result T RunFault → Type 0
 FlushesImagesFirst o o' e e' (Ok x) = (o' ≡ true) × (e' ≡ true)
 FlushesImagesFirst o o' e e' (Err fault) = (fault ≢ WriteMessages → Unflushed o o') × Unflushed e e'
 
 -- a call that flushes nothing: the count of the sink that failed rises, and a sink that is flushed now was so before
-pub record FlushesNeither {O E T : Type 0} (out : Ghosts O) (err : Ghosts E) (o o' : O) (e e' : E) (r : Result T RunFault)
-    : Type 0 where
+pub record FlushesNeither {O E T : Type 0} (out : Ghosts O) (err : Ghosts E) (o o' : O) (e e' : E)
+    (r : Result T RunFault) : Type 0 where
   pub counts : CountsFault (out.failures o) (out.failures o') (err.failures e) (err.failures e') r
   pub out_unflushed : Unflushed (out.is_flushed o) (out.is_flushed o')
   pub err_unflushed : Unflushed (err.is_flushed e) (err.is_flushed e')

@@ -1,6 +1,7 @@
 -- What a run sends of a text, line by line, and its status (docs/SPECIFICATION.md, Lines, Statuses).
 -- Why: `outcome`, `script`, `sent`, `status_of`: "depend on nothing but options and input, as specified".
-use Rattle.std.specs.Prelude.{ℕ, ◌+◌, ◌-◌, ◌^◌, min, Bool, true, false, if◌then◌else◌, Option, Some, None, List, [], ◌∷◌, ◌++◌}
+use Rattle.std.specs.Prelude.{ℕ, ◌+◌, ◌-◌, ◌^◌, min, Bool, true, false, if◌then◌else◌, List, [], ◌∷◌, ◌++◌}
+use Rattle.std.specs.Prelude.{Option, Some, None}
 use Rattle.std.specs.List.{filter_map, flat_map, list_any}
 use Rattle.labelcore.specs.Lines.{lines, ended_lines}
 use Rattle.labelcore.specs.declared.options.Format.{Format}

@@ -12,8 +12,8 @@ use Rattle.filter.specs.declared.status.RunFault.{RunFault}
 use Rattle.filter.specs.declared.status.RunFault.TheVariants.{Read, WriteOut, WriteMessages, Spent}
 use Rattle.filter.specs.declared.status.Status.{Status}
 
--- What the sinks took of a text: at `Ok` all that its script sends. At `Err` a sink failed in the script; or, where a read
--- failed, they took all that is sent of the ended lines.
+-- What the sinks took of a text: at `Ok` all that its script sends. At `Err` a sink failed in the script; or, where a
+-- read failed, they took all that is sent of the ended lines.
 abbrev pub TookText : Options → (took : Channel → List ℕ → Type 0) (text : List ℕ) → Result Status RunFault → Type 0
 TookText options took text (Ok status) = Took options.run took (script options text)
 TookText options took text (Err Read) = Took options.run took (ended_script options text)
@@ -44,8 +44,8 @@ RunCounts images s s' o o' e e' (Err WriteOut) text = (s' ≡ s) × Rises o o' �
 RunCounts images s s' o o' e e' (Err WriteMessages) text = (s' ≡ s) × images o o' × Rises e e'
 RunCounts images s s' o o' e e' (Err Spent) text = ⊥
 
--- One statement of a run, from the states of a source and two sinks before it to those after it: what it produces of
--- what the source gave, whose counts of failures rise, that at `Ok` the source is at its end, and which sinks are flushed.
+-- One statement of a run, from the states of a source and two sinks before it to those after: what it produces of what
+-- the source gave, whose counts of failures rise, that at `Ok` the source is at its end, and which sinks are flushed.
 pub record Runs {S O E : Type 0} (source : SourceGhosts S) (out : SinkGhosts O) (err : SinkGhosts E)
     (images : ℕ → ℕ → Type 0) (options : Options) (s s' : S) (o o' : O) (e e' : E)
     (r : Result Status RunFault) : Type 0 where

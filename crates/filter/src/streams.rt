@@ -19,8 +19,8 @@ use std::io::{Read, Write};
 ///
 /// # Errors
 ///
-/// Those of [`run`]. After a fault of another device what is buffered is passed on to the writer. Of a writer that failed
-/// nothing more is asked.
+/// Those of [`run`]. After a fault of another device what is buffered is passed on to the writer. Of a writer that
+/// failed nothing more is asked.
 pub fn run_streams<R: Read, W: Write, E: Sink>(
     options: Options,
     source: &mut StdSource<R>,

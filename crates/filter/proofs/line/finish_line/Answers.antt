@@ -73,8 +73,8 @@ returns-in-Err g c =
     let err = g.E.Sink.took c.args.err.now c.args.err.now in
     record {
       sends = λ text at. rw (outcome-seen options text _ (c.parse-item.ensures.item text at))
-          (event_stops options.run (taken out err) Images (of_line c.args.number (outcome_of_item (item_seen c.parse-item.result))) []
-          writes.bytes (g.met.E.Sink.took_none c.args.err.now));
+          (event_stops options.run (taken out err) Images (of_line c.args.number
+          (outcome_of_item (item_seen c.parse-item.result))) [] writes.bytes (g.met.E.Sink.took_none c.args.err.now));
       status = λ text at. tt;
       sinks = record { counts = (writes.count, refl); out_unflushed = writes.unflushed; err_unflushed = λ e. e };
     }

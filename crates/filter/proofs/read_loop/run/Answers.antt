@@ -81,9 +81,10 @@ returns-in_err-feed g c =
     rw (p.1, p.2) (Runs-after g.met.O.Sink.took_joined g.met.E.Sink.took_joined passed (given ++ piece)
     (Err c.in_err-feed.field-0.0) (g.met.S.Source.gave_joined _ _ _ _ _ h.gave c.in-Ok-read.ensures.bytes)
     c.in-Ok-read.ensures.count (All-append (λ b. b < 256) given piece h.fed.is_after.bytes c.in_err-feed.ensures.bytes)
-    (Sends-longer options.run {took = taken (g.O.Sink.took c.pass_on.new.self c.feed.new.out) (g.E.Sink.took c.loop-turn.err
-    c.feed.new.err)} (later.0 ∷ later.1) later.2 (c.in_err-feed.ensures.feeds options given h.fed.is_after).sends)
-    tt tt sinks.counts (λ other. sinks.out_unflushed, sinks.err_unflushed))
+    (Sends-longer options.run {took = taken (g.O.Sink.took c.pass_on.new.self c.feed.new.out) (g.E.Sink.took
+    c.loop-turn.err c.feed.new.err)} (later.0 ∷ later.1) later.2
+    (c.in_err-feed.ensures.feeds options given h.fed.is_after).sends) tt tt sinks.counts
+    (λ other. sinks.out_unflushed, sinks.err_unflushed))
 
 pub loop-turn-preserved : goal.loop-turn-preserved
 loop-turn-preserved g c =

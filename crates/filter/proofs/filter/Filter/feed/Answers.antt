@@ -31,8 +31,8 @@ loop-line-preserved g c =
           let next = c.in_ok-end_line.ensures.feeds options ((text ++ h.fed) ++ line)
           (c.hold.ensures options (text ++ h.fed) before.is_after) in
           rw (← append_assoc text h.fed (line ++ LF ∷ []), ← append_assoc (text ++ h.fed) line (LF ∷ [])) (record {
-            sends = Sends-append g.met.O.Sink.took_joined g.met.E.Sink.took_joined options.run (Ok (tt {0})) before.sends
-                (rw (ended_lines-more (text ++ h.fed) line c.in-Some.ensures.line) at next.sends);
+            sends = Sends-append g.met.O.Sink.took_joined g.met.E.Sink.took_joined options.run (Ok (tt {0}))
+                before.sends (rw (ended_lines-more (text ++ h.fed) line c.in-Some.ensures.line) at next.sends);
             is_after = next.is_after;
           });
       sinks = FlushesNeither-append h.sinks (Ok tt) c.in_ok-end_line.ensures.sinks;
