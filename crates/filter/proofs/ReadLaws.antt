@@ -1,14 +1,13 @@
 -- What the definitions draw reads back as the full data of its line, whoever computes it.
 use Rattle.filter.proofs.FilterLaws.{are_bytes, enlarged}
-use Rattle.filter.proofs.Words.{All, Fits, w8, IfOk, nat_lt, ⊤, IfSome, ok_or, option_and_then, ◌≡◌, ℕ, ◌+◌, ◌*◌, ◌^◌}
-use Rattle.filter.proofs.Words.{◌<◌, ◌≤◌, List, [], ◌∷◌, ◌++◌, map, Some, refl, ap, arith, Result, Ok, Err, subst}
-use Rattle.filter.proofs.Words.{Bool, true, false, length, sym, ◌∙◌, get_or, inl, inr, ◌==◌, eq-eqb, Option, None}
-use Rattle.filter.proofs.Words.{and-false, All-from_recursion, recursion_from_All, All-map, All-weaker, lines, skipped}
-use Rattle.filter.proofs.Words.{refused, drawn, outcome_of, Outcome, Request, item, LabelValues, Options, RunValues}
-use Rattle.filter.proofs.Words.{IsMask, Fault, Ean13, Ean8, UpcA, Code128, Qr, Event, Images, of_line, flushes}
-use Rattle.filter.proofs.Words.{events_after, script, sent, drawn_symbols, image_of, picture_of, text_of, outcome}
-use Rattle.filter.proofs.Words.{outcome_of_item, Symbol, quiet_zone, symbol_of, linear_symbol, qr_modules, cases_lt}
-use Rattle.filter.proofs.Words.{le-ltb, get_or_past}
+use Rattle.filter.proofs.Words.{All, ⊤, ◌≡◌, ◌+◌, ◌*◌, ◌++◌, Some, refl, Bool, true, ◌==◌, None, item, Ean8, UpcA, sent}
+use Rattle.filter.proofs.Words.{Fits, IfOk, ok_or, List, arith, subst, false, lines, drawn, Fault, Ean13, Event, le-ltb}
+use Rattle.filter.proofs.Words.{w8, ℕ, ◌^◌, ◌<◌, ◌≤◌, [], ◌∷◌, map, ap, Ok, Err, sym, ◌∙◌, inl, inr, Qr}
+use Rattle.filter.proofs.Words.{nat_lt, skipped, refused, Outcome, Request, Options, Code128, of_line, flushes, text_of}
+use Rattle.filter.proofs.Words.{IfSome, Result, length, get_or, eq-eqb, Option, IsMask, Images, script, outcome, Symbol}
+use Rattle.filter.proofs.Words.{option_and_then, All-from_recursion, recursion_from_All, drawn_symbols, outcome_of_item}
+use Rattle.filter.proofs.Words.{and-false, All-map, RunValues, picture_of, quiet_zone, symbol_of, qr_modules, cases_lt}
+use Rattle.filter.proofs.Words.{All-weaker, outcome_of, LabelValues, events_after, image_of, linear_symbol, get_or_past}
 use Rattle.std.specs.List.{AllByRecursion, flat_map, list_all}
 use Rattle.std.proofs.Math.Nat.{mul-pos}
 use Rattle.labelcore.proofs.LinesLaws.{AllOf-lines}
