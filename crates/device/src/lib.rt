@@ -1,7 +1,7 @@
 //! Devices: what gives bytes ([`Source`]) and what takes them ([`Sink`]).
 //!
-//! For work: [`StdSource`] and [`StdSink`] are the readers and writers of std, and [`Buffered`] buffers bytes before
-//! another sink. For tests: [`MemSource`] and [`MemSink`] have their bytes in memory, and [`FailAt`] fails at one call.
+//! [`StdSource`] and [`StdSink`] are the readers and writers of std, and [`Buffered`] buffers bytes before another sink.
+//! For tests and small texts [`MemSource`] and [`MemSink`] have their bytes in memory; [`FailAt`] fails at one call.
 //! [`write_whole`] writes a text in as many writes as a sink needs. The README of this crate has an example.
 #![tactic(auto)]
 
