@@ -67,7 +67,12 @@ class Believed(InCopy):
         begin = text.index("    ensures ", text.index("pub fn run_streams"))
         clause = text[begin : text.index("    ensures ", begin + 1)]
         changes = (
-            ("crates/labelcore/specs/Lines.antt", "-- the line feed", "-- the carriage return", "+| `LF` | the carriage"),
+            (
+                "crates/labelcore/specs/Lines.antt",
+                "-- the line feed",
+                "-- the carriage return",
+                "+| `LF` | the carriage",
+            ),
             (penalty, "`penalty`: in the", "`fine`: in the", f"{penalty}: 'Why: "),
             (penalty, "`penalty`: in the", "in the", f"{penalty}: 'Why: "),
             ("crates/device/src/sink.rt", "        requires { 0 < length bytes.now }\n", "", "trait `Sink`"),
