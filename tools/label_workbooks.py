@@ -139,6 +139,8 @@ def elements(archive: ZipFile, part: str, path: str, *heads: str) -> Iterator[El
                 element.tag = element.tag.rpartition("}")[2]
                 element.attrib = {name.rpartition("}")[2]: value for name, value in element.items()}
                 around.append(element)
+                if len(around) > DEEPEST:
+                    raise ToolError(TOO_LARGE)
                 at = "" if inside else "/".join(outer.tag for outer in around if outer.tag not in GROUPS)
                 if at in heads:
                     yield element
@@ -151,7 +153,7 @@ def elements(archive: ZipFile, part: str, path: str, *heads: str) -> Iterator[El
                 if not inside:
                     del around[-1][:]
                     size = 0
-        if size > LARGEST_ROW or len(around) > DEEPEST:
+        if size > LARGEST_ROW:
             raise ToolError(TOO_LARGE)
 
 
@@ -184,8 +186,7 @@ def xlsx_sheets(archive: ZipFile, signs: Signs) -> Iterator[Sheet]:
 
 def relations(archive: ZipFile, path: str) -> dict[str, tuple[str, str]]:
     """Returns what a part refers to, for each name the kind and the path; for no part, what the file refers to."""
-    folder, base = posixpath.split(path)
-    targets = {}
+    (folder, base), targets = posixpath.split(path), dict[str, tuple[str, str]]()
     for element in elements(archive, posixpath.join(folder, "_rels", f"{base}.rels"), "/Relationships/Relationship"):
         target = posixpath.normpath(posixpath.join("/", folder, element.attrib["Target"]))[1:]
         targets[element.attrib["Id"]] = posixpath.basename(element.attrib["Type"]), target
@@ -196,8 +197,7 @@ def xlsx_rows(archive: ZipFile, path: str, read: Callable[[Element], str]) -> It
     """Yields the rows of a sheet of .xlsx; the merged cells are below the rows in the file, and are read first."""
     beginning, merges, number = merges_of(archive, path), list[Merge](), 0
     for row in elements(archive, path, "/worksheet/sheetData/row"):
-        before, number = number, int(row.get("r", number + 1))
-        cells: list[str] = []
+        before, number, cells = number, int(row.get("r", number + 1)), list[str]()
         for cell in row.findall("c"):
             place = place_of(cell.attrib["r"].rstrip("0123456789")) if "r" in cell.attrib else len(cells)
             if place < len(cells) or number <= before:

@@ -586,13 +586,14 @@ class Hostile(WorkbookTest):
         self.refused(stream.getvalue(), f'has a part of more than 256 MB, "xl/media/image1.png": {AGAIN}')
 
     def test_huge_cells_rows_and_nesting_take_no_memory(self) -> None:
-        size = 60_000_000
+        # So many bytes, and so many elements, take more than the memory that there is.
+        size, many = 60_000_000, 3_000_000
         bombs = {
             "a cell": (rows(["EAN"], ["x" * size]), LARGE),
             "a tag": (f'<row r="1" x="{"x" * size}"/>', LARGE),
-            "cells": (f'<row r="1">{"<c/>" * (size // 4)}</row>', LARGE),
+            "cells": (f'<row r="1">{"<c/>" * many}</row>', LARGE),
             "depth": ("<a>" * (size // 3), LARGE),
-            "texts": (f"<row><c><is>{'<t/>' * (size // 4)}</is></c></row>", LARGE),
+            "texts": (f"<row><c><is>{'<t/>' * many}</is></c></row>", LARGE),
             "column": (f'<row r="1">{cell("EAN", "XFE1")}</row>', LIMITS),
             "row": (f'<row r="1048577">{cell("EAN")}</row>', LIMITS),
         }
