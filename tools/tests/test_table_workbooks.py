@@ -586,7 +586,7 @@ class Hostile(WorkbookTest):
         self.refused(stream.getvalue(), f'has a part of more than 256 MB, "xl/media/image1.png": {AGAIN}')
 
     def test_huge_cells_rows_and_nesting_take_no_memory(self) -> None:
-        # So many bytes, and so many elements, take more than the memory that there is.
+        # Kept in memory, so many bytes or elements take more than the limit below.
         size, many = 60_000_000, 3_000_000
         bombs = {
             "a cell": (rows(["EAN"], ["x" * size]), LARGE),

@@ -54,7 +54,7 @@ IsRead format scale image symbol = read_image format scale symbol.symbology imag
 unfoldable pub AreRead : Format → ℕ → List (List ℕ) → List Symbol → Type 0
 AreRead format scale images symbols = AllZip (IsRead format scale) images symbols
 
--- the images that a front of a script sends, cut from their stream, are read as the full data of its symbols
+-- the images that each front of a script sends, cut from their stream, are read as the full data of its symbols
 abbrev pub ReadsBack : RunValues → List Event → Type 0
 ReadsBack run script = (front later : List Event) → script ≡ front ++ later
     → AreRead run.format run.scale (cut run.format (sent run Images front)) (drawn_symbols front)
