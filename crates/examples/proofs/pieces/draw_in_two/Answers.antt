@@ -1,6 +1,7 @@
 use Rattle.std.proofs.Common.{◌<◌, ◌∷◌, [], ◌++◌, Ok, Err, arith, refl}
 use Rattle.std.proofs.lemmas.List.Elements.{All-append, All-from_get_or}
 use Rattle.std.proofs.lemmas.Result.{err_from_is_err_and}
+use Rattle.filter.specs.Filter.{taken}
 use Rattle.filter.proofs.FilterLaws.{ended_script-more, some_later}
 use Rattle.filter.proofs.RunLaws.{CountsFault-after, FlushesNeither-append, Produces-sends}
 use Rattle.filter.proofs.ScriptLaws.{Sends-append, Sends-longer}
@@ -11,14 +12,16 @@ returns-in_err-feed-clause-produces g c =
     let options = c.args.options in
     let after = c.new-filter.ensures in
     let p = err_from_is_err_and c.from_residual.result c.from_residual.ensures.1 in
+    let took = taken (g.O.Sink.took c.args.out.now c.feed.new.out) (g.E.Sink.took c.args.err.now
+    c.feed.new.err) in
     let more = ended_script-more options c.args.first.now c.args.second.now in
     let later = some_later options (c.args.first.now ++ c.args.second.now) in
     let bytes = All-from_get_or (λ b. b < 256) c.args.second.now 0 (λ i within. omega (arith, c.type_inv.second i)) in
     rw (p.1, p.2) (Produces-sends options after.range (c.args.first.now ++ c.args.second.now)
     (Err c.in_err-feed.field-0.0) refl
     (All-append (λ b. b < 256) c.args.first.now c.args.second.now c.in_err-feed.ensures.bytes bytes)
-    (Sends-longer options.run (later.0 ∷ later.1) later.2
-    (Sends-longer options.run {U = Unit {0}} more.0 more.1 (c.in_err-feed.ensures.feeds options [] after).sends)) tt)
+    (Sends-longer options.run {took = took} (later.0 ∷ later.1) later.2
+    (Sends-longer options.run {U = Unit {0}} {took = took} more.0 more.1 (c.in_err-feed.ensures.feeds options [] after).sends)) tt)
 
 pub returns-in_err-feed-2-clause-produces : goal.returns-in_err-feed-2-clause-produces
 returns-in_err-feed-2-clause-produces g c =
