@@ -33,7 +33,7 @@ import sources
 CALL = ("filter", "streams", "run_streams")
 PROGRAM = "labels"
 # The crates in the order in which a reader meets them, from the headline down.
-CRATES = ["filter", "labelcore", "device", "picture", "linear", "qrmatrix", "qrdata", "gf256", "command"]
+CRATES = ["filter", "labelcore", "device", "picture", "linear", "qrmatrix", "qrdata", "gf256", "command", "testing"]
 # The crates on whose contracts no other crate rests.
 AT_THE_TOP = {"labels", "examples", "tests"}
 PAGE = os.path.join("docs", "DEFINITIONS.md")

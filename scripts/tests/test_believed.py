@@ -106,7 +106,7 @@ class Rows(InCopy):
         reading, white = "crates/picture/specs/Reading.antt", "picture/Reading is_white"
         line = re.search(rf"^{white} .*\n", read(self.path(RESULTS)), re.M).group()
         changes = (
-            (RESULTS, "\ndevice/Device ", f"\nopen: {white}\ndevice/Device ", f"{white}: open, and judged"),
+            (RESULTS, "\ntesting/FailAt ", f"\nopen: {white}\ntesting/FailAt ", f"{white}: open, and judged"),
             (reading, "b == 32 || b == 9", "b == 32 || b == 8", f"{white}: not as it was judged"),
             ("crates/picture/proofs/Examples.antt", "white = refl", "", f"{white}: not as it was judged"),
             (RESULTS, line, "", f"{white}: not judged"),

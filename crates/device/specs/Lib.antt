@@ -6,5 +6,4 @@ pub mod Private
 pub mod Sink
 pub mod Source
 pub mod Streams
-pub mod Testing
 pub mod Writing

@@ -1,7 +1,6 @@
 //! Devices: what gives bytes ([`Source`]) and what takes them ([`Sink`]).
 //!
 //! [`StdSource`] and [`StdSink`] are the readers and writers of std, and [`Buffered`] buffers bytes before another sink.
-//! For tests and small texts [`MemSource`] and [`MemSink`] have their bytes in memory; [`FailAt`] fails at one call.
 //! [`write_whole`] writes a text in as many writes as a sink needs. The README of this crate has an example.
 #![tactic(auto)]
 
@@ -10,7 +9,6 @@ mod io_fault;
 mod sink;
 mod source;
 mod streams;
-mod testing;
 mod write;
 
 pub use buffered::Buffered;
@@ -18,5 +16,4 @@ pub use io_fault::IoFault;
 pub use sink::Sink;
 pub use source::Source;
 pub use streams::{StdSink, StdSource};
-pub use testing::{FailAt, MemSink, MemSource};
 pub use write::write_whole;

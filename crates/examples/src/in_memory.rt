@@ -2,9 +2,10 @@
 ghost use Rattle.std.specs.Prelude.{◌≡◌};
 ghost use Rattle.filter.specs.Run.{Runs};
 
-use device::{MemSink, MemSource, Sink, Source};
+use device::{Sink, Source};
 use filter::{RunFault, Status, run};
 use labelcore::Options;
+use testing::{MemSink, MemSource};
 
 /// Draws the labels of the text that a source has left. The contract is that of [`run`], stated for memory.
 ///

@@ -7,7 +7,7 @@ mod negative;
 mod pieces;
 mod symbol;
 
-use device::{MemSink, MemSource, StdSink};
+use device::StdSink;
 use filter::Status;
 use in_memory::draw_labels;
 use labelcore::{Format, Options};
@@ -18,6 +18,7 @@ use qrdata::Level;
 use qrmatrix::QUIET_ZONE;
 use std::io;
 use symbol::matrix_of;
+use testing::{MemSink, MemSource};
 
 fn main(rt: HostRuntime) -> io::Result<()> {
     draw_text(&rt)?;

@@ -1,6 +1,6 @@
 //! The examples of the crates' pages (`crates/*/README.md`). `scripts/pages.py` compares them with the pages.
 use command::{ArgumentsFault, options_of};
-use device::{Buffered, MemSink, MemSource, Sink, write_whole};
+use device::{Buffered, Sink, write_whole};
 use filter::{Status, run};
 use gf256::{Generator, mul, pow_alpha};
 use labelcore::{Fault, Format, Item, LineBuf, Options, Scratch, Symbology, parse};
@@ -9,6 +9,7 @@ use picture::{Bars, Framed, QuietZone, Scaled, write_pbm};
 use qrdata::{Codewords, Level, Version, choose, codewords};
 use qrmatrix::Matrix;
 use std::test::Fail;
+use testing::{FailAt, MemSink, MemSource};
 
 #[test]
 fn page_of_device(rt: HostRuntime) {
@@ -17,6 +18,13 @@ fn page_of_device(rt: HostRuntime) {
     assert!(rt; sink.sink().bytes().is_empty() && sink.buffered() == b"ean8 7351353\n".as_slice());
     assert!(rt; sink.flush().is_ok());
     assert!(rt; sink.buffered().is_empty() && sink.sink().bytes() == b"ean8 7351353\n".as_slice());
+}
+
+#[test]
+fn page_of_testing(rt: HostRuntime) {
+    let mut sink: FailAt<MemSink<16>> = FailAt::new(MemSink::new(4, 16), 2);
+    assert!(rt; write_whole(b"ean8 7351353\n", &mut sink).is_err());
+    assert!(rt; sink.calls() == 2 && sink.device().bytes() == b"ean8".as_slice());
 }
 
 #[test]

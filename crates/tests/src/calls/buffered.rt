@@ -2,8 +2,9 @@
 ghost use Rattle.std.specs.Prelude.{◌<◌};
 
 use crate::calls::support::{flushes, passes_on, takes};
-use device::{Buffered, FailAt, MemSink, Sink};
+use device::{Buffered, Sink};
 use std::process::Abort;
+use testing::{FailAt, MemSink};
 
 /// A buffered sink over counted calls of memory.
 type Sunk = Buffered<FailAt<MemSink<66000>>>;

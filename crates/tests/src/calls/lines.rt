@@ -3,11 +3,12 @@
 ghost use Rattle.std.specs.Prelude.{◌<◌};
 
 use crate::runs::support::low;
-use device::{Buffered, IoFault, MemSink, MemSource, Sink, Source};
+use device::{Buffered, IoFault, Sink, Source};
 use filter::{Status, run};
 use std::alloc::Global;
 use std::cell::Cell;
 use std::process::Abort;
+use testing::{MemSink, MemSource};
 
 /// The marks of calls in a record.
 const READ: u8 = b'<';

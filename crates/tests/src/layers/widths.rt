@@ -1,8 +1,9 @@
 //! Rows at the widths where their form changes, against the slow form, which asks for each pixel.
 ghost use Rattle.std.specs.Prelude.{◌≤◌, length};
 
-use device::{Buffered, IoFault, MemSink, Sink, write_whole};
+use device::{Buffered, IoFault, Sink, write_whole};
 use picture::{Bars, Framed, Grid, QuietZone, write_ascii, write_pbm};
+use testing::MemSink;
 
 /// About a line, the room for a row at scale 1, and the room for any label's row; each with the headers of a picture of
 /// two rows and of one of four.

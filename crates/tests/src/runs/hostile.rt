@@ -1,8 +1,8 @@
 //! Devices that fail at each of their calls, over a line that is too long, a comment and a label.
 use crate::runs::support::{EAN8, low};
-use device::{FailAt, MemSink, MemSource};
 use filter::{RunFault, run};
 use std::process::Abort;
+use testing::{FailAt, MemSink, MemSource};
 
 /// The message of a line that is too long.
 const TOO_LONG: &[u8] = b"line 1: line is longer than 1100 bytes\n";

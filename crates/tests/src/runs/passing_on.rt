@@ -1,8 +1,9 @@
 //! Runs whose buffered images fail to go out.
 use crate::runs::support::{EAN8, TWO_EAN8, low};
-use device::{Buffered, FailAt, MemSink, MemSource};
+use device::Buffered;
 use filter::{RunFault, run};
 use std::process::Abort;
+use testing::{FailAt, MemSink, MemSource};
 
 /// Lines that are drawn and refused in turn, each of 13 or 6 bytes.
 const IN_TURN: &[u8] = b"ean8 7351353\npdf x\nean8 7351353\npdf x\nean8 7351353\n";

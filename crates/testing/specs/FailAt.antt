@@ -1,7 +1,11 @@
 -- A device that fails at one call, as its clauses see it (docs/SPECIFICATION.md, The filter as a library).
 use Rattle.std.specs.Prelude.{◌≡◌, ℕ, ◌+◌, ◌-◌, ◌^◌, ◌<◌, min, Result, IsErr}
 use Rattle.device.specs.Device.{CountsFailure}
-use Rattle.device.specs.declared.testing.fail_at.FailAt.{FailAt}
+use Rattle.testing.specs.declared.fail_at.FailAt.{FailAt}
+
+-- the sum of two counts; it stops at the greatest `u64`
+abbrev pub total_failures : ℕ → ℕ → ℕ
+total_failures own below = min (own + below) (2 ^ 64 - 1)
 
 -- the device below
 abbrev pub device_of : {D : Type 0} → FailAt D → D

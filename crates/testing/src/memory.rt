@@ -8,8 +8,8 @@ ghost use Rattle.device.specs.New.{IsNewSink, IsNewSource};
 ghost use Rattle.device.specs.Sink.{Flushes, WritesSome};
 ghost use Rattle.device.specs.Source.{ReadsSome};
 
-use crate::{IoFault, Sink, Source};
 use arrayvec::ArrayVec;
+use device::{IoFault, Sink, Source};
 
 /// A source of bytes in memory: it gives at most `piece` bytes a read. After them each read returns 0 or, with `fails`,
 /// fails.
@@ -25,7 +25,7 @@ pub struct MemSource<'a> {
 }
 
 impl<'a> MemSource<'a> {
-    ghost use Rattle.device.specs.Testing.Memory.{left_in, fails_after, read_limit};
+    ghost use Rattle.testing.specs.Memory.{left_in, fails_after, read_limit};
 
     /// Returns a source of these bytes that counts no failure and is not at its end. `piece` is above 0.
     pub fn new(bytes: &'a [u8], piece: usize, fails: bool) -> Self
@@ -54,7 +54,7 @@ impl<'a> Source for MemSource<'a> {
 
     ghost ends = { λ s. s.rest.now ≡ [] };
 
-    ghost use Rattle.device.specs.Testing.Memory.{left_in, fails_after, read_limit, GivesAlike};
+    ghost use Rattle.testing.specs.Memory.{left_in, fails_after, read_limit, GivesAlike};
 
     fn read(&mut self, buf: &mut [u8]) -> Result<usize, IoFault>
         requires { 0 < length buf.old }
@@ -96,7 +96,7 @@ pub struct MemSink<const N: usize> {
 }
 
 impl<const N: usize> MemSink<N> {
-    ghost use Rattle.device.specs.Testing.Memory.{held_by, write_limit, room_of};
+    ghost use Rattle.testing.specs.Memory.{held_by, write_limit, room_of};
 
     /// Returns an empty sink that counts no failure and is not flushed. `piece` is above 0, `limit` at most `N`.
     pub fn new(piece: usize, limit: usize) -> Self
@@ -138,7 +138,7 @@ impl<const N: usize> Sink for MemSink<N> {
 
     ghost took = { λ s t xs. t.held.items ≡ s.held.items ++ xs };
 
-    ghost use Rattle.device.specs.Testing.Memory.{held_by, write_limit, room_of, TakesAlike};
+    ghost use Rattle.testing.specs.Memory.{held_by, write_limit, room_of, TakesAlike};
 
     fn write(&mut self, bytes: &[u8]) -> Result<usize, IoFault>
         requires { 0 < length bytes.now }

@@ -1,13 +1,13 @@
 //! A device that fails at one call.
 ghost use Rattle.std.specs.Prelude.{◌≡◌, ◌+◌, ◌-◌, ◌^◌, ◌<◌, ◌↔◌, length, min};
 ghost use Rattle.std.specs.Prelude.{IsTrue};
-ghost use Rattle.device.specs.Device.{CountsFailure, total_failures};
-ghost use Rattle.device.specs.Testing.FailAt.{device_of, calls_of, failing_call, own_failures, FailsNext, CountsCall};
-ghost use Rattle.device.specs.Testing.FailAt.{FailsInTurn};
+ghost use Rattle.device.specs.Device.{CountsFailure};
+ghost use Rattle.testing.specs.FailAt.{device_of, calls_of, failing_call, own_failures, FailsNext, CountsCall};
+ghost use Rattle.testing.specs.FailAt.{FailsInTurn, total_failures};
 ghost use Rattle.device.specs.Sink.{Flushes, PassesBuffered, WritesSome};
 ghost use Rattle.device.specs.Source.{ReadsSome};
 
-use crate::{IoFault, Sink, Source};
+use device::{IoFault, Sink, Source};
 
 /// A device that fails at the call with the number `failing`, for tests. That call does not reach the device below;
 /// every other read, write and flush does. Calls are counted from 1, so with 0 none fails.

@@ -1,7 +1,7 @@
 -- The devices in memory, as their clauses see them (docs/SPECIFICATION.md, The filter as a library).
 use Rattle.std.specs.Prelude.{◌≡◌, ℕ, Bool, List}
-use Rattle.device.specs.declared.testing.memory.MemSource.{MemSource}
-use Rattle.device.specs.declared.testing.memory.MemSink.{MemSink}
+use Rattle.testing.specs.declared.memory.MemSource.{MemSource}
+use Rattle.testing.specs.declared.memory.MemSink.{MemSink}
 
 -- the bytes that a source has left
 abbrev pub left_in : MemSource → List ℕ

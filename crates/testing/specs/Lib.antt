@@ -1,0 +1,2 @@
+pub mod FailAt
+pub mod Memory
