@@ -1,5 +1,6 @@
 -- Lemmas on a text that is written piece by piece.
-use Rattle.std.proofs.Common.{◌≡◌, List, ℕ, [], ◌++◌, ◌+◌, ◌-◌, ◌≤◌, length, take, drop, append_assoc, ◌∙◌, ap, sym, subst}
+use Rattle.std.proofs.Common.{◌≡◌, List, ℕ, [], ◌++◌, ◌+◌, ◌-◌, ◌≤◌, length, take, drop, append_assoc, ◌∙◌, ap, sym}
+use Rattle.std.proofs.Common.{subst}
 use Rattle.std.proofs.Common.{arith, length-drop, length-take, Bool, true, ◌==◌}
 use Rattle.std.proofs.lemmas.Bool.Decides.{nat_tests}
 use Rattle.std.specs.Prelude.{slice_range}
@@ -29,7 +30,8 @@ cut_buffered text front bytes s e n h =
     let after : drop n buffered ≡ slice_range bytes (s + n) e = ap (drop n) (between_is bytes s e)
     ∙ (drop-drop n s (take e bytes) ∙ sym (between_is bytes (s + n) e)) in
     h ∙ (ap (λ (xs : List ℕ). front ++ xs) (sym (take-append-drop n buffered))
-    ∙ (sym (append_assoc front (take n buffered) (drop n buffered)) ∙ ap (λ (xs : List ℕ). (front ++ take n buffered) ++ xs) after))
+    ∙ (sym (append_assoc front (take n buffered) (drop n buffered))
+    ∙ ap (λ (xs : List ℕ). (front ++ take n buffered) ++ xs) after))
 
 -- more bytes after those that are buffered from s to e
 pub buffered_more : (bytes more : List ℕ) (s e n : ℕ) → s ≤ e → e ≤ length bytes → n ≡ length more

@@ -1,5 +1,6 @@
 -- What each call of a sink promises, over the sink's ghosts (docs/SPECIFICATION.md, The filter as a library).
-use Rattle.std.specs.Prelude.{◌≡◌, ℕ, ◌<◌, ◌≤◌, Bool, true, false, List, [], ◌++◌, length, take, Result, IfOk, IsTrue, IsFalse, MatchResult}
+use Rattle.std.specs.Prelude.{◌≡◌, ℕ, ◌<◌, ◌≤◌, Bool, true, false, List, [], ◌++◌, length, take, Result, IfOk, IsTrue}
+use Rattle.std.specs.Prelude.{IsFalse, MatchResult}
 use Rattle.device.specs.Device.{CountsFailure}
 
 -- a write of a text takes at least one byte from its front and returns how many; one that fails takes none

@@ -1,7 +1,7 @@
 //! Devices: what gives bytes ([`Source`]) and what takes them ([`Sink`]).
 //!
-//! [`StdSource`] and [`StdSink`] are the readers and writers of std, and [`Buffered`] buffers bytes before another sink.
-//! [`write_whole`] writes a text in as many writes as a sink needs. The README of this crate has an example.
+//! [`StdSource`] and [`StdSink`] are the readers and writers of std, and [`Buffered`] buffers bytes before another
+//! sink. [`write_whole`] writes a text in as many writes as a sink needs. The README of this crate has an example.
 #![tactic(auto)]
 
 mod buffered;

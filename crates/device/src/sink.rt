@@ -44,7 +44,8 @@ pub trait Sink {
     }
 
     /// Takes its last `count` bytes once more, and returns whether it did. It does so only where it still has all of
-    /// them and has room for them; else nothing changes. It never fails. A sink that keeps no byte always returns false.
+    /// them and has room for them; else nothing changes. It never fails. A sink that keeps no byte always returns
+    /// false.
     fn repeat(&mut self, count: usize) -> bool
         ensures { RepeatsBytes failures is_flushed took self.old self.new count result }
     {

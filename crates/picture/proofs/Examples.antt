@@ -106,13 +106,13 @@ text_pixels : ascii_pixels (codes "##  ##\n    ##\n\n")
 unfolding ascii_pixels
 text_pixels = refl
 
-no_text_pixels : map ascii_pixels (codes "##\n####\n\n" ∷ codes "####\n##\n\n" ∷ codes "##\n" ∷ codes "##\n##" ∷ [] ∷ [])
-    ≡ replicate 5 None
+no_text_pixels : map ascii_pixels (codes "##\n####\n\n" ∷ codes "####\n##\n\n" ∷ codes "##\n" ∷ codes "##\n##"
+    ∷ [] ∷ []) ≡ replicate 5 None
 unfolding ascii_pixels
 no_text_pixels = refl
 
-no_pairs : map line_pixels (codes "# \n" ∷ codes " #\n" ∷ codes "00\n" ∷ codes "###\n" ∷ codes "##00\n" ∷ codes "##" ∷ [])
-    ≡ replicate 6 None
+no_pairs : map line_pixels (codes "# \n" ∷ codes " #\n" ∷ codes "00\n" ∷ codes "###\n" ∷ codes "##00\n"
+    ∷ codes "##" ∷ []) ≡ replicate 6 None
 no_pairs = refl
 
 -- three modules in a quiet zone of another width on each side, a pixel for each: in the quiet zone no pixel is dark
@@ -131,7 +131,7 @@ framed = record {
 changed : Raster → ℕ → Raster
 changed r place =
     let x = place % r.width in let y = place / r.width in let row = slice_index_or r.rows y [] in
-    record { width = r.width; height = r.height; rows = slice_set r.rows y (slice_set row x (not (slice_index_or row x false))) }
+    record r { rows = slice_set r.rows y (slice_set row x (not (slice_index_or row x false))) }
 
 framed_sampled : sample framed 1 four_sides ≡ Some ((true ∷ false ∷ true ∷ []) ∷ [])
 unfolding sample
@@ -207,9 +207,8 @@ in_quiet_zones : map (λ (dark : ℕ → ℕ → Bool).
     raster (with_quiet_zone (record { width = 2; height = 3; dark = dark }) four_widths))
     (value_at (rows_of (codes "10" ∷ codes "01" ∷ codes "11" ∷ [])) ∷ (λ x y. true) ∷ []) ≡
     map (λ texts. record { width = 5; height = 7; rows = rows_of texts })
-    ((codes "00000" ∷ codes "00000" ∷ codes "00000" ∷ codes "01000" ∷ codes "00100" ∷ codes "01100" ∷ codes "00000" ∷ [])
-    ∷ (codes "00000" ∷ codes "00000" ∷ codes "00000" ∷ codes "01100" ∷ codes "01100" ∷ codes "01100" ∷ codes "00000" ∷ [])
-    ∷ [])
+    (map (λ rows. replicate 3 (codes "00000") ++ rows ++ codes "00000" ∷ [])
+    ((codes "01000" ∷ codes "00100" ∷ codes "01100" ∷ []) ∷ replicate 3 (codes "01100") ∷ []))
 in_quiet_zones = refl
 
 beside_bars : (bars (true ∷ []) 1).dark 1 0 ≡ false

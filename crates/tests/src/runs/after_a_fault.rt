@@ -32,8 +32,8 @@ impl Read for LineReader {
     }
 }
 
-/// Takes all bytes of each write that are the next ones of its text, but fails at one of its calls, counted from 1; with
-/// 0 at none.
+/// Takes all bytes of each write that are the next ones of its text, but fails at one of its calls, counted from 1;
+/// with 0 at none.
 #[derive(Drop)]
 struct OnceFailing {
     rest: &'static [u8],

@@ -7,4 +7,5 @@ use Rattle.command.proofs.command_line.command.Given as goal
 
 -- the command so far, with the rules of the rows to come
 abbrev pub invariant-loop-argument : goal.invariant-loop-argument
-invariant-loop-argument l = with_rules (app_of l.command) (map rule (drop l.argument-index l.argument-items)) ≡ command_line
+invariant-loop-argument l =
+    with_rules (app_of l.command) (map rule (drop l.argument-index l.argument-items)) ≡ command_line

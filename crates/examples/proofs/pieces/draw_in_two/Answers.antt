@@ -21,7 +21,8 @@ returns-in_err-feed-clause-produces g c =
     (Err c.in_err-feed.field-0.0) refl
     (All-append (λ b. b < 256) c.args.first.now c.args.second.now c.in_err-feed.ensures.bytes bytes)
     (Sends-longer options.run {took = took} (later.0 ∷ later.1) later.2
-    (Sends-longer options.run {U = Unit {0}} {took = took} more.0 more.1 (c.in_err-feed.ensures.feeds options [] after).sends)) tt)
+    (Sends-longer options.run {U = Unit {0}} {took = took} more.0 more.1
+    (c.in_err-feed.ensures.feeds options [] after).sends)) tt)
 
 pub returns-in_err-feed-2-clause-produces : goal.returns-in_err-feed-2-clause-produces
 returns-in_err-feed-2-clause-produces g c =
@@ -34,8 +35,8 @@ returns-in_err-feed-2-clause-produces g c =
     (Err c.in_err-feed-2.field-0.0) refl
     (All-append (λ b. b < 256) c.args.first.now c.args.second.now fed.is_after.bytes c.in_err-feed-2.ensures.bytes)
     (Sends-longer options.run (later.0 ∷ later.1) later.2
-    (Sends-append g.met.O.Sink.took_joined g.met.E.Sink.took_joined options.run (Err c.in_err-feed-2.field-0.0) fed.sends
-    (c.in_err-feed-2.ensures.feeds options c.args.first.now fed.is_after).sends)) tt)
+    (Sends-append g.met.O.Sink.took_joined g.met.E.Sink.took_joined options.run (Err c.in_err-feed-2.field-0.0)
+    fed.sends (c.in_err-feed-2.ensures.feeds options c.args.first.now fed.is_after).sends)) tt)
 
 pub returns-clause-produces : goal.returns-clause-produces
 returns-clause-produces g c =
