@@ -141,4 +141,4 @@ byte_choices-is version b rest small none few =
     let best : best_choice absent_digits absent_characters byte ≡ byte =
     best_choice-byte byte (omega (arith, beats.low, short_bits version Byte)) in
     let no_character : nat_lt (alphanumeric_value b) 45 ≡ false = le-ltb (alphanumeric_value b) 45 none in
-    rw (no_digit b small no_character, no_character, best) refl
+    rw (no_digit b none, no_character, best) refl

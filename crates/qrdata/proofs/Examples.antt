@@ -85,29 +85,17 @@ abbrev counts_of : Level → List (List ℕ)
 counts_of level =
     map (λ version. map (λ (group : ℕ × ℕ × ℕ). group.0) (groups_of version level)) (range_with_len 1 10)
 
-counts_at_l : counts_of L ≡
-    (1 ∷ []) ∷ (1 ∷ []) ∷ (1 ∷ []) ∷ (1 ∷ []) ∷ (1 ∷ []) ∷ (2 ∷ []) ∷ (2 ∷ []) ∷ (2 ∷ []) ∷ (2 ∷ []) ∷
-    (2 ∷ 2 ∷ []) ∷ []
+counts_of_levels : map counts_of (L ∷ M ∷ Q ∷ H ∷ []) ≡
+    ((1 ∷ []) ∷ (1 ∷ []) ∷ (1 ∷ []) ∷ (1 ∷ []) ∷ (1 ∷ []) ∷ (2 ∷ []) ∷ (2 ∷ []) ∷ (2 ∷ []) ∷ (2 ∷ []) ∷
+    (2 ∷ 2 ∷ []) ∷ [])
+    ∷ ((1 ∷ []) ∷ (1 ∷ []) ∷ (1 ∷ []) ∷ (2 ∷ []) ∷ (2 ∷ []) ∷ (4 ∷ []) ∷ (4 ∷ []) ∷ (2 ∷ 2 ∷ []) ∷ (3 ∷ 2 ∷ []) ∷
+    (4 ∷ 1 ∷ []) ∷ [])
+    ∷ ((1 ∷ []) ∷ (1 ∷ []) ∷ (2 ∷ []) ∷ (2 ∷ []) ∷ (2 ∷ 2 ∷ []) ∷ (4 ∷ []) ∷ (2 ∷ 4 ∷ []) ∷ (4 ∷ 2 ∷ []) ∷
+    (4 ∷ 4 ∷ []) ∷ (6 ∷ 2 ∷ []) ∷ [])
+    ∷ ((1 ∷ []) ∷ (1 ∷ []) ∷ (2 ∷ []) ∷ (4 ∷ []) ∷ (2 ∷ 2 ∷ []) ∷ (4 ∷ []) ∷ (4 ∷ 1 ∷ []) ∷ (4 ∷ 2 ∷ []) ∷
+    (4 ∷ 4 ∷ []) ∷ (6 ∷ 2 ∷ []) ∷ []) ∷ []
 unfolding groups_of block_table
-counts_at_l = refl
-
-counts_at_m : counts_of M ≡
-    (1 ∷ []) ∷ (1 ∷ []) ∷ (1 ∷ []) ∷ (2 ∷ []) ∷ (2 ∷ []) ∷ (4 ∷ []) ∷ (4 ∷ []) ∷ (2 ∷ 2 ∷ []) ∷ (3 ∷ 2 ∷ []) ∷
-    (4 ∷ 1 ∷ []) ∷ []
-unfolding groups_of block_table
-counts_at_m = refl
-
-counts_at_q : counts_of Q ≡
-    (1 ∷ []) ∷ (1 ∷ []) ∷ (2 ∷ []) ∷ (2 ∷ []) ∷ (2 ∷ 2 ∷ []) ∷ (4 ∷ []) ∷ (2 ∷ 4 ∷ []) ∷ (4 ∷ 2 ∷ []) ∷
-    (4 ∷ 4 ∷ []) ∷ (6 ∷ 2 ∷ []) ∷ []
-unfolding groups_of block_table
-counts_at_q = refl
-
-counts_at_h : counts_of H ≡
-    (1 ∷ []) ∷ (1 ∷ []) ∷ (2 ∷ []) ∷ (4 ∷ []) ∷ (2 ∷ 2 ∷ []) ∷ (4 ∷ []) ∷ (4 ∷ 1 ∷ []) ∷ (4 ∷ 2 ∷ []) ∷
-    (4 ∷ 4 ∷ []) ∷ (6 ∷ 2 ∷ []) ∷ []
-unfolding groups_of block_table
-counts_at_h = refl
+counts_of_levels = refl
 
 -- the blocks' codewords together are the symbol's
 abbrev codewords_of_blocks : Level → List ℕ
@@ -345,19 +333,14 @@ interleaving-split_by : interleaving (split_by (block_lengths 5 Q) (range_with_l
 unfolding block_lengths groups_of block_table split_by interleaving interleaved_5q
 interleaving-split_by = refl
 
--- a codeword more than version 1 has, and one less
-wrong_lengths : map (data_in 1 Q) ((hello_world ++ (0 ∷ [])) ∷ take 25 hello_world ∷ []) ≡ None ∷ None ∷ []
+-- a codeword more than version 1 has, one less, and the last two codewords changed in one bit: the value at alpha^0 is
+-- still 0, and at the other roots it is not
+not_read : map (data_in 1 Q) ((hello_world ++ (0 ∷ [])) ∷ take 25 hello_world ∷ (take 24 hello_world ++ (123 ∷ 17 ∷ []))
+    ∷ []) ≡ replicate 3 None
 unfolding hello_world alphanumeric_characters bits_of number_of byte_bits total_codewords ec_codewords_per_block
     data_codewords block_lengths groups_of block_table evaluate field_power field_product binary_product
     binary_remainder number_at digits_at characters_at bytes_at segment_at segments_at deinterleaving data_in
-wrong_lengths = refl
-
--- the last two codewords changed in one bit: the value at alpha^0 is still 0, and at the other roots it is not
-two_codewords_changed : data_in 1 Q (take 24 hello_world ++ (123 ∷ 17 ∷ [])) ≡ None
-unfolding hello_world alphanumeric_characters bits_of number_of byte_bits total_codewords ec_codewords_per_block
-    data_codewords block_lengths groups_of block_table evaluate field_power field_product binary_product
-    binary_remainder number_at digits_at characters_at bytes_at segment_at segments_at deinterleaving data_in
-two_codewords_changed = refl
+not_read = refl
 
 -- the blocks of version 5-Q taken out of the order that the standard lists (ISO/IEC 18004, 7.6)
 blocks_taken_back : deinterleaving (15 ∷ 15 ∷ 16 ∷ 16 ∷ []) interleaved_5q ≡ split_by (15 ∷ 15 ∷ 16 ∷ 16 ∷ []) (range_with_len 0 62)
@@ -366,32 +349,30 @@ blocks_taken_back = refl
 
 -- ---- four blocks
 
--- `zint -b 58 --vers=5 --secure=3 --verbose -d "ISO/IEC 18004 BLOCKS 5-Q"` (2.11.1): four blocks, of which the last two
--- have a data codeword more
-codewords_5q : List ℕ
-codewords_5q =
-    32 ∷ 25 ∷ 17 ∷ 17 ∷ 195 ∷ 103 ∷ 236 ∷ 236 ∷ 70 ∷ 167 ∷ 17 ∷ 17 ∷ 140 ∷ 128 ∷ 236 ∷ 236 ∷ 108 ∷ 236 ∷ 17 ∷ 17 ∷ 225
-    ∷ 17 ∷ 236 ∷ 236 ∷ 32 ∷ 236 ∷ 17 ∷ 17 ∷ 3 ∷ 17 ∷ 236 ∷ 236 ∷ 80 ∷ 236 ∷ 17 ∷ 17 ∷ 0 ∷ 17 ∷ 236 ∷ 236 ∷ 54 ∷ 236 ∷
-    17 ∷ 17 ∷ 16 ∷ 17 ∷ 236 ∷ 236 ∷ 36 ∷ 236 ∷ 17 ∷ 17 ∷ 68 ∷ 17 ∷ 236 ∷ 236 ∷ 116 ∷ 236 ∷ 17 ∷ 17 ∷ 236 ∷ 236 ∷ 189 ∷
-    153 ∷ 135 ∷ 135 ∷ 224 ∷ 253 ∷ 147 ∷ 147 ∷ 171 ∷ 230 ∷ 7 ∷ 7 ∷ 173 ∷ 209 ∷ 41 ∷ 41 ∷ 66 ∷ 215 ∷ 128 ∷ 128 ∷ 214 ∷
-    175 ∷ 150 ∷ 150 ∷ 216 ∷ 84 ∷ 120 ∷ 120 ∷ 134 ∷ 194 ∷ 184 ∷ 184 ∷ 85 ∷ 42 ∷ 37 ∷ 37 ∷ 57 ∷ 229 ∷ 181 ∷ 181 ∷ 138 ∷
-    43 ∷ 205 ∷ 205 ∷ 189 ∷ 174 ∷ 222 ∷ 222 ∷ 224 ∷ 153 ∷ 231 ∷ 231 ∷ 187 ∷ 29 ∷ 8 ∷ 8 ∷ 236 ∷ 166 ∷ 44 ∷ 44 ∷ 77 ∷ 96
-    ∷ 81 ∷ 81 ∷ 159 ∷ 210 ∷ 173 ∷ 173 ∷ 74 ∷ 47 ∷ 80 ∷ 80 ∷ []
+-- `zint -b 58 --vers=4 --secure=4 --verbose -d "ISO/IEC 18004 BLOCKS 4-H"` (2.11.1): four blocks of nine data codewords
+-- and 16 error correction codewords
+codewords_4h : List ℕ
+codewords_4h =
+    32 ∷ 0 ∷ 0 ∷ 236 ∷ 195 ∷ 54 ∷ 236 ∷ 17 ∷ 70 ∷ 16 ∷ 17 ∷ 236 ∷ 140 ∷ 36 ∷ 236 ∷ 17 ∷ 108 ∷ 68 ∷ 17 ∷ 236 ∷ 225 ∷ 116
+    ∷ 236 ∷ 17 ∷ 32 ∷ 25 ∷ 17 ∷ 236 ∷ 3 ∷ 99 ∷ 236 ∷ 17 ∷ 80 ∷ 163 ∷ 17 ∷ 236 ∷ 39 ∷ 152 ∷ 207 ∷ 116 ∷ 52 ∷ 177 ∷ 10 ∷
+    96 ∷ 236 ∷ 101 ∷ 202 ∷ 131 ∷ 255 ∷ 200 ∷ 186 ∷ 21 ∷ 225 ∷ 30 ∷ 241 ∷ 58 ∷ 133 ∷ 119 ∷ 158 ∷ 134 ∷ 201 ∷ 104 ∷ 215 ∷
+    64 ∷ 232 ∷ 23 ∷ 133 ∷ 110 ∷ 61 ∷ 139 ∷ 107 ∷ 67 ∷ 96 ∷ 26 ∷ 98 ∷ 220 ∷ 174 ∷ 225 ∷ 215 ∷ 237 ∷ 221 ∷ 187 ∷ 223 ∷ 52
+    ∷ 97 ∷ 250 ∷ 247 ∷ 178 ∷ 0 ∷ 183 ∷ 200 ∷ 169 ∷ 247 ∷ 194 ∷ 241 ∷ 223 ∷ 42 ∷ 61 ∷ 71 ∷ 126 ∷ []
 
 -- what is read where the codeword at a place is another one
 read_changed : ℕ → Option (List ℕ)
-unfolding codewords_5q
-read_changed place = data_in 5 Q (slice_set codewords_5q place ((slice_index codewords_5q place + 1) % 256))
+unfolding codewords_4h
+read_changed place = data_in 4 H (slice_set codewords_4h place ((slice_index codewords_4h place + 1) % 256))
 
-four_blocks : data_in 5 Q codewords_5q ≡ Some (codes "ISO/IEC 18004 BLOCKS 5-Q")
-unfolding codewords_5q alphanumeric_characters bits_of number_of byte_bits total_codewords ec_codewords_per_block
+four_blocks : data_in 4 H codewords_4h ≡ Some (codes "ISO/IEC 18004 BLOCKS 4-H")
+unfolding codewords_4h alphanumeric_characters bits_of number_of byte_bits total_codewords ec_codewords_per_block
     data_codewords block_lengths groups_of block_table evaluate field_power field_product binary_product
     binary_remainder number_at digits_at characters_at bytes_at segment_at segments_at deinterleaving data_in
 four_blocks = refl
 
--- one codeword changed in each block: its first data codeword, its last one, its first error correction codeword, its
--- last one
-codeword_changed : map read_changed (0 ∷ 57 ∷ 64 ∷ 133 ∷ []) ≡ replicate 4 None
+-- one codeword changed: of the first block the first data codeword, the first error correction codeword and the last
+-- one, and of the second block the last data codeword
+codeword_changed : map read_changed (0 ∷ 36 ∷ 96 ∷ 33 ∷ []) ≡ replicate 4 None
 unfolding read_changed alphanumeric_characters bits_of number_of byte_bits total_codewords ec_codewords_per_block
     data_codewords block_lengths groups_of block_table evaluate field_power field_product binary_product
     binary_remainder number_at digits_at characters_at bytes_at segment_at segments_at deinterleaving data_in
