@@ -3,8 +3,7 @@ use Rattle.qrdata.specs.Fewest.{chosen_segments}
 use Rattle.qrdata.proofs.BoundLaws.{third}
 use Rattle.qrdata.proofs.FewestBitsLaws.{chosen_segments-is}
 use Rattle.qrdata.proofs.FirstsTableLaws.{FitsBits-of, NamesBest-of, capacity_as_wide, fewest_bits-below}
-use Rattle.qrdata.proofs.FirstsTableLaws.{length-firsts_of}
-use Rattle.qrdata.proofs.FirstsTableLaws.{table_sizes}
+use Rattle.qrdata.proofs.FirstsTableLaws.{length-firsts_of, table_sizes}
 use Rattle.qrdata.proofs.VersionLaws.{capacity-le, capacity-rising}
 use Rattle.qrdata.proofs.plan.plan_between.Goals as goal
 
