@@ -1,4 +1,4 @@
-use Rattle.std.proofs.Common.{◌∙◌, ℕ, ap, arith, drop, length, length-append, replicate, sym}
+use Rattle.std.proofs.Common.{◌∙◌, ℕ, ap, arith, drop, length, length-append, replicate}
 use Rattle.qrdata.proofs.BitStringLaws.{take_front}
 use Rattle.qrdata.proofs.blocks.push_block_ec_codewords.Goals as goal
 
