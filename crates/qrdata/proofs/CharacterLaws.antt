@@ -1,5 +1,6 @@
 -- Each byte as an alphanumeric character.
-use Rattle.std.proofs.Common.{◌≡◌, ℕ, ◌+◌, ◌-◌, ◌<◌, ◌≤◌, refl, Bool, true, false, get_or, map, length, ap, ◌∙◌, arith, inl, inr, not}
+use Rattle.std.proofs.Common.{◌≡◌, ℕ, ◌+◌, ◌-◌, ◌<◌, ◌≤◌, refl, Bool, true, false, get_or, map, length, ap, ◌∙◌}
+use Rattle.std.proofs.Common.{arith, inl, inr, not}
 use Rattle.std.specs.Char.{is_ascii_digit}
 use Rattle.std.specs.List.{range_with_len}
 use Rattle.std.specs.Prelude.{◌==◌, nat_le, nat_lt}
@@ -21,8 +22,10 @@ values = refl
 pub value_is : (c : ℕ) → c < 256 → (get_or VALUES c 0 ≡ alphanumeric_value c) × (alphanumeric_value c ≤ 45)
 unfolding alphanumeric_value
 value_is c h =
-    let value = ap (λ xs. get_or xs c 0) values ∙ get_or-map-range_with_len alphanumeric_value 0 256 c c 0 h (omega arith) in
-    (value, omega (arith, prefix_len-le-length (λ x. not (x == c)) alphanumeric_characters, length-alphanumeric_characters))
+    let most = prefix_len-le-length (λ x. not (x == c)) alphanumeric_characters in (
+      ap (λ xs. get_or xs c 0) values ∙ get_or-map-range_with_len alphanumeric_value 0 256 c c 0 h (omega arith),
+      omega (arith, most, length-alphanumeric_characters),
+    )
 
 abbrev digit_is_character : ℕ → Bool
 digit_is_character d = nat_lt (alphanumeric_value (48 + d)) 45

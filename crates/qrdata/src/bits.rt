@@ -2,8 +2,9 @@
 ghost use Rattle.arrayvec.specs.ArrayVec.{array_vec_len};
 ghost use Rattle.qrdata.specs.Bits.{bits_of, codewords_of};
 ghost use Rattle.qrdata.specs.Codewords.{with_zeros, pad_codewords, with_terminator};
-ghost use Rattle.qrdata.specs.Segments.{IsSegmentation, alphanumeric_bits, byte_bits, cost};
-ghost use Rattle.qrdata.specs.Segments.{count_width, digit_value, has_character, numeric_bits, payload_bits, payload_length, segment_bits, segments_bits};
+ghost use Rattle.qrdata.specs.Segments.{IsSegmentation, alphanumeric_bits, byte_bits, cost, count_width, digit_value};
+ghost use Rattle.qrdata.specs.Segments.{has_character, numeric_bits, payload_bits, payload_length, segment_bits};
+ghost use Rattle.qrdata.specs.Segments.{segments_bits};
 ghost use Rattle.qrdata.specs.declared.mode.Mode.TheVariants.{Alphanumeric, Numeric};
 ghost use Rattle.std.specs.Char.{is_ascii_digit};
 ghost use Rattle.std.specs.List.{list_all};
