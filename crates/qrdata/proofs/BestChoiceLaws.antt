@@ -11,11 +11,9 @@ use Rattle.qrdata.specs.Private.ChoiceView.{ChoiceView}
 use Rattle.qrdata.specs.declared.segmentation.Choices.{Choices}
 use Rattle.qrdata.specs.declared.segmentation.TheConstants.{ABSENT}
 use Rattle.qrdata.specs.Segments.{IsSegmentation, alphanumeric_value, cost, segment_length, segment_of}
-use Rattle.qrdata.specs.Private.Table.{Each, absent_characters, absent_digits, best_choice, better_choice}
-use Rattle.qrdata.specs.Private.Table.{byte_choices}
+use Rattle.qrdata.specs.Private.Table.{Each, absent_characters, absent_digits, best_choice, better_choice, byte_choices}
 use Rattle.qrdata.specs.Private.Table.{choices_of, fewest_bits, longer_choice, next_characters, next_choices}
-use Rattle.qrdata.specs.Private.Table.{next_digits}
-use Rattle.qrdata.specs.Private.Table.{short_choice}
+use Rattle.qrdata.specs.Private.Table.{next_digits, short_choice}
 use Rattle.qrdata.proofs.CharacterLaws.{no_digit}
 use Rattle.qrdata.proofs.ChoiceOrderLaws.{Beats, better-left, better-one, better-right}
 use Rattle.qrdata.proofs.ChoiceClassLaws.{IsClass, IsClass-kept, IsRun, each_choice, total}
@@ -141,4 +139,4 @@ byte_choices-is version b rest small none few =
     let best : best_choice absent_digits absent_characters byte ≡ byte =
     best_choice-byte byte (omega (arith, beats.low, short_bits version Byte)) in
     let no_character : nat_lt (alphanumeric_value b) 45 ≡ false = le-ltb (alphanumeric_value b) 45 none in
-    rw (no_digit b small no_character, no_character, best) refl
+    rw (no_digit b none, no_character, best) refl

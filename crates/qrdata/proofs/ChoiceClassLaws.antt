@@ -11,10 +11,8 @@ use Rattle.qrdata.specs.Private.ChoiceView.{ChoiceView}
 use Rattle.qrdata.specs.declared.segmentation.TheConstants.{ABSENT}
 use Rattle.qrdata.specs.Segments.{has_character, payload_length, segment_length, segment_of}
 use Rattle.qrdata.specs.Private.Table.{Each, EachCharacters, EachDigits, absent_characters, absent_choice}
-use Rattle.qrdata.specs.Private.Table.{absent_digits}
-use Rattle.qrdata.specs.Private.Table.{better_choice, choices_of, fewest_bits, longer_choice, next_characters}
-use Rattle.qrdata.specs.Private.Table.{next_choices}
-use Rattle.qrdata.specs.Private.Table.{next_digits, short_choice}
+use Rattle.qrdata.specs.Private.Table.{absent_digits, better_choice, choices_of, fewest_bits, longer_choice}
+use Rattle.qrdata.specs.Private.Table.{next_characters, next_choices, next_digits, short_choice}
 use Rattle.qrdata.proofs.ChoiceOrderLaws.{Beats, better-left, better-one, better-right}
 
 -- the bits of a first segment and of the best list of the rest

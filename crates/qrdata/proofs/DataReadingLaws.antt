@@ -1,8 +1,7 @@
 -- What is read of the codewords of a symbol is its data.
 use Rattle.std.proofs.Common.{◌≡◌, ℕ, zero, suc, ◌+◌, ◌-◌, ◌*◌, ◌/◌, ◌%◌, ◌<◌, ◌≤◌, List, [], ◌∷◌, ◌++◌, map, take}
-use Rattle.std.proofs.Common.{drop}
-use Rattle.std.proofs.Common.{get_or, length, replicate, refl, sym, ap, ◌∙◌, length-append, arith, Bool, true, false}
-use Rattle.std.proofs.Common.{sum}
+use Rattle.std.proofs.Common.{drop, get_or, length, replicate, refl, sym, ap, ◌∙◌, length-append, arith, Bool, true}
+use Rattle.std.proofs.Common.{false, sum}
 use Rattle.std.specs.Prelude.{if◌then◌else◌, None, Some, Option, ◌&&◌, ◌==◌}
 use Rattle.std.specs.List.{AllByRecursion, concat, flat_map, list_all, range_with_len, zip}
 use Rattle.std.proofs.lemmas.Bool.{eq-eqb, eqb-true}
@@ -17,9 +16,8 @@ use Rattle.gf256.proofs.GeneratorLaws.{HasRoots-remainder, IsRemainder-ec_codewo
 use Rattle.qrdata.specs.declared.level.Level.{Level}
 use Rattle.qrdata.specs.declared.mode.Segment.{Segment}
 use Rattle.qrdata.specs.Bits.{number_of, codewords_of}
-use Rattle.qrdata.specs.Codewords.{with_zeros, with_pad_codewords, final_message, interleaving}
-use Rattle.qrdata.specs.Codewords.{pad_codewords, data_codewords_of}
-use Rattle.qrdata.specs.Codewords.{split_by, symbol_codewords, with_terminator}
+use Rattle.qrdata.specs.Codewords.{with_zeros, with_pad_codewords, final_message, interleaving, pad_codewords}
+use Rattle.qrdata.specs.Codewords.{data_codewords_of, split_by, symbol_codewords, with_terminator}
 use Rattle.qrdata.specs.Reading.{data_in, deinterleaving, has_roots, segments_at}
 use Rattle.qrdata.specs.Segments.{IsSegmentation, cost, segments_bits}
 use Rattle.qrdata.specs.Private.Blocks.{block_count}

@@ -15,9 +15,8 @@ use Rattle.qrdata.specs.Fewest.{first_segments, best_within, chosen_segments, ch
 use Rattle.qrdata.specs.Reading.{number_at, digits_at, characters_at, bytes_at, segment_at, segments_at}
 use Rattle.qrdata.specs.Reading.{deinterleaving, data_in, is_end}
 use Rattle.qrdata.specs.Segments.{alphanumeric_bits, alphanumeric_characters, alphanumeric_value, byte_bits, cost}
-use Rattle.qrdata.specs.Segments.{count_width, has_character, mode_indicator, modes}
-use Rattle.qrdata.specs.Segments.{numeric_bits, payload_length, segment_of}
-use Rattle.qrdata.specs.Segments.{segments_bits}
+use Rattle.qrdata.specs.Segments.{count_width, has_character, mode_indicator, modes, numeric_bits, payload_length}
+use Rattle.qrdata.specs.Segments.{segment_of, segments_bits}
 use Rattle.qrdata.specs.Versions.{total_codewords, ec_codewords_per_block, data_codewords, block_lengths}
 use Rattle.qrdata.specs.Versions.{block_table, capacity, groups_of, side_of}
 
@@ -60,12 +59,10 @@ blocks_at_h = refl
 -- ---- the tables of qrencode 4.1.1 (qrspec.c, qrinput.c), which come from those of JIS X 0510 and ISO/IEC 18004
 
 -- of each version the side and the codewords
-sides : map side_of (range_with_len 1 10) ≡ 21 ∷ 25 ∷ 29 ∷ 33 ∷ 37 ∷ 41 ∷ 45 ∷ 49 ∷ 53 ∷ 57 ∷ []
-sides = refl
-
-codewords : map total_codewords (range_with_len 1 10) ≡ 26 ∷ 44 ∷ 70 ∷ 100 ∷ 134 ∷ 172 ∷ 196 ∷ 242 ∷ 292 ∷ 346 ∷ []
+sides : (map side_of (range_with_len 1 10) ≡ 21 ∷ 25 ∷ 29 ∷ 33 ∷ 37 ∷ 41 ∷ 45 ∷ 49 ∷ 53 ∷ 57 ∷ [])
+    × (map total_codewords (range_with_len 1 10) ≡ 26 ∷ 44 ∷ 70 ∷ 100 ∷ 134 ∷ 172 ∷ 196 ∷ 242 ∷ 292 ∷ 346 ∷ [])
 unfolding total_codewords
-codewords = refl
+sides = (refl, refl)
 
 -- of each level the error correction codewords of the versions
 ec_codewords : Level → List ℕ
@@ -85,29 +82,17 @@ abbrev counts_of : Level → List (List ℕ)
 counts_of level =
     map (λ version. map (λ (group : ℕ × ℕ × ℕ). group.0) (groups_of version level)) (range_with_len 1 10)
 
-counts_at_l : counts_of L ≡
-    (1 ∷ []) ∷ (1 ∷ []) ∷ (1 ∷ []) ∷ (1 ∷ []) ∷ (1 ∷ []) ∷ (2 ∷ []) ∷ (2 ∷ []) ∷ (2 ∷ []) ∷ (2 ∷ []) ∷
-    (2 ∷ 2 ∷ []) ∷ []
+counts_of_levels : map counts_of (L ∷ M ∷ Q ∷ H ∷ []) ≡
+    ((1 ∷ []) ∷ (1 ∷ []) ∷ (1 ∷ []) ∷ (1 ∷ []) ∷ (1 ∷ []) ∷ (2 ∷ []) ∷ (2 ∷ []) ∷ (2 ∷ []) ∷ (2 ∷ []) ∷
+    (2 ∷ 2 ∷ []) ∷ [])
+    ∷ ((1 ∷ []) ∷ (1 ∷ []) ∷ (1 ∷ []) ∷ (2 ∷ []) ∷ (2 ∷ []) ∷ (4 ∷ []) ∷ (4 ∷ []) ∷ (2 ∷ 2 ∷ []) ∷ (3 ∷ 2 ∷ []) ∷
+    (4 ∷ 1 ∷ []) ∷ [])
+    ∷ ((1 ∷ []) ∷ (1 ∷ []) ∷ (2 ∷ []) ∷ (2 ∷ []) ∷ (2 ∷ 2 ∷ []) ∷ (4 ∷ []) ∷ (2 ∷ 4 ∷ []) ∷ (4 ∷ 2 ∷ []) ∷
+    (4 ∷ 4 ∷ []) ∷ (6 ∷ 2 ∷ []) ∷ [])
+    ∷ ((1 ∷ []) ∷ (1 ∷ []) ∷ (2 ∷ []) ∷ (4 ∷ []) ∷ (2 ∷ 2 ∷ []) ∷ (4 ∷ []) ∷ (4 ∷ 1 ∷ []) ∷ (4 ∷ 2 ∷ []) ∷
+    (4 ∷ 4 ∷ []) ∷ (6 ∷ 2 ∷ []) ∷ []) ∷ []
 unfolding groups_of block_table
-counts_at_l = refl
-
-counts_at_m : counts_of M ≡
-    (1 ∷ []) ∷ (1 ∷ []) ∷ (1 ∷ []) ∷ (2 ∷ []) ∷ (2 ∷ []) ∷ (4 ∷ []) ∷ (4 ∷ []) ∷ (2 ∷ 2 ∷ []) ∷ (3 ∷ 2 ∷ []) ∷
-    (4 ∷ 1 ∷ []) ∷ []
-unfolding groups_of block_table
-counts_at_m = refl
-
-counts_at_q : counts_of Q ≡
-    (1 ∷ []) ∷ (1 ∷ []) ∷ (2 ∷ []) ∷ (2 ∷ []) ∷ (2 ∷ 2 ∷ []) ∷ (4 ∷ []) ∷ (2 ∷ 4 ∷ []) ∷ (4 ∷ 2 ∷ []) ∷
-    (4 ∷ 4 ∷ []) ∷ (6 ∷ 2 ∷ []) ∷ []
-unfolding groups_of block_table
-counts_at_q = refl
-
-counts_at_h : counts_of H ≡
-    (1 ∷ []) ∷ (1 ∷ []) ∷ (2 ∷ []) ∷ (4 ∷ []) ∷ (2 ∷ 2 ∷ []) ∷ (4 ∷ []) ∷ (4 ∷ 1 ∷ []) ∷ (4 ∷ 2 ∷ []) ∷
-    (4 ∷ 4 ∷ []) ∷ (6 ∷ 2 ∷ []) ∷ []
-unfolding groups_of block_table
-counts_at_h = refl
+counts_of_levels = refl
 
 -- the blocks' codewords together are the symbol's
 abbrev codewords_of_blocks : Level → List ℕ
@@ -120,19 +105,15 @@ unfolding groups_of block_table
 codewords_of_levels = refl
 
 -- the values of the bytes 0 to 127, 45 for those that qrencode's table has at -1, and of the bytes from 128 on
-values_of_bytes : map alphanumeric_value (range_with_len 0 128) ≡
+values_of_bytes : map alphanumeric_value (range_with_len 0 256) ≡
     45 ∷ 45 ∷ 45 ∷ 45 ∷ 45 ∷ 45 ∷ 45 ∷ 45 ∷ 45 ∷ 45 ∷ 45 ∷ 45 ∷ 45 ∷ 45 ∷ 45 ∷ 45 ∷ 45 ∷ 45 ∷ 45 ∷ 45 ∷ 45 ∷ 45 ∷
     45 ∷ 45 ∷ 45 ∷ 45 ∷ 45 ∷ 45 ∷ 45 ∷ 45 ∷ 45 ∷ 45 ∷ 36 ∷ 45 ∷ 45 ∷ 45 ∷ 37 ∷ 38 ∷ 45 ∷ 45 ∷ 45 ∷ 45 ∷ 39 ∷ 40 ∷
     45 ∷ 41 ∷ 42 ∷ 43 ∷ 0 ∷ 1 ∷ 2 ∷ 3 ∷ 4 ∷ 5 ∷ 6 ∷ 7 ∷ 8 ∷ 9 ∷ 44 ∷ 45 ∷ 45 ∷ 45 ∷ 45 ∷ 45 ∷ 45 ∷ 10 ∷ 11 ∷ 12 ∷
     13 ∷ 14 ∷ 15 ∷ 16 ∷ 17 ∷ 18 ∷ 19 ∷ 20 ∷ 21 ∷ 22 ∷ 23 ∷ 24 ∷ 25 ∷ 26 ∷ 27 ∷ 28 ∷ 29 ∷ 30 ∷ 31 ∷ 32 ∷ 33 ∷ 34 ∷
     35 ∷ 45 ∷ 45 ∷ 45 ∷ 45 ∷ 45 ∷ 45 ∷ 45 ∷ 45 ∷ 45 ∷ 45 ∷ 45 ∷ 45 ∷ 45 ∷ 45 ∷ 45 ∷ 45 ∷ 45 ∷ 45 ∷ 45 ∷ 45 ∷ 45 ∷
-    45 ∷ 45 ∷ 45 ∷ 45 ∷ 45 ∷ 45 ∷ 45 ∷ 45 ∷ 45 ∷ 45 ∷ 45 ∷ 45 ∷ 45 ∷ 45 ∷ 45 ∷ 45 ∷ []
+    45 ∷ 45 ∷ 45 ∷ 45 ∷ 45 ∷ 45 ∷ 45 ∷ 45 ∷ 45 ∷ 45 ∷ 45 ∷ 45 ∷ 45 ∷ 45 ∷ 45 ∷ 45 ∷ replicate 128 45
 unfolding alphanumeric_value alphanumeric_characters
 values_of_bytes = refl
-
-values_of_others : map alphanumeric_value (range_with_len 128 128) ≡ replicate 128 45
-unfolding alphanumeric_value alphanumeric_characters
-values_of_others = refl
 
 -- the bits of a character count in versions 1, 9 and 10
 count_widths : map (λ mode. map (λ version. count_width version mode) (1 ∷ 9 ∷ 10 ∷ [])) modes ≡
@@ -151,14 +132,11 @@ bits : List ℕ → List Bool
 bits text = map (λ c. c == 49) text
 
 -- the standard's examples `01234567`, `0123456789012345` and `AC-42`
-eight_digits : numeric_bits (codes "01234567") ≡ bits (codes "000000110001010110011000011")
+standard_digits : (numeric_bits (codes "01234567") ≡ bits (codes "000000110001010110011000011"))
+    × (numeric_bits (codes "0123456789012345")
+    ≡ bits (codes "000000110001010110011010100110111000010100111010100101"))
 unfolding numeric_bits bits_of bits
-eight_digits = refl
-
-sixteen_digits : numeric_bits (codes "0123456789012345")
-    ≡ bits (codes "000000110001010110011010100110111000010100111010100101")
-unfolding numeric_bits bits_of bits
-sixteen_digits = refl
+standard_digits = (refl, refl)
 
 five_characters : alphanumeric_bits (codes "AC-42") ≡ bits (codes "0011100111011100111001000010")
 unfolding alphanumeric_bits alphanumeric_value alphanumeric_characters bits_of bits
@@ -189,29 +167,18 @@ unfolding segments_bits numeric_bits byte_bits bits_of bits
 two_segments = refl
 
 -- a terminator has four bits, or as many as are left
-terminators : map (λ n. length (with_terminator 152 (replicate n true))) (41 ∷ 147 ∷ 148 ∷ 149 ∷ 151 ∷ 152 ∷ []) ≡
-    45 ∷ 151 ∷ 152 ∷ 152 ∷ 152 ∷ 152 ∷ []
+terminators : (map (λ n. length (with_terminator 152 (replicate n true))) (41 ∷ 147 ∷ 148 ∷ 149 ∷ 151 ∷ 152 ∷ []) ≡
+    45 ∷ 151 ∷ 152 ∷ 152 ∷ 152 ∷ 152 ∷ []) × (with_terminator 8 (true ∷ []) ≡ true ∷ false ∷ false ∷ false ∷ false ∷ [])
 unfolding with_terminator
-terminators = refl
+terminators = (refl, refl)
 
-terminator_is_light : with_terminator 8 (true ∷ []) ≡ true ∷ false ∷ false ∷ false ∷ false ∷ []
-unfolding with_terminator
-terminator_is_light = refl
-
-aligned_bits : map (λ n. length (with_zeros (replicate n true))) (0 ∷ 1 ∷ 7 ∷ 8 ∷ 9 ∷ []) ≡ 0 ∷ 8 ∷ 8 ∷ 8 ∷ 16 ∷ []
+aligned_bits : (map (λ n. length (with_zeros (replicate n true))) (0 ∷ 1 ∷ 7 ∷ 8 ∷ 9 ∷ []) ≡ 0 ∷ 8 ∷ 8 ∷ 8 ∷ 16 ∷ [])
+    × (with_zeros (replicate 7 true) ≡ true ∷ true ∷ true ∷ true ∷ true ∷ true ∷ true ∷ false ∷ [])
 unfolding with_zeros
-aligned_bits = refl
+aligned_bits = (refl, refl)
 
-aligned_with_light : with_zeros (true ∷ true ∷ true ∷ true ∷ true ∷ true ∷ true ∷ []) ≡
-    true ∷ true ∷ true ∷ true ∷ true ∷ true ∷ true ∷ false ∷ []
-unfolding with_zeros
-aligned_with_light = refl
-
-pads : pad_codewords 5 ≡ 236 ∷ 17 ∷ 236 ∷ 17 ∷ 236 ∷ []
+pads : map pad_codewords (1 ∷ 5 ∷ []) ≡ (236 ∷ []) ∷ (236 ∷ 17 ∷ 236 ∷ 17 ∷ 236 ∷ []) ∷ []
 pads = refl
-
-one_pad : pad_codewords 1 ≡ 236 ∷ []
-one_pad = refl
 
 -- versions from the smallest one allowed to 10
 versions_asked_for : map (λ lowest. chosen_version lowest H (codes "1")) (1 ∷ 2 ∷ 10 ∷ 11 ∷ []) ≡
@@ -229,33 +196,23 @@ unfolding chosen_version chosen_segments best_within first_segments alphanumeric
     data_codewords block_lengths groups_of block_table
 versions_of_letters = (refl, refl, refl)
 
--- numbers that no digits, characters or bytes have are not read
-largest_digits : (digits_at 1 (bits_of 4 9) ≡ Some (codes "9", []))
+-- the largest numbers of digits, characters and bytes are read, and those that none have are not
+digits_read : (digits_at 1 (bits_of 4 9) ≡ Some (codes "9", []))
     × (digits_at 2 (bits_of 7 99) ≡ Some (codes "99", []))
     × (digits_at 2 (bits_of 7 90) ≡ Some (codes "90", []))
     × (digits_at 3 (bits_of 10 999) ≡ Some (codes "999", []))
     × (digits_at 3 (bits_of 10 900) ≡ Some (codes "900", []))
     × (digits_at 4 (bits_of 14 1984) ≡ Some (codes "1240", []))
+    × (digits_at 1 (bits_of 4 10) ≡ None) × (digits_at 2 (bits_of 7 100) ≡ None) × (digits_at 3 (bits_of 10 1000) ≡ None)
 unfolding digits_at number_at number_of bits_of
-largest_digits = (refl, refl, refl, refl, refl, refl)
+digits_read = (refl, refl, refl, refl, refl, refl, refl, refl, refl)
 
-no_digits : (digits_at 1 (bits_of 4 10) ≡ None) × (digits_at 2 (bits_of 7 100) ≡ None)
-    × (digits_at 3 (bits_of 10 1000) ≡ None)
-unfolding digits_at number_at number_of bits_of
-no_digits = (refl, refl, refl)
-
-largest_characters : (characters_at 1 (bits_of 6 44) ≡ Some (codes ":", []))
+characters_read : (characters_at 1 (bits_of 6 44) ≡ Some (codes ":", []))
     × (characters_at 2 (bits_of 11 2024) ≡ Some (codes "::", []))
-unfolding characters_at number_at number_of bits_of alphanumeric_characters
-largest_characters = (refl, refl)
-
-no_characters : (characters_at 1 (bits_of 6 45) ≡ None) × (characters_at 2 (bits_of 11 2025) ≡ None)
-unfolding characters_at number_at number_of bits_of
-no_characters = (refl, refl)
-
-largest_byte : bytes_at 1 (bits_of 8 255) ≡ Some (255 ∷ [], [])
-unfolding bytes_at number_at number_of bits_of
-largest_byte = refl
+    × (characters_at 1 (bits_of 6 45) ≡ None) × (characters_at 2 (bits_of 11 2025) ≡ None)
+    × (bytes_at 1 (bits_of 8 255) ≡ Some (255 ∷ [], []))
+unfolding characters_at bytes_at number_at number_of bits_of alphanumeric_characters
+characters_read = (refl, refl, refl, refl, refl)
 
 -- the segments end at four zeros, or where fewer than four bits are left
 ends : map is_end (bits (codes "0000") ∷ bits (codes "0001") ∷ bits (codes "00001") ∷ bits (codes "111")
@@ -281,39 +238,25 @@ unfolding alphanumeric_value alphanumeric_characters
 last_character = refl
 
 -- a character count of 10 bits counts to 1023, and one of 8 bits to 255
-counted_lengths : map (λ n. is_first 1 (replicate n 49) (segment_of Numeric n)) (1023 ∷ 1024 ∷ []) ≡ true ∷ false ∷ []
-counted_lengths = refl
-
-counted_bytes : map (λ n. is_first 1 (replicate n 97) (segment_of Byte n)) (255 ∷ 256 ∷ []) ≡ true ∷ false ∷ []
-counted_bytes = refl
+counted_lengths : (map (λ n. is_first 1 (replicate n 49) (segment_of Numeric n)) (1023 ∷ 1024 ∷ []) ≡ true ∷ false ∷ [])
+    × (map (λ n. is_first 1 (replicate n 97) (segment_of Byte n)) (255 ∷ 256 ∷ []) ≡ true ∷ false ∷ [])
+counted_lengths = (refl, refl)
 
 -- seven codewords of bits, and a terminator that ends in the eighth or is cut at the end of the second
-filled_words : with_pad_codewords 8 (replicate 56 true) ≡ 255 ∷ 255 ∷ 255 ∷ 255 ∷ 255 ∷ 255 ∷ 255 ∷ 236 ∷ []
-unfolding with_pad_codewords codewords_of number_of
-filled_words = refl
-
-terminator_in_the_eighth : data_codewords_of 8 (replicate 53 true) ≡ 255 ∷ 255 ∷ 255 ∷ 255 ∷ 255 ∷ 255 ∷ 248 ∷ 0 ∷ []
+filled_words : (with_pad_codewords 8 (replicate 56 true) ≡ 255 ∷ 255 ∷ 255 ∷ 255 ∷ 255 ∷ 255 ∷ 255 ∷ 236 ∷ [])
+    × (data_codewords_of 8 (replicate 53 true) ≡ 255 ∷ 255 ∷ 255 ∷ 255 ∷ 255 ∷ 255 ∷ 248 ∷ 0 ∷ [])
+    × (data_codewords_of 2 (replicate 15 true) ≡ 255 ∷ 254 ∷ [])
 unfolding data_codewords_of with_terminator with_zeros with_pad_codewords codewords_of number_of
-terminator_in_the_eighth = refl
-
-terminator_cut : data_codewords_of 2 (replicate 15 true) ≡ 255 ∷ 254 ∷ []
-unfolding data_codewords_of with_terminator with_zeros with_pad_codewords codewords_of number_of
-terminator_cut = refl
+filled_words = (refl, refl, refl)
 
 -- ---- the choice of segments
 
 -- the fewest bits, and ties to the longest first segment
-mixed : chosen_segments 1 (codes "a12345") ≡ segment_of Byte 1 ∷ segment_of Numeric 5 ∷ []
+mixed : (chosen_segments 1 (codes "a12345") ≡ segment_of Byte 1 ∷ segment_of Numeric 5 ∷ [])
+    × (chosen_segments 1 (codes "a123") ≡ segment_of Byte 4 ∷ [])
+    × (chosen_segments 1 (codes "a12b") ≡ segment_of Byte 4 ∷ [])
 unfolding alphanumeric_characters alphanumeric_value first_segments best_within chosen_segments
-mixed = refl
-
-tie : chosen_segments 1 (codes "a123") ≡ segment_of Byte 4 ∷ []
-unfolding alphanumeric_characters alphanumeric_value first_segments best_within chosen_segments
-tie = refl
-
-short_digits : chosen_segments 1 (codes "a12b") ≡ segment_of Byte 4 ∷ []
-unfolding alphanumeric_characters alphanumeric_value first_segments best_within chosen_segments
-short_digits = refl
+mixed = (refl, refl, refl)
 
 three_segments_cost : cost 1 (segment_of Byte 1 ∷ segment_of Numeric 2 ∷ segment_of Byte 1 ∷ []) ≡ 61
 three_segments_cost = refl
@@ -345,19 +288,14 @@ interleaving-split_by : interleaving (split_by (block_lengths 5 Q) (range_with_l
 unfolding block_lengths groups_of block_table split_by interleaving interleaved_5q
 interleaving-split_by = refl
 
--- a codeword more than version 1 has, and one less
-wrong_lengths : map (data_in 1 Q) ((hello_world ++ (0 ∷ [])) ∷ take 25 hello_world ∷ []) ≡ None ∷ None ∷ []
+-- a codeword more than version 1 has, one less, and the last two codewords changed in one bit: the value at alpha^0 is
+-- still 0, and at the other roots it is not
+not_read : map (data_in 1 Q) ((hello_world ++ (0 ∷ [])) ∷ take 25 hello_world ∷ (take 24 hello_world ++ (123 ∷ 17 ∷ []))
+    ∷ []) ≡ replicate 3 None
 unfolding hello_world alphanumeric_characters bits_of number_of byte_bits total_codewords ec_codewords_per_block
     data_codewords block_lengths groups_of block_table evaluate field_power field_product binary_product
     binary_remainder number_at digits_at characters_at bytes_at segment_at segments_at deinterleaving data_in
-wrong_lengths = refl
-
--- the last two codewords changed in one bit: the value at alpha^0 is still 0, and at the other roots it is not
-two_codewords_changed : data_in 1 Q (take 24 hello_world ++ (123 ∷ 17 ∷ [])) ≡ None
-unfolding hello_world alphanumeric_characters bits_of number_of byte_bits total_codewords ec_codewords_per_block
-    data_codewords block_lengths groups_of block_table evaluate field_power field_product binary_product
-    binary_remainder number_at digits_at characters_at bytes_at segment_at segments_at deinterleaving data_in
-two_codewords_changed = refl
+not_read = refl
 
 -- the blocks of version 5-Q taken out of the order that the standard lists (ISO/IEC 18004, 7.6)
 blocks_taken_back : deinterleaving (15 ∷ 15 ∷ 16 ∷ 16 ∷ []) interleaved_5q ≡ split_by (15 ∷ 15 ∷ 16 ∷ 16 ∷ []) (range_with_len 0 62)
@@ -366,33 +304,27 @@ blocks_taken_back = refl
 
 -- ---- four blocks
 
--- `zint -b 58 --vers=5 --secure=3 --verbose -d "ISO/IEC 18004 BLOCKS 5-Q"` (2.11.1): four blocks, of which the last two
--- have a data codeword more
-codewords_5q : List ℕ
-codewords_5q =
-    32 ∷ 25 ∷ 17 ∷ 17 ∷ 195 ∷ 103 ∷ 236 ∷ 236 ∷ 70 ∷ 167 ∷ 17 ∷ 17 ∷ 140 ∷ 128 ∷ 236 ∷ 236 ∷ 108 ∷ 236 ∷ 17 ∷ 17 ∷ 225
-    ∷ 17 ∷ 236 ∷ 236 ∷ 32 ∷ 236 ∷ 17 ∷ 17 ∷ 3 ∷ 17 ∷ 236 ∷ 236 ∷ 80 ∷ 236 ∷ 17 ∷ 17 ∷ 0 ∷ 17 ∷ 236 ∷ 236 ∷ 54 ∷ 236 ∷
-    17 ∷ 17 ∷ 16 ∷ 17 ∷ 236 ∷ 236 ∷ 36 ∷ 236 ∷ 17 ∷ 17 ∷ 68 ∷ 17 ∷ 236 ∷ 236 ∷ 116 ∷ 236 ∷ 17 ∷ 17 ∷ 236 ∷ 236 ∷ 189 ∷
-    153 ∷ 135 ∷ 135 ∷ 224 ∷ 253 ∷ 147 ∷ 147 ∷ 171 ∷ 230 ∷ 7 ∷ 7 ∷ 173 ∷ 209 ∷ 41 ∷ 41 ∷ 66 ∷ 215 ∷ 128 ∷ 128 ∷ 214 ∷
-    175 ∷ 150 ∷ 150 ∷ 216 ∷ 84 ∷ 120 ∷ 120 ∷ 134 ∷ 194 ∷ 184 ∷ 184 ∷ 85 ∷ 42 ∷ 37 ∷ 37 ∷ 57 ∷ 229 ∷ 181 ∷ 181 ∷ 138 ∷
-    43 ∷ 205 ∷ 205 ∷ 189 ∷ 174 ∷ 222 ∷ 222 ∷ 224 ∷ 153 ∷ 231 ∷ 231 ∷ 187 ∷ 29 ∷ 8 ∷ 8 ∷ 236 ∷ 166 ∷ 44 ∷ 44 ∷ 77 ∷ 96
-    ∷ 81 ∷ 81 ∷ 159 ∷ 210 ∷ 173 ∷ 173 ∷ 74 ∷ 47 ∷ 80 ∷ 80 ∷ []
+-- `zint -b 58 --vers=4 --secure=4 --verbose -d "ISO/IEC 18004 BLOCKS 4-H"` (2.11.1): four blocks of nine data codewords
+-- and 16 error correction codewords
+codewords_4h : List ℕ
+codewords_4h =
+    32 ∷ 0 ∷ 0 ∷ 236 ∷ 195 ∷ 54 ∷ 236 ∷ 17 ∷ 70 ∷ 16 ∷ 17 ∷ 236 ∷ 140 ∷ 36 ∷ 236 ∷ 17 ∷ 108 ∷ 68 ∷ 17 ∷ 236 ∷ 225 ∷ 116
+    ∷ 236 ∷ 17 ∷ 32 ∷ 25 ∷ 17 ∷ 236 ∷ 3 ∷ 99 ∷ 236 ∷ 17 ∷ 80 ∷ 163 ∷ 17 ∷ 236 ∷ 39 ∷ 152 ∷ 207 ∷ 116 ∷ 52 ∷ 177 ∷ 10 ∷
+    96 ∷ 236 ∷ 101 ∷ 202 ∷ 131 ∷ 255 ∷ 200 ∷ 186 ∷ 21 ∷ 225 ∷ 30 ∷ 241 ∷ 58 ∷ 133 ∷ 119 ∷ 158 ∷ 134 ∷ 201 ∷ 104 ∷ 215 ∷
+    64 ∷ 232 ∷ 23 ∷ 133 ∷ 110 ∷ 61 ∷ 139 ∷ 107 ∷ 67 ∷ 96 ∷ 26 ∷ 98 ∷ 220 ∷ 174 ∷ 225 ∷ 215 ∷ 237 ∷ 221 ∷ 187 ∷ 223 ∷ 52
+    ∷ 97 ∷ 250 ∷ 247 ∷ 178 ∷ 0 ∷ 183 ∷ 200 ∷ 169 ∷ 247 ∷ 194 ∷ 241 ∷ 223 ∷ 42 ∷ 61 ∷ 71 ∷ 126 ∷ []
 
 -- what is read where the codeword at a place is another one
 read_changed : ℕ → Option (List ℕ)
-unfolding codewords_5q
-read_changed place = data_in 5 Q (slice_set codewords_5q place ((slice_index codewords_5q place + 1) % 256))
+unfolding codewords_4h
+read_changed place = data_in 4 H (slice_set codewords_4h place ((slice_index codewords_4h place + 1) % 256))
 
-four_blocks : data_in 5 Q codewords_5q ≡ Some (codes "ISO/IEC 18004 BLOCKS 5-Q")
-unfolding codewords_5q alphanumeric_characters bits_of number_of byte_bits total_codewords ec_codewords_per_block
-    data_codewords block_lengths groups_of block_table evaluate field_power field_product binary_product
-    binary_remainder number_at digits_at characters_at bytes_at segment_at segments_at deinterleaving data_in
-four_blocks = refl
-
--- one codeword changed in each block: its first data codeword, its last one, its first error correction codeword, its
--- last one
-codeword_changed : map read_changed (0 ∷ 57 ∷ 64 ∷ 133 ∷ []) ≡ replicate 4 None
-unfolding read_changed alphanumeric_characters bits_of number_of byte_bits total_codewords ec_codewords_per_block
-    data_codewords block_lengths groups_of block_table evaluate field_power field_product binary_product
-    binary_remainder number_at digits_at characters_at bytes_at segment_at segments_at deinterleaving data_in
-codeword_changed = refl
+-- the data is read, and not where one codeword is changed: of the first block the first data codeword, the first error
+-- correction codeword and the last one, and of the second block the last data codeword
+four_blocks : (data_in 4 H codewords_4h ≡ Some (codes "ISO/IEC 18004 BLOCKS 4-H"))
+    × (map read_changed (0 ∷ 36 ∷ 96 ∷ 33 ∷ []) ≡ replicate 4 None)
+unfolding codewords_4h read_changed alphanumeric_characters bits_of number_of byte_bits total_codewords
+    ec_codewords_per_block data_codewords block_lengths groups_of block_table evaluate field_power field_product
+    binary_product binary_remainder number_at digits_at characters_at bytes_at segment_at segments_at deinterleaving
+    data_in
+four_blocks = (refl, refl)

@@ -1,12 +1,11 @@
 -- The data codewords hold the bits of the segments, and after them what a reader takes as their end.
 use Rattle.std.proofs.Common.{◌≡◌, ℕ, zero, suc, ◌+◌, ◌-◌, ◌*◌, ◌/◌, ◌%◌, ◌<◌, ◌≤◌, List, [], ◌∷◌, ◌++◌, take, drop}
 use Rattle.std.proofs.Common.{length, replicate, refl, ap, append_assoc, append-nil, length-append, arith, Bool, true}
-use Rattle.std.proofs.Common.{false, min, ◌∙◌, ◌^◌, sym}
+use Rattle.std.proofs.Common.{false, min, ◌∙◌, ◌^◌, sym, inl, inr}
 use Rattle.std.specs.Prelude.{◌==◌, if◌then◌else◌}
 use Rattle.std.proofs.lemmas.List.FromFn.{length-map-range_with_len}
 use Rattle.std.proofs.lemmas.List.{length-replicate, length-take-le, length-drop, take-append-drop}
 use Rattle.std.proofs.lemmas.List.{replicate-append-replicate}
-use Rattle.std.proofs.Common.{inl, inr}
 use Rattle.std.proofs.lemmas.Bool.{cases_lt}
 use Rattle.std.proofs.lemmas.Grind.{flat_map-append}
 use Rattle.std.proofs.lemmas.Bool.Decides.{nat_tests}

@@ -12,6 +12,7 @@ use Rattle.qrdata.specs.Segments.{alphanumeric_bits, alphanumeric_characters, al
 use Rattle.qrdata.specs.Segments.{byte_bits, has_character, numeric_bits, payload_bits}
 use Rattle.qrdata.specs.Reading.{alphanumeric_character, bytes_at, characters_at, digits_at, payload_at}
 use Rattle.qrdata.proofs.BitStringLaws.{number_at-bits_of}
+use Rattle.qrdata.proofs.CharacterLaws.{length-alphanumeric_characters}
 
 digit_from : (c : ℕ) → is_ascii_digit c ≡ true → (48 ≤ c) × (c ≤ 57)
 digit_from c h = let parts = and_parts (nat_le 48 c) (nat_le c 57) h in (leb-true _ _ parts.0, leb-true _ _ parts.1)
@@ -51,10 +52,6 @@ digits_at-numeric_bits (a ∷ b ∷ c ∷ digits) rest h =
       second,
       third,
     ) refl
-
-length-alphanumeric_characters : length alphanumeric_characters ≡ 45
-unfolding alphanumeric_characters
-length-alphanumeric_characters = refl
 
 -- the value of a character is that character's place
 pub character-value : (c : ℕ) → has_character Alphanumeric c ≡ true → alphanumeric_character (alphanumeric_value c) ≡ c

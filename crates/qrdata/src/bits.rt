@@ -2,12 +2,13 @@
 ghost use Rattle.arrayvec.specs.ArrayVec.{array_vec_len};
 ghost use Rattle.qrdata.specs.Bits.{bits_of, codewords_of};
 ghost use Rattle.qrdata.specs.Codewords.{with_zeros, pad_codewords, with_terminator};
-ghost use Rattle.qrdata.specs.Segments.{IsSegmentation, alphanumeric_bits, byte_bits, cost, count_width, has_character};
-ghost use Rattle.qrdata.specs.Segments.{numeric_bits, payload_bits, payload_length, segment_bits, segments_bits};
+ghost use Rattle.qrdata.specs.Segments.{IsSegmentation, alphanumeric_bits, byte_bits, cost, count_width, digit_value};
+ghost use Rattle.qrdata.specs.Segments.{has_character, numeric_bits, payload_bits, payload_length, segment_bits};
+ghost use Rattle.qrdata.specs.Segments.{segments_bits};
 ghost use Rattle.qrdata.specs.declared.mode.Mode.TheVariants.{Alphanumeric, Numeric};
 ghost use Rattle.std.specs.Char.{is_ascii_digit};
 ghost use Rattle.std.specs.List.{list_all};
-ghost use Rattle.std.specs.Prelude.{◌≡◌, ◌+◌, ◌*◌, ◌/◌, ◌^◌, ◌<◌, ◌≤◌, [], ◌++◌, All, IsTrue, length};
+ghost use Rattle.std.specs.Prelude.{◌≡◌, ◌+◌, ◌*◌, ◌/◌, ◌^◌, ◌<◌, ◌≤◌, [], ◌++◌, All, IsTrue, length, slice_index};
 ghost use Rattle.std.specs.Prelude.{if◌then◌else◌, ◌%◌, ◌==◌};
 
 use crate::blocks::{Codewords, MAX_CODEWORDS};
@@ -43,6 +44,17 @@ fn power_of_two(n: usize) -> u32
     ensures { result ≡ 2 ^ n }
 {
     1 << n
+}
+
+/// Returns the value of the digit at a place.
+#[inline(always)]
+fn digit_at(digits: &[u8], place: usize) -> u32
+    requires digits { IsTrue (list_all is_ascii_digit digits.now) }
+    requires inside { place < length digits.now }
+    ensures value { result ≡ digit_value (slice_index digits.now place) }
+    ensures small { result ≤ 9 }
+{
+    u32::from(digits[place] - b'0')
 }
 
 impl Bits {
@@ -93,20 +105,20 @@ impl Bits {
         let mut place = 0;
         while digits.len() - place >= 3 {
             self.push_number(
-                100 * u32::from(digits[place] - b'0')
-                    + 10 * u32::from(digits[place + 1] - b'0')
-                    + u32::from(digits[place + 2] - b'0'),
+                100 * digit_at(digits, place)
+                    + 10 * digit_at(digits, place + 1)
+                    + digit_at(digits, place + 2),
                 10,
             );
             place += 3;
         }
         if digits.len() - place == 2 {
             self.push_number(
-                10 * u32::from(digits[place] - b'0') + u32::from(digits[place + 1] - b'0'),
+                10 * digit_at(digits, place) + digit_at(digits, place + 1),
                 7,
             );
         } else if digits.len() - place == 1 {
-            self.push_number(u32::from(digits[place] - b'0'), 4);
+            self.push_number(digit_at(digits, place), 4);
         }
     }
 
@@ -119,14 +131,13 @@ impl Bits {
         let mut place = 0;
         while characters.len() - place >= 2 {
             self.push_number(
-                45 * u32::from(value_of(characters[place]))
-                    + u32::from(value_of(characters[place + 1])),
+                45 * value_of(characters[place]) + value_of(characters[place + 1]),
                 11,
             );
             place += 2;
         }
         if characters.len() - place == 1 {
-            self.push_number(u32::from(value_of(characters[place])), 6);
+            self.push_number(value_of(characters[place]), 6);
         }
     }
 
@@ -161,7 +172,7 @@ impl Bits {
             + (4 + count_width version mode + payload_length mode (length bytes.now)) ≤ MAX_BITS }
         ensures { bits_in self.new ≡ bits_in self.old ++ segment_bits version mode bytes.now }
     {
-        self.push_number(u32::from(mode.indicator()), 4);
+        self.push_number(mode.indicator(), 4);
         self.push_number(bytes.len() as u32, mode.count_width(version));
         self.push_payload(mode, bytes);
     }

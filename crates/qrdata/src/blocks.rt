@@ -76,9 +76,8 @@ fn push_codewords(out: &mut Codewords, codewords: &[u8])
     requires room { array_vec_len out.old + length codewords.now ≤ MAX_CODEWORDS }
     ensures { out.new.items ≡ out.old.items ++ codewords.now }
 {
-    for codeword in codewords {
-        out.push(*codeword);
-    }
+    // There is room for them, so that it cannot fail.
+    let _ = out.try_extend_from_slice(codewords);
 }
 
 /// Writes the error correction codewords of a block.

@@ -27,7 +27,7 @@ pub struct Segment {
 
 impl Mode {
     /// Returns the mode indicator, a number of four bits.
-    pub(crate) fn indicator(self) -> u8
+    pub(crate) fn indicator(self) -> u32
         ensures { result ≡ mode_indicator self }
     {
         match self {
@@ -79,9 +79,9 @@ const VALUES: [u8; 256] = [
 
 /// Returns the value of a character of the alphanumeric mode, 0 to 44, and 45 for any other byte.
 #[inline(always)]
-pub(crate) fn value_of(character: u8) -> u8
+pub(crate) fn value_of(character: u8) -> u32
     ensures value { result ≡ alphanumeric_value character }
     ensures small { result ≤ 45 }
 {
-    VALUES[usize::from(character)]
+    u32::from(VALUES[usize::from(character)])
 }

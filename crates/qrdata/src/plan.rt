@@ -161,8 +161,10 @@ fn plan_between<'a>(
     }
     let mut firsts = Firsts::new();
     let bits = fill(highest, bytes, &mut firsts);
-    let version = smallest_version(lowest, highest, level, bits)?;
-    Some(plan_of(version, level, bytes, &firsts, bits as u32))
+    match smallest_version(lowest, highest, level, bits) {
+        Some(version) => Some(plan_of(version, level, bytes, &firsts, bits as u32)),
+        None => None,
+    }
 }
 
 /// Returns the smallest version, from `lowest` to `highest`, that has `bits` data bits.

@@ -3,8 +3,7 @@ use Rattle.qrdata.specs.Fewest.{chosen_segments}
 use Rattle.qrdata.proofs.BoundLaws.{third}
 use Rattle.qrdata.proofs.FewestBitsLaws.{chosen_segments-is}
 use Rattle.qrdata.proofs.FirstsTableLaws.{FitsBits-of, NamesBest-of, capacity_as_wide, fewest_bits-below}
-use Rattle.qrdata.proofs.FirstsTableLaws.{length-firsts_of}
-use Rattle.qrdata.proofs.FirstsTableLaws.{table_sizes}
+use Rattle.qrdata.proofs.FirstsTableLaws.{length-firsts_of, table_sizes}
 use Rattle.qrdata.proofs.VersionLaws.{capacity-le, capacity-rising}
 use Rattle.qrdata.proofs.plan.plan_between.Goals as goal
 
@@ -21,36 +20,36 @@ returns-then-bytes-capacity-clause-none c = λ v from to.
 
 pub overflow_cast-bits : goal.overflow_cast-bits
 overflow_cast-bits c =
-    let room = c.in_ok-version.ensures.some in
-    omega (arith, room.fits, capacity-le c.args.level c.in_ok-version.version room.known)
+    let room = c.in-Some.ensures.some in
+    omega (arith, room.fits, capacity-le c.args.level c.in-Some.version room.known)
 
 pub plan_of-requires-clause-table : goal.plan_of-requires-clause-table
 plan_of-requires-clause-table c =
-    let room = c.in_ok-version.ensures.some in
-    let same = c.requires.same c.in_ok-version.version room.from room.to in
+    let room = c.in-Some.ensures.some in
+    let same = c.requires.same c.in-Some.version room.from room.to in
     let firsts = c.fill-bits.ensures.firsts in
-    let wide = capacity_as_wide c.in_ok-version.version c.args.highest c.args.level same room.known.0 room.known.1 in
+    let wide = capacity_as_wide c.in-Some.version c.args.highest c.args.level same room.known.0 room.known.1 in
     record {
       few = c.requires.few;
       modes = (table_sizes firsts).0 ∙ length-firsts_of c.args.highest c.args.bytes.now;
       lengths = (table_sizes firsts).1 ∙ length-firsts_of c.args.highest c.args.bytes.now;
-      named = NamesBest-of c.in_ok-version.version c.args.highest same c.args.bytes.now c.fill-bits.result
+      named = NamesBest-of c.in-Some.version c.args.highest same c.args.bytes.now c.fill-bits.result
           c.fill-bits.new.firsts c.requires.few (omega (arith, room.fits, wide)) firsts;
     }
 
 pub plan_of-requires-clause-bits : goal.plan_of-requires-clause-bits
 plan_of-requires-clause-bits c =
-    let room = c.in_ok-version.ensures.some in
-    FitsBits-of c.in_ok-version.version c.args.highest c.args.level c.fill-bits.result
-    (c.requires.same c.in_ok-version.version room.from room.to) room.known c.args.bytes.now c.requires.few
+    let room = c.in-Some.ensures.some in
+    FitsBits-of c.in-Some.version c.args.highest c.args.level c.fill-bits.result
+    (c.requires.same c.in-Some.version room.from room.to) room.known c.args.bytes.now c.requires.few
     c.fill-bits.ensures.bits room.fits
 
-pub returns-clause-some : goal.returns-clause-some
-returns-clause-some c =
-    let room = c.in_ok-version.ensures.some in
+pub returns-in-Some-clause-some : goal.returns-in-Some-clause-some
+returns-in-Some-clause-some c =
+    let room = c.in-Some.ensures.some in
     let fewest = c.fill-bits.ensures.bits in
-    let bits = FitsBits-of c.in_ok-version.version c.args.highest c.args.level c.fill-bits.result
-    (c.requires.same c.in_ok-version.version room.from room.to) room.known c.args.bytes.now c.requires.few fewest
+    let bits = FitsBits-of c.in-Some.version c.args.highest c.args.level c.fill-bits.result
+    (c.requires.same c.in-Some.version room.from room.to) room.known c.args.bytes.now c.requires.few fewest
     room.fits in
     rw c.plan_of.ensures (record {
       from = room.from;
@@ -67,10 +66,10 @@ returns-clause-some c =
       );
     })
 
-pub returns-in_err-version-clause-none : goal.returns-in_err-version-clause-none
-returns-in_err-version-clause-none c = rw c.from_residual.ensures (λ v from to. omega (
+pub returns-in-None-clause-none : goal.returns-in-None-clause-none
+returns-in-None-clause-none c = λ v from to. omega (
   arith,
   c.fill-bits.ensures.bits,
-  c.in_err-version.ensures.none v from (omega (arith, to)),
+  c.in-None.ensures.none v from (omega (arith, to)),
   fewest_bits-below v c.args.highest (c.requires.same v from to) c.args.bytes.now,
-))
+)

@@ -8,9 +8,6 @@ use Rattle.gf256.proofs.GeneratorLaws.{IsRemainder-ec_codewords_of, IsRemainder-
 use Rattle.gf256.proofs.RegisterLaws.{ec_codewords-padded}
 use Rattle.gf256.proofs.generator.Generator.ec_codewords.Goals as goal
 
-pub loop-codeword-init : goal.loop-codeword-init
-loop-codeword-init c = refl
-
 pub loop-codeword-preserved : goal.loop-codeword-preserved
 unfolding register_after
 loop-codeword-preserved c =

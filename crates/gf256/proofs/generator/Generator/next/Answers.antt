@@ -1,4 +1,5 @@
-use Rattle.std.proofs.Common.{◌≡◌, ◌/◌, ◌%◌, ◌<◌, [], ◌∷◌, ◌∙◌, ◌++◌, ap, arith, drop, get_or, length, Fits, w8}
+use Rattle.std.proofs.Common.{◌≡◌, ℕ, ◌/◌, ◌%◌, ◌<◌, List, [], ◌∷◌, ◌∙◌, ◌++◌, ap, arith, drop, get_or, length}
+use Rattle.std.proofs.Common.{Fits, w8}
 use Rattle.std.specs.Prelude.{bit_xor}
 use Rattle.std.proofs.lemmas.Grind.{get_or_default_zero}
 use Rattle.std.proofs.lemmas.List.{length-append, length-drop}
@@ -11,6 +12,35 @@ use Rattle.gf256.proofs.GeneratorLaws.{All-padded_generator, length-padded_gener
 use Rattle.gf256.proofs.RegisterLaws.{zip2-parts}
 use Rattle.gf256.proofs.generator.Generator.next.Goals as goal
 
+-- what is fed back is the sum of the first codeword of the register and the new one
+feedback : (register : List ℕ) (codeword first fed : ℕ) → 0 < length register → get_or register 0 0 < 256
+    → codeword < 256 → first ≡ get_or register 0 first → fed ≡ bit_xor first codeword
+    → (fed ≡ bit_xor (get_or register 0 0) codeword) × (fed < 256)
+feedback register codeword first fed some fits small is e =
+    let element = xor_of_8 (get_or register 0 0) codeword fits small in
+    let sum : fed ≡ bit_xor (get_or register 0 0) codeword =
+    e ∙ ap (λ r. bit_xor r codeword) (is ∙ get_or_default_zero register 0 first some) in
+    (sum, omega (arith, element, sum))
+
+pub bounds-self-inside-feedback : goal.bounds-self-inside-feedback
+bounds-self-inside-feedback c = omega arith
+
+pub offset_bounds-self-inside-feedback-2 : goal.offset_bounds-self-inside-feedback-2
+offset_bounds-self-inside-feedback-2 c =
+    let some : 0 < length c.args.register = omega (arith, c.fits-register.0) in
+    let fed = feedback c.args.register c.args.codeword c.index.result.now c.from-feedback.result
+    some (Each1-get_or (Fits w8) c.args.register 0 0 some c.fits-register.1).fits c.ranges.codeword.fits
+    c.index.ensures c.from-feedback.ensures in
+    omega (arith, fed.1)
+
+pub bounds-self-inside-feedback-2 : goal.bounds-self-inside-feedback-2
+bounds-self-inside-feedback-2 c =
+    let some : 0 < length c.args.register = omega (arith, c.fits-register.0) in
+    let fed = feedback c.args.register c.args.codeword c.index.result.now c.from-feedback.result
+    some (Each1-get_or (Fits w8) c.args.register 0 0 some c.fits-register.1).fits c.ranges.codeword.fits
+    c.index.ensures c.from-feedback.ensures in
+    omega (arith, fed.1)
+
 pub returns : goal.returns
 unfolding next_register
 returns c =
@@ -20,17 +50,13 @@ returns c =
     let moved = drop 1 c.args.register ++ 0 ∷ [] in
     let divisor = padded_generator c.self.inside.count in
     let some : 0 < length c.args.register = omega (arith, c.fits-register.0) in
-    let first = Each1-get_or (Fits w8) c.args.register 0 0 some c.fits-register.1 in
-    let element = xor_of_8 (get_or c.args.register 0 0) c.args.codeword first.fits c.ranges.codeword.fits in
-    let is : fed ≡ bit_xor (get_or c.args.register 0 0) c.args.codeword =
-    c.from-feedback.ensures
-    ∙ ap (λ r. bit_xor r c.args.codeword)
-    (c.index.ensures ∙ get_or_default_zero c.args.register 0 c.index.result.now some) in
-    let small : fed < 256 = omega (arith, element, is) in
+    let element = feedback c.args.register c.args.codeword c.index.result.now c.from-feedback.result
+    some (Each1-get_or (Fits w8) c.args.register 0 0 some c.fits-register.1).fits c.ranges.codeword.fits
+    c.index.ensures c.from-feedback.ensures in
     let is_low = c.self.invariant.1 (fed % 16) (omega arith) in
-    let is_high = c.self.invariant.2 (fed / 16) (omega (arith, small)) in
+    let is_high = c.self.invariant.2 (fed / 16) (omega (arith, element.1)) in
     let long = length-padded_generator c.self.inside.count c.self.invariant.0 in
-    zip2-parts c.moved_up.result low high divisor fed small (All-padded_generator c.self.inside.count)
+    zip2-parts c.moved_up.result low high divisor fed element.1 (All-padded_generator c.self.inside.count)
     (ap length c.moved_up.ensures ∙ length-append (drop 1 c.args.register) (0 ∷ [])
     ∙ omega (arith, long, length-drop 1 c.args.register, c.fits-register.0)) is_low is_high
-    ∙ (λ i. polynomial_sum (c.moved_up.ensures i) (scalar_multiple (is i) (padded_generator (c.self.view_is i))))
+    ∙ (λ i. polynomial_sum (c.moved_up.ensures i) (scalar_multiple (element.0 i) (padded_generator (c.self.view_is i))))

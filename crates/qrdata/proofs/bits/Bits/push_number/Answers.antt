@@ -57,6 +57,3 @@ loop-count-preserved c =
 
 pub invariant_of-self : goal.invariant_of-self
 invariant_of-self c = record { few = omega (arith, c.loop-count-test.false); small = c.loop-count.invariant.small }
-
-pub returns : goal.returns
-returns c = c.loop-count.invariant.written

@@ -1,5 +1,4 @@
-use Rattle.std.proofs.Common.{ℕ, length}
-use Rattle.std.proofs.Common.{arith, ap, length-append}
+use Rattle.std.proofs.Common.{ℕ, length, arith, ap, length-append}
 use Rattle.std.proofs.Math.Nat.{mod-lt, div-le_self}
 use Rattle.std.proofs.lemmas.List.{length-replicate}
 use Rattle.qrdata.proofs.VersionLaws.{IsSound-of, data_codewords-few}
