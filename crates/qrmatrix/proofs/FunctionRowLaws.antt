@@ -27,14 +27,13 @@ index_of (Some (Version i)) = None
 index_of None = None
 
 -- whether both are the same bit, or both none
-unfoldable same_index : Option ℕ → Option ℕ → Bool
+abbrev same_index : Option ℕ → Option ℕ → Bool
 same_index None None = true
 same_index None (Some k) = false
 same_index (Some i) None = false
 same_index (Some i) (Some k) = i == k
 
 same_index_is : (a b : Option ℕ) → same_index a b ≡ true → a ≡ b
-unfolding same_index
 same_index_is None None h = refl
 same_index_is None (Some k) h = grind arith
 same_index_is (Some i) None h = grind arith
@@ -42,12 +41,10 @@ same_index_is (Some i) (Some k) h = let e : i ≡ k = grind (arith, nat_tests) i
 
 -- whether two modules agree: whether a pattern has them, whether they are dark, and which bit of the format information
 -- they show
-unfoldable agree : (a b c d : Bool) (i k : Option ℕ) → Bool
-unfolding same_index
+abbrev agree : (a b c d : Bool) (i k : Option ℕ) → Bool
 agree a b c d i k = beq a b && (beq c d && same_index i k)
 
 agree_is : (a b c d : Bool) (i k : Option ℕ) → agree a b c d i k ≡ true → (a ≡ b) × ((c ≡ d) × (i ≡ k))
-unfolding agree
 agree_is a b c d i k h =
     let one = and_parts (beq a b) (beq c d && same_index i k) h in
     let two = and_parts (beq c d) (same_index i k) one.1 in
@@ -55,7 +52,7 @@ agree_is a b c d i k h =
 
 -- whether the bits of a row have the module of a role, and the role shows the bit of the format information there
 module_fits : ℕ → ℕ → PatternRow → ℕ → Option Role → Bool
-unfolding agree index_of format_bit version_information
+unfolding index_of format_bit version_information
 module_fits v y row x r =
     agree (bit row.taken x) (not (is_none r)) (bit row.dark x) (unmasked_module v r) (index_of r)
     (format_bit (side_of v) x y)

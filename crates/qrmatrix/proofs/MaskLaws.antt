@@ -21,49 +21,33 @@ mask_row mask place = slice_index_or (slice_index_or {A = List ℕ} PATTERNS mas
 is_right : ℕ → ℕ → ℕ → Bool
 is_right mask y x = beq (bit (mask_row mask y) x) (is_flipped mask x y)
 
-does_repeat : ℕ → ℕ → ℕ → Bool
-does_repeat mask y x = beq (bit (mask_row mask y) x) (bit (mask_row mask y) (x % 6))
-
-same_product : (a b c d m : ℕ) → a % m ≡ b % m → c % m ≡ d % m → (a * c) % m ≡ (b * d) % m
-same_product a b c d m e h = mul-mod a c m ∙ rw (e, h) (sym (mul-mod b d m))
-
--- the masks repeat after six columns and twelve rows
-is_flipped-repeats : (mask x y : ℕ) → is_flipped mask x y ≡ is_flipped mask (x % 6) (y % 12)
-unfolding is_flipped
-is_flipped-repeats mask x y =
-    let i = y % 12 in
-    let j = x % 6 in
-    let rows : y % 2 ≡ i % 2 = omega arith in
-    let columns : x % 3 ≡ j % 3 = omega arith in
-    let twos : (y + x) % 2 ≡ (i + j) % 2 = omega arith in
-    let threes : (y + x) % 3 ≡ (i + j) % 3 = omega arith in
-    let blocks : (y / 2 + x / 3) % 2 ≡ (i / 2 + j / 3) % 2 = omega arith in
-    let even : (y * x) % 2 ≡ (i * j) % 2 = same_product y i x j 2 rows (omega arith) in
-    let third : (y * x) % 3 ≡ (i * j) % 3 = same_product y i x j 3 (omega arith) columns in
-    rw (rows, columns, twos, threes, blocks, even, third) refl
-
--- computed for each mask, row and column
-are_right : all_below 8 (λ mask. all_below 12 (λ y. all_below 6 (is_right mask y))) ≡ true
+-- computed for each mask, column and one of twelve rows
+are_right : all_below 8 (λ mask. all_below 12 (λ y. all_below 57 (is_right mask y))) ≡ true
 unfolding is_flipped is_right
 are_right = refl
 
-repeat : all_below 8 (λ mask. all_below 12 (λ y. all_below 57 (does_repeat mask y))) ≡ true
-unfolding does_repeat
-repeat = refl
+same_product : (a b c m : ℕ) → a % m ≡ b % m → (a * c) % m ≡ (b * c) % m
+same_product a b c m e = mul-mod a c m ∙ rw e (sym (mul-mod b c m))
+
+-- the masks repeat after twelve rows
+is_flipped-repeats : (mask x y : ℕ) → is_flipped mask x y ≡ is_flipped mask x (y % 12)
+unfolding is_flipped
+is_flipped-repeats mask x y =
+    let i = y % 12 in
+    let row : y % 2 ≡ i % 2 = omega arith in
+    let twos : (y + x) % 2 ≡ (i + x) % 2 = omega arith in
+    let threes : (y + x) % 3 ≡ (i + x) % 3 = omega arith in
+    let blocks : (y / 2 + x / 3) % 2 ≡ (i / 2 + x / 3) % 2 = omega arith in
+    rw (row, twos, threes, blocks, same_product y i x 2 row, same_product y i x 3 (omega arith)) refl
 
 pub mask_row_is : (mask place x y : ℕ) → mask < 8 → x < 57 → y < 57 → y % 12 ≡ place
     → bit (mask_row mask place) x ≡ is_flipped mask x y
-unfolding is_right does_repeat
+unfolding is_right
 mask_row_is mask place x y lm lx ly at =
-    let low : place < 12 = omega arith in
     rw (is_flipped-repeats mask x y, at)
-    (same_beq _ _ (all_below_at 57 (does_repeat mask place)
-    (all_below_at 12 (λ y. all_below 57 (does_repeat mask y))
-    (all_below_at 8 (λ mask. all_below 12 (λ y. all_below 57 (does_repeat mask y))) repeat mask lm) place low) x lx)
-    ∙ same_beq _ _ (all_below_at 6 (is_right mask place)
-    (all_below_at 12 (λ y. all_below 6 (is_right mask y))
-    (all_below_at 8 (λ mask. all_below 12 (λ y. all_below 6 (is_right mask y))) are_right mask lm) place low) (x % 6)
-    (omega arith)))
+    (same_beq _ _ (all_below_at 57 (is_right mask place) (all_below_at 12 (λ y. all_below 57 (is_right mask y))
+    (all_below_at 8 (λ mask. all_below 12 (λ y. all_below 57 (is_right mask y))) are_right mask lm) place (omega arith))
+    x lx))
 
 -- a row of modules that is flipped at the free ones
 pub row_masked : (mask p y : ℕ) (free modules : List (List Bool)) (f w : ℕ) → f < 2 ^ 57

@@ -1,6 +1,6 @@
 -- What is computed for each of the ten versions.
 use Rattle.std.proofs.Common.{◌≡◌, ℕ, ◌+◌, ◌-◌, ◌*◌, ◌<◌, ◌≤◌, refl, sym, ap, ◌∙◌, arith, List, [], ◌∷◌}
-use Rattle.std.specs.Prelude.{map, Bool, true, cond, not, ◌&&◌, ◌||◌, ◌==◌, nat_lt, ◌/◌, ◌%◌, length, slice_index}
+use Rattle.std.specs.Prelude.{map, Bool, true, not, ◌&&◌, ◌==◌, length, slice_index}
 use Rattle.std.specs.List.{range_with_len, list_all, filter}
 use Rattle.std.proofs.lemmas.Bool.{and_parts}
 use Rattle.std.proofs.lemmas.Bool.Decides.{nat_tests}
@@ -15,7 +15,7 @@ use Rattle.gf256.specs.BinaryPolynomial.{binary_remainder}
 use Rattle.qrmatrix.specs.Modules.{is_inside}
 use Rattle.qrmatrix.specs.Private.FunctionRows.{function_row}
 use Rattle.qrmatrix.specs.Reading.{walk}
-use Rattle.qrmatrix.proofs.ComputedLaws.{all_places, by_version}
+use Rattle.qrmatrix.proofs.ComputedLaws.{by_version}
 use Rattle.qrmatrix.proofs.FunctionRowLaws.{function_row_is}
 use Rattle.qrmatrix.proofs.SumLaws.{sum_below_same, sum_by-count_by}
 

@@ -1,74 +1,21 @@
--- Modules of QR symbols one by one (ISO/IEC 18004, 6.3, 7.7, 7.9 and 7.10): what each is there for, the order of
--- placement, and symbols with one wrong module, which are not read.
+-- Modules of QR symbols one by one (ISO/IEC 18004, 7.7, 7.9 and 7.10): the order of placement, and symbols with one wrong
+-- module, which are not read.
 use Rattle.std.specs.Prelude.{◌≡◌, ℕ, ◌+◌, ◌-◌, ◌*◌, ◌/◌, ◌%◌, ◌^◌, ◌==◌, nat_lt, refl, Bool, true, false, List, [], ◌∷◌, ◌++◌, map}
 use Rattle.std.specs.Prelude.{Option, None, Some, codes, slice_index, slice_set, bit_xor, replicate, if◌then◌else◌, zip}
 use Rattle.std.specs.List.{range_with_len}
-use Rattle.std.specs.Option.{option_map}
 use Rattle.gf256.specs.BinaryPolynomial.{binary_remainder}
 use mathlib.Core.Bool.{xor}
 use Rattle.qrdata.specs.declared.level.Level.{Level}
 use Rattle.qrdata.specs.declared.level.Level.TheVariants.{L, M, Q, H}
 use Rattle.qrdata.specs.Bits.{codewords_of, number_of}
-use Rattle.qrdata.specs.Versions.{side_of, total_codewords}
+use Rattle.qrdata.specs.Versions.{total_codewords}
 use Rattle.qrmatrix.specs.Bits.{bit}
-use Rattle.qrmatrix.specs.Functions.{Role, Function, Format, Version, fixed_module, format_bit, is_free, role}
+use Rattle.qrmatrix.specs.Functions.{fixed_module, is_free, role}
 use Rattle.qrmatrix.specs.Information.{format_information, version_information}
 use Rattle.qrmatrix.specs.Masks.{is_flipped}
 use Rattle.qrmatrix.specs.Modules.{module_at}
 use Rattle.qrmatrix.specs.Placement.{codeword_bit, key, rank}
 use Rattle.qrmatrix.specs.Reading.{read_bits, read_format, read_matrix, shows_functions, shows_version, walk}
-
--- a module's letter: `#` dark and `.` light in a function pattern, `a` to `o` bits 0 to 14 of the format information,
--- `A` to `R` bits 0 to 17 of the version information, and a blank for the codewords
-letter : Option Role → ℕ
-letter None = 32
-letter (Some (Function dark)) = if dark then 35 else 46
-letter (Some (Format i)) = 97 + i
-letter (Some (Version i)) = 65 + i
-
--- the bits of the format information in column 8 and in row 8 (ISO/IEC 18004, 7.9), where no other pattern hides a bit
-formats_in_column_8 : map (λ y. letter (option_map Format (format_bit 21 8 y))) (range_with_len 0 21) ≡
-    codes "abcdef gh     ijklmno"
-unfolding letter format_bit
-formats_in_column_8 = refl
-
-formats_in_row_8 : map (λ x. letter (option_map Format (format_bit 21 x 8))) (range_with_len 0 21) ≡
-    codes "onmlkj ih    hgfedcba"
-unfolding letter format_bit
-formats_in_row_8 = refl
-
--- ---- what each module is there for
-
-letters : ℕ → List (List ℕ)
-unfolding letter role
-letters v = map (λ y. map (λ x. letter (role v x y)) (range_with_len 0 (side_of v))) (range_with_len 0 (side_of v))
-
--- the layout of the standard's figures, which symbols of Zint 2.11.1 have under all masks, of all levels and data
-letters_of_version_1 : letters 1 ≡
-    codes "#######.a    .#######"
-    ∷ codes "#.....#.b    .#.....#"
-    ∷ codes "#.###.#.c    .#.###.#"
-    ∷ codes "#.###.#.d    .#.###.#"
-    ∷ codes "#.###.#.e    .#.###.#"
-    ∷ codes "#.....#.f    .#.....#"
-    ∷ codes "#######.#.#.#.#######"
-    ∷ codes "........g    ........"
-    ∷ codes "onmlkj#ih    hgfedcba"
-    ∷ codes "      .              "
-    ∷ codes "      #              "
-    ∷ codes "      .              "
-    ∷ codes "      #              "
-    ∷ codes "........#            "
-    ∷ codes "#######.i            "
-    ∷ codes "#.....#.j            "
-    ∷ codes "#.###.#.k            "
-    ∷ codes "#.###.#.l            "
-    ∷ codes "#.###.#.m            "
-    ∷ codes "#.....#.n            "
-    ∷ codes "#######.o            "
-    ∷ []
-unfolding letters
-letters_of_version_1 = refl
 
 -- ---- a symbol of version 2 at level Q under mask 5, as Zint draws it (`zint -b 58 --vers=2 --secure=3 --mask=5 --verbose
 -- --dump -d "WRONG MODULES"`)
