@@ -1,5 +1,5 @@
 -- A symbol of version 1 at level M with the digits 01234567 (the example of ISO/IEC 18004, Annex I), computed by the
--- definitions: a row of it under mask 2, its penalties under five masks, and its reading.
+-- definitions: a row of it under mask 2, its penalties under all masks, and its reading.
 use Rattle.std.proofs.Common.{◌≡◌, ℕ, refl}
 use Rattle.std.proofs.Common.{List, [], ◌∷◌, map, Option, None, Some}
 use Rattle.std.specs.Prelude.{Bool, slice_index, reverse, nat_le, unwrap_or}
@@ -50,8 +50,8 @@ penalty_of_rows : ℕ → List ℕ → ℕ
 unfolding penalty run_penalty finder_penalty square_penalty dark_count balance_penalty
 penalty_of_rows n rows = penalty n (λ x y. bit (slice_index rows y) x)
 
-computed : map (λ mask. penalty_of_rows 21 (rows_under mask)) (0 ∷ 4 ∷ 5 ∷ 6 ∷ 7 ∷ [])
-    ≡ 297 ∷ 570 ∷ 637 ∷ 419 ∷ 406 ∷ []
+computed : map (λ mask. penalty_of_rows 21 (rows_under mask)) (range_with_len 0 8)
+    ≡ 297 ∷ 533 ∷ 397 ∷ 452 ∷ 570 ∷ 637 ∷ 419 ∷ 406 ∷ []
 unfolding rows_under penalty_of_rows
 computed = refl
 
