@@ -1,17 +1,8 @@
 -- What is computed for each number of a range holds for each of them.
-use Rattle.std.proofs.Common.{◌≡◌, ℕ, ◌+◌, ◌-◌, ◌<◌, ◌≤◌, sym, ap, ◌∙◌, arith, Bool, true, map}
+use Rattle.std.proofs.Common.{◌≡◌, ℕ, ◌+◌, ◌-◌, ◌<◌, ◌≤◌, sym, ap, ◌∙◌, arith, map}
 use Rattle.std.specs.Prelude.{slice_index_or}
 use Rattle.std.specs.List.{range_with_len}
 use Rattle.std.proofs.lemmas.List.FromFn.{get_or-map-range_with_len}
-use Rattle.qrmatrix.proofs.SumLaws.{all_below, all_below_at}
-
--- whether every place of a square of n by n passes the test
-abbrev pub all_places : ℕ → (ℕ → ℕ → Bool) → Bool
-all_places n p = all_below n (λ y. all_below n (λ x. p x y))
-
-pub all_places_at : (n : ℕ) (p : ℕ → ℕ → Bool) → all_places n p ≡ true → (x y : ℕ) → x < n → y < n → p x y ≡ true
-all_places_at n p h x y lx ly =
-    all_below_at n (λ x. p x y) (all_below_at n (λ y. all_below n (λ x. p x y)) h y ly) x lx
 
 -- two functions have the same values from a on
 pub same_at : {A : Type 0} (a n : ℕ) (f g : ℕ → A) → map f (range_with_len a n) ≡ map g (range_with_len a n) → (k : ℕ)

@@ -1,8 +1,8 @@
 -- A symbol of version 1 at level M with the digits 01234567 (the example of ISO/IEC 18004, Annex I), computed by the
--- definitions: its modules and its penalty under mask 2, its penalties under all masks, and its reading.
+-- definitions: a row of it under mask 2, its penalties under all masks, and its reading.
 use Rattle.std.proofs.Common.{◌≡◌, ℕ, refl}
 use Rattle.std.proofs.Common.{List, [], ◌∷◌, map, Option, None, Some}
-use Rattle.std.specs.Prelude.{slice_index, reverse, nat_le}
+use Rattle.std.specs.Prelude.{Bool, slice_index, reverse, nat_le, unwrap_or}
 use Rattle.std.specs.List.{list_all, position_or_len, range_with_len}
 use Rattle.gf256.specs.BinaryPolynomial.{binary_remainder}
 use mathlib.Core.Bool.{xor}
@@ -34,26 +34,33 @@ rows =
     ∷ 0x1F2AC4
     ∷ 0x078210 ∷ 0x0129F8 ∷ 0x067D00 ∷ 0x00D67F ∷ 0x147D41 ∷ 0x06915D ∷ 0x00935D ∷ 0x052D5D ∷ 0x0D8041 ∷ 0x052F7F ∷ []
 
-row : ℕ → ℕ → ℕ
-unfolding codewords number_of module_at xor fixed_module role rank is_free key is_flipped format_information
-    version_information
-    binary_remainder
-row mask y = number_of (reverse (map (λ x. module_at 1 M mask codewords x y) (range_with_len 0 21)))
+-- the module under a mask that is laid over in place of mask 2
+under : ℕ → ℕ → ℕ → Bool
+unfolding rows xor fixed_module role is_flipped format_information version_information binary_remainder
+under mask x y =
+    unwrap_or (fixed_module 1 M mask x y)
+    (xor (xor (is_flipped mask x y) (is_flipped 2 x y)) (bit (slice_index rows y) x))
+
+rows_under : ℕ → List ℕ
+unfolding under number_of
+rows_under mask =
+    map (λ y. number_of (reverse (map (λ x. under mask x y) (range_with_len 0 21)))) (range_with_len 0 21)
 
 penalty_of_rows : ℕ → List ℕ → ℕ
 unfolding penalty run_penalty finder_penalty square_penalty dark_count balance_penalty
 penalty_of_rows n rows = penalty n (λ x y. bit (slice_index rows y) x)
 
--- the rows under a mask
-rows_under : ℕ → List ℕ
-unfolding row
-rows_under mask = map (row mask) (range_with_len 0 21)
+computed : map (λ mask. penalty_of_rows 21 (rows_under mask)) (range_with_len 0 8)
+    ≡ 297 ∷ 533 ∷ 397 ∷ 452 ∷ 570 ∷ 637 ∷ 419 ∷ 406 ∷ []
+unfolding rows_under penalty_of_rows
+computed = refl
 
--- computed together, so that each rank is computed once: the modules under mask 2, and the penalties under masks 0 to 7
-computed : (rows_under 2 ≡ rows) × (map (λ mask. penalty_of_rows 21 (rows_under mask)) (range_with_len 0 8)
-    ≡ 297 ∷ 533 ∷ 397 ∷ 452 ∷ 570 ∷ 637 ∷ 419 ∷ 406 ∷ [])
-unfolding rows rows_under penalty_of_rows
-computed = (refl, refl)
+-- a row of modules under mask 2
+modules_of_row : map (λ x. module_at 1 M 2 codewords x 9) (range_with_len 0 21)
+    ≡ map (bit (slice_index rows 9)) (range_with_len 0 21)
+unfolding rows codewords module_at xor fixed_module role rank is_free key is_flipped format_information
+    binary_remainder
+modules_of_row = refl
 
 -- the penalties of a symbol under the masks 0 to 7
 penalties : ℕ → Level → List ℕ → List ℕ

@@ -1,8 +1,9 @@
 -- The rows of the function patterns, computed for each version.
-use Rattle.std.proofs.Common.{◌≡◌, ℕ, ◌<◌, ◌≤◌, ◌^◌, refl, sym, ap, ◌∙◌, arith, Bool, true, not, ◌&&◌}
-use Rattle.std.proofs.Common.{List, Option, None, Some}
-use Rattle.std.specs.Prelude.{map, nat_lt, is_none}
-use Rattle.std.specs.List.{range_with_len}
+use Rattle.std.proofs.Common.{◌≡◌, ℕ, ◌<◌, ◌≤◌, ◌^◌, refl, sym, ap, ◌∙◌, arith, Bool, true, false, not, ◌&&◌}
+use Rattle.std.proofs.Common.{Option, None, Some}
+use Rattle.std.specs.Prelude.{nat_lt, is_none, ◌==◌}
+use Rattle.std.specs.Bool.{beq}
+use Rattle.std.proofs.lemmas.Bool.{and_parts}
 use Rattle.std.proofs.lemmas.Bool.Decides.{nat_tests}
 use Rattle.std.proofs.Math.Pow.{pow_mono}
 use Rattle.gf256.specs.BinaryPolynomial.{binary_remainder}
@@ -14,7 +15,9 @@ use Rattle.qrmatrix.specs.Functions.{Role, Function, Format, Version, format_bit
 use Rattle.qrmatrix.specs.Information.{version_information}
 use Rattle.qrmatrix.specs.declared.function.PatternRow.{PatternRow}
 use Rattle.qrmatrix.proofs.AlignmentLaws.{near_role, near_role_is}
-use Rattle.qrmatrix.proofs.ComputedLaws.{by_version, same_at}
+use Rattle.qrmatrix.proofs.ComputedLaws.{by_version}
+use Rattle.qrmatrix.proofs.RowBitsLaws.{same_beq}
+use Rattle.qrmatrix.proofs.SumLaws.{all_below, all_below_at}
 
 -- the bit of the format information that a role shows
 unfoldable pub index_of : Option Role → Option ℕ
@@ -23,68 +26,83 @@ index_of (Some (Format i)) = Some i
 index_of (Some (Version i)) = None
 index_of None = None
 
--- of a module: whether a pattern has it, whether it is dark there, and which bit of the format information it shows
-record Module : Type 0 where
-  taken : Bool
-  dark : Bool
-  index : Option ℕ
+-- whether both are the same bit, or both none
+abbrev same_index : Option ℕ → Option ℕ → Bool
+same_index None None = true
+same_index None (Some k) = false
+same_index (Some i) None = false
+same_index (Some i) (Some k) = i == k
 
--- of a row: whether it has no module beyond the side, and its modules
-record Row : Type 0 where
-  narrow : Bool
-  modules : List Module
+same_index_is : (a b : Option ℕ) → same_index a b ≡ true → a ≡ b
+same_index_is None None h = refl
+same_index_is None (Some k) h = grind arith
+same_index_is (Some i) None h = grind arith
+same_index_is (Some i) (Some k) h = let e : i ≡ k = grind (arith, nat_tests) in ap Some e
 
--- the module at a column of a row, and the module of a role
-abbrev in_row : ℕ → ℕ → PatternRow → ℕ → Module
-in_row v y row x = record { taken = bit row.taken x; dark = bit row.dark x; index = format_bit (side_of v) x y }
+-- whether two modules agree: whether a pattern has them, whether they are dark, and which bit of the format information
+-- they show
+abbrev agree : (a b c d : Bool) (i k : Option ℕ) → Bool
+agree a b c d i k = beq a b && (beq c d && same_index i k)
 
-abbrev of_role : ℕ → Option Role → Module
-of_role v r = record { taken = not (is_none r); dark = unmasked_module v r; index = index_of r }
+agree_is : (a b c d : Bool) (i k : Option ℕ) → agree a b c d i k ≡ true → (a ≡ b) × ((c ≡ d) × (i ≡ k))
+agree_is a b c d i k h =
+    let one = and_parts (beq a b) (beq c d && same_index i k) h in
+    let two = and_parts (beq c d) (same_index i k) one.1 in
+    (same_beq a b one.0, (same_beq c d two.0, same_index_is i k two.1))
 
--- a row as its bits are, and as the roles ask for it
-abbrev row_drawn : ℕ → ℕ → PatternRow → Row
-row_drawn v y row = record {
-  narrow = nat_lt row.taken (2 ^ side_of v) && nat_lt row.dark (2 ^ side_of v);
-  modules = map (in_row v y row) (range_with_len 0 (side_of v));
-}
+-- whether the bits of a row have the module of a role, and the role shows the bit of the format information there
+module_fits : ℕ → ℕ → PatternRow → ℕ → Option Role → Bool
+unfolding index_of format_bit version_information
+module_fits v y row x r =
+    agree (bit row.taken x) (not (is_none r)) (bit row.dark x) (unmasked_module v r) (index_of r)
+    (format_bit (side_of v) x y)
 
-abbrev row_asked : ℕ → ℕ → Row
-row_asked v y =
-    record { narrow = true; modules = map (λ x. of_role v (near_role v x y)) (range_with_len 0 (side_of v)) }
+-- whether the bits of a row are within the side, and those of a row of a version
+row_fits : ℕ → ℕ → PatternRow → Bool
+unfolding module_fits near_role
+row_fits v y row =
+    (nat_lt row.taken (2 ^ side_of v) && nat_lt row.dark (2 ^ side_of v))
+    && all_below (side_of v) (λ x. module_fits v y row x (near_role v x y))
 
-rows_right : (v : ℕ) → 1 ≤ v → v ≤ 10 → map (λ y. row_drawn v y (function_row v y)) (range_with_len 0 (side_of v))
-    ≡ map (row_asked v) (range_with_len 0 (side_of v))
-unfolding function_row near_role format_bit index_of version_information binary_remainder
-rows_right =
-    by_version (λ v. map (λ y. row_drawn v y (function_row v y)) (range_with_len 0 (side_of v)))
-    (λ v. map (row_asked v) (range_with_len 0 (side_of v))) refl
+rows_fit : (v : ℕ) → 1 ≤ v → v ≤ 10 → all_below (side_of v) (λ y. row_fits v y (function_row v y)) ≡ true
+unfolding function_row row_fits version_information binary_remainder
+rows_fit = by_version (λ v. all_below (side_of v) (λ y. row_fits v y (function_row v y))) (λ v. true) refl
 
 module _ (v : ℕ) (l : 1 ≤ v) (h : v ≤ 10) (y : ℕ) (ly : y < side_of v) where
-  row_right : row_drawn v y (function_row v y) ≡ row_asked v y
-  row_right =
-      same_at 0 (side_of v) (λ y. row_drawn v y (function_row v y)) (row_asked v) (rows_right v l h) y (omega arith)
-      (omega arith)
+  parts : (nat_lt (function_row v y).taken (2 ^ side_of v) && nat_lt (function_row v y).dark (2 ^ side_of v) ≡ true)
+      × (all_below (side_of v) (λ x. module_fits v y (function_row v y) x (near_role v x y)) ≡ true)
+  unfolding row_fits
+  parts =
+      and_parts (nat_lt (function_row v y).taken (2 ^ side_of v) && nat_lt (function_row v y).dark (2 ^ side_of v))
+      (all_below (side_of v) (λ x. module_fits v y (function_row v y) x (near_role v x y)))
+      (all_below_at (side_of v) (λ y. row_fits v y (function_row v y)) (rows_fit v l h) y ly)
 
-  place_right : (x : ℕ) → x < side_of v → in_row v y (function_row v y) x ≡ of_role v (role v x y)
-  place_right x lx =
-      same_at 0 (side_of v) (in_row v y (function_row v y)) (λ x. of_role v (near_role v x y))
-      (ap (λ (r : Row). r.modules) row_right) x (omega arith) (omega arith)
-      ∙ ap (of_role v) (near_role_is v x y)
+  module_is : (x : ℕ) → x < side_of v → (bit (function_row v y).taken x ≡ not (is_none (role v x y)))
+      × ((bit (function_row v y).dark x ≡ unmasked_module v (role v x y))
+      × (index_of (role v x y) ≡ format_bit (side_of v) x y))
+  unfolding module_fits
+  module_is x lx =
+      let row = function_row v y in
+      let r = role v x y in
+      agree_is (bit row.taken x) (not (is_none r)) (bit row.dark x) (unmasked_module v r) (index_of r)
+      (format_bit (side_of v) x y)
+      (ap (module_fits v y row x) (sym (near_role_is v x y))
+      ∙ all_below_at (side_of v) (λ x. module_fits v y row x (near_role v x y)) parts.1 x lx)
 
   pub function_row_is : HasFunctions v y (function_row v y)
   unfolding is_free
   function_row_is =
-      let narrow = ap (λ (r : Row). r.narrow) row_right in
+      let narrow = parts.0 in
       record {
-        taken = λ x lx. ap (λ (m : Module). m.taken) (place_right x lx);
-        dark = λ x lx. ap (λ (m : Module). m.dark) (place_right x lx);
+        taken = λ x lx. (module_is x lx).0;
+        dark = λ x lx. (module_is x lx).1.0;
         narrow_taken = grind (arith, nat_tests, narrow);
         narrow_dark = grind (arith, nat_tests, narrow);
       }
 
   -- the role of a module says which bit of the format information it shows
   pub index_right : (x : ℕ) → x < side_of v → index_of (role v x y) ≡ format_bit (side_of v) x y
-  index_right x lx = sym (ap (λ (m : Module). m.index) (place_right x lx))
+  index_right x lx = (module_is x lx).1.1
 
 -- a row of a symbol fits a row of a square
 pub fits : (v w : ℕ) → v ≤ 10 → w < 2 ^ side_of v → w < 2 ^ 57

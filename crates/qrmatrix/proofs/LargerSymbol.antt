@@ -1,56 +1,112 @@
--- A symbol of version 7 at level M under mask 2 with the digits 01234567, as Zint 2.11.1 draws it (`zint -b 58 --vers=7
--- --secure=2 --mask=2 --verbose --dump`): its modules are read as its codewords.
-use Rattle.std.proofs.Common.{◌≡◌, ℕ, refl, List, [], ◌∷◌, Some}
-use Rattle.std.specs.Prelude.{slice_index}
-use Rattle.gf256.specs.BinaryPolynomial.{binary_remainder}
-use mathlib.Core.Bool.{xor}
-use Rattle.qrdata.specs.declared.level.Level.TheVariants.{M}
-use Rattle.qrdata.specs.Bits.{codewords_of, number_of}
-use Rattle.qrdata.specs.Versions.{total_codewords}
-use Rattle.qrmatrix.specs.Bits.{bit}
-use Rattle.qrmatrix.specs.Functions.{fixed_module, is_free, role}
-use Rattle.qrmatrix.specs.Information.{format_information, version_information}
-use Rattle.qrmatrix.specs.Masks.{is_flipped}
+-- The layout of a small symbol and of a larger one, version 7, which has all patterns (ISO/IEC 18004, 6.3, 7.9 and 7.10),
+-- and how many modules are left to the codewords.
+use Rattle.std.specs.Prelude.{◌≡◌, ℕ, ◌+◌, refl, List, [], ◌∷◌, ◌++◌, map, Option, None, Some, codes, replicate, if◌then◌else◌}
+use Rattle.std.specs.List.{range_with_len}
+use Rattle.std.specs.Option.{option_map}
+use Rattle.qrdata.specs.Versions.{side_of}
+use Rattle.qrmatrix.specs.Functions.{Role, Function, Format, Version, format_bit, is_free, role, version_bit}
 use Rattle.qrmatrix.specs.Placement.{free_count}
-use Rattle.qrmatrix.specs.Reading.{read_bits, read_format, read_matrix, shows_functions, shows_version, walk}
 
--- bit x of a row is its module at column x
-rows : List ℕ
-rows =
-    0x1fd0dfdcd67f ∷ 0x104a7174c441 ∷ 0x1748a1defb5d ∷ 0x17580b2dc95d ∷ 0x175ea1f7995d ∷ 0x10424b13f941 ∷
-    0x1fd55555557f ∷ 0xc4918af00 ∷ 0x7dff3f39a7d ∷ 0x5f559a4ceaa ∷ 0x1f1bf30adc46 ∷ 0x492afa0dd3d ∷ 0x730150b385f ∷
-    0x38abf454a88 ∷ 0x192050e565e8 ∷ 0x126c205fa3a2 ∷ 0x1cdf8ab49bed ∷ 0xc7521df4a9e ∷ 0x69bcb6ab846 ∷
-    0xc924fc15baf ∷ 0x7f9f5faa3fb ∷ 0x7135f142712 ∷ 0x1f51f155755d ∷ 0x1712a7177b12 ∷ 0x19f80df4e3fe ∷
-    0x332a7370bbe ∷ 0x190492c9f45 ∷ 0x1324409d5aae ∷ 0x49fea28f8fb ∷ 0xcad40932990 ∷ 0x68beb49f6dd ∷ 0xdb2ceffe32e ∷
-    0x660745965e2 ∷ 0x2d2dea00fba ∷ 0x187071b41b50 ∷ 0x1284a1059a9e ∷ 0x1dfe0bf18f59 ∷ 0xf14a1123700 ∷
-    0x15a4b500e7f ∷ 0xd1c491ea341 ∷ 0x7fff3f9555d ∷ 0x49559b0075d ∷ 0x72bf31e7b5d ∷ 0xd82af2b9241 ∷
-    0x72814876b7f ∷ []
+-- a module's letter: `#` dark and `.` light in a function pattern, `a` to `o` bits 0 to 14 of the format information,
+-- `A` to `R` bits 0 to 17 of the version information, and a blank for the codewords
+letter : Option Role → ℕ
+letter None = 32
+letter (Some (Function dark)) = if dark then 35 else 46
+letter (Some (Format i)) = 97 + i
+letter (Some (Version i)) = 65 + i
 
--- the codewords, which Zint prints as the data stream
-codewords : List ℕ
-codewords =
-    16 ∷ 17 ∷ 236 ∷ 17 ∷ 32 ∷ 236 ∷ 17 ∷ 236 ∷ 12 ∷ 17 ∷ 236 ∷ 17 ∷ 86 ∷ 236 ∷ 17 ∷ 236 ∷ 97 ∷ 17 ∷ 236 ∷ 17 ∷ 128 ∷
-    236 ∷ 17 ∷ 236 ∷ 236 ∷ 17 ∷ 236 ∷ 17 ∷ 17 ∷ 236 ∷ 17 ∷ 236 ∷ 236 ∷ 17 ∷ 236 ∷ 17 ∷ 17 ∷ 236 ∷ 17 ∷ 236 ∷ 236 ∷
-    17 ∷ 236 ∷ 17 ∷ 17 ∷ 236 ∷ 17 ∷ 236 ∷ 236 ∷ 17 ∷ 236 ∷ 17 ∷ 17 ∷ 236 ∷ 17 ∷ 236 ∷ 236 ∷ 17 ∷ 236 ∷ 17 ∷ 17 ∷
-    236 ∷ 17 ∷ 236 ∷ 236 ∷ 17 ∷ 236 ∷ 17 ∷ 17 ∷ 236 ∷ 17 ∷ 236 ∷ 236 ∷ 17 ∷ 236 ∷ 17 ∷ 17 ∷ 236 ∷ 17 ∷ 236 ∷ 236 ∷
-    17 ∷ 236 ∷ 17 ∷ 17 ∷ 236 ∷ 17 ∷ 236 ∷ 236 ∷ 17 ∷ 236 ∷ 17 ∷ 17 ∷ 236 ∷ 17 ∷ 236 ∷ 236 ∷ 17 ∷ 236 ∷ 17 ∷ 17 ∷
-    236 ∷ 17 ∷ 236 ∷ 236 ∷ 17 ∷ 236 ∷ 17 ∷ 17 ∷ 236 ∷ 17 ∷ 236 ∷ 236 ∷ 17 ∷ 236 ∷ 17 ∷ 17 ∷ 236 ∷ 17 ∷ 236 ∷ 236 ∷
-    17 ∷ 236 ∷ 17 ∷ 11 ∷ 154 ∷ 11 ∷ 154 ∷ 119 ∷ 151 ∷ 22 ∷ 151 ∷ 172 ∷ 204 ∷ 244 ∷ 204 ∷ 191 ∷ 2 ∷ 42 ∷ 2 ∷ 184 ∷
-    210 ∷ 166 ∷ 210 ∷ 101 ∷ 252 ∷ 45 ∷ 252 ∷ 1 ∷ 24 ∷ 207 ∷ 24 ∷ 179 ∷ 94 ∷ 141 ∷ 94 ∷ 74 ∷ 93 ∷ 173 ∷ 93 ∷ 215 ∷
-    98 ∷ 197 ∷ 98 ∷ 244 ∷ 192 ∷ 66 ∷ 192 ∷ 133 ∷ 142 ∷ 10 ∷ 142 ∷ 2 ∷ 111 ∷ 157 ∷ 111 ∷ 31 ∷ 210 ∷ 24 ∷ 210 ∷ 164 ∷
-    178 ∷ 214 ∷ 178 ∷ 88 ∷ 117 ∷ 152 ∷ 117 ∷ 129 ∷ 115 ∷ 201 ∷ 115 ∷ 235 ∷ 63 ∷ 57 ∷ 63 ∷ []
+-- the bits of the format information in column 8 and in row 8 (ISO/IEC 18004, 7.9), where no other pattern hides a bit
+formats_in_column_8 : map (λ y. letter (option_map Format (format_bit 21 8 y))) (range_with_len 0 21) ≡
+    codes "abcdef gh     ijklmno"
+unfolding letter format_bit
+formats_in_column_8 = refl
 
-reading : read_matrix 45 (λ x y. bit (slice_index rows y) x) ≡
-    Some (record { version = 7; level = M; codewords = codewords })
-unfolding read_matrix xor total_codewords read_format shows_version shows_functions read_bits walk codewords_of number_of
-    fixed_module role is_free is_flipped format_information version_information binary_remainder rows codewords
-reading = refl
+formats_in_row_8 : map (λ x. letter (option_map Format (format_bit 21 x 8))) (range_with_len 0 21) ≡
+    codes "onmlkj ih    hgfedcba"
+unfolding letter format_bit
+formats_in_row_8 = refl
 
--- 196 codewords and no bit more are free in version 7, and 44 codewords and 7 bits in version 2
-free_modules : free_count 7 ≡ 1568
+-- the bits of the version information in some columns and rows of version 7 (7.10), where no other pattern hides a bit
+version_letters : List ℕ → List ℕ → List (List ℕ)
+unfolding letter version_bit
+version_letters columns rows = map (λ y. map (λ x. letter (option_map Version (version_bit 45 x y))) columns) rows
+
+versions_below : version_letters (range_with_len 0 8) (range_with_len 33 12) ≡
+    codes "        "
+    ∷ codes "ADGJMP  "
+    ∷ codes "BEHKNQ  "
+    ∷ codes "CFILOR  " ∷ replicate 8 (codes "        ")
+unfolding version_letters
+versions_below = refl
+
+versions_beside : version_letters (range_with_len 33 12) (range_with_len 0 8) ≡
+    codes " ABC        "
+    ∷ codes " DEF        "
+    ∷ codes " GHI        "
+    ∷ codes " JKL        "
+    ∷ codes " MNO        "
+    ∷ codes " PQR        " ∷ replicate 2 (codes "            ")
+unfolding version_letters
+versions_beside = refl
+
+-- ---- what each module is there for
+
+letters : ℕ → List ℕ → List (List ℕ)
+unfolding letter role
+letters v rows = map (λ y. map (λ x. letter (role v x y)) (range_with_len 0 (side_of v))) rows
+
+-- the layout of the standard's figures, which symbols of Zint 2.11.1 have under all masks, of all levels and data
+letters_of_version_1 : letters 1 (range_with_len 0 21) ≡
+    codes "#######.a    .#######"
+    ∷ codes "#.....#.b    .#.....#"
+    ∷ codes "#.###.#.c    .#.###.#"
+    ∷ codes "#.###.#.d    .#.###.#"
+    ∷ codes "#.###.#.e    .#.###.#"
+    ∷ codes "#.....#.f    .#.....#"
+    ∷ codes "#######.#.#.#.#######"
+    ∷ codes "........g    ........"
+    ∷ codes "onmlkj#ih    hgfedcba"
+    ∷ codes "      .              "
+    ∷ codes "      #              "
+    ∷ codes "      .              "
+    ∷ codes "      #              "
+    ∷ codes "........#            "
+    ∷ codes "#######.i            "
+    ∷ codes "#.....#.j            "
+    ∷ codes "#.###.#.k            "
+    ∷ codes "#.###.#.l            "
+    ∷ codes "#.###.#.m            "
+    ∷ codes "#.....#.n            "
+    ∷ codes "#######.o            "
+    ∷ []
+unfolding letters
+letters_of_version_1 = refl
+
+-- the rows of version 7 that have alignment patterns, in columns 20 to 24 and 36 to 40, and version information
+letters_of_version_7 : letters 7 (range_with_len 4 5 ++ range_with_len 34 7) ≡
+    codes "#.###.#.e           #####         MNO.#.###.#"
+    ∷ codes "#.....#.f           #...#         PQR.#.....#"
+    ∷ codes "#######.#.#.#.#.#.#.#.#.#.#.#.#.#.#.#.#######"
+    ∷ codes "........g           #...#            ........"
+    ∷ codes "onmlkj#ih           #####            hgfedcba"
+    ∷ codes "ADGJMP#                                      "
+    ∷ codes "BEHKNQ.                                      "
+    ∷ codes "CFILOR#             #####           #####    "
+    ∷ codes "........#           #...#           #...#    "
+    ∷ codes "#######.i           #.#.#           #.#.#    "
+    ∷ codes "#.....#.j           #...#           #...#    "
+    ∷ codes "#.###.#.k           #####           #####    "
+    ∷ []
+unfolding letters
+letters_of_version_7 = refl
+
+-- the highest version with no version information
+none_in_version_6 : map (λ (p : ℕ × ℕ). role 6 p.0 p.1) ((30, 0) ∷ (32, 5) ∷ (0, 30) ∷ (5, 32) ∷ []) ≡
+    replicate 4 None
+unfolding role
+none_in_version_6 = refl
+
+-- 44 codewords and 7 bits more are free in version 2
+free_modules : free_count 2 ≡ 359
 unfolding free_count is_free role
 free_modules = refl
-
-free_modules_2 : free_count 2 ≡ 359
-unfolding free_count is_free role
-free_modules_2 = refl

@@ -1,18 +1,17 @@
 -- How many free modules have a key below k, as k grows along the walk.
 use Rattle.std.proofs.Common.{◌≡◌, ◌≢◌, ℕ, suc, ◌+◌, ◌-◌, ◌*◌, ◌/◌, ◌%◌, ◌<◌, ◌≤◌, refl, sym, ap, subst, ◌∙◌, arith}
 use Rattle.std.proofs.Common.{Bool, true, false, ◌&&◌, Option, None, Some}
-use Rattle.std.specs.Prelude.{is_none, nat_lt, ◌==◌}
+use Rattle.std.specs.Prelude.{is_none, nat_lt, ◌==◌, cond, if◌then◌else◌}
 use Rattle.std.specs.Option.{option_map, option_or}
 use Rattle.std.proofs.lemmas.Bool.{both_ways}
 use Rattle.std.proofs.lemmas.Bool.Decides.{nat_tests}
+use Rattle.std.proofs.lemmas.Nat.{div-mul-add, mod-mul-add, mul-le}
 use Rattle.qrmatrix.specs.Private.Counting.{sum_below, count_below, one_if}
 use Rattle.qrdata.specs.Versions.{side_of}
 use Rattle.qrmatrix.specs.Functions.{Role, Function, alignment, finder, is_free, role, timing}
 use Rattle.qrmatrix.specs.Placement.{key, rank}
 use Rattle.qrmatrix.specs.Private.Placing.{free_below}
-use Rattle.qrmatrix.proofs.ComputedLaws.{all_places_at}
 use Rattle.qrmatrix.proofs.SumLaws.{sum_below_same, sum_below_one, sum_below_zero, sum_by-count_by}
-use Rattle.qrmatrix.proofs.VersionLaws.{is_keyed, keyed, place_column, place_row}
 
 pub rank-free_below : (v x y : ℕ) → rank v x y ≡ free_below v (key (side_of v) x y)
 unfolding rank free_below
@@ -46,6 +45,26 @@ free_below_none v =
     (λ y ly. sum_below_zero (side_of v) (λ x. one_if (is_free v x y && nat_lt (key (side_of v) x y) 0))
     (λ x lx. grind (arith, nat_tests)))
 
+-- the place of a key
+unfoldable pub place_column : ℕ → ℕ → ℕ
+place_column n k =
+    let d = 2 * (k / (2 * n)) + k % (2 * n) % 2 in cond (nat_lt d (n - 7)) (n - 1 - d) (n - 2 - d)
+
+unfoldable pub place_row : ℕ → ℕ → ℕ
+place_row n k =
+    let t = (k % (2 * n)) / 2 in cond ((k / (2 * n)) % 2 == 0) (n - 1 - t) t
+
+column_at : (n x d : ℕ) → 21 ≤ n → x < n → x ≢ 6 → d ≡ (if nat_lt 6 x then n - 1 - x else n - 2 - x)
+    → (d < n - 1) × (cond (nat_lt d (n - 7)) (n - 1 - d) (n - 2 - d) ≡ x)
+column_at n x d least lx ne e = (grind (arith, nat_tests), grind (arith, nat_tests))
+
+row_at : (n y strip t : ℕ) → y < n → t ≡ (if strip % 2 == 0 then n - 1 - y else y)
+    → (t < n) × (cond (strip % 2 == 0) (n - 1 - t) t ≡ y)
+row_at n y strip t ly e = (grind (arith, nat_tests), grind (arith, nat_tests))
+
+strips_below : (k strip n t m : ℕ) → k ≡ strip * (2 * n) + t → t < 2 * n → strip + 1 ≤ m → k < 2 * n * m
+strips_below k strip n t m e l h = omega (arith, mul-le (strip + 1) (2 * n) m (2 * n) h (omega arith))
+
 -- the place of the key of a module is that of the module, and the key is below that of the strips' end
 pub record IsKeyed (v x y : ℕ) : Type 0 where
   pub column : place_column (side_of v) (key (side_of v) x y) ≡ x
@@ -55,10 +74,25 @@ pub record IsKeyed (v x y : ℕ) : Type 0 where
 module _ (v : ℕ) (l : 1 ≤ v) (h : v ≤ 10) where
   -- every module outside column 6 is keyed so
   pub keyed_at : (x y : ℕ) → x < side_of v → y < side_of v → x ≢ 6 → IsKeyed v x y
-  unfolding is_keyed
+  unfolding key place_column place_row
   keyed_at x y lx ly ne =
-      let t = all_places_at (side_of v) (is_keyed (side_of v)) (keyed v l h) x y lx ly in
-      record { column = grind (arith, nat_tests); row = grind (arith, nat_tests); below = grind (arith, nat_tests) }
+      let n = side_of v in
+      let d = if nat_lt 6 x then n - 1 - x else n - 2 - x in
+      let t = if (d / 2) % 2 == 0 then n - 1 - y else y in
+      let column = column_at n x d (omega arith) lx ne refl in
+      let row = row_at n y (d / 2) t ly refl in
+      let split : key n x y ≡ (d / 2) * (2 * n) + (2 * t + d % 2) = omega arith in
+      let strip = ap (λ k. k / (2 * n)) split ∙ div-mul-add (d / 2) (2 * n) (2 * t + d % 2) (omega (arith, row.0)) in
+      let place = ap (λ k. k % (2 * n)) split ∙ mod-mul-add (d / 2) (2 * n) (2 * t + d % 2) (omega (arith, row.0)) in
+      let is_d : 2 * (d / 2) + (2 * t + d % 2) % 2 ≡ d = omega arith in
+      let is_t : (2 * t + d % 2) / 2 ≡ t = omega arith in
+      record {
+        column = rw (strip, place, is_d) column.1;
+        row = rw (strip, place, is_t) row.1;
+        below =
+            strips_below (key n x y) (d / 2) n (2 * t + d % 2) ((n - 1) / 2) split (omega (arith, row.0))
+            (omega (arith, column.0));
+      }
 
   -- no other free module has the key of a module
   -- two modules have four coordinates with their bounds; of x, y it is known that it is free, of a, b only that it is

@@ -1,7 +1,7 @@
 -- Sums and counts of the bits of rows.
-use Rattle.std.proofs.Common.{◌≡◌, ℕ, zero, suc, ◌+◌, ◌*◌, ◌<◌, ◌≤◌, refl, sym, ap, ◌∙◌, arith, Bool, false}
+use Rattle.std.proofs.Common.{◌≡◌, ℕ, zero, suc, ◌+◌, ◌*◌, ◌<◌, ◌≤◌, refl, sym, ap, ◌∙◌, arith, Bool, true, false}
 use Rattle.std.proofs.Common.{inl, inr}
-use Rattle.std.specs.Prelude.{count_ones, bit_and, nat_lt, ◌^◌, if◌then◌else◌}
+use Rattle.std.specs.Prelude.{count_ones, bit_and, nat_lt, ◌^◌, if◌then◌else◌, ◌&&◌}
 use Rattle.std.proofs.lemmas.Bool.{cases_eq}
 use Rattle.std.proofs.lemmas.Bool.Decides.{nat_tests}
 use Rattle.std.proofs.lemmas.Nat.{and_le_r}
@@ -29,11 +29,17 @@ count_cut (suc k) n p q l same none =
           omega arith
     ]
 
+points_of_place : (p q : Bool) → one_if p + 2 * one_if (p && q) ≡ (if p then 1 + (if q then 2 else 0) else 0)
+points_of_place true true = refl
+points_of_place true false = refl
+points_of_place false q = refl
+
 -- the points of the places that two words mark
 pub points_counted : (n u b : ℕ) → count_below n (bit u) + 2 * count_below n (bit (bit_and u b))
     ≡ sum_below n (λ i. if bit u i then 1 + (if bit b i then 2 else 0) else 0)
 points_counted zero u b = refl
-points_counted (suc n) u b = grind (arith, points_counted n u b, and_bit u b n)
+points_counted (suc n) u b =
+    omega (arith, points_counted n u b, ap one_if (and_bit u b n), points_of_place (bit u n) (bit b n))
 
 pub sum_added : (n : ℕ) (f g : ℕ → ℕ) → sum_below n (λ i. f i + g i) ≡ sum_below n f + sum_below n g
 sum_added zero f g = refl

@@ -1,6 +1,6 @@
 -- What is computed for each of the ten versions.
 use Rattle.std.proofs.Common.{◌≡◌, ℕ, ◌+◌, ◌-◌, ◌*◌, ◌<◌, ◌≤◌, refl, sym, ap, ◌∙◌, arith, List, [], ◌∷◌}
-use Rattle.std.specs.Prelude.{map, Bool, true, cond, not, ◌&&◌, ◌||◌, ◌==◌, nat_lt, ◌/◌, ◌%◌, length, slice_index}
+use Rattle.std.specs.Prelude.{map, Bool, true, not, ◌&&◌, ◌==◌, length, slice_index}
 use Rattle.std.specs.List.{range_with_len, list_all, filter}
 use Rattle.std.proofs.lemmas.Bool.{and_parts}
 use Rattle.std.proofs.lemmas.Bool.Decides.{nat_tests}
@@ -15,29 +15,9 @@ use Rattle.gf256.specs.BinaryPolynomial.{binary_remainder}
 use Rattle.qrmatrix.specs.Modules.{is_inside}
 use Rattle.qrmatrix.specs.Private.FunctionRows.{function_row}
 use Rattle.qrmatrix.specs.Reading.{walk}
-use Rattle.qrmatrix.proofs.ComputedLaws.{all_places, by_version}
+use Rattle.qrmatrix.proofs.ComputedLaws.{by_version}
 use Rattle.qrmatrix.proofs.FunctionRowLaws.{function_row_is}
 use Rattle.qrmatrix.proofs.SumLaws.{sum_below_same, sum_by-count_by}
-
--- the place of a key
-unfoldable pub place_column : ℕ → ℕ → ℕ
-place_column n k =
-    let d = 2 * (k / (2 * n)) + k % 2 in cond (nat_lt d (n - 7)) (n - 1 - d) (n - 2 - d)
-
-unfoldable pub place_row : ℕ → ℕ → ℕ
-place_row n k =
-    let t = (k % (2 * n)) / 2 in cond ((k / (2 * n)) % 2 == 0) (n - 1 - t) t
-
--- a place outside column 6 is found from its key, which is below that of the strips' end
-unfoldable pub is_keyed : ℕ → ℕ → ℕ → Bool
-unfolding key place_column place_row
-is_keyed n x y =
-    let k = key n x y in
-    (x == 6) || ((place_column n k == x) && ((place_row n k == y) && nat_lt k (2 * n * ((n - 1) / 2))))
-
-pub keyed : (v : ℕ) → 1 ≤ v → v ≤ 10 → all_places (side_of v) (is_keyed (side_of v)) ≡ true
-unfolding is_keyed
-keyed = by_version (λ v. all_places (side_of v) (is_keyed (side_of v))) (λ v. true) refl
 
 -- a place of the walk is in the square, but not in column 6
 abbrev pub is_walked : ℕ → ℕ × ℕ → Bool

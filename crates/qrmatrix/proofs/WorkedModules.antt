@@ -1,154 +1,21 @@
--- Modules of QR symbols one by one (ISO/IEC 18004, 6.3, 7.7, 7.9 and 7.10): what each is there for, the order of
--- placement, and symbols with one wrong module, which are not read.
+-- Modules of QR symbols one by one (ISO/IEC 18004, 7.7, 7.9 and 7.10): the order of placement, and symbols with one wrong
+-- module, which are not read.
 use Rattle.std.specs.Prelude.{◌≡◌, ℕ, ◌+◌, ◌-◌, ◌*◌, ◌/◌, ◌%◌, ◌^◌, ◌==◌, nat_lt, refl, Bool, true, false, List, [], ◌∷◌, ◌++◌, map}
 use Rattle.std.specs.Prelude.{Option, None, Some, codes, slice_index, slice_set, bit_xor, replicate, if◌then◌else◌, zip}
 use Rattle.std.specs.List.{range_with_len}
-use Rattle.std.specs.Option.{option_map}
 use Rattle.gf256.specs.BinaryPolynomial.{binary_remainder}
 use mathlib.Core.Bool.{xor}
 use Rattle.qrdata.specs.declared.level.Level.{Level}
 use Rattle.qrdata.specs.declared.level.Level.TheVariants.{L, M, Q, H}
 use Rattle.qrdata.specs.Bits.{codewords_of, number_of}
-use Rattle.qrdata.specs.Versions.{side_of, total_codewords}
+use Rattle.qrdata.specs.Versions.{total_codewords}
 use Rattle.qrmatrix.specs.Bits.{bit}
-use Rattle.qrmatrix.specs.Functions.{Role, Function, Format, Version, fixed_module, format_bit, is_free, role}
-use Rattle.qrmatrix.specs.Functions.{version_bit}
+use Rattle.qrmatrix.specs.Functions.{fixed_module, is_free, role}
 use Rattle.qrmatrix.specs.Information.{format_information, version_information}
 use Rattle.qrmatrix.specs.Masks.{is_flipped}
 use Rattle.qrmatrix.specs.Modules.{module_at}
 use Rattle.qrmatrix.specs.Placement.{codeword_bit, key, rank}
 use Rattle.qrmatrix.specs.Reading.{read_bits, read_format, read_matrix, shows_functions, shows_version, walk}
-
--- a module's letter: `#` dark and `.` light in a function pattern, `a` to `o` bits 0 to 14 of the format information,
--- `A` to `R` bits 0 to 17 of the version information, and a blank for the codewords
-letter : Option Role → ℕ
-letter None = 32
-letter (Some (Function dark)) = if dark then 35 else 46
-letter (Some (Format i)) = 97 + i
-letter (Some (Version i)) = 65 + i
-
--- the bits of the format information in column 8 and in row 8 (ISO/IEC 18004, 7.9), where no other pattern hides a bit
-formats_in_column_8 : map (λ y. letter (option_map Format (format_bit 21 8 y))) (range_with_len 0 21) ≡
-    codes "abcdef gh     ijklmno"
-unfolding letter format_bit
-formats_in_column_8 = refl
-
-formats_in_row_8 : map (λ x. letter (option_map Format (format_bit 21 x 8))) (range_with_len 0 21) ≡
-    codes "onmlkj ih    hgfedcba"
-unfolding letter format_bit
-formats_in_row_8 = refl
-
--- the bits of the version information in some columns and rows of version 7 (7.10), where no other pattern hides a bit
-version_letters : List ℕ → List ℕ → List (List ℕ)
-unfolding letter version_bit
-version_letters columns rows = map (λ y. map (λ x. letter (option_map Version (version_bit 45 x y))) columns) rows
-
-versions_below : version_letters (range_with_len 0 8) (range_with_len 33 12) ≡
-    codes "        "
-    ∷ codes "ADGJMP  "
-    ∷ codes "BEHKNQ  "
-    ∷ codes "CFILOR  " ∷ replicate 8 (codes "        ")
-unfolding version_letters
-versions_below = refl
-
-versions_beside : version_letters (range_with_len 33 12) (range_with_len 0 8) ≡
-    codes " ABC        "
-    ∷ codes " DEF        "
-    ∷ codes " GHI        "
-    ∷ codes " JKL        "
-    ∷ codes " MNO        "
-    ∷ codes " PQR        " ∷ replicate 2 (codes "            ")
-unfolding version_letters
-versions_beside = refl
-
--- ---- what each module is there for
-
-letters : ℕ → List (List ℕ)
-unfolding letter role
-letters v = map (λ y. map (λ x. letter (role v x y)) (range_with_len 0 (side_of v))) (range_with_len 0 (side_of v))
-
--- the layout of the standard's figures, which symbols of Zint 2.11.1 have under all masks, of all levels and data
-letters_of_version_1 : letters 1 ≡
-    codes "#######.a    .#######"
-    ∷ codes "#.....#.b    .#.....#"
-    ∷ codes "#.###.#.c    .#.###.#"
-    ∷ codes "#.###.#.d    .#.###.#"
-    ∷ codes "#.###.#.e    .#.###.#"
-    ∷ codes "#.....#.f    .#.....#"
-    ∷ codes "#######.#.#.#.#######"
-    ∷ codes "........g    ........"
-    ∷ codes "onmlkj#ih    hgfedcba"
-    ∷ codes "      .              "
-    ∷ codes "      #              "
-    ∷ codes "      .              "
-    ∷ codes "      #              "
-    ∷ codes "........#            "
-    ∷ codes "#######.i            "
-    ∷ codes "#.....#.j            "
-    ∷ codes "#.###.#.k            "
-    ∷ codes "#.###.#.l            "
-    ∷ codes "#.###.#.m            "
-    ∷ codes "#.....#.n            "
-    ∷ codes "#######.o            "
-    ∷ []
-unfolding letters
-letters_of_version_1 = refl
-
-letters_of_version_7 : letters 7 ≡
-    codes "#######.a                         ABC.#######"
-    ∷ codes "#.....#.b                         DEF.#.....#"
-    ∷ codes "#.###.#.c                         GHI.#.###.#"
-    ∷ codes "#.###.#.d                         JKL.#.###.#"
-    ∷ codes "#.###.#.e           #####         MNO.#.###.#"
-    ∷ codes "#.....#.f           #...#         PQR.#.....#"
-    ∷ codes "#######.#.#.#.#.#.#.#.#.#.#.#.#.#.#.#.#######"
-    ∷ codes "........g           #...#            ........"
-    ∷ codes "onmlkj#ih           #####            hgfedcba"
-    ∷ codes "      .                                      "
-    ∷ codes "      #                                      "
-    ∷ codes "      .                                      "
-    ∷ codes "      #                                      "
-    ∷ codes "      .                                      "
-    ∷ codes "      #                                      "
-    ∷ codes "      .                                      "
-    ∷ codes "      #                                      "
-    ∷ codes "      .                                      "
-    ∷ codes "      #                                      "
-    ∷ codes "      .                                      "
-    ∷ codes "    #####           #####           #####    "
-    ∷ codes "    #...#           #...#           #...#    "
-    ∷ codes "    #.#.#           #.#.#           #.#.#    "
-    ∷ codes "    #...#           #...#           #...#    "
-    ∷ codes "    #####           #####           #####    "
-    ∷ codes "      .                                      "
-    ∷ codes "      #                                      "
-    ∷ codes "      .                                      "
-    ∷ codes "      #                                      "
-    ∷ codes "      .                                      "
-    ∷ codes "      #                                      "
-    ∷ codes "      .                                      "
-    ∷ codes "      #                                      "
-    ∷ codes "      .                                      "
-    ∷ codes "ADGJMP#                                      "
-    ∷ codes "BEHKNQ.                                      "
-    ∷ codes "CFILOR#             #####           #####    "
-    ∷ codes "........#           #...#           #...#    "
-    ∷ codes "#######.i           #.#.#           #.#.#    "
-    ∷ codes "#.....#.j           #...#           #...#    "
-    ∷ codes "#.###.#.k           #####           #####    "
-    ∷ codes "#.###.#.l                                    "
-    ∷ codes "#.###.#.m                                    "
-    ∷ codes "#.....#.n                                    "
-    ∷ codes "#######.o                                    "
-    ∷ []
-unfolding letters
-letters_of_version_7 = refl
-
--- the highest version with no version information
-none_in_version_6 : map (λ (p : ℕ × ℕ). role 6 p.0 p.1) ((30, 0) ∷ (32, 5) ∷ (0, 30) ∷ (5, 32) ∷ []) ≡
-    replicate 4 None
-unfolding role
-none_in_version_6 = refl
 
 -- ---- a symbol of version 2 at level Q under mask 5, as Zint draws it (`zint -b 58 --vers=2 --secure=3 --mask=5 --verbose
 -- --dump -d "WRONG MODULES"`)
@@ -189,12 +56,6 @@ ranks_in_version_1 : ranks 1 (
 unfolding ranks rank key is_free role
 ranks_in_version_1 = refl
 
-ranks_in_version_7 : ranks 7 (
-    (44, 44) ∷ (43, 44) ∷ (39, 11) ∷ (40, 10) ∷ (32, 42) ∷ (26, 21) ∷ (18, 30) ∷ (10, 3) ∷ (0, 33) ∷ []) ≡
-    0 ∷ 1 ∷ 191 ∷ 192 ∷ 400 ∷ 700 ∷ 1000 ∷ 1300 ∷ 1567 ∷ []
-unfolding ranks rank key is_free role
-ranks_in_version_7 = refl
-
 -- the walk has all modules but for column 6, in this order
 keys : map (λ (p : ℕ × ℕ). key 21 p.0 p.1) (walk 21) ≡ range_with_len 0 420
 unfolding key walk
@@ -212,22 +73,16 @@ unfolding rows codewords modules_of read_matrix xor total_codewords read_format 
     binary_remainder
 reading = refl
 
--- the symbol with a module changed: a finder pattern, a separator, a timing pattern, an alignment pattern, the dark
--- module, and the format information in either copy
+-- the symbol with a module changed: the first one that is placed, which is the high bit of the first codeword, with no
+-- correction; a finder pattern, a separator, a timing pattern, an alignment pattern, the dark module, and the format
+-- information in either copy
 no_readings : map (λ (p : ℕ × ℕ). read_matrix 25 (modules_of (changed rows p))) (
-    (3, 3) ∷ (7, 0) ∷ (10, 6) ∷ (18, 18) ∷ (8, 17) ∷ (8, 0) ∷ (24, 8) ∷ []) ≡ replicate 7 None
-unfolding rows modules_of changed read_matrix xor total_codewords read_format shows_version
-    shows_functions read_bits walk codewords_of number_of fixed_module role is_free is_flipped format_information version_information
-    binary_remainder
-no_readings = refl
-
--- the first module that is placed is the high bit of the first codeword, with no correction
-another_codeword : read_matrix 25 (modules_of (changed rows (24, 24)))
-    ≡ Some (record { version = 2; level = Q; codewords = slice_set codewords 0 160 })
+    (24, 24) ∷ (3, 3) ∷ (7, 0) ∷ (10, 6) ∷ (18, 18) ∷ (8, 17) ∷ (8, 0) ∷ (24, 8) ∷ []) ≡
+    Some (record { version = 2; level = Q; codewords = slice_set codewords 0 160 }) ∷ replicate 7 None
 unfolding rows codewords modules_of changed read_matrix xor total_codewords read_format shows_version
     shows_functions read_bits walk codewords_of number_of fixed_module role is_free is_flipped format_information version_information
     binary_remainder
-another_codeword = refl
+no_readings = refl
 
 -- no version has this side
 no_sides : map (λ n. read_matrix n (modules_of rows)) (24 ∷ 26 ∷ 17 ∷ 61 ∷ []) ≡ replicate 4 None
@@ -238,27 +93,19 @@ no_sides = refl
 shown : List (ℕ × ℕ) → List Bool
 shown places = map (λ p. shows_functions 2 Q 5 (modules_of (changed rows p))) places
 
--- each ring of the three finder patterns and their separators
-finders_changed : shown (
+-- each ring of the three finder patterns and their separators; then dark and light modules of the timing patterns, each
+-- ring of the alignment pattern, and the dark module; then modules of codewords
+modules_changed : shown (
     (3, 3) ∷ (2, 3) ∷ (1, 3) ∷ (0, 3) ∷ (7, 3) ∷ (3, 7) ∷ (0, 0) ∷ (6, 6) ∷ (7, 7) ∷ (21, 3) ∷ (21, 2) ∷ (21, 5) ∷
     (24, 3) ∷ (17, 3) ∷ (21, 7) ∷ (24, 0) ∷ (17, 7) ∷ (3, 21) ∷ (4, 21) ∷ (5, 21) ∷ (3, 24) ∷ (3, 17) ∷ (7, 21) ∷ (
       0,
       24,
-    ) ∷ (7, 17) ∷ []) ≡ replicate 25 false
+    ) ∷ (7, 17)
+    ∷ (8, 6) ∷ (9, 6) ∷ (16, 6) ∷ (6, 8) ∷ (6, 11) ∷ (6, 16) ∷ (18, 18) ∷ (17, 18) ∷ (18, 19) ∷ (16, 18) ∷ (18, 20) ∷
+    (20, 20) ∷ (16, 16) ∷ (8, 17) ∷ (24, 24) ∷ (12, 12) ∷ (9, 0) ∷ (0, 9) ∷ (15, 18) ∷ []) ≡
+    replicate 39 false ++ replicate 5 true
 unfolding shown rows modules_of changed shows_functions fixed_module role format_information binary_remainder
-finders_changed = refl
-
--- dark and light modules of the timing patterns, each ring of the alignment pattern, and the dark module
-patterns_changed : shown (
-    (8, 6) ∷ (9, 6) ∷ (16, 6) ∷ (6, 8) ∷ (6, 11) ∷ (6, 16) ∷ (18, 18) ∷ (17, 18) ∷ (18, 19) ∷ (16, 18) ∷ (18, 20) ∷
-    (20, 20) ∷ (16, 16) ∷ (8, 17) ∷ []) ≡ replicate 14 false
-unfolding shown rows modules_of changed shows_functions fixed_module role format_information binary_remainder
-patterns_changed = refl
-
--- modules of codewords
-codewords_changed : shown ((24, 24) ∷ (12, 12) ∷ (9, 0) ∷ (0, 9) ∷ (15, 18) ∷ []) ≡ replicate 5 true
-unfolding shown rows modules_of changed shows_functions fixed_module role format_information binary_remainder
-codewords_changed = refl
+modules_changed = refl
 
 -- another level or mask than that of the format information, and another version
 not_as_told : (map (λ level. shows_functions 2 level 5 (modules_of rows)) (L ∷ M ∷ Q ∷ H ∷ []) ≡
@@ -312,9 +159,10 @@ unfolding format rows copies changed laid
 formats_of_levels = refl
 
 -- the modules of two copies of version information in version 7: bit i is in row i / 3 above and in column i / 3 at the
--- left (ISO/IEC 18004, 7.10)
+-- left (ISO/IEC 18004, 7.10), all others dark
 with_versions : ℕ → ℕ → ℕ → ℕ → Bool
-with_versions above left x y = if nat_lt y 6 then bit above (3 * y + (x - 34)) else bit left (3 * x + (y - 34))
+with_versions above left x y =
+    if nat_lt y 6 then bit above (3 * y + (x - 34)) else if nat_lt x 6 then bit left (3 * x + (y - 34)) else true
 
 shows : ℕ → ℕ → Bool
 unfolding shows_version number_of binary_remainder

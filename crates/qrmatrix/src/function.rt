@@ -64,12 +64,14 @@ fn finders(n: usize, y: usize) -> PatternRow
     requires row { y < n }
     ensures { result ≡ FunctionRows.finders n y }
 {
+    let right = n - 8;
     if y < 8 {
+        let row = FINDER[y];
         PatternRow {
-            taken: 0xFF | (0xFF << (n - 8)),
-            dark: FINDER[y] | (FINDER[y] << (n - 7)),
+            taken: 0xFF | (0xFF << right),
+            dark: row | (row << (right + 1)),
         }
-    } else if n - 8 <= y {
+    } else if right <= y {
         PatternRow {
             taken: 0xFF,
             dark: FINDER[n - 1 - y],
@@ -172,17 +174,18 @@ fn formats(n: usize, y: usize) -> PatternRow
     requires { (21 ≤ n) × (n ≤ SIDE) }
     ensures { result ≡ FunctionRows.formats n y }
 {
+    let last = n - 8;
     if y == 8 {
         PatternRow {
-            taken: 0x1FF | (0xFF << (n - 8)),
+            taken: 0x1FF | (0xFF << last),
             dark: 0,
         }
-    } else if y == n - 8 {
+    } else if y == last {
         PatternRow {
             taken: 1 << 8,
             dark: 1 << 8,
         }
-    } else if y < 8 || n - 8 < y {
+    } else if y < 8 || last < y {
         PatternRow {
             taken: 1 << 8,
             dark: 0,
@@ -210,19 +213,20 @@ fn every_third(information: u64) -> u64
 fn versions(version: Version, y: usize) -> PatternRow
     ensures { result ≡ FunctionRows.versions version y }
 {
-    let n = version.side();
     if version.number() < 7 {
-        NONE
-    } else if y < 6 {
-        let three = (u64::from(version_information(version)) >> (3 * y)) & 7;
+        return NONE;
+    }
+    let first = version.side() - 11;
+    let information = u64::from(version_information(version));
+    if y < 6 {
         PatternRow {
-            taken: 7 << (n - 11),
-            dark: three << (n - 11),
+            taken: 7 << first,
+            dark: ((information >> (3 * y)) & 7) << first,
         }
-    } else if n - 11 <= y && y < n - 8 {
+    } else if first <= y && y < first + 3 {
         PatternRow {
             taken: 0b111111,
-            dark: every_third(u64::from(version_information(version)) >> (y - (n - 11))),
+            dark: every_third(information >> (y - first)),
         }
     } else {
         NONE

@@ -3,6 +3,7 @@ use Rattle.std.specs.Prelude.{bit_and, nat_lt}
 use Rattle.std.specs.Int.{bit_not, w64}
 use Rattle.std.proofs.lemmas.Bool.{cases_lt}
 use Rattle.std.proofs.lemmas.Bool.Decides.{nat_tests}
+use Rattle.std.proofs.lemmas.Nat.{and_le_l}
 use Rattle.qrmatrix.specs.Bits.{bit}
 use Rattle.qrdata.specs.Versions.{side_of}
 use Rattle.qrmatrix.specs.Private.Drawing.{unmasked_module}
@@ -17,6 +18,10 @@ loop-y-init c = record {
   free = λ x y. grind (arith, nat_tests);
   modules = λ x y. grind (arith, nat_tests);
 }
+
+pub flip-requires-clause-row_bits : goal.flip-requires-clause-row_bits
+flip-requires-clause-row_bits c =
+    omega (arith, c.low_ones.ensures.bound, and_le_l c.low_ones.result (bit_not w64 c.function_row-row.result.taken))
 
 pub flip-requires-in-loop-y-clause-row_bits : goal.flip-requires-in-loop-y-clause-row_bits
 flip-requires-in-loop-y-clause-row_bits c = fits c.args.version c.function_row-row.result.dark c.side-n.ensures.known.1
