@@ -14,7 +14,7 @@ use crate::limits::MAX_VALUES;
 use arrayvec::ArrayVec;
 
 /// A code set of Code 128: A has the control characters, B the lower case, and C pairs of digits.
-#[derive(Clone, Copy, PartialEq, Eq)]
+#[derive(Clone, Copy)]
 pub enum CodeSet {
     A,
     B,
@@ -150,8 +150,9 @@ fn push_pair(values: &mut Values, set: CodeSet, first: u8, second: u8)
     requires room { array_vec_len values.old + 2 ≤ MAX_VALUES }
     ensures { Appends values.old.items values.new.items (pair_values set first second) 2 }
 {
-    if set != CodeSet::C {
-        values.push(change_value(CodeSet::C));
+    match set {
+        CodeSet::C => {}
+        _ => values.push(change_value(CodeSet::C)),
     }
     values.push((first - b'0') * 10 + (second - b'0'));
 }
