@@ -1,5 +1,5 @@
-use Rattle.std.proofs.Common.{◌≡◌, ◌++◌, ◌<◌, ◌∷◌, ℕ, Bool, true, List, All, drop, sym, ap, ◌∙◌, append_assoc, length, subst, arith}
-use Rattle.std.proofs.Common.{length-drop}
+use Rattle.std.proofs.Common.{◌≡◌, ◌++◌, ◌<◌, ◌∷◌, ℕ, Bool, true, List, All, drop}
+use Rattle.std.proofs.Common.{sym, ap, ◌∙◌, append_assoc, length, subst, arith, length-drop}
 use Rattle.std.proofs.lemmas.List.{take_rest}
 use Rattle.std.proofs.lemmas.List.Elements.{All-drop}
 use Rattle.linear.specs.CodeSets.{is_pair_next, data_values}
