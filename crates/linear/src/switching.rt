@@ -9,11 +9,12 @@ ghost use Rattle.linear.specs.CodeSets.{byte_values, data_values, start_set};
 ghost use Rattle.linear.specs.Private.Data.{IsCode128Data};
 ghost use Rattle.linear.specs.Private.Lists.{Appends};
 
+use crate::digits::first_not_digit;
 use crate::limits::MAX_VALUES;
 use arrayvec::ArrayVec;
 
 /// A code set of Code 128: A has the control characters, B the lower case, and C pairs of digits.
-#[derive(Clone, Copy, PartialEq, Eq)]
+#[derive(Clone, Copy)]
 pub enum CodeSet {
     A,
     B,
@@ -27,27 +28,36 @@ pub type Values = ArrayVec<u8, MAX_VALUES>;
 const SHIFT: u8 = 98;
 
 /// Returns the number of digits that the bytes begin with.
+#[tactic(auto, using(crate::proofs::DigitLaws::of_leading_digits))]
 fn leading_digits(bytes: &[u8]) -> usize
     ensures { result ≡ leading_digits bytes.now }
 {
-    bytes
-        .iter()
-        .take_while(|byte| byte.is_ascii_digit())
-        .count()
+    match first_not_digit(bytes) {
+        Some(index) => index,
+        None => bytes.len(),
+    }
 }
 
 /// Returns the first byte that only one of sets A and B has.
 fn next_special_byte(bytes: &[u8]) -> Option<u8>
     ensures { result ≡ find (λ byte. nat_lt byte 32 || nat_le 96 byte) bytes.now }
 {
-    bytes.iter().copied().find(|byte| *byte < 32 || *byte >= 96)
+    for byte in bytes {
+        if *byte < 32 || *byte >= 96 {
+            return Some(*byte);
+        }
+    }
+    None
 }
 
 /// Returns whether the next byte that only one of sets A and B has is of this set.
 fn is_next(set: CodeSet, bytes: &[u8]) -> bool
     ensures { result ≡ is_next set bytes.now }
 {
-    next_special_byte(bytes).is_some_and(|byte| set_has(set, byte))
+    match next_special_byte(bytes) {
+        Some(byte) => set_has(set, byte),
+        None => false,
+    }
 }
 
 /// Returns the one of sets A and B to change to for these bytes.
@@ -141,8 +151,9 @@ fn push_pair(values: &mut Values, set: CodeSet, first: u8, second: u8)
     requires room { array_vec_len values.old + 2 ≤ MAX_VALUES }
     ensures { Appends values.old.items values.new.items (pair_values set first second) 2 }
 {
-    if set != CodeSet::C {
-        values.push(change_value(CodeSet::C));
+    match set {
+        CodeSet::C => {}
+        _ => values.push(change_value(CodeSet::C)),
     }
     values.push((first - b'0') * 10 + (second - b'0'));
 }

@@ -1,6 +1,9 @@
 use Rattle.std.proofs.Common.{◌≡◌, ◌-◌, ◌<◌, ℕ, List, ◌∷◌, length, get_or, take, drop, drop-cons, refl, sym, subst}
-use Rattle.std.proofs.Common.{arith}
+use Rattle.std.proofs.Common.{arith, length-drop}
+use Rattle.std.specs.Char.{IsAsciiDigit}
 use Rattle.std.proofs.lemmas.List.{take_rest}
+use Rattle.std.proofs.lemmas.List.Elements.{All-drop}
+use Rattle.linear.specs.Private.Data.{AreDigits}
 use Rattle.linear.specs.Private.Lists.{Appends}
 use Rattle.linear.specs.Ean.{ean13_row}
 use Rattle.linear.specs.EanReading.{read_ean13}
@@ -11,6 +14,16 @@ use Rattle.linear.proofs.ean.Ean13Linear.encode.Goals as goal
 first_and_rest : (full one two : List ℕ) → one ≡ full → two ≡ full → 0 < length full
     → get_or one 0 0 ∷ take (length two - 1) (drop 1 two) ≡ full
 first_and_rest full one two e f some = rw (e, f, take_rest full 1) (sym (drop-cons full 0 0 some))
+
+-- the others are digits
+rest_digits : (full two : List ℕ) → two ≡ full → AreDigits 13 full → AreDigits 12 (take (length two - 1) (drop 1 two))
+rest_digits full two e d = rw (e, take_rest full 1) (record {
+  long = omega (arith, length-drop 1 full, d.long);
+  digits = All-drop IsAsciiDigit 1 full d.digits;
+})
+
+pub push_ean13-requires-clause-rest : goal.push_ean13-requires-clause-rest
+push_ean13-requires-clause-rest c = rest_digits _ _ c.deref-2.ensures.0 c.in_ok-full.ensures.full.digits
 
 pub returns-clause-drawn : goal.returns-clause-drawn
 returns-clause-drawn c =
