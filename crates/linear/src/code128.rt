@@ -105,12 +105,7 @@ fn check_data(data: &[u8]) -> Result<(), Refusal>
 fn first_not_ascii(bytes: &[u8]) -> Option<usize>
     ensures { result ≡ position (λ byte. nat_le 128 byte) bytes.now }
 {
-    for (index, byte) in bytes.iter().enumerate() {
-        if *byte >= 128 {
-            return Some(index);
-        }
-    }
-    None
+    bytes.iter().position(|byte| *byte >= 128)
 }
 
 /// Code 128 (ISO/IEC 15417): 1 to 80 ASCII bytes, drawn as at most 1,795 modules.

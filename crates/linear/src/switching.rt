@@ -32,22 +32,14 @@ const SHIFT: u8 = 98;
 fn leading_digits(bytes: &[u8]) -> usize
     ensures { result ≡ leading_digits bytes.now }
 {
-    match first_not_digit(bytes) {
-        Some(index) => index,
-        None => bytes.len(),
-    }
+    first_not_digit(bytes).unwrap_or(bytes.len())
 }
 
 /// Returns the first byte that only one of sets A and B has.
 fn next_special_byte(bytes: &[u8]) -> Option<u8>
     ensures { result ≡ find (λ byte. nat_lt byte 32 || nat_le 96 byte) bytes.now }
 {
-    for byte in bytes {
-        if *byte < 32 || *byte >= 96 {
-            return Some(*byte);
-        }
-    }
-    None
+    bytes.iter().copied().find(|byte| *byte < 32 || *byte >= 96)
 }
 
 /// Returns whether the next byte that only one of sets A and B has is of this set.
@@ -151,9 +143,8 @@ fn push_pair(values: &mut Values, set: CodeSet, first: u8, second: u8)
     requires room { array_vec_len values.old + 2 ≤ MAX_VALUES }
     ensures { Appends values.old.items values.new.items (pair_values set first second) 2 }
 {
-    match set {
-        CodeSet::C => {}
-        _ => values.push(change_value(CodeSet::C)),
+    if !matches!(set, CodeSet::C) {
+        values.push(change_value(CodeSet::C));
     }
     values.push((first - b'0') * 10 + (second - b'0'));
 }

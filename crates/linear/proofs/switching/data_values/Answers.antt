@@ -1,10 +1,9 @@
-use Rattle.std.proofs.Common.{◌≡◌, ◌++◌, ◌<◌, ◌∷◌, ℕ, Bool, true, List, All, drop}
-use Rattle.std.proofs.Common.{sym, ap, ◌∙◌, append_assoc, length, subst, arith, length-drop}
+use Rattle.std.proofs.Common.{◌≡◌, ◌++◌, ◌<◌, ℕ, List, All, drop, sym, ap, ◌∙◌, append_assoc, length, subst, arith}
+use Rattle.std.proofs.Common.{length-drop}
 use Rattle.std.proofs.lemmas.List.{take_rest}
 use Rattle.std.proofs.lemmas.List.Elements.{All-drop}
 use Rattle.linear.specs.CodeSets.{is_pair_next, data_values}
-use Rattle.linear.specs.declared.switching.CodeSet.{CodeSet}
-use Rattle.linear.proofs.CodeSetLaws.{PairFirst, pair_first, byte_first}
+use Rattle.linear.proofs.CodeSetLaws.{pair_first, byte_first}
 use Rattle.linear.proofs.switching.data_values.Goals as goal
 
 -- the first values of those that are left are written; three of the lists are found from the hypotheses, which a turn
@@ -14,21 +13,6 @@ written_more : (before first rest : List ℕ) {now left all : List ℕ} → now 
 written_more before first rest written cut whole = ap (λ ys. ys ++ rest) written ∙ append_assoc before first rest
     ∙ ap (λ ys. before ++ ys) (sym cut) ∙ whole
 
--- a pair comes first, as the loop found
-pair_here : (set : CodeSet) (first : ℕ) (after : List ℕ) {left : List ℕ} {is : Bool} → left ≡ first ∷ after
-    → is ≡ is_pair_next set left → is ≡ true → PairFirst set first after
-pair_here set first after cut is next = pair_first set first after (ap (is_pair_next set) (sym cut) ∙ sym is ∙ next)
-
-pub push_pair-requires-clause-first : goal.push_pair-requires-clause-first
-push_pair-requires-clause-first c =
-    (pair_here c.loop-first.set c.in-Some.first.now c.in-Some.after.now c.in-Some.ensures.cases.0 c.is_pair_next.ensures
-    c.if-is_pair_next.true).first
-
-pub push_pair-requires-clause-second : goal.push_pair-requires-clause-second
-push_pair-requires-clause-second c =
-    (pair_here c.loop-first.set c.in-Some.first.now c.in-Some.after.now c.in-Some.ensures.cases.0 c.is_pair_next.ensures
-    c.if-is_pair_next.true).second
-
 pub push_byte-set-requires-clause-ascii : goal.push_byte-set-requires-clause-ascii
 push_byte-set-requires-clause-ascii c =
     subst (All (λ byte. byte < 128)) c.in-Some.ensures.cases.0 c.loop-first.invariant.ascii 0 0 (omega arith)
@@ -37,7 +21,8 @@ pub loop-first-preserved-then-is_pair_next : goal.loop-first-preserved-then-is_p
 loop-first-preserved-then-is_pair_next c =
     let set = c.loop-first.set in
     let cut = c.in-Some.ensures.cases.0 in
-    let p = pair_here set c.in-Some.first.now c.in-Some.after.now cut c.is_pair_next.ensures c.if-is_pair_next.true in
+    let p = pair_first set c.in-Some.first.now c.in-Some.after.now
+    (ap (is_pair_next set) (sym cut) ∙ sym c.is_pair_next.ensures ∙ c.if-is_pair_next.true) in
     rw (take_rest c.in-Some.after.now 1) (record {
       room = omega (arith, ap length cut, p.within, length-drop 1 c.in-Some.after.now);
       ascii = subst (All (λ byte. byte < 128)) (ap (drop 2) cut)
