@@ -3,7 +3,7 @@ ghost use Rattle.qrdata.specs.Private.Blocks.{place_of};
 ghost use Rattle.std.specs.Prelude.{◌≡◌};
 
 /// The error correction level of a symbol: about 7, 15, 25 or 30 % of its codewords can be restored.
-#[derive(Clone, Copy, Debug, PartialEq, Eq, Drop)]
+#[derive(Clone, Copy, PartialEq, Eq, Drop)]
 pub enum Level {
     L,
     M,

@@ -5,7 +5,7 @@ ghost use Rattle.std.specs.Prelude.{◌≡◌, ◌<◌, ◌≤◌};
 use crate::version::Version;
 
 /// How the bytes of a segment are written.
-#[derive(Clone, Copy, Debug, Default, PartialEq, Eq)]
+#[derive(Clone, Copy, Default, PartialEq, Eq)]
 pub enum Mode {
     /// Digits: three in ten bits.
     #[default]
@@ -17,7 +17,7 @@ pub enum Mode {
 }
 
 /// A segment of the data: a mode and a number of bytes.
-#[derive(Clone, Copy, Debug, Default, PartialEq, Eq)]
+#[derive(Clone, Copy, Default, PartialEq, Eq)]
 pub struct Segment {
     /// How the bytes are written.
     pub mode: Mode,

@@ -94,7 +94,7 @@ impl<'a> Plan<'a> {
 }
 
 /// No version from the lowest one to 10 holds the data at this level.
-#[derive(Clone, Copy, Debug, PartialEq, Eq, Drop)]
+#[derive(Clone, Copy, PartialEq, Eq, Drop)]
 pub struct DoesNotFit {
     /// The level that was asked for.
     pub level: Level,

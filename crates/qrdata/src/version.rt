@@ -43,7 +43,7 @@ const EC_CODEWORDS: [[usize; 4]; 10] = [
 ];
 
 /// A version of a symbol, 1 to 10. Clauses see it as that number.
-#[derive(Clone, Copy, Debug, PartialEq, Eq, Drop)]
+#[derive(Clone, Copy, PartialEq, Eq, Drop)]
 pub struct Version {
     number: u8,
 }
