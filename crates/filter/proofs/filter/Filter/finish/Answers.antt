@@ -1,3 +1,4 @@
+use Rattle.std.proofs.Common.{true≢false}
 use Rattle.filter.proofs.Words.{◌≡◌, ◌∙◌, [], ◌∷◌, ap, refl, subst, sym, err_from_is_err_and, FilterState, IfOk, Status}
 use Rattle.filter.proofs.Words.{flushes, status_of, taken}
 use Rattle.filter.proofs.FilterLaws.{status_of-flushes}
@@ -7,12 +8,12 @@ use Rattle.filter.proofs.filter.Filter.finish.Goals as goal
 
 pub returns-then-self : goal.returns-then-self
 returns-then-self g c =
-    let same : c.self.inside.is_spent ≡ c.args.self.is_spent = ap (λ (s : FilterState). s.is_spent) c.self.view_is in
+    let spent = sym c.if-self.true ∙ ap (λ (s : FilterState). s.is_spent) c.self.view_is in
     record {
-      sends = λ options text at. let not_spent = at.is_spent in cc;
+      sends = λ options text at. absurd (true≢false (spent ∙ at.is_spent));
       status = λ options text at. tt;
       flushed = (λ other e. e, λ e. e);
-      counts = λ not_spent. cc;
+      counts = λ not_spent. absurd (true≢false (spent ∙ not_spent));
       spent = λ e. (refl, refl, refl);
     }
 
@@ -28,7 +29,7 @@ returns-in_err-end_open_line g c =
       status = λ options text at. tt;
       flushed = (λ other. call.sinks.out_unflushed, call.sinks.err_unflushed);
       counts = λ e. call.sinks.counts;
-      spent = λ spent. cc;
+      spent = λ spent. absurd (true≢false (sym spent ∙ isnt));
     })
 
 pub returns : goal.returns
@@ -47,5 +48,5 @@ returns g c =
           ∙ (sym (status_of-flushes _) ∙ ap status_of (sym h.1)))) flush.status;
       flushed = FlushesImagesFirst-after before.sinks _ _ r flush.flushed;
       counts = λ e. CountsFault-after before.sinks _ _ r flush.counts;
-      spent = λ spent. cc;
+      spent = λ spent. absurd (true≢false (sym spent ∙ isnt));
     }
