@@ -25,3 +25,13 @@ slice_bounds-write_piece-end g c = grind (arith, elements)
 
 pub write_piece-requires-clause-whole : goal.write_piece-requires-clause-whole
 write_piece-requires-clause-whole g c = grind (arith, elements)
+
+pub read_piece-requires-clause-in_width : goal.read_piece-requires-clause-in_width
+read_piece-requires-clause-in_width g c =
+    let some = length-take-le c.min-len.result (replicate 80 false) (omega arith) in
+    omega (arith, some, c.width-width.ensures)
+
+pub read_piece-requires-clause-fits : goal.read_piece-requires-clause-fits
+read_piece-requires-clause-fits g c =
+    let some = length-take-le c.min-len.result (replicate 80 false) (omega arith) in
+    omega (arith, some, c.width-width.ensures)
