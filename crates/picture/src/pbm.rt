@@ -16,7 +16,6 @@ use itoa::Buffer;
 /// # Errors
 ///
 /// The sink's error. A beginning of the file is written then.
-#[tactic(auto, using(crate::proofs::PbmLaws::read_back))]
 pub fn write_pbm<G: Grid, S: Sink>(grid: &G, sink: &mut S) -> Result<(), IoFault>
     ensures writes { WritesText S.Sink sink.old sink.new (pbm_text (G.picture grid.now)) result }
     // The text, read back, has the grid's pixels.

@@ -17,8 +17,8 @@ returns-in_err-write_piece g c =
     let row = take c.args.width c.args.kept.now in
     let text : ℕ → List ℕ = λ k. g.T.PixelText.text (piece row k) in
     let size : length row ≡ c.args.width = length-take-le c.args.width c.args.kept.now (omega arith) in
-    let held = piece_held c.args.kept.now c.args.width k c.min.result (omega arith) (omega arith)
-    (omega arith) in
+    let held = piece_held c.args.kept.now c.args.width k c.min.result (omega arith) c.requires
+    c.min.ensures in
     WritesText-below_fails g.S.Sink g.met.S.Sink.took_joined text _ _ _ k _ _
     (below_more text k _ (ap g.T.PixelText.text held)) c.loop-k.invariant.written (div_ceil (length row) 70)
     g.T.PixelText.row_end _ c.from_residual.result c.from_residual.ensures.0 (omega arith) refl
@@ -28,8 +28,8 @@ pub loop-k-preserved : goal.loop-k-preserved
 loop-k-preserved g c =
     let k = c.loop-k.k in
     let text : ℕ → List ℕ = λ k. g.T.PixelText.text (piece (take c.args.width c.args.kept.now) k) in
-    let held = piece_held c.args.kept.now c.args.width k c.min.result (omega arith) (omega arith)
-    (omega arith) in
+    let held = piece_held c.args.kept.now c.args.width k c.min.result (omega arith) c.requires
+    c.min.ensures in
     record {
       written = HasWritten-below_more g.S.Sink g.met.S.Sink.took_joined text _ _ _ k _ _
           (below_more text k _ (ap g.T.PixelText.text held)) c.loop-k.invariant.written c.in_ok-write_piece.ensures;

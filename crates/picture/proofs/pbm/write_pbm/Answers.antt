@@ -1,7 +1,8 @@
-use Rattle.std.proofs.Common.{[], refl, flat_map}
+use Rattle.std.proofs.Common.{[], refl, arith, flat_map}
 use Rattle.device.proofs.WritingLaws.{HasWritten-call, WritesText-begun, WritesText-last}
 use Rattle.picture.specs.Private.Rows.{rows_text}
 use Rattle.picture.specs.Text.{pbm_piece, pbm_row, below}
+use Rattle.picture.proofs.PbmLaws.{read_back}
 use Rattle.picture.proofs.WritingLaws.{pbm_rows}
 use Rattle.picture.proofs.pbm.write_pbm.Goals as goal
 
@@ -24,3 +25,11 @@ returns-clause-writes g c =
       c.height.ensures,
       pbm_rows p (below p.height),
     ) refl) (HasWritten-call g.S.Sink _ _ _ c.in_ok-write_whole.ensures) c.write_rows.ensures
+
+pub returns-in_err-write_whole-clause-read : goal.returns-in_err-write_whole-clause-read
+returns-in_err-write_whole-clause-read g c some =
+    read_back _ c.width.result c.height.result some c.width.ensures (omega arith) c.height.ensures (omega arith)
+
+pub returns-clause-read : goal.returns-clause-read
+returns-clause-read g c some =
+    read_back _ c.width.result c.height.result some c.width.ensures (omega arith) c.height.ensures (omega arith)

@@ -1,6 +1,7 @@
 use Rattle.std.proofs.Common.{◌≡◌, ◌*◌, ◌∙◌, ℕ, Bool, false, map, drop, length, ap, arith}
 use Rattle.std.specs.List.{range_with_len}
 use Rattle.std.proofs.Math.ListN.{replicate}
+use Rattle.std.proofs.lemmas.Grind.{elements}
 use Rattle.std.proofs.lemmas.List.{length-take-le, take_at}
 use Rattle.std.proofs.lemmas.List.FromFn.{length-map-range_with_len}
 use Rattle.picture.proofs.WritingLaws.{piece_asked}
@@ -18,3 +19,19 @@ returns g c =
     rw (take_at row (drop n (replicate 80 false)) n size ∙ asked
     ∙ piece_asked dark p.width c.args.k n c.requires.in_width (omega (arith, c.width-width.ensures)))
     at c.write_piece.ensures
+
+pub slice_bounds-write_piece-end : goal.slice_bounds-write_piece-end
+slice_bounds-write_piece-end g c = grind (arith, elements)
+
+pub write_piece-requires-clause-whole : goal.write_piece-requires-clause-whole
+write_piece-requires-clause-whole g c = grind (arith, elements)
+
+pub read_piece-requires-clause-in_width : goal.read_piece-requires-clause-in_width
+read_piece-requires-clause-in_width g c =
+    let some = length-take-le c.min-len.result (replicate 80 false) (omega arith) in
+    omega (arith, some, c.width-width.ensures)
+
+pub read_piece-requires-clause-fits : goal.read_piece-requires-clause-fits
+read_piece-requires-clause-fits g c =
+    let some = length-take-le c.min-len.result (replicate 80 false) (omega arith) in
+    omega (arith, some, c.width-width.ensures)
