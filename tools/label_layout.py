@@ -52,7 +52,7 @@ SYMBOLOGIES = {
 
 # a rectangle in which a part of a label may have ink
 Box = NamedTuple("Box", [("left", int), ("top", int), ("width", int), ("height", int)])
-# a way to lay out labels: where the price is, bars from so many millimetres on, lines of the title
+# a way to lay out labels: module, place of the price, lowest bars in mm, lines of the title, size of the price
 Way = NamedTuple("Way", [("module", int), ("is_beside", bool), ("bars", float), ("lines", int), ("price_size", int)])
 # a way, and the boxes of the parts of a label from the left upper corner of the area in which its cell takes ink
 Layout = NamedTuple("Layout", [("way", Way), ("symbology", Symbology), ("boxes", dict[str, Box])])

@@ -10,10 +10,10 @@ pub returns-then-self : goal.returns-then-self
 returns-then-self g c =
     let spent = sym c.if-self.true ∙ ap (λ (s : FilterState). s.is_spent) c.self.view_is in
     record {
-      sends = λ options text at. absurd (true≢false (spent ∙ at.is_spent));
+      sends = λ options text at. elim (true≢false (spent ∙ at.is_spent)) [ ];
       status = λ options text at. tt;
       flushed = (λ other e. e, λ e. e);
-      counts = λ not_spent. absurd (true≢false (spent ∙ not_spent));
+      counts = λ not_spent. elim (true≢false (spent ∙ not_spent)) [ ];
       spent = λ e. (refl, refl, refl);
     }
 
@@ -29,7 +29,7 @@ returns-in_err-end_open_line g c =
       status = λ options text at. tt;
       flushed = (λ other. call.sinks.out_unflushed, call.sinks.err_unflushed);
       counts = λ e. call.sinks.counts;
-      spent = λ spent. absurd (true≢false (sym spent ∙ isnt));
+      spent = λ spent. elim (true≢false (sym spent ∙ isnt)) [ ];
     })
 
 pub returns : goal.returns
@@ -48,5 +48,5 @@ returns g c =
           ∙ (sym (status_of-flushes _) ∙ ap status_of (sym h.1)))) flush.status;
       flushed = FlushesImagesFirst-after before.sinks _ _ r flush.flushed;
       counts = λ e. CountsFault-after before.sinks _ _ r flush.counts;
-      spent = λ spent. absurd (true≢false (sym spent ∙ isnt));
+      spent = λ spent. elim (true≢false (sym spent ∙ isnt)) [ ];
     }
