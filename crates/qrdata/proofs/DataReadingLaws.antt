@@ -21,7 +21,7 @@ use Rattle.qrdata.specs.Codewords.{data_codewords_of, split_by, symbol_codewords
 use Rattle.qrdata.specs.Reading.{data_in, deinterleaving, has_roots, segments_at}
 use Rattle.qrdata.specs.Segments.{IsSegmentation, cost, segments_bits}
 use Rattle.qrdata.specs.Private.Blocks.{block_count}
-use Rattle.qrdata.specs.Versions.{block_lengths, data_codewords, ec_codewords_per_block, total_codewords}
+use Rattle.qrdata.specs.Versions.{IsVersion, block_lengths, data_codewords, ec_codewords_per_block, total_codewords}
 use Rattle.qrdata.proofs.BitStringLaws.{drop_front, number_of-lt, take_front}
 use Rattle.qrdata.proofs.BlockLaws.{length-interleaving, length-split_by, split_joined, split_lengths}
 use Rattle.qrdata.proofs.InterleavingLaws.{Blocks, deinterleaving-interleaving}
@@ -215,3 +215,36 @@ pub length-read : (version : ℕ) (level : Level) (codewords bytes : List ℕ) �
 unfolding data_in
 length-read version level codewords bytes h = eqb-true (length codewords) (total_codewords version)
     (both_pass _ _ _ bytes h)
+
+-- the message is cut into at most 8 blocks, which fit a symbol with their error correction codewords
+pub record HasBlocks (version : ℕ) (level : Level) (message : List ℕ) : Type 0 where
+  pub count : length (block_lengths version level) ≡ block_count version level
+  pub whole : sum (block_lengths version level) ≡ length message
+  pub ec_blocks : length (flat_map (ec_codewords_of (ec_codewords_per_block version level))
+      (split_by (block_lengths version level) message))
+      ≡ block_count version level * ec_codewords_per_block version level
+  pub cut : split_by (replicate (length (block_lengths version level)) (ec_codewords_per_block version level))
+      (flat_map (ec_codewords_of (ec_codewords_per_block version level)) (split_by
+      (block_lengths version level) message))
+      ≡ map (ec_codewords_of (ec_codewords_per_block version level)) (split_by (block_lengths version level) message)
+  pub few : block_count version level ≤ 8
+  pub total : length message + block_count version level * ec_codewords_per_block version level ≤ 346
+
+pub HasBlocks-of : (version : ℕ) (level : Level) (message : List ℕ) → IsVersion version → AreBytes message
+    → length message ≡ data_codewords version level → HasBlocks version level message
+HasBlocks-of version level message known bytes all =
+    let k = ec_codewords_per_block version level in
+    let lengths = block_lengths version level in
+    let blocks = split_by lengths message in
+    let sound = IsSound-of version level known in
+    let shapes = lengths_hold version level in
+    let law = have_ec_codewords k sound.some_ec_codewords lengths message bytes in
+    let same : length blocks ≡ length lengths = length-split_by lengths message in
+    record {
+      count = shapes.1;
+      whole = shapes.0 ∙ sym all;
+      ec_blocks = length-flat_map k blocks law ∙ ap (λ n. n * k) (same ∙ shapes.1);
+      cut = rw (← same) (split_by-flat_map k blocks law);
+      few = sound.few_blocks;
+      total = omega (arith, sound.all, sound.few_codewords, all);
+    }
