@@ -20,7 +20,7 @@ use Rattle.qrdata.specs.Codewords.{with_zeros, with_pad_codewords, final_message
 use Rattle.qrdata.specs.Codewords.{data_codewords_of, split_by, symbol_codewords, with_terminator}
 use Rattle.qrdata.specs.Reading.{data_in, deinterleaving, has_roots, segments_at}
 use Rattle.qrdata.specs.Segments.{IsSegmentation, cost, segments_bits}
-use Rattle.qrdata.specs.Private.Blocks.{block_count}
+use Rattle.qrdata.specs.Private.Blocks.{HasBlocks, block_count}
 use Rattle.qrdata.specs.Versions.{IsVersion, block_lengths, data_codewords, ec_codewords_per_block, total_codewords}
 use Rattle.qrdata.proofs.BitStringLaws.{drop_front, number_of-lt, take_front}
 use Rattle.qrdata.proofs.BlockLaws.{length-interleaving, length-split_by, split_joined, split_lengths}
@@ -216,20 +216,7 @@ unfolding data_in
 length-read version level codewords bytes h = eqb-true (length codewords) (total_codewords version)
     (both_pass _ _ _ bytes h)
 
--- the message is cut into at most 8 blocks, which fit a symbol with their error correction codewords
-pub record HasBlocks (version : ℕ) (level : Level) (message : List ℕ) : Type 0 where
-  pub count : length (block_lengths version level) ≡ block_count version level
-  pub whole : sum (block_lengths version level) ≡ length message
-  pub ec_blocks : length (flat_map (ec_codewords_of (ec_codewords_per_block version level))
-      (split_by (block_lengths version level) message))
-      ≡ block_count version level * ec_codewords_per_block version level
-  pub cut : split_by (replicate (length (block_lengths version level)) (ec_codewords_per_block version level))
-      (flat_map (ec_codewords_of (ec_codewords_per_block version level)) (split_by
-      (block_lengths version level) message))
-      ≡ map (ec_codewords_of (ec_codewords_per_block version level)) (split_by (block_lengths version level) message)
-  pub few : block_count version level ≤ 8
-  pub total : length message + block_count version level * ec_codewords_per_block version level ≤ 346
-
+-- a message of all data codewords is cut into blocks that fill a symbol
 pub HasBlocks-of : (version : ℕ) (level : Level) (message : List ℕ) → IsVersion version → AreBytes message
     → length message ≡ data_codewords version level → HasBlocks version level message
 HasBlocks-of version level message known bytes all =

@@ -5,7 +5,7 @@ ghost use Rattle.qrdata.specs.Private.SmallestPlan.{FitsBits, HasRoom, HaveNoRoo
 ghost use Rattle.qrdata.specs.Private.SmallestPlan.{NoPlan, SameWidths};
 ghost use Rattle.qrdata.specs.Segments.{cost};
 ghost use Rattle.qrdata.specs.Versions.{IsVersion};
-ghost use Rattle.std.specs.Prelude.{length, ◌≡◌, ◌+◌, ◌≤◌, IfErr, IfNone, IfOk, IfSome, ℕ};
+ghost use Rattle.std.specs.Prelude.{◌≡◌, ◌+◌, ◌≤◌, IfErr, IfNone, IfOk, IfSome, ℕ};
 
 use crate::firsts::Firsts;
 use crate::level::Level;
