@@ -95,7 +95,7 @@ fewest_bits-le version (b ∷ bytes) =
     (record { some = omega arith; inside = omega arith; characters = refl }) in
     omega (arith, one.low, short_bits version Byte, fewest_bits-le version bytes)
 
-pub best-front : (version b : ℕ) (bytes : List ℕ) → length (b ∷ bytes) ≤ 652
+pub best-front : (version b : ℕ) (bytes : List ℕ) → length (b ∷ bytes) ≤ 657
     → IsFront version (b ∷ bytes) (choices_of version (b ∷ bytes)).best
 best-front version b bytes few =
     let front : IsNoneOrFront version (b ∷ bytes) (choices_of version (b ∷ bytes)).best =

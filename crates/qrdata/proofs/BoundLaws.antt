@@ -1,5 +1,5 @@
--- How many segments and how many bytes fit.
-use Rattle.std.proofs.Common.{ℕ, ◌+◌, ◌*◌, ◌/◌, ◌<◌, ◌≤◌, List, [], ◌∷◌, drop, length, ap, arith, true, false, cond}
+-- How many segments fit, and how many bits bytes have.
+use Rattle.std.proofs.Common.{ℕ, ◌+◌, ◌*◌, ◌/◌, ◌<◌, ◌≤◌, List, [], ◌∷◌, drop, length, arith, true, false, cond}
 use Rattle.std.specs.Prelude.{nat_lt}
 use Rattle.std.proofs.lemmas.List.{length-drop}
 use Rattle.std.proofs.lemmas.List.Sums.{sum_by-cons}
@@ -7,25 +7,24 @@ use Rattle.qrdata.specs.declared.level.Level.{Level}
 use Rattle.qrdata.specs.declared.mode.Mode.{Mode}
 use Rattle.qrdata.specs.declared.mode.Mode.TheVariants.{Numeric, Alphanumeric, Byte}
 use Rattle.qrdata.specs.declared.mode.Segment.{Segment}
-use Rattle.qrdata.specs.Fewest.{NoneFits}
 use Rattle.qrdata.specs.Segments.{IsSegmentation, cost, segment_length, segment_of}
 use Rattle.qrdata.specs.Versions.{IsVersion, capacity}
 use Rattle.qrdata.proofs.VersionLaws.{IsSound-of}
 
--- Up to version 9 a segment has 18 bits at least, and in version 10 it has 20. In version 10 it has 16 bits more than a
--- third of ten bits for each of its bytes.
+-- Up to version 9 a segment has 18 bits at least, and in version 10 it has 20. It has a third of ten bits for each of
+-- its bytes.
 least : (version : ℕ) (mode : Mode) (n : ℕ) → 0 < n
     → (cond (nat_lt version 10) 18 20 ≤ segment_length version (segment_of mode n))
-    × (10 * n + cond (nat_lt version 10) 0 48 ≤ 3 * segment_length version (segment_of mode n))
+    × (10 * n ≤ 3 * segment_length version (segment_of mode n))
 least version Numeric n some = elim (nat_lt version 10) as (λ t. (cond t 18 20 ≤ 4 + cond t 10 12 + (10 * n + 2) / 3)
-    × (10 * n + cond t 0 48 ≤ 3 * (4 + cond t 10 12 + (10 * n + 2) / 3)))
+    × (10 * n ≤ 3 * (4 + cond t 10 12 + (10 * n + 2) / 3)))
     [ true ↦ (omega arith, omega arith) | false ↦ (omega arith, omega arith) ]
 least version Alphanumeric n some = elim (nat_lt version 10) as (λ t.
     (cond t 18 20 ≤ 4 + cond t 9 11 + (11 * n + 1) / 2)
-    × (10 * n + cond t 0 48 ≤ 3 * (4 + cond t 9 11 + (11 * n + 1) / 2)))
+    × (10 * n ≤ 3 * (4 + cond t 9 11 + (11 * n + 1) / 2)))
     [ true ↦ (omega arith, omega arith) | false ↦ (omega arith, omega arith) ]
 least version Byte n some = elim (nat_lt version 10) as (λ t. (cond t 18 20 ≤ 4 + cond t 8 16 + 8 * n)
-    × (10 * n + cond t 0 48 ≤ 3 * (4 + cond t 8 16 + 8 * n)))
+    × (10 * n ≤ 3 * (4 + cond t 8 16 + 8 * n)))
     [ true ↦ (omega arith, omega arith) | false ↦ (omega arith, omega arith) ]
 
 many : (version : ℕ) (segments : List Segment) (bytes : List ℕ) → IsSegmentation version segments bytes
@@ -58,18 +57,3 @@ third version (s ∷ segments) bytes cut =
       length-drop s.len bytes,
       cut.0.inside,
     )
-
--- more than 652 bytes fit nowhere
-pub long_fit_nowhere : (version : ℕ) (level : Level) (bytes : List ℕ) → IsVersion version → 652 < length bytes
-    → NoneFits version level bytes
-long_fit_nowhere version level bytes known long [] cut = absurd (omega (arith, ap length cut))
-long_fit_nowhere version level bytes known long (s ∷ segments) cut =
-    let few = (IsSound-of version level known).few_bits in
-    let first = (least version s.mode s.len cut.0.some).1 in
-    let later = third version segments (drop s.len bytes) cut.1 in
-    elim (nat_lt version 10) as (λ t. 10 * s.len + cond t 0 48 ≤ 3 * segment_length version s
-    → capacity version level ≤ cond (nat_lt (cond t 8 16) 16) 1856 2192
-    → capacity version level < cost version (s ∷ segments)) [
-      | true ↦ λ first few. omega (arith, sum_by-cons (segment_length version) s segments, length-drop s.len bytes)
-      | false ↦ λ first few. omega (arith, sum_by-cons (segment_length version) s segments, length-drop s.len bytes)
-    ] first few

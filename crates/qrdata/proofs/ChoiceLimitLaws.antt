@@ -90,7 +90,7 @@ pub record Agrees (version : ℕ) (bytes : List ℕ) : Type 0 where
   pub first : 0 < length bytes → continued version bytes (choices_of version bytes).best.segment
       ≡ chosen_segments version bytes
 
-agrees_within : (version n : ℕ) (bytes : List ℕ) → length bytes ≤ n → length bytes ≤ 652
+agrees_within : (version n : ℕ) (bytes : List ℕ) → length bytes ≤ n → length bytes ≤ 657
     → fewest_bits version bytes ≤ widest version → Agrees version bytes
 agrees_within version n [] short few fits =
     record { bits = rw (chosen_segments-nil version) (fewest_nil version); first = λ some. absurd (omega arith) }
@@ -111,6 +111,6 @@ agrees_within version (suc n) (b ∷ bytes) short few fits =
     }) in
     record { bits = sym sum ∙ ap (cost version) whole; first = λ some. whole }
 
-pub Agrees-if_fits : (version : ℕ) (bytes : List ℕ) → length bytes ≤ 652 → fewest_bits version bytes ≤ widest version
+pub Agrees-if_fits : (version : ℕ) (bytes : List ℕ) → length bytes ≤ 657 → fewest_bits version bytes ≤ widest version
     → Agrees version bytes
 Agrees-if_fits version bytes few fits = agrees_within version (length bytes) bytes (omega arith) few fits

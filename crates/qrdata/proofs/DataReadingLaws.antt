@@ -20,8 +20,8 @@ use Rattle.qrdata.specs.Codewords.{with_zeros, with_pad_codewords, final_message
 use Rattle.qrdata.specs.Codewords.{data_codewords_of, split_by, symbol_codewords, with_terminator}
 use Rattle.qrdata.specs.Reading.{data_in, deinterleaving, has_roots, segments_at}
 use Rattle.qrdata.specs.Segments.{IsSegmentation, cost, segments_bits}
-use Rattle.qrdata.specs.Private.Blocks.{block_count}
-use Rattle.qrdata.specs.Versions.{block_lengths, data_codewords, ec_codewords_per_block, total_codewords}
+use Rattle.qrdata.specs.Private.Blocks.{HasBlocks, block_count}
+use Rattle.qrdata.specs.Versions.{IsVersion, block_lengths, data_codewords, ec_codewords_per_block, total_codewords}
 use Rattle.qrdata.proofs.BitStringLaws.{drop_front, number_of-lt, take_front}
 use Rattle.qrdata.proofs.BlockLaws.{length-interleaving, length-split_by, split_joined, split_lengths}
 use Rattle.qrdata.proofs.InterleavingLaws.{Blocks, deinterleaving-interleaving}
@@ -215,3 +215,23 @@ pub length-read : (version : ℕ) (level : Level) (codewords bytes : List ℕ) �
 unfolding data_in
 length-read version level codewords bytes h = eqb-true (length codewords) (total_codewords version)
     (both_pass _ _ _ bytes h)
+
+-- a message of all data codewords is cut into blocks that fill a symbol
+pub HasBlocks-of : (version : ℕ) (level : Level) (message : List ℕ) → IsVersion version → AreBytes message
+    → length message ≡ data_codewords version level → HasBlocks version level message
+HasBlocks-of version level message known bytes all =
+    let k = ec_codewords_per_block version level in
+    let lengths = block_lengths version level in
+    let blocks = split_by lengths message in
+    let sound = IsSound-of version level known in
+    let shapes = lengths_hold version level in
+    let law = have_ec_codewords k sound.some_ec_codewords lengths message bytes in
+    let same : length blocks ≡ length lengths = length-split_by lengths message in
+    record {
+      count = shapes.1;
+      whole = shapes.0 ∙ sym all;
+      ec_blocks = length-flat_map k blocks law ∙ ap (λ n. n * k) (same ∙ shapes.1);
+      cut = rw (← same) (split_by-flat_map k blocks law);
+      few = sound.few_blocks;
+      total = omega (arith, sound.all, sound.few_codewords, all);
+    }

@@ -203,7 +203,8 @@ digits_read : (digits_at 1 (bits_of 4 9) ≡ Some (codes "9", []))
     × (digits_at 3 (bits_of 10 999) ≡ Some (codes "999", []))
     × (digits_at 3 (bits_of 10 900) ≡ Some (codes "900", []))
     × (digits_at 4 (bits_of 14 1984) ≡ Some (codes "1240", []))
-    × (digits_at 1 (bits_of 4 10) ≡ None) × (digits_at 2 (bits_of 7 100) ≡ None) × (digits_at 3 (bits_of 10 1000) ≡ None)
+    × (digits_at 1 (bits_of 4 10) ≡ None) × (digits_at 2 (bits_of 7 100) ≡ None)
+    × (digits_at 3 (bits_of 10 1000) ≡ None)
 unfolding digits_at number_at number_of bits_of
 digits_read = (refl, refl, refl, refl, refl, refl, refl, refl, refl)
 
@@ -266,8 +267,8 @@ three_segments_cost = refl
 -- a symbol of version 1-Q that is known from outside is read
 hello_world : List ℕ
 hello_world =
-    32 ∷ 91 ∷ 11 ∷ 120 ∷ 209 ∷ 114 ∷ 220 ∷ 77 ∷ 67 ∷ 64 ∷ 236 ∷ 17 ∷ 236 ∷ 168 ∷ 72 ∷ 22 ∷ 82 ∷ 217 ∷ 54 ∷ 156 ∷ 0 ∷ 46 ∷
-    15 ∷ 180 ∷ 122 ∷ 16 ∷ []
+    32 ∷ 91 ∷ 11 ∷ 120 ∷ 209 ∷ 114 ∷ 220 ∷ 77 ∷ 67 ∷ 64 ∷ 236 ∷ 17 ∷ 236 ∷ 168 ∷ 72 ∷ 22 ∷ 82 ∷ 217 ∷ 54 ∷ 156 ∷ 0 ∷
+    46 ∷ 15 ∷ 180 ∷ 122 ∷ 16 ∷ []
 
 hello_world_reads : data_in 1 Q hello_world ≡ Some (codes "HELLO WORLD")
 unfolding hello_world alphanumeric_characters bits_of number_of byte_bits total_codewords ec_codewords_per_block
@@ -298,7 +299,8 @@ unfolding hello_world alphanumeric_characters bits_of number_of byte_bits total_
 not_read = refl
 
 -- the blocks of version 5-Q taken out of the order that the standard lists (ISO/IEC 18004, 7.6)
-blocks_taken_back : deinterleaving (15 ∷ 15 ∷ 16 ∷ 16 ∷ []) interleaved_5q ≡ split_by (15 ∷ 15 ∷ 16 ∷ 16 ∷ []) (range_with_len 0 62)
+blocks_taken_back : deinterleaving (15 ∷ 15 ∷ 16 ∷ 16 ∷ []) interleaved_5q
+    ≡ split_by (15 ∷ 15 ∷ 16 ∷ 16 ∷ []) (range_with_len 0 62)
 unfolding deinterleaving interleaved_5q split_by
 blocks_taken_back = refl
 

@@ -84,13 +84,13 @@ fewest_bits-below v w same bytes =
     )
 
 -- and they are as many where they fit
-fewest_bits-is : (v w : ℕ) → SameWidths v w → (bytes : List ℕ) → length bytes ≤ 652 → fewest_bits w bytes ≤ widest w
+fewest_bits-is : (v w : ℕ) → SameWidths v w → (bytes : List ℕ) → length bytes ≤ 657 → fewest_bits w bytes ≤ widest w
     → fewest_bits w bytes ≡ cost v (chosen_segments v bytes)
 fewest_bits-is v w same bytes few fits = (Agrees-if_fits w bytes few fits).bits ∙ sym (cost-chosen_same v w same bytes)
 
 -- the segments that fit, and have these bits
 pub FitsBits-of : (v w : ℕ) (level : Level) (bits : ℕ) → SameWidths v w → IsVersion v → (bytes : List ℕ)
-    → length bytes ≤ 652 → bits ≡ fewest_bits w bytes → bits ≤ capacity v level
+    → length bytes ≤ 657 → bits ≡ fewest_bits w bytes → bits ≤ capacity v level
     → FitsBits v level bits (chosen_segments v bytes)
 FitsBits-of v w level bits same known bytes few fewest fits =
     let wide = capacity_as_wide v w level same known.0 known.1 in
@@ -107,7 +107,7 @@ FitsBits-of v w level bits same known bytes few fewest fits =
 -- plan_between, the only caller, has the loop's number for v and the highest version for w; one call of `fill`
 -- returns the limit and leaves the table
 pub NamesBest-of : (v w : ℕ) → SameWidths v w → (bytes : List ℕ) (limit : ℕ) (firsts : Firsts)
-    → length bytes ≤ 652 → limit ≤ widest w → HasSegments firsts (firsts_of w bytes) → NamesBest v bytes limit firsts
+    → length bytes ≤ 657 → limit ≤ widest w → HasSegments firsts (firsts_of w bytes) → NamesBest v bytes limit firsts
 NamesBest-of v w same bytes limit firsts few fits known = λ k inside small.
     let rest = drop k bytes in
     let agrees = Agrees-if_fits w rest (omega (arith, length-drop k bytes))

@@ -1,4 +1,4 @@
--- The choices of at most 652 bytes leave room for one byte more.
+-- The choices of at most 657 bytes leave room for one byte more.
 use Rattle.std.proofs.Common.{ℕ, ◌+◌, ◌*◌, ◌≤◌, List, ◌∷◌, length, arith}
 use Rattle.qrdata.specs.declared.mode.Mode.{Mode}
 use Rattle.qrdata.specs.declared.segmentation.Choices.{Choices}
@@ -32,7 +32,7 @@ Each-weaker P R weaker choices all = (
   weaker _ _ _ all.2,
 )
 
-pub AreSmall-of : (version : ℕ) (bytes : List ℕ) → length bytes ≤ 652 → AreSmall (choices_of version bytes)
+pub AreSmall-of : (version : ℕ) (bytes : List ℕ) → length bytes ≤ 657 → AreSmall (choices_of version bytes)
 AreSmall-of version bytes few =
     let small = Each-weaker (λ mode class. IsWithin (length bytes)) (λ mode class. IsSmall)
     (λ mode class c within. (omega (arith, within.0), omega (arith, within.1))) (choices_of version bytes)

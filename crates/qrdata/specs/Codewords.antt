@@ -52,5 +52,5 @@ final_message version level codewords =
 
 -- the codewords of the symbol of segments of the data: the final message of the data codewords of their bits
 unfoldable pub symbol_codewords : ℕ → Level → List Segment → List ℕ → List ℕ
-symbol_codewords version level segments bytes =
-    final_message version level (data_codewords_of (data_codewords version level) (segments_bits version segments bytes))
+symbol_codewords version level segments bytes = final_message version level
+    (data_codewords_of (data_codewords version level) (segments_bits version segments bytes))

@@ -112,13 +112,13 @@ impl Bits {
             );
             place += 3;
         }
-        if digits.len() - place == 2 {
-            self.push_number(
+        match digits.len() - place {
+            2 => self.push_number(
                 10 * digit_at(digits, place) + digit_at(digits, place + 1),
                 7,
-            );
-        } else if digits.len() - place == 1 {
-            self.push_number(digit_at(digits, place), 4);
+            ),
+            1 => self.push_number(digit_at(digits, place), 4),
+            _ => {}
         }
     }
 
@@ -216,9 +216,9 @@ impl Bits {
     }
 }
 
-/// Proves that the numbers of a slice of bytes are below 256, which the type of an `ArrayVec` does not say to a proof.
-/// It does nothing when it runs.
-fn are_bytes(bytes: &[u8])
+/// Proves that the numbers of a slice of bytes are below 256, which the type of what has the slice does not say to a
+/// proof. It does nothing when it runs.
+pub(crate) fn are_bytes(bytes: &[u8])
     ensures { All (λ b. b < 256) bytes.now }
 {}
 

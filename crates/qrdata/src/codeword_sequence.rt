@@ -1,13 +1,12 @@
 //! The codewords of a symbol in the order in which they are placed (ISO/IEC 18004, 7.4 to 7.6).
 ghost use Rattle.qrdata.specs.Private.BitsInCodewords.{bits_in};
-ghost use Rattle.qrdata.specs.Private.Blocks.{HasBlocks};
 ghost use Rattle.qrdata.specs.Codewords.{data_codewords_of, final_message};
 ghost use Rattle.qrdata.specs.PlanView.{AreSymbolCodewords, HasFittingSegments, plan_view};
 ghost use Rattle.qrdata.specs.Segments.{segments_bits};
 ghost use Rattle.qrdata.specs.Versions.{data_codewords};
 ghost use Rattle.std.specs.Prelude.{length, ◌≡◌, []};
 
-use crate::bits::{Bits, push_padding};
+use crate::bits::{Bits, are_bytes, push_padding};
 use crate::blocks::{Codewords, Lengths, interleave, push_ec_codewords, push_lengths};
 use crate::level::Level;
 use crate::mode::Segment;
@@ -20,29 +19,12 @@ use crate::version::Version;
 pub fn codewords(plan: &Plan, codewords: &mut Codewords)
     ensures { AreSymbolCodewords plan.now codewords.new.items }
 {
-    write_codewords(
-        plan.version(),
-        plan.level(),
-        plan.segments(),
-        plan.bytes(),
-        codewords,
-    );
-}
-
-/// Writes the codewords of segments.
-fn write_codewords(
-    version: Version,
-    level: Level,
-    segments: &[Segment],
-    bytes: &[u8],
-    codewords: &mut Codewords,
-)
-    requires { HasFittingSegments (plan_view version level segments.now bytes.now) }
-    ensures { AreSymbolCodewords (plan_view version level segments.now bytes.now) codewords.new.items }
-{
-    version.known();
+    let version = plan.version();
+    let level = plan.level();
+    let bytes = plan.bytes();
+    are_bytes(bytes);
     let mut message = Bits::new();
-    push_data(version, level, segments, bytes, &mut message);
+    push_data(version, level, plan.segments(), bytes, &mut message);
     write_symbol(version, level, message.codewords.as_slice(), codewords);
 }
 
@@ -60,27 +42,20 @@ fn push_data(version: Version, level: Level, segments: &[Segment], bytes: &[u8],
     push_padding(size - message.codewords.len(), &mut message.codewords);
 }
 
-/// Proves that a message with all data codewords is cut into blocks that fill a symbol. It does nothing when it runs.
-fn have_blocks(version: Version, level: Level, message: &[u8])
-    requires whole { length message.now ≡ data_codewords version level }
-    ensures { HasBlocks version level message.now }
-{
-    version.known();
-}
-
 /// Writes the blocks of the data codewords interleaved, and then their error correction codewords interleaved.
 fn write_symbol(version: Version, level: Level, message: &[u8], codewords: &mut Codewords)
     requires whole { length message.now ≡ data_codewords version level }
     ensures { codewords.new.items ≡ final_message version level message.now }
 {
-    have_blocks(version, level, message);
+    version.known();
     let count = version.ec_codewords_per_block(level);
-    let lengths = version.lengths(level);
+    let blocks = version.lengths(level);
+    let lengths = blocks.as_slice();
     let mut ec_lengths = Lengths::new();
     push_lengths(&mut ec_lengths, lengths.len(), count);
     let mut ec_codewords = Codewords::new();
-    push_ec_codewords(count, lengths.as_slice(), message, &mut ec_codewords);
+    push_ec_codewords(count, lengths, message, &mut ec_codewords);
     codewords.clear();
-    interleave(lengths.as_slice(), message, codewords);
+    interleave(lengths, message, codewords);
     interleave(ec_lengths.as_slice(), ec_codewords.as_slice(), codewords);
 }

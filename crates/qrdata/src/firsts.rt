@@ -6,8 +6,9 @@ ghost use Rattle.std.specs.Prelude.{◌≡◌, ◌<◌, [], ◌∷◌, ◌++◌}
 use crate::mode::{Mode, Segment};
 use arrayvec::ArrayVec;
 
-/// The most bytes that a symbol of version 10 holds: more digits than this have more bits than its data codewords.
-pub(crate) const MAX_BYTES: usize = 652;
+/// The most bytes that a table is made for: three bytes have ten bits at least, and a symbol of version 10 has at most
+/// 2192 data bits.
+pub(crate) const MAX_BYTES: usize = 657;
 
 /// The first of the best segments of each rest of the bytes, the shortest rest first. Modes and lengths are two lists,
 /// each of which is cleared faster than one of both.

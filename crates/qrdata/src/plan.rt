@@ -5,9 +5,9 @@ ghost use Rattle.qrdata.specs.Private.SmallestPlan.{FitsBits, HasRoom, HaveNoRoo
 ghost use Rattle.qrdata.specs.Private.SmallestPlan.{NoPlan, SameWidths};
 ghost use Rattle.qrdata.specs.Segments.{cost};
 ghost use Rattle.qrdata.specs.Versions.{IsVersion};
-ghost use Rattle.std.specs.Prelude.{length, ◌≡◌, ◌+◌, ◌≤◌, IfErr, IfNone, IfOk, IfSome, ℕ};
+ghost use Rattle.std.specs.Prelude.{◌≡◌, ◌+◌, ◌≤◌, IfErr, IfNone, IfOk, IfSome, ℕ};
 
-use crate::firsts::{Firsts, MAX_BYTES};
+use crate::firsts::Firsts;
 use crate::level::Level;
 use crate::mode::Segment;
 use crate::segmentation::fill;
@@ -129,10 +129,6 @@ fn plan_from<'a>(lowest: Version, level: Level, bytes: &'a [u8]) -> Option<Plan<
     ensures some { IfSome result (IsSmallestPlan lowest 10 level bytes.now) }
     ensures none { IfNone result (NoPlan lowest 10 level bytes.now) }
 {
-    lowest.known();
-    if bytes.len() > MAX_BYTES {
-        return None;
-    }
     if lowest.number() < 10 {
         if let Some(plan) = plan_between(lowest, Version::of(9), level, bytes) {
             return Some(plan);
@@ -149,14 +145,13 @@ fn plan_between<'a>(
     level: Level,
     bytes: &'a [u8],
 ) -> Option<Plan<'a>>
-    requires few { length bytes.now ≤ MAX_BYTES }
     requires same { (v : ℕ) → lowest ≤ v → v ≤ highest → SameWidths v highest }
     ensures some { IfSome result (IsSmallestPlan lowest highest level bytes.now) }
     ensures none { IfNone result (NoPlan lowest highest level bytes.now) }
 {
     highest.known();
     // Three bytes have ten bits at least.
-    if 10 * bytes.len() > 3 * highest.capacity(level) {
+    if bytes.len() > 3 * highest.capacity(level) / 10 {
         return None;
     }
     let mut firsts = Firsts::new();

@@ -67,8 +67,8 @@ penalties : ℕ → Level → List ℕ → List ℕ
 penalties v level codewords = map (λ mask. penalty (side_of v) (module_at v level mask codewords)) (range_with_len 0 8)
 
 read_rows : ℕ → List ℕ → Option Reading
-unfolding read_matrix xor total_codewords read_format shows_version shows_functions read_bits walk codewords_of number_of
-    fixed_module role is_free is_flipped format_information version_information binary_remainder
+unfolding read_matrix xor total_codewords read_format shows_version shows_functions read_bits walk codewords_of
+    number_of fixed_module role is_free is_flipped format_information version_information binary_remainder
 read_rows n rows = read_matrix n (λ x y. bit (slice_index rows y) x)
 
 reading : read_rows 21 rows ≡ Some (record { version = 1; level = M; codewords = codewords })

@@ -3,8 +3,7 @@ use Rattle.std.proofs.Common.{◌≡◌, ℕ, ◌<◌, ◌≤◌, ◌^◌, refl,
 use Rattle.std.proofs.Common.{Option, None, Some}
 use Rattle.std.specs.Prelude.{nat_lt, is_none, ◌==◌}
 use Rattle.std.specs.Bool.{beq}
-use Rattle.std.proofs.lemmas.Bool.{and_parts}
-use Rattle.std.proofs.lemmas.Bool.Decides.{nat_tests}
+use Rattle.std.proofs.lemmas.Bool.{and_parts, eqb-true, ltb-true}
 use Rattle.std.proofs.Math.Pow.{pow_mono}
 use Rattle.gf256.specs.BinaryPolynomial.{binary_remainder}
 use Rattle.qrdata.specs.Versions.{side_of}
@@ -35,9 +34,9 @@ same_index (Some i) (Some k) = i == k
 
 same_index_is : (a b : Option ℕ) → same_index a b ≡ true → a ≡ b
 same_index_is None None h = refl
-same_index_is None (Some k) h = grind arith
-same_index_is (Some i) None h = grind arith
-same_index_is (Some i) (Some k) h = let e : i ≡ k = grind (arith, nat_tests) in ap Some e
+same_index_is None (Some k) h = cc
+same_index_is (Some i) None h = cc
+same_index_is (Some i) (Some k) h = ap Some (eqb-true i k h)
 
 -- whether two modules agree: whether a pattern has them, whether they are dark, and which bit of the format information
 -- they show
@@ -92,12 +91,13 @@ module _ (v : ℕ) (l : 1 ≤ v) (h : v ≤ 10) (y : ℕ) (ly : y < side_of v) w
   pub function_row_is : HasFunctions v y (function_row v y)
   unfolding is_free
   function_row_is =
-      let narrow = parts.0 in
+      let row = function_row v y in
+      let narrow = and_parts (nat_lt row.taken (2 ^ side_of v)) (nat_lt row.dark (2 ^ side_of v)) parts.0 in
       record {
         taken = λ x lx. (module_is x lx).0;
         dark = λ x lx. (module_is x lx).1.0;
-        narrow_taken = grind (arith, nat_tests, narrow);
-        narrow_dark = grind (arith, nat_tests, narrow);
+        narrow_taken = ltb-true row.taken (2 ^ side_of v) narrow.0;
+        narrow_dark = ltb-true row.dark (2 ^ side_of v) narrow.1;
       }
 
   -- the role of a module says which bit of the format information it shows

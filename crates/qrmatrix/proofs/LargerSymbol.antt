@@ -1,6 +1,7 @@
--- The layout of a small symbol and of a larger one, version 7, which has all patterns (ISO/IEC 18004, 6.3, 7.9 and 7.10),
--- and how many modules are left to the codewords.
-use Rattle.std.specs.Prelude.{◌≡◌, ℕ, ◌+◌, refl, List, [], ◌∷◌, ◌++◌, map, Option, None, Some, codes, replicate, if◌then◌else◌}
+-- The layout of a small symbol and of a larger one, version 7, which has all patterns (ISO/IEC 18004, 6.3, 7.9 and
+-- 7.10), and how many modules are left to the codewords.
+use Rattle.std.specs.Prelude.{◌≡◌, ℕ, ◌+◌, refl, List, [], ◌∷◌, ◌++◌, map, Option, None, Some, codes, replicate}
+use Rattle.std.specs.Prelude.{if◌then◌else◌}
 use Rattle.std.specs.List.{range_with_len}
 use Rattle.std.specs.Option.{option_map}
 use Rattle.qrdata.specs.Versions.{side_of}

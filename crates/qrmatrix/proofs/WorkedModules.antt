@@ -1,7 +1,8 @@
--- Modules of QR symbols one by one (ISO/IEC 18004, 7.7, 7.9 and 7.10): the order of placement, and symbols with one wrong
--- module, which are not read.
-use Rattle.std.specs.Prelude.{◌≡◌, ℕ, ◌+◌, ◌-◌, ◌*◌, ◌/◌, ◌%◌, ◌^◌, ◌==◌, nat_lt, refl, Bool, true, false, List, [], ◌∷◌, ◌++◌, map}
-use Rattle.std.specs.Prelude.{Option, None, Some, codes, slice_index, slice_set, bit_xor, replicate, if◌then◌else◌, zip}
+-- Modules of QR symbols one by one (ISO/IEC 18004, 7.7, 7.9 and 7.10): the order of placement, and symbols with one
+-- wrong module, which are not read.
+use Rattle.std.specs.Prelude.{◌≡◌, ℕ, ◌+◌, ◌-◌, ◌*◌, ◌/◌, ◌%◌, ◌^◌, ◌==◌, nat_lt, refl, Bool, true, false, List, []}
+use Rattle.std.specs.Prelude.{◌∷◌, ◌++◌, map, Option, None, Some, codes, slice_index, slice_set, bit_xor, replicate}
+use Rattle.std.specs.Prelude.{if◌then◌else◌, zip}
 use Rattle.std.specs.List.{range_with_len}
 use Rattle.gf256.specs.BinaryPolynomial.{binary_remainder}
 use mathlib.Core.Bool.{xor}
@@ -17,8 +18,8 @@ use Rattle.qrmatrix.specs.Modules.{module_at}
 use Rattle.qrmatrix.specs.Placement.{codeword_bit, key, rank}
 use Rattle.qrmatrix.specs.Reading.{read_bits, read_format, read_matrix, shows_functions, shows_version, walk}
 
--- ---- a symbol of version 2 at level Q under mask 5, as Zint draws it (`zint -b 58 --vers=2 --secure=3 --mask=5 --verbose
--- --dump -d "WRONG MODULES"`)
+-- ---- a symbol of version 2 at level Q under mask 5, as Zint draws it (`zint -b 58 --vers=2 --secure=3 --mask=5
+-- --verbose --dump -d "WRONG MODULES"`)
 
 -- bit x of a row is its module at column x
 rows : List ℕ
@@ -69,8 +70,8 @@ bits_of_codewords = refl
 
 reading : read_matrix 25 (modules_of rows) ≡ Some (record { version = 2; level = Q; codewords = codewords })
 unfolding rows codewords modules_of read_matrix xor total_codewords read_format shows_version
-    shows_functions read_bits walk codewords_of number_of fixed_module role is_free is_flipped format_information version_information
-    binary_remainder
+    shows_functions read_bits walk codewords_of number_of fixed_module role is_free is_flipped format_information
+    version_information binary_remainder
 reading = refl
 
 -- the symbol with a module changed: the first one that is placed, which is the high bit of the first codeword, with no
@@ -80,8 +81,8 @@ no_readings : map (λ (p : ℕ × ℕ). read_matrix 25 (modules_of (changed rows
     (24, 24) ∷ (3, 3) ∷ (7, 0) ∷ (10, 6) ∷ (18, 18) ∷ (8, 17) ∷ (8, 0) ∷ (24, 8) ∷ []) ≡
     Some (record { version = 2; level = Q; codewords = slice_set codewords 0 160 }) ∷ replicate 7 None
 unfolding rows codewords modules_of changed read_matrix xor total_codewords read_format shows_version
-    shows_functions read_bits walk codewords_of number_of fixed_module role is_free is_flipped format_information version_information
-    binary_remainder
+    shows_functions read_bits walk codewords_of number_of fixed_module role is_free is_flipped format_information
+    version_information binary_remainder
 no_readings = refl
 
 -- no version has this side
@@ -109,7 +110,8 @@ modules_changed = refl
 
 -- another level or mask than that of the format information, and another version
 not_as_told : (map (λ level. shows_functions 2 level 5 (modules_of rows)) (L ∷ M ∷ Q ∷ H ∷ []) ≡
-    false ∷ false ∷ true ∷ false ∷ []) × (map (λ mask. shows_functions 2 Q mask (modules_of rows)) (range_with_len 0 8) ≡
+    false ∷ false ∷ true ∷ false ∷ [])
+    × (map (λ mask. shows_functions 2 Q mask (modules_of rows)) (range_with_len 0 8) ≡
     slice_set (replicate 8 false) 5 true) × (shows_functions 1 Q 5 (modules_of rows) ≡ false)
 unfolding rows modules_of shows_functions fixed_module role format_information binary_remainder
 not_as_told = (refl, refl, refl)
@@ -140,7 +142,8 @@ formats_changed : map (λ p. format (changed rows p)) (copies.0 ++ copies.1) ≡
 unfolding format rows copies changed
 formats_changed = refl
 
-both_formats_changed : map (λ (p : (ℕ × ℕ) × (ℕ × ℕ)). format (changed (changed rows p.0) p.1)) (zip copies.0 copies.1) ≡
+both_formats_changed :
+    map (λ (p : (ℕ × ℕ) × (ℕ × ℕ)). format (changed (changed rows p.0) p.1)) (zip copies.0 copies.1) ≡
     replicate 15 None
 unfolding format rows copies changed
 both_formats_changed = refl
@@ -168,8 +171,8 @@ shows : ℕ → ℕ → Bool
 unfolding shows_version number_of binary_remainder
 shows above left = shows_version 7 45 (with_versions above left)
 
-versions_shown : (shows 0x07C94 0x07C94 ≡ true) × (map (λ v. shows_version v 45 (with_versions 0x07C94 0x07C94)) (6 ∷ 8 ∷ []) ≡
-    true ∷ false ∷ [])
+versions_shown : (shows 0x07C94 0x07C94 ≡ true)
+    × (map (λ v. shows_version v 45 (with_versions 0x07C94 0x07C94)) (6 ∷ 8 ∷ []) ≡ true ∷ false ∷ [])
 unfolding shows with_versions shows_version number_of binary_remainder
 versions_shown = (refl, refl)
 
@@ -186,7 +189,8 @@ versions_changed = (refl, refl, refl)
 some_modules : map (λ (p : ℕ × ℕ). module_at 2 Q 5 codewords p.0 p.1) (
     (24, 24) ∷ (23, 24) ∷ (24, 23) ∷ (12, 12) ∷ (9, 0) ∷ (0, 9) ∷ (15, 18) ∷ (5, 12) ∷ (3, 14) ∷ (0, 16) ∷ (0, 0) ∷
     (7, 3) ∷ (8, 6) ∷ (18, 18) ∷ (8, 17) ∷ (8, 0) ∷ (0, 8) ∷ (25, 0) ∷ (0, 25) ∷ []) ≡
-    true ∷ true ∷ false ∷ true ∷ false ∷ true ∷ true ∷ false ∷ true ∷ true ∷ true ∷ false ∷ true ∷ true ∷ true ∷ true ∷ false ∷ false ∷ false ∷ []
+    true ∷ true ∷ false ∷ true ∷ false ∷ true ∷ true ∷ false ∷ true ∷ true ∷ true ∷ false ∷ true ∷ true ∷ true ∷
+    true ∷ false ∷ false ∷ false ∷ []
 unfolding codewords module_at xor fixed_module role rank is_free key is_flipped format_information binary_remainder
 some_modules = refl
 

@@ -128,7 +128,7 @@ Each P choices = EachDigits P choices.digits × EachCharacters P choices.charact
 
 -- there is room for a byte more
 abbrev pub IsSmall : ChoiceView → Type 0
-IsSmall c = (c.segment.len ≤ 652) × (c.bits < 2 ^ 20)
+IsSmall c = (c.segment.len ≤ 657) × (c.bits < 2 ^ 20)
 
 abbrev pub AreSmallDigits : Digits → Type 0
 AreSmallDigits digits = EachDigits (λ mode class. IsSmall) digits

@@ -1,5 +1,6 @@
 -- The square of modules after each step of drawing a symbol (ISO/IEC 18004, 7.7 to 7.9).
-use Rattle.std.specs.Prelude.{◌≡◌, ℕ, ◌<◌, ◌≤◌, ◌^◌, Bool, true, false, not, List, if◌then◌else◌, nat_lt, Option, Some, None}
+use Rattle.std.specs.Prelude.{◌≡◌, ℕ, ◌<◌, ◌≤◌, ◌^◌, Bool, true, false, not, List, if◌then◌else◌, nat_lt, Option}
+use Rattle.std.specs.Prelude.{Some, None}
 use Rattle.qrdata.specs.declared.level.Level.{Level}
 use Rattle.qrdata.specs.Versions.{side_of}
 use Rattle.qrmatrix.specs.Bits.{bit}
@@ -90,8 +91,8 @@ pub record PlacesCodewords (v : ℕ) (codewords : List ℕ) (old new : List (Lis
   pub others : (x y : ℕ) → x < side_of v → y < side_of v → is_free v x y ≡ false → value_at new x y ≡ value_at old x y
   pub outside : SameOutside (side_of v) old new
 
--- the function patterns are drawn: the modules that they leave to the codewords are marked, and those of theirs that are
--- dark are drawn
+-- the function patterns are drawn: the modules that they leave to the codewords are marked, and those of theirs that
+-- are dark are drawn
 pub record DrawsFunctions (v : ℕ) (free old new : List (List Bool)) : Type 0 where
   pub marked : MarksFree v free
   pub drawn : (x y : ℕ) → x < side_of v → y < side_of v → value_at new x y ≡ unmasked_module v (role v x y)

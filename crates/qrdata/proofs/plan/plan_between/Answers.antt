@@ -30,18 +30,18 @@ plan_of-requires-clause-table c =
     let firsts = c.fill-bits.ensures.firsts in
     let wide = capacity_as_wide c.in-Some.version c.args.highest c.args.level same room.known.0 room.known.1 in
     record {
-      few = c.requires.few;
+      few = omega arith;
       modes = (table_sizes firsts).0 ∙ length-firsts_of c.args.highest c.args.bytes.now;
       lengths = (table_sizes firsts).1 ∙ length-firsts_of c.args.highest c.args.bytes.now;
       named = NamesBest-of c.in-Some.version c.args.highest same c.args.bytes.now c.fill-bits.result
-          c.fill-bits.new.firsts c.requires.few (omega (arith, room.fits, wide)) firsts;
+          c.fill-bits.new.firsts (omega arith) (omega (arith, room.fits, wide)) firsts;
     }
 
 pub plan_of-requires-clause-bits : goal.plan_of-requires-clause-bits
 plan_of-requires-clause-bits c =
     let room = c.in-Some.ensures.some in
     FitsBits-of c.in-Some.version c.args.highest c.args.level c.fill-bits.result
-    (c.requires.same c.in-Some.version room.from room.to) room.known c.args.bytes.now c.requires.few
+    (c.requires.same c.in-Some.version room.from room.to) room.known c.args.bytes.now (omega arith)
     c.fill-bits.ensures.bits room.fits
 
 pub returns-in-Some-clause-some : goal.returns-in-Some-clause-some
@@ -49,7 +49,7 @@ returns-in-Some-clause-some c =
     let room = c.in-Some.ensures.some in
     let fewest = c.fill-bits.ensures.bits in
     let bits = FitsBits-of c.in-Some.version c.args.highest c.args.level c.fill-bits.result
-    (c.requires.same c.in-Some.version room.from room.to) room.known c.args.bytes.now c.requires.few fewest
+    (c.requires.same c.in-Some.version room.from room.to) room.known c.args.bytes.now (omega arith) fewest
     room.fits in
     rw c.plan_of.ensures (record {
       from = room.from;

@@ -22,8 +22,9 @@ loop-place-preserved c =
     subst (λ z. IsMaskedTo z mask free modules start c.put.new.self) next
     (masked_more (first + place) mask _ free modules start c.loop-place.masked c.put.new.self
     (c.loop-place.invariant start before) c.put.ensures
-    (row_masked mask c.mask_row_bits.result (first + place) free modules c.row.result c.row-in-loop-place.result c.row.ensures.bound
-    (λ x l. c.mask_row_bits.ensures x (first + place) l (omega arith) at) c.row.ensures.bits c.row-in-loop-place.ensures.bits))
+    (row_masked mask c.mask_row_bits.result (first + place) free modules c.row.result c.row-in-loop-place.result
+    c.row.ensures.bound (λ x l. c.mask_row_bits.ensures x (first + place) l (omega arith) at) c.row.ensures.bits
+    c.row-in-loop-place.ensures.bits))
 
 pub returns : goal.returns
 returns c =

@@ -37,7 +37,7 @@ returns-clause-placed c =
     let n = c.args.strip.n in
     let i = c.loop-block.i in
     let rows = c.place_rows-2 in
-    renumbered c.args.strip.number (i + rows.result) (i + rows.result) (n - 1 + begin + (1 - begin)) n refl (omega arith)
-    (rows.ensures.placed c.args.bytes.now i c.bits_from-2.ensures v start is marks
+    renumbered c.args.strip.number (i + rows.result) (i + rows.result) (n - 1 + begin + (1 - begin)) n refl
+    (omega arith) (rows.ensures.placed c.args.bytes.now i c.bits_from-2.ensures v start is marks
     (renumbered c.args.strip.number i i (begin + 4 * c.loop-block.block) (n - 1 + begin) refl (omega arith)
     (c.loop-block.invariant.placed v start is marks p)))

@@ -39,4 +39,5 @@ pub returns-clause-within : goal.returns-clause-within
 returns-clause-within c =
     λ codewords u within x y out.
     let self = c.args.self.now in
-    returns-clause-modules c codewords u within x y ∙ module_outside self.version self.level c.args.mask codewords x y out
+    returns-clause-modules c codewords u within x y
+    ∙ module_outside self.version self.level c.args.mask codewords x y out

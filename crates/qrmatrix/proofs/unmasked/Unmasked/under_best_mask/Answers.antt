@@ -13,7 +13,8 @@ loop-number-preserved c =
     let self = c.args.self.now in
     let before = c.loop-number.invariant in
     let is_number = c.draw_under.ensures.mask ∙ c.of-in-loop-number.ensures in
-    let f : List ℕ → ℕ → ℕ = λ codewords k. penalty (side_of self.version) (module_at self.version self.level k codewords) in
+    let f : List ℕ → ℕ → ℕ =
+    λ codewords k. penalty (side_of self.version) (module_at self.version self.level k codewords) in
     let shown : (codewords : List ℕ) → Places self codewords → ShowsSymbol self codewords c.draw_under.new.masked =
     λ codewords u. c.draw_under.ensures.modules codewords u (before.drawn codewords u) in
     record {

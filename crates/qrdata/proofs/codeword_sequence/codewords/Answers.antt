@@ -1,0 +1,51 @@
+use Rattle.std.proofs.Common.{◌≡◌, ◌<◌, arith, refl, Some}
+use Rattle.std.proofs.lemmas.List.Elements.{recursion_from_All}
+use Rattle.qrdata.specs.Codewords.{symbol_codewords}
+use Rattle.qrdata.specs.Reading.{data_in}
+use Rattle.qrdata.specs.Segments.{segments_bits}
+use Rattle.qrdata.specs.Versions.{data_codewords}
+use Rattle.qrdata.proofs.DataReadingLaws.{data_in-symbol_codewords, length-read}
+use Rattle.qrdata.proofs.LengthLaws.{length-segments_bits}
+use Rattle.qrdata.proofs.PaddingLaws.{length-data_codewords_of}
+use Rattle.qrdata.proofs.codeword_sequence.codewords.Goals as goal
+
+pub write_symbol-requires : goal.write_symbol-requires
+write_symbol-requires c =
+    let plan = c.args.plan.now in
+    let fit = c.segments.ensures.fit in
+    let bits = segments_bits plan.version plan.segments plan.bytes in
+    let long = length-segments_bits plan.version plan.segments plan.bytes fit.cut in
+    record {
+      whole = rw (
+        c.as_slice.ensures.value,
+        c.push_data.ensures,
+        c.version-version.ensures.value,
+        c.level-level.ensures,
+        c.segments.ensures.value,
+        c.bytes-bytes.ensures,
+      )
+          (length-data_codewords_of (data_codewords plan.version plan.level) bits (omega (arith, fit.fits)));
+    }
+
+pub returns : goal.returns
+unfolding symbol_codewords
+returns c =
+    let plan = c.args.plan.now in
+    let fit = c.segments.ensures.fit in
+    let known = rw c.version-version.ensures.value at c.version-version.ensures.known in
+    let bytes = rw c.bytes-bytes.ensures at c.are_bytes.ensures in
+    let written = c.write_symbol.new.codewords.items in
+    let value : written ≡ symbol_codewords plan.version plan.level plan.segments plan.bytes =
+    rw (
+      c.write_symbol.ensures,
+      c.as_slice.ensures.value,
+      c.push_data.ensures,
+      c.version-version.ensures.value,
+      c.level-level.ensures,
+      c.segments.ensures.value,
+      c.bytes-bytes.ensures,
+    ) refl in
+    let read : data_in plan.version plan.level written ≡ Some plan.bytes =
+    rw value (data_in-symbol_codewords plan.version plan.level plan.segments plan.bytes known.0 known.1
+    (recursion_from_All (λ b. b < 256) plan.bytes bytes) fit.cut fit.fits) in
+    record { value = value; count = length-read plan.version plan.level written plan.bytes read; read = read }
