@@ -1,4 +1,4 @@
-use Rattle.std.proofs.Common.{◌≡◌, ◌==◌, ◌+◌, ◌<◌, ◌∙◌, ℕ, ap, arith, drop, length, subst, sym, take}
+use Rattle.std.proofs.Common.{◌≡◌, ◌==◌, ◌+◌, ◌<◌, ◌∙◌, ℕ, ap, arith, drop, length, length-drop, subst, sym, take}
 use Rattle.std.specs.List.{position_or_len}
 use Rattle.std.proofs.lemmas.List.{drop_all, take_all, take_rest}
 use Rattle.std.proofs.lemmas.List.Splits.{slice_split_first}
@@ -15,6 +15,7 @@ returns-in_err-index c =
       found = sym (list_any-absent p bytes absent);
       before = tt;
       after = tt;
+      shorter = tt;
       all_before = take_all (position_or_len p bytes) bytes absent;
       none_after = drop_all (position_or_len p bytes + 1) bytes (omega arith);
       parts = slice_split-absent p bytes absent;
@@ -31,6 +32,7 @@ returns c =
       found = sym (list_any-found p bytes found);
       before = ap (λ (n : ℕ). take n bytes) place.0;
       after = take_rest bytes (i + 1) ∙ ap (λ (n : ℕ). drop (n + 1) bytes) place.0;
+      shorter = omega (arith, ap length (take_rest bytes (i + 1)), length-drop (i + 1) bytes, place.1);
       all_before = tt;
       none_after = tt;
       parts = rw (take_rest bytes (i + 1), place.0) (slice_split_first p bytes 0 found);
