@@ -1,4 +1,4 @@
-use Rattle.std.proofs.Common.{◌≡◌, ◌==◌, ◌+◌, ◌<◌, ◌∙◌, ℕ, ap, arith, drop, length, length-drop, subst, sym, take}
+use Rattle.std.proofs.Common.{◌==◌, ◌+◌, ◌<◌, ◌∙◌, ℕ, ap, arith, drop, length, length-drop, subst, sym, take}
 use Rattle.std.specs.List.{position_or_len}
 use Rattle.std.proofs.lemmas.List.{drop_all, take_all, take_rest}
 use Rattle.std.proofs.lemmas.List.Splits.{slice_split_first}
