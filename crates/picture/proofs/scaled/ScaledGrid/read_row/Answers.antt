@@ -1,5 +1,4 @@
 use Rattle.std.proofs.Common.{◌≡◌, ◌*◌, ◌/◌, ◌∙◌, ◌≤◌, ℕ, Bool, length, length-append, length-drop, ap, sym, arith}
-use Rattle.std.proofs.lemmas.Grind.{common_steps}
 use Rattle.std.proofs.lemmas.List.FromFn.{length-map-range_with_len}
 use Rattle.std.proofs.lemmas.Nat.{div_below, mul-le}
 use Rattle.picture.proofs.GridLaws.{spread-pixel_row}
@@ -36,6 +35,3 @@ returns g c =
     ∙ spread-pixel_row (g.G.Grid.picture c.args.self.now.grid)
     c.args.self.now.scale c.args.y c.read_row.new.pixels c.args.pixels.now c.width-width.result (omega arith)
     c.width-width.ensures c.requires.whole c.read_row.ensures
-
-pub read_row-requires-clause-whole : goal.read_row-requires-clause-whole
-read_row-requires-clause-whole g c = grind (arith, common_steps)
