@@ -123,7 +123,8 @@ pub of_full_code128 : (bytes : List ℕ) (P : List ℕ → Type 0) → ((full : 
     → IfOk (full_code128 bytes) P
 of_full_code128 bytes P each = by_tests (ltb 80 (length bytes)) refl (position (λ byte. leb 128 byte) bytes) refl where
   by_tests : (long : Bool) → ltb 80 (length bytes) ≡ long → (found : Option ℕ)
-      → position (λ byte. leb 128 byte) bytes ≡ found → IfOk (cond long (Err DataTooLong) (unless_found NotAscii found (Ok bytes))) P
+      → position (λ byte. leb 128 byte) bytes ≡ found
+      → IfOk (cond long (Err DataTooLong) (unless_found NotAscii found (Ok bytes))) P
   by_tests true t found e = tt
   by_tests false t (Some index) e = tt
   by_tests false t None e =

@@ -40,7 +40,8 @@ digit_again byte h = omega arith
 
 -- a digit more in a set
 one_more : {Y : Type 0} (found : List Bool → Option Y) (set : NumberSet) (byte : ℕ) (y : Y) {count : ℕ}
-    {row : List Bool} {ys : List Y} → IsAsciiDigit byte → found (pattern set (digit_value byte)) ≡ Some y → AreGroups found 7 count row ys
+    {row : List Bool} {ys : List Y} → IsAsciiDigit byte
+    → found (pattern set (digit_value byte)) ≡ Some y → AreGroups found 7 count row ys
     → AreGroups found 7 (suc count) (pattern set (digit_value byte) ++ row) (y ∷ ys)
 one_more found set byte y d = group_more found 7 _ _ _ _ (length-pattern set (digit_value byte) (omega arith))
 

@@ -298,7 +298,8 @@ wrong_groups : read_changed read_ean8 (ean8_row (codes "73513537")) (3 ∷ 63 �
 unfolding read_changed changed number_set_a
 wrong_groups = refl
 
-wrong_checks : (read_ean8 (ean8_row (codes "73513530")) ≡ None) × (read_ean13 (ean13_row (codes "4006381333932")) ≡ None)
+wrong_checks : (read_ean8 (ean8_row (codes "73513530")) ≡ None)
+    × (read_ean13 (ean13_row (codes "4006381333932")) ≡ None)
     × (read_upca (upca_row (codes "036000291453")) ≡ None)
 unfolding left_half_sets number_set_a
 wrong_checks = (refl, refl, refl)
@@ -314,14 +315,16 @@ row_of values = flat_map character_modules values
 
 -- `1` in set B: start 104, value 17, check 18 and stop 106 (ISO/IEC 15417, symbol structure); another check value, no
 -- start character, and another stop character
-wrong_characters : map (λ values. read_code128 (row_of values)) ((104 ∷ 17 ∷ 18 ∷ 106 ∷ []) ∷ (104 ∷ 17 ∷ 19 ∷ 106 ∷ [])
-    ∷ (17 ∷ 17 ∷ 34 ∷ 106 ∷ []) ∷ (104 ∷ 17 ∷ 18 ∷ 18 ∷ []) ∷ []) ≡ Some (codes "1") ∷ None ∷ None ∷ None ∷ []
+wrong_characters : map (λ values. read_code128 (row_of values)) ((104 ∷ 17 ∷ 18 ∷ 106 ∷ [])
+    ∷ (104 ∷ 17 ∷ 19 ∷ 106 ∷ []) ∷ (17 ∷ 17 ∷ 34 ∷ 106 ∷ []) ∷ (104 ∷ 17 ∷ 18 ∷ 18 ∷ []) ∷ [])
+    ≡ Some (codes "1") ∷ None ∷ None ∷ None ∷ []
 unfolding row_of character_widths
 wrong_characters = refl
 
 -- a module more at the end and one less, a group that is no character, and each of the two last modules changed
 wrong_rows : (map read_code128 ((code128_row (codes "1") ++ (false ∷ [])) ∷ take 45 (code128_row (codes "1")) ∷ []) ≡
-    None ∷ None ∷ []) × (read_changed read_code128 (code128_row (codes "1")) (11 ∷ 44 ∷ 45 ∷ []) ≡ None ∷ None ∷ None ∷ [])
+    None ∷ None ∷ [])
+    × (read_changed read_code128 (code128_row (codes "1")) (11 ∷ 44 ∷ 45 ∷ []) ≡ None ∷ None ∷ None ∷ [])
 unfolding read_changed changed character_widths
 wrong_rows = (refl, refl)
 
@@ -331,8 +334,8 @@ data_of set values = read_code128 (row_of (with_check set values ++ (106 ∷ [])
 
 -- nothing after a shift, a shift or a change of set after one, and a value without a meaning in set B and in set C
 -- (ISO/IEC 15417, code sets)
-wrong_values : map (data_of B) ((98 ∷ []) ∷ (98 ∷ 98 ∷ 65 ∷ []) ∷ (98 ∷ 99 ∷ 12 ∷ []) ∷ (96 ∷ []) ∷ (99 ∷ 102 ∷ []) ∷ []) ≡
-    replicate 5 None
+wrong_values : map (data_of B) ((98 ∷ []) ∷ (98 ∷ 98 ∷ 65 ∷ []) ∷ (98 ∷ 99 ∷ 12 ∷ []) ∷ (96 ∷ [])
+    ∷ (99 ∷ 102 ∷ []) ∷ []) ≡ replicate 5 None
 unfolding data_of row_of character_widths
 wrong_values = refl
 

@@ -1,5 +1,5 @@
--- What the standards promise of their tables, and the switching rule of Code 128, step by step (ISO/IEC 15420 and 15417,
--- symbol characters and code sets). No function rests on it.
+-- What the standards promise of their tables, and the switching rule of Code 128, step by step (ISO/IEC 15420 and
+-- 15417, symbol characters and code sets). No function rests on it.
 use Rattle.linear.specs.CodingLaws.{CodingLaws}
 use Rattle.linear.proofs.CharacterLaws.{character_modules-differs, length-character_modules, length-stop}
 use Rattle.linear.proofs.CharacterLaws.{count_by-character_modules}
