@@ -34,9 +34,11 @@ impl PixelText for AsciiPixels {
 
     ghost row_end = { codes "\n" };
 
+    // It writes two halves, so that no text is longer than 70 bytes.
     fn write_piece<S: Sink>(pixels: &[bool], len: usize, sink: &mut S) -> Result<(), IoFault> {
-        let text = letters(&pixels[..len]);
-        write_whole(&text[..2 * len], sink)
+        let half = len / 2;
+        write_letters(&pixels[..half], sink)?;
+        write_letters(&pixels[half..len], sink)
     }
 
     fn row_end() -> &'static [u8] {
@@ -48,12 +50,21 @@ impl PixelText for AsciiPixels {
     }
 }
 
-/// Returns the letters of at most 70 pixels, and then spaces.
-fn letters(pixels: &[bool]) -> [u8; 140]
-    requires { length pixels.now ≤ 70 }
+/// Writes the letters of at most 35 pixels.
+fn write_letters<S: Sink>(pixels: &[bool], sink: &mut S) -> Result<(), IoFault>
+    requires { length pixels.now ≤ 35 }
+    ensures { WritesText S.Sink sink.old sink.new (flat_map ascii_pixel pixels.now) result }
+{
+    let text = letters(pixels);
+    write_whole(&text[..2 * pixels.len()], sink)
+}
+
+/// Returns the letters of at most 35 pixels, and then spaces.
+fn letters(pixels: &[bool]) -> [u8; 70]
+    requires { length pixels.now ≤ 35 }
     ensures { take (2 * length pixels.now) result ≡ flat_map ascii_pixel pixels.now }
 {
-    let mut text = [b' '; 140];
+    let mut text = [b' '; 70];
     for i in 0..pixels.len() {
         let letter = letter(pixels[i]);
         text[2 * i] = letter;

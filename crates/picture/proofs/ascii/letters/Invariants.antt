@@ -7,5 +7,5 @@ use Rattle.picture.proofs.ascii.letters.Given as goal
 abbrev pub invariant-loop-i : goal.invariant-loop-i
 invariant-loop-i l = record {
   so_far : l.text ≡ flat_map ascii_pixel (take l.i l.pixels)
-      ++ replicate (140 - 2 * l.i) 32;
+      ++ replicate (70 - 2 * l.i) 32;
 }
