@@ -1,30 +1,31 @@
 -- What a parse that succeeds has checked, by the rules of the command.
 use Rattle.std.proofs.lemmas.Option.{IfSome_then}
 use Rattle.std.proofs.lemmas.Bool.Decides.{nat_tests}
-use Rattle.std.proofs.Common.{◌≡◌, ◌∙◌, ◌<◌, ◌⊎◌, ◌||◌, not, Err, ap, refl, sym, subst, codes, ℕ}
+use Rattle.std.proofs.Common.{◌≡◌, ◌∙◌, ◌<◌, ◌⊎◌, ◌||◌, Err, ap, refl, sym, subst, codes, ℕ}
 use Rattle.std.proofs.Common.{zero, suc, Bool, true, false, List, [], ◌∷◌, length, map, Option, Some, None, inl, inr}
 use Rattle.std.proofs.Common.{arith}
 use Rattle.std.specs.Prelude.{IfSome, Ok, Result, option_map, slice_get, pos}
-use Rattle.std.specs.Result.{OnOk, is_err}
-use Rattle.std.specs.List.{All, Any}
+use Rattle.std.specs.Result.{OnErr, OnOk}
+use Rattle.std.specs.List.{All, Any, list_all, slice_index_or}
+use Rattle.std.proofs.lemmas.List.{get_or_default}
 use Rattle.std.specs.Str.{bytes_eq}
 use Rattle.std.specs.Borrow.{Bor}
-use Rattle.std.proofs.lemmas.Bool.{eqb-true}
+use Rattle.std.proofs.lemmas.Bool.{cases_lt}
 use Rattle.std.proofs.lemmas.Int.{ints}
 use Rattle.std.proofs.lemmas.List.Elements.{All-get_or}
 use Rattle.std.proofs.lemmas.Slice.Eq.{bytes_eq-Decides}
 use Rattle.std.proofs.lemmas.Str.Parse.{digit_from_value}
 use Rattle.clap.specs.Lexer.{without_minus}
-use Rattle.clap.specs.Values.{Accepts, IsSignedIn, read_as}
-use Rattle.clap.specs.Facts.{Entry, EntryPasses, HasReading, PassesArg, ValuesPass, args_of, groups_of, parser_of_value}
+use Rattle.clap.specs.Values.{Accepts, IsSignedIn, read_as, reading_of}
+use Rattle.clap.specs.Built.{BuildsTo, IsAuto, IsParsedFrom, SameRules}
+use Rattle.clap.specs.Facts.{Entry, EntryPasses, HasReading, PassesArg, ValuesPass, args_of, groups_of, parser_of}
 use Rattle.clap.specs.Matches.{matched_of, one_text}
-use Rattle.clap.specs.Walk.{Rule, Text, reading_by, rule_of}
+use Rattle.clap.specs.Walk.{Rule, Text, rule_of}
 use Rattle.clap.proofs.CallerLemmas.{entry_by_id}
+use Rattle.clap.proofs.SimpleLemmas.{is_false, is_nil, simple_groups}
 use Rattle.clap.proofs.WalkLemmas.{both}
-use Rattle.clap.specs.Facts.{IsParsed}
-use Rattle.clap.specs.Matches.{found_of, has_subcommand}
-use Rattle.clap.specs.Walk.{is_empty}
-use Rattle.clap.specs.Words.{App, BuildsOrBreaks, HasKind, Kinds, Row, app_of, built, is_broken, is_buildable, kind_of}
+use Rattle.clap.specs.Matches.{found_of}
+use Rattle.clap.specs.Words.{App, HasKind, Kinds, Row, app_of, built, is_broken, is_buildable, kind_of}
 use Rattle.clap.specs.Simple.{has_plain_fields}
 use Rattle.clap.specs.declared.builder.command.Command.TheViews.{out-Command}
 use Rattle.clap.specs.declared.builder.value_parser.Reading.TheVariants as reading
@@ -40,6 +41,7 @@ use Rattle.command.proofs.OneKindLaws.{IsOneAtMost}
 use Rattle.clap.specs.declared.builder.arg.Arg.{Arg}
 use Rattle.clap.specs.declared.builder.command.Command.{Command}
 use Rattle.clap.specs.declared.builder.value_parser.Reading.{Reading}
+use Rattle.clap.specs.declared.builder.value_parser.ValueParser.{ValueParser}
 use Rattle.clap.specs.declared.parser.matches.Found.{Found}
 use Rattle.clap.specs.declared.parser.matches.MatchedArg.{MatchedArg}
 
@@ -62,11 +64,28 @@ some_rule P id (x ∷ xs) (zero, a, inside, at, (same, p)) =
 some_rule P id (x ∷ xs) (suc k, a, inside, at, holds) =
     let more = some_rule P id xs (k, a, omega arith, at, holds) in grind (arith, more)
 
+-- the parser of the rule takes the value
 abbrev pub Accepted : Text → Rule → Type 0
-Accepted v r = Accepts r.ignore_case (parser_of_value r.parser) v
+Accepted v r = (parser : ValueParser) → r.parser ≡ Some parser → Accepts r.ignore_case parser v
 
+-- the parser of the rule reads values in this way
 abbrev pub ReadHow : Reading → Rule → Type 0
-ReadHow how r = reading_by r ≡ how
+ReadHow how r = (parser : ValueParser) → r.parser ≡ Some parser → reading_of parser ≡ how
+
+-- building keeps both
+accepted_before : (v : Text) (a b : Arg) → SameRules a b → Accepts b.ignore_case (parser_of b) v
+    → Accepted v (rule_of a)
+accepted_before v a b same accepts parser is = rw (same.parser parser is, same.ignore_case) at accepts
+
+read_before : (how : Reading) (a b : Arg) → SameRules a b → reading_of (parser_of b) ≡ how → ReadHow how (rule_of a)
+read_before how a b same read parser is = rw (same.parser parser is) at read
+
+-- an id that is no group's, and of neither flag that building adds
+abbrev IsOwn : Text → Type 0
+IsOwn id = (bytes_eq id [] ≡ false) × (bytes_eq id (codes "help") ≡ false) × (bytes_eq id (codes "version") ≡ false)
+
+differs : (x y : Text) → bytes_eq x y ≡ false → x ≡ y → ⊥
+differs x y e same = let same_by = bytes_eq-Decides x y in grind (arith, same_by, e, same)
 
 -- the text that a getter reads is a value that passed a rule of its id, read as such a rule says
 record ReadByRules (rules : List Rule) (id text : Text) : Type 0 where
@@ -76,42 +95,60 @@ record ReadByRules (rules : List Rule) (id text : Text) : Type 0 where
   accepted : SomeRule (Accepted value) id rules
   read : SomeRule (ReadHow how) id rules
 
-module _ (c : Command) (f : Found) (passes : ValuesPass c f) (no_groups : groups_of c ≡ []) (id : Text)
-    (named : id ≡ [] → ⊥) where
-  first_read : (x : MatchedArg) (e : Entry) → e.1 ≡ x → e.0.now ≡ id → EntryPasses c e
+module _ (c new : Command) (builds : BuildsTo c new) (f : Found) (passes : ValuesPass new f)
+    (no_groups : groups_of new ≡ []) (id : Text) (own : IsOwn id) where
+  -- an argument of this id after building was there before it
+  arg_before : (P : Arg → Type 0) (Q : Rule → Type 0) → ((a b : Arg) → SameRules a b → P b → Q (rule_of a))
+      → Any (λ b. (bytes_eq b.id.now id ≡ true) × P b) (args_of new) → SomeRule Q id (map rule_of (args_of c))
+  arg_before P Q before (k, b, inside, at, (is_id, p)) = elim (cases_lt k (length (args_of c))) [
+    | inl under ↦
+        let a = slice_index_or (args_of c) k b in
+        let same : SameRules a b = subst (SameRules a) at (builds.kept k b under).1 in
+        let there = get_or_default (args_of c) k a b under in
+        let key = subst (λ (i : Bor Text). bytes_eq i.now id ≡ true) same.id is_id in
+        some_rule Q id (args_of c) (k, a, under, there, (key, before a b same p))
+    | inr over ↦
+        let is : id ≡ b.id.now = sym ((bytes_eq-Decides b.id.now id).0 is_id) in
+        elim (subst IsAuto at (builds.extra k b over inside)) [
+          | inl help ↦ absurd (differs id (codes "help") own.1 (is ∙ help))
+          | inr version ↦ absurd (differs id (codes "version") own.2 (is ∙ version))
+        ]
+  ]
+
+  first_read : (x : MatchedArg) (e : Entry) → e.1 ≡ x → e.0.now ≡ id → EntryPasses new e
       → IfSome (option_map (λ s. read_as x.reading s.now) (slice_get x.vals.items 0))
       (ReadByRules (map rule_of (args_of c)) id)
   first_read x e same_x key pass =
       let (values, filled, counts, groups, reads) = pass in
       let no_group : e.1.is_group ≡ true → ⊥ = λ g. elim (groups g) [
-        | inl empty ↦ named (sym key ∙ empty)
+        | inl empty ↦ differs id [] own.0 (sym key ∙ empty)
         | inr lots ↦
             let bad : 0 < 0 = rw no_groups at lots in
             absurd (omega arith)
       ] in
-      let all : All (λ v. PassesArg c id v.now) x.vals.items = elim values [
+      let all : All (λ v. PassesArg new id v.now) x.vals.items = elim values [
         | inl g ↦ absurd (no_group g)
-        | inr vals ↦ subst (λ (w : Text). All (λ v. PassesArg c w v.now) x.vals.items) key (rw same_x at vals)
+        | inr vals ↦ subst (λ (w : Text). All (λ v. PassesArg new w v.now) x.vals.items) key (rw same_x at vals)
       ] in
-      let how : HasReading c id x.reading = elim reads [
+      let how : HasReading new id x.reading = elim reads [
         | inl g ↦ absurd (no_group g)
-        | inr h ↦ subst (λ (y : MatchedArg). HasReading c id y.reading) same_x
-            (subst (λ (w : Text). HasReading c w e.1.reading) key h)
+        | inr h ↦ subst (λ (y : MatchedArg). HasReading new id y.reading) same_x
+            (subst (λ (w : Text). HasReading new w e.1.reading) key h)
       ] in
       go x.vals.items all how
     where
-      go : (vs : List (Bor Text)) → All (λ v. PassesArg c id v.now) vs → HasReading c id x.reading
+      go : (vs : List (Bor Text)) → All (λ v. PassesArg new id v.now) vs → HasReading new id x.reading
           → IfSome (option_map (λ s. read_as x.reading s.now) (slice_get vs 0))
           (ReadByRules (map rule_of (args_of c)) id)
       go [] all how = tt
       go (v ∷ vs) all how =
-          let passes = All-get_or (λ v. PassesArg c id v.now) (v ∷ vs) 0 v (omega arith) all in
+          let passes = All-get_or (λ v. PassesArg new id v.now) (v ∷ vs) 0 v (omega arith) all in
           record {
             value = v.now;
             how = x.reading;
             is = refl;
-            accepted = some_rule (Accepted v.now) id (args_of c) passes;
-            read = some_rule (ReadHow x.reading) id (args_of c) how;
+            accepted = arg_before _ (Accepted v.now) (accepted_before v.now) passes;
+            read = arg_before _ (ReadHow x.reading) (read_before x.reading) how;
           }
 
   text_by_rules : IfSome (one_text f id) (ReadByRules (map rule_of (args_of c)) id)
@@ -121,7 +158,7 @@ module _ (c : Command) (f : Found) (passes : ValuesPass c f) (no_groups : groups
           → IfSome (one_text f id) (ReadByRules (map rule_of (args_of c)) id)
       go None e = rw e tt
       go (Some x) e =
-          let (entry, same, key, pass) = entry_by_id (EntryPasses c) f.entries.items id x passes e in
+          let (entry, same, key, pass) = entry_by_id (EntryPasses new) f.entries.items id x passes e in
           rw e (first_read x entry same ((bytes_eq-Decides entry.0.now id).0 key) pass)
 
 -- ---- numbers
@@ -158,57 +195,43 @@ bool_texts v h =
 flag_holds : (f : Found) → IfSome (one_text f (codes "escapes")) (ReadByRules rules (codes "escapes"))
     → IfSome (one_text f (codes "escapes")) (λ t. (t ≡ codes "true") ⊎ (t ≡ codes "false"))
 flag_holds f read = IfSome_then (one_text f (codes "escapes")) read (λ text h.
-    let is : text ≡ h.value = h.is ∙ ap (λ r. read_as r h.value) (sym (only h.read)) in
-    rw is (bool_texts h.value (only h.accepted)))
-
-no_items : {X : Type 0} (xs : List X) → is_empty xs ≡ true → xs ≡ []
-no_items [] e = refl
-no_items (x ∷ xs) e =
-    let bad : length (x ∷ xs) ≡ 0 = eqb-true _ _ e in
-    absurd (omega arith)
-
-not_true : (b : Bool) → not b ≡ true → b ≡ false
-not_true b e = grind (arith, e)
-
-named : (x : ℕ) (xs : Text) → x ∷ xs ≡ [] → ⊥
-named x xs e = cc
+    let is : text ≡ h.value = h.is ∙ ap (λ r. read_as r h.value) (sym (only h.read _ refl)) in
+    rw is (bool_texts h.value (only h.accepted _ refl)))
 
 -- a parse that succeeds with the built command has checked the numbers and the switch
-pub values_hold : (c : Command) (m : ArgMatches) → app_of c ≡ built command_line
-    → ((out-Command c).has_globals ≡ false → IsParsed c (found_of m) (has_subcommand m)) → HoldsValues (found_of m)
-values_hold c m is parsed =
+pub values_hold : (c : Command) (m : ArgMatches) → app_of c ≡ built command_line → IsParsedFrom c m
+    → HoldsValues (found_of m)
+values_hold c m is parse =
     let f = found_of m in
     let is_plain : has_plain_fields (out-Command c) ≡ true = ap (λ (a : App). a.top.is_plain) is in
     let parts = both _ _ is_plain in
-    let no_groups : groups_of c ≡ [] = no_items _ parts.0 in
-    let no_globals : (out-Command c).has_globals ≡ false = not_true _ (both _ _ (both _ _ parts.1).1).0 in
+    let no_group_names = simple_groups c (ap (λ (a : App). list_all (λ r. r.is_simple) a.top.rules) is) in
+    let no_groups : groups_of parse.built ≡ [] =
+    (parse.from.same_groups no_group_names).1 ∙ is_nil _ parts.0 in
+    let no_globals : (out-Command parse.built).has_globals ≡ false =
+    parse.from.globals ∙ is_false _ (both _ _ (both _ _ parts.1).1).0 in
     let same : map rule_of (args_of c) ≡ rules = ap (λ (a : App). a.top.rules) is in
-    let read : (id : Text) → (id ≡ [] → ⊥) → IfSome (one_text f id) (ReadByRules rules id) =
-    λ id named. subst (λ rs. IfSome (one_text f id) (ReadByRules rs id)) same
-    (text_by_rules c f (parsed no_globals).values no_groups id named) in
+    let read : (id : Text) → IsOwn id → IfSome (one_text f id) (ReadByRules rules id) =
+    λ id own. subst (λ rs. IfSome (one_text f id) (ReadByRules rs id)) same
+    (text_by_rules c parse.built parse.from f (parse.parsed no_globals).values no_groups id own) in
     record {
-      scale = number_holds f (codes "scale") 1 8 (read (codes "scale") (named _ _)) (λ v h. only h) (λ how h. only h);
-      height = number_holds f (codes "height") 1 500 (read (codes "height") (named _ _)) (λ v h. only h)
-          (λ how h. only h);
-      min_version = number_holds f (codes "min-version") 1 10 (read (codes "min-version") (named _ _)) (λ v h. only h)
-          (λ how h. only h);
-      mask = number_holds f (codes "mask") 0 7 (read (codes "mask") (named _ _)) (λ v h. only h) (λ how h. only h);
-      escapes = flag_holds f (read (codes "escapes") (named _ _));
+      scale = number_holds f (codes "scale") 1 8 (read (codes "scale") (refl, refl, refl)) (λ v h. only h _ refl)
+          (λ how h. only h _ refl);
+      height = number_holds f (codes "height") 1 500 (read (codes "height") (refl, refl, refl)) (λ v h. only h _ refl)
+          (λ how h. only h _ refl);
+      min_version = number_holds f (codes "min-version") 1 10 (read (codes "min-version") (refl, refl, refl))
+          (λ v h. only h _ refl) (λ how h. only h _ refl);
+      mask = number_holds f (codes "mask") 0 7 (read (codes "mask") (refl, refl, refl)) (λ v h. only h _ refl)
+          (λ how h. only h _ refl);
+      escapes = flag_holds f (read (codes "escapes") (refl, refl, refl));
     }
 
--- the built command, after a call that builds it
-pub still_built : (old new : Command) → app_of old ≡ built command_line → (is_broken new ≡ true → ⊥)
-    → BuildsOrBreaks old new → app_of new ≡ built command_line
-still_built old new is whole (inl broken) = absurd (whole broken)
-still_built old new is whole (inr (builds, names, inl same)) = same ∙ is
-still_built old new is whole (inr (builds, names, inr again)) = again (ap is_buildable is) ∙ ap built is
-
--- a build that succeeds builds the command line
-pub built_well : {V E : Type 0} (old new : Command) (result : Result V E) → false ≡ is_err result
-    → app_of old ≡ command_line → OnOk result (is_buildable (app_of old) ≡ true → app_of new ≡ built (app_of old))
-    → app_of new ≡ built command_line
-built_well old new (Ok v) good is shape = shape (ap is_buildable is) ∙ ap built is
-built_well old new (Err e) good is shape = cc
+-- a build builds the command line, or breaks it
+pub built_or_broken : {V E : Type 0} (old new : Command) (result : Result V E) → app_of old ≡ command_line
+    → OnOk result (is_buildable (app_of old) ≡ true → app_of new ≡ built (app_of old))
+    → OnErr result (is_broken new ≡ true) → (app_of new ≡ built command_line) ⊎ (is_broken new ≡ true)
+built_or_broken old new (Ok v) is shape broken = inl (shape (ap is_buildable is) ∙ ap built is)
+built_or_broken old new (Err e) is shape broken = inr broken
 
 -- ---- what a refused parse returns
 

@@ -144,7 +144,7 @@ pub fn options_of(alloc: Global, arguments: &[String]) -> Result<Choice, Argumen
     ensures { Chooses (invocation_of (map string_bytes arguments.now)) result }
 {
     match command(alloc) {
-        Ok(mut command) => parsed_by(alloc, &mut command, arguments),
+        Ok(command) => parsed_by(alloc, command, arguments),
         Err(_) => Err(ArgumentsFault::Memory),
     }
 }
@@ -152,16 +152,15 @@ pub fn options_of(alloc: Global, arguments: &[String]) -> Result<Choice, Argumen
 /// Returns what the arguments ask for, as the command line parses them.
 fn parsed_by<'a>(
     alloc: Global,
-    command: &mut Command<'a>,
+    mut command: Command<'a>,
     arguments: &'a [String],
 ) -> Result<Choice, ArgumentsFault>
-    requires { app_of command.old ≡ command_line }
+    requires { app_of command ≡ command_line }
     ensures { Chooses (invocation_of (map string_bytes arguments.now)) result }
 {
-    if command.build().is_err() {
-        return Err(ArgumentsFault::Memory);
-    }
-    match command.try_get_matches_from_mut(arguments) {
+    // Where the build runs out of memory, the parse fails with `OutOfMemory`.
+    let _ = command.build();
+    match command.try_get_matches_from(arguments) {
         Ok(matches) => choice_of(alloc, &matches),
         Err(error) => Err(fault_of(alloc, &error)),
     }

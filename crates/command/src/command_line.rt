@@ -106,7 +106,10 @@ pub fn command<'a>(alloc: Global) -> Result<Command<'a>, AllocError>
         .about(ABOUT)
         .after_help(AFTER_HELP);
     for argument in &ARGUMENTS {
-        command = command.arg(arg_of(alloc, argument))?;
+        match command.arg(arg_of(alloc, argument)) {
+            Ok(more) => command = more,
+            Err(error) => return Err(error),
+        }
     }
     Ok(command)
 }
