@@ -4,6 +4,7 @@
 use command::{ArgumentsFault, Choice, End, OpenFault, open_file, options_of};
 use device::{Buffered, StdSink, StdSource};
 use filter::{RunFault, run_streams};
+use labelcore::Options;
 use std::alloc::Global;
 use std::env;
 use std::io::{ErrorKind, Read, Write};
@@ -23,7 +24,7 @@ fn end_of(rt: &HostRuntime) -> End {
         Ok(arguments) => arguments,
         Err(end) => return end,
     };
-    match options_of(alloc, arguments.as_slice()) {
+    match options_of(alloc, after_name(arguments.as_slice())) {
         Ok(choice) => run_choice(rt, alloc, choice),
         Err(ArgumentsFault::Help(text)) => help(rt, text.as_str()),
         Err(ArgumentsFault::Bad) => End::BadArguments,
@@ -31,10 +32,10 @@ fn end_of(rt: &HostRuntime) -> End {
     }
 }
 
-/// The arguments after the program's name.
+/// The arguments, the program's name first.
 fn arguments_of(rt: &HostRuntime, alloc: Global) -> Result<Vec<String>, End> {
     match env::args(rt) {
-        Ok(args) => match args.skip(1).collect(alloc) {
+        Ok(args) => match args.collect(alloc) {
             Ok(arguments) => Ok(arguments),
             Err(_) => Err(End::NoMemory),
         },
@@ -42,6 +43,14 @@ fn arguments_of(rt: &HostRuntime, alloc: Global) -> Result<Vec<String>, End> {
             ErrorKind::OutOfMemory => End::NoMemory,
             _ => End::BadArguments,
         }),
+    }
+}
+
+/// The arguments after the program's name.
+fn after_name(arguments: &[String]) -> &[String] {
+    match arguments.split_first() {
+        Some((_name, rest)) => rest,
+        None => &[],
     }
 }
 
@@ -57,18 +66,23 @@ fn help(rt: &HostRuntime, text: &str) -> End {
 /// Runs the filter over the file or standard input.
 fn run_choice(rt: &HostRuntime, alloc: Global, choice: Choice) -> End {
     match &choice.file {
-        Some(name) => match open_file(rt, alloc, name.as_str()) {
-            Ok(source) => run_over(rt, &choice, source),
-            Err(OpenFault::NoFile) => End::NoFile,
-            Err(OpenFault::Memory) => End::NoMemory,
-        },
-        None => run_over(rt, &choice, StdSource::new(rt.stdin())),
+        Some(name) => run_file(rt, alloc, choice.options, name.as_str()),
+        None => run_over(rt, choice.options, StdSource::new(rt.stdin())),
+    }
+}
+
+/// Runs the filter over the file of this name.
+fn run_file(rt: &HostRuntime, alloc: Global, options: Options, name: &str) -> End {
+    match open_file(rt, alloc, name) {
+        Ok(source) => run_over(rt, options, source),
+        Err(OpenFault::NoFile) => End::NoFile,
+        Err(OpenFault::Memory) => End::NoMemory,
     }
 }
 
 /// Runs the filter over a source: pictures go to standard output through a buffer, messages to standard error.
-fn run_over<R: Read + Drop>(rt: &HostRuntime, choice: &Choice, mut source: StdSource<R>) -> End {
+fn run_over<R: Read + Drop>(rt: &HostRuntime, options: Options, mut source: StdSource<R>) -> End {
     let mut out = Buffered::new(StdSink::new(rt.stdout()));
     let mut err = StdSink::new(rt.stderr());
-    End::Ran(run_streams(choice.options, &mut source, &mut out, &mut err))
+    End::Ran(run_streams(options, &mut source, &mut out, &mut err))
 }
