@@ -106,10 +106,7 @@ pub fn command<'a>(alloc: Global) -> Result<Command<'a>, AllocError>
         .about(ABOUT)
         .after_help(AFTER_HELP);
     for argument in &ARGUMENTS {
-        match command.arg(arg_of(alloc, argument)) {
-            Ok(more) => command = more,
-            Err(error) => return Err(error),
-        }
+        command = command.arg(arg_of(alloc, argument))?;
     }
     Ok(command)
 }
