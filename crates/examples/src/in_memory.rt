@@ -18,8 +18,9 @@ pub fn draw_labels<'a, const N: usize, const M: usize>(
     images: &mut MemSink<N>,
     messages: &mut MemSink<M>,
 ) -> Result<Status, RunFault>
-    ensures { Runs (⟦<MemSource<'a> as Source>⟧) (⟦<MemSink<N> as Sink>⟧) (⟦<MemSink<M> as Sink>⟧) (λ old new. new ≡ old)
-        options source.old source.new images.old images.new messages.old messages.new result }
+    ensures { Runs (⟦<MemSource<'a> as Source>⟧) (⟦<MemSink<N> as Sink>⟧) (⟦<MemSink<M> as Sink>⟧)
+        (λ old new. new ≡ old) options source.old source.new images.old images.new
+        messages.old messages.new result }
 {
     run(options, source, images, messages)
 }

@@ -17,7 +17,8 @@ pub overflow_mul-result : goal.overflow_mul-result
 overflow_mul-result g c =
     let s = c.args.self.now in
     let inside = c.equal_rows.ensures.inside in
-    let most = mul-le c.equal_rows.result s.scale (g.G.Grid.picture s.grid).height s.scale (omega arith) (omega arith) in
+    let rows = (g.G.Grid.picture s.grid).height in
+    let most = mul-le c.equal_rows.result s.scale rows s.scale (omega arith) (omega arith) in
     omega arith
 
 pub overflow_sub-result : goal.overflow_sub-result
