@@ -78,7 +78,7 @@ class Believed(InCopy):
             ("crates/device/src/sink.rt", "        requires { 0 < length bytes.now }\n", "", "trait `Sink`"),
             (streams, clause, "", says),
             ("crates.txt", "gf256:", "gf65536:\ngf256:", "gf65536"),
-            ("crates/labels/src/main.rt", "run_streams(choice", "run_other(choice", "does not call run_streams"),
+            ("crates/labels/src/main.rt", "run_streams(options", "run_other(options", "does not call run_streams"),
             ("crates/labelcore/specs/HeldLine.antt", "pub line_limit :", "pub line_bound :", "has no line_limit"),
         )
         self.assert_changes_fail(changes, self.check)
