@@ -216,8 +216,8 @@ impl Bits {
     }
 }
 
-/// Proves that the numbers of a slice of bytes are below 256, which the type of what has the slice does not say to a
-/// proof. It does nothing when it runs.
+/// Proves that each number of a slice of bytes is below 256: a proof sees the slice as a list of numbers, which has no
+/// such bound. It does nothing when it runs.
 pub(crate) fn are_bytes(bytes: &[u8])
     ensures { All (λ b. b < 256) bytes.now }
 {}
