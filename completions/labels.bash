@@ -14,15 +14,17 @@ _labels() {
             options+=' --min-version=1,2,3,4,5,6,7,8,9,10 --mask=0,1,2,3,4,5,6,7 --escapes --help'
             ;;
         label-table)
-            options='--code= --title= --text= --price= --copies= --symbology=auto,ean13,ean8,upca,code128,qr'
-            options+=' --settings= --fill-zeros --without-check-digit --allow-zeros --sheet= --decimal= --hidden'
-            options+=' --delimiter= --encoding= --header --no-header --help'
+            options='--code= --title= --text= --price= --unit-price= --old-price= --currency= --copies= --where='
+            options+=' --new-since=FILE --symbology=auto,ean13,ean8,upca,code128,qr --symbology-column= --settings='
+            options+=' --fill-zeros --without-check-digit --allow-zeros --links --price-as= --price-text'
+            options+=' --currency-name= --sheet= --hidden --decimal= --date-as= --delimiter= --encoding='
+            options+=' --header --no-header --header-row= --summary --help'
             ;;
         label-print)
             options='--stock= --list-stock= --paper= --page= --columns= --rows= --cell= --margin= --gap='
-            options+=' --dpi=203,300,600 --module= --height= --first= --only= --edge= --shift='
-            options+=' --to=pdf,svg,png,pbm,zpl,escpos --each=FILE --dots= --no-cut --font= --digits= --labels='
-            options+=' --read-back --help'
+            options+=' --dpi=203,300,600 --module= --height= --design=article,shelf --turn --no-turn --note='
+            options+=' --first= --only= --edge= --shift= --to=pdf,svg,png,pbm,zpl,escpos --each=FILE --print='
+            options+=' --dots= --no-cut --compress --font= --digits= --labels= --read-back --summary --help'
             ;;
         *) options='--labels= --help' ;;
     esac

@@ -83,6 +83,8 @@ class File:
                 levels.pop()
             if in_module:
                 in_module = not line.rstrip().endswith("where")
+                if line.strip() == "where":
+                    levels[-1] = column + 2
                 self.rest.append(line)
             elif column == levels[-1] and USE.match(line):
                 self.imports += imported(USE.match(line).group(1), f"{self.path}:{number}")

@@ -1,4 +1,4 @@
-#!/usr/bin/env python3
+#!/usr/bin/python3
 """What has to be believed: every definition that the contract of the program's own call rests on.
 
 With no option it prints how many lines there are. --write makes the lists of docs/DEFINITIONS.md anew. --check
@@ -6,8 +6,10 @@ compares the page with what --write would leave, and the number in README.md: st
 
 The first list has the definitions that the call rests on, the second the other definitions of specs/, but for modules
 whose name begins with Private: contracts inside a crate alone cite these. The third has what contracts speak by and is
-no definition: the contract itself, traits, types and views of the code. README's number counts the first list and what
-the third one has of the call.
+no definition: the contract itself, traits, types and views of the code. The fourth has the names of std and of the
+kit's clap that the definitions and the contract of the call lean on, with what scripts/std_names.txt says of each.
+README's number counts all that a sceptic has to read: the lines of the first list, those that the third one has of the
+call, and a line for each name of the fourth.
 
 The first comment of a file says what the file is about. Lines `-- Why: ` after it say what its definitions follow:
 names between backticks, a colon, and the clause of a standard or a page.
@@ -30,13 +32,14 @@ import declared
 import sources
 
 # The program's own call: its crate, its file and its name.
-CALL = ("filter", "streams", "run_streams")
+CALL = ("command", "entry", "program")
 PROGRAM = "labels"
 # The crates in the order in which a reader meets them, from the headline down.
-CRATES = ["filter", "labelcore", "device", "picture", "linear", "qrmatrix", "qrdata", "gf256", "command", "testing"]
+CRATES = "filter labelcore device picture linear qrmatrix qrdata gf256 command capi testing".split()
 # The crates on whose contracts no other crate rests.
-AT_THE_TOP = {"labels", "examples", "tests"}
+AT_THE_TOP = {"labels", "labels_c", "examples", "tests"}
 PAGE = os.path.join("docs", "DEFINITIONS.md")
+STD_NAMES = os.path.join("scripts", "std_names.txt")
 README_NUMBER = re.compile(r"([\d,]+)\s+lines\s+of\s+\[definitions\]")
 # The names of a `Why: `, before its first colon.
 WHY = re.compile(r"Why: ((?:`[^`]+`,? )*`[^`]+`): ")
@@ -162,18 +165,47 @@ def part(files, definitions):
 
 @dataclass
 class Lists:
-    """What the page lists: definitions that the call rests on and others, items of code of the call and others."""
+    """What the page lists: definitions that the call rests on and others, items of code of the call and others, and
+    the names of std that the call leans on, with what each means."""
 
     files: dict
     reached: list
     others: list
     code_of_call: list
     other_code: list
+    std_names: dict
 
 
 def is_named(item, words):
     """Whether an item of the code is named: of members the trait and the type."""
     return all(name in words for name in item.name.split(" for "))
+
+
+def imported_of_std(file, definition):
+    """The names of std and of the kit's crates that a definition of a file has."""
+    text = definition.text()
+    names = antt.names_in(text)
+    of_kit = [one for one in file.imports if one.target and one.target.crate not in CRATES and one.target.name]
+    return {one.target.name for one in of_kit if antt.is_named_in(one.name, names, text)}
+
+
+def leans_on(files, reached, code_of_call):
+    """The names of std and of the kit's crates that definitions and items of code have."""
+    found = {name for item in code_of_call for crate, _, name in item.definitions if crate not in CRATES}
+    for one in reached:
+        found |= imported_of_std(files[one.key.crate, one.key.module], one)
+    return found
+
+
+def std_names(top, found):
+    """What each of the names means, in the order of the file that says it. Stops where it has other names."""
+    lines = [line for line in sources.read(os.path.join(top, STD_NAMES)).split("\n") if line and line[0] != "#"]
+    meanings = dict(re.split(r"\s{2,}", line, maxsplit=1) for line in lines)
+    for name in sorted(found - {*meanings}):
+        sys.exit(f"{STD_NAMES} does not say what {name} means, which definitions lean on")
+    for name in sorted({*meanings} - found):
+        sys.exit(f"{STD_NAMES} has {name}, on which no definition leans: drop its line")
+    return meanings
 
 
 def read_lists(top):
@@ -196,7 +228,8 @@ def read_lists(top):
     rest = others(files, reached)
     of_rest = [it for one in rest for it in rests_on(files, one) if isinstance(it, tuple)]
     every = declared.code_items(top, CRATES, named | declared.named_in(of_rest))
-    return Lists(files, reached, rest, of_call, [it for it in every if it not in of_call])
+    names = std_names(top, leans_on(files, reached, of_call))
+    return Lists(files, reached, rest, of_call, [it for it in every if it not in of_call], names)
 
 
 def counts_of_code(items):
@@ -223,7 +256,13 @@ def page_anew(page, lists):
     """The page with its lists made anew."""
     code = code_part("Of the program's call", lists.code_of_call)
     code += code_part("Of other public contracts", lists.other_code)
-    texts = {"believed": part(lists.files, lists.reached), "other": part(lists.files, lists.others), "code": code}
+    rows = [f"| `{cell(name)}` | {cell(meaning)} |" for name, meaning in lists.std_names.items()]
+    texts = {
+        "believed": part(lists.files, lists.reached),
+        "other": part(lists.files, lists.others),
+        "code": code,
+        "std": "\n".join(["", "| Name | What it means |", "|---|---|", *rows]) + "\n",
+    }
     for name, made in texts.items():
         begin, end = f"<!-- {name}: begin -->", f"<!-- {name}: end -->"
         before, found_begin, rest = page.partition(begin)
@@ -246,7 +285,7 @@ def check_page(page, lists):
 
 
 def lines_to_believe(lists):
-    return lines_of(lists.reached) + sum(item.lines for item in lists.code_of_call)
+    return lines_of(lists.reached) + sum(item.lines for item in lists.code_of_call) + len(lists.std_names)
 
 
 def check_readme(readme, lists):
@@ -264,6 +303,7 @@ def print_counts(lists):
         print(f"{crate}: {len(here)} definitions, {lines_of(here)} lines")
     print(f"in all: {len(lists.reached)} definitions, {lines_of(lists.reached)} lines")
     print(f"of the code: {counts_of_code(lists.code_of_call)}")
+    print(f"names of std and of the kit's crates: {len(lists.std_names)}, a line each")
     print(f"to be believed: {lines_to_believe(lists)} lines, without blank lines and comments")
 
 

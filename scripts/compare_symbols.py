@@ -1,4 +1,4 @@
-#!/usr/bin/env python3
+#!/usr/bin/python3
 """Draws some hundred labels with the program `labels`, and compares them with two third-party programs.
 
 zbarimg reads each label back: it must give the full data, digits with their check digit or all bytes. A reader
@@ -10,16 +10,18 @@ The labels are the same in every run: all five symbologies, every error correcti
 pixels a module. For zbarimg pnmpad puts white above and below, which a linear label lacks, and pnmtopng makes the PNG.
 
 The last line is `N labels: R read back, S of T as zint draws them`. Any other label is printed with its line, and the
-status is then 1, as where there are no labels. Status 2: bad arguments, no such program, a third-party program
-missing."""
+status is then 1, as where there are no labels. In each run both comparisons are shown a wrong case that they have to
+report: a picture with a turned module, and a picture of other data. Status 2: bad arguments, no such program, a
+third-party program missing."""
 
+import dataclasses
 import os
 import random
+import re
 import shutil
 import subprocess
 import sys
 import tempfile
-from dataclasses import dataclass
 
 import sources
 
@@ -45,7 +47,7 @@ MOST = (
 )
 
 
-@dataclass(frozen=True)
+@dataclasses.dataclass(frozen=True)
 class Label:
     """One label: its line's head, the data, what a reader must return, how the run is set, zint's arguments if any."""
 
@@ -197,19 +199,18 @@ def reading_of(path, symbology):
     return ran.stdout
 
 
-def count_read_back(program, labels, folder):
-    """How many of the labels are read back. Prints each of the others."""
-    good, path = 0, os.path.join(folder, "label.png")
+def not_read_back(program, labels, folder):
+    """The labels that are not read back, each with what is read."""
+    found, path = [], os.path.join(folder, "label.png")
     for scale, escapes in sorted({(label.scale, label.escapes) for label in labels}):
         group = [label for label in labels if (label.scale, label.escapes) == (scale, escapes)]
         options = ["--scale", str(scale)] + (["--escapes"] if escapes else [])
         for label, picture in zip(group, pictures_of(program, group, *options)):
             write_png(picture, scale, path)
-            found = reading_of(path, label.head.split(",")[0])
-            good += found == label.full
-            if found != label.full:
-                print(f"scale {scale}, {label.line()!r}: read as {found!r}")
-    return good
+            reading = reading_of(path, label.head.split(",")[0])
+            if reading != label.full:
+                found.append(f"scale {scale}, {label.line()!r}: read as {reading!r}")
+    return found
 
 
 def rows_of_ours(picture):
@@ -232,15 +233,34 @@ def rows_of_zint(arguments, width):
     return [row[:width] for row in rows]
 
 
-def is_same(label, picture):
-    """Whether the picture has the modules of zint's symbol. Prints the label where it has not."""
+def difference(label, picture):
+    """What tells the picture from zint's symbol, or nothing where each module is the same."""
     ours = rows_of_ours(picture)
     zints = rows_of_zint(label.zint, len(ours[0]))
-    if ours != zints:
-        wrong = sum(a != b for row, other in zip(ours, zints) for a, b in zip(row, other))
-        sizes = f"{len(ours[0])} by {len(ours)} and {len(zints[0])} by {len(zints)} modules"
-        print(f"{label.line()!r}: {sizes}, {wrong} differ")
-    return ours == zints
+    if ours == zints:
+        return ""
+    wrong = sum(a != b for row, other in zip(ours, zints) for a, b in zip(row, other))
+    sizes = f"{len(ours[0])} by {len(ours)} and {len(zints[0])} by {len(zints)} modules"
+    return f"{label.line()!r}: {sizes}, {wrong} differ"
+
+
+def with_turned_module(picture):
+    """A picture of a QR symbol with the module in its middle turned."""
+    head, size, rows = picture.split(b"\n", 2)
+    places = [match.start() for match in re.finditer(rb"[01]", rows)]
+    middle = places[len(places) // 2]
+    turned = b"1" if rows[middle : middle + 1] == b"0" else b"0"
+    return b"\n".join((head, size, rows[:middle] + turned + rows[middle + 1 :]))
+
+
+def not_seen(program, folder):
+    """The wrong cases that the comparisons do not report."""
+    label = Label("qr,level=L,min-version=1,mask=0", b"WRONG", b"WRONG", 2)
+    label = dataclasses.replace(label, zint=("-b", "QRCODE", "--secure=1", "--vers=1", "--mask=0", "-d", "WRONG"))
+    if not difference(label, with_turned_module(pictures_of(program, [label])[0])):
+        yield "a picture with a turned module passes as zint's"
+    if not not_read_back(program, [dataclasses.replace(label, full=b"RIGHT")], folder):
+        yield "a picture of other data passes as read back"
 
 
 def main():
@@ -251,11 +271,15 @@ def main():
         return 2
     labels = all_labels()
     with_zint = [label for label in labels if label.zint]
-    same = sum(is_same(*pair) for pair in zip(with_zint, pictures_of(program, with_zint)))
+    pictures = pictures_of(program, with_zint)
+    differ = [text for label, picture in zip(with_zint, pictures) if (text := difference(label, picture))]
     with tempfile.TemporaryDirectory() as folder:
-        read = count_read_back(program, labels, folder)
+        unread = not_read_back(program, labels, folder)
+        unseen = list(not_seen(program, folder)) if labels else []
+    print(*differ, *unread, *unseen, sep="\n", end="\n" if differ or unread or unseen else "")
+    read, same = len(labels) - len(unread), len(with_zint) - len(differ)
     print(f"{len(labels)} labels: {read} read back, {same} of {len(with_zint)} as zint draws them")
-    return 0 if with_zint and read == len(labels) and same == len(with_zint) else 1
+    return 1 if differ or unread or unseen or not with_zint else 0
 
 
 if __name__ == "__main__":

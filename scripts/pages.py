@@ -1,10 +1,11 @@
-#!/usr/bin/env python3
-"""Checks the pages against the files that they speak of: README.md, docs/*.md and crates/*/README.md.
+#!/usr/bin/python3
+"""Checks the pages against the files that they speak of: *.md, docs/*.md and crates/*/README.md.
 
-- Each block of code is closed, and its language is one that a script reads: sh, sh kit, text or rust.
-- Code of the crates is quoted as it is: each block of Rust in docs/LIBRARY.md and docs/PROOF.md, and each block of
-  text that begins with a clause (`ensures`), is in a file crates/*.rt that the page names before it, line by line, but
-  for the spaces in front. A block below a line `Not checked:` is left out.
+- Each block of code is closed, and its language is one that a script reads: text, rust, c, cpp or python, and sh and
+  sh kit on the pages alone that run_recipes.py runs.
+- Code is quoted as it is: each block of Rust, C, C++ and Python in docs/LIBRARY.md and docs/PROOF.md, and each block
+  of text that begins with a clause (`ensures`), is in a file crates/*.rt or lib/* that the page names before it, line
+  by line, but for the spaces in front. A block below a line `Not checked:` is left out.
 - Each name in the tables of docs/GLOSSARY.md is in the file beside it, as a whole word.
 - Each crate has a page of at most 40 lines. Each line of a block of Rust in it, but for imports and comments, is a
   line of the function page_of_NAME in crates/tests/src/pages.rt, in the same order, white space apart.
@@ -17,24 +18,27 @@ import os
 import re
 import sys
 
+import run_recipes
 import sources
 
-LANGUAGES = {"sh", "sh kit", "text", "rust"}
+QUOTED = {"rust", "c", "cpp", "python"}
+LANGUAGES = {"sh", "sh kit", "text", *QUOTED}
 QUOTING = ("docs/LIBRARY.md", "docs/PROOF.md")
 GLOSSARY = "docs/GLOSSARY.md"
 COLUMNS = ("Term", "Meaning", "Clause", "Name", "File")
-WITHOUT_EXAMPLE = {"labels", "examples", "tests"}
+WITHOUT_EXAMPLE = {"labels", "labels_c", "examples", "tests"}
 LONGEST = 40
 FENCE = re.compile(r"^\s*(`{3,}|~{3,})\s*(.*?)\s*$")
-FILE = re.compile(r"\bcrates/[\w/]+\.rt\b")
+FILE = re.compile(r"\b(?:crates/[\w/]+\.rt|lib/[\w/]+\.\w+)\b")
 NOT_CHECKED = "Not checked:"
 
 
 def pages_of(top):
     """The text of each page, by its path below the top."""
-    paths = [os.path.join(top, "README.md"), *sorted(glob.glob(f"{top}/docs/*.md"))]
+    paths = [*sorted(glob.glob(f"{top}/*.md")), *sorted(glob.glob(f"{top}/docs/*.md"))]
     paths += [os.path.join(top, "crates", name, "README.md") for name in sources.crates_of(top)]
-    missing = [path for path in [*paths, *(os.path.join(top, page) for page in QUOTING)] if not os.path.isfile(path)]
+    wanted = [*paths, *(os.path.join(top, page) for page in (*run_recipes.PAGES, *QUOTING))]
+    missing = [path for path in wanted if not os.path.isfile(path)]
     if missing:
         sys.exit("\n".join(f"there is no {os.path.relpath(path, top)}" for path in dict.fromkeys(missing)))
     return {os.path.relpath(path, top): sources.read(path) for path in paths}
@@ -56,11 +60,13 @@ def blocks_of(text):
 def faults_of_blocks(top, page, blocks):
     """What is wrong with the blocks of a page, each with the number of its line."""
     for number, language, code, above in blocks:
-        is_quoted = code is not None and (language == "rust" or code.lstrip().startswith("ensures"))
+        is_quoted = code is not None and (language in QUOTED or code.lstrip().startswith("ensures"))
         if code is None:
             yield number, "this block is not closed"
         elif language not in LANGUAGES:
             yield number, f"no script reads blocks of {language or 'no language'}"
+        elif language.startswith("sh") and page not in run_recipes.PAGES:
+            yield number, "nothing runs the commands of this page: write them as text"
         elif page in QUOTING and is_quoted and not "\n".join(above).rstrip().endswith(NOT_CHECKED):
             if not is_in_files(top, code, "\n".join(above)):
                 yield number, "this code is in no file that the page names above it"

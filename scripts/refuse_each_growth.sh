@@ -9,7 +9,8 @@
 # compiler). N goes up to the first run that makes fewer than N such calls. A run is good where it either
 #   - does what it does when no growth is refused: the same output, messages and status, or
 #   - writes nothing on standard output and `labels: no memory` on standard error, and ends with status 3.
-# Any other run is reported, and makes the status of this script 1. The last line is
+# Any other run is reported, and makes the status of this script 1. First, it is shown a program that loses its output
+# without a word where a growth is refused, which it has to report. The last line is
 # `N growths: K no memory, L unaffected, M wrong`. Status 2: bad arguments, no such program, or no C compiler.
 set -euo pipefail
 
@@ -75,6 +76,34 @@ C
     "$compiler" -O2 -fPIC -shared -o "$scratch/refuse.so" "$scratch/refuse.c"
 }
 
+# A program that writes what it has no memory for as nothing at all, and ends as if all were well.
+build_loser() {
+    cat > "$scratch/loser.c" <<'C'
+#include <stdio.h>
+#include <stdlib.h>
+
+int main(void) {
+    setvbuf(stdout, NULL, _IONBF, 0);
+    void *volatile first = malloc(1);
+    void *volatile second = malloc(1);
+    if (first && second) {
+        puts("all");
+    }
+    return 0;
+}
+C
+    "$compiler" -O0 -o "$scratch/loser" "$scratch/loser.c"
+}
+
+# Sees that each refused growth of that program is reported. The counts are of this alone.
+see_loser() {
+    local program=$scratch/loser refused=0 whole=0 bad=0
+    build_loser
+    refuse_each > "$scratch/reported"
+    # Its two growths, and that none of them ended with 'no memory'.
+    [ "$bad" -eq 3 ] && [ "$(grep -c 'growth [12]: status 0, 0 bytes' "$scratch/reported")" -eq 2 ]
+}
+
 # Runs the program by the arguments $2 .. with growth $1 refused (none, where $1 is 0), into the files out and err, and
 # sets status.
 run_refused() {
@@ -124,6 +153,10 @@ see_stored() {
 }
 
 build_library
+see_loser || {
+    echo 'a program that loses its output where memory is refused is not reported'
+    exit 1
+}
 refused=0 whole=0 bad=0
 refuse_each "${stored[@]}"
 see_stored

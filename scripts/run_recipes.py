@@ -1,4 +1,4 @@
-#!/usr/bin/env python3
+#!/usr/bin/python3
 """Runs each command of the documents, and compares what it prints.
 
 The pages are README.md, docs/INPUT.md, docs/PRINTING.md, docs/RECIPES.md and the examples of the man pages. PROGRAM is
@@ -12,13 +12,18 @@ below it; `$ cat FILE` of a file that is not there makes the file. An example wi
 and may print anything; it runs in labels.1 alone, since those of the other man pages name files of the reader.
 
 A block ```sh kit calls the kit, which proves for minutes, and may print anything. It runs with --kit alone, in a fresh
-clone of what is committed, README.md first, and the other pages with the program that it builds; the gate is left out.
+clone of what is committed, README.md first, and the other pages with the program that it builds.
 
-Besides, the pictures that RECIPES.md makes must be those of docs/pictures, pixel for pixel, and each link from one
-file of the repository to another must lead to a file and a heading. The last line is `N of N as printed`; where one is
-not, the status is 1.
+Besides, the pictures that RECIPES.md makes must be those of docs/pictures but window.png, pixel for pixel, and each
+link from one file of the repository to another must lead to a file and a heading. The last line is `N of N as
+printed`; where one is not, the status is 1.
+
+In each run this is shown wrong cases first, each of which it has to report: a command that prints something else than
+the page says, one that fails, a picture that is another, and a link that leads nowhere.
 """
 
+import contextlib
+import io
 import os
 import re
 import shutil
@@ -57,7 +62,7 @@ def blocks_of(page, with_kit):
     return [
         Block(commands, None if kind == "sh kit" else printed, False)
         for kind, commands, printed in blocks
-        if kind != "sh kit" or with_kit and commands != ".ci/run\n"
+        if kind != "sh kit" or with_kit
     ]
 
 
@@ -85,6 +90,10 @@ def anchors_of(page):
     """The names by which links lead to the headings of a page."""
     headings = HEADING.findall(ANY_BLOCK.sub("", page.read_text(encoding="utf-8")))
     return [re.sub(r"[^\w\- ]", "", heading.lower()).replace(" ", "-") for heading in headings]
+
+
+# A picture of the window: themes and fonts of a desktop make it another one, so it is drawn by hand.
+OF_A_SCREEN = "window.png"
 
 
 def pixels(picture):
@@ -155,22 +164,29 @@ class Run:
 
     def compare_pictures(self, folder):
         """Compares the pictures of the documents with those in the folder that have their names."""
-        pictures = sorted((TOP / "docs/pictures").iterdir())
-        for picture in pictures:
-            wanted = pixels(picture)
-            is_good = bool(wanted) and wanted == pixels(folder / picture.name)
-            self.judge(is_good, f"docs/pictures/{picture.name} is not what docs/RECIPES.md makes")
+        for picture in sorted((TOP / "docs/pictures").iterdir()):
+            if picture.name != OF_A_SCREEN:
+                self.compare_picture(picture, folder / picture.name)
+
+    def compare_picture(self, picture, made):
+        """Compares a picture of the documents with one that was made."""
+        wanted = pixels(picture)
+        is_good = bool(wanted) and wanted == pixels(made)
+        self.judge(is_good, f"docs/pictures/{picture.name} is not what docs/RECIPES.md makes")
 
     def try_links(self):
         """Looks for the file and the heading of each link between the files of the repository."""
-        for page in (TOP / "README.md", *sorted((TOP / "docs").glob("*.md"))):
+        for page in (*TOP.glob("*.md"), *sorted((TOP / "docs").glob("*.md"))):
             text = ANY_BLOCK.sub("", page.read_text(encoding="utf-8"))
             for path, anchor in LINK.findall(text):
-                if re.match("[a-z]+:", path):
-                    continue
-                target = page.parent / path if path else page
-                is_good = target.exists() and (not anchor or anchor in anchors_of(target))
-                self.judge(is_good, f"{page.relative_to(TOP)}: a link to {path}#{anchor} leads nowhere")
+                if not re.match("[a-z]+:", path):
+                    self.try_link(page, path, anchor)
+
+    def try_link(self, page, path, anchor):
+        """Looks for the file and the heading that a link of a page leads to."""
+        target = page.parent / path if path else page
+        is_good = target.exists() and (not anchor or anchor in anchors_of(target))
+        self.judge(is_good, f"{page.relative_to(TOP)}: a link to {path}#{anchor} leads nowhere")
 
     def try_man_pages(self):
         """Runs the examples of each man page."""
@@ -182,6 +198,28 @@ class Run:
                 self.try_page(f"man/{page.name}", blocks)
 
 
+def unseen():
+    """The wrong cases that are not reported, by their names."""
+    one, another = sorted((TOP / "docs/pictures").glob("*.png"))[:2]
+    block, readme = Block("echo right\n", "right\n", False), TOP / "README.md"
+    with tempfile.TemporaryDirectory() as folder:
+        cases = {
+            "other output": lambda run: run.try_block("", block._replace(printed="wrong\n"), Path(folder), {}),
+            "no output": lambda run: run.try_block("", block._replace(commands="true\n"), Path(folder), {}),
+            "a failure": lambda run: run.try_block("", block._replace(commands="echo right; false"), Path(folder), {}),
+            "another picture": lambda run: run.compare_picture(one, another),
+            "no picture": lambda run: run.compare_picture(one, Path(folder) / one.name),
+            "a link to no file": lambda run: run.try_link(readme, "no-such-file.md", ""),
+            "a link to no heading": lambda run: run.try_link(readme, "README.md", "no-such-heading"),
+        }
+        for name, case in cases.items():
+            run, said = Run(None, False), io.StringIO()
+            with run.kept, contextlib.redirect_stdout(said):
+                case(run)
+            if (run.count, run.good) != (1, 0) or not said.getvalue():
+                yield name
+
+
 def main():
     parser = sources.parser_of(__doc__, has_top=False)
     parser.add_argument("--kit", action="store_true", help="run the blocks that call the kit too, in a fresh clone")
@@ -190,13 +228,15 @@ def main():
     program = arguments.program or (None if arguments.kit else TOP / PROGRAM)
     if program and not (program.is_file() and os.access(program, os.X_OK)):
         parser.error(f"{program} is no program: run (cd crates/labels && rt run < /dev/null)")
+    passes = list(unseen())
+    print(*(f"this wrong case is not reported: {name}" for name in passes), sep="\n", end="\n" if passes else "")
     run = Run(program and program.resolve(), arguments.kit)
     for page in PAGES:
         run.try_page(page, blocks_of(page, arguments.kit))
     run.try_man_pages()
     run.try_links()
     print(f"{run.good} of {run.count} as printed")
-    return 0 if run.good == run.count else 1
+    return 0 if run.good == run.count and not passes else 1
 
 
 if __name__ == "__main__":

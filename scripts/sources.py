@@ -7,9 +7,12 @@ import argparse
 import glob
 import os
 import re
+import subprocess
 import sys
 from dataclasses import dataclass, field
 
+# Debian's Python, which has the modules that the tools need, whatever is first on the path.
+PYTHON = "/usr/bin/python3"
 TOP = os.path.dirname(os.path.dirname(os.path.abspath(__file__)))
 # A comment, a text, or a character: what may hold a bracket that is none.
 OPAQUE = re.compile(r"""//[^\n]*|/\*.*?\*/|b?"(?:\\.|[^"\\])*"|b?'(?:\\[^\n']*'|\\''|[^'\\\n]')""", re.S)
@@ -19,6 +22,17 @@ ITEM = re.compile(
     r"(?P<kind>fn|struct|enum|trait|impl|mod|const|ghost|use|type|static)\b"
 )
 FUNCTION_WORD = re.compile(r"\b(requires|ensures)\b(?:\s+(\w+))?\s*(?=\{)|[\[({;]")
+
+
+def run(command, **more):
+    """The status of a command at the top, and what it wrote. A program that is not there is status 127."""
+    environment = {**os.environ, "PYTHONDONTWRITEBYTECODE": "1", **more}
+    how = {"stdin": subprocess.DEVNULL, "stdout": subprocess.PIPE, "stderr": subprocess.STDOUT}
+    try:
+        done = subprocess.run(command, env=environment, cwd=TOP, encoding="utf-8", errors="replace", **how)
+    except FileNotFoundError:
+        return 127, f"not installed: {command[0]}\n"
+    return done.returncode, done.stdout
 
 
 def parser_of(description, has_top=True):
@@ -49,7 +63,7 @@ def program_given(description):
 def crates_of(top):
     """The crates of crates.txt, in its order. Stops where one has no code, or a folder with code is not listed."""
     with open(os.path.join(top, "crates.txt"), encoding="utf-8") as lines:
-        listed = [line.partition(":")[0].strip() for line in lines if line.strip() and not line.startswith("#")]
+        listed = [line.partition(":")[0].split()[0] for line in lines if line.strip() and not line.startswith("#")]
     there = {path.split(os.sep)[-2] for path in glob.glob(os.path.join(top, "crates", "*", "src"))}
     if there != {*listed} or not listed:
         sys.exit(f"crates.txt and the folders crates/*/src differ in: {' '.join(sorted(there ^ {*listed})) or 'none'}")
@@ -65,7 +79,7 @@ def files_below(folder, ending):
     """The files below a folder with this ending, sorted by path."""
     found = []
     for where, folders, names in os.walk(folder):
-        folders[:] = [name for name in folders if name != "out"]
+        folders[:] = [name for name in folders if name not in ("out", "__pycache__")]
         found += [os.path.join(where, name) for name in names if name.endswith(ending)]
     return sorted(found)
 

@@ -1,4 +1,4 @@
-#!/usr/bin/env python3
+#!/usr/bin/python3
 """Finds what nothing uses in the crates: lemmas, definitions, imported names and functions.
 
 - A definition is used where a contract, an attribute of the code, a lemma or another definition in use cites it.

@@ -1,10 +1,14 @@
-#!/usr/bin/env python3
+#!/usr/bin/python3
 """Tries the wrong bodies of crates/*/wrong-bodies: the prover must refuse each.
 
 A wrong body is a file like a must-fail edit, with one line more. `refused: FUNCTION` names the function whose proof
 has to fail, by its path below the crate. `file: FILE` and pairs of `old: TEXT` and `new: TEXT` change the code; each
 TEXT is in the file once. `alone: WHY` keeps it apart from others, where the proofs of several functions read what it
 changes.
+
+A wrong body changes bodies of src/: it leaves clauses, ghost items and attributes as they are, and no two of a crate
+leave the same text. The files of crates/*/right-bodies are of the same form and not wrong: the prover has to accept
+each, and one that is reported as refused is a fault of this script.
 
 `rt` tries each must-fail edit by a check of the crate. Here one check tries many: a proof reads of other functions
 their contracts alone, so wrong bodies of several functions are put in one copy of the crate, and the check says of
@@ -27,6 +31,7 @@ import sys
 import tempfile
 
 import sources
+import unused
 
 # The line of a function that was not proved for what is written in it, and not for what it calls.
 REFUSED = re.compile(r"not proved|no proof: expected answers|.*did not prove")
@@ -53,12 +58,15 @@ class WrongBody:
     functions: list
     changes: list  # (file, old, new)
     alone: bool = False
+    is_right: bool = False  # it is there to be accepted
     apart: set = dataclasses.field(default_factory=set)  # functions that it calls, which were wrong beside it
 
 
 def read_body(path):
     """Returns the wrong body of a file."""
-    body, file, old = WrongBody(os.path.basename(path).removesuffix(".edit"), [], []), None, None
+    body = WrongBody(os.path.basename(path).removesuffix(".edit"), [], [])
+    body.is_right = os.path.basename(os.path.dirname(path)) == "right-bodies"
+    file = old = None
     with open(path, encoding="utf-8") as lines:
         for line in lines.read().split("\n"):
             key, _, text = line.partition(":")
@@ -78,10 +86,39 @@ def read_body(path):
     return body
 
 
-def bodies_of(crate_folder):
-    folder = f"{crate_folder}/wrong-bodies"
+def bodies_of(crate_folder, kind="wrong-bodies"):
+    folder = f"{crate_folder}/{kind}"
     names = sorted(os.listdir(folder)) if os.path.isdir(folder) else []
     return [read_body(f"{folder}/{name}") for name in names if name.endswith(".edit")]
+
+
+def code_of(text):
+    """Returns a text without its comments and white space."""
+    return re.sub(r"^\s*//.*$|\s+", "", text, flags=re.M)
+
+
+def faults_of(bodies, folder):
+    """Returns what keeps bodies of a crate from being tried, as (body, reason): what they change, or where."""
+    faults, seen = [], {}
+    for body in bodies:
+        outside = [file for file, _, _ in body.changes if not re.fullmatch(r"src/[\w/]+\.rt", file)]
+        if outside:
+            faults.append((body, f"it changes {outside[0]}, which is no file of src/"))
+            continue
+        texts = changed({}, body, folder)
+        if texts is None:
+            faults.append((body, "an old: text is not in its file just once"))
+            continue
+        before = {file: sources.read(f"{folder}/{file}") for file in texts}
+        if all(code_of(before[file]) == code_of(text) for file, text in texts.items()):
+            faults.append((body, "it changes no code"))
+        if any(unused.ghost_text(before[file]) != unused.ghost_text(text) for file, text in texts.items()):
+            faults.append((body, "it changes a clause, a ghost item or an attribute"))
+        code = tuple(sorted((file, code_of(text)) for file, text in texts.items()))
+        twin = seen.setdefault(code, body)
+        if twin is not body:
+            faults.append((body, f"it leaves the same text as {twin.name}"))
+    return faults
 
 
 def changed(texts, body, folder):
@@ -144,39 +181,68 @@ def called_unproved(crate, said, function):
     return found
 
 
-def judged(crate, body, said):
-    """Returns whether each function of a wrong body is refused, or None where one fails only by what it calls."""
-    answers = []
-    for function in body.functions:
-        line = verdict(crate, said, function)
-        is_proved = not line or line.startswith("proved")
-        answers.append(False if is_proved else bool(REFUSED.match(line)) or None)
-    return False if False in answers else None if None in answers else True
+def outcome(crate, body, said):
+    """Returns "refused" where each function of a body is refused, "accepted" where one is not, and "unknown" where one
+    fails only by what it calls."""
+    lines = [verdict(crate, said, function) for function in body.functions]
+    if any(not line or line.startswith("proved") for line in lines):
+        return "accepted"
+    return "refused" if all(REFUSED.match(line) for line in lines) else "unknown"
+
+
+def fault_of_outcome(crate, body, said):
+    """Returns what is wrong with the outcome of a body, or nothing."""
+    if not body.is_right:
+        return f"{body.name}: NOT REFUSED" if outcome(crate, body, said) == "accepted" else ""
+    is_proved = all(verdict(crate, said, function).startswith("proved") for function in body.functions)
+    return "" if is_proved else f"{body.name}: it is right, and not reported as not refused"
+
+
+@dataclasses.dataclass
+class Tried:
+    """What was tried in a crate: how many wrong bodies were refused, right ones accepted, and a line on each other."""
+
+    refused: int = 0
+    accepted: int = 0
+    lines: list = dataclasses.field(default_factory=list)
+
+
+def begin_with_proofs(crate, kept):
+    """Copies what the last check of a crate proved, so that only what its wrong bodies change is proved again."""
+    proved = f"{crate.folder}/out/incremental"
+    if os.path.isdir(proved):
+        shutil.copytree(proved, kept, dirs_exist_ok=True)
 
 
 def try_all(rtlib, crate):
-    """Tries the wrong bodies of a crate, and returns how many are refused and a line on each that isn't."""
-    left, refused, lines, checks = bodies_of(crate.folder), 0, [], 0
+    """Tries the wrong and the right bodies of a crate."""
+    left = [*bodies_of(crate.folder), *bodies_of(crate.folder, "right-bodies")]
+    faults = faults_of(left, crate.folder)
+    left = [body for body in left if body not in [it for it, _ in faults]]
+    tried = Tried(lines=[f"{body.name}: {reason}" for body, reason in faults])
+    checks = 0
     with tempfile.TemporaryDirectory(prefix="wrong-bodies-kept-") as kept:
+        begin_with_proofs(crate, kept)
         while left:
             chosen, texts = together(left, crate.folder)
-            if not chosen:
-                return refused, lines + [f"{it.name}: an old: text is not in its file just once" for it in left]
             said = check(rtlib, crate, texts, [name for it in chosen for name in it.functions], kept)
             checks += 1
-            answers = [(body, judged(crate, body, said)) for body in chosen]
-            refused += sum(answer is True for _, answer in answers)
-            lines += [f"{body.name}: NOT REFUSED" for body, answer in answers if answer is False]
+            again = [body for body in chosen if outcome(crate, body, said) == "unknown"]
+            done = [body for body in chosen if body not in again]
+            wrong = [fault for body in done if (fault := fault_of_outcome(crate, body, said))]
+            tried.lines += wrong
+            tried.accepted += sum(body.is_right and not fault_of_outcome(crate, body, said) for body in done)
+            tried.refused += sum(not body.is_right and not fault_of_outcome(crate, body, said) for body in done)
             if not re.search(r"^only=", said, re.M):
-                lines += ["the check did not reach its end:", *said.split("\n")[:6]]
-            if all(answer is None for _, answer in answers):
-                return refused, lines + [f"{body.name}: not judged" for body, _ in answers]
-            again = [body for body, answer in answers if answer is None]
+                tried.lines += ["the check did not reach its end:", *said.split("\n")[:6]]
+            if not done:
+                tried.lines += [f"{body.name}: not judged" for body in again]
+                break
             for body in again:
                 body.apart.update(*(called_unproved(crate, said, name) for name in body.functions))
             left = again + [body for body in left if body not in chosen]
-    print(f"wrong bodies of {crate.name}: {refused} refused, in {checks} checks", flush=True)
-    return refused, lines
+    print(f"{crate.name}: {tried.refused} refused, {tried.accepted} accepted, in {checks} checks", flush=True)
+    return tried
 
 
 def arguments():
@@ -221,9 +287,11 @@ def main():
     crates.sort(key=lambda it: -len(bodies_of(it.folder)))
     with concurrent.futures.ThreadPoolExecutor(len(os.sched_getaffinity(0))) as pool:
         results = [*pool.map(lambda it: try_all(rtlib, it), crates)]
-    failed = [f"{crate.name}/{line}" for crate, (_, lines) in zip(crates, results) for line in lines]
+    failed = [f"{crate.name}/{line}" for crate, tried in zip(crates, results) for line in tried.lines]
+    if not given.crates and not any(tried.accepted for tried in results):
+        failed.append("no right body was accepted: nothing shows that the others are refused for what they are")
     print(*failed, sep="\n", end="\n" if failed else "")
-    print(f"{sum(refused for refused, _ in results)} passed, {len(failed)} failed")
+    print(f"{sum(tried.refused + tried.accepted for tried in results)} passed, {len(failed)} failed")
     return 1 if failed else 0
 
 

@@ -1,5 +1,6 @@
 """What the tests of the scripts share: runs of a script, a folder of its own, a copy of the repository."""
 
+import importlib
 import os
 import shutil
 import stat
@@ -10,11 +11,13 @@ import unittest
 
 TOP = os.path.dirname(os.path.dirname(os.path.dirname(os.path.abspath(__file__))))
 SCRIPTS = os.path.join(TOP, "scripts")
+# Debian's Python, as the gate runs the scripts.
+PYTHON = "/usr/bin/python3"
 # What the shell scripts call of every system.
 OF_THE_SYSTEM = "bash env dirname realpath mktemp rm sed awk cat grep head cut true tee tail".split()
 # What a copy of the repository has.
-FOLDERS = (".ci", "completions", "crates", "docs", "man", "scripts", "tools")
-FILES = ("README.md", "CHANGELOG.md", "crates.txt")
+FOLDERS = (".ci", "completions", "crates", "debian", "docs", "lib", "man", "scripts", "tools")
+FILES = ("README.md", "CHANGELOG.md", "CONTRIBUTING.md", "HANDLES", "crates.txt")
 
 
 def run_command(command, **environment):
@@ -26,8 +29,15 @@ def run_command(command, **environment):
 
 def run(script, *arguments, **environment):
     """The status of a script of scripts/ and all that it prints."""
-    interpreter = sys.executable if script.endswith(".py") else shutil.which("bash")
+    interpreter = PYTHON if script.endswith(".py") else shutil.which("bash")
     return run_command([interpreter, os.path.join(SCRIPTS, script), *arguments], **environment)
+
+
+def module(name):
+    """A script of scripts/ as a module."""
+    if SCRIPTS not in sys.path:
+        sys.path.insert(0, SCRIPTS)
+    return importlib.import_module(name)
 
 
 def read(path):

@@ -3,10 +3,16 @@
 Run by `python3 -m unittest discover -s scripts/tests`. No kit and no built program is needed.
 """
 
+import contextlib
+import io
 import re
+import sys
 import unittest
+from unittest import mock
 
-from support import InCopy, read, run, write
+from support import InCopy, module, read, run, write
+
+believed_rows = module("believed_rows")
 
 PAGE = "docs/DEFINITIONS.md"
 RESULTS = "scripts/believed_rows.txt"
@@ -58,14 +64,11 @@ class Believed(InCopy):
 
     def test_specs_and_code(self):
         """Another comment, clause, call or crate, a reason for what is not there, a definition that is gone."""
-        penalty, streams, says = (
+        penalty, entry, says = (
             "crates/qrmatrix/specs/Penalty.antt",
-            "crates/filter/src/streams.rt",
+            "crates/command/src/entry.rt",
             "is not what the files",
         )
-        text = read(self.path(streams))
-        begin = text.index("    ensures ", text.index("pub fn run_streams"))
-        clause = text[begin : text.index("    ensures ", begin + 1)]
         changes = (
             (
                 "crates/labelcore/specs/Lines.antt",
@@ -76,9 +79,11 @@ class Believed(InCopy):
             (penalty, "`penalty`: in the", "`fine`: in the", f"{penalty}: 'Why: "),
             (penalty, "`penalty`: in the", "in the", f"{penalty}: 'Why: "),
             ("crates/device/src/sink.rt", "        requires { 0 < length bytes.now }\n", "", "trait `Sink`"),
-            (streams, clause, "", says),
+            (entry, "known.items)))\n        (λ early", "known.items))) (λ early", says),
             ("crates.txt", "gf256:", "gf65536:\ngf256:", "gf65536"),
-            ("crates/labels/src/main.rt", "run_streams(options", "run_other(options", "does not call run_streams"),
+            ("crates/labels/src/main.rt", "from(program(", "from(other(", "does not call program"),
+            ("scripts/std_names.txt", "\ntake  ", "\ntaken  ", "does not say what take means"),
+            ("scripts/std_names.txt", "\nnot  ", "\nno  a name\nnot  ", "has no, on which no definition leans"),
             ("crates/labelcore/specs/HeldLine.antt", "pub line_limit :", "pub line_bound :", "has no line_limit"),
         )
         self.assert_changes_fail(changes, self.check)
@@ -114,6 +119,59 @@ class Rows(InCopy):
             (RESULTS, "linear/Ean ¦ (replicate @ A) ¦ 5", "linear/Ean ¦ (replicate @ B) ¦ 5", "no such change"),
         )
         self.assert_changes_fail(changes, self.check)
+
+
+class Sample(unittest.TestCase):
+    """Changes that are judged again, by a stand-in of the prover."""
+
+    def sampled(self, refuses):
+        """The status of --sample and what it prints, where `refuses` says whether a change of one crate is refused."""
+
+        def judge(_rtlib, _words, _specs, _parts, changes, lines):
+            for change in changes:
+                change.by = "value" if refuses(change, lines) else ""
+
+        kit = mock.Mock()
+        kit.crates_below.return_value = [mock.Mock() for _ in believed_rows.CRATES]
+        for crate, name in zip(kit.crates_below.return_value, believed_rows.CRATES):
+            crate.name = name
+        with (
+            mock.patch.object(believed_rows.wrong_bodies, "kit", return_value=kit),
+            mock.patch.object(believed_rows, "words_for"),
+            mock.patch.object(believed_rows, "judge", judge),
+            mock.patch.object(sys, "argv", ["believed_rows.py", "--sample", "--seed", "1"]),
+            contextlib.redirect_stdout(io.StringIO()) as said,
+        ):
+            return believed_rows.main(), said.getvalue().split("\n")[-2]
+
+    def test_sample(self):
+        """All is as judged where the changes are refused and those that mean the same are not."""
+        same = believed_rows.read_results(believed_rows.sources.TOP)[1]
+        self.assertGreater(len(same), 20)
+
+        def as_judged(change, lines):
+            specs = believed_rows.specs_of(believed_rows.sources.TOP, change.definition.crate)
+            text = specs[change.definition.file]
+            file = f"{change.definition.crate}/{change.definition.file}"
+            return not any(
+                one == file and change.new in values.split() and believed_rows.place_of(text, pattern) == change.at
+                for one, pattern, values, _ in same
+            )
+
+        for refuses, status, last in (
+            (as_judged, 0, "30 changes judged again, 2 mean the same, 0 not as judged"),
+            (lambda change, lines: True, 1, "30 changes judged again, 2 mean the same, 2 not as judged"),
+            (lambda change, lines: False, 1, "30 changes judged again, 2 mean the same, 30 not as judged"),
+        ):
+            with self.subTest(last):
+                self.assertEqual(self.sampled(refuses), (status, last))
+
+    def test_judged_by_own_values(self):
+        """A worked value that is not in the line of a definition does not judge it."""
+        text = "one : ℕ\none = 1\n\nfirst : one ≡ 1\nfirst = refl\n\nother : one ≡ one\nother = refl\n"
+        self.assertIn("first", believed_rows.with_values(text, ["first"]))
+        self.assertNotIn("other", believed_rows.with_values(text, ["first"]))
+        self.assertEqual(believed_rows.with_values(text, ["gone"]), "")
 
 
 if __name__ == "__main__":

@@ -4,16 +4,20 @@ Run by `python3 -m unittest discover -s scripts/tests`. No kit, no third-party t
 where a script calls one, a stand-in of a few lines is put on the path.
 """
 
-import importlib
+import contextlib
+import io
+import os
 import re
 import shutil
-import sys
 import unittest
+from unittest import mock
 
-from support import SCRIPTS, InFolder, run, write
+from support import SCRIPTS, InFolder, module, read, run, run_command, write
 
-sys.path.insert(0, SCRIPTS)
-sources = importlib.import_module("sources")
+compare_symbols = module("compare_symbols")
+run_recipes = module("run_recipes")
+sources = module("sources")
+wrong_bodies = module("wrong_bodies")
 
 
 class Arguments(InFolder):
@@ -102,6 +106,114 @@ class WrongBodies(InFolder):
         self.assertIn("rt is not on the path", said)
 
 
+# A check that the kit made: what it says of a function, and its last line.
+SAID = "fn small::one: {}\nonly=1 proved=0\n"
+CALLS = "no proof: it calls `small::other`"
+ONE = """/// One.
+pub fn one() -> u8
+    ensures { result ≡ 1 }
+{
+    1
+}
+"""
+EDIT = "refused: one\nfile: src/lib.rt\nold:     1\nnew:     {}\n"
+
+
+class Small:
+    """Stands in for the kit's crate."""
+
+    name = "small"
+
+    def __init__(self, folder):
+        self.folder = folder
+
+
+class Outcomes(InFolder):
+    """What comes of bodies, by a stand-in of the kit's check."""
+
+    def setUp(self):
+        super().setUp()
+        self.crate = Small(self.folder)
+        write(self.path("src/lib.rt"), ONE)
+
+    def edit(self, text, kind="wrong-bodies", name="one"):
+        write(self.path(kind, f"{name}.edit"), text)
+
+    def tried(self, *said):
+        """What comes of the bodies, where the checks say this, one after the other."""
+        with mock.patch.object(wrong_bodies, "check", side_effect=[SAID.format(it) for it in said]):
+            with contextlib.redirect_stdout(io.StringIO()):
+                tried = wrong_bodies.try_all(None, self.crate)
+        return tried.refused, tried.accepted, tried.lines
+
+    def test_wrong_bodies(self):
+        self.edit(EDIT.format("2"))
+        for said, wanted in (
+            (["not proved"], (1, 0, [])),
+            (["no proof: expected answers for it"], (1, 0, [])),
+            (["proved"], (0, 0, ["one: NOT REFUSED"])),
+            ([CALLS], (0, 0, ["one: not judged"])),
+            (["was not reached"], (0, 0, ["one: not judged"])),
+        ):
+            with self.subTest(said):
+                self.assertEqual(self.tried(*said), wanted)
+
+    def test_right_bodies(self):
+        self.edit(EDIT.format("0 + 1"), "right-bodies")
+        wrong = "one: it is right, and not reported as not refused"
+        self.assertEqual(self.tried("proved"), (0, 1, []))
+        self.assertEqual(self.tried("not proved"), (0, 0, [wrong]))
+        self.edit(EDIT.format("0 + 1").replace("refused: one", "refused: none"), "right-bodies")
+        self.assertEqual(self.tried("proved"), (0, 0, [wrong]))
+
+    def test_check_that_did_not_end(self):
+        self.edit(EDIT.format("2"))
+        with mock.patch.object(wrong_bodies, "check", return_value="fn small::one: not proved\nkilled\n"):
+            with contextlib.redirect_stdout(io.StringIO()):
+                lines = wrong_bodies.try_all(None, self.crate).lines
+        self.assertIn("the check did not reach its end:", lines)
+
+    def test_bodies_that_are_not_tried(self):
+        """A body that no longer applies, or changes something else than a body, is a fault, whatever a check says."""
+        clause, both = "old:     ensures { result ≡ 1 }\nnew:     ensures { result ≡ result }\n", EDIT.format("2")
+        for text, said in (
+            (both.replace("old:     1", "old:     3"), "an old: text is not in its file just once"),
+            (both.replace("src/lib.rt", "specs/One.antt"), "it changes specs/One.antt, which is no file of src/"),
+            (both.replace("src/lib.rt", "src/../x.rt"), "it changes src/../x.rt, which is no file of src/"),
+            (both + clause, "it changes a clause, a ghost item or an attribute"),
+            (both.replace("new:     2", "new:   1"), "it changes no code"),
+        ):
+            with self.subTest(said):
+                self.edit(text)
+                self.assertEqual(self.tried(), (0, 0, [f"one: {said}"]))
+
+    def test_two_of_one_text(self):
+        self.edit(EDIT.format("2"))
+        self.edit(EDIT.format(" 2"), name="two")
+        self.assertEqual(self.tried("not proved"), (1, 0, ["two: it leaves the same text as one"]))
+
+
+class Judges(unittest.TestCase):
+    """A judge that passes everything is found by the wrong cases that it is shown in each run."""
+
+    def test_symbols(self):
+        picture = b"P1\n9 9\n" + b"0" * 81 + b"\n"
+        turned = compare_symbols.with_turned_module(picture)
+        self.assertEqual([at for at in range(len(picture)) if picture[at] != turned[at]], [7 + 40])
+        with mock.patch.object(compare_symbols, "pictures_of", return_value=[picture]):
+            for difference, unread, count in (("", [], 2), ("it", [], 1), ("", ["it"], 1), ("it", ["it"], 0)):
+                with mock.patch.object(compare_symbols, "difference", return_value=difference):
+                    with mock.patch.object(compare_symbols, "not_read_back", return_value=unread):
+                        self.assertEqual(len([*compare_symbols.not_seen(None, None)]), count)
+
+    def test_recipes(self):
+        self.assertEqual([*run_recipes.unseen()], [])
+        real = run_recipes.Run.judge
+        for bent in (lambda it, good, text: real(it, True, text), lambda it, good, text: None):
+            with mock.patch.object(run_recipes.Run, "judge", bent):
+                self.assertEqual(len([*run_recipes.unseen()]), 7)
+
+
 VALGRIND = """#!/usr/bin/env bash
 # Stands in for valgrind: each line of the last argument takes EACH instructions, and the run one write for a line.
 for last in "$@"; do :; done
@@ -147,10 +259,11 @@ class Instructions(InFolder):
         more = self.table.replace("| EAN-13 |", "| EAN-99 | 1 | - | - | - |\n| EAN-13 |")
         for table, environment, status, wanted in (
             (self.table, {}, 0, "EAN-13: 20,000 in the table, 20,000 measured, +0.0 %"),
-            (self.table, {}, 0, "11 rows, 0 failed"),
-            (self.table, {"EACH": "21000"}, 0, "11 rows, 0 failed"),
+            (self.table, {}, 0, "16 rows, 0 failed"),
+            (self.table, {"EACH": "21000"}, 0, "16 rows, 0 failed"),
             (self.table, {"EACH": "21200"}, 1, "FAILS EAN-13: 20,000 in the table, 21,200 measured, +6.0 %"),
-            (self.table, {"EACH": "10000"}, 0, "note: the table is out of date: EAN-13"),
+            (self.table, {"EACH": "19000"}, 0, "16 rows, 0 failed"),
+            (self.table, {"EACH": "18800"}, 1, "FAILS EAN-13: 20,000 in the table, 18,800 measured, -6.0 %"),
             (self.table, {"WRITES": "3"}, 1, "FAILS writes of 1,000 EAN-13 labels"),
             (gone, {}, 1, f"FAILS {digits}: the table has no such row"),
             (no_number, {}, 1, f"FAILS {digits}: the table has many"),
@@ -160,6 +273,17 @@ class Instructions(InFolder):
                 write(self.path("table.md"), table)
                 found, said = self.check(**environment)
                 self.assertEqual((found, wanted in said), (status, True), said)
+
+    def test_comparison_that_passes_all(self):
+        """One with another room for what is off, or that counts no failure, is shown counts that it has to report."""
+        script = read(os.path.join(SCRIPTS, "instructions.sh"))
+        for old, new in (("room=5", "room=50"), ("failures=$((failures + 1))", ":"), ('fail "FAILS $line"', ":")):
+            with self.subTest(new):
+                self.assertEqual(script.count(old), 1)
+                write(self.path("scripts/instructions.sh"), script.replace(old, new))
+                command = ["bash", self.path("scripts/instructions.sh"), "--check", "--table", self.path("table.md")]
+                status, said = run_command([*command, self.program], **self.environment)
+                self.assertEqual((status, "of the table is not reported" in said), (1, True), said)
 
     def test_program_that_draws_nothing(self):
         write(self.program, "#!/bin/sh\n", is_program=True)
@@ -238,6 +362,21 @@ six : twice three ≡ 6
 unfolding twice
 six = refl
 """
+# A module whose `where` is on a line of its own, and a lemma that is cited within it alone.
+IN_MODULE = """
+next : ℕ → ℕ
+next n = n + 1
+
+module _ (a : ℕ)
+    (b : ℕ)
+  where
+    pub twice-next : twice (next a) ≡ next a + next a
+    twice-next = twice-sum (next a)
+"""
+CITES_IN_MODULE = {
+    "proofs/Lemmas.antt": LEMMAS + IN_MODULE,
+    "proofs/double/Answers.antt": ANSWERS.replace("twice-sum c", "twice-next c").replace("sum}", "next}"),
+}
 NEVER_USED = "\n-- never used\npub never : ℕ → ℕ\nnever n = n\n"
 
 
@@ -270,6 +409,9 @@ class Unused(InFolder):
         self.assertEqual(self.found(), [])
         self.plant("proofs/Tables.antt", WORKED)
         self.assertEqual(self.found(), [])
+        for file, text in CITES_IN_MODULE.items():
+            self.plant(file, text)
+        self.assertEqual(self.found(), [])
 
     def test_what_nothing_uses(self):
         lemmas, answers, library, spec = (
@@ -281,6 +423,7 @@ class Unused(InFolder):
         calls_itself, other = NEVER_USED.replace("never n = n", "never n = never n"), "src/other.rt"
         lemma, imported, name = "nothing uses the lemma never", "the imported name", "◌≡◌, ◌+◌"
         above, nil = "\nabove : ℕ → ℕ\nabove n = never n\n", "\npub twice-nil : twice 0 ≡ 0\ntwice-nil = refl\n"
+        not_next = CITES_IN_MODULE | {lemmas: LEMMAS + IN_MODULE.replace("next a", "a")}
         both = {lemmas: LEMMAS + NEVER_USED, answers: ANSWERS.replace("{twice-sum}", "{twice-sum, never}")}
         error_kind = LIBRARY.replace("io::Write;", "io::{ErrorKind, Write};")
         uncalled = LIBRARY.replace("    half(double(2));\n", "    double(2);\n")
@@ -288,6 +431,7 @@ class Unused(InFolder):
             ({lemmas: LEMMAS + NEVER_USED}, [f"{lemmas}:10: {lemma}"]),
             ({lemmas: LEMMAS + calls_itself}, [lemma]),
             ({lemmas: LEMMAS + NEVER_USED + above}, [lemma, "the lemma above"]),
+            (not_next, ["the lemma next"]),
             (both, [lemma, f"{answers}:1: {imported} never is not used"]),
             ({"proofs/Tables.antt": WORKED + NEVER_USED}, [lemma]),
             ({lemmas: LEMMAS + nil}, ["the lemma twice-nil"]),

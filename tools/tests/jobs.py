@@ -1,6 +1,8 @@
-"""Printers' jobs turned back into dots, as the manuals of ZPL II and ESC/POS describe their commands.
+"""Printers' jobs turned back into dots, as the manuals of ZPL II and ESC/POS describe their
+commands.
 
-A job that announces more than it sends, or that holds any other byte, raises JobError. Dots are rows of 0 and 1.
+A job that announces more than it sends, or that holds any other byte, raises JobError. Dots are
+rows of 0 and 1.
 """
 
 import base64
@@ -13,10 +15,11 @@ from typing import List, Tuple
 
 import numpy
 
-ZPL_LABEL = re.compile(rb"\^XA\^LH0,0\^PW([0-9]+)\^LL([0-9]+)\n(.*?)\^XZ\n", re.DOTALL)
-ZPL_FIELD = re.compile(
-    rb"\^FO([0-9]+),([0-9]+)\^GFA,([0-9]+),([0-9]+),([0-9]+),:Z64:([0-9A-Za-z+/=]+):([0-9A-F]{4})\^FS\n"
+ZPL_LABEL = re.compile(
+    rb"\^XA\^PON\^LH0,0\^LS0\^PW([0-9]+)\^LL([0-9]+)\n(.*?)(?:\^PQ([0-9]+)\n)?\^XZ\n", re.DOTALL
 )
+ZPL_FIELD = re.compile(rb"\^FO([0-9]+),([0-9]+)\^GFA,([0-9]+),([0-9]+),([0-9]+),([^^]*)\^FS\n")
+Z64 = re.compile(rb":Z64:([0-9A-Za-z+/=]+):([0-9A-F]{4})")
 RESET, CUT = b"\x1b@", b"\x1bd\x03\x1dVB\x00"
 
 
@@ -25,33 +28,82 @@ class JobError(Exception):
 
 
 def dots_of_zpl(job: bytes) -> List[numpy.ndarray]:
-    """The labels of a ZPL job."""
-    labels, at = [], 0
+    """The labels of a ZPL job, each as often as it is printed."""
+    labels: List[numpy.ndarray] = []
+    at = 0
     while at < len(job):
         label = ZPL_LABEL.match(job, at)
         if not label:
             raise JobError(f"byte {at} begins no label: {job[at:at + 40]!r}")
-        width, height = int(label[1]), int(label[2])
-        dots = numpy.zeros((height, (width + 7) // 8 * 8), dtype=numpy.uint8)
-        place = 0
-        while place < len(label[3]):
-            field = ZPL_FIELD.match(label[3], place)
-            if not field:
-                raise JobError(f"no field: {label[3][place:place + 40]!r}")
-            x, y, sent, total, size = (int(field[group]) for group in range(1, 6))
-            data = zlib.decompress(base64.b64decode(field[6], validate=True))
-            if not sent == total == len(data) or not 1 <= total <= 99_999 or total % size:
-                raise JobError(f"{sent} and {total} bytes are announced, and there are {len(data)}")
-            if binascii.crc_hqx(field[6], 0) != int(field[7], 16):
-                raise JobError("the check sum of a field is wrong")
-            bits = numpy.unpackbits(numpy.frombuffer(data, dtype=numpy.uint8).reshape(-1, size), axis=1)
-            if x + bits.shape[1] > dots.shape[1] or y + bits.shape[0] > height:
-                raise JobError("a field leaves its label")
-            dots[y : y + bits.shape[0], x : x + bits.shape[1]] |= bits
-            place = field.end()
-        labels.append(dots[:, :width])
+        dots = dots_of_fields(label[3], int(label[1]), int(label[2]))
+        if label[4] and int(label[4]) < 2:
+            raise JobError(f"{label[4]!r} is no number of copies to be said")
+        labels += [dots] * int(label[4] or 1)
         at = label.end()
     return labels
+
+
+def dots_of_fields(fields: bytes, width: int, height: int) -> numpy.ndarray:
+    """The dots of the graphic fields of a label of ZPL."""
+    dots = numpy.zeros((height, (width + 7) // 8 * 8), dtype=numpy.uint8)
+    place = 0
+    while place < len(fields):
+        field = ZPL_FIELD.match(fields, place)
+        if not field:
+            raise JobError(f"no field: {fields[place:place + 40]!r}")
+        x, y, sent, total, size = (int(field[group]) for group in range(1, 6))
+        data = (
+            data_of_z64(field[6])
+            if field[6].startswith(b":Z64:")
+            else data_of_run_lengths(field[6], size)
+        )
+        if not sent == total == len(data) or not 1 <= total <= 99_999 or total % size:
+            raise JobError(f"{sent} and {total} bytes are announced, and there are {len(data)}")
+        bits = numpy.unpackbits(numpy.frombuffer(data, dtype=numpy.uint8).reshape(-1, size), axis=1)
+        if x + bits.shape[1] > dots.shape[1] or y + bits.shape[0] > height:
+            raise JobError("a field leaves its label")
+        dots[y : y + bits.shape[0], x : x + bits.shape[1]] |= bits
+        place = field.end()
+    return dots[:, :width]
+
+
+def data_of_z64(text: bytes) -> bytes:
+    """The data of a graphic field that is compressed by zlib."""
+    field = Z64.fullmatch(text)
+    if not field or binascii.crc_hqx(field[1], 0) != int(field[2], 16):
+        raise JobError("the check sum of a field is wrong")
+    return zlib.decompress(base64.b64decode(field[1], validate=True))
+
+
+def data_of_run_lengths(text: bytes, size: int) -> bytes:
+    """The data of a graphic field in hexadecimal with run lengths, as the manual of ZPL II has
+    them: G to Y are 1 to 19 times the next digit, g to z 20 to 400 times, letters that follow one
+    another are added; `,` fills a row with 0, `!` with F, and `:` is the row above.
+    """
+    rows: List[str] = []
+    row, often = "", 0
+    for letter in text.decode():
+        if "G" <= letter <= "Y":
+            often += ord(letter) - ord("F")
+        elif "g" <= letter <= "z":
+            often += 20 * (ord(letter) - ord("f"))
+        elif letter in "0123456789ABCDEF":
+            row += letter * (often or 1)
+            often = 0
+        elif letter in ",!" and not often:
+            row += ("0" if letter == "," else "F") * (2 * size - len(row))
+        elif letter == ":" and not often and not row and rows:
+            row = rows[-1]
+        else:
+            raise JobError(f"{letter!r} in a graphic field")
+        if len(row) > 2 * size:
+            raise JobError("a row of a graphic field is too long")
+        if len(row) == 2 * size:
+            rows.append(row)
+            row = ""
+    if row or often:
+        raise JobError("the last row of a graphic field is not whole")
+    return bytes.fromhex("".join(rows))
 
 
 def dots_of_escpos(job: bytes, cut: bytes = CUT) -> List[numpy.ndarray]:
@@ -67,7 +119,11 @@ def dots_of_escpos(job: bytes, cut: bytes = CUT) -> List[numpy.ndarray]:
             data = stream.read(size * height)
             if not 0 < height <= 255 or len(data) != size * height:
                 raise JobError(f"an image of {size} by {height} bytes is not whole, or too high")
-            bands.append(numpy.unpackbits(numpy.frombuffer(data, dtype=numpy.uint8).reshape(height, size), axis=1))
+            bands.append(
+                numpy.unpackbits(
+                    numpy.frombuffer(data, dtype=numpy.uint8).reshape(height, size), axis=1
+                )
+            )
         elif head + stream.read(len(cut) - 4) == cut and bands:
             labels.append(numpy.vstack(bands))
             bands = []
@@ -95,7 +151,9 @@ def pictures_of_pbm(data: bytes) -> List[numpy.ndarray]:
         size, start = (width + 7) // 8, head.end()
         if len(data) < start + size * height:
             raise JobError("the last picture is not whole")
-        rows = numpy.frombuffer(data[start : start + size * height], dtype=numpy.uint8).reshape(height, size)
+        rows = numpy.frombuffer(data[start : start + size * height], dtype=numpy.uint8).reshape(
+            height, size
+        )
         pictures.append(numpy.unpackbits(rows, axis=1)[:, :width])
         data = data[start + size * height :]
     return pictures
@@ -107,7 +165,9 @@ def pbm_of(dots: numpy.ndarray) -> bytes:
 
 
 def ink_of(dots: numpy.ndarray) -> Tuple[int, int, int, int]:
-    """The left, top, right and bottom of the ink of dots, the last two behind it; zeros where there is none."""
+    """The left, top, right and bottom of the ink of dots, the last two behind it; zeros where there
+    is none.
+    """
     rows, columns = dots.any(axis=1).nonzero()[0], dots.any(axis=0).nonzero()[0]
     if not len(rows):
         return 0, 0, 0, 0

@@ -1,19 +1,21 @@
-"""What the tests of the tools share: paths, how a tool is run, and what a test needs from elsewhere.
+"""What the tests of the tools share: paths, how a tool is run, and what a test needs from
+elsewhere.
 
-The tests run by Debian's Python, which alone sees Cairo: /usr/bin/python3 -m unittest discover -s tools/tests
-The program `labels` that they draw with is $LABELS, or else crates/labels/out/labels. A test that needs what is not
-there is skipped, with a message; NO_SKIP=1 makes it fail.
+The tests run by Debian's Python, which alone sees Cairo: /usr/bin/python3 -m unittest discover -s
+tools/tests The program `labels` that they draw with is $LABELS, or else crates/labels/out/labels. A
+test that needs what is not there is skipped, with a message; NO_SKIP=1 makes it fail.
 """
 
+import importlib
 import io
 import json
 import os
-import runpy
 import shutil
 import subprocess
 import sys
 import tempfile
 import unittest
+from importlib import import_module
 from pathlib import Path
 from typing import Any, Dict, List, NoReturn, Optional, Sequence, Tuple, Union
 from unittest import mock
@@ -23,6 +25,7 @@ TOOLS = TESTS.parent
 TOP = TOOLS.parent
 LOCALES = ("C", "C.UTF-8")
 SECONDS = 60
+MODULES = {"label-table": "labeltools.table_command"}  # of the tools that run in this process
 
 if str(TOOLS) not in sys.path:
     sys.path.insert(0, str(TOOLS))
@@ -38,7 +41,9 @@ def run(
     cwd: Union[str, Path, None] = None,
     **variables: str,
 ) -> "Finished[bytes]":
-    """Runs a tool of tools/ (or a program by its whole path) and returns its status, standard output and error."""
+    """Runs a tool of tools/ (or a program by its whole path) and returns its status, standard
+    output and error.
+    """
     return subprocess.run(
         [str(TOOLS / tool), *arguments],
         input=input,
@@ -50,13 +55,17 @@ def run(
 
 
 def run_here(tool: str, *arguments: str, input: bytes = b"") -> "Finished[bytes]":
-    """Runs a tool of tools/ in this process: the same result as of `run`, for tests of hundreds of runs."""
+    """Runs a tool of tools/ in this process: the same result as of `run`, for tests of hundreds of
+    runs.
+    """
     source = io.TextIOWrapper(io.BytesIO(input))
-    out, err = io.TextIOWrapper(io.BytesIO()), io.TextIOWrapper(io.BytesIO(), "utf-8", "backslashreplace")
+    out, err = io.TextIOWrapper(io.BytesIO()), io.TextIOWrapper(
+        io.BytesIO(), "utf-8", "backslashreplace"
+    )
     status = 0
     with mock.patch.multiple(sys, argv=[tool, *arguments], stdin=source, stdout=out, stderr=err):
         try:
-            runpy.run_path(str(TOOLS / tool), run_name="__main__")
+            import_module(MODULES[tool]).main()
         except SystemExit as end:
             status = int(end.code or 0)
         out.flush()
@@ -65,8 +74,18 @@ def run_here(tool: str, *arguments: str, input: bytes = b"") -> "Finished[bytes]
 
 
 def environment(locale: str = "C.UTF-8") -> dict:
-    """The environment of a tool under test: LC_ALL alone chooses the language; tools/ and `labels` are found."""
-    dropped = ("LANG", "LC_", "PYTHONUNBUFFERED", "PYTHONIOENCODING", "PYTHONUTF8", "PYTHONSAFEPATH", "SOURCE_DATE")
+    """The environment of a tool under test: LC_ALL alone chooses the language; tools/ and `labels`
+    are found.
+    """
+    dropped = (
+        "LANG",
+        "LC_",
+        "PYTHONUNBUFFERED",
+        "PYTHONIOENCODING",
+        "PYTHONUTF8",
+        "PYTHONSAFEPATH",
+        "SOURCE_DATE",
+    )
     kept = {name: value for name, value in os.environ.items() if not name.startswith(dropped)}
     path = f"{TOOLS}{os.pathsep}{os.environ['PATH']}"
     return {**kept, "LC_ALL": locale, "PATH": path, "LABELS": str(program_path())}
@@ -86,14 +105,20 @@ def labels_program() -> Path:
     """The program `labels`; skips the test where there is none."""
     program = program_path()
     if not os.access(program, os.X_OK):
-        skip(f"{program} is not built: run (cd crates/labels && rt run < /dev/null), or set $LABELS")
+        skip(
+            f"{program} is not built: run (cd crates/labels && rt run < /dev/null), or set $LABELS"
+        )
     return program
 
 
 def draw(lines: Union[str, bytes], *options: str) -> Tuple[bytes, bytes, int]:
-    """What `labels` makes of lines: standard output, standard error, status; skips the test where it is not built."""
+    """What `labels` makes of lines: standard output, standard error, status; skips the test where
+    it is not built.
+    """
     data = lines.encode() if isinstance(lines, str) else lines
-    done = subprocess.run([str(labels_program()), *options], input=data, capture_output=True, timeout=SECONDS)
+    done = subprocess.run(
+        [str(labels_program()), *options], input=data, capture_output=True, timeout=SECONDS
+    )
     return done.stdout, done.stderr, done.returncode
 
 
@@ -110,7 +135,9 @@ def skip(message: str) -> NoReturn:
 
 
 def read_codes(*pictures: Union[str, Path]) -> List[str]:
-    """What zbarimg reads in pictures, a line of SYMBOLOGY:DATA for each code; skips where it is missing."""
+    """What zbarimg reads in pictures, a line of SYMBOLOGY:DATA for each code; skips where it is
+    missing.
+    """
     needs("zbarimg")
     command: Sequence[str] = ("zbarimg", "--nodbus", "--quiet", *map(str, pictures))
     done = subprocess.run(command, capture_output=True, timeout=SECONDS)
@@ -125,7 +152,9 @@ def ean13(number: int) -> str:
 
 
 def file_of(labels: Sequence[Tuple[str, Optional[Dict[str, Any]]]], **end: Any) -> bytes:
-    """The file between the tools: lines, and before each the object that belongs to it, with row 2, 3, .."""
+    """The file between the tools: lines, and before each the object that belongs to it, with row 2,
+    3, ..
+    """
     parts = ['#{"labels":1,"table":"articles.xlsx"}\n']
     for row, (line, fields) in enumerate(labels, 2):
         parts.append(f"#{json.dumps({'row': row, **(fields or {})}, ensure_ascii=False)}\n{line}\n")
@@ -134,7 +163,9 @@ def file_of(labels: Sequence[Tuple[str, Optional[Dict[str, Any]]]], **end: Any) 
     return "".join(parts).encode("utf-8")
 
 
-def printed(*arguments: Union[str, Path], input: bytes = b"", **variables: str) -> "Finished[bytes]":
+def printed(
+    *arguments: Union[str, Path], input: bytes = b"", **variables: str
+) -> "Finished[bytes]":
     """Runs label-print in this process: the same result as of `run`, in a quarter of the time."""
     tool = str(TOOLS / "label-print")
     sys.stdout.flush()
@@ -144,11 +175,17 @@ def printed(*arguments: Union[str, Path], input: bytes = b"", **variables: str) 
         os.dup2(out.fileno(), 1)
         os.dup2(err.fileno(), 2)
         streams = {"stdout": open(1, "w", closefd=False), "stderr": open(2, "w", closefd=False)}
-        changed = {"argv": [tool, *map(str, arguments)], "stdin": io.TextIOWrapper(io.BytesIO(input)), **streams}
+        changed = {
+            "argv": [tool, *map(str, arguments)],
+            "stdin": io.TextIOWrapper(io.BytesIO(input)),
+            **streams,
+        }
         try:
-            with mock.patch.multiple(sys, **changed), mock.patch.dict(os.environ, {**environment(), **variables}):
-                with mock.patch("label_command.on_signals", mock.MagicMock()):
-                    status = status_of(tool)
+            with mock.patch.multiple(sys, **changed), mock.patch.dict(
+                os.environ, {**environment(), **variables}
+            ):
+                with mock.patch("labeltools.command_line.on_signals", mock.MagicMock()):
+                    status = status_of("labeltools.print_main")
         finally:
             for number, copy in enumerate(kept, 1):
                 os.dup2(copy, number)
@@ -158,10 +195,10 @@ def printed(*arguments: Union[str, Path], input: bytes = b"", **variables: str) 
         return Finished([tool, *arguments], status, out.read(), err.read())
 
 
-def status_of(tool: str) -> int:
-    """The status with which a tool ends in this process."""
+def status_of(module: str) -> int:
+    """The status with which the tool of a module ends in this process."""
     try:
-        runpy.run_path(tool, run_name="__main__")
+        importlib.import_module(module).main()
     except SystemExit as end:
         return int(end.code or 0)
-    raise AssertionError(f"{tool} has no end")
+    raise AssertionError(f"{module} has no end")

@@ -1,4 +1,4 @@
-"""How each tool ends, where a stream fails or is closed: label_command, by a small tool, and then every tool."""
+"""How each tool ends, where a stream fails or is closed: by a small tool, and then every tool."""
 
 import subprocess
 import sys
@@ -23,17 +23,23 @@ class Ending(unittest.TestCase):
     SCRIPT = """
 import sys
 sys.path.insert(0, {tools!r})
-from label_command import Parser, ToolError, main_of, standard_output
+from labeltools.command_line import Parser, main_of, standard_output
+from labeltools.messages import ToolError
 def function():
-    arguments = Parser(prog="small-tool", description="A tool for this test.", allow_abbrev=False).parse_args()
+    about = "A tool for this test."
+    arguments = Parser(prog="small-tool", description=about, allow_abbrev=False).parse_args()
     {body}
 main_of("small-tool", function)
 """
 
-    def small_tool(self, body: str, *arguments: str, shell: str = '"$@"', data: bytes = b"") -> tuple[int, bytes, str]:
+    def small_tool(
+        self, body: str, *arguments: str, shell: str = '"$@"', data: bytes = b""
+    ) -> tuple[int, bytes, str]:
         script = self.SCRIPT.format(tools=str(support.TOOLS), body=body)
         command = ["bash", "-c", shell, "sh", sys.executable, "-c", script, *arguments]
-        done = subprocess.run(command, input=data, capture_output=True, env=support.environment("C"))
+        done = subprocess.run(
+            command, input=data, capture_output=True, env=support.environment("C")
+        )
         return done.returncode, done.stdout, done.stderr.decode()
 
     def test_status_and_output(self) -> None:
@@ -41,8 +47,12 @@ main_of("small-tool", function)
         self.assertEqual(self.small_tool("return 1"), (1, b"", ""))
 
     def test_messages(self) -> None:
-        self.assertEqual(self.small_tool("raise ToolError('wrong')"), (1, b"", "small-tool: wrong\n"))
-        self.assertEqual(self.small_tool("raise ToolError('wrong', 2)"), (2, b"", "small-tool: wrong\n"))
+        self.assertEqual(
+            self.small_tool("raise ToolError('wrong')"), (1, b"", "small-tool: wrong\n")
+        )
+        self.assertEqual(
+            self.small_tool("raise ToolError('wrong', status=2)"), (2, b"", "small-tool: wrong\n")
+        )
         missing = "small-tool: nothing.txt: No such file or directory\n"
         self.assertEqual(self.small_tool("open('nothing.txt')"), (1, b"", missing))
 
@@ -69,7 +79,9 @@ main_of("small-tool", function)
             ('"$@" > /dev/full 2>&1', b""),
             ('"$@" 2>&- >&-', b""),
         ):
-            ended = self.small_tool("print('fine', flush=True); raise ToolError('wrong')", shell=shell)
+            ended = self.small_tool(
+                "print('fine', flush=True); raise ToolError('wrong')", shell=shell
+            )
             self.assertEqual(ended, (1, out, ""), shell)
 
     def test_an_output_without_a_buffer(self) -> None:
@@ -85,7 +97,9 @@ main_of("small-tool", function)
             self.assertEqual(ended, (1, b"", "small-tool: standard output: File too large\n"))
 
     def test_a_closed_pipe(self) -> None:
-        status, _, message = self.small_tool("print('x' * 1000000)", shell='"$@" | true; exit ${PIPESTATUS[0]}')
+        status, _, message = self.small_tool(
+            "print('x' * 1000000)", shell='"$@" | true; exit ${PIPESTATUS[0]}'
+        )
         self.assertEqual((status, message), (1, "small-tool: standard output: Broken pipe\n"))
 
     def test_closed_streams(self) -> None:
@@ -94,7 +108,9 @@ main_of("small-tool", function)
 
 
 class EveryTool(unittest.TestCase):
-    def ended(self, tool: str, arguments: tuple, redirection: str, data: bytes = b"") -> tuple[int, bytes, list[str]]:
+    def ended(
+        self, tool: str, arguments: tuple, redirection: str, data: bytes = b""
+    ) -> tuple[int, bytes, list[str]]:
         """The status, standard output and messages of a tool, run by a shell with a redirection."""
         done = subprocess.run(
             ["sh", "-c", f'"$@" {redirection}', "sh", tool, *arguments],
@@ -106,7 +122,8 @@ class EveryTool(unittest.TestCase):
         return done.returncode, done.stdout, support.messages(done)
 
     def test_all_are_here(self) -> None:
-        self.assertEqual(sorted(COMPLAINING), sorted(path.name for path in support.TOOLS.glob("label-*")))
+        tools = {path.name for path in support.TOOLS.glob("label-*")}
+        self.assertEqual(sorted(COMPLAINING), sorted(tools - {"label-window"}))
 
     def test_a_message(self) -> None:
         for tool, (arguments, data) in COMPLAINING.items():
@@ -117,8 +134,14 @@ class EveryTool(unittest.TestCase):
     def test_messages_that_nobody_takes(self) -> None:
         for redirection in ("2> /dev/full", "2>&-"):
             for tool, (arguments, data) in COMPLAINING.items():
-                self.assertEqual(self.ended(tool, arguments, redirection, data), (1, b"", []), (tool, redirection))
-                self.assertEqual(self.ended(tool, ("--wrong",), redirection), (2, b"", []), (tool, redirection))
+                self.assertEqual(
+                    self.ended(tool, arguments, redirection, data),
+                    (1, b"", []),
+                    (tool, redirection),
+                )
+                self.assertEqual(
+                    self.ended(tool, ("--wrong",), redirection), (2, b"", []), (tool, redirection)
+                )
 
     def test_a_help_text_that_nobody_takes(self) -> None:
         for tool in COMPLAINING:

@@ -15,11 +15,13 @@ import support
 
 COMPLETIONS = support.TOP / "completions"
 SHELLS = ("bash", "fish", "zsh")
-TOOLS = sorted(path.name for path in support.TOOLS.glob("label-*"))
+TOOLS = ["label-lines", "label-print", "label-table"]  # the window is opened from a menu
 # What an option of the tools proposes, where that is no text of any kind; None: files.
 VALUES: Dict[str, Optional[str]] = {
     "label-table --symbology": "auto ean13 ean8 upca code128 qr",
+    "label-table --new-since": None,
     "label-print --dpi": "203 300 600",
+    "label-print --design": "article shelf",
     "label-print --to": "pdf svg png pbm zpl escpos",
     "label-print --each": None,
 }
@@ -50,7 +52,9 @@ bindkey '^I' complete-word
 def help_of(command: str) -> str:
     """The help text of the program or of a tool."""
     if command == "labels":
-        return subprocess.run([support.labels_program(), "--help"], capture_output=True, text=True).stdout
+        return subprocess.run(
+            [support.labels_program(), "--help"], capture_output=True, text=True
+        ).stdout
     return support.run(command, "--help").stdout.decode()
 
 
@@ -89,8 +93,14 @@ def by_bash(words: List[str], folder: Path) -> List[str]:
         last=len(words) - 1,
         command=words[0],
     )
-    how = {"capture_output": True, "text": True, "cwd": folder, "check": True, "env": support.environment()}
-    return subprocess.run(["bash", "-c", script], **how).stdout.split("\n")  # type: ignore
+    how = {
+        "capture_output": True,
+        "text": True,
+        "cwd": folder,
+        "check": True,
+        "env": support.environment(),
+    }
+    return subprocess.run(["bash", "-c", script], **how).stdout.split("\n")
 
 
 def by_fish(words: List[str], folder: Path) -> List[str]:
@@ -98,7 +108,7 @@ def by_fish(words: List[str], folder: Path) -> List[str]:
     script = f"source {shlex.quote(str(COMPLETIONS / 'labels.fish'))}; complete -C {line}"
     environment = {**support.environment(), "HOME": str(folder)}
     how = {"capture_output": True, "text": True, "cwd": folder, "check": True, "env": environment}
-    done = subprocess.run(["fish", "--no-config", "-c", script], **how)  # type: ignore
+    done = subprocess.run(["fish", "--no-config", "-c", script], **how)
     return [line.split("\t")[0] for line in done.stdout.split("\n")]
 
 
@@ -141,23 +151,31 @@ class Completion(unittest.TestCase):
                     with self.subTest(command=command, option=option, shell=shell):
                         found = proposed(shell, f"{command} {option} ", self.folder)
                         # in bash readline proposes the files
-                        self.assertEqual(found, [] if values is None and shell == "bash" else wanted)
+                        self.assertEqual(
+                            found, [] if values is None and shell == "bash" else wanted
+                        )
 
     def test_values_of_labels_are_those_of_its_help(self) -> None:
-        shown_values = {option: shown.strip("<>") for option, shown in options_of("labels").items() if shown}
+        shown_values = {
+            option: shown.strip("<>") for option, shown in options_of("labels").items() if shown
+        }
         self.assertEqual(sorted(shown_values), sorted(OF_LABELS))
         for option, shown in shown_values.items():
             numbers = re.fullmatch(r"(\d+)-(\d+)", shown)
             values = shown.split("|")
             if numbers:
                 values = [str(number) for number in range(int(numbers[1]), int(numbers[2]) + 1)]
-            self.assertEqual((OF_LABELS[option] or shown).split(), values if len(values) < 99 else [shown])
+            self.assertEqual(
+                (OF_LABELS[option] or shown).split(), values if len(values) < 99 else [shown]
+            )
 
     def test_after_an_equals_sign_and_a_letter(self) -> None:
         self.assertEqual(proposed("bash", "labels --level =", self.folder), ["H", "L", "M", "Q"])
         self.assertEqual(proposed("bash", "labels --level = H", self.folder), ["H"])
         for shell in SHELLS:
-            self.assertEqual(proposed(shell, "labels --m", self.folder), ["--mask", "--min-version"], shell)
+            self.assertEqual(
+                proposed(shell, "labels --m", self.folder), ["--mask", "--min-version"], shell
+            )
             self.assertEqual(proposed(shell, "labels --format a", self.folder), ["ascii"], shell)
 
     def test_files(self) -> None:
@@ -170,10 +188,14 @@ class Completion(unittest.TestCase):
             "zsh": (["zsh", "-f", "-i"], ZSH.format(completions=shlex.quote(str(COMPLETIONS)))),
         }
         commands = ("labels", *TOOLS, "label-print --each")
-        for command in [command for command in commands if command.split()[0] in ("labels", *TOOLS)]:
+        for command in [
+            command for command in commands if command.split()[0] in ("labels", *TOOLS)
+        ]:
             name = command.split()[0]
             for start in ("my", "my\\ l", "'my l"):
-                self.assertIn("my label.txt", proposed("fish", f"{command} {start}", self.folder), command)
+                self.assertIn(
+                    "my label.txt", proposed("fish", f"{command} {start}", self.folder), command
+                )
                 for shell, (arguments, lines) in shells.items():
                     with self.subTest(command=command, start=start, shell=shell):
                         lines_too = f"{lines}\n{name}() {{ printf '<%s>' \"$@\"; }}"
@@ -183,7 +205,9 @@ class Completion(unittest.TestCase):
     def test_every_tool_has_it(self) -> None:
         texts = {path.name: path.read_text(encoding="utf-8") for path in COMPLETIONS.iterdir()}
         self.assertEqual(sorted(texts), ["_labels", "labels.bash", "labels.fish"])
-        names = " ".join(["labels", *sorted(TOOLS, key=["label-table", "label-print", "label-lines"].index)])
+        names = " ".join(
+            ["labels", *sorted(TOOLS, key=["label-table", "label-print", "label-lines"].index)]
+        )
         self.assertIn(f"-F _labels {names}\n", texts["labels.bash"])
         self.assertIn(f"for command in {names}\n", texts["labels.fish"])
         self.assertTrue(texts["_labels"].startswith(f"#compdef {names}\n"))

@@ -1,4 +1,6 @@
-"""label-print and label-lines from input to end: files that are cut, full disks, closed pipes, signals, streams."""
+"""label-print and label-lines from input to end: files that are cut, full disks, closed pipes,
+signals, streams.
+"""
 
 import json
 import os
@@ -13,34 +15,47 @@ from typing import List, Tuple
 
 import jobs
 import support
-from label_command import ToolError
-from label_file import parse_file
+from labeltools.lines_file import LineRecord, read_lines
+from labeltools.messages import ToolError
 
 LABELS = [
-    (f"ean13 {support.ean13(400638000000 + number)}", {"title": f"Artikel {number}", "price": "1,80 €"})
+    (
+        f"ean13 {support.ean13(400638000000 + number)}",
+        {"title": f"Artikel {number}", "price": "1,80 €"},
+    )
     for number in range(40)
 ]
 ROLL = ("--paper", "60x40", "--dpi", "203", "--to")
 ROWS = (("articles", 2), ("articles", 3), ("b", 2))
-HEAD, END = '#{"labels":1,"table":"t.csv"}\n', '#{"end":1,"lines":1,"left_out":[],"left_out_count":0}\n'
+HEAD, END = (
+    '#{"labels":1,"table":"t.csv"}\n',
+    '#{"end":1,"lines":1,"left_out":[],"left_out_count":0}\n',
+)
 
 
 def setUpModule() -> None:
     os.environ["LABELS"] = str(support.labels_program())
 
 
+def records_of(data: bytes) -> Tuple[LineRecord, ...]:
+    """The lines of a file."""
+    return read_lines(data, "lines").records
+
+
 class FileBetween(unittest.TestCase):
     def test_cut_at_every_byte(self) -> None:
-        """Of a file that is cut anywhere nothing is taken; what is left of it without marks is no label."""
+        """Of a file that is cut anywhere nothing is taken; what is left of it without marks is no
+        label.
+        """
         data = support.file_of(LABELS[:3])
         for end in range(len(data)):
             with self.subTest(end=end):
                 try:
-                    labels, _, _ = parse_file(data[:end], "lines", False)
+                    labels = records_of(data[:end])
                 except ToolError:
                     continue
-                self.assertEqual(labels, [])
-        self.assertEqual(len(parse_file(data, "lines", False)[0]), 3)
+                self.assertEqual(labels, ())
+        self.assertEqual(len(records_of(data)), 3)
 
     def test_a_cut_file_prints_nothing(self) -> None:
         data = support.file_of(LABELS[:3])
@@ -50,19 +65,24 @@ class FileBetween(unittest.TestCase):
             self.assertTrue(done.stderr, end)
         done = support.printed("--stock", "l7160", input=data[:-60])
         self.assertIn(
-            b'to print it all the same, take out its lines that begin with #{"labels" and #{"end"', done.stderr
+            b'to print it all the same, take out its lines that begin with #{"labels" and #{"end"',
+            done.stderr,
         )
 
     def test_parts_one_after_another(self) -> None:
         """After `cat a b` each part is whole, and its rows are those of its own table."""
-        first, second = support.file_of(LABELS[:2]), support.file_of(LABELS[2:3], left_out=[7], left_out_count=1)
-        labels, left_out, count = parse_file(first + b"qr plain\n" + second.replace(b"articles", b"b"), "lines", False)
-        found = [label.place for label in labels]
-        self.assertEqual(found[:2] + found[3:], [(f"{name}.xlsx", "row", row) for name, row in ROWS])
+        first, second = support.file_of(LABELS[:2]), support.file_of(
+            LABELS[2:3], left_out=[7], left_out_count=1
+        )
+        lines = read_lines(first + b"qr plain\n" + second.replace(b"articles", b"b"), "lines")
+        found = [label.place for label in lines.records]
+        self.assertEqual(
+            found[:2] + found[3:], [(f"{name}.xlsx", "row", row) for name, row in ROWS]
+        )
         self.assertEqual(found[2], ("", "line", 7))
-        self.assertEqual((left_out, count), ([("b.xlsx", "row", 7)], 1))
+        self.assertEqual((lines.left_out, lines.left_out_count), ((("b.xlsx", "row", 7),), 1))
         for data in (first[:-60] + second, first + second[:-60], first.split(b"\n", 1)[1]):
-            self.assertRaises(ToolError, parse_file, data, "lines", False)
+            self.assertRaises(ToolError, records_of, data)
 
     def test_remarks_that_are_not_understood(self) -> None:
         for remark in (
@@ -85,7 +105,7 @@ class FileBetween(unittest.TestCase):
         ):
             with self.subTest(remark=remark):
                 data = f"{HEAD}{remark}ean8 73513537\n{END}".encode()
-                self.assertRaises(ToolError, parse_file, data, "lines", False)
+                self.assertRaises(ToolError, records_of, data)
         for data in (
             HEAD.replace("1", "2", 1) + "qr a\n" + END,
             HEAD + "qr a\n" + END.replace('"lines":1', '"lines":2'),
@@ -97,14 +117,21 @@ class FileBetween(unittest.TestCase):
             '#{"row":2}\n',
         ):
             with self.subTest(data=data):
-                self.assertRaises(ToolError, parse_file, data.encode(), "lines", False)
+                self.assertRaises(ToolError, records_of, data.encode())
 
     def test_lines_end_at_a_line_feed_alone(self) -> None:
-        fields = {"title": "a\x85b".replace("\x85", "\u00a0"), "text": ["c\nd", " "], "price": " 1 € "}
-        data = f"{HEAD}# of others\r\x0b\x0c\n\n#{json.dumps(fields)}\nqr \x0b\x1c\u2028\n{END}".encode()
-        (label,), _, _ = parse_file(data, "lines", False)
-        self.assertEqual((label.number, label.data.decode()), (5, "\x0b\x1c\u2028"))
-        self.assertEqual((label.title, label.text, label.price, label.copies), ("a\u00a0b", "c\nd", "1 €", 1))
+        fields = {
+            "title": "a\x85b".replace("\x85", "\u00a0"),
+            "text": ["c\nd", " "],
+            "price": " 1 € ",
+        }
+        line = f"qr \x0b\x1c\u2028\n{END}"
+        data = f"{HEAD}# of others\r\x0b\x0c\n\n#{json.dumps(fields)}\n{line}".encode()
+        (record,) = records_of(data)
+        label = record.label
+        self.assertEqual((record.number, record.data.decode()), (5, "\x0b\x1c\u2028"))
+        found = (label.title, label.text, label.price, label.copies)
+        self.assertEqual(found, ("a\u00a0b", ("c\nd",), "1 €", 1))
 
     def test_files_and_standard_input(self) -> None:
         data = support.file_of(LABELS[:2])
@@ -119,32 +146,49 @@ class FileBetween(unittest.TestCase):
         self.assertTrue(outputs[0] and len(set(outputs)) == 1)
         done = support.printed(*ROLL, "zpl", "nothing.lines")
         self.assertEqual((done.returncode, done.stdout), (1, b""))
-        self.assertEqual(support.messages(done), ["label-print: nothing.lines: No such file or directory"])
+        self.assertEqual(
+            support.messages(done), ["label-print: nothing.lines: No such file or directory"]
+        )
 
 
 class Running(unittest.TestCase):
-    def ended(self, shell: str, *arguments: str, data: bytes, **variables: str) -> Tuple[int, bytes, str]:
+    def ended(
+        self, shell: str, *arguments: str, data: bytes, **variables: str
+    ) -> Tuple[int, bytes, str]:
         """The status, the output and the messages of label-print in a shell, as `"$@"`."""
         command = ["bash", "-c", shell, "sh", str(support.TOOLS / "label-print"), *arguments]
         environment = {**support.environment(), **variables}
-        done = subprocess.run(command, input=data, capture_output=True, env=environment, timeout=support.SECONDS)
+        done = subprocess.run(
+            command, input=data, capture_output=True, env=environment, timeout=support.SECONDS
+        )
         return done.returncode, done.stdout, done.stderr.decode()
 
     def test_from_any_folder_by_a_link_and_with_a_safe_path(self) -> None:
         with tempfile.TemporaryDirectory() as folder:
             link = Path(folder, "label-print")
             link.symlink_to(support.TOOLS / "label-print")
-            for tool in (link, support.TOOLS / "label-print", link.parent.with_name(link.parent.name) / "label-print"):
+            for tool in (
+                link,
+                support.TOOLS / "label-print",
+                link.parent.with_name(link.parent.name) / "label-print",
+            ):
                 variables = {"PYTHONSAFEPATH": "1", "HOME": "/nonexistent"}
-                done = support.run(tool, *ROLL, "zpl", input=support.file_of(LABELS[:1]), cwd=folder, **variables)
+                done = support.run(
+                    tool, *ROLL, "zpl", input=support.file_of(LABELS[:1]), cwd=folder, **variables
+                )
                 self.assertEqual((done.returncode, done.stderr), (0, b""))
                 self.assertEqual(len(jobs.dots_of_zpl(done.stdout)), 1)
-        self.assertEqual([path for path in support.TOOLS.rglob("__pycache__") if path.parent == support.TOOLS], [])
+        self.assertEqual(
+            [path for path in support.TOOLS.rglob("__pycache__") if path.parent == support.TOOLS],
+            [],
+        )
 
     def test_a_full_disk(self) -> None:
         for form in ("pdf", "svg", "png", "pbm", "zpl", "escpos"):
             ended = self.ended('"$@" > /dev/full', *ROLL, form, data=b"ean8 7351353\n")
-            self.assertEqual(ended, (1, b"", "label-print: standard output: No space left on device\n"), form)
+            self.assertEqual(
+                ended, (1, b"", "label-print: standard output: No space left on device\n"), form
+            )
 
     def test_a_pdf_that_does_not_fit_leaves_nothing(self) -> None:
         with tempfile.TemporaryDirectory() as folder:
@@ -158,18 +202,26 @@ class Running(unittest.TestCase):
     def test_a_closed_pipe_and_closed_streams(self) -> None:
         data = support.file_of(LABELS)
         for form in ("pdf", "zpl"):
-            status, out, said = self.ended('"$@" | true; exit "${PIPESTATUS[0]}"', *ROLL, form, data=data)
-            self.assertEqual((status, out, said), (1, b"", "label-print: standard output: Broken pipe\n"), form)
+            status, out, said = self.ended(
+                '"$@" | true; exit "${PIPESTATUS[0]}"', *ROLL, form, data=data
+            )
+            self.assertEqual(
+                (status, out, said), (1, b"", "label-print: standard output: Broken pipe\n"), form
+            )
         self.assertEqual(self.ended('"$@" >&-', *ROLL, "zpl", data=data)[0], 1)
         self.assertEqual(self.ended('"$@" <&-', *ROLL, "zpl", data=data)[:2], (1, b""))
         for shell in ('"$@" 2>&-', '"$@" 2> /dev/full'):
             status, out, said = self.ended(shell, *ROLL, "zpl", data=data + b"ean8 1\n")
-            self.assertEqual((status, len(jobs.dots_of_zpl(out)), said), (1, len(LABELS), ""), shell)
+            self.assertEqual(
+                (status, len(jobs.dots_of_zpl(out)), said), (1, len(LABELS), ""), shell
+            )
 
     def test_what_is_missing_is_named_with_its_package(self) -> None:
         with tempfile.TemporaryDirectory() as folder:
             for module, package in (("gi", "python3-gi-cairo"), ("zxingcpp", "python3-zxing-cpp")):
-                Path(folder, f"{module}.py").write_text("raise ImportError('No module named here')\n")
+                Path(folder, f"{module}.py").write_text(
+                    "raise ImportError('No module named here')\n"
+                )
                 arguments = (*ROLL, "zpl", "--read-back")
                 ended = self.ended('"$@"', *arguments, data=b"ean8 7351353\n", PYTHONPATH=folder)
                 self.assertEqual(ended[:2], (1, b""))
@@ -180,13 +232,14 @@ class Running(unittest.TestCase):
     def test_progress_on_a_terminal(self) -> None:
         import pty
 
-        import label_draw
+        from labeltools.print_command import PrintTalk
 
-        press = label_draw.Press(unittest.mock.Mock(places=[(0, 0)]), unittest.mock.Mock(), "pdf", 1, False)
         controller, terminal = pty.openpty()
         with open(terminal, "w") as stream, unittest.mock.patch("sys.stderr", stream):
-            with unittest.mock.patch("label_draw.QUIET", 0.0):
-                self.assertEqual(len(list(press.pages([unittest.mock.Mock()] * 3))), 3)
+            with unittest.mock.patch("labeltools.print_command.QUIET", 0.0):
+                talk = PrintTalk()
+            for done in (0, 1, 2, 3):
+                talk.go_on(done, 3)
         shown = b""
         while not shown.endswith(b"\n"):
             shown += os.read(controller, 999)
@@ -201,19 +254,30 @@ class Signals(unittest.TestCase):
 
     def test_labels_are_whole(self) -> None:
         data = support.file_of(LABELS)
-        whole = {form: support.run("label-print", *ROLL, form, input=data) for form in ("zpl", "escpos", "pbm")}
-        decode = {"zpl": jobs.dots_of_zpl, "escpos": jobs.dots_of_escpos, "pbm": jobs.pictures_of_pbm}
+        whole = {
+            form: support.run("label-print", *ROLL, form, input=data)
+            for form in ("zpl", "escpos", "pbm")
+        }
+        decode = {
+            "zpl": jobs.dots_of_zpl,
+            "escpos": jobs.dots_of_escpos,
+            "pbm": jobs.pictures_of_pbm,
+        }
         for form, done in whole.items():
             self.assertEqual((done.returncode, done.stderr), (0, b""), form)
             output, seen = done.stdout, set()
             for moment, found in enumerate(self.outputs(form, data, len(output))):
                 same = len(os.path.commonprefix([output, found]))
-                self.assertTrue(output.startswith(found), (form, moment, same, found[same - 40 : same + 80]))
+                self.assertTrue(
+                    output.startswith(found), (form, moment, same, found[same - 40 : same + 80])
+                )
                 seen.add(len(decode[form](found)) if found else 0)
             self.assertGreater(len(seen), 3, form)
 
     def outputs(self, form: str, data: bytes, size: int) -> List[bytes]:
-        """What goes out where the reader waits after a part, a signal comes, and the reader goes on."""
+        """What goes out where the reader waits after a part, a signal comes, and the reader goes
+        on.
+        """
         command = [str(support.TOOLS / "label-print"), *ROLL, form]
         with tempfile.TemporaryDirectory() as folder:
             path = Path(folder, "lines")
@@ -222,7 +286,10 @@ class Signals(unittest.TestCase):
             for moment in range(self.MOMENTS):
                 reader, writer = os.pipe()
                 run = subprocess.Popen(
-                    [*command, str(path)], stdout=writer, stderr=subprocess.PIPE, env=support.environment()
+                    [*command, str(path)],
+                    stdout=writer,
+                    stderr=subprocess.PIPE,
+                    env=support.environment(),
                 )
                 os.close(writer)
                 runs.append((run, reader, size * moment // self.MOMENTS))
@@ -268,7 +335,14 @@ class Signals(unittest.TestCase):
             with tempfile.TemporaryDirectory() as folder:
                 lines, files = Path(folder, "lines"), Path(folder, "new")
                 lines.write_bytes(data)
-                command = [str(support.TOOLS / "label-print"), *ROLL, "png", "--each", f"{files}/%d.png", str(lines)]
+                command = [
+                    str(support.TOOLS / "label-print"),
+                    *ROLL,
+                    "png",
+                    "--each",
+                    f"{files}/%d.png",
+                    str(lines),
+                ]
                 with subprocess.Popen(command, env=support.environment()) as run:
                     while run.poll() is None and len(list(files.glob("*"))) < moment:
                         time.sleep(0.002)
@@ -295,9 +369,10 @@ class Signals(unittest.TestCase):
         os.close(reader)
 
     def test_an_ignored_signal_stays_ignored(self) -> None:
-        command = f'trap "" HUP; {support.TOOLS}/label-print --paper 60x40 --dpi 203 --to zpl & kill -HUP $!; wait $!'
+        printing = f"{support.TOOLS}/label-print --paper 60x40 --dpi 203 --to zpl"
+        command = f'trap "" HUP; exec 3<&0; {printing} <&3 & kill -HUP $!; wait $!'
         done = subprocess.run(
-            ["bash", "-c", f"exec 3<&0; {command.replace('zpl &', 'zpl <&3 &')}"],
+            ["bash", "-c", command],
             input=support.file_of(LABELS[:2]),
             capture_output=True,
             env=support.environment(),
@@ -315,7 +390,9 @@ class Lines(unittest.TestCase):
     def test_refused_lines_remarks_and_empty_lines(self) -> None:
         lines = b"ean8 7351353\n# remark\nean8 x\n\nqr K\xc3\xa4se\r\nqr \xff"
         said = ["label-lines: line 3: not a digit at byte 1"]
-        self.assertEqual(self.listed(lines), (1, b"1 1 ean8 7351353\n2 5 qr K\xc3\xa4se\r\n3 6 qr \xff\n", said))
+        self.assertEqual(
+            self.listed(lines), (1, b"1 1 ean8 7351353\n2 5 qr K\xc3\xa4se\r\n3 6 qr \xff\n", said)
+        )
         self.assertEqual(self.listed(b"# none\n"), (0, b"", []))
 
     def test_options_of_labels(self) -> None:
@@ -325,7 +402,9 @@ class Lines(unittest.TestCase):
         self.assertEqual(self.listed(long, "--labels", "--level H"), (1, b"", said))
 
     def test_as_labels_draws(self) -> None:
-        lines = b"qr a\n\r\n\n#" + b"x" * 1200 + b"\n" + b"y" * 1200 + b"\nqr \x00\n\xe4\nean8 7351353"
+        lines = (
+            b"qr a\n\r\n\n#" + b"x" * 1200 + b"\n" + b"y" * 1200 + b"\nqr \x00\n\xe4\nean8 7351353"
+        )
         pictures, _, _ = support.draw(lines, "--height", "1")
         status, listed, said = self.listed(lines)
         self.assertEqual((status, listed), (1, b"1 1 qr a\n2 6 qr \x00\n3 8 ean8 7351353\n"))
@@ -334,7 +413,9 @@ class Lines(unittest.TestCase):
     def test_endings(self) -> None:
         done = support.run("label-lines", "nothing.txt")
         self.assertEqual((done.returncode, done.stdout), (1, b""))
-        self.assertEqual(support.messages(done), ["label-lines: nothing.txt: No such file or directory"])
+        self.assertEqual(
+            support.messages(done), ["label-lines: nothing.txt: No such file or directory"]
+        )
         self.assertEqual(self.listed(b"")[:2], (1, b""))
         self.assertEqual(self.listed(b"qr a\n", "--labels", "--no-such")[:2], (2, b""))
 

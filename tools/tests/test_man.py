@@ -24,7 +24,9 @@ def page_of(tool: str) -> str:
 def help_of(command: str) -> str:
     """The help text of the program or of a tool."""
     if command == "labels":
-        return subprocess.run([support.labels_program(), "--help"], capture_output=True, text=True).stdout
+        return subprocess.run(
+            [support.labels_program(), "--help"], capture_output=True, text=True
+        ).stdout
     return support.run(command, "--help").stdout.decode()
 
 
@@ -32,7 +34,10 @@ class Pages(unittest.TestCase):
     def test_mandoc_and_groff_find_nothing(self) -> None:
         support.needs("mandoc", "groff")
         for page in PAGES:
-            for arguments in (["mandoc", "-Tlint", "-W", "warning"], ["groff", "-ww", "-man", "-z"]):
+            for arguments in (
+                ["mandoc", "-Tlint", "-W", "warning"],
+                ["groff", "-ww", "-man", "-z"],
+            ):
                 done = subprocess.run([*arguments, str(page)], capture_output=True, text=True)
                 self.assertEqual(done.stdout + done.stderr, "", page)
 

@@ -1,4 +1,6 @@
-"""label-print: sheets that programs of other people draw and read, labels for printers, and every option."""
+"""label-print: sheets that programs of other people draw and read, labels for printers, and every
+option.
+"""
 
 import functools
 import re
@@ -15,7 +17,7 @@ import zxingcpp
 
 import jobs
 import support
-from label_layout import stock_sheet
+from labeltools.stock import stock_sheet
 
 TITLES = (
     "Bleistift, weich, 2B",
@@ -32,7 +34,9 @@ PRICES = ("0,80 €", "2,95 €", "12,80 €", "1.299,00 €", "12.999,00 zł")
 STOCKS = ("Avery L7160", "Zweckform 3475", "Herma 4464")
 RENDERERS = {
     "poppler": "pdftoppm -r {dpi} -mono {pdf} {out} && mv {out}-1.pbm {out}.pbm",
-    "ghostscript": "gs -q -dBATCH -dNOPAUSE -dSAFER -sDEVICE=pbmraw -r{dpi} -sOutputFile={out}.pbm {pdf}",
+    "ghostscript": (
+        "gs -q -dBATCH -dNOPAUSE -dSAFER -sDEVICE=pbmraw -r{dpi} -sOutputFile={out}.pbm {pdf}"
+    ),
     "mupdf": "mutool draw -q -r {dpi} -c mono -F pbm -o {out}.pbm {pdf} 1",
 }
 FORMATS = zxingcpp.EAN13 | zxingcpp.EAN8 | zxingcpp.UPCA | zxingcpp.Code128 | zxingcpp.QRCode
@@ -40,7 +44,9 @@ FORMATS = zxingcpp.EAN13 | zxingcpp.EAN8 | zxingcpp.UPCA | zxingcpp.Code128 | zx
 
 def read(dots: numpy.ndarray) -> bytes:
     """What zxing-cpp reads in dots."""
-    found = zxingcpp.read_barcode(255 * (1 - dots), formats=FORMATS, binarizer=zxingcpp.Binarizer.BoolCast)
+    found = zxingcpp.read_barcode(
+        255 * (1 - dots), formats=FORMATS, binarizer=zxingcpp.Binarizer.BoolCast
+    )
     return found.bytes if found else b""
 
 
@@ -129,7 +135,9 @@ class Sheets(unittest.TestCase):
     def test_programs_find_nothing_wrong(self) -> None:
         support.needs("qpdf")
         for stock in STOCKS:
-            done = subprocess.run(["qpdf", "--check", sheet_pdf(stock)], capture_output=True, text=True)
+            done = subprocess.run(
+                ["qpdf", "--check", sheet_pdf(stock)], capture_output=True, text=True
+            )
             self.assertEqual((done.returncode, done.stderr), (0, ""))
             self.assertIn("No syntax or stream encoding errors", done.stdout)
 
@@ -142,17 +150,30 @@ class Sheets(unittest.TestCase):
             found = bare(text)
             for line, fields in shelf(21):
                 code, title = codes_of([(line, None)])[0], str(fields["title"])
-                for part in (code, str(fields["price"]), bare(title)[:20] if title[0] != "ق" else title):
+                for part in (
+                    code,
+                    str(fields["price"]),
+                    bare(title)[:20] if title[0] != "ق" else title,
+                ):
                     self.assertTrue(bare(part) in found or bare(part)[::-1] in found, (stock, part))
-            fonts = subprocess.run(["pdffonts", sheet_pdf(stock)], capture_output=True, check=True, text=True).stdout
+            fonts = subprocess.run(
+                ["pdffonts", sheet_pdf(stock)], capture_output=True, check=True, text=True
+            ).stdout
             self.assertNotIn("Type 3", fonts)
 
     def test_bars_are_exact_at_twice_the_dots(self) -> None:
         support.needs("pdftoppm", "gs", "mutool")
         pdf = sheet_pdf("Avery L7160")
-        modules = [line for line in support.draw(shelf(1)[0][0] + "\n", "--height", "1")[0].decode().split()[3:]]
+        modules = [
+            line
+            for line in support.draw(shelf(1)[0][0] + "\n", "--height", "1")[0].decode().split()[3:]
+        ]
         wanted = numpy.array([int(bit) for bit in "".join(modules)], dtype=numpy.int8).repeat(16)
-        for renderer, away in (("poppler", 0), ("ghostscript", 0), ("mupdf", 2)):  # 2: each is within a dot
+        for renderer, away in (
+            ("poppler", 0),
+            ("ghostscript", 0),
+            ("mupdf", 2),
+        ):  # 2: each is within a dot
             cell = cells_of("Avery L7160", rendered(pdf, renderer, 1200), 1200)[0]
             row = cell[len(cell) // 2].astype(numpy.int8)
             left = int(row.nonzero()[0][0]) - 11 * 16
@@ -174,7 +195,9 @@ class Sheets(unittest.TestCase):
             for cell in cells_of(stock, dots, 600):
                 left, top, right, bottom = (place * dot for place in jobs.ink_of(cell))
                 self.assertGreater(min(left, top), 0.9, stock)
-                self.assertLess(max(right - cell.shape[1] * dot, bottom - cell.shape[0] * dot), -0.9, stock)
+                self.assertLess(
+                    max(right - cell.shape[1] * dot, bottom - cell.shape[0] * dot), -0.9, stock
+                )
 
     def test_the_same_labels_give_the_same_bytes(self) -> None:
         data = support.file_of(shelf(3))
@@ -183,9 +206,13 @@ class Sheets(unittest.TestCase):
 
 
 def bare(text: str) -> str:
-    """A text without white space and marks of direction, and with letters of Arabic in their own form."""
+    """A text without white space and marks of direction, and with letters of Arabic in their own
+    form.
+    """
     plain = unicodedata.normalize("NFKC", text)
-    return "".join(letter for letter in plain if not letter.isspace() and unicodedata.category(letter) != "Cf")
+    return "".join(
+        letter for letter in plain if not letter.isspace() and unicodedata.category(letter) != "Cf"
+    )
 
 
 class Printers(unittest.TestCase):
@@ -219,12 +246,16 @@ class Printers(unittest.TestCase):
                 labels = jobs.dots_of_zpl(job)
                 self.assertEqual([read(label).decode() for label in labels], codes, (paper, dpi))
                 if (paper, dpi) == ("60x40", 203):
-                    self.assertLessEqual(max(map(len, re.findall(rb"\^XA.*?\^XZ\n", job, re.DOTALL))), 8192)
+                    self.assertLessEqual(
+                        max(map(len, re.findall(rb"\^XA.*?\^XZ\n", job, re.DOTALL))), 8192
+                    )
                 escpos = jobs.dots_of_escpos(self.job(paper, dpi, "escpos")[1])
                 pictures = jobs.pictures_of_pbm(self.job(paper, dpi, "pbm")[1])
                 for zpl, raster, picture in zip(labels, escpos, pictures):
                     self.assertTrue(numpy.array_equal(zpl, picture), (paper, dpi))
-                    self.assertTrue(numpy.array_equal(raster[:, : picture.shape[1]], picture), (paper, dpi))
+                    self.assertTrue(
+                        numpy.array_equal(raster[:, : picture.shape[1]], picture), (paper, dpi)
+                    )
 
     def test_zbar_reads_them(self) -> None:
         codes, job = self.job("60x40", 203, "zpl")
@@ -235,10 +266,14 @@ class Printers(unittest.TestCase):
 
     def test_cuts_and_widths(self) -> None:
         data = support.file_of(shelf(2))
-        done = support.printed("--paper", "60x40", "--dpi", "203", "--to", "escpos", "--no-cut", input=data)
+        done = support.printed(
+            "--paper", "60x40", "--dpi", "203", "--to", "escpos", "--no-cut", input=data
+        )
         self.assertNotIn(jobs.CUT, done.stdout)
         self.assertEqual(done.stdout.count(jobs.RESET), 1)
-        done = support.printed("--paper", "60x40", "--dpi", "203", "--to", "escpos", "--dots", "384", input=data)
+        done = support.printed(
+            "--paper", "60x40", "--dpi", "203", "--to", "escpos", "--dots", "384", input=data
+        )
         self.assertEqual((done.returncode, done.stdout), (2, b""))
         self.assertIn(b"480 dots, and the printer has 384", done.stderr)
 

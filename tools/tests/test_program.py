@@ -72,7 +72,10 @@ DRAWN = (
     (rb"ean8,height=2 73\x35\x31353", [EAN8, EAN8]),
     (
         rb"code128 a\x01b",
-        ["0000000000110100100001001011000011110100010100101100001001000011011011" "00110011000111010110000000000"],
+        [
+            "0000000000110100100001001011000011110100010100101100001001000011011011"
+            "00110011000111010110000000000"
+        ],
     ),
     (b"qr 01234567", QR),
 )
@@ -193,7 +196,9 @@ def in_pieces(pieces: Sequence[bytes], *arguments: str) -> Ran:
     """The same of a run that is given one of these pieces a read: the socket keeps packets apart."""
     command = [support.labels_program(), *arguments]
     ours, theirs = socket.socketpair(socket.AF_UNIX, socket.SOCK_SEQPACKET)
-    with ours, subprocess.Popen(command, stdin=theirs, stdout=subprocess.PIPE, stderr=subprocess.PIPE) as running:
+    with ours, subprocess.Popen(
+        command, stdin=theirs, stdout=subprocess.PIPE, stderr=subprocess.PIPE
+    ) as running:
         theirs.close()
         for piece in pieces:
             ours.send(piece)
@@ -220,14 +225,18 @@ class Arguments(InFolder):
         """Plain PBM at scale 1 and height 50 of standard input, level M, version 1, mask 0 for this symbol."""
         self.assertEqual(ran(data=b"ean8 7351353\n"), (0, pbm(50 * [EAN8]), b""))
         status, out, err = ran(data=b"qr 01234567\n")
-        self.assertEqual((status, len(rows_of(out)), format_bits(rows_of(out)), err), (0, 29, M_0, b""))
+        self.assertEqual(
+            (status, len(rows_of(out)), format_bits(rows_of(out)), err), (0, 29, M_0, b"")
+        )
         # A backslash is a plain byte: three characters of Code 128, its start, check and stop, and quiet zones.
         self.assertEqual(ran(data=b"code128 a\\x\n")[1][:9], b"P1\n88 50\n")
 
     def test_each_option(self) -> None:
         """`-` is the name of a file. What options say of a QR symbol, a line's settings say as well."""
         Path(self.folder, "-").write_bytes(b"ean8 7351353\nqr a\\x41\n")
-        drawing = "--format ascii --scale=8 --height 1 --level H --min-version 10 --mask 0 --escapes -"
+        drawing = (
+            "--format ascii --scale=8 --height 1 --level H --min-version 10 --mask 0 --escapes -"
+        )
         status, out, err = ran(data=b"qr,level=H,min-version=10,mask=0 aA\n")
         symbol = rows_of(out)
         self.assertEqual((status, len(symbol), format_bits(symbol), err), (0, 65, H_0, b""))
@@ -246,7 +255,9 @@ class Arguments(InFolder):
         ):
             for count in (1, 2, 3, 10, 15, 16, 30, 100, 1000):
                 if count >= first_bad:
-                    self.assertEqual(self.ran(*count * [argument]), BAD_ARGUMENTS, (argument, count))
+                    self.assertEqual(
+                        self.ran(*count * [argument]), BAD_ARGUMENTS, (argument, count)
+                    )
 
     def test_the_most_arguments(self) -> None:
         """Each option and a file are taken, and no argument more."""
@@ -304,7 +315,9 @@ class Lines(unittest.TestCase):
 
     def test_lines_are_refused(self) -> None:
         data = b"".join(line + b"\n" for line, _ in REFUSED)
-        said = b"".join(b"line %d: %s\n" % (number, fault) for number, (_, fault) in enumerate(REFUSED, 1))
+        said = b"".join(
+            b"line %d: %s\n" % (number, fault) for number, (_, fault) in enumerate(REFUSED, 1)
+        )
         self.assert_wrote(data, OPTIONS, b"", said)
 
     def test_lines_of_ten_million_letters(self) -> None:

@@ -1,7 +1,9 @@
-"""Tests of tools/label-table: each encoding, delimiter and fault of a table of text, and what it writes and reports.
+"""Tests of tools/label-table: each encoding, delimiter and fault of a table of text, and what it
+writes and reports.
 
-The check digits are those of numbers in print: 4006381333931 (a pencil), 9780306406157 (a book), 73513537 (EAN-8) and
-036000291452 (UPC-A). What spreadsheets' own files say is in test_table_workbooks.
+The check digits are those of numbers in print: 4006381333931 (a pencil), 9780306406157 (a book),
+73513537 (EAN-8) and 036000291452 (UPC-A). What spreadsheets' own files say is in
+test_table_workbooks.
 """
 
 import functools
@@ -16,7 +18,7 @@ from pathlib import Path
 from typing import Any, Dict, List, Sequence, Tuple, Union
 
 import support
-from label_cells import shown
+from labeltools.messages import quoted as shown
 
 REFUSED = "refused: "
 
@@ -29,7 +31,9 @@ Label = Dict[str, Any]
 
 
 def parts_of(output: bytes) -> Tuple[Label, List[Tuple[Label, str]], Label]:
-    """The first remark, each line behind its remark, and the last remark; raises where the output is anything else."""
+    """The first remark, each line behind its remark, and the last remark; raises where the output
+    is anything else.
+    """
     if not output:
         return {}, [], {}
     *texts, rest = output.decode("utf-8").split("\n")
@@ -59,39 +63,62 @@ class TableTest(unittest.TestCase):
         status: int = 0,
         locales: Sequence[str] = (),
     ) -> None:
-        """Runs label-table over standard input, in each locale or else here; compares lines, messages and status.
+        """Runs label-table over standard input, in each locale or else here; compares lines,
+        messages and status.
 
-        Where there are lines or rows are left out, the output has to be whole: a remark before each line, and at the
-        end how many lines there are and which rows were left out.
+        Where there are lines or rows are left out, the output has to be whole: a remark before each
+        line, and at the end how many lines there are and which rows were left out.
         """
         data = table.encode() if isinstance(table, str) else table
-        runs = [functools.partial(support.run, locale=locale) for locale in locales] or [support.run_here]
-        left_out = [int(row) for row in re.findall("^row ([0-9]+): ", "\n".join(problems), re.MULTILINE)]
+        runs = [functools.partial(support.run, locale=locale) for locale in locales] or [
+            support.run_here
+        ]
+        left_out = [
+            int(row) for row in re.findall("^row ([0-9]+): ", "\n".join(problems), re.MULTILINE)
+        ]
         for run in runs:
             with self.subTest(run=run, table=data[:60], arguments=arguments):
                 done = run("label-table", *arguments, input=data)
-                self.assertEqual(support.messages(done), [f"label-table: {problem}" for problem in problems])
+                self.assertEqual(
+                    support.messages(done), [f"label-table: {problem}" for problem in problems]
+                )
                 first, labels, last = parts_of(done.stdout)
                 self.assertEqual([line for _, line in labels], list(lines))
                 if lines or left_out:
                     self.assertEqual(first, {"labels": 1})
-                    end = {"end": 1, "lines": len(lines), "left_out": left_out[:20], "left_out_count": len(left_out)}
+                    end = {
+                        "end": 1,
+                        "lines": len(lines),
+                        "left_out": left_out[:20],
+                        "left_out_count": len(left_out),
+                    }
                     self.assertEqual(last, end)
                 self.assertEqual(done.returncode, status)
 
-    def labels(self, table: Union[str, bytes], *arguments: str) -> List[Label]:
-        """What belongs to each line of a table of which no row is left out."""
+    def labels(
+        self, table: Union[str, bytes], *arguments: str, said: Sequence[str] = ()
+    ) -> List[Label]:
+        """What belongs to each line of a table of which no row is left out, and about which this is
+        said.
+        """
         data = table.encode() if isinstance(table, str) else table
         done = support.run_here("label-table", *arguments, input=data)
-        self.assertEqual((done.returncode, support.messages(done)), (0, []))
+        messages = [f"label-table: {text}" for text in said]
+        self.assertEqual((done.returncode, support.messages(done)), (0, messages))
         return [label for label, _ in parts_of(done.stdout)[1]]
 
     def check_cells(self, arguments: Sequence[str], wanted: Dict[str, str]) -> None:
-        """A column of cells, each in quotes, and the line that each gives, or REFUSED and the message for its row."""
+        """A column of cells, each in quotes, and the line that each gives, or REFUSED and the
+        message for its row.
+        """
         table = "".join(f'"{cell}";x\n' for cell in wanted)
         results = list(enumerate(wanted.values(), 2))
         lines = [result for _, result in results if not result.startswith(REFUSED)]
-        problems = [f"row {row}: {result[len(REFUSED):]}" for row, result in results if result.startswith(REFUSED)]
+        problems = [
+            f"row {row}: {result[len(REFUSED):]}"
+            for row, result in results
+            if result.startswith(REFUSED)
+        ]
         status = 1 if problems else 0
         self.check(f"code;name\n{table}", ["--code", "code", *arguments], lines, problems, status)
 
@@ -104,14 +131,17 @@ class TableTest(unittest.TestCase):
 
 
 class Encodings(TableTest):
-    FIX = "save it as UTF-8, or give its --encoding, as cp1252 for an old file of Windows, or utf-16-le"
+    FIX = "save it as UTF-8, or give the --encoding that reads it right: "
+    WIDE = "save it as UTF-8, or give --encoding utf-16-le or utf-16-be"
     TEXT = f"Nummer;Größe;Name\r\n{PENCIL};ß;Käse\r\n{SMALL};ü;Öl €\r\n"
     ARGUMENTS = ("--code", "Nummer", "--title", "Name", "--text", "Größe")
 
     def check_letters(self, data: bytes, *arguments: str) -> None:
         for locale in support.LOCALES:
             with self.subTest(locale=locale, arguments=arguments):
-                done = support.run("label-table", *self.ARGUMENTS, *arguments, input=data, locale=locale)
+                done = support.run(
+                    "label-table", *self.ARGUMENTS, *arguments, input=data, locale=locale
+                )
                 self.assertEqual(support.messages(done), [])
                 pencil = f'#{{"row":2,"title":"Käse","text":["ß"]}}\nean13 {PENCIL}\n'
                 small = f'#{{"row":3,"title":"Öl €","text":["ü"]}}\nean8 {SMALL}\n'
@@ -135,14 +165,18 @@ class Encodings(TableTest):
     def test_utf16_without_mark(self) -> None:
         self.check_letters(self.TEXT.encode("utf-16-le"), "--encoding", "utf-16-le")
         self.check_letters(self.TEXT.encode("utf-16-be"), "--encoding", "utf-16-be")
-        problem = f"standard input is not UTF-8, as line 1 shows: {self.FIX}"
+        problem = f"standard input is not UTF-8, as line 1 shows: {self.WIDE}"
         self.check(self.TEXT.encode("utf-16-le"), ["--code", "1"], [], [problem], 1)
         self.check("code\n1\n".encode("utf-16-le"), ["--code", "1"], [], [problem], 1)
 
     def test_one_byte_encodings_when_told(self) -> None:
         self.check_letters(self.TEXT.encode("cp1252"), "--encoding", "cp1252")
         text = self.TEXT.replace("€", "¤").encode("latin-1")
-        self.check(text, ["--code", "Nummer", "--encoding", "latin-1"], [f"ean13 {PENCIL}", f"ean8 {SMALL}"])
+        self.check(
+            text,
+            ["--code", "Nummer", "--encoding", "latin-1"],
+            [f"ean13 {PENCIL}", f"ean8 {SMALL}"],
+        )
         self.check(
             "code\nKäse\n".encode("latin-1"),
             ["--code", "code", "--symbology", "qr", "--encoding", "latin-1"],
@@ -150,31 +184,67 @@ class Encodings(TableTest):
         )
 
     def test_bytes_that_do_not_decode(self) -> None:
-        problem = f"standard input is not UTF-8, as line 3 shows: {self.FIX}"
-        self.check(f"code;name\r\n{PENCIL};a\r\n{SMALL};K".encode() + b"\xe4se", ["--code", "1"], [], [problem], 1)
-        problem = f"standard input is not UTF-16-LE, as line 1 shows: {self.FIX}"
+        problem = f'standard input is not UTF-8, as line 3 shows: {self.FIX}cp1252 reads "Käse"'
+        self.check(
+            f"code;name\r\n{PENCIL};a\r\n{SMALL};K".encode() + b"\xe4se",
+            ["--code", "1"],
+            [],
+            [problem],
+            1,
+        )
+        problem = (
+            "standard input is not UTF-16-LE, as line 1 shows: it is cut off or damaged, save it"
+            " again"
+        )
         self.check(b"\xff\xfea", ["--code", "1"], [], [problem], 1)
-        problem = f"standard input is not CP1252, as line 2 shows: {self.FIX}"
+        problem = f'standard input is not CP1252, as line 2 shows: {self.FIX}cp1251 reads "Ѓ"'
         self.check(b"code\n\x81\n", ["--code", "1", "--encoding", "windows-1252"], [], [problem], 1)
 
     def test_encodings_that_are_none(self) -> None:
         for encoding in ("x", "rot13", "base64", "ä"):
             problem = f'--encoding "{encoding}" is unknown: give one as cp1252'
-            self.check(f"code\n{SMALL}\n", ["--code", "code", "--encoding", encoding], [], [problem], 2)
+            self.check(
+                f"code\n{SMALL}\n", ["--code", "code", "--encoding", encoding], [], [problem], 2
+            )
 
     def test_encoding_told_that_the_file_contradicts(self) -> None:
-        for encoding in ("latin-1", "cp1252", "cp850", "mac-roman", "koi8-r", "shift_jis", "gb18030"):
+        for encoding in (
+            "latin-1",
+            "cp1252",
+            "cp850",
+            "mac-roman",
+            "koi8-r",
+            "shift_jis",
+            "gb18030",
+        ):
             problem = f"standard input is UTF-8: leave --encoding {encoding} away"
             arguments = ["--code", "code", "--symbology", "qr", "--encoding", encoding]
             self.check("code\nKäse\n", arguments, [], [problem], 2)
             self.check("\ufeffcode\nabc\n", arguments, [], [problem], 2)
-        problem = f"standard input is not ISO8859-1, as line 2 shows: {self.FIX}"
-        self.check("code\n5 €\n".encode("cp1252"), ["--code", "1", "--encoding", "latin-1"], [], [problem], 1)
+        problem = (
+            f'standard input is not ISO8859-1, as line 2 shows: {self.FIX}cp1252 reads "€", cp1251'
+            ' reads "Ђ"'
+        )
+        self.check(
+            "code\n5 €\n".encode("cp1252"),
+            ["--code", "1", "--encoding", "latin-1"],
+            [],
+            [problem],
+            1,
+        )
 
     def test_files_that_are_no_text(self) -> None:
-        problem = "standard input is an old .xls, XML, HTML, or has a password: save it as .xlsx, without one"
+        problem = (
+            "standard input is an old .xls, XML, HTML, or has a password: save it as .xlsx,"
+            " without one"
+        )
         self.check(b"\xd0\xcf\x11\xe0\xa1\xb1\x1a\xe1\0\0", ["--code", "1"], [], [problem], 1)
-        for start in ("<?xml version='1.0'?><office:document>", "\n<!DOCTYPE html>", "<HTML><table>", "<table><tr>"):
+        for start in (
+            "<?xml version='1.0'?><office:document>",
+            "\n<!DOCTYPE html>",
+            "<HTML><table>",
+            "<table><tr>",
+        ):
             self.check(start, ["--code", "1"], [], [problem], 1)
 
 
@@ -183,30 +253,52 @@ class Cells(TableTest):
         for delimiter in (";", ",", "\t"):
             table = f"code{delimiter}name\n{PENCIL}{delimiter}a\n{SMALL}{delimiter}b\n"
             self.check(table, ["--code", "code"], [f"ean13 {PENCIL}", f"ean8 {SMALL}"])
-            self.check(table, ["--code", "1", "--delimiter", delimiter], [f"ean13 {PENCIL}", f"ean8 {SMALL}"])
-        self.check(f"name\tcode\na\t{SMALL}\n", ["--code", "2", "--delimiter", "tab"], [f"ean8 {SMALL}"])
-        self.check(f"name|code\na|{SMALL}\n", ["--code", "code", "--delimiter", "|"], [f"ean8 {SMALL}"])
+            self.check(
+                table,
+                ["--code", "1", "--delimiter", delimiter],
+                [f"ean13 {PENCIL}", f"ean8 {SMALL}"],
+            )
+        self.check(
+            f"name\tcode\na\t{SMALL}\n", ["--code", "2", "--delimiter", "tab"], [f"ean8 {SMALL}"]
+        )
+        self.check(
+            f"name|code\na|{SMALL}\n", ["--code", "code", "--delimiter", "|"], [f"ean8 {SMALL}"]
+        )
 
     def test_delimiter_among_other_marks(self) -> None:
-        self.check(f"code;price, net, EUR\n{PENCIL};1,20\n", ["--code", "code"], [f"ean13 {PENCIL}"])
+        self.check(
+            f"code;price, net, EUR\n{PENCIL};1,20\n", ["--code", "code"], [f"ean13 {PENCIL}"]
+        )
         self.check(f"name; size,code\na,{PENCIL}\n", ["--code", "2"], [f"ean13 {PENCIL}"])
         self.check(f"name; size,code\na; b,{PENCIL}\n", ["--code", "code"], [f"ean13 {PENCIL}"])
         self.check(f'"price; net",code\n"1;20",{PENCIL}\n', ["--code", "2"], [f"ean13 {PENCIL}"])
         self.check(
-            f"{PENCIL};a;1,20\n{SMALL};b;0,80\n", ["--code", "1", "--no-header"], [f"ean13 {PENCIL}", f"ean8 {SMALL}"]
+            f"{PENCIL};a;1,20\n{SMALL};b;0,80\n",
+            ["--code", "1", "--no-header"],
+            [f"ean13 {PENCIL}", f"ean8 {SMALL}"],
         )
         self.check(f'size 5"\tcode\n3"\t{SMALL}\n', ["--code", "code"], [f"ean8 {SMALL}"])
 
     def test_line_that_names_the_delimiter_to_excel(self) -> None:
         problem = "row 3: 73513538: the check digit is 8, should be 7"
         self.check(
-            f"sep=;\r\ncode;a\r\n{SMALL};b\r\n73513538;c\r\n", ["--code", "code"], [f"ean8 {SMALL}"], [problem], 1
+            f"sep=;\r\ncode;a\r\n{SMALL};b\r\n73513538;c\r\n",
+            ["--code", "code"],
+            [f"ean8 {SMALL}"],
+            [problem],
+            1,
         )
         self.check(f"sep=|\r\ncode|a\r\n{SMALL}|b\r\n", ["--code", "code"], [f"ean8 {SMALL}"])
 
     def test_told_delimiter_that_row_1_does_not_have(self) -> None:
-        problem = 'row 1 has no "," between cells, but ";"'
-        self.check("code;name\nA1;a\n", ["--code", "1", "--symbology", "qr", "--delimiter", ","], [], [problem], 2)
+        problem = 'row 1 has no "," between cells, but ";": leave --delimiter away'
+        self.check(
+            "code;name\nA1;a\n",
+            ["--code", "1", "--symbology", "qr", "--delimiter", ","],
+            [],
+            [problem],
+            2,
+        )
 
     def test_line_ends(self) -> None:
         for end in ("\n", "\r\n", "\r"):
@@ -217,19 +309,36 @@ class Cells(TableTest):
     def test_quotes(self) -> None:
         table = f'"name","code"\r\n"soap, ""soft""","{PENCIL}"\r\n5" nail,{SMALL}\r\n'
         labels = self.labels(table, "--code", "code", "--title", "name")
-        self.assertEqual(labels, [{"row": 2, "title": 'soap, "soft"'}, {"row": 3, "title": '5" nail'}])
+        self.assertEqual(
+            labels, [{"row": 2, "title": 'soap, "soft"'}, {"row": 3, "title": '5" nail'}]
+        )
 
     def test_row_numbers_are_those_of_the_spreadsheet(self) -> None:
         table = f'code;note\n{PENCIL};"two\r\nlines\n"\n;x\n{SMALL};y\n73513538;"a\nb"\n'
-        problems = ['row 3: column 1 ("code") is empty', "row 5: 73513538: the check digit is 8, should be 7"]
+        problems = [
+            'row 3: column 1 ("code") is empty',
+            "row 5: 73513538: the check digit is 8, should be 7",
+        ]
         self.check(table, ["--code", "code"], [f"ean13 {PENCIL}", f"ean8 {SMALL}"], problems, 1)
 
     def test_quotes_that_do_not_match(self) -> None:
         open_quote = "row 2: a quote is not closed; this row and all below it are left out"
         self.check(f'code;name\n{SMALL};"a\n{SMALL};b\n', ["--code", "code"], [], [open_quote], 1)
-        self.check(f'code;name\n{SMALL};"a\n{SMALL};"b"\n{SMALL};c\n', ["--code", "code"], [], [open_quote], 1)
+        self.check(
+            f'code;name\n{SMALL};"a\n{SMALL};"b"\n{SMALL};c\n',
+            ["--code", "code"],
+            [],
+            [open_quote],
+            1,
+        )
         text_after = 'row 2: text after a closing quote: write a quote in a quoted cell twice ("")'
-        self.check(f'code;name\n{PENCIL};"a"b\n{SMALL};c\n', ["--code", "code"], [f"ean8 {SMALL}"], [text_after], 1)
+        self.check(
+            f'code;name\n{PENCIL};"a"b\n{SMALL};c\n',
+            ["--code", "code"],
+            [f"ean8 {SMALL}"],
+            [text_after],
+            1,
+        )
         in_header = f"standard input: {open_quote.replace('row 2', 'row 1')}"
         self.check(f'"code;name\n{SMALL};"a', ["--code", "code"], [], [in_header], 1)
 
@@ -245,21 +354,32 @@ class Cells(TableTest):
         table = f"code;name\n{SMALL};{long}\n{PENCIL};b\n"
         self.check(table, ["--code", "code"], [f"ean8 {SMALL}", f"ean13 {PENCIL}"])
         problem = (
-            'row 2: column 2 ("name") has "' + "x" * 37 + '...", and at most 131068 characters of a cell are read'
+            'row 2: column 2 ("name") has "'
+            + "x" * 37
+            + '...", and at most 131068 characters of a cell are read'
         )
         self.check(table, ["--code", "code", "--text", "name"], [f"ean13 {PENCIL}"], [problem], 1)
         self.check(
-            f'code;name\n{SMALL};"{long}\n"\n{PENCIL};b\n', ["--code", "1"], [f"ean8 {SMALL}", f"ean13 {PENCIL}"]
+            f'code;name\n{SMALL};"{long}\n"\n{PENCIL};b\n',
+            ["--code", "1"],
+            [f"ean8 {SMALL}", f"ean13 {PENCIL}"],
         )
 
     def test_rows_of_other_lengths(self) -> None:
         rows = [f"{PENCIL};a;b", PENCIL, f"{PENCIL};1,20;a;b", f"{SMALL};a;b;;", f"{SMALL};;"]
         problems = [
             "row 3: the row has 1 of 3 cells: is it cut off?",
-            "row 4: the row has 4 cells and row 1 has 3: a cell that contains the delimiter has to be in quotes",
+            (
+                "row 4: the row has 4 cells and row 1 has 3: a cell that contains the delimiter has"
+                " to be in quotes"
+            ),
+            (
+                "row 5: the row has 5 cells and row 1 has 3: a cell that contains the delimiter has"
+                " to be in quotes"
+            ),
         ]
         table = "\n".join(["code;x;y", *rows])
-        self.check(table, ["--code", "code"], [f"ean13 {PENCIL}", f"ean8 {SMALL}", f"ean8 {SMALL}"], problems, 1)
+        self.check(table, ["--code", "code"], [f"ean13 {PENCIL}", f"ean8 {SMALL}"], problems, 1)
         self.check(f"code;x;;\n{SMALL};a\n", ["--code", "code"], [f"ean8 {SMALL}"])
 
     def test_blank_rows(self) -> None:
@@ -277,18 +397,39 @@ class Cells(TableTest):
             "7351\n3537": f'{title}a line end in the cell "7351<U+000A>3537", {unseen}',
             "7351\r\n3537": f'{title}a line end in the cell "7351<U+000D><U+000A>3537", {unseen}',
             "A\t1": title + 'a tab in the cell "A<U+0009>1", which nobody sees',
-            "\u200e73513537": title + 'left-to-right mark (U+200E) in the cell "<U+200E>73513537", which nobody sees',
-            "A\x1d1": title + 'control character (U+001D) in the cell "A<U+001D>1", which nobody sees',
-            "A\u00a01": title + 'no-break space (U+00A0) in the cell "A<U+00A0>1", which nobody sees',
-            "A\u202f1": title + 'narrow no-break space (U+202F) in the cell "A<U+202F>1", which nobody sees',
-            "A\u30001": title + 'ideographic space (U+3000) in the cell "A<U+3000>1", which nobody sees',
-            "A\u20611": title + 'function application (U+2061) in the cell "A<U+2061>1", which nobody sees',
-            "A\ufe0f1": title + 'variation selector-16 (U+FE0F) in the cell "A\ufe0f1", which nobody sees',
-            "A\U000e01001": title + 'variation selector-17 (U+E0100) in the cell "A\U000e01001", which nobody sees',
+            "\u200e73513537": (
+                title
+                + 'left-to-right mark (U+200E) in the cell "<U+200E>73513537", which nobody sees'
+            ),
+            "A\x1d1": (
+                title + 'control character (U+001D) in the cell "A<U+001D>1", which nobody sees'
+            ),
+            "A\u00a01": (
+                title + 'no-break space (U+00A0) in the cell "A<U+00A0>1", which nobody sees'
+            ),
+            "A\u202f1": (
+                title + 'narrow no-break space (U+202F) in the cell "A<U+202F>1", which nobody sees'
+            ),
+            "A\u30001": (
+                title + 'ideographic space (U+3000) in the cell "A<U+3000>1", which nobody sees'
+            ),
+            "A\u20611": (
+                title + 'function application (U+2061) in the cell "A<U+2061>1", which nobody sees'
+            ),
+            "A\ufe0f1": (
+                title + 'variation selector-16 (U+FE0F) in the cell "A\ufe0f1", which nobody sees'
+            ),
+            "A\U000e01001": (
+                title
+                + 'variation selector-17 (U+E0100) in the cell "A\U000e01001", which nobody sees'
+            ),
             "A\u31641": title + 'hangul filler (U+3164) in the cell "A\u31641", which nobody sees',
             "A\u20281": f'{title}line separator (U+2028) in the cell "A<U+2028>1", {unseen}',
             "=A1": title + '"=A1", a formula: export its value',
-            "K\ufffdse": title + '"K\ufffdse", with the sign of a lost letter (U+FFFD): export the table again',
+            "K\ufffdse": (
+                title
+                + '"K\ufffdse", with the sign of a lost letter (U+FFFD): export the table again'
+            ),
             **{
                 cell: f'{title}"{cell}", {error}'
                 for cell in ("#REF!", "#N/A", "#WERT!", "#DIV/0!", "####", "Err:502", "#ЗНАЧ!")
@@ -301,7 +442,10 @@ class Cells(TableTest):
         for end in ("\n", "\r\n", "\r"):
             self.check_cells([], {f"{SMALL}{end}": f"ean8 {SMALL}"})
             seen = f"LOT 7{end}".replace("\r", "<U+000D>").replace("\n", "<U+000A>")
-            problem = f'refused: "{seen}" has a space before or after the data, which would be drawn: take it away'
+            problem = (
+                f'refused: "{seen}" has a space before or after the data, which would be drawn:'
+                " take it away"
+            )
             self.check_cells(["--symbology", "code128"], {f"LOT 7{end}": problem})
 
 
@@ -311,7 +455,12 @@ class Columns(TableTest):
         self.check(table, ["--code", "the code"], [f"ean8 {SMALL}"])
         self.check(table, ["--code", "3", "--header"], [f"ean13 {PENCIL}"])
         self.check(table, ["--code", "2", "--header"], [f"ean13 {PENCIL}"])
-        self.check(f" Größe ;x\n{SMALL};a\n", ["--code", "Größe"], [f"ean8 {SMALL}"], locales=support.LOCALES)
+        self.check(
+            f" Größe ;x\n{SMALL};a\n",
+            ["--code", "Größe"],
+            [f"ean8 {SMALL}"],
+            locales=support.LOCALES,
+        )
         problem = 'no column "Länge"; row 1 has 1 "Größe": give the number of one'
         self.check(f"Größe\n{SMALL}\n", ["--code", "Länge"], [], [problem], 2, support.LOCALES)
 
@@ -321,10 +470,14 @@ class Columns(TableTest):
         for column in ("Code", "0", "3", "-1", ""):
             self.check(table, [f"--code={column}"], [], [f'no column "{column}"; {listed}'], 2)
         for option in ("--title", "--text", "--price", "--copies"):
-            self.check(table, ["--code", "1", option, "size"], [], [f'no column "size"; {listed}'], 2)
+            self.check(
+                table, ["--code", "1", option, "size"], [], [f'no column "size"; {listed}'], 2
+            )
 
     def test_column_that_is_there_twice(self) -> None:
-        problem = 'several columns "code"; row 1 has 1 "code", 2 "name", 3 "code": give the number of one'
+        problem = (
+            'several columns "code"; row 1 has 1 "code", 2 "name", 3 "code": give the number of one'
+        )
         table = f"code;name;code\n{SMALL};a;{PENCIL}\n"
         self.check(table, ["--code", "code"], [], [problem], 2)
         self.check(table, ["--code", "3"], [f"ean13 {PENCIL}"])
@@ -353,7 +506,11 @@ class Columns(TableTest):
             place = 2 if cell == "1" else 1
             problem = f'row 1 has "{cell}" in column {place}: {hint}'
             self.check(table, ["--code", "1", *arguments], [], [problem], 2)
-        self.check("LOT 7\nLOT 8\n", ["--code", "1", "--symbology", "code128", "--header"], ["code128 LOT 8"])
+        self.check(
+            "LOT 7\nLOT 8\n",
+            ["--code", "1", "--symbology", "code128", "--header"],
+            ["code128 LOT 8"],
+        )
         lots = ["code128 LOT 7", "code128 LOT 8"]
         self.check("LOT 7\nLOT 8\n", ["--code", "1", "--symbology", "code128", "--no-header"], lots)
         for name in ("EAN-13", "GTIN14", "Code 128", "Artikel-Nr."):
@@ -373,16 +530,37 @@ class Columns(TableTest):
 
 class Texts(TableTest):
     def test_what_belongs_to_a_line_is_before_it(self) -> None:
-        rows = [f"{PENCIL}; Käse;1,20 ;rot;2", "73513538;b;2;;1", f"{SMALL};;;;0", f"{BOOK};c\td;3;;1"]
+        rows = [
+            f"{PENCIL}; Käse;1,20 ;rot;2",
+            "73513538;b;2;;1",
+            f"{SMALL};;;;0",
+            f"{BOOK};c\td;3;;x",
+        ]
         table = "\n".join(["code;name;price;colour;copies", *rows, ""])
         done = support.run_here(
             "label-table",
-            *("--code", "code", "--title", "name", "--text", "colour", "--price", "price", "--copies", "copies"),
+            *(
+                "--code",
+                "code",
+                "--title",
+                "name",
+                "--text",
+                "colour",
+                "--price",
+                "price",
+                "--copies",
+                "copies",
+            ),
             input=table.encode(),
         )
         problems = [
             "label-table: row 3: 73513538: the check digit is 8, should be 7",
-            'label-table: row 5: column 2 ("name") has a tab in the cell "c<U+0009>d", which nobody sees',
+            (
+                'label-table: row 5: column 5 ("copies") is "x": copies are a whole number from 0'
+                " to 9999"
+            ),
+            "label-table: row 4 has no title (1 of 2 labels)",
+            "label-table: row 4 has no price (1 of 2 labels)",
         ]
         self.assertEqual((done.returncode, support.messages(done)), (1, problems))
         written = [
@@ -400,7 +578,9 @@ class Texts(TableTest):
         titles = {PENCIL: "pencil", SMALL: "eraser", BOOK: "book"}
         for order in (rows, rows[::-1], [rows[1], "x;y", rows[0]]):
             table = "\n".join(["code;name", *order])
-            done = support.run_here("label-table", "--code", "code", "--title", "name", input=table.encode())
+            done = support.run_here(
+                "label-table", "--code", "code", "--title", "name", input=table.encode()
+            )
             found = {line.split()[1]: label["title"] for label, line in parts_of(done.stdout)[1]}
             self.assertEqual(found, {code: titles[code] for code in found})
             self.assertGreater(len(found), 1)
@@ -413,7 +593,9 @@ class Texts(TableTest):
         path = Path(str(self.folder), b"K\xe4se.csv".decode(errors="surrogateescape"))
         path.write_text(f"code\n{SMALL}\n")
         done = support.run("label-table", "--code", "code", path)
-        self.assertEqual(parts_of(done.stdout)[0], {"labels": 1, "table": f"{self.folder}/K?se.csv"})
+        self.assertEqual(
+            parts_of(done.stdout)[0], {"labels": 1, "table": f"{self.folder}/K?se.csv"}
+        )
 
     def test_a_line_end_in_a_text_is_its_next_line(self) -> None:
         for end in ("\n", "\r\n", "\r"):
@@ -439,8 +621,11 @@ class Texts(TableTest):
             "--text",
             "c",
         ]
-        labels = self.labels(table, "--code", "code", *arguments)
-        self.assertEqual(labels, [{"row": 2, "title": "three\none", "text": ["one", "three"]}, {"row": 3}])
+        said = ["row 3 has no title (1 of 2 labels)"]
+        labels = self.labels(table, "--code", "code", *arguments, said=said)
+        self.assertEqual(
+            labels, [{"row": 2, "title": "three\none", "text": ["one", "three"]}, {"row": 3}]
+        )
 
     def test_the_column_of_the_codes_as_text(self) -> None:
         arguments = ["--code", "code", "--text", "name", "--text", "1"]
@@ -464,7 +649,9 @@ class Texts(TableTest):
             "👩\u200d🍳\ufe0f",
             "x" * 500,
         ):
-            labels = self.labels(f'code;name\n{SMALL};"{text}"\n', "--code", "code", "--title", "name", "--text", "2")
+            labels = self.labels(
+                f'code;name\n{SMALL};"{text}"\n', "--code", "code", "--title", "name", "--text", "2"
+            )
             self.assertEqual(labels, [{"row": 2, "title": text, "text": [text]}])
 
     def test_characters_that_no_text_can_show(self) -> None:
@@ -480,45 +667,84 @@ class Texts(TableTest):
         for character, name in names.items():
             for option in ("--title", "--text"):
                 cell = f"a<U+{ord(character):04X}>b"
-                problem = f'row 2: column 2 ("name") has {name} in the cell "{cell}", which nobody sees'
+                problem = (
+                    f'row 2: column 2 ("name") has {name} in the cell "{cell}", which nobody sees'
+                )
                 table = f"code;name\n{SMALL};a{character}b\n{PENCIL};c\n"
-                self.check(table, ["--code", "code", option, "name"], [f"ean13 {PENCIL}"], [problem], 1)
+                self.check(
+                    table, ["--code", "code", option, "name"], [f"ean13 {PENCIL}"], [problem], 1
+                )
         for cell, problem in (
             ("#REF!", '"#REF!", which the spreadsheet writes where it has no value to show'),
             ("=B2", '"=B2", a formula: export its value'),
         ):
             problem = f'row 2: column 2 ("name") has {problem}'
-            self.check(f"code;name\n{SMALL};{cell}\n", ["--code", "code", "--title", "name"], [], [problem], 1)
+            self.check(
+                f"code;name\n{SMALL};{cell}\n",
+                ["--code", "code", "--title", "name"],
+                [],
+                [problem],
+                1,
+            )
 
     def test_prices(self) -> None:
         prices = ("0,80 €", "12.999,00 zł", "1\u202f299,00\u00a0€", "5,– CHF", "$3.99", '="1,20"')
-        table = "code;price\n" + "".join(f'{SMALL};"{price}"\n'.replace('="1,20"', '=""1,20""') for price in prices)
-        done = support.run_here("label-table", "--code", "code", "--price", "price", input=table.encode())
+        table = "code;price\n" + "".join(
+            f'{SMALL};"{price}"\n'.replace('="1,20"', '=""1,20""') for price in prices
+        )
+        done = support.run_here(
+            "label-table", "--code", "code", "--price", "price", input=table.encode()
+        )
         found = [label["price"] for label, _ in parts_of(done.stdout)[1]]
         self.assertEqual(found, ["1,20" if price.startswith("=") else price for price in prices])
         wanted = {
             "1,20\n€": 'has a line end in the cell "1,20<U+000A>€", which nobody sees',
-            "1,\u200b20": 'has zero width space (U+200B) in the cell "1,<U+200B>20", which nobody sees',
-            "\u202e02,1": 'has right-to-left override (U+202E) in the cell "<U+202E>02,1", which nobody sees',
+            "1,\u200b20": (
+                'has zero width space (U+200B) in the cell "1,<U+200B>20", which nobody sees'
+            ),
+            "\u202e02,1": (
+                'has right-to-left override (U+202E) in the cell "<U+202E>02,1", which nobody sees'
+            ),
             "#####": 'has "#####", which the spreadsheet writes where it has no value to show',
         }
         for price, problem in wanted.items():
             problem = f'row 2: column 2 ("price") {problem}'
-            self.check(f'code;price\n{SMALL};"{price}"\n', ["--code", "code", "--price", "price"], [], [problem], 1)
+            self.check(
+                f'code;price\n{SMALL};"{price}"\n',
+                ["--code", "code", "--price", "price"],
+                [],
+                [problem],
+                1,
+            )
 
     def test_copies(self) -> None:
-        right = {"0": 0, "1": 1, "9999": 9999, "0012": 12, "3,0": 3, "3.00": 3, " 2 ": 2, '=""4""': 4}
+        right = {
+            "0": 0,
+            "1": 1,
+            "9999": 9999,
+            "0012": 12,
+            "3,0": 3,
+            "3.00": 3,
+            " 2 ": 2,
+            '=""4""': 4,
+        }
         table = "code;copies\n" + "".join(f'{SMALL};"{cell}"\n' for cell in right)
         labels = self.labels(table, "--code", "code", "--copies", "copies")
         self.assertEqual([label["copies"] for label in labels], list(right.values()))
         for cell in ("", "10000", "-1", "1.5", "1.000", "1,5", "three", "3 x", "1e2", "٣"):
-            problem = f'row 2: column 2 ("copies") is "{cell}": copies are a whole number from 0 to 9999'
+            problem = (
+                f'row 2: column 2 ("copies") is "{cell}": copies are a whole number from 0 to 9999'
+            )
             table = f"code;copies\n{SMALL};{cell}\n{PENCIL};1\n"
-            self.check(table, ["--code", "code", "--copies", "copies"], [f"ean13 {PENCIL}"], [problem], 1)
+            self.check(
+                table, ["--code", "code", "--copies", "copies"], [f"ean13 {PENCIL}"], [problem], 1
+            )
 
     def test_a_code_that_is_there_twice(self) -> None:
         what = "have the same code, 73513537, and another title, text or price"
-        table = f"code;name;text;price\n{SMALL};a;b;1\n{PENCIL};x;b;1\n{SMALL};{{}}\n{SMALL};z;b;1\n"
+        table = (
+            f"code;name;text;price\n{SMALL};a;b;1\n{PENCIL};x;b;1\n{SMALL};{{}}\n{SMALL};z;b;1\n"
+        )
         lines = [f"ean8 {SMALL}", f"ean13 {PENCIL}", f"ean8 {SMALL}", f"ean8 {SMALL}"]
         for cells in ("c;b;1", "a;c;1", "a;b;2", "a;;1"):
             arguments = ["--code", "code", "--title", "name", "--text", "text", "--price", "price"]
@@ -536,46 +762,60 @@ class Texts(TableTest):
 class Numbers(TableTest):
     LENGTHS = "ean8 has 8, upca has 12, ean13 has 13"
     LOST = "give --symbology auto, or --fill-zeros where zeros in front are lost"
+    LOST_IN_AUTO = "give --fill-zeros where zeros in front are lost"
     NONE = "if the column has no check digits, give --without-check-digit"
     CASE = "a GTIN-14 is drawn as ITF-14, which labels does not draw"
 
     def test_auto_goes_by_length(self) -> None:
-        wanted = {PENCIL: f"ean13 {PENCIL}", BOOK: f"ean13 {BOOK}", SMALL: f"ean8 {SMALL}", SOAP: f"upca {SOAP}"}
+        wanted = {
+            PENCIL: f"ean13 {PENCIL}",
+            BOOK: f"ean13 {BOOK}",
+            SMALL: f"ean8 {SMALL}",
+            SOAP: f"upca {SOAP}",
+        }
         self.check_cells([], wanted)
 
     def test_each_symbology(self) -> None:
         for symbology, number in (("ean13", PENCIL), ("ean8", SMALL), ("upca", SOAP)):
             line = f"{symbology},height=030 {number}"
             arguments = ["--symbology", symbology, "--settings", "height=030"]
-            self.check_cells(arguments, {number: line, f" {number} ": line, f"\u00a0{number}\u202f": line})
+            self.check_cells(
+                arguments, {number: line, f" {number} ": line, f"\u00a0{number}\u202f": line}
+            )
 
     def test_wrong_check_digit(self) -> None:
         wanted = {
             "4006381333932": "refused: 4006381333932: the check digit is 2, should be 1",
             "9780306406158": "refused: 9780306406158: the check digit is 8, should be 7",
             "73513530": "refused: 73513530: the check digit is 0, should be 7",
-            "036000291453": f"refused: 036000291453: the check digit is 3, should be 2; {self.NONE}",
+            "036000291453": (
+                f"refused: 036000291453: the check digit is 3, should be 2; {self.NONE}"
+            ),
         }
         self.check_cells([], wanted)
 
     def test_numbers_of_another_symbology(self) -> None:
         wanted = {
-            SOAP: f"refused: {SOAP} has 12 digits, ean13 has 13; {self.LOST}",
-            SMALL: f"refused: {SMALL} has 8 digits, ean13 has 13; {self.LOST}",
+            SOAP: f"refused: {SOAP} has 12 digits, ean13 has 13: {self.LOST}",
+            SMALL: f"refused: {SMALL} has 8 digits, ean13 has 13: {self.LOST}",
         }
         self.check_cells(["--symbology", "ean13"], wanted)
-        ean13 = f"refused: {PENCIL} has 13 digits, upca has 12; {self.LOST}"
+        ean13 = f"refused: {PENCIL} has 13 digits, upca has 12: give --symbology auto"
         self.check_cells(["--symbology", "upca"], {PENCIL: ean13})
 
     def test_other_lengths(self) -> None:
         wanted = {
-            "36000291452": f"refused: 36000291452 has 11 digits, {self.LENGTHS}; {self.LOST}",
-            "36000291453": f"refused: 36000291453 has 11 digits, {self.LENGTHS}; {self.NONE}",
-            "7351353": f"refused: 7351353 has 7 digits, {self.LENGTHS}; {self.NONE}",
-            "5": f"refused: 5 has 1 digit, {self.LENGTHS}; {self.NONE}",
-            "12345678901234": f"refused: 12345678901234 has 14 digits, {self.LENGTHS}; {self.CASE}",
-            "10614141543219": f"refused: 10614141543219 has 14 digits, {self.LENGTHS}; {self.CASE}",
-            "7" * 30: f"refused: {'7' * 20} has 30 digits, {self.LENGTHS}; {self.LOST}",
+            "36000291452": f"refused: 36000291452 has 11 digits, {self.LENGTHS}: {self.LOST_IN_AUTO}",
+            "36000291453": f"refused: 36000291453 has 11 digits, {self.LENGTHS}: {self.NONE}",
+            "7351353": f"refused: 7351353 has 7 digits, {self.LENGTHS}: {self.NONE}",
+            "5": f"refused: 5 has 1 digit, {self.LENGTHS}: {self.NONE}",
+            "12345678901234": f"refused: 12345678901234 has 14 digits, {self.LENGTHS}: {self.CASE}",
+            "10614141543219": f"refused: 10614141543219 has 14 digits, {self.LENGTHS}: {self.CASE}",
+            "7"
+            * 30: (
+                f"refused: {'7' * 20} has 30 digits, {self.LENGTHS}: a code of more digits is"
+                " --symbology code128"
+            ),
         }
         self.check_cells([], wanted)
 
@@ -589,20 +829,26 @@ class Numbers(TableTest):
         self.check_cells(["--fill-zeros", "--symbology", "ean13"], wanted)
         self.check_cells(["--fill-zeros"], {**wanted, SMALL: f"ean8 {SMALL}"})
         self.check_cells(
-            ["--fill-zeros", "--symbology", "upca"], {"36000291452": f"upca {SOAP}", SOAP: f"upca {SOAP}"}
+            ["--fill-zeros", "--symbology", "upca"],
+            {"36000291452": f"upca {SOAP}", SOAP: f"upca {SOAP}"},
         )
 
     def test_fill_zeros_adds_at_most_three(self) -> None:
         zeros = ("0", "00000000", "0000000000", "0000000000000")
         wanted = {
-            **{cell: f'refused: "{cell}" is zeros alone, which is no article\'s number' for cell in zeros},
-            "600029145": f"refused: 600029145 has 9 digits, {self.LENGTHS}; {self.NONE}",
+            **{
+                cell: f'refused: "{cell}" is zeros alone, which is no article\'s number'
+                for cell in zeros
+            },
+            "600029145": f"refused: 600029145 has 9 digits, {self.LENGTHS}: {self.NONE}",
             "": 'refused: column 1 ("code") is empty',
         }
         self.check_cells(["--fill-zeros"], wanted)
         for symbology, lengths in (("ean13", "ean13 has 13"), ("upca", "upca has 12")):
-            problem = f"{SMALL} has 8 digits, {lengths}; {self.LOST}"
-            self.check_cells(["--fill-zeros", "--symbology", symbology], {SMALL: f"refused: {problem}"})
+            problem = f"{SMALL} has 8 digits, {lengths}: {self.LOST}"
+            self.check_cells(
+                ["--fill-zeros", "--symbology", symbology], {SMALL: f"refused: {problem}"}
+            )
 
     def test_without_check_digit(self) -> None:
         lines = {"ean13": [PENCIL, BOOK], "ean8": [SMALL], "upca": [SOAP]}
@@ -612,10 +858,15 @@ class Numbers(TableTest):
         }
         for symbology, cells in wanted.items():
             self.check_cells(["--without-check-digit", "--symbology", symbology], cells)
-        self.check_cells(["--without-check-digit"], {**wanted["ean13"], **wanted["ean8"], **wanted["upca"]})
+        self.check_cells(
+            ["--without-check-digit"], {**wanted["ean13"], **wanted["ean8"], **wanted["upca"]}
+        )
 
-    def test_without_check_digit_a_number_that_has_lost_a_zero_may_have_its_check_digit(self) -> None:
-        # 01234565 and 036000291452 without their first digit: the last one is still their check digit
+    def test_without_check_digit_a_number_that_has_lost_a_zero_may_have_its_check_digit(
+        self,
+    ) -> None:
+        # 01234565 and 036000291452 without their first digit: the last one is still their check
+        # digit
         either = "may have its check digit: if not, give --symbology"
         wanted = {
             "1234565": f"refused: 1234565 {either} ean8",
@@ -630,10 +881,12 @@ class Numbers(TableTest):
         fix = "give --without-check-digit only where no number has one"
         for symbology, number in (("ean13", PENCIL), ("ean8", SMALL), ("upca", SOAP)):
             count = len(number)
-            problem = f"{number} has {count} digits, {symbology} has {count - 1}; {fix}"
-            self.check_cells(["--symbology", symbology, "--without-check-digit"], {number: f"refused: {problem}"})
+            problem = f"{number} has {count} digits, {symbology} has {count - 1}: {fix}"
+            self.check_cells(
+                ["--symbology", symbology, "--without-check-digit"], {number: f"refused: {problem}"}
+            )
         wanted = {
-            SMALL: f"refused: {SMALL} has 8 digits, ean8 has 7, upca has 11, ean13 has 12; {fix}",
+            SMALL: f"refused: {SMALL} has 8 digits, ean8 has 7, upca has 11, ean13 has 12: {fix}",
             SOAP: f"refused: {SOAP} may have its check digit: if not, give --symbology ean13",
         }
         self.check_cells(["--without-check-digit"], wanted)
@@ -648,23 +901,34 @@ class Numbers(TableTest):
             self.check_cells(["--symbology", symbology], wanted)
 
     def test_numbers_that_may_have_been_rounded(self) -> None:
-        # 4,00635E+12 written out, with the check digit that is right by chance; 3,60003E+11 as a UPC-A
+        # 4,00635E+12 written out, with the check digit that is right by chance; 3,60003E+11 as a
+        # UPC-A
         looks = "looks rounded by the spreadsheet: enter it again as text, or give --allow-zeros"
         self.check_cells([], {"4006350000000": f"refused: 4006350000000 {looks}"})
         cells = {"4006350000000": "ean13 4006350000000", "20000004": "ean8 20000004"}
         self.check_cells(["--allow-zeros"], cells)
-        self.check_cells([], {"20000004": f"refused: 20000004 {looks}", "20000103": "ean8 20000103"})
+        self.check_cells(
+            [], {"20000004": f"refused: 20000004 {looks}", "20000103": "ean8 20000103"}
+        )
         self.check_cells(["--fill-zeros"], {"36000300000": f"refused: 0036000300000 {looks}"})
         arguments = ["--without-check-digit", "--symbology", "ean13"]
         self.check_cells(
-            arguments, {"400635000000": f"refused: 400635000000 {looks}", "400635100000": "ean13 400635100000"}
+            arguments,
+            {
+                "400635000000": f"refused: 400635000000 {looks}",
+                "400635100000": "ean13 400635100000",
+            },
         )
 
     def test_an_eight_digit_number_with_a_zero_in_front_may_be_a_upc_e(self) -> None:
-        # GS1 General Specifications 1.4: no GTIN-8 begins with 0; 01234565 is the UPC-E of 012345000065
-        may_be = "may be a UPC-E, which labels does not draw; an EAN-8 is --symbology ean8"
+        # GS1 General Specifications 1.4: no GTIN-8 begins with 0; 01234565 is the UPC-E of
+        # 012345000065
+        may_be = "may be a UPC-E, which labels does not draw: an EAN-8 is --symbology ean8"
         self.check_cells([], {"01234565": f"refused: 01234565 {may_be}"})
-        self.check_cells(["--fill-zeros"], {cell: f"refused: {cell} {may_be}" for cell in ("01234565", "1234565")})
+        self.check_cells(
+            ["--fill-zeros"],
+            {cell: f"refused: {cell} {may_be}" for cell in ("01234565", "1234565")},
+        )
         self.check_cells(["--without-check-digit"], {"0123456": f"refused: 0123456 {may_be}"})
         self.check_cells(["--symbology", "ean8"], {"01234565": "ean8 01234565"})
         self.check_cells(["--symbology", "ean8", "--fill-zeros"], {"1234565": "ean8 01234565"})
@@ -680,7 +944,8 @@ class Numbers(TableTest):
             "0-8044-2957-x": other,
         }
         wanted = {
-            cell: f"refused: {cell} is an ISBN of ten digits: its EAN-13 is {ean}" for cell, ean in cells.items()
+            cell: f"refused: {cell} is an ISBN of ten digits: its EAN-13 is {ean}"
+            for cell, ean in cells.items()
         }
         for arguments in ([], ["--fill-zeros"], ["--fill-zeros", "--symbology", "upca"]):
             self.check_cells(arguments, wanted)
@@ -695,15 +960,30 @@ class Numbers(TableTest):
             cells.append(f"{number}{'0123456789X'[-total % 11]}")
         for arguments in ([], ["--fill-zeros"], ["--fill-zeros", "--symbology", "ean13"]):
             table = "code\n" + "\n".join(cells)
-            done = support.run_here("label-table", "--code", "code", *arguments, input=table.encode())
+            done = support.run_here(
+                "label-table", "--code", "code", *arguments, input=table.encode()
+            )
             self.assertEqual(parts_of(done.stdout)[1], [])
-            self.assertEqual(sum("is an ISBN of ten digits" in text for text in support.messages(done)), 1000)
+            messages = support.messages(done)
+            self.assertTrue(all("is an ISBN of ten digits" in text for text in messages[:-1]))
+            same = "left out for the same reason as row 2"
+            rest = f"label-table: rows 52, 53, 54, 55, 56 and 945 more: {same}"
+            self.assertEqual((len(messages), messages[-1]), (51, rest))
 
     def test_read_where_the_check_digit_is_right(self) -> None:
         read = {
-            **{cell: f"ean13 {PENCIL}" for cell in (f"{PENCIL}.0", f"{PENCIL},00", f"'{PENCIL}", f'=""{PENCIL}""')},
-            **{cell: f"ean13 {PENCIL}" for cell in ("4 006381 333931", f"0{PENCIL}", f'=""0{PENCIL}""')},
-            **{cell: f"ean13 {BOOK}" for cell in ("978-0-306-40615-7", "978 0 306 40615 7", "978-0306406157")},
+            **{
+                cell: f"ean13 {PENCIL}"
+                for cell in (f"{PENCIL}.0", f"{PENCIL},00", f"'{PENCIL}", f'=""{PENCIL}""')
+            },
+            **{
+                cell: f"ean13 {PENCIL}"
+                for cell in ("4 006381 333931", f"0{PENCIL}", f'=""0{PENCIL}""')
+            },
+            **{
+                cell: f"ean13 {BOOK}"
+                for cell in ("978-0-306-40615-7", "978 0 306 40615 7", "978-0306406157")
+            },
             "7351 3537": f"ean8 {SMALL}",
             "0 36000 29145 2": f"upca {SOAP}",
             "00036000291452": f"ean13 0{SOAP}",
@@ -714,15 +994,21 @@ class Numbers(TableTest):
             f"{PENCIL[:-1]}2.0": "refused: 4006381333932: the check digit is 2, should be 1",
             "'4006381333932": "refused: 4006381333932: the check digit is 2, should be 1",
             "978-0-306-40615-8": "refused: 9780306406158: the check digit is 8, should be 7",
-            "04006381333932": f"refused: 04006381333932 has 14 digits, {self.LENGTHS}; {self.CASE}",
+            "04006381333932": f"refused: 04006381333932 has 14 digits, {self.LENGTHS}: {self.CASE}",
         }
         self.check_cells([], wrong)
 
     def test_zeros_in_front_of_an_ean_8(self) -> None:
         # GS1 General Specifications: a GTIN-8 in a field of 14 or 13 digits has zeros in front
         problem = "may be an EAN-8 with zeros in front: write its 8 digits, or give --symbology"
-        cells = {"0000073513537": "0000073513537", "00000073513537": "0000073513537", "000073513537": "000073513537"}
-        self.check_cells([], {cell: f"refused: {digits} {problem}" for cell, digits in cells.items()})
+        cells = {
+            "0000073513537": "0000073513537",
+            "00000073513537": "0000073513537",
+            "000073513537": "000073513537",
+        }
+        self.check_cells(
+            [], {cell: f"refused: {digits} {problem}" for cell, digits in cells.items()}
+        )
         self.check_cells(["--symbology", "ean13"], {"0000073513537": "ean13 0000073513537"})
 
     def test_not_digits(self) -> None:
@@ -737,7 +1023,9 @@ class Numbers(TableTest):
             ("978–0306406157", 4, "en dash (U+2013)"),
         )
         problem = 'refused: "{}" is not digits alone: character {} is {}'
-        self.check_cells([], {cell: problem.format(cell, place, name) for cell, place, name in cells})
+        self.check_cells(
+            [], {cell: problem.format(cell, place, name) for cell, place, name in cells}
+        )
         for cell in (f"{PENCIL[:-1]}.0", "978-0-306-40615"):
             place, name = (13, '"."') if cell.endswith(".0") else (4, '"-"')
             arguments = ["--without-check-digit", "--symbology", "ean13"]
@@ -746,7 +1034,17 @@ class Numbers(TableTest):
 
 class Data(TableTest):
     def test_drawn_as_it_is(self) -> None:
-        cells = ("LOT 7", "C:\\new", "a;b,c", "# 7", "A" * 80, "5 > 4 ~", "x=1", "1E5", 'say ""hi"" now')
+        cells = (
+            "LOT 7",
+            "C:\\new",
+            "a;b,c",
+            "# 7",
+            "A" * 80,
+            "5 > 4 ~",
+            "x=1",
+            "1E5",
+            'say ""hi"" now',
+        )
         for symbology in ("code128", "qr"):
             wanted = {cell: f"{symbology} {cell}".replace('""', '"') for cell in cells}
             self.check_cells(["--symbology", symbology], wanted)
@@ -755,9 +1053,15 @@ class Data(TableTest):
 
     def test_drawn_though_unmeant(self) -> None:
         space = "has a space before or after the data, which would be drawn: take it away"
-        setting = "has a setting in front (give it by --settings), which would be drawn: take it away"
-        quotes = "has quotes round the data, which would be drawn: take it away"
-        apostrophe = "has an apostrophe in front, a spreadsheet's sign of text, which would be drawn: take it away"
+        setting = (
+            "has a setting in front, which would be drawn: take it away; settings of all lines are"
+            " given by --settings"
+        )
+        quotes = "has quotes round the data, which would be drawn: take them away"
+        apostrophe = (
+            "has an apostrophe in front, a spreadsheet's sign of text, which would be drawn: take"
+            " it away"
+        )
         wanted = {
             " LOT 7": f'refused: " LOT 7" {space}',
             "LOT 7 ": f'refused: "LOT 7 " {space}',
@@ -775,31 +1079,48 @@ class Data(TableTest):
             '=""say """"hi"""" now""': '{symbology} say "hi" now',
         }
         for symbology in ("code128", "qr"):
-            cells = {cell: result.replace("{symbology}", symbology) for cell, result in wanted.items()}
+            cells = {
+                cell: result.replace("{symbology}", symbology) for cell, result in wanted.items()
+            }
             self.check_cells(["--symbology", symbology], cells)
 
     def test_what_labels_refuses_is_left_to_it(self) -> None:
-        self.check_cells(["--symbology", "code128"], {"A" * 81: f"code128 {'A' * 81}", "Käse": "code128 Käse"})
+        self.check_cells(
+            ["--symbology", "code128"], {"A" * 81: f"code128 {'A' * 81}", "Käse": "code128 Käse"}
+        )
         self.check_cells(["--symbology", "qr"], {"x" * 2000: f"qr {'x' * 2000}"})
 
     def test_a_delimiter_that_may_be_data_is_asked_for(self) -> None:
         for symbology in ("code128", "qr"):
             for delimiter in (";", ","):
-                ask = f"give --delimiter '{delimiter}' if it is between cells, --delimiter none if it is data"
+                ask = (
+                    f"give --delimiter '{delimiter}' if it is between cells, --delimiter none if it"
+                    " is data"
+                )
                 table = f"a{delimiter}b\nc{delimiter}d\n"
                 arguments = ["--code", "1", "--no-header", "--symbology", symbology]
                 self.check(table, arguments, [], [f'row 1 has "{delimiter}": {ask}'], 2)
                 whole = [f"{symbology} a{delimiter}b", f"{symbology} c{delimiter}d"]
                 self.check(table, [*arguments, "--delimiter", "none"], whole)
-                self.check(table, [*arguments, "--delimiter", delimiter], [f"{symbology} a", f"{symbology} c"])
+                self.check(
+                    table,
+                    [*arguments, "--delimiter", delimiter],
+                    [f"{symbology} a", f"{symbology} c"],
+                )
                 self.check(table, [*arguments, "--text", "2"], [f"{symbology} a", f"{symbology} c"])
                 self.check(f'"x"{delimiter}b\n', arguments, [f"{symbology} x"])
         self.check("a\tb\n", ["--code", "1", "--no-header", "--symbology", "qr"], ["qr a"])
         self.check("Lot;Link\nA;B\n", ["--code", "Lot", "--symbology", "qr"], ["qr A"])
 
     def test_a_delimiter_that_only_later_rows_have_is_asked_for(self) -> None:
-        for delimiter, name, option in ((";", '";"', "';'"), (",", '","', "','"), ("\t", "a tab", "tab")):
-            ask = f"give --delimiter {option} if it is between cells, --delimiter none if it is data"
+        for delimiter, name, option in (
+            (";", '";"', "';'"),
+            (",", '","', "','"),
+            ("\t", "a tab", "tab"),
+        ):
+            ask = (
+                f"give --delimiter {option} if it is between cells, --delimiter none if it is data"
+            )
             table = f"code\nLOT 6\nLOT 7{delimiter}Name\n"
             arguments = ["--code", "code", "--symbology", "code128"]
             self.check(table, arguments, [], [f"row 3 has {name}: {ask}"], 2)
@@ -814,7 +1135,16 @@ class Arguments(TableTest):
         for argument in ("--help", "-h"):
             done = support.run("label-table", argument)
             self.assertEqual((done.returncode, done.stderr), (0, b""))
-            for option in ("--code", "--title", "--text", "--price", "--copies", "--sheet", "--hidden", "--decimal"):
+            for option in (
+                "--code",
+                "--title",
+                "--text",
+                "--price",
+                "--copies",
+                "--sheet",
+                "--hidden",
+                "--decimal",
+            ):
                 self.assertIn(option, done.stdout.decode())
 
     def test_bad_arguments(self) -> None:
@@ -822,9 +1152,10 @@ class Arguments(TableTest):
         self.assertEqual((done.returncode, done.stdout), (2, b""))
         self.assertEqual(support.messages(done)[0].split(" [")[0], "usage: label-table")
         self.assertEqual(
-            support.messages(done)[-1], "label-table: error: the following arguments are required: --code"
+            support.messages(done)[-1],
+            "label-table: error: the following arguments are required: --code",
         )
-        self.check_usage(["--code"], "argument --code: expected 1 argument")
+        self.check_usage(["--code"], "argument --code: expected one argument")
         self.check_usage(["--code", "1", "--x"], "unrecognized arguments: --x")
         self.check_usage(["--code", "1", "--fill"], "unrecognized arguments: --fill")
         self.check_usage(["--code", "1", "a.csv", "b.csv"], "unrecognized arguments: b.csv")
@@ -835,14 +1166,25 @@ class Arguments(TableTest):
             self.check_usage(["--code", "1", "--delimiter", argument], text)
 
     def test_arguments_that_do_not_go_together(self) -> None:
-        text = "--fill-zeros, --without-check-digit and --symbology code128 or qr do not go together"
+        text = (
+            "--fill-zeros, --without-check-digit and --symbology code128 or qr do not go together"
+        )
         for symbology in ("code128", "qr"):
             for argument in ("--fill-zeros", "--without-check-digit"):
                 self.check_usage(["--code", "1", "--symbology", symbology, argument], text)
         self.check_usage(["--code", "1", "--fill-zeros", "--without-check-digit"], text)
 
     def test_bad_settings(self) -> None:
-        for setting in ("", "height", "height 30", "level=H 123", "level=H,", ",level=H", "level=H\n", "level"):
+        for setting in (
+            "",
+            "height",
+            "height 30",
+            "level=H 123",
+            "level=H,",
+            ",level=H",
+            "level=H\n",
+            "level",
+        ):
             text = f"--settings {shown(setting)} is not as height=30 or level=Q,mask=2"
             self.check_usage(["--code", "1", "--symbology", "qr", "--settings", setting], text)
 
@@ -867,9 +1209,16 @@ class Arguments(TableTest):
         (self.folder / "-").write_text(f"code\n{PENCIL}\n")
         for arguments in ([], ["-"]):
             done = support.run(
-                "label-table", "--code", "code", *arguments, input=f"code\n{SMALL}\n".encode(), cwd=self.folder
+                "label-table",
+                "--code",
+                "code",
+                *arguments,
+                input=f"code\n{SMALL}\n".encode(),
+                cwd=self.folder,
             )
-            self.assertEqual(parts_of(done.stdout)[:2], ({"labels": 1}, [({"row": 2}, f"ean8 {SMALL}")]))
+            self.assertEqual(
+                parts_of(done.stdout)[:2], ({"labels": 1}, [({"row": 2}, f"ean8 {SMALL}")])
+            )
         done = support.run("label-table", "--code", "code", "./-", cwd=self.folder)
         self.assertEqual(parts_of(done.stdout)[1], [({"row": 2}, f"ean13 {PENCIL}")])
 
@@ -880,12 +1229,18 @@ class Arguments(TableTest):
         link.symlink_to(tools / "label-table")
         self.assertTrue((tools / "label-table").read_bytes().startswith(b"#!/usr/bin/python3\n"))
         environment = {
-            name: value for name, value in support.environment().items() if name != "PYTHONDONTWRITEBYTECODE"
+            name: value
+            for name, value in support.environment().items()
+            if name != "PYTHONDONTWRITEBYTECODE"
         }
         for safe in ({}, {"PYTHONSAFEPATH": "1"}):
             command = [str(link), "--code", "code"]
             done = subprocess.run(
-                command, input=f"code\n{SMALL}\n".encode(), capture_output=True, env={**environment, **safe}, cwd="/"
+                command,
+                input=f"code\n{SMALL}\n".encode(),
+                capture_output=True,
+                env={**environment, **safe},
+                cwd="/",
             )
             self.assertEqual((done.returncode, done.stderr), (0, b""))
         self.assertEqual(list(tools.rglob("__pycache__")), [])
@@ -918,17 +1273,25 @@ class Arguments(TableTest):
     def test_reader_that_has_gone(self) -> None:
         commands = '{ label-table --code code; echo "status $?" >&2; } | true'
         status, _, problems = self.shell(commands, "code\n" + f"{SMALL}\n" * 20000)
-        self.assertEqual((status, problems), (0, ["label-table: standard output: Broken pipe", "status 1"]))
+        self.assertEqual(
+            (status, problems), (0, ["label-table: standard output: Broken pipe", "status 1"])
+        )
 
 
 class WithLabels(TableTest):
     def test_labels_draws_each_line(self) -> None:
         support.labels_program()
         tables = (
-            (["--fill-zeros", "--title", "1"], "\n".join(["code", PENCIL, BOOK, SMALL, "36000291452", SOAP])),
+            (
+                ["--fill-zeros", "--title", "1"],
+                "\n".join(["code", PENCIL, BOOK, SMALL, "36000291452", SOAP]),
+            ),
             (["--symbology", "upca", "--settings", "height=30"], f"code\n{SOAP}\n"),
             (["--without-check-digit"], "\n".join(["code", PENCIL[:-1], SMALL[:-1], SOAP[:-1]])),
-            (["--symbology", "code128", "--settings", "height=500"], f"code\nLOT 7\nC:\\new\n{'A' * 80}\n"),
+            (
+                ["--symbology", "code128", "--settings", "height=500"],
+                f"code\nLOT 7\nC:\\new\n{'A' * 80}\n",
+            ),
             (
                 ["--symbology", "qr", "--settings", "level=H,min-version=02,mask=7"],
                 f"code\nKäse\n{'ß' * 59}\n{'7' * 288}\n",
@@ -949,7 +1312,9 @@ class WithLabels(TableTest):
             path = self.folder / "label.pbm"
             path.write_bytes(b"P1\n" + picture)
             codes.append(support.read_codes(path))
-        self.assertEqual(codes, [[f"EAN-13:{PENCIL}"], [f"EAN-8:{SMALL}"], ["EAN-13:0036000291452"]])
+        self.assertEqual(
+            codes, [[f"EAN-13:{PENCIL}"], [f"EAN-8:{SMALL}"], ["EAN-13:0036000291452"]]
+        )
 
 
 class Manual(unittest.TestCase):
@@ -964,7 +1329,9 @@ class Manual(unittest.TestCase):
 
     def test_mandoc_finds_nothing(self) -> None:
         support.needs("mandoc")
-        done = subprocess.run(["mandoc", "-Tlint", "-W", "warning", str(self.PAGE)], capture_output=True)
+        done = subprocess.run(
+            ["mandoc", "-Tlint", "-W", "warning", str(self.PAGE)], capture_output=True
+        )
         self.assertEqual((done.returncode, done.stdout + done.stderr), (0, b""))
 
 
@@ -977,9 +1344,13 @@ class LongTables(TableTest):
         self.assertLess(time.monotonic() - before, 20)
 
     def test_many_rows_of_qr_in_seconds(self) -> None:
-        table = "code;name\n" + "".join(f"https://example.com/01/0{PENCIL}/21/{n};x\n" for n in range(20000))
+        table = "code;name\n" + "".join(
+            f"https://example.com/01/0{PENCIL}/21/{n};x\n" for n in range(20000)
+        )
         before = time.monotonic()
-        done = support.run("label-table", "--code", "code", "--symbology", "qr", input=table.encode())
+        done = support.run(
+            "label-table", "--code", "code", "--symbology", "qr", input=table.encode()
+        )
         self.assertEqual((done.returncode, done.stdout.count(b"\n"), done.stderr), (0, 40002, b""))
         self.assertLess(time.monotonic() - before, 20)
 

@@ -1,7 +1,9 @@
-"""Tests of tools/label-table with spreadsheets' own files, .xlsx and .ods: what is read, and what is refused.
+"""Tests of tools/label-table with spreadsheets' own files, .xlsx and .ods: what is read, and what
+is refused.
 
-The files are made here, part by part, so that each may be as a spreadsheet writes it or as a hostile hand does. What
-number formats show was seen in LibreOffice 7.4 and is what Excel's documentation of its number formats says.
+The files are made here, part by part, so that each may be as a spreadsheet writes it or as a
+hostile hand does. What number formats show was seen in LibreOffice 7.4 and is what Excel's
+documentation of its number formats says.
 """
 
 import io
@@ -27,7 +29,13 @@ DAMAGED = "label-table: standard input is damaged, or neither .xlsx nor .ods "
 ODS_SPACES = " ".join(
     f'xmlns:{prefix}="urn:oasis:names:tc:opendocument:xmlns:{name}:1.0"'
     for prefix, name in (
-        *(("office", "office"), ("table", "table"), ("text", "text"), ("style", "style"), ("draw", "drawing")),
+        *(
+            ("office", "office"),
+            ("table", "table"),
+            ("text", "text"),
+            ("style", "style"),
+            ("draw", "drawing"),
+        ),
         ("calcext", "calcext"),
     )
 )
@@ -71,15 +79,26 @@ def xlsx(
     date1904: bool = False,
     namespace: str = MAIN,
 ) -> bytes:
-    """An .xlsx file with a sheet of these rows, and others (name, state, rows); style 1 has the first of `formats`."""
+    """An .xlsx file with a sheet of these rows, and others (name, state, rows); style 1 has the
+    first of `formats`.
+    """
     names = [("Tabelle1", "visible", sheet), *others]
     listed = "".join(
         f'<sheet name={quoteattr(name)} sheetId="{number}" state="{state}" r:id="rId{number}"/>'
         for number, (name, state, _) in enumerate(names, 1)
     )
-    targets = [(f"rId{number}", "worksheet", f"worksheets/sheet{number}.xml") for number in range(1, len(names) + 1)]
-    targets += [("rIdS", "styles", "styles.xml"), ("rIdT", "sharedStrings", "/xl/sharedStrings.xml")]
-    ids = [str(text) if isinstance(text, int) else str(164 + number) for number, text in enumerate(formats)]
+    targets = [
+        (f"rId{number}", "worksheet", f"worksheets/sheet{number}.xml")
+        for number in range(1, len(names) + 1)
+    ]
+    targets += [
+        ("rIdS", "styles", "styles.xml"),
+        ("rIdT", "sharedStrings", "/xl/sharedStrings.xml"),
+    ]
+    ids = [
+        str(text) if isinstance(text, int) else str(164 + number)
+        for number, text in enumerate(formats)
+    ]
     codes = "".join(
         f'<numFmt numFmtId="{number}" formatCode={quoteattr(text)}/>'
         for number, text in zip(ids, formats)
@@ -89,12 +108,16 @@ def xlsx(
     parts = {
         "[Content_Types].xml": XML + "<Types/>",
         "_rels/.rels": relations([("rId1", "officeDocument", "xl/workbook.xml")]),
-        "xl/workbook.xml": f'{XML}<workbook xmlns="{namespace}" xmlns:r="{KINDS}">'
-        f'<workbookPr date1904="{int(date1904)}"/>'
-        f"<sheets>{listed}</sheets></workbook>",
+        "xl/workbook.xml": (
+            f'{XML}<workbook xmlns="{namespace}" xmlns:r="{KINDS}">'
+            f'<workbookPr date1904="{int(date1904)}"/>'
+            f"<sheets>{listed}</sheets></workbook>"
+        ),
         "xl/_rels/workbook.xml.rels": relations(targets),
-        "xl/styles.xml": f'{XML}<styleSheet xmlns="{namespace}"><numFmts>{codes}</numFmts>'
-        f'<cellStyleXfs><xf numFmtId="9"/></cellStyleXfs><cellXfs>{styles}</cellXfs></styleSheet>',
+        "xl/styles.xml": (
+            f'{XML}<styleSheet xmlns="{namespace}"><numFmts>{codes}</numFmts><cellStyleXfs><xf'
+            f' numFmtId="9"/></cellStyleXfs><cellXfs>{styles}</cellXfs></styleSheet>'
+        ),
         "xl/sharedStrings.xml": f'{XML}<sst xmlns="{namespace}">{strings}</sst>',
     }
     for number, (_, _, text) in enumerate(names, 1):
@@ -109,7 +132,8 @@ def xlsx(
 def relations(targets: Sequence[Tuple[str, str, str]]) -> str:
     """The part of .xlsx that says where other parts are."""
     listed = "".join(
-        f'<Relationship Id="{name}" Type="{KINDS}/{kind}" Target="{path}"/>' for name, kind, path in targets
+        f'<Relationship Id="{name}" Type="{KINDS}/{kind}" Target="{path}"/>'
+        for name, kind, path in targets
     )
     return f'{XML}<Relationships xmlns="{RELATIONS}">{listed}</Relationships>'
 
@@ -118,7 +142,8 @@ def ods(*sheets: str, styles: str = "", extra: Optional[Dict[str, str]] = None) 
     """An .ods file with these tables."""
     body = f"<office:body><office:spreadsheet>{''.join(sheets)}</office:spreadsheet></office:body>"
     content = (
-        f"{XML}<office:document-content {ODS_SPACES}><office:automatic-styles>{styles}</office:automatic-styles>{body}"
+        f"{XML}<office:document-content"
+        f" {ODS_SPACES}><office:automatic-styles>{styles}</office:automatic-styles>{body}"
     )
     parts = {"mimetype": "application/vnd.oasis.opendocument.spreadsheet"}
     return packed({**parts, "content.xml": f"{content}</office:document-content>", **(extra or {})})
@@ -132,7 +157,9 @@ def table(*lines: Sequence[str], name: str = "Tabelle1", style: str = "ta1", end
         for text in line
     ]
     found = iter(texts)
-    data = "".join(f"<table:table-row>{''.join(next(found) for _ in line)}</table:table-row>" for line in lines)
+    data = "".join(
+        f"<table:table-row>{''.join(next(found) for _ in line)}</table:table-row>" for line in lines
+    )
     return f'<table:table table:name="{name}" table:style-name="{style}">{data}{end}</table:table>'
 
 
@@ -157,13 +184,21 @@ class WorkbookTest(TableTest):
         self.assertEqual(support.messages(done), [f"label-table: standard input {problem}"])
         self.assertEqual((done.returncode, done.stdout), (status, b""))
 
-    def check_codes(self, cells: Dict[str, str], symbology: str, formats: Sequence[Union[str, int]] = ()) -> None:
+    def check_codes(
+        self, cells: Dict[str, str], symbology: str, formats: Sequence[Union[str, int]] = ()
+    ) -> None:
         """Cells of .xlsx, and of each the line, or `refused: ` and the message for its column."""
         data = xlsx(rows(["EAN"], *([text] for text in cells)), formats=formats)
         results = list(enumerate(cells.values(), 2))
         lines = [result for _, result in results if not result.startswith("refused: ")]
-        problems = [f'row {row}: column 1 ("EAN") {text[9:]}' for row, text in results if text.startswith("refused: ")]
-        self.check(data, ["--code", "EAN", "--symbology", symbology], lines, problems, 1 if problems else 0)
+        problems = [
+            f'row {row}: column 1 ("EAN") {text[9:]}'
+            for row, text in results
+            if text.startswith("refused: ")
+        ]
+        self.check(
+            data, ["--code", "EAN", "--symbology", symbology], lines, problems, 1 if problems else 0
+        )
 
 
 class Xlsx(WorkbookTest):
@@ -178,45 +213,83 @@ class Xlsx(WorkbookTest):
         )
         columns = ["--title", "Artikel", "--price", "Preis", "--copies", "Stück", "--decimal", ","]
         wanted = [
-            ({"row": 2, "title": "Bleistift\n2B", "price": "0,80 €", "copies": 3}, f"ean13 {PENCIL}"),
-            ({"row": 3, "title": "Käse „x“ – …", "price": "12.999,00 €", "copies": 0}, f"ean8 {SMALL}"),
+            (
+                {"row": 2, "title": "Bleistift\n2B", "price": "0,80 €", "copies": 3},
+                f"ean13 {PENCIL}",
+            ),
+            (
+                {"row": 3, "title": "Käse „x“ – …", "price": "12.999,00 €", "copies": 0},
+                f"ean8 {SMALL}",
+            ),
         ]
         self.assertEqual(self.found(data, *columns), wanted)
         path = self.folder / "articles.zip"
         path.write_bytes(data)
         done = support.run("label-table", "--code", "EAN", path)
-        self.assertEqual((done.returncode, parts_of(done.stdout)[0]), (0, {"labels": 1, "table": str(path)}))
+        self.assertEqual(
+            (done.returncode, parts_of(done.stdout)[0]), (0, {"labels": 1, "table": str(path)})
+        )
 
     def test_lost_zeros(self) -> None:
-        data = xlsx(rows(["EAN"], [36000291452], [cell(36000291452, style=1)]), formats=["000000000000"])
-        problem = "row 2: 36000291452 has 11 digits, ean8 has 8, upca has 12, ean13 has 13; "
-        problem += "give --symbology auto, or --fill-zeros where zeros in front are lost"
+        data = xlsx(
+            rows(["EAN"], [36000291452], [cell(36000291452, style=1)]), formats=["000000000000"]
+        )
+        problem = "row 2: 36000291452 has 11 digits, ean8 has 8, upca has 12, ean13 has 13: "
+        problem += "give --fill-zeros where zeros in front are lost"
         self.check(data, ["--code", "EAN"], [f"upca {SOAP}"], [problem], 1)
 
     def test_numbers_as_codes(self) -> None:
-        formats = ["0.00E+00", "#,##0", "0.00", "dd/mm/yyyy", '"LOT "0', "0_ ;[Red]\\-0\\ ", 14, "0000", "000\\-000"]
+        formats = [
+            "0.00E+00",
+            "#,##0",
+            "0.00",
+            "dd/mm/yyyy",
+            '"LOT "0',
+            "0_ ;[Red]\\-0\\ ",
+            14,
+            "0000",
+            "000\\-000",
+        ]
         number = int(PENCIL)
         lines = {cell(number, style=style): f"ean13 {PENCIL}" for style in (0, 1, 2, 3, 6)}
-        lines["<c><v>4.006381333931E12</v></c>"] = lines["<c><v>4006381333931.0</v></c>"] = f"ean13 {PENCIL}"
+        lines["<c><v>4.006381333931E12</v></c>"] = lines[
+            "<c><v>4006381333931.0</v></c>"
+        ] = f"ean13 {PENCIL}"
         self.check_codes(lines, "auto", formats)
         again = "enter it again as text"
         texts = {
             cell(7, style=8): "code128 0007",
             cell(7): "code128 7",
-            cell(7, style=5): f'refused: has the number format ""LOT "0", which is not understood: {again}',
-            cell(7, style=9): f'refused: has the number format "000\\-000", which is not understood: {again}',
-            cell(45678, style=4): f'refused: has the number format "dd/mm/yyyy", which is not understood: {again}',
             cell(
-                45678, style=7
-            ): f'refused: has the number format "of the language", which is not understood: {again}',
-            cell(1.5): f"refused: is the number 1.5, which is not whole or has too many digits: {again}",
-            cell(10**15): f"refused: is the number {10**15}, which is not whole or has too many digits: {again}",
+                7, style=5
+            ): f'refused: has the number format ""LOT "0", which is not understood: {again}',
+            cell(
+                7, style=9
+            ): f'refused: has the number format "000\\-000", which is not understood: {again}',
+            cell(
+                45678, style=4
+            ): f'refused: has the number format "dd/mm/yyyy", which is not understood: {again}',
+            cell(45678, style=7): (
+                "refused: has a number format that depends on the language of the spreadsheet:"
+                f" {again}"
+            ),
+            cell(
+                1.5
+            ): f"refused: is the number 1.5, which is not whole or has too many digits: {again}",
+            cell(10**15): (
+                f"refused: is the number {10**15}, which is not whole or has too many digits:"
+                f" {again}"
+            ),
         }
         self.check_codes(texts, "code128", formats)
 
     def test_cells_that_have_no_value(self) -> None:
-        no_value = "has a formula without a saved value: open the table in the spreadsheet and save it"
-        kind = "has neither a text nor a number, but TRUE, FALSE or the like: enter it again as text"
+        no_value = (
+            "has a formula without a saved value: open the table in the spreadsheet and save it"
+        )
+        kind = (
+            "has neither a text nor a number, but TRUE, FALSE or the like: enter it again as text"
+        )
         error = 'has "#REF!", which the spreadsheet writes where it has no value to show'
         cells = {
             "<c><f>A1</f></c>": f"refused: {no_value}",
@@ -229,9 +302,15 @@ class Xlsx(WorkbookTest):
             f"<c><f>A1</f><v>{PENCIL}</v></c>": f"ean13 {PENCIL}",
         }
         self.check_codes(cells, "auto")
-        data = xlsx(rows(["EAN", "Name"], [PENCIL, '<c t="str"><f>A1</f><v></v></c>'], [SMALL, "<c><f>A1</f></c>"]))
-        problem = f'row 3: column 2 ("Name") {no_value}'
-        self.check(data, ["--code", "EAN", "--title", "Name"], [f"ean13 {PENCIL}"], [problem], 1)
+        data = xlsx(
+            rows(
+                ["EAN", "Name"],
+                [PENCIL, '<c t="str"><f>A1</f><v></v></c>'],
+                [SMALL, "<c><f>A1</f></c>"],
+            )
+        )
+        problems = [f'row 3: column 2 ("Name") {no_value}', "row 2 has no title (1 of 1 label)"]
+        self.check(data, ["--code", "EAN", "--title", "Name"], [f"ean13 {PENCIL}"], problems, 1)
         self.check(data, ["--code", "EAN"], [f"ean13 {PENCIL}", f"ean8 {SMALL}"])
 
     def test_strings(self) -> None:
@@ -244,7 +323,9 @@ class Xlsx(WorkbookTest):
             "<si><t>_xD83D__xDE00_ _x0041_</t></si>",
         ]
         shared = ['<c t="s"><v>{}</v></c>'.format(number) for number in range(6)]
-        data = xlsx(rows(shared[:2], *([PENCIL, text] for text in shared[2:])), strings="".join(strings))
+        data = xlsx(
+            rows(shared[:2], *([PENCIL, text] for text in shared[2:])), strings="".join(strings)
+        )
         done = support.run_here("label-table", "--code", "EAN", "--title", "Name", input=data)
         titles = [label["title"] for label, _ in parts_of(done.stdout)[1]]
         self.assertEqual(titles, ["Bleistift", "鉛筆", "a\nb_x000D_ & <", "😀 A"])
@@ -253,21 +334,42 @@ class Xlsx(WorkbookTest):
         sheet = rows(["EAN", "Name"], [PENCIL, "a"], [SMALL, "b"], [BOOK, "c"])
         for text in (sheet, sheet.replace('<row r="3">', "<row>").replace('<row r="4">', "<row>")):
             found = self.found(xlsx(text, before='<dimension ref="A1:A2"/>'), "--title", "Name")
-            self.assertEqual([(label["row"], label["title"]) for label, _ in found], [(2, "a"), (3, "b"), (4, "c")])
+            self.assertEqual(
+                [(label["row"], label["title"]) for label, _ in found],
+                [(2, "a"), (3, "b"), (4, "c")],
+            )
 
     def test_references(self) -> None:
-        lines = f'<row r="1">{cell("EAN", "AB1")}</row><row r="3">{cell("x", "B3")}{cell(PENCIL, "AB3")}</row>'
-        self.check(xlsx(lines), ["--code", "EAN"], [f"ean13 {PENCIL}"], ["row 2: the row is empty"], 1)
-        self.refused(xlsx(rows(["EAN"]) + rows(["EAN"])), f"has row 1 or a cell of it out of order: {AGAIN}")
+        lines = (
+            f'<row r="1">{cell("EAN", "AB1")}</row><row'
+            f' r="3">{cell("x", "B3")}{cell(PENCIL, "AB3")}</row>'
+        )
+        self.check(
+            xlsx(lines), ["--code", "EAN"], [f"ean13 {PENCIL}"], ["row 2: the row is empty"], 1
+        )
+        self.refused(
+            xlsx(rows(["EAN"]) + rows(["EAN"])), f"has row 1 or a cell of it out of order: {AGAIN}"
+        )
         lines = f'<row r="1">{cell("EAN", "B1")}{cell("x", "A1")}</row>'
         self.refused(xlsx(lines), f"has row 1 or a cell of it out of order: {AGAIN}")
-        self.refused(xlsx(f'<row r="1">{cell("EAN", "1")}</row>'), f"has row 1 or a cell of it out of order: {AGAIN}")
+        self.refused(
+            xlsx(f'<row r="1">{cell("EAN", "1")}</row>'),
+            f"has row 1 or a cell of it out of order: {AGAIN}",
+        )
 
     def test_prefixes_and_strict_namespaces(self) -> None:
         sheet = rows(["EAN"], [PENCIL])
-        self.assertEqual(self.found(xlsx(sheet, namespace=STRICT)), [({"row": 2}, f"ean13 {PENCIL}")])
-        prefixed = f'<x:worksheet xmlns:x="{MAIN}"><x:sheetData>{sheet.replace("</", "</x:").replace("<", "<x:")}'
-        prefixed = prefixed.replace("<x:/x:", "</x:").replace("<x:x:", "<x:") + "</x:sheetData></x:worksheet>"
+        self.assertEqual(
+            self.found(xlsx(sheet, namespace=STRICT)), [({"row": 2}, f"ean13 {PENCIL}")]
+        )
+        prefixed = (
+            "<x:worksheet"
+            f" xmlns:x=\"{MAIN}\"><x:sheetData>{sheet.replace('</', '</x:').replace('<', '<x:')}"
+        )
+        prefixed = (
+            prefixed.replace("<x:/x:", "</x:").replace("<x:x:", "<x:")
+            + "</x:sheetData></x:worksheet>"
+        )
         parts = {name: text for name, text in unpacked(xlsx(sheet)).items() if "sheet1" not in name}
         data = packed({**parts, "xl/worksheets/sheet1.xml": prefixed})
         self.assertEqual(self.found(data), [({"row": 2}, f"ean13 {PENCIL}")])
@@ -275,11 +377,14 @@ class Xlsx(WorkbookTest):
     def test_empty_rows(self) -> None:
         lines = '<row r="1"><c t="inlineStr"><is><t>EAN</t></is></c></row>'
         lines += (
-            f'<row r="4">{cell(PENCIL)}</row><row r="5"/><row r="6">{cell(SMALL)}</row><row r="9"><c s="0"/></row>'
+            f'<row r="4">{cell(PENCIL)}</row><row r="5"/><row r="6">{cell(SMALL)}</row><row'
+            ' r="9"><c s="0"/></row>'
         )
         problems = ["row 2: the row is empty, and all to row 3", "row 5: the row is empty"]
         done = support.run_here("label-table", "--code", "EAN", input=xlsx(lines))
-        self.assertEqual(support.messages(done), [f"label-table: {problem}" for problem in problems])
+        self.assertEqual(
+            support.messages(done), [f"label-table: {problem}" for problem in problems]
+        )
         end = {"end": 1, "lines": 2, "left_out": [2, 3, 5], "left_out_count": 3}
         self.assertEqual(parts_of(done.stdout)[2], end)
 
@@ -289,36 +394,57 @@ class Xlsx(WorkbookTest):
             lines = lines.replace(f'<row r="{number}">', f'<row r="{number}" hidden="1">')
         lines += '<row r="8" hidden="true"></row>'
         shown = [f"ean13 {PENCIL}", f"ean13 {BOOK}", f"upca {SOAP}"]
-        note = "1 hidden rows are not printed: give --hidden to print them"
+        note = "1 hidden row is not printed: give --hidden to print them"
         self.check(xlsx(lines), ["--code", "EAN"], shown, [note])
         every = [f"ean13 {PENCIL}", f"ean8 {SMALL}", f"ean13 {BOOK}", f"upca {SOAP}"]
-        self.check(xlsx(lines), ["--code", "EAN", "--hidden"], every, ["row 5: the row is empty"], 1)
+        self.check(
+            xlsx(lines), ["--code", "EAN", "--hidden"], every, ["row 5: the row is empty"], 1
+        )
 
     def test_merged_cells(self) -> None:
         lines = rows(["EAN", "Name"], [PENCIL, "a"], [None, "b"], [SMALL, None], [BOOK, "c"])
-        after = '<mergeCells><mergeCell ref="B4:B5"/><mergeCell ref="A2:A3"/><mergeCell ref="C1:F1"/></mergeCells>'
+        after = (
+            '<mergeCells><mergeCell ref="B4:B5"/><mergeCell ref="A2:A3"/><mergeCell'
+            ' ref="C1:F1"/></mergeCells>'
+        )
         problems = [
             'row 3: column 1 ("EAN") is merged with row 2: take the merged cells apart',
             'row 5: column 2 ("Name") is merged with row 4: take the merged cells apart',
+            "row 4 has no title (1 of 2 labels)",
         ]
         arguments = ["--code", "EAN", "--title", "Name"]
-        self.check(xlsx(lines, after=after), arguments, [f"ean13 {PENCIL}", f"ean8 {SMALL}"], problems, 1)
+        self.check(
+            xlsx(lines, after=after), arguments, [f"ean13 {PENCIL}", f"ean8 {SMALL}"], problems, 1
+        )
         # a word that is cut in two where the part is read piece by piece
         for padding in range(65536 - 700, 65536 - 400, 7):
             comment = f"<!--{'x' * padding}-->"
             data = xlsx(lines, before=comment, after=after)
             done = support.run_here("label-table", *arguments, input=data)
-            self.assertEqual(len(support.messages(done)), 2, padding)
+            self.assertEqual(len(support.messages(done)), 3, padding)
 
     def test_several_sheets(self) -> None:
         first, second = rows(["EAN"], [PENCIL]), rows(["EAN"], [SMALL])
-        others = [("leer", "visible", rows([None])), ("alt", "hidden", second), ("sehr alt", "veryHidden", second)]
+        others = [
+            ("leer", "visible", rows([None])),
+            ("alt", "hidden", second),
+            ("sehr alt", "veryHidden", second),
+        ]
         self.assertEqual(self.found(xlsx(first, *others)), [({"row": 2}, f"ean13 {PENCIL}")])
-        self.assertEqual(self.found(xlsx(rows([None]), ("Neu", "visible", second))), [({"row": 2}, f"ean8 {SMALL}")])
+        self.assertEqual(
+            self.found(xlsx(rows([None]), ("Neu", "visible", second))),
+            [({"row": 2}, f"ean8 {SMALL}")],
+        )
         for name in ("alt", "sehr alt"):
-            self.assertEqual(self.found(xlsx(first, *others), "--sheet", name), [({"row": 2}, f"ean8 {SMALL}")])
+            self.assertEqual(
+                self.found(xlsx(first, *others), "--sheet", name), [({"row": 2}, f"ean8 {SMALL}")]
+            )
         data = xlsx(first, *others, ("Preise", "visible", second))
-        self.refused(data, 'has 2 visible sheets with data: give --sheet with one of "Tabelle1", "Preise"', status=2)
+        self.refused(
+            data,
+            'has 2 visible sheets with data: give --sheet with one of "Tabelle1", "Preise"',
+            status=2,
+        )
         self.assertEqual(self.found(data, "--sheet", "Preise"), [({"row": 2}, f"ean8 {SMALL}")])
         names = '"Tabelle1", "leer", "alt", "sehr alt", "Preise"'
         problem = f'has no sheet "preise" with data: give --sheet with one of {names}'
@@ -328,7 +454,13 @@ class Xlsx(WorkbookTest):
 
     def test_options_of_csv(self) -> None:
         for option, value in (("--delimiter", ";"), ("--encoding", "cp1252")):
-            self.refused(xlsx(rows(["EAN"], [PENCIL])), f"is no CSV: leave {option} away", option, value, status=2)
+            self.refused(
+                xlsx(rows(["EAN"], [PENCIL])),
+                f"is no CSV: leave {option} away",
+                option,
+                value,
+                status=2,
+            )
 
     def test_a_number_of_a_column(self) -> None:
         data = xlsx(rows([PENCIL, "a"], [SMALL, "b"]))
@@ -343,7 +475,12 @@ class Xlsx(WorkbookTest):
             support.skip("openpyxl is not installed")
         book, stream = Workbook(), io.BytesIO()
         sheet = book.active
-        for line in (["EAN", "Name", "Price"], [int(PENCIL), "Käse\n2", 1.5], [SMALL, "=A1", 2], [BOOK, "x", 3]):
+        for line in (
+            ["EAN", "Name", "Price"],
+            [int(PENCIL), "Käse\n2", 1.5],
+            [SMALL, "=A1", 2],
+            [BOOK, "x", 3],
+        ):
             sheet.append(line)
         sheet["C2"].number_format = "0.00"
         sheet.row_dimensions[4].hidden = True
@@ -354,7 +491,7 @@ class Xlsx(WorkbookTest):
         self.assertEqual(parts_of(done.stdout)[1], [(label, f"ean13 {PENCIL}")])
         self.assertEqual(
             [message[13:52] for message in support.messages(done)],
-            ['row 3: column 2 ("Name") has a formula ', "1 hidden rows are not printed: give --h"],
+            ['row 3: column 2 ("Name") has a formula ', "1 hidden row is not printed: give --hid"],
         )
 
 
@@ -367,11 +504,23 @@ def unpacked(data: bytes) -> Dict[str, str]:
 class Formats(WorkbookTest):
     """What a number in a column of text is shown as."""
 
-    def shown(self, value: object, number_format: Union[str, int], *arguments: str, date1904: bool = False) -> str:
+    def shown(
+        self, value: object, number_format: Union[str, int], *arguments: str, date1904: bool = False
+    ) -> str:
         """The text of a number with a format; where it is refused, the message."""
-        data = xlsx(rows(["EAN", "x"], [PENCIL, cell(value, style=1)]), formats=[number_format], date1904=date1904)
+        data = xlsx(
+            rows(["EAN", "x"], [PENCIL, cell(value, style=1)]),
+            formats=[number_format],
+            date1904=date1904,
+        )
         done = support.run_here(
-            "label-table", "--code", "EAN", "--text", "x", *(arguments or ("--decimal", ",")), input=data
+            "label-table",
+            "--code",
+            "EAN",
+            "--text",
+            "x",
+            *(arguments or ("--decimal", ",")),
+            input=data,
         )
         labels = parts_of(done.stdout)[1]
         return labels[0][0].get("text", [""])[0] if labels else support.messages(done)[0]
@@ -380,12 +529,30 @@ class Formats(WorkbookTest):
         accounting = '_-* #,##0.00\\ "€"_-;\\-* #,##0.00\\ "€"_-;_-* "-"??\\ "€"_-;_-@_-'
         cases = [
             *((0.8, '#,##0.00\\ "€"', "0,80 €"), (12999, "#,##0.00\\ [$zł-415]", "12.999,00 zł")),
-            *((1234567.891, "#,##0.00", "1.234.567,89"), (1234.5, 4, "1.234,50"), (1234.5, 2, "1234,50")),
+            *(
+                (1234567.891, "#,##0.00", "1.234.567,89"),
+                (1234.5, 4, "1.234,50"),
+                (1234.5, 2, "1234,50"),
+            ),
             *((0.8, accounting, "0,80 €"), (-0.8, accounting, "-0,80 €"), (0, accounting, "- €")),
-            *((5, "General", "5"), (1.25, "General", "1,25"), (int(PENCIL), "General", PENCIL), (0.1, "@", "0,1")),
+            *(
+                (5, "General", "5"),
+                (1.25, "General", "1,25"),
+                (int(PENCIL), "General", PENCIL),
+                (0.1, "@", "0,1"),
+            ),
             *((7, "000", "007"), (7, "0", "7"), (0.5, "0", "1"), (2.5, "0", "3"), (0.4, "#", "")),
-            *((2.675, "0.00", "2,68"), (1.005, "0.00", "1,01"), (0.30000000000000004, "General", "0,3")),
-            *((0.5, "0%", "50%"), (0.1234, 10, "12,34%"), (0.5, "#.##", ",5"), (12.5, "0.0#", "12,5")),
+            *(
+                (2.675, "0.00", "2,68"),
+                (1.005, "0.00", "1,01"),
+                (0.30000000000000004, "General", "0,3"),
+            ),
+            *(
+                (0.5, "0%", "50%"),
+                (0.1234, 10, "12,34%"),
+                (0.5, "#.##", ",5"),
+                (12.5, "0.0#", "12,5"),
+            ),
             *(
                 (-3.5, "0.00;[Red]-0.00", "-3,50"),
                 (-3.5, "0.00", "-3,50"),
@@ -398,9 +565,21 @@ class Formats(WorkbookTest):
                 (5, '"a;b" 0', "a;b 5"),
                 (9.9, "€ 0.00", "€ 9,90"),
             ),
-            *((9.9, "[$€-2] 0.00", "€ 9,90"), (9.9, "[$-407]0.00", "9,90"), (9.9, "[Blue]$0.00", "$9,90")),
-            *((45678, "dd.mm.yyyy", "21.01.2025"), (45678, "d/m/yy", "21/1/25"), (45678, "yyyy-mm-dd", "2025-01-21")),
-            *((45678.9, "dd.mm.yy", "21.01.25"), (61, "d.m.yyyy", "1.3.1900"), (2958465, "d.m.yyyy", "31.12.9999")),
+            *(
+                (9.9, "[$€-2] 0.00", "€ 9,90"),
+                (9.9, "[$-407]0.00", "9,90"),
+                (9.9, "[Blue]$0.00", "$9,90"),
+            ),
+            *(
+                (45678, "dd.mm.yyyy", "21.01.2025"),
+                (45678, "d/m/yy", "21/1/25"),
+                (45678, "yyyy-mm-dd", "2025-01-21"),
+            ),
+            *(
+                (45678.9, "dd.mm.yy", "21.01.25"),
+                (61, "d.m.yyyy", "1.3.1900"),
+                (2958465, "d.m.yyyy", "31.12.9999"),
+            ),
         ]
         for value, number_format, text in cases:
             self.assertEqual(self.shown(value, number_format), text, (value, number_format))
@@ -411,7 +590,6 @@ class Formats(WorkbookTest):
         not_understood = [
             "# ?/?",
             "0.00E+00",
-            "h:mm",
             "[h]:mm",
             "[>4]0;0",
             "0.00 EUR",
@@ -421,27 +599,63 @@ class Formats(WorkbookTest):
             "x",
         ]
         for number_format in not_understood:
-            problem = f'has the number format "{number_format}", which is not understood: enter it again as text'
-            self.assertEqual(self.shown(5, number_format), f'label-table: row 2: column 2 ("x") {problem}')
-        for number_format in ("d. mmm yyyy", "dddd", "[$-F800]dddd\\,\\ d", "yyy", "dd 0", "d%0", "d%"):
-            problem = f'has the number format "{number_format}", which is not understood: enter it again as text'
-            self.assertEqual(self.shown(45678, number_format), f'label-table: row 2: column 2 ("x") {problem}')
+            problem = (
+                f'has the number format "{number_format}", which is not understood: enter it again'
+                " as text"
+            )
+            self.assertEqual(
+                self.shown(5, number_format), f'label-table: row 2: column 2 ("x") {problem}'
+            )
+        for number_format in (
+            "d. mmm yyyy",
+            "dddd",
+            "[$-F800]dddd\\,\\ d",
+            "yyy",
+            "dd 0",
+            "d%0",
+            "d%",
+        ):
+            hint = "give --date-as dd.mm.yyyy, or another pattern"
+            problem = f'has the number format "{number_format}", which is not understood: {hint}'
+            self.assertEqual(
+                self.shown(45678, number_format), f'label-table: row 2: column 2 ("x") {problem}'
+            )
         for value in (60, -1, 2958466):
             problem = "is a date before March 1900 or after 9999: enter it again as text"
-            self.assertEqual(self.shown(value, "d"), f'label-table: row 2: column 2 ("x") {problem}')
-        problem = 'has the number format "of the language", which is not understood: enter it again as text'
-        for number in (14, 22, 44, 999):
+            self.assertEqual(
+                self.shown(value, "d"), f'label-table: row 2: column 2 ("x") {problem}'
+            )
+        problem = (
+            "has a number format that depends on the language of the spreadsheet: enter it again as"
+            " text"
+        )
+        for number in (22, 44, 999):
             self.assertEqual(self.shown(5, number), f'label-table: row 2: column 2 ("x") {problem}')
-        problem = "is the number 0.333333333333333 without a number of decimals: give it a format such as 0.00"
-        self.assertEqual(self.shown(1 / 3, "General"), f'label-table: row 2: column 2 ("x") {problem}')
+        problem = (
+            "is the number 0.333333333333333 without a number of decimals: give it a format such as"
+            " 0.00"
+        )
+        self.assertEqual(
+            self.shown(1 / 3, "General"), f'label-table: row 2: column 2 ("x") {problem}'
+        )
 
     def test_the_signs_are_said_where_no_option_gives_them(self) -> None:
         data = xlsx(
-            rows(["EAN", "x"], [PENCIL, cell(1, style=2)], [SMALL, cell(1234.5, style=1)]), formats=["0.00", "0"]
+            rows(["EAN", "x"], [PENCIL, cell(1, style=2)], [SMALL, cell(1234.5, style=1)]),
+            formats=["0.00", "0"],
         )
-        note = 'label-table: numbers are printed as "1234.50": is that right? else give --decimal , or .'
-        for options, messages in (([], [note]), (["--decimal", "."], []), (["--text", "EAN"], [note])):
-            done = support.run("label-table", "--code", "EAN", "--price", "x", *options, input=data, locale="C")
+        note = (
+            'label-table: numbers are printed as "1234.50": is that right? else give --decimal ,'
+            " or ."
+        )
+        for options, messages in (
+            ([], [note]),
+            (["--decimal", "."], []),
+            (["--text", "EAN"], [note]),
+        ):
+            done = support.run(
+                "label-table", "--code", "EAN", "--price", "x", *options, input=data, locale="C"
+            )
             self.assertEqual((done.returncode, support.messages(done)), (0, messages))
         done = support.run("label-table", "--code", "EAN", input=data, locale="C")
         self.assertEqual((done.returncode, support.messages(done)), (0, []))
@@ -459,22 +673,26 @@ class Ods(WorkbookTest):
         self.assertEqual(self.found(data, *columns), [(label, f"ean13 {PENCIL}")])
 
     def test_numbers_as_codes(self) -> None:
-        no_value = "has a formula without a saved value: open the table in the spreadsheet and save it"
+        no_value = (
+            "has a formula without a saved value: open the table in the spreadsheet and save it"
+        )
         cells = {
             ods_cell("0007", "float", 'office:value="7"'): "code128 0007",
             ods_cell("1.234", "float", 'office:value="1234"'): "code128 1234",
             ods_cell(
                 "LOT 7", "float", 'office:value="7"'
             ): 'is shown as "LOT 7", which is no whole number: enter it again as text',
-            ods_cell(
-                "1,50", "float", 'office:value="1.5"'
-            ): "is the number 1.5, which is not whole or has too many digits: enter it again as text",
+            ods_cell("1,50", "float", 'office:value="1.5"'): (
+                "is the number 1.5, which is not whole or has too many digits: enter it again as"
+                " text"
+            ),
             ods_cell(
                 "25.11.26", "date", 'office:date-value="2026-11-25"'
             ): 'is shown as "25.11.26", which is no whole number: enter it again as text',
-            ods_cell(
-                "WAHR", "boolean", 'office:boolean-value="true"'
-            ): "has neither a text nor a number, but TRUE, FALSE or the like: enter it again as text",
+            ods_cell("WAHR", "boolean", 'office:boolean-value="true"'): (
+                "has neither a text nor a number, but TRUE, FALSE or the like: enter it again as"
+                " text"
+            ),
             ods_cell(
                 "#NV", "string", 'calcext:value-type="error"'
             ): 'has "#NV", which the spreadsheet writes where it has no value to show',
@@ -482,7 +700,9 @@ class Ods(WorkbookTest):
         }
         lines = [text for text in cells.values() if text.startswith("code128")]
         problems = [
-            f'row {row}: column 1 ("EAN") {text}' for row, text in enumerate(cells.values(), 2) if text not in lines
+            f'row {row}: column 1 ("EAN") {text}'
+            for row, text in enumerate(cells.values(), 2)
+            if text not in lines
         ]
         data = ods(table(["EAN"], *([text] for text in cells)))
         self.check(data, ["--code", "EAN", "--symbology", "code128"], lines, problems, 1)
@@ -496,7 +716,9 @@ class Ods(WorkbookTest):
         empty = '<table:table-row table:number-rows-repeated="{}"><table:table-cell '
         empty += 'table:number-columns-repeated="{}"/></table:table-row>'
         lines = table(
-            ["EAN", "a", "b", "c", "d", "e"], [PENCIL, twice, gap, "x"], end=row + empty.format(1048571, 16384)
+            ["EAN", "a", "b", "c", "d", "e"],
+            [PENCIL, twice, gap, "x"],
+            end=row + empty.format(1048571, 16384),
         )
         found = self.found(ods(lines), "--text", "a", "--text", "b", "--text", "c", "--text", "e")
         self.assertEqual(found[0], ({"row": 2, "text": ["Seife", "Seife", "x"]}, f"ean13 {PENCIL}"))
@@ -504,10 +726,15 @@ class Ods(WorkbookTest):
         lines = table(["EAN"], [PENCIL], end=empty.format(3, 5) + row)
         problem = "row 3: the row is empty, and all to row 5"
         done = support.run_here("label-table", "--code", "EAN", input=ods(lines))
-        self.assertEqual((done.returncode, support.messages(done)), (1, [f"label-table: {problem}"]))
+        self.assertEqual(
+            (done.returncode, support.messages(done)), (1, [f"label-table: {problem}"])
+        )
 
     def test_letters(self) -> None:
-        comment = "<office:annotation><dc:date xmlns:dc='x'>2026</dc:date><text:p>Notiz</text:p></office:annotation>"
+        comment = (
+            "<office:annotation><dc:date"
+            " xmlns:dc='x'>2026</dc:date><text:p>Notiz</text:p></office:annotation>"
+        )
         drawn = "<draw:frame><draw:text-box><text:p>Bild</text:p></draw:text-box></draw:frame>"
         texts = {
             ods_cell("Bleistift", before=comment): "Bleistift",
@@ -525,9 +752,17 @@ class Ods(WorkbookTest):
     def test_hidden_rows_and_sheets(self) -> None:
         hidden = '<table:table-row table:visibility="{}" {}>{}</table:table-row>'
         repeated = 'table:number-rows-repeated="1048500"'
-        lines = hidden.format("filter", "", ods_cell(SMALL)) + hidden.format("collapse", "", ods_cell(BOOK))
+        lines = hidden.format("filter", "", ods_cell(SMALL)) + hidden.format(
+            "collapse", "", ods_cell(BOOK)
+        )
         lines += f"<table:table-row>{ods_cell(SOAP)}</table:table-row>"
-        data = ods(table(["EAN"], [PENCIL], end=lines + hidden.format("collapse", repeated, "<table:table-cell/>")))
+        data = ods(
+            table(
+                ["EAN"],
+                [PENCIL],
+                end=lines + hidden.format("collapse", repeated, "<table:table-cell/>"),
+            )
+        )
         note = "2 hidden rows are not printed: give --hidden to print them"
         self.check(data, ["--code", "EAN"], [f"ean13 {PENCIL}", f"upca {SOAP}"], [note])
         every = [f"ean13 {PENCIL}", f"ean8 {SMALL}", f"ean13 {BOOK}", f"upca {SOAP}"]
@@ -535,7 +770,11 @@ class Ods(WorkbookTest):
 
         style = '<style:style style:name="ta2" style:family="table">'
         style += '<style:table-properties table:display="false"/></style:style>'
-        sheets = [table(["EAN"], [PENCIL]), table(["EAN"], [SMALL], name="alt", style="ta2"), table([""], name="leer")]
+        sheets = [
+            table(["EAN"], [PENCIL]),
+            table(["EAN"], [SMALL], name="alt", style="ta2"),
+            table([""], name="leer"),
+        ]
         data = ods(*sheets, styles=style)
         self.check(data, ["--code", "EAN"], [f"ean13 {PENCIL}"])
         self.check(data, ["--code", "EAN", "--sheet", "alt"], [f"ean8 {SMALL}"])
@@ -543,7 +782,9 @@ class Ods(WorkbookTest):
         self.refused(ods(*sheets), problem, status=2)
 
     def test_merged_cells(self) -> None:
-        spanned = ods_cell(PENCIL, more='table:number-rows-spanned="2" table:number-columns-spanned="1"')
+        spanned = ods_cell(
+            PENCIL, more='table:number-rows-spanned="2" table:number-columns-spanned="1"'
+        )
         covered = "<table:covered-table-cell/>"
         data = ods(table(["EAN", "Name"], [spanned, "a"], [covered, "b"], [SMALL, "c"]))
         problem = 'row 3: column 1 ("EAN") is merged with row 2: take the merged cells apart'
@@ -552,7 +793,8 @@ class Ods(WorkbookTest):
     def test_other_tables_in_the_file(self) -> None:
         inner = f"<text:p>{PENCIL}</text:p>{table(['x'], ['y'])}"
         inner = f'<table:table-cell office:value-type="string">{inner}</table:table-cell>'
-        links = f"<table:dde-links><table:dde-link>{table(['EAN'], [SMALL])}</table:dde-link></table:dde-links>"
+        links = f"<table:dde-link>{table(['EAN'], [SMALL])}</table:dde-link>"
+        links = f"<table:dde-links>{links}</table:dde-links>"
         self.check(ods(table(["EAN"], [inner]), links), ["--code", "EAN"], [f"ean13 {PENCIL}"])
 
 
@@ -574,7 +816,9 @@ class Hostile(WorkbookTest):
             if part != "[Content_Types].xml":
                 self.refused(self.changed(part, XML, XML + entities), problem)
         content = unpacked(ods(table(["EAN"], [PENCIL])))
-        content["content.xml"] = content["content.xml"].replace(XML, XML + entities).replace(PENCIL, "&b;&c;")
+        content["content.xml"] = (
+            content["content.xml"].replace(XML, XML + entities).replace(PENCIL, "&b;&c;")
+        )
         self.refused(packed(content), problem)
 
     def test_huge_parts(self) -> None:
@@ -583,7 +827,9 @@ class Hostile(WorkbookTest):
             with archive.open("xl/media/image1.png", "w") as part:
                 for _ in range(260):
                     part.write(bytes(1 << 20))
-        self.refused(stream.getvalue(), f'has a part of more than 256 MB, "xl/media/image1.png": {AGAIN}')
+        self.refused(
+            stream.getvalue(), f'has a part of more than 256 MB, "xl/media/image1.png": {AGAIN}'
+        )
 
     def test_huge_cells_rows_and_nesting_take_no_memory(self) -> None:
         # Kept in memory, so many bytes or elements take more than the limit below.
@@ -603,15 +849,23 @@ class Hostile(WorkbookTest):
             tool = [str(support.TOOLS / "label-table"), "--code", "EAN"]
             limited = ["bash", "-c", 'ulimit -v 100000 && exec "$@"', "sh", *tool]
             done = subprocess.run(
-                [*limited, str(path)], capture_output=True, env=support.environment(), timeout=support.SECONDS
+                [*limited, str(path)],
+                capture_output=True,
+                env=support.environment(),
+                timeout=support.SECONDS,
             )
-            self.assertEqual((name, done.stderr.decode()), (name, f"label-table: {path} {problem}\n"))
+            self.assertEqual(
+                (name, done.stderr.decode()), (name, f"label-table: {path} {problem}\n")
+            )
             self.assertEqual((done.returncode, done.stdout), (1, b""))
 
     def test_repeats_of_ods_that_take_no_memory(self) -> None:
         wide = ods_cell("x", more='table:number-columns-repeated="1000000000"')
         self.refused(ods(table(["EAN"], [wide])), LIMITS)
-        long = f'<table:table-row table:number-rows-repeated="1000000000">{ods_cell("x")}</table:table-row>'
+        long = (
+            "<table:table-row"
+            f" table:number-rows-repeated=\"1000000000\">{ods_cell('x')}</table:table-row>"
+        )
         self.refused(ods(table(["EAN"], end=long)), LIMITS)
         self.refused(ods(table(["EAN"], [ods_cell("<text:s text:c='1000000000'/>")])), LARGE)
         self.refused(ods(table(["EAN"], [ods_cell("<text:s text:c='131068'/>x")] * 20)), LARGE)
@@ -620,7 +874,7 @@ class Hostile(WorkbookTest):
         self.assertEqual((done.returncode, done.stdout), (1, b""))
 
     def test_more_merged_cells_than_a_sheet_has(self) -> None:
-        merges = "".join(f'<mergeCell ref="A{row}:B1000000"/>' for row in range(1, 300))
+        merges = "".join(f'<mergeCell ref="A{row}:B1000000"/>' for row in range(2, 301))
         data = xlsx(
             "".join(f'<row r="{row}">{cell("EAN")}</row>' for row in range(1, 300)),
             after=f"<mergeCells>{merges}</mergeCells>",
@@ -636,9 +890,16 @@ class Hostile(WorkbookTest):
             {"mimetype": "application/vnd.oasis.opendocument.text", "content.xml": "<x/>"},
             {"x": "y"},
             {},
-            {"_rels/.rels": relations([("rId1", "officeDocument", "xl/workbook.bin")]), "xl/workbook.bin": "\x83\x01"},
+            {
+                "_rels/.rels": relations([("rId1", "officeDocument", "xl/workbook.bin")]),
+                "xl/workbook.bin": "\x83\x01",
+            },
             {"_rels/.rels": relations(word), "word/document.xml": "<w/>"},
-            {"_rels/.rels": relations(word), "word/document.xml": "<w/>", "word/_rels/document.xml.rels": "<x/>"},
+            {
+                "_rels/.rels": relations(word),
+                "word/document.xml": "<w/>",
+                "word/_rels/document.xml.rels": "<x/>",
+            },
         ]
         for parts in files:
             done = support.run_here("label-table", "--code", "EAN", input=packed(parts))
@@ -665,11 +926,21 @@ class Hostile(WorkbookTest):
                 ("xl/worksheets/sheet1.xml", '<c t="inlineStr">', f"<c><v>{text}</v></c><c>")
                 for text in ("NaN", "1E999", "x")
             ),
-            ("xl/worksheets/sheet1.xml", '<c t="inlineStr">', '<c t="s"><v>7</v></c><c t="inlineStr">'),
-            ("xl/worksheets/sheet1.xml", '<c t="inlineStr">', '<c s="9"><v>7</v></c><c t="inlineStr">'),
+            (
+                "xl/worksheets/sheet1.xml",
+                '<c t="inlineStr">',
+                '<c t="s"><v>7</v></c><c t="inlineStr">',
+            ),
+            (
+                "xl/worksheets/sheet1.xml",
+                '<c t="inlineStr">',
+                '<c s="9"><v>7</v></c><c t="inlineStr">',
+            ),
             ("xl/_rels/workbook.xml.rels", "worksheets/sheet1.xml", "../../../etc/passwd"),
         ):
-            done = support.run_here("label-table", "--code", "EAN", input=self.changed(part, old, new))
+            done = support.run_here(
+                "label-table", "--code", "EAN", input=self.changed(part, old, new)
+            )
             self.assertEqual((done.returncode, done.stdout), (1, b""), (part, new))
             self.assertTrue(support.messages(done)[0].startswith(DAMAGED), (part, new))
 
@@ -684,16 +955,22 @@ class Hostile(WorkbookTest):
 
 class LongTables(WorkbookTest):
     def test_many_rows_in_seconds(self) -> None:
-        lines = rows(["EAN", "Name", "Price"], *([PENCIL, "a", cell(0.5, style=1)] for _ in range(20000)))
+        lines = rows(
+            ["EAN", "Name", "Price"], *([PENCIL, "a", cell(0.5, style=1)] for _ in range(20000))
+        )
         for data in (
             xlsx(lines, formats=["0.00"]),
             ods(table(["EAN", "Name", "Price"], *([PENCIL, "a", "1"] for _ in range(20000)))),
         ):
             before = time.monotonic()
             done = support.run(
-                "label-table", *("--code", "EAN", "--title", "Name", "--price", "Price", "--decimal", ","), input=data
+                "label-table",
+                *("--code", "EAN", "--title", "Name", "--price", "Price", "--decimal", ","),
+                input=data,
             )
-            self.assertEqual((done.returncode, done.stdout.count(b"\n"), done.stderr), (0, 40002, b""))
+            self.assertEqual(
+                (done.returncode, done.stdout.count(b"\n"), done.stderr), (0, 40002, b"")
+            )
             self.assertLess(time.monotonic() - before, 40)
 
 

@@ -2,4 +2,5 @@ pub mod Examples
 pub mod NamedLaws
 pub mod OneKindLaws
 pub mod ParsedLaws
+pub mod ProgramLaws
 pub mod RuleLaws

@@ -1,5 +1,5 @@
 //! A sink that buffers bytes.
-ghost use Rattle.std.specs.Prelude.{◌≡◌, ◌+◌, ◌-◌, ◌<◌, ◌≤◌, ◌++◌, ℕ, List, [], true, false, length, slice_range, OnOk};
+ghost use Rattle.std.specs.Prelude.{◌≡◌, ◌+◌, ◌-◌, ◌<◌, ◌≤◌, ◌++◌, ℕ, List, [], true, false, length, slice_range, OnOk, ⊤};
 ghost use borrow.Rule.Slice.PartMut.{put_mid};
 ghost use Rattle.device.specs.Passing.{PassesOn};
 ghost use Rattle.device.specs.Sink.{Flushes, PassesBuffered};
@@ -75,8 +75,8 @@ impl<S: Sink> Buffered<S> {
     /// Passes on what is buffered.
     fn drain(&mut self) -> Result<(), IoFault>
         ensures passes { let sink = ⟦<Buffered<S> as Sink>⟧ in
-            PassesBuffered sink.failures sink.is_flushed sink.took self.old self.new result }
-        ensures buffered { OnOk result (self.new.end ≡ 0) }
+            PassesBuffered sink.failures sink.is_flushed sink.buffers_nothing sink.took self.old self.new result }
+        ensures room { OnOk result (self.new.end ≡ 0) }
     {
         while self.start < self.end {
             let all = &self.bytes[..];
@@ -91,7 +91,7 @@ impl<S: Sink> Buffered<S> {
     /// Passes on what is buffered if there is no room for more.
     fn make_room(&mut self) -> Result<(), IoFault>
         ensures passes { let sink = ⟦<Buffered<S> as Sink>⟧ in
-            PassesBuffered sink.failures sink.is_flushed sink.took self.old self.new result }
+            PassesBuffered sink.failures sink.is_flushed (λ s. ⊤) sink.took self.old self.new result }
         ensures room { OnOk result (self.new.end < ROOM) }
     {
         if self.end < ROOM {
@@ -120,6 +120,8 @@ impl<S: Sink> Sink for Buffered<S> {
 
     ghost is_flushed = { λ s. s.is_flushed };
 
+    ghost buffers_nothing = { λ s. buffered_bytes s ≡ [] };
+
     ghost took = { λ s t xs. PassesOn S.took s.sink t.sink (buffered_bytes s) (buffered_bytes t) xs };
 
     fn write(&mut self, bytes: &[u8]) -> Result<usize, IoFault> {
@@ -131,9 +133,8 @@ impl<S: Sink> Sink for Buffered<S> {
 
     fn flush(&mut self) -> Result<(), IoFault>
         ensures flushes { let sink = ⟦<Buffered<S> as Sink>⟧ in
-            Flushes sink.failures sink.is_flushed sink.took self.old self.new result }
-        ensures reaches { OnOk result ((buffered_bytes self.new ≡ [])
-            × (S.is_flushed (sink_of self.new) ≡ true)) }
+            Flushes sink.failures sink.is_flushed sink.buffers_nothing sink.took self.old self.new result }
+        ensures reaches { OnOk result (S.is_flushed (sink_of self.new) ≡ true) }
     {
         self.drain()?;
         self.sink.flush()?;
@@ -141,11 +142,7 @@ impl<S: Sink> Sink for Buffered<S> {
         Ok(())
     }
 
-    fn pass_on(&mut self) -> Result<(), IoFault>
-        ensures passes { let sink = ⟦<Buffered<S> as Sink>⟧ in
-            PassesBuffered sink.failures sink.is_flushed sink.took self.old self.new result }
-        ensures buffered { OnOk result (buffered_bytes self.new ≡ []) }
-    {
+    fn pass_on(&mut self) -> Result<(), IoFault> {
         self.drain()
     }
 

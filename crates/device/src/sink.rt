@@ -9,8 +9,11 @@ pub trait Sink {
     /// How many writes and flushes failed. The count stops at the greatest `u64`.
     ghost failures: { Self → ℕ };
 
-    /// Whether the last flush succeeded, and nothing was written since.
+    /// Whether a flush succeeded, and nothing was written since.
     ghost is_flushed: { Self → Bool };
+
+    /// Nothing is buffered here. A sink that keeps no byte says nothing.
+    ghost buffers_nothing: { Self → Type 0 };
 
     /// From the first state to the second, writes took these bytes.
     ghost took: { Self → Self → List ℕ → Type 0 };
@@ -30,18 +33,15 @@ pub trait Sink {
     ///
     /// [`IoFault`] where that fails: some of it may still be buffered.
     fn flush(&mut self) -> Result<(), IoFault>
-        ensures { Flushes failures is_flushed took self.old self.new result };
+        ensures { Flushes failures is_flushed buffers_nothing took self.old self.new result };
 
-    /// Passes on what is buffered here. It takes no byte and flushes nothing.
+    /// Passes on what is buffered here. It takes no byte and flushes nothing. A sink that keeps no byte does nothing.
     ///
     /// # Errors
     ///
     /// [`IoFault`] where that fails: some of it may still be buffered.
     fn pass_on(&mut self) -> Result<(), IoFault>
-        ensures { PassesBuffered failures is_flushed took self.old self.new result }
-    {
-        Ok(())
-    }
+        ensures { PassesBuffered failures is_flushed buffers_nothing took self.old self.new result };
 
     /// Takes its last `count` bytes once more, and returns whether it did. It does so only where it still has all of
     /// them and has room for them; else nothing changes. It never fails. A sink that keeps no byte always returns

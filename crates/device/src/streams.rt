@@ -1,5 +1,5 @@
 //! The readers and writers of std as devices.
-ghost use Rattle.std.specs.Prelude.{◌≡◌};
+ghost use Rattle.std.specs.Prelude.{◌≡◌, ⊤};
 ghost use Rattle.std.specs.Io.KnownBytes.{Appends, Consumes, IsAtEnd};
 ghost use Rattle.device.specs.New.{IsNewSink, IsNewSource};
 ghost use Rattle.device.specs.Streams.{reader_of, writer_of};
@@ -85,6 +85,8 @@ impl<W: Write> Sink for StdSink<W> {
 
     ghost is_flushed = { λ s. s.is_flushed };
 
+    ghost buffers_nothing = { λ s. ⊤ };
+
     ghost took = { λ s t xs. Appends (W.contents s.writer) (W.contents t.writer) xs };
 
     fn write(&mut self, bytes: &[u8]) -> Result<usize, IoFault> {
@@ -111,6 +113,10 @@ impl<W: Write> Sink for StdSink<W> {
                 Err(IoFault)
             }
         }
+    }
+
+    fn pass_on(&mut self) -> Result<(), IoFault> {
+        Ok(())
     }
 
     ghost took_none = { λ s. Appends_none (W.contents s.writer) };

@@ -8,6 +8,7 @@ use crate::{IoFault, Sink};
 /// # Errors
 ///
 /// [`IoFault`] where a write fails: the sink took a beginning of `bytes`.
+#[inline(always)]
 pub fn write_whole<S: Sink>(bytes: &[u8], sink: &mut S) -> Result<(), IoFault>
     ensures { WritesText S.Sink sink.old sink.new bytes.now result }
 {

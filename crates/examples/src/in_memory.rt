@@ -1,5 +1,4 @@
 //! A run over a text in memory.
-ghost use Rattle.std.specs.Prelude.{◌≡◌};
 ghost use Rattle.filter.specs.Run.{Runs};
 
 use device::{Sink, Source};
@@ -19,8 +18,7 @@ pub fn draw_labels<'a, const N: usize, const M: usize>(
     messages: &mut MemSink<M>,
 ) -> Result<Status, RunFault>
     ensures { Runs (⟦<MemSource<'a> as Source>⟧) (⟦<MemSink<N> as Sink>⟧) (⟦<MemSink<M> as Sink>⟧)
-        (λ old new. new ≡ old) options source.old source.new images.old images.new
-        messages.old messages.new result }
+        options source.old source.new images.old images.new messages.old messages.new result }
 {
     run(options, source, images, messages)
 }

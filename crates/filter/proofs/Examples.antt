@@ -30,7 +30,7 @@ use Rattle.filter.specs.declared.status.Status.TheVariants.{Clean, Refused}
 use Rattle.filter.specs.Symbol.{Symbol, symbol_of, quiet_zone}
 use Rattle.filter.specs.Output.{Images, Messages, drawn_symbols, ended_script, events_after, line_number, outcome}
 use Rattle.filter.specs.Output.{script, sent, status_of}
-use Rattle.filter.specs.Readback.{read_image, read_modules}
+use Rattle.filter.specs.Reading.{modules_in, read_image, read_modules}
 
 abbrev settings : Options
 settings = record {
@@ -130,13 +130,13 @@ image = codes "P1\n81 1\n0000000101011101101111010110001001100101010100001010011
 
 image_read : (read_image Pbm 1 Ean8 image ≡ Some (codes "73513537")) × (read_image Ascii 1 Ean8 image ≡ None)
     × (read_image Pbm 2 Ean8 image ≡ None) × (read_image Pbm 1 UpcA image ≡ None)
-unfolding read_image image pbm_pixels ascii_pixels sample lines ended_lines open_line number_set_a
+unfolding read_image modules_in image pbm_pixels ascii_pixels sample lines ended_lines open_line number_set_a
 image_read = (refl, refl, refl, refl)
 
 -- a dark pixel in the quiet zone
 dark_beside : read_image Pbm 1 Ean8
     (codes "P1\n81 1\n1000000101011101101111010110001001100101010100001010011101000010100010\n01010000000\n") ≡ None
-unfolding read_image pbm_pixels sample lines ended_lines open_line
+unfolding read_image modules_in pbm_pixels sample lines ended_lines open_line
 dark_beside = refl
 
 -- ISO/IEC 18004, Annex I: 01234567 in version 1-M, and a row that is a module longer than the others

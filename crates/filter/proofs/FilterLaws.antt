@@ -38,7 +38,8 @@ status_of-flushes xs = ap (λ (b : Bool). if b then Refused else Clean)
     (list_any-append is_refusal xs (flushes ∷ []) ∙ or-false (list_any is_refusal xs))
 
 module _ (options : Options) where
-  events_after-append : (n : ℕ) (xs ys : List (List ℕ))
+  -- the events of lines, and of lines after them
+  pub events_after-append : (n : ℕ) (xs ys : List (List ℕ))
       → events_after options n (xs ++ ys) ≡ events_after options n xs ++ events_after options (n + length xs) ys
   unfolding events_after
   events_after-append n [] ys = ap (λ (k : ℕ). events_after options k ys) (sym (add-zero n))

@@ -22,7 +22,12 @@ use Rattle.picture.proofs.AsciiLaws.{ascii_files-flat_map, ascii_pixels-ascii_te
 use Rattle.picture.proofs.CutLaws.{pbm_files-flat_map}
 use Rattle.picture.proofs.PbmLaws.{pbm_pixels-pbm_text}
 use Rattle.picture.proofs.SampleLaws.{sample-raster, value_at-raster, common_row-bars}
-use Rattle.filter.specs.Readback.{cut, pixels, read_image, AreRead, IsRead, ReadsBack, read_modules}
+use Rattle.filter.proofs.DamageLaws.{IsGuarded-read, rows_read}
+use Rattle.filter.proofs.AloneLaws.{IsAlone-read, rows_alone}
+use Rattle.filter.proofs.PixelLaws.{IsGuardedInPixels-read}
+use Rattle.filter.specs.ModuleReading.{IsReadInModules}
+use Rattle.filter.specs.Readback.{AreRead, HoldsImages, IsRead, ReadsBack}
+use Rattle.filter.specs.Reading.{cut, modules_in, pixels, read_image, read_modules}
 use Rattle.std.proofs.lemmas.List.FromFn.{get_or-map-range_with_len, length-map-range_with_len}
 use mathlib.Core.Path.{fun_ext}
 use Rattle.labelcore.specs.Settings.{◌>>=◌}
@@ -215,9 +220,10 @@ abbrev EventIsReadable : Event → Type 0
 EventIsReadable (of_line number outcome) = HasReadable outcome
 EventIsReadable flushes = Unit {0}
 
-first_of_two : (xs ys : List Event) → AllByRecursion EventIsReadable (xs ++ ys) → AllByRecursion EventIsReadable xs
-first_of_two [] ys h = tt
-first_of_two (x ∷ xs) ys h = (h.0, first_of_two xs ys h.1)
+both_parts : (xs ys : List Event) → AllByRecursion EventIsReadable (xs ++ ys)
+    → AllByRecursion EventIsReadable xs × AllByRecursion EventIsReadable ys
+both_parts [] ys h = (tt, h)
+both_parts (x ∷ xs) ys h = let parts = both_parts xs ys h.1 in ((h.0, parts.0), parts.1)
 
 module _ (run : RunValues) (label : LabelValues) (range : AreInRange run label) where
   drawable : (symbol : Symbol) → IsReadable symbol → IsDrawable (picture_of run symbol)
@@ -238,25 +244,38 @@ module _ (run : RunValues) (label : LabelValues) (range : AreInRange run label) 
       (side_some _ symbol.modules.height _ run.scale h.some_rows range.scale_low)
 
   -- the image of modules that are read
-  image_read : (format : Format) (symbol : Symbol) → IsReadable symbol
-      → IsRead format run.scale (text_of format (picture_of run symbol)) symbol
-  unfolding read_image
-  image_read format symbol h = rw (
+  full_read : (format : Format) (symbol : Symbol) → IsReadable symbol
+      → read_image format run.scale symbol.symbology (text_of format (picture_of run symbol)) ≡ Some symbol.full
+  unfolding modules_in read_image
+  full_read format symbol h = rw (
     text_read format symbol h,
     sample-raster symbol.modules (quiet_zone symbol.symbology) run.scale range.scale_low,
   ) h.read
+
+  image_read : (format : Format) (symbol : Symbol) → IsReadable symbol
+      → IsRead format run.scale (text_of format (picture_of run symbol)) symbol
+  image_read format symbol h =
+      let full = full_read format symbol h in
+      record {
+        full = full;
+        guarded = IsGuarded-read format run.scale (text_of format (picture_of run symbol)) symbol full;
+        guarded_in_pixels = IsGuardedInPixels-read format run.scale (text_of format (picture_of run symbol)) symbol
+            range.scale_low full;
+        alone = IsAlone-read format run.scale (text_of format (picture_of run symbol)) symbol full;
+      }
 
   outcome_read : (found : Result Symbol Fault) → HasReadable (outcome_of found)
       → IfOk found (λ symbol. IsRead run.format run.scale (image_of run (drawn symbol)) symbol)
   outcome_read (Ok symbol) h = image_read run.format symbol h
   outcome_read (Err fault) h = tt
 
-  -- a stream of images
-  stream_cut : (format : Format) (pictures : List Picture) → All IsDrawable pictures
-      → cut format (flat_map (text_of format) pictures) ≡ map (text_of format) pictures
-  stream_cut Pbm pictures all = pbm_files-flat_map pictures all
-  stream_cut Ascii pictures all =
-      ascii_files-flat_map pictures (All-weaker IsDrawable (λ p. 0 < p.width) (λ p h. h.some) pictures all)
+  -- a stream of images, and a beginning of more
+  stream_cut : (format : Format) (pictures more : List Picture) (begun rest : List ℕ) → All IsDrawable pictures
+      → flat_map (text_of format) more ≡ begun ++ rest
+      → cut format (flat_map (text_of format) pictures ++ begun) ≡ map (text_of format) pictures ++ cut format begun
+  stream_cut Pbm pictures more begun rest all e = pbm_files-flat_map pictures more begun rest all e
+  stream_cut Ascii pictures more begun rest all e = ascii_files-flat_map pictures more begun rest
+      (All-weaker IsDrawable (λ p. 0 < p.width) (λ p h. h.some) pictures all) e
 
   all_read : (symbols : List Symbol) → AllByRecursion IsReadable symbols
       → AreRead run.format run.scale (map (text_of run.format) (map (picture_of run) symbols)) symbols
@@ -276,17 +295,23 @@ module _ (run : RunValues) (label : LabelValues) (range : AreInRange run label) 
       ((w.0, later.0), ap (λ (bytes : List ℕ). text_of run.format (picture_of run symbol) ++ bytes) later.1)
   symbols_readable (flushes ∷ events) w = symbols_readable events w.1
 
-  -- the images of a script, cut, are read as the full data of its symbols
-  images_of_events_read : (events : List Event) → AllByRecursion EventIsReadable events
-      → AreRead run.format run.scale (cut run.format (sent run Images events)) (drawn_symbols events)
-  images_of_events_read events w =
+  -- the images of a script, cut, are read as the full data of its symbols, whatever is begun after them
+  images_of_events_read : (events later : List Event) (begun rest : List ℕ) → AllByRecursion EventIsReadable events
+      → AllByRecursion EventIsReadable later → sent run Images later ≡ begun ++ rest
+      → HoldsImages run.format run.scale (drawn_symbols events) (sent run Images events ++ begun) begun
+  images_of_events_read events later begun rest w w' e =
       let symbols = drawn_symbols events in
       let found = symbols_readable events w in
+      let more = symbols_readable later w' in
       let drawables = All-map IsDrawable (picture_of run) symbols
       (All-weaker IsReadable (λ symbol. IsDrawable (picture_of run symbol)) drawable symbols
       (All-from_recursion IsReadable symbols found.0)) in
-      rw (found.1, stream_cut run.format (map (picture_of run) symbols) drawables)
-      (all_read symbols found.0)
+      record {
+        images = map (text_of run.format) (map (picture_of run) symbols);
+        parts = rw found.1 (stream_cut run.format (map (picture_of run) symbols)
+            (map (picture_of run) (drawn_symbols later)) begun rest drawables (sym more.1 ∙ e));
+        read = all_read symbols found.0;
+      }
 
 module _ (options : Options) (range : AreInRange options.run options.label) where
   -- the image of data is read as its full data
@@ -294,6 +319,21 @@ module _ (options : Options) (range : AreInRange options.run options.label) wher
       → IfOk (symbol_of options.label symbology bytes)
       (λ symbol. IsRead options.run.format options.run.scale (image_of options.run (drawn symbol)) symbol)
   image_of_data_read symbology bytes fits = outcome_read options.run options.label range _
+      (symbol_readable options.run options.label range symbology bytes (recursion_from_All (λ b. b < 256) bytes
+      (are_bytes bytes fits)))
+
+  modules_of_outcome_read : (found : Result Symbol Fault) → HasReadable (outcome_of found) → IfOk found IsReadInModules
+  modules_of_outcome_read (Ok symbol) h = record {
+    full = h.read;
+    guarded = λ damaged close. rows_read symbol.symbology (raster symbol.modules).rows damaged symbol.full h.read close;
+    alone = rows_alone symbol.symbology (raster symbol.modules).rows symbol.full h.read;
+  }
+  modules_of_outcome_read (Err fault) h = tt
+
+  -- the modules of data are read as its full data
+  pub modules_of_data_read : (symbology : Symbology) (bytes : List ℕ) → ((i : ℕ) → Fits w8 (get_or bytes i 0))
+      → IfOk (symbol_of options.label symbology bytes) IsReadInModules
+  modules_of_data_read symbology bytes fits = modules_of_outcome_read _
       (symbol_readable options.run options.label range symbology bytes (recursion_from_All (λ b. b < 256) bytes
       (are_bytes bytes fits)))
 
@@ -306,6 +346,7 @@ module _ (options : Options) (range : AreInRange options.run options.label) wher
 
   -- what the script of a text sends reads back
   pub script_of_text_read : (text : List ℕ) → All (λ b. b < 256) text → ReadsBack options.run (script options text)
-  script_of_text_read text w front later cut = images_of_events_read options.run options.label range front
-      (first_of_two front later (subst (AllByRecursion EventIsReadable) cut (script_readable 0 (lines text)
-      (AllOf-lines (λ b. b < 256) text (recursion_from_All (λ b. b < 256) text w)))))
+  script_of_text_read text w front later begun rest cut held =
+      let parts = both_parts front later (subst (AllByRecursion EventIsReadable) cut (script_readable 0 (lines text)
+      (AllOf-lines (λ b. b < 256) text (recursion_from_All (λ b. b < 256) text w)))) in
+      images_of_events_read options.run options.label range front later begun rest parts.0 parts.1 held

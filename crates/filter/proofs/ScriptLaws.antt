@@ -82,19 +82,6 @@ module _ (run : RunValues) where
     pub Took-by : (events : List Event) → Took run took events → Took run took' events
     Took-by events h = λ channel. widen channel (sent run channel events) (h channel)
 
-    pub Stops-by : {events : List Event} {fault : RunFault} → Stops run took events fault
-        → Stops run took' events fault
-    Stops-by s = record {
-      failed = s.failed;
-      fault_is = s.fault_is;
-      done = s.done;
-      event = s.event;
-      later = s.later;
-      cut = s.cut;
-      own = (s.own.0, s.own.1, widen s.failed (sent run s.failed s.done ++ s.own.0) s.own.2);
-      others = widen (other s.failed) (sent run (other s.failed) s.done) s.others;
-    }
-
 -- calls one after another, at sinks whose states are O and E
 module _ {O E : Type 0} {out : O → O → List ℕ → Type 0} {err : E → E → List ℕ → Type 0}
     (out_joined : (s t u : O) (xs ys : List ℕ) → out s t xs → out t u ys → out s u (xs ++ ys))

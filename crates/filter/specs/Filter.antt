@@ -1,7 +1,7 @@
 -- The state of a filter, and what a call does to its two sinks (docs/SPECIFICATION.md, The filter as a library).
 -- Why: `FilterState`, `IsAfter`: what a `Filter` keeps and was fed; `Took`, `Stops`, `Sends`: what calls do to sinks.
 use Rattle.std.specs.Prelude.{◌≡◌, ℕ, ◌-◌, ◌^◌, ◌<◌, min, All, Bool, true, false, List, ◌∷◌, ◌++◌, length, Result, Ok}
-use Rattle.std.specs.Prelude.{Err, ◌≢◌, IfOk, MatchResult, OnOk}
+use Rattle.std.specs.Prelude.{Err, ◌≢◌, IfOk, MatchResult, OnOk, ⊤}
 use Rattle.device.specs.Device.{Begins, Rises, Unflushed}
 use Rattle.labelcore.specs.Lines.{ended_lines, open_line}
 use Rattle.device.specs.Writing.{WritesText}
@@ -15,7 +15,7 @@ use Rattle.labelcore.specs.Ranges.{IsInRange}
 use Rattle.filter.specs.Output.{Event, Channel, Images, Messages, bytes_for, ended_script, image_of, sent, status_of}
 use Rattle.filter.specs.Symbol.{Symbol}
 use Rattle.filter.specs.declared.status.RunFault.{RunFault}
-use Rattle.filter.specs.declared.status.RunFault.TheVariants.{WriteOut, WriteMessages}
+use Rattle.filter.specs.declared.status.RunFault.TheVariants.{Read, WriteOut, WriteMessages}
 use Rattle.filter.specs.declared.status.Status.{Status}
 
 -- what a filter keeps between pieces
@@ -90,10 +90,17 @@ CountsFault o o' e e' (Err WriteMessages) = (o' ≡ o) × Rises e e'
 CountsFault o o' e e' (Err fault) = ⊥
 
 -- The flush marks of both: at `Ok` both sinks are flushed; at `Err` none is that was not before, but for the images
--- where the messages failed, since they are flushed first.
+-- where the messages failed, which may be: they are flushed first.
 abbrev pub FlushesImagesFirst : {T : Type 0} → (o o' e e' : Bool) → Result T RunFault → Type 0
 FlushesImagesFirst o o' e e' (Ok x) = (o' ≡ true) × (e' ≡ true)
 FlushesImagesFirst o o' e e' (Err fault) = (fault ≢ WriteMessages → Unflushed o o') × Unflushed e e'
+
+-- Where a read or the messages failed, `nothing` holds: nothing is buffered. Any call may fail, and none follows one
+-- that failed, so nothing is buffered at each read and at each call of the messages' sink.
+abbrev pub PassesOnFirst : {T : Type 0} → (nothing : Type 0) → Result T RunFault → Type 0
+PassesOnFirst nothing (Err Read) = nothing
+PassesOnFirst nothing (Err WriteMessages) = nothing
+PassesOnFirst nothing other = ⊤
 
 -- a call that flushes nothing: the count of the sink that failed rises, and a sink that is flushed now was so before
 pub record FlushesNeither {O E T : Type 0} (out : Ghosts O) (err : Ghosts E) (o o' : O) (e e' : E)
@@ -101,6 +108,7 @@ pub record FlushesNeither {O E T : Type 0} (out : Ghosts O) (err : Ghosts E) (o 
   pub counts : CountsFault (out.failures o) (out.failures o') (err.failures e) (err.failures e') r
   pub out_unflushed : Unflushed (out.is_flushed o) (out.is_flushed o')
   pub err_unflushed : Unflushed (err.is_flushed e) (err.is_flushed e')
+  pub passed_on : PassesOnFirst (out.buffers_nothing o') r
 
 -- the refusal of what is not drawn
 abbrev pub refusal_of : Outcome Symbol → Result (Unit {0}) Fault

@@ -4,7 +4,7 @@ ghost use Rattle.labelcore.specs.Lines.{HasNoLF, LF};
 ghost use Rattle.labelcore.specs.OptionValues.{RunValues};
 ghost use Rattle.labelcore.specs.declared.options.Options.{Options};
 ghost use Rattle.filter.specs.Filter.{CountsFault, FilterState, FlushesImagesFirst, FlushesNeither, IsAfter};
-ghost use Rattle.filter.specs.Filter.{Feeds, Sends, Stops, Took, taken};
+ghost use Rattle.filter.specs.Filter.{Feeds, PassesOnFirst, Sends, Stops, Took, taken};
 ghost use Rattle.filter.specs.Output.{ended_script, flushes, script, status_of};
 
 use crate::line::finish_line;
@@ -139,6 +139,7 @@ impl Filter {
         ensures counts { self.is_spent ≡ false
             → CountsFault (O.failures out.old) (O.failures out.new)
             (E.failures err.old) (E.failures err.new) result }
+        ensures passed_on { PassesOnFirst (O.buffers_nothing out.new) result }
         ensures spent { self.is_spent ≡ true → (result ≡ Err RunFault.Spent)
             × (out.new ≡ out.old) × (err.new ≡ err.old) }
     {
@@ -177,6 +178,7 @@ fn flush_both<O: Sink, E: Sink>(
         (E.is_flushed err.old) (E.is_flushed err.new) result }
     ensures counts { CountsFault (O.failures out.old) (O.failures out.new)
         (E.failures err.old) (E.failures err.new) result }
+    ensures passed_on { PassesOnFirst (O.buffers_nothing out.new) result }
 {
     let Ok(()) = out.flush() else {
         return Err(RunFault::WriteOut);

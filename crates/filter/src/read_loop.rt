@@ -1,5 +1,4 @@
 //! A run over a whole input.
-ghost use Rattle.std.specs.Prelude.{◌≡◌};
 ghost use Rattle.filter.specs.Run.{Runs};
 
 use crate::filter::Filter;
@@ -21,16 +20,15 @@ pub fn run<S: Source, O: Sink, E: Sink>(
     out: &mut O,
     err: &mut E,
 ) -> Result<Status, RunFault>
-    ensures { Runs S.Source O.Sink E.Sink (λ old new. new ≡ old) options source.old source.new
-        out.old out.new err.old err.new result }
+    ensures { Runs S.Source O.Sink E.Sink options source.old source.new out.old out.new err.old err.new result }
 {
     let mut filter = Filter::new(options);
     let mut buffer = [0u8; 4096];
+    // A read may wait for input, so what is buffered is passed on before each.
+    let Ok(()) = out.pass_on() else {
+        return Err(RunFault::WriteOut);
+    };
     for _turn in 0..u64::MAX {
-        // A read may wait for input, so the images of earlier lines are passed on first.
-        let Ok(()) = out.pass_on() else {
-            return Err(RunFault::WriteOut);
-        };
         let Ok(count) = source.read(&mut buffer) else {
             return Err(RunFault::Read);
         };
@@ -38,6 +36,9 @@ pub fn run<S: Source, O: Sink, E: Sink>(
             return filter.finish(out, err);
         }
         filter.feed(&buffer[..count], out, err)?;
+        let Ok(()) = out.pass_on() else {
+            return Err(RunFault::WriteOut);
+        };
     }
     Err(RunFault::Read)
 }

@@ -1,9 +1,9 @@
 //! A run from a reader to a writer, as the program makes it.
-ghost use Rattle.std.specs.Prelude.{◌≡◌, ◌≢◌, true, [], ◌++◌, IfSome, OnOk};
+ghost use Rattle.std.specs.Prelude.{◌≡◌, true, [], ◌++◌, IfSome, OnOk};
 ghost use Rattle.std.specs.Io.KnownBytes.{Appends};
 ghost use Rattle.device.specs.Buffered.{buffered_bytes, sink_of};
 ghost use Rattle.device.specs.Streams.{reader_of, writer_of};
-ghost use Rattle.filter.specs.Run.{IsPassedOn, Produces, Runs};
+ghost use Rattle.filter.specs.Run.{Produces, Runs};
 ghost use Rattle.filter.specs.Filter.{taken};
 
 use crate::read_loop::run;
@@ -19,8 +19,8 @@ use std::io::{Read, Write};
 ///
 /// # Errors
 ///
-/// Those of [`run`]. After a fault of another device what is buffered is passed on to the writer. Of a writer that
-/// failed nothing more is asked.
+/// Those of [`run`]. Where another device failed, nothing is left in the buffer. Of a device that failed nothing more is
+/// asked.
 pub fn run_streams<R: Read, W: Write, E: Sink>(
     options: Options,
     source: &mut StdSource<R>,
@@ -28,7 +28,7 @@ pub fn run_streams<R: Read, W: Write, E: Sink>(
     err: &mut E,
 ) -> Result<Status, RunFault>
     ensures runs { Runs (⟦<StdSource<R> as Source>⟧) (⟦<Buffered<StdSink<W>> as Sink>⟧) E.Sink
-        (IsPassedOn (buffered_bytes out.new)) options source.old source.new out.old out.new err.old err.new result }
+        options source.old source.new out.old out.new err.old err.new result }
     ensures whole { OnOk result (Produces options
         (λ text. IfSome (R.remaining (reader_of source.old)) (λ bytes. text ≡ bytes))
         (taken (λ stream. Appends (W.contents (writer_of (sink_of out.old)))
@@ -42,26 +42,6 @@ pub fn run_streams<R: Read, W: Write, E: Sink>(
             out.reaches();
             Ok(status)
         }
-        Err(fault) => {
-            pass_on_after(fault, out);
-            Err(fault)
-        }
-    }
-}
-
-/// Passes on the images that are buffered after a fault. Where it was their sink that failed, it does nothing.
-fn pass_on_after<S: Sink>(fault: RunFault, out: &mut Buffered<S>)
-    ensures bytes { ⟦<Buffered<S> as Sink>⟧.took out.old out.new [] }
-    ensures flushed { ⟦<Buffered<S> as Sink>⟧.is_flushed out.new ≡ ⟦<Buffered<S> as Sink>⟧.is_flushed out.old }
-    ensures failed { fault ≡ RunFault.WriteOut → out.new ≡ out.old }
-    ensures passes { fault ≢ RunFault.WriteOut → IsPassedOn (buffered_bytes out.new)
-        (⟦<Buffered<S> as Sink>⟧.failures out.old) (⟦<Buffered<S> as Sink>⟧.failures out.new) }
-{
-    match fault {
-        RunFault::WriteOut => {}
-        _ => {
-            // Its result does not matter: the run has failed already.
-            let _ = out.pass_on();
-        }
+        Err(fault) => Err(fault),
     }
 }

@@ -1,13 +1,13 @@
 -- The shift register divides by the generator, and the remainder is the only one.
-use Rattle.std.proofs.Common.{◌≡◌, ℕ, zero, suc, ◌+◌, ◌<◌, ◌≤◌, List, [], ◌∷◌, ◌++◌, length, refl, sym, ap, ◌∙◌, arith}
+use Rattle.std.proofs.Common.{◌≡◌, ℕ, suc, ◌+◌, ◌<◌, ◌≤◌, List, [], ◌∷◌, ◌++◌, length, refl, sym, ap, ◌∙◌, arith}
 use Rattle.std.specs.Prelude.{bit_xor, All}
 use Rattle.std.specs.Int.Bits.{xor_zero_r}
 use Rattle.std.proofs.lemmas.List.{length-append, append-nil, append_assoc}
 use Rattle.std.proofs.lemmas.List.Elements.{All-head, All-tail, All-cons, All-nil, All-append, All-replicate}
 use Rattle.std.proofs.lemmas.Nat.{xor_of_8}
 use Rattle.gf256.specs.Field.{field_product, IsElement}
-use Rattle.gf256.specs.ErrorCorrection.{next_register, register_after}
-use Rattle.gf256.specs.Private.{zeros}
+use Rattle.gf256.specs.ErrorCorrection.{remainder_of}
+use Rattle.gf256.specs.Private.{next_register, register_after, zeros}
 use Rattle.gf256.specs.Polynomial.{polynomial_sum, scalar_multiple, polynomial_product}
 use Rattle.gf256.proofs.FieldLaws.{field_product-lt, field_product-one_right}
 use Rattle.gf256.proofs.PolynomialSumLaws.{length-append_zeros, length-polynomial_sum, length-scalar_multiple}
@@ -122,12 +122,6 @@ unfolding polynomial_product
 length-polynomial_product [] q b = length-zeros (length q) ∙ omega arith
 length-polynomial_product (c ∷ p) q b =
     omega (arith, length-polynomial_sum, length-append_zeros, length-scalar_multiple, length-polynomial_product p q b)
-
--- what a long division of n steps leaves: each takes the highest coefficient away, times the divisor
-pub remainder_of : (low : List ℕ) (n : ℕ) → List ℕ → List ℕ
-remainder_of low zero p = p
-remainder_of low (suc n) [] = []
-remainder_of low (suc n) (c ∷ p) = remainder_of low n (polynomial_sum (scalar_multiple c low ++ zeros n) p)
 
 -- a multiple of the divisor plus a remainder leaves this remainder, so that there is no other
 pub remainder_of-sum : (low quotient p : List ℕ) → length p ≡ length low → All IsElement quotient

@@ -34,7 +34,7 @@ xor_twice : (a b : ℕ) → bit_xor (bit_xor a b) b ≡ a
 xor_twice a b = rw (xor_assoc a b b, xor_self b) (xor_zero_r a)
 
 -- two numbers whose sum is 0 are equal
-same_from_xor : (a b : ℕ) → bit_xor a b ≡ 0 → a ≡ b
+pub same_from_xor : (a b : ℕ) → bit_xor a b ≡ 0 → a ≡ b
 same_from_xor a b h = sym (xor_twice a b) ∙ ap (λ x. bit_xor x b) h
 
 -- the terms of b from x^k on do not count

@@ -11,9 +11,9 @@ use Rattle.std.proofs.Math.Seq.{take-append-add}
 use Rattle.std.specs.Simd.Lanes.{pick_l, zip2}
 use Rattle.gf256.specs.BinaryPolynomial.{binary_product, binary_remainder}
 use Rattle.gf256.specs.Field.{field_product, IsElement}
-use Rattle.gf256.specs.ErrorCorrection.{IsEcCodewordCount, ec_codewords_of, generator, next_register, register_after}
+use Rattle.gf256.specs.ErrorCorrection.{IsEcCodewordCount, generator}
 use Rattle.gf256.specs.Polynomial.{polynomial_sum, scalar_multiple}
-use Rattle.gf256.specs.Private.{padded_generator, zeros}
+use Rattle.gf256.specs.Private.{next_register, padded_generator, register_after, zeros}
 use Rattle.gf256.proofs.AllBelowLaws.{all_below, all_below-at}
 use Rattle.gf256.proofs.DistributivityLaws.{field_product-xor_left, field_product-zero_left, field_product-zero_right}
 use Rattle.gf256.proofs.FieldLaws.{field_product-assoc, field_product-two_small}
@@ -118,9 +118,9 @@ register_after-zeros low register (codeword ∷ codewords) n some long =
 
 -- the k codewords are in front of the 32 places of a register
 pub ec_codewords-padded : (k : ℕ) (codewords : List ℕ) → IsEcCodewordCount k
-    → length (ec_codewords_of k codewords) ≡ k
-    → take k (register_after (padded_generator k) (zeros 32) codewords) ≡ ec_codewords_of k codewords
-unfolding padded_generator ec_codewords_of low_of
+    → length (register_after (low_of k) (zeros k) codewords) ≡ k
+    → take k (register_after (padded_generator k) (zeros 32) codewords) ≡ register_after (low_of k) (zeros k) codewords
+unfolding padded_generator low_of
 ec_codewords-padded k codewords few long =
     let low = drop 1 (generator k) in
     let all : k + (32 - k) ≡ 32 = omega (arith, few.1) in

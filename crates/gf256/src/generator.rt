@@ -1,9 +1,8 @@
 //! Generator polynomials and the error correction codewords of a block (ISO/IEC 18004, 7.5.2 and annex A).
 ghost use Rattle.gf256.specs.Field.{alpha, field_power};
 ghost use Rattle.gf256.specs.ErrorCorrection.{AreEcCodewords, IsEcCodewordCount, generator};
-ghost use Rattle.gf256.specs.ErrorCorrection.{next_register};
 ghost use Rattle.gf256.specs.Polynomial.{polynomial_sum, scalar_multiple};
-ghost use Rattle.gf256.specs.Private.{AreMultiples, padded_generator};
+ghost use Rattle.gf256.specs.Private.{AreMultiples, next_register, padded_generator};
 ghost use Rattle.std.specs.Prelude.{◌≡◌, ℕ, [], ◌∷◌, ◌++◌, drop, length, map};
 
 use crate::field::{power_of, twice};

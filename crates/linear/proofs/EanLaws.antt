@@ -1,39 +1,29 @@
 -- What is drawn as EAN or UPC is read back (ISO/IEC 15420, symbol formats).
-use Rattle.std.proofs.Common.{◌≡◌, ℕ, suc, ◌+◌, ◌-◌, ◌*◌, ◌<◌, Bool, true, false, Ok, Result, Some, Option}
-use Rattle.std.proofs.Common.{List, [], ◌∷◌, ◌++◌, length, take, drop, refl, sym, ap, subst, ◌∙◌, arith}
-use Rattle.std.proofs.Common.{eqb, eq-eqb, map, ◌%◌, ◌≤◌, lit≤}
+use Rattle.std.proofs.Common.{◌≡◌, ℕ, suc, ◌+◌, ◌-◌, ◌*◌, ◌<◌, Bool, true, false, Some, Option, List, [], ◌∷◌, ◌++◌}
+use Rattle.std.proofs.Common.{length, take, drop, refl, sym, ap, subst, ◌∙◌, arith, eqb, eq-eqb, map, ◌%◌, ◌≤◌, lit≤}
 use Rattle.std.proofs.Common.{length-append}
-use Rattle.std.specs.Prelude.{option_and_then, flat_map, replicate, slice_index, IfOk, codes, zip}
+use Rattle.std.specs.Prelude.{option_and_then, replicate, slice_index, IfOk, codes, zip}
 use Rattle.std.specs.Bool.{then_some}
 use Rattle.std.specs.Result.{result_ok}
 use Rattle.std.specs.Str.{bytes_eq}
 use Rattle.std.specs.Char.{IsAsciiDigit}
 use Rattle.std.specs.List.{AllByRecursion}
 use Rattle.std.proofs.lemmas.Bool.Decides.{nat_tests}
-use Rattle.std.proofs.lemmas.List.{take_more, take_all, length-take-le, length-drop, take-append-drop}
-use Rattle.std.proofs.lemmas.List.{length-map}
+use Rattle.std.proofs.lemmas.List.{take_more, take_all, length-take-le, length-drop, take-append-drop, length-map}
 use Rattle.std.proofs.lemmas.Slice.Zip.{firsts-zip, seconds-zip}
 use Rattle.std.proofs.lemmas.List.Elements.{All-cons, All-take, All-drop, recursion_from_All}
-use Rattle.linear.specs.declared.refusal.Refusal.{Refusal}
 use Rattle.linear.specs.declared.ean.NumberSet.{NumberSet}
 use Rattle.linear.specs.declared.ean.NumberSet.TheVariants.{A, C}
-use Rattle.linear.specs.Drawing.{IsDrawn}
 use Rattle.linear.specs.Digits.{digit_value, weighted_sum, with_check_digit, full_digits, check_digit}
 use Rattle.linear.specs.Ean.{pattern, patterns, normal_guard, centre_guard, symbol, left_sets, ean8_row, ean13_row}
 use Rattle.linear.specs.Ean.{upca_row}
-use Rattle.linear.specs.EanReading.{digit_in, has_guards, read_halves, digit_in_a_or_b, with_first_digit}
-use Rattle.linear.specs.EanReading.{read_ean8, read_ean13, read_upca}
-use Rattle.linear.proofs.PatternLaws.{length-pattern, digit_in-pattern, digit_in_a_or_b-pattern}
-use Rattle.linear.proofs.PatternLaws.{length-left_sets, letter_of, position-left_sets}
-use Rattle.linear.proofs.PatternLaws.{IsAOrB, left_sets_a_or_b}
+use Rattle.linear.specs.EanReading.{digit_in, has_guards, read_halves, digit_in_a_or_b, with_first_digit, read_ean8}
+use Rattle.linear.specs.EanReading.{read_ean13, read_upca}
+use Rattle.linear.proofs.PatternLaws.{right_half, length-pattern, digit_in-pattern, digit_in_a_or_b-pattern}
+use Rattle.linear.proofs.PatternLaws.{length-left_sets, letter_of, position-left_sets, IsAOrB, left_sets_a_or_b}
 use Rattle.linear.specs.Private.Data.{AreDigits, IsFull}
-use Rattle.linear.specs.Private.Lists.{Appends}
 use Rattle.linear.proofs.DigitLaws.{of_full_digits}
 use Rattle.linear.proofs.GroupLaws.{drop-append, drop-append_more, AreGroups, no_groups, group_more}
-
--- digits in number set C
-abbrev right_half : List ℕ → List Bool
-right_half bytes = flat_map (λ byte. pattern C (digit_value byte)) bytes
 
 digit_again : (byte : ℕ) → IsAsciiDigit byte → 48 + digit_value byte ≡ byte
 digit_again byte h = omega arith
@@ -50,7 +40,7 @@ digit_in-digit : (set : NumberSet) (byte : ℕ) → IsAsciiDigit byte
 digit_in-digit set byte d =
     digit_in-pattern set (digit_value byte) (omega arith) ∙ ap Some (digit_again byte d)
 
-right_groups : (bytes : List ℕ) → AllByRecursion IsAsciiDigit bytes
+pub right_groups : (bytes : List ℕ) → AllByRecursion IsAsciiDigit bytes
     → AreGroups (digit_in C) 7 (length bytes) (right_half bytes) bytes
 right_groups [] d = no_groups (digit_in C) 7
 right_groups (byte ∷ bytes) d =
@@ -110,7 +100,7 @@ module _ {Y : Type 0} (found : List Bool → Option Y) (n : ℕ) (sets : List Nu
           on_right.read normal_guard,
         ) refl
 
-    length-symbol : length (symbol sets left right) ≡ 11 + 14 * n
+    pub length-symbol : length (symbol sets left right) ≡ 11 + 14 * n
     length-symbol =
         let after = centre_guard ++ (right_half right ++ normal_guard) in
         omega (
@@ -122,25 +112,32 @@ module _ {Y : Type 0} (found : List Bool → Option Y) (n : ℕ) (sets : List Nu
         )
 
 -- digits that are cut in two
-front_digits : (n k : ℕ) (bytes : List ℕ) → AreDigits (n + k) bytes → AreDigits n (take n bytes)
+pub front_digits : (n k : ℕ) (bytes : List ℕ) → AreDigits (n + k) bytes → AreDigits n (take n bytes)
 front_digits n k bytes d = record {
   long = (let e = d.long in length-take-le n bytes (omega arith));
   digits = All-take IsAsciiDigit n bytes d.digits;
 }
 
-back_digits : (n k : ℕ) (bytes : List ℕ) → AreDigits (n + k) bytes → AreDigits k (drop n bytes)
+pub back_digits : (n k : ℕ) (bytes : List ℕ) → AreDigits (n + k) bytes → AreDigits k (drop n bytes)
 back_digits n k bytes d = record {
   long = (let e = d.long in length-drop n bytes ∙ omega arith);
   digits = All-drop IsAsciiDigit n bytes d.digits;
 }
 
-by_recursion : (n : ℕ) (bytes : List ℕ) → AreDigits n bytes → AllByRecursion IsAsciiDigit bytes
+pub by_recursion : (n : ℕ) (bytes : List ℕ) → AreDigits n bytes → AllByRecursion IsAsciiDigit bytes
 by_recursion n bytes d = recursion_from_All IsAsciiDigit bytes d.digits
 
-right_groups_of : (n : ℕ) (bytes : List ℕ) → AreDigits n bytes → AreGroups (digit_in C) 7 n (right_half bytes) bytes
+pub right_groups_of : (n : ℕ) (bytes : List ℕ) → AreDigits n bytes → AreGroups (digit_in C) 7 n (right_half bytes) bytes
 right_groups_of n bytes d =
     subst (λ k. AreGroups (digit_in C) 7 k (right_half bytes) bytes) d.long
     (right_groups bytes (by_recursion n bytes d))
+
+pub left_groups_of : (n : ℕ) (sets : List NumberSet) (bytes : List ℕ) → length sets ≡ n → AllByRecursion IsAOrB sets
+    → AreDigits n bytes
+    → AreGroups digit_in_a_or_b 7 n (patterns sets bytes) (zip (map letter_of sets) bytes)
+left_groups_of n sets bytes count s d =
+    subst (λ k. AreGroups digit_in_a_or_b 7 k (patterns sets bytes) (zip (map letter_of sets) bytes)) d.long
+    (groups_in_a_or_b sets bytes (count ∙ sym d.long) s (by_recursion n bytes d))
 
 -- full data has the right check digit
 with_check_digit-full : (count : ℕ) (full : List ℕ) → IsFull count full
@@ -203,9 +200,8 @@ ean13_reads (first ∷ rest) f =
     let d : IsAsciiDigit first = f.digits.digits 0 0 (omega arith) in
     let below : digit_value first < 10 = omega arith in
     let found = zip (map letter_of sets) left in
-    let on_left = subst (λ k. AreGroups digit_in_a_or_b 7 k (patterns sets left) found) front.long
-    (groups_in_a_or_b sets left (length-left_sets (digit_value first) below ∙ sym front.long)
-    (left_sets_a_or_b (digit_value first)) (by_recursion 6 left front)) in
+    let on_left = left_groups_of 6 sets left (length-left_sets (digit_value first) below)
+    (left_sets_a_or_b (digit_value first)) front in
     let on_right = right_groups_of 6 right (back_digits 6 6 rest after) in
     record {
       read = rw (
@@ -244,19 +240,3 @@ ean13_read_back bytes = of_full_digits 12 bytes _ (λ full f. (ean13_reads full 
 
 pub upca_read_back : (bytes : List ℕ) → IfOk (full_digits 11 bytes) (λ full. read_upca (upca_row full) ≡ Some full)
 upca_read_back bytes = of_full_digits 11 bytes _ (λ full f. (upca_reads full f).read)
-
--- a row that was empty, and to which that of the full data is appended
--- each `encode`, of four symbologies, has its own answer, row and reading, and a fact by each of its calls
-pub IsDrawn-from_Ok : {R : Type 0} (answer : Result (List ℕ) Refusal) (row_of : List ℕ → List Bool)
-    (reading : List Bool → Option (List ℕ)) (full : List ℕ) {old row : List Bool} {n : ℕ} → answer ≡ Ok full → old ≡ []
-    → Appends old row (row_of full) n → ReadsBack reading (row_of full) full → R
-    → IfOk answer (λ xs. R × IsDrawn row_of reading xs row)
-IsDrawn-from_Ok answer row_of reading full e empty drawn back done =
-    rw e (
-      done,
-      record {
-        drawn = drawn.items ∙ ap (λ xs. xs ++ row_of full) empty;
-        fits = omega (arith, back.short);
-        read = back.read;
-      },
-    )

@@ -2,10 +2,15 @@ pub mod CharacterLaws
 pub mod CharacterRowLaws
 pub mod Code128Laws
 pub mod CodeSetLaws
+pub mod CheckDigitLaws
+pub mod CheckValueLaws
 pub mod DigitLaws
+pub mod DamageLaws
 pub mod EanLaws
 pub mod Examples
+pub mod DamageExamples
 pub mod GroupLaws
+pub mod ReadRowLaws
 pub mod PatternLaws
 pub mod RowLengthLaws
 pub mod PatternTableLaws
@@ -14,3 +19,6 @@ pub mod TableLaws
 pub mod ValueRangeLaws
 pub mod ValueReadingLaws
 pub mod Theorems
+pub mod GapLaws
+pub mod OneReadingLaws
+pub mod EncodingLaws

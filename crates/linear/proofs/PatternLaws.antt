@@ -2,7 +2,7 @@
 -- table once, and then holds at each place.
 use Rattle.std.proofs.Common.{◌≡◌, ℕ, ◌+◌, ◌<◌, ◌==◌, Bool, true, false, Some, None, Option, List, [], ◌∷◌, length, eqb}
 use Rattle.std.proofs.Common.{refl, arith, ap, ◌∙◌, subst, inl, inr, zero-add, if◌then◌else◌}
-use Rattle.std.specs.Prelude.{is_none, map, position, slice_index_or, ◌⊎◌}
+use Rattle.std.specs.Prelude.{flat_map, is_none, map, position, replicate, slice_index_or, ◌⊎◌}
 use Rattle.std.specs.Str.{bytes_eq}
 use Rattle.std.specs.List.{AllByRecursion, list_all, range_with_len}
 use Rattle.std.proofs.lemmas.Bool.{false≢true}
@@ -11,6 +11,7 @@ use Rattle.std.proofs.lemmas.List.FromFn.{get_or-range_with_len, length-range_wi
 use Rattle.std.proofs.lemmas.List.Sums.{AllPass-from_list_all}
 use Rattle.linear.specs.declared.ean.NumberSet.{NumberSet}
 use Rattle.linear.specs.declared.ean.NumberSet.TheVariants.{A, B, C}
+use Rattle.linear.specs.Digits.{digit_value}
 use Rattle.linear.specs.Tables.{number_set_a, left_half_sets}
 use Rattle.linear.specs.Ean.{pattern, left_sets}
 use Rattle.linear.specs.EanReading.{digit_in, digit_in_a_or_b}
@@ -33,6 +34,10 @@ value_from_test (Some n) k h = ap Some ((Decides-eqb n k).0 h)
 pub none_from_test : (found : Option ℕ) → is_none found ≡ true → found ≡ None
 none_from_test None h = refl
 none_from_test (Some n) h = absurd (false≢true h)
+
+-- digits in number set C
+abbrev pub right_half : List ℕ → List Bool
+right_half bytes = flat_map (λ byte. pattern C (digit_value byte)) bytes
 
 -- a digit's pattern has seven modules
 pub length-pattern : (set : NumberSet) (digit : ℕ) → digit < 10 → length (pattern set digit) ≡ 7
@@ -93,3 +98,6 @@ sets_of_letters (letter ∷ letters) = (set_of_letter (letter == 65), sets_of_le
 
 pub left_sets_a_or_b : (digit : ℕ) → AllByRecursion IsAOrB (left_sets digit)
 left_sets_a_or_b digit = sets_of_letters (slice_index_or left_half_sets digit [])
+
+pub four_a : AllByRecursion IsAOrB (replicate 4 A)
+four_a = (inl refl, (inl refl, (inl refl, (inl refl, tt))))

@@ -1,5 +1,5 @@
 -- The tables in the code are the tables of the standards: each is computed once from the definitions.
-use Rattle.std.proofs.Common.{◌≡◌, ℕ, ◌<◌, List, [], ◌∷◌, ◌++◌, Bool, map, get_or, refl, ap, sym, ◌∙◌, arith}
+use Rattle.std.proofs.Common.{◌≡◌, ℕ, ◌<◌, List, [], ◌∷◌, ◌++◌, Bool, length, map, get_or, refl, ap, sym, ◌∙◌, arith}
 use Rattle.std.specs.List.{range_with_len}
 use Rattle.std.proofs.lemmas.List.FromFn.{get_or-map-range_with_len}
 use Rattle.std.proofs.lemmas.List.{get_or_append_left, get_or_default}
@@ -17,6 +17,10 @@ all_characters = CHARACTERS ++ STOP ∷ []
 pub characters-all_characters : characters ≡ all_characters
 unfolding all_characters character_widths
 characters-all_characters = refl
+
+pub count_characters : length all_characters ≡ 107
+unfolding all_characters
+count_characters = refl
 
 pub stop_character : STOP ≡ character_modules 106
 unfolding all_characters

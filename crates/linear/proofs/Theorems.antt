@@ -2,6 +2,8 @@
 -- 15417, symbol characters and code sets). No function rests on it.
 use Rattle.linear.specs.CodingLaws.{CodingLaws}
 use Rattle.linear.proofs.CharacterLaws.{character_modules-differs, length-character_modules, length-stop}
+use Rattle.linear.proofs.CheckValueLaws.{wrong_values_are_seen, neighbours_are_seen}
+use Rattle.linear.proofs.CheckDigitLaws.{wrong_digits_are_seen, exchanges_are_seen}
 use Rattle.linear.proofs.CharacterLaws.{count_by-character_modules}
 use Rattle.linear.proofs.PatternTableLaws.{pattern-differs}
 use Rattle.linear.proofs.SwitchingLaws.{values_are_written_by_steps}
@@ -14,4 +16,8 @@ coding_laws = record {
   bars_are_even = count_by-character_modules;
   stop_has_thirteen_modules = length-stop;
   values_are_written_by_steps = values_are_written_by_steps;
+  wrong_digits_are_seen = wrong_digits_are_seen;
+  exchanges_are_seen = exchanges_are_seen;
+  wrong_values_are_seen = wrong_values_are_seen;
+  neighbours_are_seen = neighbours_are_seen;
 }

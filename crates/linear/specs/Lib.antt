@@ -8,5 +8,6 @@ pub mod Ean
 pub mod EanReading
 pub mod Modules
 pub mod Private
+pub mod Scanning
 pub mod Switching
 pub mod Tables

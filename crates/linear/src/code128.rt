@@ -123,6 +123,8 @@ impl Linear for Code128 {
 
     ghost reading = { read_code128 };
 
+    ghost turned_limit = { 1 };
+
     ghost QUIET_ZONES = { record { left = 10; right = 10 } };
 
     const QUIET_ZONES: QuietZones = QuietZones {

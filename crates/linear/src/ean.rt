@@ -112,6 +112,8 @@ impl Linear for Ean8 {
 
     ghost reading = { read_ean8 };
 
+    ghost turned_limit = { 3 };
+
     ghost QUIET_ZONES = { record { left = 7; right = 7 } };
 
     const QUIET_ZONES: QuietZones = QuietZones { left: 7, right: 7 };
@@ -153,6 +155,8 @@ impl Linear for Ean13 {
 
     ghost reading = { read_ean13 };
 
+    ghost turned_limit = { 1 };
+
     ghost QUIET_ZONES = { record { left = 11; right = 7 } };
 
     const QUIET_ZONES: QuietZones = QuietZones { left: 11, right: 7 };
@@ -181,6 +185,8 @@ impl Linear for UpcA {
     ghost row_of = { upca_row };
 
     ghost reading = { read_upca };
+
+    ghost turned_limit = { 3 };
 
     ghost QUIET_ZONES = { record { left = 9; right = 9 } };
 

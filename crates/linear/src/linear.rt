@@ -26,6 +26,9 @@ pub trait Linear {
     /// The full data that a row is read as, if it is a symbol.
     ghost reading: { List Bool → Option (List ℕ) };
 
+    /// How many modules of a row may be turned, dark for light or light for dark, so that it is never read.
+    ghost turned_limit: { ℕ };
+
     ghost QUIET_ZONES: { Zones };
 
     /// The quiet zones that a reader needs before and after the row.
@@ -39,7 +42,7 @@ pub trait Linear {
     fn encode(data: &[u8], row: &mut Row) -> Result<(), Refusal>
         requires { «data».now ≢ [] }
         ensures drawn { IfOk (full_data «data».now)
-            (λ full. IsOk result × IsDrawn row_of reading full row.new.items) }
+            (λ full. IsOk result × IsDrawn row_of reading turned_limit full row.new.items) }
         ensures refused { IfErr (full_data «data».now)
             (λ refusal. (result ≡ Err refusal) × (row.new.items ≡ [])) };
 }

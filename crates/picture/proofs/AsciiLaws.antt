@@ -104,16 +104,15 @@ rows_not_blank p (y ∷ ys) some = rw (
   rows_not_blank p ys some,
 ) refl
 
--- a stream of text pictures, each of some column, is cut into them
+-- a stream of text pictures, each of some column, and what follows it is cut into them and what that is cut into
 pub ascii_files-flat_map : FilesAreTexts ascii_text ascii_files (λ p. 0 < p.width)
-ascii_files-flat_map = files-flat_map ascii_text ascii_lines (λ line next. is_blank line) (λ p. 0 < p.width)
-    ascii_text-lines (λ p some. no_line_feeds p (below p.height)) first where
-      first : (p : Picture) (ps : List Picture) → 0 < p.width
-          → cut_after is_blank (ended (ascii_lines p) ++ ended (flat_map ascii_lines ps))
-          ≡ ended (ascii_lines p) ∷ cut_after is_blank (ended (flat_map ascii_lines ps))
-      first p ps some =
+ascii_files-flat_map ps more begun rest all e = files-flat_map ascii_text ascii_lines (λ line next. is_blank line)
+    (λ p. 0 < p.width) (λ ls. Unit {0}) ascii_text-lines (λ p some. no_line_feeds p (below p.height)) (λ p ls. tt)
+    first ps begun all tt where
+      first : (p : Picture) (ls : List (List ℕ)) → 0 < p.width → Unit {0}
+          → cut_after is_blank (ended (ascii_lines p) ++ ls) ≡ ended (ascii_lines p) ∷ cut_after is_blank ls
+      first p ls some h =
           let rows = ended (map (letters p) (below p.height)) in
-          let more = ended (flat_map ascii_lines ps) in
           rw (map-append (λ line. line ++ 10 ∷ []) (map (letters p) (below p.height)) ([] ∷ []))
-          (ap (cut_after is_blank) (append_assoc rows ((10 ∷ []) ∷ []) more)
-          ∙ cut_after-part is_blank rows (10 ∷ []) more (rows_not_blank p (below p.height) some) refl)
+          (ap (cut_after is_blank) (append_assoc rows ((10 ∷ []) ∷ []) ls)
+          ∙ cut_after-part is_blank rows (10 ∷ []) ls (rows_not_blank p (below p.height) some) refl)

@@ -1,8 +1,9 @@
 -- Streams of files, cut again.
 use Rattle.std.proofs.Common.{◌≡◌, ℕ, Bool, true, false, not, ◌==◌, List, [], ◌∷◌, ◌++◌, map, refl, ap, sym, ◌∙◌}
-use Rattle.std.proofs.Common.{flat_map, append_assoc, if◌then◌else◌, codes, take}
+use Rattle.std.proofs.Common.{flat_map, append_assoc, if◌then◌else◌, codes, take, get_or, subst}
+use Rattle.std.specs.Prelude.{All}
 use Rattle.std.specs.List.{list_all, onto_first, concat, AllByRecursion}
-use Rattle.std.proofs.lemmas.List.{map-append}
+use Rattle.std.proofs.lemmas.List.{append-nil, map-append}
 use Rattle.std.proofs.lemmas.List.Folds.{list_all-append}
 use Rattle.std.proofs.lemmas.Grind.{flat_map-append}
 use Rattle.std.proofs.lemmas.Bool.{and_parts, not-true}
@@ -10,7 +11,7 @@ use Rattle.std.proofs.lemmas.List.Elements.{recursion_from_All}
 use Rattle.picture.specs.Picture.{Picture}
 use Rattle.picture.specs.ReadingLaws.{IsDrawable, FilesAreTexts}
 use Rattle.picture.specs.Text.{pbm_text}
-use Rattle.picture.specs.Reading.{cut_between, files, pbm_files}
+use Rattle.picture.specs.Reading.{cut_between, files, pbm_files, whole_lines}
 use Rattle.picture.proofs.LineLaws.{has_no_line_feed, with_ends}
 use Rattle.picture.proofs.PbmLineLaws.{is_magic, pbm_lines, pbm_text-lines, no_line_feeds, no_more_magic}
 
@@ -63,22 +64,33 @@ concat-ended : (ls : List (List ℕ)) → concat (ended ls) ≡ with_ends ls
 concat-ended [] = refl
 concat-ended (line ∷ ls) = ap (λ (rest : List ℕ). (line ++ 10 ∷ []) ++ rest) (concat-ended ls)
 
+-- the first line, and then the other lines and what follows them
+feed_first : (line more begun : List ℕ) → ((line ++ 10 ∷ []) ++ more) ++ begun ≡ line ++ 10 ∷ (more ++ begun)
+feed_first line more begun = simp append_assoc
+
+-- the lines of a text and those of what follows it
+cut_after-lines_and : (ls : List (List ℕ)) (begun : List ℕ) → list_all has_no_line_feed ls ≡ true
+    → cut_after (λ b. b == 10) (with_ends ls ++ begun) ≡ ended ls ++ cut_after (λ b. b == 10) begun
+cut_after-lines_and [] begun none = refl
+cut_after-lines_and (line ∷ ls) begun none =
+    let parts = and_parts (has_no_line_feed line) (list_all has_no_line_feed ls) none in
+    ap (cut_after (λ b. b == 10)) (feed_first line (with_ends ls) begun)
+    ∙ cut_after-part (λ b. b == 10) line 10 (with_ends ls ++ begun) parts.0 refl
+    ∙ ap (λ (rest : List (List ℕ)). (line ++ 10 ∷ []) ∷ rest) (cut_after-lines_and ls begun parts.1)
+
 pub cut_after-with_ends : (ls : List (List ℕ)) → list_all has_no_line_feed ls ≡ true
     → cut_after (λ b. b == 10) (with_ends ls) ≡ ended ls
-cut_after-with_ends [] none = refl
-cut_after-with_ends (line ∷ ls) none =
-    let parts = and_parts (has_no_line_feed line) (list_all has_no_line_feed ls) none in
-    ap (cut_after (λ b. b == 10)) (append_assoc line (10 ∷ []) (with_ends ls))
-    ∙ cut_after-part (λ b. b == 10) line 10 (with_ends ls) parts.0 refl
-    ∙ ap (λ (rest : List (List ℕ)). (line ++ 10 ∷ []) ∷ rest) (cut_after-with_ends ls parts.1)
+cut_after-with_ends ls none = ap (cut_after (λ b. b == 10)) (sym (append-nil (with_ends ls)))
+    ∙ (cut_after-lines_and ls [] none ∙ append-nil (ended ls))
 
--- a stream of texts of whole lines is cut into these texts, where the lines of the first are a part of all lines
+-- A stream of texts of whole lines, and what follows it, is cut into these texts and what follows is cut into. `Next` is
+-- what has to hold of the lines after a text.
 module _ (text : Picture → List ℕ) (text_lines : Picture → List (List ℕ)) (is_cut : List ℕ → List ℕ → Bool)
-    (IsSuch : Picture → Type 0) (whole : (p : Picture) → text p ≡ with_ends (text_lines p))
+    (IsSuch : Picture → Type 0) (Next : List (List ℕ) → Type 0) (whole : (p : Picture) → text p ≡ with_ends (text_lines p))
     (no_line_feeds : (p : Picture) → IsSuch p → list_all has_no_line_feed (text_lines p) ≡ true)
-    (first : (p : Picture) (ps : List Picture) → IsSuch p
-    → cut_between is_cut (ended (text_lines p) ++ ended (flat_map text_lines ps))
-    ≡ ended (text_lines p) ∷ cut_between is_cut (ended (flat_map text_lines ps))) where
+    (next : (p : Picture) (more : List (List ℕ)) → Next (ended (text_lines p) ++ more))
+    (first : (p : Picture) (more : List (List ℕ)) → IsSuch p → Next more
+    → cut_between is_cut (ended (text_lines p) ++ more) ≡ ended (text_lines p) ∷ cut_between is_cut more) where
   stream_lines : (ps : List Picture) → flat_map text ps ≡ with_ends (flat_map text_lines ps)
   stream_lines [] = refl
   stream_lines (p ∷ ps) = rw (whole p, stream_lines ps)
@@ -90,25 +102,57 @@ module _ (text : Picture → List ℕ) (text_lines : Picture → List (List ℕ)
   no_more_line_feeds (p ∷ ps) all = list_all-append has_no_line_feed (text_lines p) (flat_map text_lines ps)
       ∙ rw (no_line_feeds p all.0, no_more_line_feeds ps all.1) refl
 
-  cut_again : (ps : List Picture) → AllByRecursion IsSuch ps
-      → map concat (cut_between is_cut (ended (flat_map text_lines ps))) ≡ map text ps
-  cut_again [] all = refl
-  cut_again (p ∷ ps) all =
-      ap (λ ls. map concat (cut_between is_cut ls))
+  -- the lines of a text, and then those of more texts and what follows them
+  first_text : (p : Picture) (ps : List Picture) (more : List (List ℕ)) → ended (flat_map text_lines (p ∷ ps)) ++ more
+      ≡ ended (text_lines p) ++ (ended (flat_map text_lines ps) ++ more)
+  first_text p ps more =
+      ap (λ (ls : List (List ℕ)). ls ++ more)
       (map-append (λ line. line ++ 10 ∷ []) (text_lines p) (flat_map text_lines ps))
-      ∙ rw (first p ps all.0, concat-ended (text_lines p), whole p, cut_again ps all.1) refl
+      ∙ append_assoc (ended (text_lines p)) (ended (flat_map text_lines ps)) more
 
-  pub files-flat_map : FilesAreTexts text (files is_cut) IsSuch
-  files-flat_map ps all =
+  next_lines : (ps : List Picture) (more : List (List ℕ)) → Next more → Next (ended (flat_map text_lines ps) ++ more)
+  next_lines [] more h = h
+  next_lines (p ∷ ps) more h = subst Next (sym (first_text p ps more)) (next p (ended (flat_map text_lines ps) ++ more))
+
+  cut_again : (ps : List Picture) (more : List (List ℕ)) → AllByRecursion IsSuch ps → Next more
+      → map concat (cut_between is_cut (ended (flat_map text_lines ps) ++ more))
+      ≡ map text ps ++ map concat (cut_between is_cut more)
+  cut_again [] more all h = refl
+  cut_again (p ∷ ps) more all h =
+      ap (λ ls. map concat (cut_between is_cut ls)) (first_text p ps more)
+      ∙ rw (
+        first p (ended (flat_map text_lines ps) ++ more) all.0 (next_lines ps more h),
+        concat-ended (text_lines p),
+        whole p,
+        cut_again ps more all.1 h,
+      ) refl
+
+  pub files-flat_map : (ps : List Picture) (begun : List ℕ) → All IsSuch ps → Next (whole_lines begun)
+      → files is_cut (flat_map text ps ++ begun) ≡ map text ps ++ files is_cut begun
+  files-flat_map ps begun all h =
       let each = recursion_from_All IsSuch ps all in
-      rw (stream_lines ps, cut_after-with_ends (flat_map text_lines ps) (no_more_line_feeds ps each))
-      (cut_again ps each)
+      rw (stream_lines ps, cut_after-lines_and (flat_map text_lines ps) begun (no_more_line_feeds ps each))
+      (cut_again ps (whole_lines begun) each h)
 
-magic_next : (ps : List Picture) → list_all is_magic (take 1 (ended (flat_map pbm_lines ps))) ≡ true
-magic_next [] = refl
-magic_next (p ∷ ps) = refl
+-- a beginning of files begins with `P`, or it is empty
+magic_first : (parts : List (List ℕ)) → list_all is_magic (take 1 (onto_first 80 parts)) ≡ true
+magic_first [] = refl
+magic_first (part ∷ parts) = refl
+
+magic_line : (begun : List ℕ) → list_all is_magic (take 1 (whole_lines (80 ∷ begun))) ≡ true
+magic_line [] = refl
+magic_line (b ∷ begun) = magic_first (whole_lines (b ∷ begun))
+
+magic_begun : (more : List Picture) (begun rest : List ℕ) → flat_map pbm_text more ≡ begun ++ rest
+    → list_all is_magic (take 1 (whole_lines begun)) ≡ true
+magic_begun more [] rest e = refl
+magic_begun [] (b ∷ begun) rest e = cc
+magic_begun (p ∷ ps) (b ∷ begun) rest e =
+    let first : 80 ≡ b = ap (λ (xs : List ℕ). get_or xs 0 0) e in
+    subst (λ (c : ℕ). list_all is_magic (take 1 (whole_lines (c ∷ begun))) ≡ true) first (magic_line begun)
 
 pub pbm_files-flat_map : FilesAreTexts pbm_text pbm_files IsDrawable
-pbm_files-flat_map = files-flat_map pbm_text pbm_lines (λ line next. is_magic next) IsDrawable pbm_text-lines
-    no_line_feeds (λ p ps such. cut_before-part is_magic (codes "P1\n") _ (ended (flat_map pbm_lines ps))
-    (no_more_magic p such) (magic_next ps))
+pbm_files-flat_map ps more begun rest all e = files-flat_map pbm_text pbm_lines (λ line next. is_magic next) IsDrawable
+    (λ ls. list_all is_magic (take 1 ls) ≡ true) pbm_text-lines no_line_feeds (λ p ls. refl)
+    (λ p ls such h. cut_before-part is_magic (codes "P1\n") _ ls (no_more_magic p such) h)
+    ps begun all (magic_begun more begun rest e)

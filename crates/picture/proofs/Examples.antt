@@ -51,9 +51,12 @@ pbm_cut = refl
 ascii_cut : ascii_files (ascii_text large ++ ascii_text ean8_picture) ≡ ascii_text large ∷ ascii_text ean8_picture ∷ []
 ascii_cut = refl
 
--- a last line `P1` without its line feed is cut too
+-- a beginning of the next file is cut too, be it one byte
 pbm_cut_at_end : pbm_files (codes "P1\n1 1\n0\nP1") ≡ codes "P1\n1 1\n0\n" ∷ codes "P1" ∷ []
 pbm_cut_at_end = refl
+
+pbm_cut_after_a_byte : pbm_files (codes "P1\n1 1\n0\nP") ≡ codes "P1\n1 1\n0\n" ∷ codes "P" ∷ []
+pbm_cut_after_a_byte = refl
 
 large_sampled : sample (raster large) 3 zone ≡ Some
     ((true ∷ false ∷ true ∷ true ∷ []) ∷ (true ∷ false ∷ true ∷ true ∷ []) ∷ [])

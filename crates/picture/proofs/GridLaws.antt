@@ -1,15 +1,18 @@
 -- Rows of pixels, by their columns.
-use Rattle.std.proofs.Common.{◌≡◌, ℕ, ◌+◌, ◌-◌, ◌*◌, ◌/◌, ◌%◌, ◌<◌, ◌≤◌, Bool, false, List, ◌++◌, map, length, drop}
-use Rattle.std.proofs.Common.{length-append, length-drop, zero-add, refl, ap, sym, ◌∙◌, arith, inl, inr, rules, ◌⊎◌}
+use Rattle.std.proofs.Common.{◌≡◌, ℕ, ◌+◌, ◌-◌, ◌*◌, ◌/◌, ◌%◌, ◌^◌, ◌<◌, ◌≤◌, Bool, false, List, ◌++◌, map, length, drop}
+use Rattle.std.proofs.Common.{◌&&◌, length-append, length-drop, zero-add, refl, ap, sym, ◌∙◌, arith, inl, inr, rules, ◌⊎◌}
 use Rattle.std.proofs.Math.ListN.{get_or, replicate}
 use Rattle.std.proofs.lemmas.Bool.{cases_lt}
 use Rattle.std.proofs.lemmas.Bool.Decides.{nat_tests}
 use Rattle.std.specs.List.{range_with_len}
+use Rattle.std.specs.Prelude.{nat_lt}
 use Rattle.std.proofs.lemmas.List.{get_or_append_left, get_or_default, get_or-replicate, length-replicate, places}
 use Rattle.std.proofs.lemmas.List.{same_lists}
 use borrow.Rule.Slice.PartMut.{put_mid}
 use Rattle.std.proofs.lemmas.Nat.{div_below, div-add-mod', le-div, mul-le}
 use Rattle.std.proofs.lemmas.List.FromFn.{length-map-range_with_len, get_or-map-range_with_len}
+use Rattle.qrmatrix.specs.Bits.{bit}
+use Rattle.qrmatrix.proofs.RowBitsLaws.{above_bit, up_bit}
 use Rattle.picture.specs.Picture.{AreEqualRows, Picture, with_quiet_zone, enlargement}
 use Rattle.picture.specs.declared.quiet_zone.QuietZone.{QuietZone}
 use Rattle.picture.specs.Text.{below, pixel_row}
@@ -22,6 +25,12 @@ pixel_row-equal p y count row same low high =
     let place : y + (row - y) ≡ row = omega arith in
     sym (ap (pixel_row p) (sym place) ∙ map-range (λ x. p.dark x (y + (row - y))) (λ x. p.dark x y) 0 p.width
     (λ x low h. same.equal x (row - y) (omega arith) (omega arith)))
+
+-- a row whose bits are known
+pub pixel_row-bits : (p : Picture) (y bits width : ℕ) → width ≡ p.width
+    → ((x : ℕ) → bit bits x ≡ (nat_lt x p.width && p.dark x y)) → map (bit bits) (below width) ≡ pixel_row p y
+pixel_row-bits p y bits width wide same =
+    rw wide (map-range (bit bits) (λ x. p.dark x y) 0 p.width (λ x low high. rw (same x) (grind (arith, nat_tests))))
 
 -- the pixels from column x on, by their places
 pub filled_from : (f : ℕ → Bool) (x : ℕ) (bs : List Bool) (n : ℕ) → length bs ≡ n
@@ -71,6 +80,17 @@ module _ (p : Picture) (zone : QuietZone) where
         let inside = h.inside in
         dark-lower x y k low (omega arith) (λ column narrow. h.equal column k narrow below);
   }
+
+  -- the bits of a row, moved up by the columns of the zone
+  pub row_bits-with_quiet_zone : (y row : ℕ) → zone.left + p.width < 64 → zone.top ≤ y → y < zone.top + p.height
+      → ((x : ℕ) → bit row x ≡ (nat_lt x p.width && p.dark x (y - zone.top)))
+      → (x : ℕ) → bit (row * 2 ^ zone.left % 2 ^ 64) x
+      ≡ (nat_lt x (zone.left + p.width + zone.right) && (with_quiet_zone p zone).dark x y)
+  row_bits-with_quiet_zone y row narrow low high bits x =
+      elim (cases_lt x 64) [
+        | inl l ↦ rw (up_bit row zone.left x l, bits (x - zone.left)) (grind (arith, nat_tests))
+        | inr g ↦ rw (above_bit (row * 2 ^ zone.left % 2 ^ 64) 64 x (omega arith) g) (grind (arith, nat_tests))
+      ]
 
   -- a row of the quiet zone
   pub pixel_row-light : (y : ℕ) → (y < zone.top) ⊎ (zone.top + p.height ≤ y)

@@ -10,6 +10,8 @@ pub mod PbmLaws
 pub mod PbmLineLaws
 pub mod RasterLaws
 pub mod RepeatedLaws
+pub mod OffsetLaws
+pub mod PixelLaws
 pub mod SampleLaws
 pub mod WritingLaws
 pub mod WritingLoopLaws

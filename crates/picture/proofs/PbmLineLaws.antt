@@ -1,6 +1,6 @@
 -- The lines of a plain PBM file.
-use Rattle.std.proofs.Common.{◌≡◌, ℕ, ◌≤◌, Bool, true, false, not, ◌||◌, ◌==◌, List, [], ◌∷◌, ◌++◌, length, map, refl}
-use Rattle.std.proofs.Common.{◌∙◌, ◌*◌, ap, arith, append_assoc, length-append, decimal, flat_map, nat_le, drop, codes}
+use Rattle.std.proofs.Common.{◌≡◌, ℕ, ◌≤◌, Bool, true, false, not, ◌==◌, List, [], ◌∷◌, ◌++◌, length, map, refl}
+use Rattle.std.proofs.Common.{◌∙◌, ◌*◌, ap, arith, append_assoc, length-append, decimal, flat_map, nat_le, drop, take, codes}
 use Rattle.std.specs.Int.{div_ceil}
 use Rattle.std.specs.List.{list_all, slice_split}
 use Rattle.std.specs.Str.{bytes_eq}
@@ -98,9 +98,9 @@ short_lines p drawable =
           (omega (arith, length-map pixels pbm_digit))) p (below p.height),
     ) refl
 
--- the line that a plain PBM file begins with
+-- a line that a plain PBM file begins with
 abbrev pub is_magic : List ℕ → Bool
-is_magic line = bytes_eq line (codes "P1\n") || bytes_eq line (codes "P1")
+is_magic line = bytes_eq (take 1 line) (codes "P")
 
 pixels_not_magic : (pixels : List Bool) → is_magic (map pbm_digit pixels ++ 10 ∷ []) ≡ false
 pixels_not_magic [] = refl

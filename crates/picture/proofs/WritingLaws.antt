@@ -9,8 +9,9 @@ use Rattle.std.proofs.lemmas.List.{length-take-le, take_min}
 use Rattle.std.proofs.lemmas.Slice.{between_is}
 use Rattle.std.proofs.lemmas.Grind.{flat_map-append}
 use Rattle.std.proofs.lemmas.List.Folds.{flat_map-map}
-use Rattle.std.proofs.lemmas.List.FromFn.{get_or-map-range_with_len, length-map-range_with_len}
+use Rattle.std.proofs.lemmas.List.FromFn.{get_or-map-range_with_len, length-map-range_with_len, take-map-range_with_len}
 use Rattle.std.proofs.Math.Seq.{take-add}
+use Rattle.qrmatrix.specs.Bits.{bit}
 use Rattle.picture.proofs.GridLaws.{filled_from}
 use Rattle.picture.specs.Picture.{Picture}
 use Rattle.picture.specs.Private.Rows.{piece, row_text}
@@ -76,6 +77,17 @@ piece_asked dark width k n some size =
     sym (filled_from dark x (piece row k) n (simp (length-take, length-drop) (omega arith)) (λ i h.
     get_or-take 70 (drop x row) i false (omega arith) ∙ get_or-drop x row i false
     ∙ get_or-map-range_with_len dark 0 width (x + i) (x + i) false (omega arith) (zero-add (x + i))))
+
+-- the text of a row of at most a piece, whose pixels are the bits of a number
+pub row_text-of_bits : (text : List Bool → List ℕ) (end : List ℕ) (bits width : ℕ) (pixels : List Bool)
+    → pixels ≡ map (bit bits) (below 80) → 0 < width → width ≤ 70
+    → text (take width pixels) ++ end ≡ row_text text end (map (bit bits) (below width))
+row_text-of_bits text end bits width pixels same some narrow =
+    let row = map (bit bits) (below width) in
+    let size : length row ≡ width = length-map-range_with_len (bit bits) 0 width in
+    let one : div_ceil (length row) 70 ≡ 1 = omega arith in
+    let front : take width pixels ≡ row = rw same (take-map-range_with_len (bit bits) 0 80 width (omega arith)) in
+    rw (one, front, take_all 70 row (omega arith), append-nil (text row)) refl
 
 -- the rows of plain PBM files end with nothing
 pub pbm_rows : (p : Picture) (ys : List ℕ) → flat_map (λ y. row_text pbm_piece [] (pixel_row p y)) ys

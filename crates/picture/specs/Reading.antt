@@ -93,9 +93,10 @@ ascii_pixels text = do
 abbrev pub files : (List ℕ → List ℕ → Bool) → List ℕ → List (List ℕ)
 files is_cut stream = map concat (cut_between is_cut (whole_lines stream))
 
--- the plain PBM files of a stream: each begins with a line `P1`, which may have no line feed at the stream's end
+-- the plain PBM files of a stream: each begins with a line that begins with `P`, as no other line of such a file does;
+-- so a file of which the stream has a beginning alone, be it one byte, is cut from the file before it
 abbrev pub pbm_files : List ℕ → List (List ℕ)
-pbm_files stream = files (λ line next. bytes_eq next (codes "P1\n") || bytes_eq next (codes "P1")) stream
+pbm_files stream = files (λ line next. bytes_eq (take 1 next) (codes "P")) stream
 
 -- the text pictures of a stream: each ends with an empty line
 abbrev pub ascii_files : List ℕ → List (List ℕ)

@@ -53,6 +53,18 @@ impl<G: Grid> Grid for Framed<G> {
         }
     }
 
+    fn row_bits(&self, y: usize) -> Option<u64> {
+        if y < self.zone.top || self.zone.top + self.grid.height() <= y {
+            return Some(0);
+        }
+        // No bit of the grid is shifted out.
+        if self.zone.left + self.grid.width() >= 64 {
+            return None;
+        }
+        let row = self.grid.row_bits(y - self.zone.top)?;
+        Some(row << self.zone.left)
+    }
+
     fn read_row(&self, y: usize, pixels: &mut [bool]) {
         pixels.fill(false);
         if self.zone.top <= y && y < self.zone.top + self.grid.height() {

@@ -1,5 +1,6 @@
 //! Pictures by coordinates.
-ghost use Rattle.std.specs.Prelude.{◌≡◌, ◌<◌, length};
+ghost use Rattle.std.specs.Prelude.{◌≡◌, ℕ, ◌<◌, nat_lt, ◌&&◌, IfSome, length};
+ghost use Rattle.qrmatrix.specs.Bits.{bit};
 ghost use Rattle.picture.specs.Picture.{AreEqualRows, Picture};
 ghost use Rattle.picture.specs.Text.{pixel_row};
 
@@ -29,6 +30,16 @@ pub trait Grid {
         ensures { AreEqualRows (picture self.now) y result }
     {
         1
+    }
+
+    /// Returns the pixels of row `y` as the bits of a number, column 0 the lowest, where the grid has them so. Columns
+    /// from 64 on are light then.
+    fn row_bits(&self, y: usize) -> Option<u64>
+        requires { y < (picture self.now).height }
+        ensures { IfSome result (λ row. (x : ℕ) → bit row x
+            ≡ (nat_lt x (picture self.now).width && (picture self.now).dark x y)) }
+    {
+        None
     }
 
     /// Fills `pixels`, which is as long as a row, with those of row `y`.

@@ -1,8 +1,11 @@
 //! The rows of a grid that is narrow enough to keep one of them: each row is rendered once for all that equal it.
-ghost use Rattle.std.specs.Prelude.{◌+◌, ◌*◌, ◌^◌, ◌<◌, ◌≤◌, length, max, take};
+ghost use Rattle.std.specs.Prelude.{◌+◌, ◌*◌, ◌^◌, ◌<◌, ◌≤◌, length, map, max, take};
 ghost use Rattle.device.specs.Writing.{WritesText};
+ghost use Rattle.qrmatrix.specs.Bits.{bit};
 ghost use Rattle.picture.specs.Private.Rows.{EndsWith, repeated, row_text, rows_text};
+ghost use Rattle.picture.specs.Text.{below};
 
+use crate::bits::pixels_of;
 use crate::grid::Grid;
 use crate::pixel_text::{PIECE, PIECE_ROOM, PixelText};
 use device::{IoFault, Sink, write_whole};
@@ -11,7 +14,8 @@ use device::{IoFault, Sink, write_whole};
 /// place in the buffer more often.
 const BLOCK: usize = 4096;
 
-/// Writes the rows of the grid, and keeps each at the front of `kept` for the rows that equal it.
+/// Writes the rows of the grid, and keeps each at the front of `kept` for the rows that equal it. A row of one piece is
+/// written from its bits, where the grid has them, and not kept.
 ///
 /// # Errors
 ///
@@ -29,12 +33,34 @@ pub fn write_kept_rows<T: PixelText, G: Grid, S: Sink>(
     let height = grid.height();
     let mut y = 0;
     while y < height {
-        grid.read_row(y, &mut kept[..width]);
-        let count = grid.equal_rows(y);
-        write_equal_rows::<T, S>(kept, width, count, sink)?;
-        y += count;
+        match grid.row_bits(y) {
+            Some(row) if 0 < width && width <= PIECE => {
+                write_row_bits::<T, S>(row, width, sink)?;
+                y += 1;
+            }
+            _ => {
+                grid.read_row(y, &mut kept[..width]);
+                let count = grid.equal_rows(y);
+                write_equal_rows::<T, S>(kept, width, count, sink)?;
+                y += count;
+            }
+        }
     }
     Ok(())
+}
+
+/// Writes the row of `width` pixels that are the bits of a number, the lowest first: one piece.
+fn write_row_bits<T: PixelText, S: Sink>(
+    row: u64,
+    width: usize,
+    sink: &mut S,
+) -> Result<(), IoFault>
+    requires { (0 < width) × (width ≤ 70) }
+    ensures { WritesText S.Sink sink.old sink.new
+        (row_text T.text T.row_end (map (bit row) (below width))) result }
+{
+    T::write_piece(&pixels_of(row), width, sink)?;
+    write_whole(T::row_end(), sink)
 }
 
 /// Writes the row of `width` pixels at the front of `kept`, `count` times.

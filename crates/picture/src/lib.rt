@@ -7,6 +7,7 @@
 
 mod ascii;
 mod bars;
+mod bits;
 mod framed;
 mod grid;
 mod kept_rows;
@@ -23,4 +24,4 @@ pub use framed::Framed;
 pub use grid::Grid;
 pub use pbm::write_pbm;
 pub use quiet_zone::QuietZone;
-pub use scaled::Scaled;
+pub use scaled::{Scaled, read_pixels};

@@ -1,51 +1,8 @@
 //! A square of modules as a picture.
-ghost use Rattle.std.specs.Prelude.{◌≡◌, ◌*◌, ◌/◌, ◌%◌, ◌^◌, ◌==◌, bit_and, map, not};
-ghost use Rattle.qrmatrix.specs.Bits.{bit};
 ghost use Rattle.picture.specs.Picture.{symbol_picture};
-ghost use Rattle.picture.specs.Text.{below};
 
 use crate::grid::Grid;
 use qrmatrix::Matrix;
-use std::simd::{u8x8, u8x64};
-
-/// For each of the 64 bits of a row, the lowest first, the byte of the row that has it.
-const BYTES: [usize; 64] = [
-    0, 0, 0, 0, 0, 0, 0, 0, 1, 1, 1, 1, 1, 1, 1, 1, 2, 2, 2, 2, 2, 2, 2, 2, 3, 3, 3, 3, 3, 3, 3, 3,
-    4, 4, 4, 4, 4, 4, 4, 4, 5, 5, 5, 5, 5, 5, 5, 5, 6, 6, 6, 6, 6, 6, 6, 6, 7, 7, 7, 7, 7, 7, 7, 7,
-];
-
-/// For each of the 64 bits of a row, its value in its byte.
-const VALUES: [u8; 64] = [
-    1, 2, 4, 8, 16, 32, 64, 128, 1, 2, 4, 8, 16, 32, 64, 128, 1, 2, 4, 8, 16, 32, 64, 128, 1, 2, 4,
-    8, 16, 32, 64, 128, 1, 2, 4, 8, 16, 32, 64, 128, 1, 2, 4, 8, 16, 32, 64, 128, 1, 2, 4, 8, 16,
-    32, 64, 128, 1, 2, 4, 8, 16, 32, 64, 128,
-];
-
-/// Returns the bits of a row, the lowest first.
-fn bits_of(row: u64) -> [bool; 64]
-    ensures { result ≡ map (bit row) (below 64) }
-{
-    are_some(bits_in_bytes(row))
-}
-
-/// Returns for each bit of a row, the lowest first, the byte that has it, with the other bits of that byte cleared.
-fn bits_in_bytes(row: u64) -> [u8; 64]
-    ensures { result ≡ map (λ j. bit_and (row / 2 ^ (8 * (j / 8)) % 256) (2 ^ (j % 8))) (below 64) }
-{
-    let bytes = u8x8::from_array(row.to_le_bytes()).swizzle(BYTES);
-    (bytes & u8x64::from_array(VALUES)).to_array()
-}
-
-/// Returns of each value whether it is not 0.
-fn are_some(values: [u8; 64]) -> [bool; 64]
-    ensures { result ≡ map (λ value. not (value == 0)) values }
-{
-    let mut some = [false; 64];
-    for j in 0..64 {
-        some[j] = values[j] != 0;
-    }
-    some
-}
 
 impl Grid for Matrix {
     ghost picture = { symbol_picture };
@@ -62,9 +19,7 @@ impl Grid for Matrix {
         Matrix::dark(self, x, y)
     }
 
-    fn read_row(&self, y: usize, pixels: &mut [bool]) {
-        let row = bits_of(self.rows()[y]);
-        let width = pixels.len();
-        pixels.copy_from_slice(&row[..width]);
+    fn row_bits(&self, y: usize) -> Option<u64> {
+        Some(self.rows()[y])
     }
 }

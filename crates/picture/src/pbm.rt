@@ -60,6 +60,7 @@ impl PixelText for PbmPixels {
 
     ghost row_end = { [] };
 
+    #[inline(always)]
     fn write_piece<S: Sink>(pixels: &[bool], len: usize, sink: &mut S) -> Result<(), IoFault> {
         let mut text = digits(pixels);
         text[len] = b'\n';

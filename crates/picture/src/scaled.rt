@@ -1,9 +1,11 @@
 //! Enlarged pictures.
 ghost use Rattle.std.specs.Prelude.{◌≡◌, ℕ, ◌+◌, ◌*◌, ◌/◌, ◌<◌, ◌≤◌, false, length, map, slice_index_or};
 ghost use Rattle.picture.specs.Picture.{Fits, enlargement};
-ghost use Rattle.picture.specs.Text.{below};
+ghost use Rattle.picture.specs.Text.{below, pixel_row};
 
+use crate::bits::pixels_of;
 use crate::grid::Grid;
+use crate::pixel_text::PIECE;
 
 /// A grid with each pixel drawn as a square of `scale` by `scale` pixels.
 #[derive(Drop)]
@@ -45,10 +47,31 @@ impl<G: Grid> Grid for Scaled<G> {
         self.grid.equal_rows(y / self.scale) * self.scale - y % self.scale
     }
 
+    fn row_bits(&self, y: usize) -> Option<u64> {
+        if self.scale == 1 {
+            self.grid.row_bits(y)
+        } else {
+            None
+        }
+    }
+
     fn read_row(&self, y: usize, pixels: &mut [bool]) {
         let width = self.grid.width();
-        self.grid.read_row(y / self.scale, &mut pixels[..width]);
+        read_pixels(&self.grid, y / self.scale, &mut pixels[..width]);
         spread(pixels, width, self.scale);
+    }
+}
+
+/// Fills `pixels`, which is as long as a row, with those of row `y`, from its bits where the grid has them.
+pub fn read_pixels<G: Grid>(grid: &G, y: usize, pixels: &mut [bool])
+    requires in_height { y < (G.picture grid.now).height }
+    requires whole { length pixels.old ≡ (G.picture grid.now).width }
+    ensures { pixels.new ≡ pixel_row (G.picture grid.now) y }
+{
+    let width = pixels.len();
+    match grid.row_bits(y) {
+        Some(row) if width <= PIECE => pixels.copy_from_slice(&pixels_of(row)[..width]),
+        _ => grid.read_row(y, pixels),
     }
 }
 
@@ -65,6 +88,9 @@ fn spread(pixels: &mut [bool], width: usize, scale: usize)
         2 => widen_each(pixels, width, 2),
         3 => widen_each(pixels, width, 3),
         4 => widen_each(pixels, width, 4),
+        5 => widen_each(pixels, width, 5),
+        6 => widen_each(pixels, width, 6),
+        7 => widen_each(pixels, width, 7),
         8 => widen_each(pixels, width, 8),
         _ => widen_each(pixels, width, scale),
     }

@@ -107,7 +107,7 @@ eight_below bits =
     let short : length (take 8 bits) ≤ 8 = omega (arith, length-take 8 bits) in
     omega (arith, number_of-lt (take 8 bits), pow-le-pow_right {n = 2} (omega arith) short)
 
-AreBytes-codewords_of : (n : ℕ) (bits : List Bool) → AreBytes (codewords_of n bits)
+pub AreBytes-codewords_of : (n : ℕ) (bits : List Bool) → AreBytes (codewords_of n bits)
 unfolding codewords_of
 AreBytes-codewords_of zero bits = tt
 AreBytes-codewords_of (suc n) bits = (eight_below bits, AreBytes-codewords_of n (drop 8 bits))

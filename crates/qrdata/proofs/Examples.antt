@@ -13,7 +13,7 @@ use Rattle.qrdata.specs.Codewords.{data_codewords_of, interleaving, pad_codeword
 use Rattle.qrdata.specs.Codewords.{with_pad_codewords, with_terminator, with_zeros}
 use Rattle.qrdata.specs.Fewest.{first_segments, best_within, chosen_segments, chosen_version, is_first}
 use Rattle.qrdata.specs.Reading.{number_at, digits_at, characters_at, bytes_at, segment_at, segments_at}
-use Rattle.qrdata.specs.Reading.{deinterleaving, data_in, is_end}
+use Rattle.qrdata.specs.Reading.{block_in, deinterleaving, data_in, is_end}
 use Rattle.qrdata.specs.Segments.{alphanumeric_bits, alphanumeric_characters, alphanumeric_value, byte_bits, cost}
 use Rattle.qrdata.specs.Segments.{count_width, has_character, mode_indicator, modes, numeric_bits, payload_length}
 use Rattle.qrdata.specs.Segments.{segment_of, segments_bits}
@@ -303,6 +303,13 @@ blocks_taken_back : deinterleaving (15 ∷ 15 ∷ 16 ∷ 16 ∷ []) interleaved_
     ≡ split_by (15 ∷ 15 ∷ 16 ∷ 16 ∷ []) (range_with_len 0 62)
 unfolding deinterleaving interleaved_5q split_by
 blocks_taken_back = refl
+
+-- the third block of such a symbol, whose error correction codewords are numbered from 62 in their order there
+third_block : block_in 5 Q (interleaved_5q ++ range_with_len 62 72) 2
+    ≡ range_with_len 30 16 ++ map (λ i. 64 + 4 * i) (range_with_len 0 18)
+unfolding block_in deinterleaving interleaved_5q block_lengths data_codewords ec_codewords_per_block groups_of
+    block_table
+third_block = refl
 
 -- ---- four blocks
 

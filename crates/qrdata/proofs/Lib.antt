@@ -13,6 +13,7 @@ pub mod LengthLaws
 pub mod PaddingLaws
 pub mod PayloadLaws
 pub mod DataReadingLaws
+pub mod DamageLaws
 pub mod CodewordByteLaws
 pub mod SameWidthLaws
 pub mod SegmentReadingLaws

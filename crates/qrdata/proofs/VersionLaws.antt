@@ -40,6 +40,8 @@ pub record IsSound (version : ℕ) (level : Level) : Type 0 where
   pub few_bits : capacity version level ≤ widest version
   pub more : data_codewords (version - 1) level ≤ data_codewords version level
   pub even : even_lengths (block_count version level) (data_codewords version level) ≡ block_lengths version level
+  pub short_blocks : list_all (λ n. nat_le (n + ec_codewords_per_block version level) 255) (block_lengths version level)
+      ≡ true
   pub coded_total : slice_index TOTAL (version - 1) ≡ total_codewords version
   pub coded_blocks : coded BLOCKS version level ≡ block_count version level
   pub coded_ec_codewords : coded EC_CODEWORDS version level ≡ ec_codewords_per_block version level
@@ -55,7 +57,8 @@ tests level version =
     ∷ nat_le (8 * codewords) (widest version) ∷ nat_le (data_codewords (version - 1) level) codewords
     ∷ bytes_eq (even_lengths blocks codewords) (block_lengths version level)
     ∷ (slice_index TOTAL (version - 1) == total)
-    ∷ (coded BLOCKS version level == blocks) ∷ (coded EC_CODEWORDS version level == ec_codewords) ∷ []
+    ∷ (coded BLOCKS version level == blocks) ∷ (coded EC_CODEWORDS version level == ec_codewords)
+    ∷ list_all (λ n. nat_le (n + ec_codewords) 255) (block_lengths version level) ∷ []
 
 tests_pass : (level : Level) → agree_below (λ k. list_all (λ test. test) (tests level (suc k))) (λ k. true) 10 ≡ true
 unfolding tests data_codewords total_codewords block_count ec_codewords_per_block block_lengths groups_of block_table
@@ -85,6 +88,7 @@ IsSound-of (suc k) level known =
       coded_total = eqb-true _ _ (test 9 true (omega arith));
       coded_blocks = eqb-true _ _ (test 10 true (omega arith));
       coded_ec_codewords = eqb-true _ _ (test 11 true (omega arith));
+      short_blocks = test 12 true (omega arith);
     }
 
 widest-le : (version : ℕ) → widest version ≤ 2192

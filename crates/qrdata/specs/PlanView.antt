@@ -5,7 +5,7 @@ use Rattle.qrdata.specs.declared.level.Level.{Level}
 use Rattle.qrdata.specs.declared.mode.Segment.{Segment}
 use Rattle.qrdata.specs.Codewords.{symbol_codewords}
 use Rattle.qrdata.specs.Fewest.{NoneFits, chosen_segments, chosen_version}
-use Rattle.qrdata.specs.Reading.{data_in}
+use Rattle.qrdata.specs.Reading.{IsCorrected, IsGuarded, data_in}
 use Rattle.qrdata.specs.Segments.{IsSegmentation, cost, segments_bits}
 use Rattle.qrdata.specs.Versions.{capacity, total_codewords}
 
@@ -45,9 +45,12 @@ pub record FitsNowhere (lowest : ℕ) (level : Level) (bytes : List ℕ) : Type 
   pub version : chosen_version lowest level bytes ≡ None
   pub nowhere : (v : ℕ) → lowest ≤ v → v ≤ 10 → NoneFits v level bytes
 
--- The codewords of the symbol of a plan: they are those of the standard, as many as the version has, and they read back
--- as the data.
+-- The codewords of the symbol of a plan: they are those of the standard, as many as the version has, they read back as
+-- the data, and with wrong codewords in each block, up to its error correction codewords, as the data or as nothing; up
+-- to half of these, whoever corrects them finds the data.
 pub record AreSymbolCodewords (plan : PlanView) (codewords : List ℕ) : Type 0 where
   pub value : codewords ≡ symbol_codewords plan.version plan.level plan.segments plan.bytes
   pub count : length codewords ≡ total_codewords plan.version
   pub read : data_in plan.version plan.level codewords ≡ Some plan.bytes
+  pub guarded : IsGuarded plan.version plan.level codewords plan.bytes
+  pub corrected : IsCorrected plan.version plan.level codewords plan.bytes

@@ -1,11 +1,14 @@
 -- Reading the codewords of a symbol, with no correction (ISO/IEC 18004, 12).
 -- Why: `deinterleaving`, `has_roots`, `segments_at`, `data_in`: clause 12, with no correction.
+-- Why: `AreNear`, `IsGuarded`, `AreCorrectable`, `IsCorrected`: 7.5.1, the errors that are detected and corrected.
 use Rattle.std.specs.Prelude.{ℕ, zero, suc, ◌+◌, ◌*◌, ◌/◌, ◌%◌, ◌^◌, List, [], ◌∷◌, ◌++◌, map, length, take, drop}
+use Rattle.std.specs.Prelude.{◌≡◌, ◌<◌, ◌≤◌, ◌⊎◌, All, slice_index_or}
 use Rattle.std.specs.Prelude.{replicate, slice_index, min, nat_lt, nat_le, ◌==◌, if◌then◌else◌, ◌&&◌, ◌||◌, Bool}
 use Rattle.std.specs.Prelude.{Option, Some, None}
 use Rattle.std.specs.List.{concat, count_by, find, list_all, range_with_len, sum_by, zip}
 use Rattle.gf256.specs.Field.{alpha, field_power}
 use Rattle.gf256.specs.Polynomial.{evaluate}
+use Rattle.gf256.specs.ErrorCorrection.{wrong_codewords}
 use Rattle.qrdata.specs.declared.level.Level.{Level}
 use Rattle.qrdata.specs.Steps.{◌>>=◌}
 use Rattle.qrdata.specs.declared.mode.Mode.{Mode}
@@ -97,3 +100,40 @@ data_in version level codewords =
     let ec_blocks = deinterleaving (replicate (length lengths) ec_codewords) (drop size codewords) in
     if length codewords == total_codewords version && list_all (has_roots ec_codewords) (zip blocks ec_blocks)
     then segments_at version (8 * size) (byte_bits (concat blocks)) else None
+
+-- block b among the codewords of a symbol: its data codewords, and then its error correction codewords
+unfoldable pub block_in : ℕ → Level → List ℕ → ℕ → List ℕ
+block_in version level codewords b =
+    let size = data_codewords version level in
+    let lengths = block_lengths version level in
+    let ec_lengths = replicate (length lengths) (ec_codewords_per_block version level) in
+    slice_index_or (deinterleaving lengths (take size codewords)) b []
+    ++ slice_index_or (deinterleaving ec_lengths (drop size codewords)) b []
+
+-- in each block at most as many codewords are wrong as are for error correction
+unfoldable pub AreNear : ℕ → Level → List ℕ → List ℕ → Type 0
+AreNear version level codewords other =
+    (b : ℕ) → b < length (block_lengths version level)
+    → wrong_codewords (block_in version level codewords b) (block_in version level other b)
+    ≤ ec_codewords_per_block version level
+
+-- codewords that are so near are read as this data, or as nothing
+abbrev pub IsGuarded : ℕ → Level → List ℕ → List ℕ → Type 0
+IsGuarded version level codewords bytes =
+    (other : List ℕ) → All (λ codeword. codeword < 256) other → AreNear version level codewords other
+    → (data_in version level other ≡ None) ⊎ (data_in version level other ≡ Some bytes)
+
+-- in each block at most half as many codewords are wrong as are for error correction
+unfoldable pub AreCorrectable : ℕ → Level → (codewords seen : List ℕ) → Type 0
+AreCorrectable version level codewords seen =
+    (b : ℕ) → b < length (block_lengths version level)
+    → 2 * wrong_codewords (block_in version level codewords b) (block_in version level seen b)
+    ≤ ec_codewords_per_block version level
+
+-- where no more are wrong in what was seen, whoever corrects it to codewords that are read, and corrects no more, finds
+-- this data
+abbrev pub IsCorrected : ℕ → Level → List ℕ → List ℕ → Type 0
+IsCorrected version level codewords bytes =
+    (seen corrected found : List ℕ) → All (λ codeword. codeword < 256) corrected
+    → AreCorrectable version level codewords seen → AreCorrectable version level corrected seen
+    → data_in version level corrected ≡ Some found → found ≡ bytes

@@ -50,6 +50,11 @@ pub(crate) fn interleave(lengths: &[usize], codewords: &[u8], out: &mut Codeword
     requires room { array_vec_len out.old + length codewords.now ≤ MAX_CODEWORDS }
     ensures { out.new.items ≡ out.old.items ++ interleaving (split_by lengths.now codewords.now) }
 {
+    // A block alone has its codewords in the order of their places.
+    if lengths.len() == 1 {
+        push_codewords(out, codewords);
+        return;
+    }
     let rounds = greatest(lengths);
     for place in 0..rounds {
         push_place(lengths, codewords, place, out);

@@ -1,8 +1,9 @@
 -- What is computed for each number of a range holds for each of them.
-use Rattle.std.proofs.Common.{◌≡◌, ℕ, ◌+◌, ◌-◌, ◌<◌, ◌≤◌, sym, ap, ◌∙◌, arith, map}
+use Rattle.std.proofs.Common.{◌≡◌, ℕ, ◌+◌, ◌-◌, ◌<◌, ◌≤◌, sym, ap, subst, ◌∙◌, arith, map, Bool, true, zero-add}
 use Rattle.std.specs.Prelude.{slice_index_or}
-use Rattle.std.specs.List.{range_with_len}
-use Rattle.std.proofs.lemmas.List.FromFn.{get_or-map-range_with_len}
+use Rattle.std.specs.List.{list_all, range_with_len}
+use Rattle.std.proofs.lemmas.List.FromFn.{get_or-map-range_with_len, get_or-range_with_len, length-range_with_len}
+use Rattle.std.proofs.lemmas.List.Sums.{AllPass-from_list_all}
 
 -- two functions have the same values from a on
 pub same_at : {A : Type 0} (a n : ℕ) (f g : ℕ → A) → map f (range_with_len a n) ≡ map g (range_with_len a n) → (k : ℕ)
@@ -16,3 +17,16 @@ same_at a n f g e k l h =
 pub by_version : {A : Type 0} (f g : ℕ → A) → map f (range_with_len 1 10) ≡ map g (range_with_len 1 10) → (v : ℕ)
     → 1 ≤ v → v ≤ 10 → f v ≡ g v
 by_version f g e v l h = same_at 1 10 f g e v l (omega arith)
+
+-- each number below n passes
+pub passes : (test : ℕ → Bool) (n k : ℕ) → list_all test (range_with_len 0 n) ≡ true → k < n → test k ≡ true
+passes test n k all below =
+    subst (λ j. test j ≡ true) (get_or-range_with_len 0 n k 0 below ∙ zero-add k)
+    (AllPass-from_list_all test (range_with_len 0 n) all k 0 (omega (arith, length-range_with_len 0 n)))
+
+-- each pair of numbers below n passes
+pub pairs_pass : (test : ℕ → ℕ → Bool) (n j k : ℕ)
+    → list_all (λ j. list_all (test j) (range_with_len 0 n)) (range_with_len 0 n) ≡ true → j < n → k < n
+    → test j k ≡ true
+pairs_pass test n j k all first second =
+    passes (test j) n k (passes (λ j. list_all (test j) (range_with_len 0 n)) n j all first) second

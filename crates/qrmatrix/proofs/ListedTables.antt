@@ -6,7 +6,7 @@ use Rattle.std.specs.List.{flat_map, range_with_len, slice_split}
 use Rattle.gf256.specs.BinaryPolynomial.{binary_remainder}
 use Rattle.qrdata.specs.declared.level.Level.TheVariants.{L, M, Q, H}
 use Rattle.qrmatrix.specs.Functions.{alignment_coordinates}
-use Rattle.qrmatrix.specs.Information.{format_information, level_indicator, version_information}
+use Rattle.qrmatrix.specs.Information.{different_bits, format_information, level_indicator, version_information}
 use Rattle.qrmatrix.specs.Masks.{is_flipped}
 use Rattle.qrmatrix.specs.Penalty.{balance_penalty, dark_count, finder_before_light, finder_penalty, run_penalty}
 use Rattle.qrmatrix.specs.Modules.{is_inside}
@@ -26,6 +26,12 @@ centres = refl
 remainders : map remainder_bits (range_with_len 1 10) ≡ 0 ∷ 7 ∷ 7 ∷ 7 ∷ 7 ∷ 7 ∷ 0 ∷ 0 ∷ 0 ∷ 0 ∷ []
 unfolding remainder_bits
 remainders = refl
+
+-- the words of masks 0 and 1 at level L differ in seven bits, those of versions 7 and 8 in eight; a higher bit is not
+-- counted
+differences : different_bits 15 0x77C4 0x72F3 ∷ different_bits 18 0x07C94 0x085BC ∷ different_bits 15 0x5412 0x5412
+    ∷ different_bits 2 4 0 ∷ different_bits 3 4 0 ∷ [] ≡ 7 ∷ 8 ∷ 0 ∷ 0 ∷ 1 ∷ []
+differences = refl
 
 -- the indicators 01, 00, 11 and 10 (ISO/IEC 18004, table 12), written and read
 indicators : map level_indicator (L ∷ M ∷ Q ∷ H ∷ []) ≡ 1 ∷ 0 ∷ 3 ∷ 2 ∷ []

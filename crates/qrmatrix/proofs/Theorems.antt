@@ -3,6 +3,7 @@
 use Rattle.qrmatrix.specs.StandardLists.{AgreesWithLists}
 use Rattle.qrmatrix.proofs.InformationLaws.{format_information-listed, format_information-multiple}
 use Rattle.qrmatrix.proofs.InformationLaws.{version_information-listed, version_information-multiple}
+use Rattle.qrmatrix.proofs.WordDistanceLaws.{format_words-far_apart, version_words-far_apart}
 use Rattle.qrmatrix.proofs.VersionLaws.{counted}
 
 pub symbol_laws : AgreesWithLists
@@ -11,5 +12,7 @@ symbol_laws = record {
   format_code = format_information-multiple;
   version = version_information-listed;
   version_code = version_information-multiple;
+  format_words = format_words-far_apart;
+  version_words = version_words-far_apart;
   room = counted;
 }

@@ -16,7 +16,8 @@ use Rattle.qrmatrix.specs.Information.{format_information, version_information}
 use Rattle.qrmatrix.specs.Masks.{is_flipped}
 use Rattle.qrmatrix.specs.Modules.{module_at}
 use Rattle.qrmatrix.specs.Placement.{codeword_bit, key, rank}
-use Rattle.qrmatrix.specs.Reading.{read_bits, read_format, read_matrix, shows_functions, shows_version, walk}
+use Rattle.qrmatrix.specs.Reading.{is_among, read_bits, read_format, read_matrix, shows_functions}
+use Rattle.qrmatrix.specs.Reading.{shows_version, walk}
 
 -- ---- a symbol of version 2 at level Q under mask 5, as Zint draws it (`zint -b 58 --vers=2 --secure=3 --mask=5
 -- --verbose --dump -d "WRONG MODULES"`)
@@ -89,6 +90,18 @@ no_readings = refl
 no_sides : map (λ n. read_matrix n (modules_of rows)) (24 ∷ 26 ∷ 17 ∷ 61 ∷ []) ≡ replicate 4 None
 unfolding rows modules_of read_matrix
 no_sides = refl
+
+-- a remainder module, the last free one of the walk, is not looked at
+remainder : read_matrix 25 (modules_of (changed rows (0, 16))) ≡ read_matrix 25 (modules_of rows)
+unfolding rows modules_of changed read_matrix xor total_codewords read_format shows_version shows_functions read_bits
+    walk codewords_of number_of fixed_module role is_free is_flipped format_information version_information
+    binary_remainder
+remainder = refl
+
+-- among places, a column and a row
+among : map (λ places. is_among places 2 3) ([] ∷ ((2, 3) ∷ []) ∷ ((3, 2) ∷ []) ∷ ((2, 4) ∷ (1, 3) ∷ [])
+    ∷ ((5, 5) ∷ (2, 3) ∷ []) ∷ []) ≡ false ∷ true ∷ false ∷ false ∷ true ∷ []
+among = refl
 
 -- whether the function modules are right where the module at a place is changed
 shown : List (ℕ × ℕ) → List Bool

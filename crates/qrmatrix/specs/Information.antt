@@ -1,11 +1,14 @@
 -- The format and version information of a QR symbol as numbers (ISO/IEC 18004, 7.9, 7.10 and Annexes C and D).
 -- Why: `format_information`, `version_information`: 7.9, 7.10, annexes C and D.
 -- Why: `FormatInformationIsListed`, `VersionInformationIsListed`: annexes C and D; the theorem `symbol_laws`.
-use Rattle.std.specs.Prelude.{◌≡◌, ℕ, ◌+◌, ◌*◌, ◌/◌, ◌^◌, ◌<◌, ◌≤◌, bit_xor, [], ◌∷◌, map}
+-- Why: `FormatWordsAreFarApart`, `VersionWordsAreFarApart`: annexes C and D; the theorem `symbol_laws`.
+use Rattle.std.specs.Prelude.{◌≡◌, ℕ, ◌+◌, ◌*◌, ◌/◌, ◌^◌, ◌<◌, ◌≤◌, bit_xor, [], ◌∷◌, map, not, count_by}
+use Rattle.std.specs.Bool.{beq}
 use Rattle.std.specs.List.{flat_map, range_with_len}
 use Rattle.gf256.specs.BinaryPolynomial.{binary_product, binary_remainder}
 use Rattle.qrdata.specs.declared.level.Level.{Level}
 use Rattle.qrdata.specs.declared.level.Level.TheVariants.{L, M, Q, H}
+use Rattle.qrmatrix.specs.Bits.{bit}
 
 -- the error correction level indicator (Table 12)
 abbrev pub level_indicator : Level → ℕ
@@ -54,3 +57,20 @@ FormatInformationIsMultiple = (level : Level) (mask : ℕ) → mask < 8
 -- the version information is a multiple of x^12 + x^11 + x^10 + x^9 + x^8 + x^5 + x^2 + 1 (Annex D)
 abbrev pub VersionInformationIsMultiple : Type 0
 VersionInformationIsMultiple = (v : ℕ) → 1 ≤ v → v ≤ 10 → IsMultipleOf 12 0x1F25 6 v (version_information v)
+
+-- in how many of their lowest bits two numbers differ
+abbrev pub different_bits : ℕ → ℕ → ℕ → ℕ
+different_bits count n other = count_by (λ i. not (beq (bit n i) (bit other i))) (range_with_len 0 count)
+
+-- two words of format information differ in at least 7 of their 15 bits (Annex C)
+abbrev pub FormatWordsAreFarApart : Type 0
+FormatWordsAreFarApart =
+    (level other_level : Level) (mask other_mask : ℕ) → mask < 8 → other_mask < 8
+    → different_bits 15 (format_information level mask) (format_information other_level other_mask) < 7
+    → (level_indicator level ≡ level_indicator other_level) × (mask ≡ other_mask)
+
+-- two words of version information differ in at least 8 of their 18 bits (Annex D)
+abbrev pub VersionWordsAreFarApart : Type 0
+VersionWordsAreFarApart =
+    (v other : ℕ) → v ≤ 10 → other ≤ 10
+    → different_bits 18 (version_information v) (version_information other) < 8 → v ≡ other

@@ -1,10 +1,13 @@
 -- The reading of a symbol's modules, m x y being the module at column x and row y of n by n (ISO/IEC 18004, 12).
 -- Why: `read_matrix`: clause 12, with no correction.
+-- Why: `AgreeBut`, `IsGuarded`: 7.5.1 and annexes C and D, the errors that are detected.
 use Rattle.std.specs.Prelude.{ℕ, ◌+◌, ◌-◌, ◌*◌, ◌/◌, ◌%◌, ◌^◌, Bool, not, ◌&&◌, ◌||◌, ◌==◌, nat_le, if◌then◌else◌}
+use Rattle.std.specs.Prelude.{◌≡◌, ◌≤◌, ◌<◌, All, IfSome, false, length}
 use Rattle.std.specs.Prelude.{List, [], ◌∷◌, ◌++◌, map, reverse, Option, None, Some, bit_xor, unwrap_or}
 use Rattle.std.specs.Bool.{beq, xor}
-use Rattle.std.specs.List.{range_with_len, filter, find, flat_map, list_all}
+use Rattle.std.specs.List.{range_with_len, filter, find, flat_map, list_all, list_any}
 use Rattle.gf256.specs.BinaryPolynomial.{binary_remainder}
+use Rattle.gf256.specs.ErrorCorrection.{wrong_codewords}
 use Rattle.qrdata.specs.declared.level.Level.{Level}
 use Rattle.qrdata.specs.declared.level.Level.TheVariants.{L, M, Q, H}
 use Rattle.qrdata.specs.Steps.{◌>>=◌}
@@ -98,3 +101,42 @@ read_with v m format =
 -- the version, the level and the codewords of a symbol; there is no reading where any check fails
 unfoldable pub read_matrix : ℕ → (ℕ → ℕ → Bool) → Option Reading
 read_matrix n m = find (λ v. side_of v == n) (range_with_len 1 10) >>= λ v. read_format n m >>= read_with v m
+
+-- whether a place is among some
+abbrev pub is_among : List (ℕ × ℕ) → ℕ → ℕ → Bool
+is_among places x y = list_any (λ (p : ℕ × ℕ). x == p.0 && y == p.1) places
+
+-- two symbols have the same modules, but for those at some places, which may differ
+abbrev pub AgreeBut : List (ℕ × ℕ) → (ℕ → ℕ → Bool) → (ℕ → ℕ → Bool) → Type 0
+AgreeBut places m other = (x y : ℕ) → is_among places x y ≡ false → other x y ≡ m x y
+
+-- the same version and level, as many codewords, and at most `count` wrong ones
+pub record IsLike (count : ℕ) (reading other : Reading) : Type 0 where
+  pub version : other.version ≡ reading.version
+  pub level : other.level ≡ reading.level
+  pub codewords : length other.codewords ≡ length reading.codewords
+  pub bytes : All (λ codeword. codeword < 256) other.codewords
+  pub few : wrong_codewords reading.codewords other.codewords ≤ count
+
+-- Where at most 13 modules are turned, whichever they are, a symbol is not read, or read as the same version and level,
+-- with at most as many wrong codewords.
+abbrev pub IsGuarded : ℕ → (ℕ → ℕ → Bool) → Reading → Type 0
+IsGuarded n m reading =
+    (turned : List (ℕ × ℕ)) (other : ℕ → ℕ → Bool) → length turned ≤ 13 → AgreeBut turned m other
+    → IfSome (read_matrix n other) (IsLike (length turned) reading)
+
+-- in a mirror, with columns for rows, left for right or upside down, a symbol is not read
+abbrev pub IsUnreadInMirrors : ℕ → (ℕ → ℕ → Bool) → Type 0
+IsUnreadInMirrors n m =
+    (read_matrix n (λ x y. m y x) ≡ None)
+    × (read_matrix n (λ x y. m (n - 1 - x) y) ≡ None)
+    × (read_matrix n (λ x y. m x (n - 1 - y)) ≡ None)
+
+-- From version 2 on, of 25 modules a side, a symbol is not read turned by a quarter, a half or three quarters either,
+-- nor in a mirror along its other diagonal.
+abbrev pub IsUnreadTurned : ℕ → (ℕ → ℕ → Bool) → Type 0
+IsUnreadTurned n m = 25 ≤ n
+    → (read_matrix n (λ x y. m (n - 1 - x) (n - 1 - y)) ≡ None)
+    × (read_matrix n (λ x y. m y (n - 1 - x)) ≡ None)
+    × (read_matrix n (λ x y. m (n - 1 - y) x) ≡ None)
+    × (read_matrix n (λ x y. m (n - 1 - y) (n - 1 - x)) ≡ None)

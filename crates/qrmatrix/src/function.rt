@@ -21,9 +21,11 @@ pub struct PatternRow {
 /// No pattern.
 const NONE: PatternRow = PatternRow { taken: 0, dark: 0 };
 
-/// The rows of a finder pattern, from above or from below, and of its separator.
-const FINDER: [u64; 8] = [
+/// The rows of a finder pattern from a corner of the symbol inwards, of its separator, and of the format information
+/// beside it, which is light here.
+const FINDER: [u64; 9] = [
     0b1111111, 0b1000001, 0b1011101, 0b1011101, 0b1011101, 0b1000001, 0b1111111, 0b0000000,
+    0b0000000,
 ];
 
 /// The coordinates of the centres of the alignment patterns (ISO/IEC 18004, Table E.1): bit k says whether k is one.
@@ -45,67 +47,45 @@ const CENTRES: [u64; 10] = [
 const EVERY_OTHER: u64 = 0x5555555555555555;
 
 impl PatternRow {
-    /// Lays this pattern over another one: a module is that of this pattern, or else that of the other.
-    #[tactic(auto, unfolding(crate::specs::Private::FunctionRows::or_else))]
-    fn or_else(self, other: PatternRow) -> PatternRow
-        ensures { result ≡ FunctionRows.or_else self other }
+    /// Joins the modules of two patterns. They agree on those that both have.
+    #[tactic(auto, unfolding(crate::specs::Private::FunctionRows::join))]
+    fn join(self, other: PatternRow) -> PatternRow
+        ensures { result ≡ FunctionRows.join self other }
     {
         PatternRow {
             taken: self.taken | other.taken,
-            dark: self.dark | (other.dark & !self.taken),
+            dark: self.dark | other.dark,
         }
     }
 }
 
-/// The finder patterns with their separators.
-#[tactic(auto, unfolding(crate::specs::Private::FunctionRows::finders))]
-fn finders(n: usize, y: usize) -> PatternRow
+/// The finder patterns with their separators and the format information beside them, and the module that is always
+/// dark.
+#[tactic(auto, unfolding(crate::specs::Private::FunctionRows::corners))]
+fn corners(n: usize, y: usize) -> PatternRow
     requires side { (21 ≤ n) × (n ≤ SIDE) }
     requires row { y < n }
-    ensures { result ≡ FunctionRows.finders n y }
+    ensures { result ≡ FunctionRows.corners n y }
 {
-    let right = n - 8;
-    if y < 8 {
+    let last = n - 8;
+    if y < 9 {
         let row = FINDER[y];
         PatternRow {
-            taken: 0xFF | (0xFF << right),
-            dark: row | (row << (right + 1)),
+            taken: 0x1FF | (0xFF << last),
+            dark: row | (row << (last + 1)),
         }
-    } else if right <= y {
+    } else if y == last {
         PatternRow {
-            taken: 0xFF,
+            taken: 0x1FF,
+            dark: 1 << 8,
+        }
+    } else if last < y {
+        PatternRow {
+            taken: 0x1FF,
             dark: FINDER[n - 1 - y],
         }
     } else {
         NONE
-    }
-}
-
-/// Returns the row of an alignment pattern that lies in row `y`, the left module of the pattern in bit 0.
-#[tactic(auto, unfolding(crate::specs::Private::FunctionRows::alignment_row))]
-fn alignment_row(centres: u64, y: usize) -> PatternRow
-    requires { y < SIDE }
-    ensures { result ≡ FunctionRows.alignment_row centres y }
-{
-    // Bit k says whether row y + k - 2 has centres. Of five rows at most one has.
-    let near = ((centres << 2) >> y) & 0b11111;
-    if near == 0 {
-        NONE
-    } else if near == 0b00100 {
-        PatternRow {
-            taken: 0b11111,
-            dark: 0b10101,
-        }
-    } else if near & 0b01010 != 0 {
-        PatternRow {
-            taken: 0b11111,
-            dark: 0b10001,
-        }
-    } else {
-        PatternRow {
-            taken: 0b11111,
-            dark: 0b11111,
-        }
     }
 }
 
@@ -135,11 +115,22 @@ fn alignments(version: Version, y: usize) -> PatternRow
     ensures { result ≡ FunctionRows.alignments version y }
 {
     let centres = CENTRES[usize::from(version.number()) - 1];
-    let row = alignment_row(centres, y);
+    // Bit k says whether row y + k - 2 has centres. Of five rows at most one has.
+    let near = ((centres << 2) >> y) & 0b11111;
+    if near == 0 {
+        return NONE;
+    }
+    let dark = if near == 0b00100 {
+        0b10101
+    } else if near & 0b01010 != 0 {
+        0b10001
+    } else {
+        0b11111
+    };
     let columns = left_columns(version.side(), centres, y);
     PatternRow {
-        taken: row.taken * columns,
-        dark: row.dark * columns,
+        taken: 0b11111 * columns,
+        dark: dark * columns,
     }
 }
 
@@ -165,33 +156,6 @@ fn timings(n: usize, y: usize) -> PatternRow
             taken: 1 << 6,
             dark: 0,
         }
-    }
-}
-
-/// The modules of the format information, which are light here, and the module that is always dark.
-#[tactic(auto, unfolding(crate::specs::Private::FunctionRows::formats))]
-fn formats(n: usize, y: usize) -> PatternRow
-    requires { (21 ≤ n) × (n ≤ SIDE) }
-    ensures { result ≡ FunctionRows.formats n y }
-{
-    let last = n - 8;
-    if y == 8 {
-        PatternRow {
-            taken: 0x1FF | (0xFF << last),
-            dark: 0,
-        }
-    } else if y == last {
-        PatternRow {
-            taken: 1 << 8,
-            dark: 1 << 8,
-        }
-    } else if y < 8 || last < y {
-        PatternRow {
-            taken: 1 << 8,
-            dark: 0,
-        }
-    } else {
-        NONE
     }
 }
 
@@ -240,9 +204,8 @@ pub fn function_row(version: Version, y: usize) -> PatternRow
     ensures { HasFunctions version y result }
 {
     let n = version.side();
-    finders(n, y)
-        .or_else(alignments(version, y))
-        .or_else(timings(n, y))
-        .or_else(formats(n, y))
-        .or_else(versions(version, y))
+    corners(n, y)
+        .join(alignments(version, y))
+        .join(timings(n, y))
+        .join(versions(version, y))
 }

@@ -10,120 +10,47 @@ use qrdata::Mask;
 /// A one in every sixth place.
 const SIXTHS: u64 = 0x0041041041041041;
 
-/// For each mask, which modules it flips in each of the first twelve rows: six columns, the first one the lowest bit,
-/// over and over. The masks repeat after six columns and twelve rows.
+/// Makes rows of six columns, the first one the lowest bit, over and over.
+macro_rules! rows {
+    ($($columns:literal)*) => {
+        [$($columns * SIXTHS),*]
+    };
+}
+
+/// For each mask, which modules it flips in each of the first twelve rows. The masks repeat after six columns and twelve
+/// rows.
 static PATTERNS: [[u64; 12]; 8] = [
-    [
-        0b010101 * SIXTHS,
-        0b101010 * SIXTHS,
-        0b010101 * SIXTHS,
-        0b101010 * SIXTHS,
-        0b010101 * SIXTHS,
-        0b101010 * SIXTHS,
-        0b010101 * SIXTHS,
-        0b101010 * SIXTHS,
-        0b010101 * SIXTHS,
-        0b101010 * SIXTHS,
-        0b010101 * SIXTHS,
-        0b101010 * SIXTHS,
+    rows![
+        0b010101 0b101010 0b010101 0b101010 0b010101 0b101010
+        0b010101 0b101010 0b010101 0b101010 0b010101 0b101010
     ],
-    [
-        0b111111 * SIXTHS,
-        0b000000 * SIXTHS,
-        0b111111 * SIXTHS,
-        0b000000 * SIXTHS,
-        0b111111 * SIXTHS,
-        0b000000 * SIXTHS,
-        0b111111 * SIXTHS,
-        0b000000 * SIXTHS,
-        0b111111 * SIXTHS,
-        0b000000 * SIXTHS,
-        0b111111 * SIXTHS,
-        0b000000 * SIXTHS,
+    rows![
+        0b111111 0b000000 0b111111 0b000000 0b111111 0b000000
+        0b111111 0b000000 0b111111 0b000000 0b111111 0b000000
     ],
-    [
-        0b001001 * SIXTHS,
-        0b001001 * SIXTHS,
-        0b001001 * SIXTHS,
-        0b001001 * SIXTHS,
-        0b001001 * SIXTHS,
-        0b001001 * SIXTHS,
-        0b001001 * SIXTHS,
-        0b001001 * SIXTHS,
-        0b001001 * SIXTHS,
-        0b001001 * SIXTHS,
-        0b001001 * SIXTHS,
-        0b001001 * SIXTHS,
+    rows![
+        0b001001 0b001001 0b001001 0b001001 0b001001 0b001001
+        0b001001 0b001001 0b001001 0b001001 0b001001 0b001001
     ],
-    [
-        0b001001 * SIXTHS,
-        0b100100 * SIXTHS,
-        0b010010 * SIXTHS,
-        0b001001 * SIXTHS,
-        0b100100 * SIXTHS,
-        0b010010 * SIXTHS,
-        0b001001 * SIXTHS,
-        0b100100 * SIXTHS,
-        0b010010 * SIXTHS,
-        0b001001 * SIXTHS,
-        0b100100 * SIXTHS,
-        0b010010 * SIXTHS,
+    rows![
+        0b001001 0b100100 0b010010 0b001001 0b100100 0b010010
+        0b001001 0b100100 0b010010 0b001001 0b100100 0b010010
     ],
-    [
-        0b000111 * SIXTHS,
-        0b000111 * SIXTHS,
-        0b111000 * SIXTHS,
-        0b111000 * SIXTHS,
-        0b000111 * SIXTHS,
-        0b000111 * SIXTHS,
-        0b111000 * SIXTHS,
-        0b111000 * SIXTHS,
-        0b000111 * SIXTHS,
-        0b000111 * SIXTHS,
-        0b111000 * SIXTHS,
-        0b111000 * SIXTHS,
+    rows![
+        0b000111 0b000111 0b111000 0b111000 0b000111 0b000111
+        0b111000 0b111000 0b000111 0b000111 0b111000 0b111000
     ],
-    [
-        0b111111 * SIXTHS,
-        0b000001 * SIXTHS,
-        0b001001 * SIXTHS,
-        0b010101 * SIXTHS,
-        0b001001 * SIXTHS,
-        0b000001 * SIXTHS,
-        0b111111 * SIXTHS,
-        0b000001 * SIXTHS,
-        0b001001 * SIXTHS,
-        0b010101 * SIXTHS,
-        0b001001 * SIXTHS,
-        0b000001 * SIXTHS,
+    rows![
+        0b111111 0b000001 0b001001 0b010101 0b001001 0b000001
+        0b111111 0b000001 0b001001 0b010101 0b001001 0b000001
     ],
-    [
-        0b111111 * SIXTHS,
-        0b000111 * SIXTHS,
-        0b011011 * SIXTHS,
-        0b010101 * SIXTHS,
-        0b101101 * SIXTHS,
-        0b110001 * SIXTHS,
-        0b111111 * SIXTHS,
-        0b000111 * SIXTHS,
-        0b011011 * SIXTHS,
-        0b010101 * SIXTHS,
-        0b101101 * SIXTHS,
-        0b110001 * SIXTHS,
+    rows![
+        0b111111 0b000111 0b011011 0b010101 0b101101 0b110001
+        0b111111 0b000111 0b011011 0b010101 0b101101 0b110001
     ],
-    [
-        0b010101 * SIXTHS,
-        0b111000 * SIXTHS,
-        0b110001 * SIXTHS,
-        0b101010 * SIXTHS,
-        0b000111 * SIXTHS,
-        0b001110 * SIXTHS,
-        0b010101 * SIXTHS,
-        0b111000 * SIXTHS,
-        0b110001 * SIXTHS,
-        0b101010 * SIXTHS,
-        0b000111 * SIXTHS,
-        0b001110 * SIXTHS,
+    rows![
+        0b010101 0b111000 0b110001 0b101010 0b000111 0b001110
+        0b010101 0b111000 0b110001 0b101010 0b000111 0b001110
     ],
 ];
 

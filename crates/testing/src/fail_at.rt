@@ -103,6 +103,8 @@ impl<D: Sink> Sink for FailAt<D> {
 
     ghost is_flushed = { λ s. D.is_flushed s.device };
 
+    ghost buffers_nothing = { λ s. D.buffers_nothing s.device };
+
     ghost took = { λ s t xs. D.took s.device t.device xs };
 
     fn write(&mut self, bytes: &[u8]) -> Result<usize, IoFault>
@@ -120,7 +122,7 @@ impl<D: Sink> Sink for FailAt<D> {
 
     fn flush(&mut self) -> Result<(), IoFault>
         ensures flushes { let sink = ⟦<FailAt<D> as Sink>⟧ in
-            Flushes sink.failures sink.is_flushed sink.took self.old self.new result }
+            Flushes sink.failures sink.is_flushed sink.buffers_nothing sink.took self.old self.new result }
         ensures turn { FailsInTurn D.failures self.old self.new result }
     {
         if self.fails_now() {
@@ -133,7 +135,7 @@ impl<D: Sink> Sink for FailAt<D> {
     /// Passes on what the device buffers. It is not counted as a call.
     fn pass_on(&mut self) -> Result<(), IoFault>
         ensures passes { let sink = ⟦<FailAt<D> as Sink>⟧ in
-            PassesBuffered sink.failures sink.is_flushed sink.took self.old self.new result }
+            PassesBuffered sink.failures sink.is_flushed sink.buffers_nothing sink.took self.old self.new result }
         ensures others { self.new ≡ record self.old { device = self.new.device } }
         ensures below { CountsFailure (D.failures (device_of self.old))
             (D.failures (device_of self.new)) result }

@@ -1,6 +1,6 @@
 //! Devices in memory.
 ghost use Rattle.std.specs.Prelude.{◌≡◌, ◌+◌, ◌-◌, ◌<◌, ◌≤◌, ◌↔◌, ◌++◌, [], true, length, min};
-ghost use Rattle.std.specs.Prelude.{IfOk, IsOk, IsErr, refl};
+ghost use Rattle.std.specs.Prelude.{IfOk, IsOk, IsErr, refl, ⊤};
 ghost use Rattle.std.proofs.lemmas.List.{append-nil};
 ghost use Rattle.std.proofs.Common.{sym};
 ghost use Rattle.device.specs.Private.Joined.{cut_joined, grown_joined};
@@ -136,6 +136,8 @@ impl<const N: usize> Sink for MemSink<N> {
 
     ghost is_flushed = { λ s. s.is_flushed };
 
+    ghost buffers_nothing = { λ s. ⊤ };
+
     ghost took = { λ s t xs. t.held.items ≡ s.held.items ++ xs };
 
     ghost use Rattle.testing.specs.Memory.{held_by, write_limit, room_of, TakesAlike};
@@ -163,11 +165,15 @@ impl<const N: usize> Sink for MemSink<N> {
 
     fn flush(&mut self) -> Result<(), IoFault>
         ensures flushes { let sink = ⟦<MemSink<N> as Sink>⟧ in
-            Flushes sink.failures sink.is_flushed sink.took self.old self.new result }
+            Flushes sink.failures sink.is_flushed sink.buffers_nothing sink.took self.old self.new result }
         ensures answer { IsOk result }
         ensures alike { TakesAlike self.old self.new }
     {
         self.is_flushed = true;
+        Ok(())
+    }
+
+    fn pass_on(&mut self) -> Result<(), IoFault> {
         Ok(())
     }
 

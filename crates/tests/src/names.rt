@@ -1,9 +1,9 @@
 //! Names of files that no command line can have: those with a NUL.
-use command::{OpenFault, open_file};
+use command::{NamedFiles, OpenFault, StdFiles};
 
 /// Whether a file of this name is not opened, and not for want of memory.
 fn is_no_file(rt: &HostRuntime, name: &str) -> bool {
-    match open_file(rt, rt.alloc(), name) {
+    match StdFiles::new(rt).open(name) {
         Ok(_) => false,
         Err(fault) => fault == OpenFault::NoFile,
     }

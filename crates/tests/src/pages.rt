@@ -1,4 +1,5 @@
 //! The examples of the crates' pages (`crates/*/README.md`). `scripts/pages.py` compares them with the pages.
+use capi::{CallOptions, draw_into};
 use command::{ArgumentsFault, options_of};
 use device::{Buffered, Sink, write_whole};
 use filter::{Status, run};
@@ -132,4 +133,22 @@ fn page_of_command(rt: HostRuntime) -> Result<(), Fail> {
         Err(_fault) => panic!(rt; "refused"),
     }
     Ok(())
+}
+
+#[test]
+fn page_of_capi(rt: HostRuntime) {
+    let options = CallOptions {
+        format: 1,
+        scale: 1,
+        height: 1,
+        level: 1,
+        min_version: 1,
+        mask: 8,
+        escapes: 0,
+        reserved: [0; 5],
+    };
+    let mut out = [7; 200];
+    let mut message = [0; 103];
+    let answer = draw_into(&options, 1, b"7351353", &mut out, &mut message);
+    assert!(rt; answer.code == 0 && answer.length == 164 && out[163] == b'\n' && out[164] == 7);
 }

@@ -1,6 +1,6 @@
 -- What the patterns of a symbol have in each row, 64 bits a row: bit x is the module at column x; and where the bits of
 -- the format information are (ISO/IEC 18004, 6.3, 7.9 and 7.10).
-use Rattle.std.specs.Prelude.{ℕ, ◌+◌, ◌-◌, ◌*◌, ◌/◌, ◌%◌, ◌^◌, ◌&&◌, ◌||◌, ◌==◌, nat_lt, nat_le, not, if◌then◌else◌}
+use Rattle.std.specs.Prelude.{ℕ, ◌+◌, ◌-◌, ◌*◌, ◌/◌, ◌%◌, ◌^◌, ◌&&◌, ◌==◌, nat_lt, nat_le, not, if◌then◌else◌}
 use Rattle.std.specs.Prelude.{bit_and, bit_or, slice_index}
 use Rattle.std.specs.Int.{bit_not, w64}
 use Rattle.qrdata.specs.Versions.{side_of}
@@ -16,28 +16,19 @@ pattern_row taken dark = record { taken = taken; dark = dark }
 abbrev pub up : ℕ → ℕ → ℕ
 up w k = w * 2 ^ k % 2 ^ 64
 
--- the first of two patterns that has a module
-unfoldable pub or_else : PatternRow → PatternRow → PatternRow
-or_else a b =
-    pattern_row (bit_or a.taken b.taken) (bit_or a.dark (bit_and b.dark (bit_not w64 a.taken)))
+-- the modules of two patterns
+unfoldable pub join : PatternRow → PatternRow → PatternRow
+join a b = pattern_row (bit_or a.taken b.taken) (bit_or a.dark b.dark)
 
--- the finder patterns with their separators
-unfoldable pub finders : ℕ → ℕ → PatternRow
-finders n y =
-    if nat_lt y 8
-    then pattern_row (bit_or 0xFF (up 0xFF (n - 8)))
+-- the finder patterns with their separators and the format information, light, and the module that is always dark
+unfoldable pub corners : ℕ → ℕ → PatternRow
+corners n y =
+    if nat_lt y 9
+    then pattern_row (bit_or 0x1FF (up 0xFF (n - 8)))
     (bit_or (slice_index FINDER y) (up (slice_index FINDER y) (n - 7)))
-    else (if nat_le (n - 8) y then pattern_row 0xFF (slice_index FINDER (n - 1 - y))
-    else pattern_row 0 0)
-
--- the row of an alignment pattern that lies in a row, where these are the centres
-unfoldable pub alignment_row : ℕ → ℕ → PatternRow
-alignment_row centres y =
-    let near = bit_and (up centres 2 / 2 ^ y) 31 in
-    if near == 0 then pattern_row 0 0
-    else (if near == 4 then pattern_row 31 21
-    else (if not (bit_and near 10 == 0) then pattern_row 31 17
-    else pattern_row 31 31))
+    else (if y == n - 8 then pattern_row 0x1FF 256
+    else (if nat_lt (n - 8) y then pattern_row 0x1FF (slice_index FINDER (n - 1 - y))
+    else pattern_row 0 0))
 
 -- the left columns of the alignment patterns about a row, but for those with their centre in a finder pattern
 unfoldable pub left_columns : ℕ → ℕ → ℕ → ℕ
@@ -51,25 +42,20 @@ centres_of v = slice_index CENTRES (v - 1)
 
 -- the alignment patterns
 unfoldable pub alignments : ℕ → ℕ → PatternRow
-unfolding alignment_row left_columns centres_of
+unfolding left_columns centres_of
 alignments v y =
-    let row = alignment_row (centres_of v) y in
+    let near = bit_and (up (centres_of v) 2 / 2 ^ y) 31 in
     let columns = left_columns (side_of v) (centres_of v) y in
-    pattern_row (row.taken * columns) (row.dark * columns)
+    if near == 0 then pattern_row 0 0
+    else (if near == 4 then pattern_row (31 * columns) (21 * columns)
+    else (if not (bit_and near 10 == 0) then pattern_row (31 * columns) (17 * columns)
+    else pattern_row (31 * columns) (31 * columns)))
 
 -- the timing patterns
 unfoldable pub timings : ℕ → ℕ → PatternRow
 timings n y =
     if y == 6 then pattern_row (2 ^ n - 1) (bit_and (2 ^ n - 1) EVERY_OTHER)
     else (if y % 2 == 0 then pattern_row 64 64 else pattern_row 64 0)
-
--- the modules of the format information, light, and the module that is always dark
-unfoldable pub formats : ℕ → ℕ → PatternRow
-formats n y =
-    if y == 8 then pattern_row (bit_or 0x1FF (up 0xFF (n - 8))) 0
-    else (if y == n - 8 then pattern_row 256 256
-    else (if nat_lt y 8 || nat_lt (n - 8) y then pattern_row 256 0
-    else pattern_row 0 0))
 
 -- the bits 0, 3, 6, 9, 12 and 15 of the version information
 unfoldable pub every_third : ℕ → ℕ
@@ -90,10 +76,10 @@ versions v y =
 
 -- the modules that the codewords do not choose, those of the format information light
 unfoldable pub function_row : ℕ → ℕ → PatternRow
-unfolding or_else finders alignments timings formats versions
+unfolding join corners alignments timings versions
 function_row v y =
     let n = side_of v in
-    or_else (or_else (or_else (or_else (finders n y) (alignments v y)) (timings n y)) (formats n y)) (versions v y)
+    join (join (join (corners n y) (alignments v y)) (timings n y)) (versions v y)
 
 -- the row of the module in column 8 that has a bit of the format information
 unfoldable pub row_of_bit : ℕ → ℕ → ℕ

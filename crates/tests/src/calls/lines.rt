@@ -89,6 +89,8 @@ impl<S: Sink + Drop> Sink for Recorded<'_, S> {
 
     ghost is_flushed = { λ s. S.is_flushed s.device };
 
+    ghost buffers_nothing = { λ s. S.buffers_nothing s.device };
+
     ghost took = { λ s t xs. S.took s.device t.device xs };
 
     fn write(&mut self, bytes: &[u8]) -> Result<usize, IoFault> {

@@ -37,7 +37,12 @@ returns-in-Ok-Ok g c =
           (event_took options.run _ took (of_line c.args.number o) h.writes.bytes
           (subst took clean.0 (g.met.E.Sink.took_none c.args.err.now)));
       status = λ text at. rw (outcome-seen options text _ (c.parse-item.ensures.item text at)) clean.1;
-      sinks = record { counts = (h.writes.count, refl); out_unflushed = h.writes.unflushed; err_unflushed = λ e. e };
+      sinks = record {
+        counts = (h.writes.count, refl);
+        out_unflushed = h.writes.unflushed;
+        err_unflushed = λ e. e;
+        passed_on = tt;
+      };
     }
 
 pub returns-in-Ok-Err : goal.returns-in-Ok-Err
@@ -62,6 +67,7 @@ returns-in-Ok-Err g c =
         counts = rw h.writes.count at refuse.sinks.counts;
         out_unflushed = λ e. h.writes.unflushed (refuse.sinks.out_unflushed e);
         err_unflushed = refuse.sinks.err_unflushed;
+        passed_on = refuse.sinks.passed_on;
       };
     }
 
@@ -76,5 +82,10 @@ returns-in-Err g c =
           (event_stops options.run (taken out err) Images (of_line c.args.number
           (outcome_of_item (item_seen c.parse-item.result))) [] writes.bytes (g.met.E.Sink.took_none c.args.err.now));
       status = λ text at. tt;
-      sinks = record { counts = (writes.count, refl); out_unflushed = writes.unflushed; err_unflushed = λ e. e };
+      sinks = record {
+        counts = (writes.count, refl);
+        out_unflushed = writes.unflushed;
+        err_unflushed = λ e. e;
+        passed_on = tt;
+      };
     }

@@ -6,10 +6,10 @@ use Rattle.device.proofs.WritingLaws.{HasWritten-none, WritesText-whole}
 use Rattle.picture.specs.Picture.{AreEqualRows, Picture}
 use Rattle.picture.specs.Private.Rows.{repeated, row_text}
 use Rattle.picture.specs.Text.{below, pixel_row}
-use Rattle.picture.proofs.GridLaws.{pixel_row-equal}
+use Rattle.picture.proofs.GridLaws.{pixel_row-bits, pixel_row-equal}
 use Rattle.picture.proofs.RepeatedLaws.{same_texts}
 use Rattle.picture.proofs.WritingLaws.{flat_map-below_add}
-use Rattle.picture.proofs.WritingLoopLaws.{HasWritten-below_more, WritesText-below_fails}
+use Rattle.picture.proofs.WritingLoopLaws.{below_more, HasWritten-below_more, WritesText-below_fails}
 use Rattle.picture.proofs.kept_rows.write_kept_rows.Goals as goal
 
 -- a row that was read is as long as the picture is wide
@@ -34,16 +34,39 @@ loop-y-init g c = record {
   written = HasWritten-none g.S.Sink c.args.sink.now (g.met.S.Sink.took_none _);
 }
 
-pub returns-in_err-write_equal_rows : goal.returns-in_err-write_equal_rows
-returns-in_err-write_equal_rows g c =
+pub returns-in_err-write_equal_rows-in_default : goal.returns-in_err-write_equal_rows-in_default
+returns-in_err-write_equal_rows-in_default g c =
     let p = g.G.Grid.picture c.args.grid.now in
     let text = row_text g.T.PixelText.text g.T.PixelText.row_end in
     let y = c.loop-y.y in
     let n = c.equal_rows-count.result in
     WritesText-below_fails g.S.Sink g.met.S.Sink.took_joined (λ y. text (pixel_row p y)) _ _ _ y (y + n) _
     (rows_more text p y n _ _ _ c.width-width.ensures c.read_row.ensures c.equal_rows-count.ensures)
+    c.loop-y.invariant.written p.height [] _ c.from_residual-in_err-write_equal_rows-in_default.result c.from_residual-in_err-write_equal_rows-in_default.ensures.0
+    c.equal_rows-count.ensures.inside (sym (append-nil _)) c.in_err-write_equal_rows-in_default.ensures
+
+pub returns-in_err-write_row_bits-in-Some : goal.returns-in_err-write_row_bits-in-Some
+returns-in_err-write_row_bits-in-Some g c =
+    let p = g.G.Grid.picture c.args.grid.now in
+    let text = row_text g.T.PixelText.text g.T.PixelText.row_end in
+    let y = c.loop-y.y in
+    WritesText-below_fails g.S.Sink g.met.S.Sink.took_joined (λ y. text (pixel_row p y)) _ _ _ y (y + 1) _
+    (below_more (λ y. text (pixel_row p y)) y _ (ap text (pixel_row-bits p y _ _ c.width-width.ensures c.in-Some.ensures)))
     c.loop-y.invariant.written p.height [] _ c.from_residual.result c.from_residual.ensures.0
-    c.equal_rows-count.ensures.inside (sym (append-nil _)) c.in_err-write_equal_rows.ensures
+    (omega (arith, c.height-height.ensures)) (sym (append-nil _)) c.in_err-write_row_bits-in-Some.ensures
+
+pub loop-y-preserved-then-width-le-PIECE : goal.loop-y-preserved-then-width-le-PIECE
+loop-y-preserved-then-width-le-PIECE g c =
+    let p = g.G.Grid.picture c.args.grid.now in
+    let text = row_text g.T.PixelText.text g.T.PixelText.row_end in
+    let y = c.loop-y.y in
+    record {
+      inside = omega (arith, c.height-height.ensures);
+      size = c.loop-y.invariant.size;
+      written = HasWritten-below_more g.S.Sink g.met.S.Sink.took_joined (λ y. text (pixel_row p y)) _ _ _ y (y + 1) _
+          (below_more (λ y. text (pixel_row p y)) y _ (ap text (pixel_row-bits p y _ _ c.width-width.ensures c.in-Some.ensures)))
+          c.loop-y.invariant.written c.in_ok-write_row_bits-in-Some.ensures;
+    }
 
 pub loop-y-preserved : goal.loop-y-preserved
 loop-y-preserved g c =
@@ -58,7 +81,7 @@ loop-y-preserved g c =
       size = omega (arith, long, length-append {A = Bool}, length-drop {A = Bool});
       written = HasWritten-below_more g.S.Sink g.met.S.Sink.took_joined (λ y. text (pixel_row p y)) _ _ _ y (y + n) _
           (rows_more text p y n _ _ _ c.width-width.ensures c.read_row.ensures c.equal_rows-count.ensures)
-          c.loop-y.invariant.written c.in_ok-write_equal_rows.ensures;
+          c.loop-y.invariant.written c.in_ok-write_equal_rows-in_default.ensures;
     }
 
 pub returns : goal.returns

@@ -1,9 +1,12 @@
 use Rattle.std.proofs.Common.{◌≡◌, ◌<◌, arith, refl, Some}
-use Rattle.std.proofs.lemmas.List.Elements.{recursion_from_All}
+use Rattle.std.proofs.lemmas.List.Elements.{All-from_recursion, recursion_from_All}
 use Rattle.qrdata.specs.Codewords.{symbol_codewords}
 use Rattle.qrdata.specs.Reading.{data_in}
 use Rattle.qrdata.specs.Segments.{segments_bits}
 use Rattle.qrdata.specs.Versions.{data_codewords}
+use Rattle.std.specs.Prelude.{All}
+use Rattle.qrdata.proofs.CodewordByteLaws.{AreBytes-symbol_codewords}
+use Rattle.qrdata.proofs.DamageLaws.{IsCorrected-of, IsGuarded-of}
 use Rattle.qrdata.proofs.DataReadingLaws.{data_in-symbol_codewords, length-read}
 use Rattle.qrdata.proofs.LengthLaws.{length-segments_bits}
 use Rattle.qrdata.proofs.PaddingLaws.{length-data_codewords_of}
@@ -48,4 +51,12 @@ returns c =
     let read : data_in plan.version plan.level written ≡ Some plan.bytes =
     rw value (data_in-symbol_codewords plan.version plan.level plan.segments plan.bytes known.0 known.1
     (recursion_from_All (λ b. b < 256) plan.bytes bytes) fit.cut fit.fits) in
-    record { value = value; count = length-read plan.version plan.level written plan.bytes read; read = read }
+    let elements : All (λ w. w < 256) written = rw value (All-from_recursion (λ w. w < 256) _
+    (AreBytes-symbol_codewords plan.version plan.level plan.segments plan.bytes known.0 known.1)) in
+    record {
+      value = value;
+      count = length-read plan.version plan.level written plan.bytes read;
+      read = read;
+      guarded = IsGuarded-of plan.version plan.level written plan.bytes known elements read;
+      corrected = IsCorrected-of plan.version plan.level written plan.bytes known elements read;
+    }

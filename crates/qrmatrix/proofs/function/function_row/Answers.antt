@@ -8,15 +8,13 @@ pub returns : goal.returns
 unfolding function_row
 returns c =
     let v = c.args.version in
-    let e : c.or_else-4.result ≡ function_row v c.args.y = rw (
-      c.or_else-4.ensures,
-      c.or_else-3.ensures,
-      c.or_else-2.ensures,
-      c.or_else.ensures,
-      c.finders.ensures,
+    let e : c.join-3.result ≡ function_row v c.args.y = rw (
+      c.join-3.ensures,
+      c.join-2.ensures,
+      c.join.ensures,
+      c.corners.ensures,
       c.alignments.ensures,
       c.timings.ensures,
-      c.formats.ensures,
       c.versions.ensures,
       c.side-n.ensures.value,
     )

@@ -1,4 +1,4 @@
-use Rattle.std.proofs.Common.{◌++◌, ◌∙◌, take, subst}
+use Rattle.std.proofs.Common.{◌++◌, ◌∙◌, arith, take, subst}
 use Rattle.std.specs.Prelude.{slice_range}
 use Rattle.std.proofs.lemmas.List.{append-nil}
 use Rattle.std.proofs.lemmas.Result.{MatchResult-from_err}
@@ -21,6 +21,7 @@ returns-in_err-count-clause-passes g c =
       count = MatchResult-from_err c.from_residual.result _ _ c.from_residual.ensures.0
           (λ _. subst (λ n. Rises n (g.S.Sink.failures c.write.new.self)) h.uncounted e.count);
       flushed = h.marked;
+      buffered = grind (arith, c.from_residual.ensures.0);
     }
 
 pub loop-self-preserved : goal.loop-self-preserved

@@ -1,4 +1,4 @@
-use Rattle.std.proofs.Common.{subst, List, ℕ, [], ◌++◌, ◌∙◌, refl}
+use Rattle.std.proofs.Common.{subst, List, ℕ, [], ◌++◌, ◌∙◌, arith, refl}
 use Rattle.std.proofs.lemmas.List.{append-nil}
 use Rattle.std.proofs.lemmas.Result.{MatchResult-from_err}
 use Rattle.device.specs.Device.{Rises}
@@ -22,6 +22,7 @@ returns-in_err-flush-clause-flushes g c = record {
       c.in_err-flush.ensures.count);
   flushed = MatchResult-from_err c.from_residual-in_err-flush.result _ _ c.from_residual-in_err-flush.ensures.0
       (λ _. c.in_ok-drain.ensures.passes.flushed);
+  buffered = grind (arith, c.from_residual-in_err-flush.ensures.0);
 }
 
 pub returns-clause-flushes : goal.returns-clause-flushes
@@ -30,4 +31,5 @@ returns-clause-flushes g c = record {
       c.flush.ensures.bytes;
   count = c.in_ok-flush.ensures.count ∙ c.in_ok-drain.ensures.passes.count;
   flushed = refl;
+  buffered = c.in_ok-drain.ensures.passes.buffered;
 }

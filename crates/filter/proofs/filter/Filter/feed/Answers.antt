@@ -13,7 +13,7 @@ loop-line-init g c = record {
     sends = Sends-none options.run tt refl (g.met.O.Sink.took_none _) (g.met.E.Sink.took_none _);
     is_after = at;
   });
-  sinks = record { counts = (refl, refl); out_unflushed = λ e. e; err_unflushed = λ e. e };
+  sinks = record { counts = (refl, refl); out_unflushed = λ e. e; err_unflushed = λ e. e; passed_on = tt };
 }
 
 pub loop-line-smaller : goal.loop-line-smaller

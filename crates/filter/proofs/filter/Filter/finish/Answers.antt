@@ -14,6 +14,7 @@ returns-then-self g c =
       status = λ options text at. tt;
       flushed = (λ other e. e, λ e. e);
       counts = λ not_spent. elim (true≢false (spent ∙ not_spent)) [ ];
+      passed_on = tt;
       spent = λ e. (refl, refl, refl);
     }
 
@@ -29,6 +30,7 @@ returns-in_err-end_open_line g c =
       status = λ options text at. tt;
       flushed = (λ other. call.sinks.out_unflushed, call.sinks.err_unflushed);
       counts = λ e. call.sinks.counts;
+      passed_on = call.sinks.passed_on;
       spent = λ spent. elim (true≢false (sym spent ∙ isnt)) [ ];
     })
 
@@ -48,5 +50,6 @@ returns g c =
           ∙ (sym (status_of-flushes _) ∙ ap status_of (sym h.1)))) flush.status;
       flushed = FlushesImagesFirst-after before.sinks _ _ r flush.flushed;
       counts = λ e. CountsFault-after before.sinks _ _ r flush.counts;
+      passed_on = flush.passed_on;
       spent = λ spent. elim (true≢false (sym spent ∙ isnt)) [ ];
     }

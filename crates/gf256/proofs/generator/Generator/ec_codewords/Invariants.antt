@@ -1,6 +1,5 @@
 use Rattle.std.proofs.Common.{◌≡◌, drop}
-use Rattle.gf256.specs.ErrorCorrection.{register_after}
-use Rattle.gf256.specs.Private.{padded_generator, zeros}
+use Rattle.gf256.specs.Private.{padded_generator, register_after, zeros}
 use Rattle.gf256.proofs.generator.Generator.ec_codewords.Given as goal
 
 -- the codewords that are left make of the register what all of them make of zeros

@@ -5,9 +5,8 @@ use Rattle.std.proofs.lemmas.Grind.{get_or_default_zero}
 use Rattle.std.proofs.lemmas.List.{length-append, length-drop}
 use Rattle.std.proofs.lemmas.Nat.{xor_of_8}
 use Rattle.std.proofs.lemmas.Simd.{Each1-get_or}
-use Rattle.gf256.specs.ErrorCorrection.{next_register}
 use Rattle.gf256.specs.Polynomial.{polynomial_sum, scalar_multiple}
-use Rattle.gf256.specs.Private.{padded_generator}
+use Rattle.gf256.specs.Private.{next_register, padded_generator}
 use Rattle.gf256.proofs.GeneratorLaws.{All-padded_generator, length-padded_generator}
 use Rattle.gf256.proofs.RegisterLaws.{zip2-parts}
 use Rattle.gf256.proofs.generator.Generator.next.Goals as goal

@@ -7,7 +7,10 @@ use Rattle.linear.specs.Private.Data.{AreDigits}
 use Rattle.linear.specs.Private.Lists.{Appends}
 use Rattle.linear.specs.Ean.{ean13_row}
 use Rattle.linear.specs.EanReading.{read_ean13}
-use Rattle.linear.proofs.EanLaws.{IsDrawn-from_Ok, ean13_reads}
+use Rattle.linear.proofs.DamageLaws.{ean13_rows_far_apart}
+use Rattle.linear.proofs.EncodingLaws.{IsDrawn-from_Ok}
+use Rattle.linear.proofs.GapLaws.{ean13_gap}
+use Rattle.linear.proofs.EanLaws.{ean13_reads}
 use Rattle.linear.proofs.ean.Ean13Linear.encode.Goals as goal
 
 -- the first digit and the others, as the code cuts them
@@ -30,6 +33,7 @@ returns-clause-drawn c =
     let full = c.in_ok-full.full.items in
     let whole = first_and_rest full _ _ c.deref.ensures.0 c.deref-2.ensures.0
     (omega (arith, c.in_ok-full.ensures.full.digits.long)) in
-    IsDrawn-from_Ok _ ean13_row read_ean13 full c.in_ok-full.ensures.answer c.clear.ensures
-    (subst (λ xs. Appends c.clear.new.self.items c.push_ean13.new.row.items (ean13_row xs) 95) whole
-    c.push_ean13.ensures) (ean13_reads full c.in_ok-full.ensures.full) refl
+    IsDrawn-from_Ok _ ean13_row read_ean13 1 ean13_rows_far_apart ean13_gap full c.in_ok-full.ensures.answer
+    c.clear.ensures
+    (subst (λ xs. Appends c.clear.new.self.items c.push_ean13.new.row.items (ean13_row xs) 95) whole c.push_ean13.ensures)
+    (ean13_reads full c.in_ok-full.ensures.full) refl

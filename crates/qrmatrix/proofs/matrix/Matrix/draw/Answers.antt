@@ -1,9 +1,13 @@
-use Rattle.std.proofs.Common.{◌≡◌, ℕ, arith, rules, refl, subst, ◌∙◌, ◌<◌, false}
+use Rattle.std.proofs.Common.{◌≡◌, ℕ, Some, arith, rules, refl, subst, ◌∙◌, ◌<◌, false}
 use mathlib.Core.Path.{fun_ext}
 use Rattle.std.specs.Prelude.{All}
 use Rattle.qrmatrix.specs.MaskChoice.{chosen_mask}
 use Rattle.qrmatrix.specs.Modules.{is_inside, module_at}
+use Rattle.qrmatrix.specs.Reading.{Reading, read_matrix}
 use Rattle.qrmatrix.specs.Square.{value_at}
+use Rattle.qrmatrix.proofs.DamageLaws.{IsGuarded-read}
+use Rattle.qrmatrix.proofs.MirrorLaws.{IsUnreadInMirrors-read}
+use Rattle.qrmatrix.proofs.TurnLaws.{IsUnreadTurned-read}
 use Rattle.qrmatrix.proofs.ReadingLaws.{module_outside, reads_back}
 use Rattle.qrmatrix.proofs.matrix.Matrix.draw.Goals as goal
 use Rattle.qrmatrix.proofs.matrix.Matrix.draw.Goals.{in-Some, in-None}
@@ -45,12 +49,19 @@ returns c =
     let bytes : All (λ w. w < 256) codewords = rw c.deref.ensures.0 at c.are_bytes.ensures in
     let same : value_at c.match-mask.masked.modules ≡ module_at v c.args.level mask codewords =
     fun_ext (λ x. fun_ext (λ y. shown c x y)) in
+    let symbol : Reading = record { version = v; level = c.args.level; codewords = codewords } in
+    let dark = value_at c.match-mask.masked.modules in
+    let reads : read_matrix c.side.result dark ≡ Some symbol =
+    rw (same, c.side.ensures.value) (reads_back v c.args.level mask codewords c.side.ensures.known.0
+    c.side.ensures.known.1 (below c) c.requires bytes) in
     record {
       side = c.side.ensures.value;
       mask = mask_is c;
       modules = shown c;
-      reads = rw (same, c.side.ensures.value) (reads_back v c.args.level mask codewords c.side.ensures.known.0
-          c.side.ensures.known.1 (below c) c.requires bytes);
+      reads = reads;
+      guarded = IsGuarded-read c.side.result dark symbol reads;
+      unmirrored = IsUnreadInMirrors-read c.side.result dark symbol reads;
+      unturned = IsUnreadTurned-read c.side.result dark symbol reads;
     }
 
 pub invariant_of-result : goal.invariant_of-result

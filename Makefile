@@ -1,0 +1,115 @@
+# The one door: `make` lists what can be made. PREFIX and DESTDIR are as everywhere. LABELS and PROVED name a program
+# and a static library that are proved already; without them `rt` of the Rattle kit makes them, for every amd64 processor.
+MAKEFLAGS += --no-builtin-rules
+PREFIX ?= /usr/local
+DATADIR = $(PREFIX)/share
+LIBDIR ?= $(PREFIX)/lib
+PYTHONDIR ?= $(LIBDIR)/python3/dist-packages
+ZSHDIR ?= $(DATADIR)/zsh/site-functions
+CPU ?= x86-64
+LABELS ?= out/labels
+PROVED ?= out/liblabels_c.a
+SOURCES := $(shell find crates -name out -prune -o -name '*.rt' -print -o -name '*.antt' -print)
+TOOLS := $(notdir $(wildcard tools/label-*))
+MODULES := $(shell cd tools && find labeltools -name '*.py' -o -name '*.ui' -o -name messages.txt)
+LANGUAGES := $(patsubst tools/po/%.po,%,$(wildcard tools/po/*.po))
+WINDOW = org.labels.Window
+DOCUMENTS := README.md $(wildcard docs/*.md docs/pictures/*)
+PYTHON = /usr/bin/python3
+library = $(MAKE) -C lib OUT=$(CURDIR)/out/lib PROVED=$(abspath $(PROVED)) $(1)
+link = ln -sfn $(1) $(DESTDIR)$(2)
+
+help:
+	@echo 'make quick     the texts, the lints and the tests that need no program: minutes'
+	@echo 'make check     proves and tests every crate: most of an hour'
+	@echo 'make gate      all that a change has to pass'
+	@echo 'make all       the proved program in out/, the C library in out/lib/'
+	@echo 'make deb       the Debian packages of what is committed, in out/deb/'
+	@echo 'make deb-test  tries them in a fresh Debian, as root'
+	@echo 'make install | uninstall [PREFIX=$(PREFIX)] [DESTDIR=]'
+
+quick:
+	$(PYTHON) scripts/gate.py quick
+check:
+	rt ci
+gate:
+	.ci/run
+
+all: $(LABELS) $(PROVED)
+	$(call library,all)
+
+# Stops where there is no compiler.
+needs_rt = command -v rt > /dev/null || { echo 'rt of the Rattle kit is not on the path: or name proved files, \
+make LABELS=PROGRAM PROVED=LIBRARY.a' >&2; exit 1; }
+
+out/labels: $(SOURCES)
+	@$(needs_rt)
+	cd crates/labels && rt run --cpu $(CPU) < /dev/null
+	install -D crates/labels/out/labels $@
+out/liblabels_c.a: $(SOURCES) | $(LABELS)
+	@$(needs_rt)
+	cd crates/labels_c && rt lib --cpu $(CPU)
+	install -D -m 644 crates/labels_c/out/liblabels_c.a $@
+
+install: all
+	install -D $(LABELS) $(DESTDIR)$(PREFIX)/bin/labels
+	set -e; for tool in $(TOOLS); do \
+	    install -D tools/$$tool $(DESTDIR)$(DATADIR)/label-tools/$$tool; \
+	    $(call link,../share/label-tools/$$tool,$(PREFIX)/bin/$$tool); done
+	set -e; for file in $(MODULES); do \
+	    install -D -m 644 tools/$$file $(DESTDIR)$(DATADIR)/label-tools/$$file; done
+	set -e; for language in $(LANGUAGES); do \
+	    folder=$(DESTDIR)$(DATADIR)/label-tools/labeltools/locale/$$language/LC_MESSAGES; install -d $$folder; \
+	    msgfmt --check-format -o $$folder/label-tools.mo tools/po/$$language.po; done
+	install -D -m 644 -t $(DESTDIR)$(DATADIR)/applications tools/data/$(WINDOW).desktop
+	install -D -m 644 -t $(DESTDIR)$(DATADIR)/icons/hicolor/scalable/apps tools/data/$(WINDOW).svg
+	install -D -m 644 -t $(DESTDIR)$(DATADIR)/metainfo tools/data/$(WINDOW).metainfo.xml
+	set -e; for file in $(DOCUMENTS); do \
+	    install -D -m 644 $$file $(DESTDIR)$(DATADIR)/doc/labels/$$file; done
+	install -D -m 644 -t $(DESTDIR)$(DATADIR)/man/man1 man/*.1
+	sed -i 's|/usr/share/doc|$(DATADIR)/doc|' $(DESTDIR)$(DATADIR)/man/man1/label*.1
+	install -D -m 644 completions/labels.bash $(DESTDIR)$(DATADIR)/bash-completion/completions/labels
+	install -D -m 644 -t $(DESTDIR)$(DATADIR)/fish/vendor_completions.d completions/labels.fish
+	install -D -m 644 -t $(DESTDIR)$(ZSHDIR) completions/_labels
+	set -e; for tool in $(TOOLS); do \
+	    $(call link,labels,$(DATADIR)/bash-completion/completions/$$tool); \
+	    $(call link,labels.fish,$(DATADIR)/fish/vendor_completions.d/$$tool.fish); done
+	$(call library,install DESTDIR=$(DESTDIR) PREFIX=$(PREFIX) LIBDIR=$(LIBDIR) PYTHONDIR=$(PYTHONDIR))
+
+# Removes what this version installs, and the folders that only it used.
+uninstall: all
+	set -e; new=$$(mktemp -d); trap 'rm -rf "$$new"' EXIT; $(MAKE) -s install DESTDIR="$$new"; cd "$$new"; \
+	    find . ! -type d -exec sh -c 'for f; do rm -f "$(DESTDIR)/$$f"; done' - {} +; \
+	    find . -depth -path '*label*' -type d -exec sh -c 'for f; do rm -rf "$(DESTDIR)/$$f/__pycache__"; \
+	        rmdir "$(DESTDIR)/$$f" || :; done' - {} + 2>&-
+
+# dpkg-buildpackage reads it before it runs anything.
+debian/changelog:
+	scripts/debian_changelog.py > $@
+
+# What is committed, built in a copy. The packages are those of the commit, byte for byte.
+deb: $(LABELS) $(PROVED)
+	rm -rf out/deb && mkdir -p out/deb/source
+	git archive HEAD | tar -x -C out/deb/source
+	scripts/debian_changelog.py > out/deb/source/debian/changelog
+	cd out/deb/source && LABELS=$(abspath $(LABELS)) PROVED=$(abspath $(PROVED)) dpkg-buildpackage -b -us -uc
+	ls out/deb/*.deb
+
+# The packages in a fresh Debian below out/, whose mounts are seen there alone. It needs root, debootstrap, autopkgtest
+# and piuparts, which installs, upgrades and purges, and sees that nothing is left.
+deb-test:
+	lintian -EvIL +pedantic --fail-on error,warning,info,pedantic out/deb/*.changes
+	rm -rf --one-file-system out/root && debootstrap --variant=minbase bookworm out/root
+	cp /etc/resolv.conf out/root/etc
+	tar -C out/root -czf out/root.tgz .
+	cd out/deb && dpkg-scanpackages . > Packages
+	piuparts -b out/root.tgz -d bookworm --no-eatmydata --bindmount $(CURDIR)/out/deb \
+	    --extra-repo 'deb [trusted=yes] file:$(CURDIR)/out/deb ./' out/deb/*.changes
+	unshare --mount --propagation private sh -c 'mount -t proc proc out/root/proc; \
+	    mount -t devpts -o newinstance,ptmxmode=0666 devpts out/root/dev/pts; \
+	    autopkgtest $(filter-out %-dbgsym,$(wildcard out/deb/*.deb)) out/deb/source/ -- chroot $(CURDIR)/out/root'
+
+clean:
+	rm -rf out
+
+.PHONY: help quick check gate all install uninstall debian/changelog deb deb-test clean

@@ -1,0 +1,4 @@
+pub mod SliceLaws
+pub mod LineLaws
+pub mod DeclinesLaws
+pub mod TextLaws

@@ -1,0 +1,112 @@
+-- The symbol of a line with the rows that are put, and that with all.
+use Rattle.std.proofs.Common.{◌≡◌, ℕ, List, refl, sym, ap, ◌∙◌}
+use Rattle.std.specs.Prelude.{Bool, Result, Ok, Err, MatchResult, IfOk, Some}
+use Rattle.labelcore.specs.LineItem.{Outcome, Request, drawn, item, outcome_of}
+use Rattle.labelcore.specs.declared.options.Options.{Options}
+use Rattle.filter.specs.Output.{image_of, outcome, outcome_of_item}
+use Rattle.labelcore.specs.OptionValues.{LabelValues, RunValues}
+use Rattle.labelcore.specs.Settings.{◌>>=◌}
+use Rattle.labelcore.specs.declared.fault.Fault.{Fault}
+use Rattle.labelcore.specs.declared.symbology.Symbology.{Symbology}
+use Rattle.labelcore.specs.declared.symbology.Symbology.TheVariants.{Ean13, Ean8, UpcA, Code128, Qr}
+use Rattle.linear.specs.declared.refusal.Refusal.{Refusal}
+use Rattle.linear.specs.Digits.{full_digits}
+use Rattle.linear.specs.Ean.{ean13_row, ean8_row, upca_row}
+use Rattle.linear.specs.Code128.{full_code128, code128_row}
+use Rattle.filter.specs.Symbol.{Symbol, linear_symbol, qr_modules, symbol_of}
+use Rattle.filter.specs.ModuleReading.{IsReadInModules}
+use Rattle.filter.specs.Readback.{IsRead}
+use Rattle.capi.specs.Calls.{AnswersSymbol, Rooms}
+use Rattle.capi.specs.Line.{AnswersOutcome, AnswersPicture, ReadsOutcome, ReadsPicture, rows_put, with_rows_put}
+use Rattle.capi.specs.Modules.{AnswersModules, IsDrawnAs, ModuleRooms, height_told, one_row}
+use Rattle.capi.specs.Numbers.{symbology_numbered}
+use Rattle.capi.specs.declared.numbers.Answer.{Answer}
+use Rattle.capi.specs.declared.numbers.SymbolInfo.{SymbolInfo}
+
+-- a symbol found with all its rows, and the same with the rows that are put
+abbrev pub IsLowered : Symbology → ℕ → Result Symbol Fault → Result Symbol Fault → Type 0
+IsLowered symbology height low found = MatchResult found (λ symbol. (low ≡ Ok (with_rows_put symbol))
+    × ((symbol.symbology ≡ symbology) × (symbol.modules.height ≡ height_told symbology symbol.modules.width height)))
+    (λ fault. low ≡ Err fault)
+
+linear_lowered : (symbology : Symbology) (row : List ℕ → List Bool) (label : LabelValues)
+    → rows_put symbology label.height ≡ 1 → ((w : ℕ) → height_told symbology w label.height ≡ label.height)
+    → (found : Result (List ℕ) Refusal)
+    → IsLowered symbology label.height (linear_symbol symbology row (one_row label) found)
+    (linear_symbol symbology row label found)
+linear_lowered symbology row label one high (Ok full) = (rw one refl, (refl, sym (high _)))
+linear_lowered symbology row label one high (Err refusal) = refl
+
+qr_lowered : (label : LabelValues) (bytes : List ℕ) (found : Result ℕ Fault)
+    → IsLowered Qr label.height
+    (found >>= (λ version. Ok (record { symbology = Qr; full = bytes; modules = qr_modules (one_row label) bytes version })))
+    (found >>= (λ version. Ok (record { symbology = Qr; full = bytes; modules = qr_modules label bytes version })))
+unfolding qr_modules
+qr_lowered label bytes (Ok version) = (refl, (refl, refl))
+qr_lowered label bytes (Err fault) = refl
+
+-- the symbol of data, and that of the options with one row
+pub lowered : (label : LabelValues) (symbology : Symbology) (bytes : List ℕ)
+    → IsLowered symbology label.height (symbol_of (one_row label) symbology bytes) (symbol_of label symbology bytes)
+unfolding symbol_of
+lowered label Ean13 bytes = linear_lowered Ean13 ean13_row label refl (λ w. refl) (full_digits 12 bytes)
+lowered label Ean8 bytes = linear_lowered Ean8 ean8_row label refl (λ w. refl) (full_digits 7 bytes)
+lowered label UpcA bytes = linear_lowered UpcA upca_row label refl (λ w. refl) (full_digits 11 bytes)
+lowered label Code128 bytes = linear_lowered Code128 code128_row label refl (λ w. refl) (full_code128 bytes)
+lowered label Qr bytes = qr_lowered label bytes _
+
+-- what is told of the symbol
+pub drawn_as : (symbology : Symbology) (height : ℕ) (low found : Result Symbol Fault)
+    → IsLowered symbology height low found
+    → (rooms : ModuleRooms) (answer : Answer) (before info : SymbolInfo) (code : Fault → ℕ)
+    → AnswersModules rooms answer before low code
+    → symbology_numbered info.symbology ≡ Some symbology
+    → info.height ≡ height_told symbology before.width height
+    → IfOk found (λ symbol. IsDrawnAs symbol info)
+drawn_as symbology height low (Err fault) is rooms answer before info code answers number high = tt
+drawn_as symbology height low (Ok symbol) is rooms answer before info code answers number high =
+    let size = rw is.0 at answers in
+    record {
+      symbology = number ∙ ap (λ (s : Symbology). Some s) (sym is.1.0);
+      height = high ∙ (ap (λ (w : ℕ). height_told symbology w height) size.1.width ∙ sym is.1.1);
+    }
+
+-- what is left of a symbol is what is left of its line
+pub outcome_answers : (symbology : Symbology) (height : ℕ) (low found : Result Symbol Fault)
+    → IsLowered symbology height low found
+    → (rooms : ModuleRooms) (answer : Answer) (info : SymbolInfo) (code : Fault → ℕ)
+    → AnswersModules rooms answer info low code → IfOk found (λ symbol. IsDrawnAs symbol info)
+    → AnswersOutcome rooms answer info (outcome_of found) code
+outcome_answers symbology height low (Err fault) is rooms answer info code answers told = rw is at answers
+outcome_answers symbology height low (Ok symbol) is rooms answer info code answers told = (rw is.0 at answers, told)
+
+-- what is drawn of a line, by its item
+pub outcome_seen : (options : Options) (text : List ℕ) (seen : Outcome Request) → seen ≡ item options text
+    → outcome options text ≡ outcome_of_item seen
+unfolding outcome
+outcome_seen options text seen same = ap outcome_of_item (sym same)
+
+-- the symbol that is put reads, and so does that with all its rows
+pub reads_lowered : (symbology : Symbology) (height : ℕ) (low found : Result Symbol Fault)
+    → IsLowered symbology height low found
+    → IfOk low IsReadInModules → ReadsOutcome (outcome_of found)
+reads_lowered symbology height low (Err fault) is read = tt
+reads_lowered symbology height low (Ok symbol) is read = rw is.0 at read
+
+-- the numbers of the symbol that is put are those of the symbol
+pub numbers_lowered : (symbology : Symbology) (height : ℕ) (low found : Result Symbol Fault) (P : Type 0)
+    → IsLowered symbology height low found → IfOk low (λ symbol. P) → IfOk found (λ symbol. P)
+numbers_lowered symbology height low (Err fault) P is holds = tt
+numbers_lowered symbology height low (Ok symbol) P is holds = rw is.0 at holds
+
+-- what is left of a picture is what is left of its line
+pub picture_answers : (rooms : Rooms) (answer : Answer) (run : RunValues) (found : Result Symbol Fault)
+    → AnswersSymbol rooms answer run found → AnswersPicture rooms answer run (outcome_of found)
+picture_answers rooms answer run (Ok symbol) h = h
+picture_answers rooms answer run (Err fault) h = h
+
+pub reads_picture : (run : RunValues) (found : Result Symbol Fault)
+    → IfOk found (λ symbol. IsRead run.format run.scale (image_of run (drawn symbol)) symbol)
+    → ReadsPicture run (outcome_of found)
+reads_picture run (Ok symbol) h = h
+reads_picture run (Err fault) h = tt

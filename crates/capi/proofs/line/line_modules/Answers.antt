@@ -1,0 +1,63 @@
+use Rattle.std.proofs.Common.{refl, []}
+use Rattle.capi.proofs.DeclinesLaws.{declines_modules}
+use Rattle.capi.proofs.LineLaws.{lowered, numbers_lowered, outcome_answers, outcome_seen, reads_lowered}
+use Rattle.capi.proofs.line.line_modules.Goals as goal
+
+pub returns-in-Skipped-clause-answers : goal.returns-in-Skipped-clause-answers
+returns-in-Skipped-clause-answers c =
+    let options = c.args.options.now in
+    let text = c.args.text.now in
+    let seen = c.parse.ensures.item text (c.extend.ensures [] c.new-line.ensures) in
+    rw (outcome_seen options text _ seen, c.in-Skipped.is)
+    (declines_modules c.args.modules.now c.args.message.now _ 14 c.declined.ensures)
+
+pub returns-in-Skipped-clause-read : goal.returns-in-Skipped-clause-read
+returns-in-Skipped-clause-read c =
+    let options = c.args.options.now in
+    let text = c.args.text.now in
+    let seen = c.parse.ensures.item text (c.extend.ensures [] c.new-line.ensures) in
+    rw (outcome_seen options text _ seen, c.in-Skipped.is) tt
+
+pub returns-in-Refused-clause-answers : goal.returns-in-Refused-clause-answers
+returns-in-Refused-clause-answers c =
+    let options = c.args.options.now in
+    let text = c.args.text.now in
+    let seen = c.parse.ensures.item text (c.extend.ensures [] c.new-line.ensures) in
+    rw (outcome_seen options text _ seen, c.in-Refused.is) (refl, c.refused.ensures)
+
+pub returns-in-Refused-clause-read : goal.returns-in-Refused-clause-read
+returns-in-Refused-clause-read c =
+    let options = c.args.options.now in
+    let text = c.args.text.now in
+    let seen = c.parse.ensures.item text (c.extend.ensures [] c.new-line.ensures) in
+    rw (outcome_seen options text _ seen, c.in-Refused.is) tt
+
+pub returns-in-Drawn-clause-answers : goal.returns-in-Drawn-clause-answers
+returns-in-Drawn-clause-answers c =
+    let options = c.args.options.now in
+    let text = c.args.text.now in
+    let seen = c.parse.ensures.item text (c.extend.ensures [] c.new-line.ensures) in
+    let label = c.in-Drawn.label in
+    let low = lowered label c.in-Drawn.symbology c.in-Drawn.bytes.now in
+    rw (outcome_seen options text _ seen, c.in-Drawn.is) (outcome_answers c.in-Drawn.symbology label.height _ _ low _ _ _ _
+    c.symbol_told.ensures.answers c.symbol_told.ensures.told)
+
+pub returns-in-Drawn-clause-read : goal.returns-in-Drawn-clause-read
+returns-in-Drawn-clause-read c =
+    let options = c.args.options.now in
+    let text = c.args.text.now in
+    let seen = c.parse.ensures.item text (c.extend.ensures [] c.new-line.ensures) in
+    let label = c.in-Drawn.label in
+    let low = lowered label c.in-Drawn.symbology c.in-Drawn.bytes.now in
+    rw (outcome_seen options text _ seen, c.in-Drawn.is)
+    (reads_lowered c.in-Drawn.symbology label.height _ _ low c.symbol_told.ensures.read)
+
+pub returns-in-Drawn-clause-numbers : goal.returns-in-Drawn-clause-numbers
+returns-in-Drawn-clause-numbers c =
+    let options = c.args.options.now in
+    let text = c.args.text.now in
+    let seen = c.parse.ensures.item text (c.extend.ensures [] c.new-line.ensures) in
+    let label = c.in-Drawn.label in
+    let low = lowered label c.in-Drawn.symbology c.in-Drawn.bytes.now in
+    rw (← seen, c.in-Drawn.is)
+    (numbers_lowered c.in-Drawn.symbology label.height _ _ _ low c.symbol_told.ensures.numbers)

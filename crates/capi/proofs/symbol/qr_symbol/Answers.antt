@@ -1,0 +1,16 @@
+use Rattle.std.proofs.Common.{refl}
+use Rattle.capi.proofs.symbol.qr_symbol.Goals as goal
+
+pub returns-after-level-clause-answers : goal.returns-after-level-clause-answers
+returns-after-level-clause-answers c = rw c.in-Ok.ensures.symbol (
+  c.offer_grid.ensures c.args.message.now,
+  record {
+    width = c.side-side.ensures.value;
+    rows = c.side-side.ensures.value;
+    left = refl;
+    right = refl;
+    top = refl;
+    bottom = refl;
+    unused = refl;
+  },
+)

@@ -1,0 +1,123 @@
+-- What a call of the C library leaves of a symbol's modules.
+use Rattle.std.specs.Prelude.{◌≡◌, ℕ, ◌*◌, nat_le, Bool, true, Some, Result, Ok, Err, List, [], ◌++◌, length, drop, flat_map}
+use Rattle.std.specs.Prelude.{if◌then◌else◌, IfOk}
+use Rattle.labelcore.specs.Message.{fault_text}
+use Rattle.labelcore.specs.OptionValues.{LabelValues}
+use Rattle.labelcore.specs.declared.fault.Fault.{Fault}
+use Rattle.filter.specs.ModuleReading.{IsReadInModules}
+use Rattle.filter.specs.Symbol.{Symbol, quiet_zone, symbol_of}
+use Rattle.labelcore.specs.declared.symbology.Symbology.{Symbology}
+use Rattle.labelcore.specs.declared.symbology.Symbology.TheVariants.{Qr}
+use Rattle.picture.specs.Picture.{Picture}
+use Rattle.qrdata.specs.Codewords.{symbol_codewords}
+use Rattle.qrdata.specs.Fewest.{chosen_segments, chosen_version}
+use Rattle.qrdata.specs.Versions.{side_of}
+use Rattle.qrmatrix.specs.MaskChoice.{chosen_mask}
+use Rattle.qrmatrix.specs.Symbol.{Symbol as Matrix}
+use Rattle.capi.specs.Numbers.{are_unused, level_numbered, symbology_numbered}
+use Rattle.picture.specs.Text.{below, pixel_row}
+use Rattle.capi.specs.Calls.{Asked, Declines}
+use Rattle.capi.specs.declared.numbers.Answer.{Answer}
+use Rattle.capi.specs.declared.numbers.SymbolInfo.{SymbolInfo}
+
+-- the modules of a picture, row by row
+abbrev pub modules_of : Picture → List Bool
+modules_of p = flat_map (pixel_row p) (below p.height)
+
+-- the caller's room for modules, before and after, and that for a message
+pub record ModuleRooms : Type 0 where
+  pub modules : List Bool
+  pub modules_after : List Bool
+  pub message : List ℕ
+  pub message_after : List ℕ
+
+-- the size of a symbol and its quiet zones
+pub record IsSizeOf (symbol : Symbol) (info : SymbolInfo) : Type 0 where
+  pub width : info.width ≡ symbol.modules.width
+  pub rows : info.rows ≡ symbol.modules.height
+  pub left : info.left ≡ (quiet_zone symbol.symbology).left
+  pub right : info.right ≡ (quiet_zone symbol.symbology).right
+  pub top : info.top ≡ (quiet_zone symbol.symbology).top
+  pub bottom : info.bottom ≡ (quiet_zone symbol.symbology).bottom
+  pub unused : are_unused info.reserved ≡ true
+
+-- the height of a symbol's picture in modules, from its width and the height that bars are to have
+abbrev pub height_told : Symbology → ℕ → ℕ → ℕ
+height_told Qr width height = width
+height_told other width height = height
+
+-- the symbology of a symbol, and the height of its picture in modules
+pub record IsDrawnAs (symbol : Symbol) (info : SymbolInfo) : Type 0 where
+  pub symbology : symbology_numbered info.symbology ≡ Some symbol.symbology
+  pub height : info.height ≡ symbol.modules.height
+
+-- the modules of a picture are put into the room where there is room for all, and nothing after them is written
+pub record PutsModules (rooms : ModuleRooms) (answer : Answer) (p : Picture) : Type 0 where
+  pub code_is : answer.code ≡ (if nat_le (p.width * p.height) (length rooms.modules) then 0 else 1)
+  pub unused : answer.reserved ≡ 0
+  pub size : answer.length ≡ p.width * p.height
+  pub no_message : answer.message_length ≡ 0
+  pub modules : rooms.modules_after ≡ (if nat_le (p.width * p.height) (length rooms.modules)
+      then modules_of p ++ drop (p.width * p.height) rooms.modules else rooms.modules)
+  pub message : rooms.message_after ≡ rooms.message
+
+-- no modules are put
+abbrev pub DeclinesModules : ModuleRooms → Answer → ℕ → List ℕ → Type 0
+DeclinesModules rooms answer code text = (rooms.modules_after ≡ rooms.modules)
+    × ((out : List ℕ) → Declines (record {
+      out = out;
+      out_after = out;
+      message = rooms.message;
+      message_after = rooms.message_after;
+    }) answer code text)
+
+-- the modules of a symbol, or why there is none
+abbrev pub AnswersModules : ModuleRooms → Answer → SymbolInfo → Result Symbol Fault → (Fault → ℕ) → Type 0
+AnswersModules rooms answer info (Ok symbol) code = PutsModules rooms answer symbol.modules × IsSizeOf symbol info
+AnswersModules rooms answer info (Err fault) code = DeclinesModules rooms answer (code fault) (fault_text fault)
+
+-- the options of a symbol that has one row where it is linear
+abbrev pub one_row : LabelValues → LabelValues
+one_row label = record label { height = 1 }
+
+-- the modules of what is asked for, or why there are none
+abbrev pub AnswersAsked : ModuleRooms → Answer → SymbolInfo → Result Asked ℕ → List ℕ → (Fault → ℕ) → Type 0
+AnswersAsked rooms answer info (Err number) bytes code = DeclinesModules rooms answer number []
+    × (rooms.message_after ≡ rooms.message)
+AnswersAsked rooms answer info (Ok a) bytes code =
+    AnswersModules rooms answer info (symbol_of (one_row a.options.label) a.symbology bytes) code
+
+-- the modules of what is asked for read as the full data, and as nothing else
+abbrev pub ReadsModules : Result Asked ℕ → List ℕ → Type 0
+ReadsModules found bytes = IfOk found (λ a.
+    IfOk (symbol_of (one_row a.options.label) a.symbology bytes) IsReadInModules)
+
+-- a QR matrix of the bytes: its version, its side and its mask
+pub record IsMatrixOf (label : LabelValues) (bytes : List ℕ) (matrix : Matrix) : Type 0 where
+  pub version : ℕ
+  pub chosen : chosen_version label.min_version label.level bytes ≡ Some version
+  pub side : matrix.side ≡ side_of version
+  pub mask : matrix.mask ≡ chosen_mask version label.level label.mask
+      (symbol_codewords version label.level (chosen_segments version bytes) bytes)
+
+-- the version, the level and the mask that a QR symbol has
+pub record HasQrNumbers (label : LabelValues) (bytes : List ℕ) (info : SymbolInfo) : Type 0 where
+  pub version : chosen_version label.min_version label.level bytes ≡ Some info.version
+  pub level : level_numbered info.level ≡ Some label.level
+  pub mask : info.mask ≡ chosen_mask info.version label.level label.mask
+      (symbol_codewords info.version label.level (chosen_segments info.version bytes) bytes)
+
+-- the numbers of a symbol: those of a QR symbol, and 0 of others
+abbrev pub HasNumbers : LabelValues → Symbology → List ℕ → SymbolInfo → Type 0
+HasNumbers label Qr bytes info = HasQrNumbers label bytes info
+HasNumbers label other bytes info = (info.version ≡ 0) × ((info.level ≡ 0) × (info.mask ≡ 0))
+
+-- the numbers of what is asked for, where it is drawn
+abbrev pub NumbersAsked : SymbolInfo → Result Asked ℕ → List ℕ → Type 0
+NumbersAsked info found bytes = IfOk found (λ a. IfOk (symbol_of (one_row a.options.label) a.symbology bytes)
+    (λ symbol. HasNumbers a.options.label a.symbology bytes info))
+
+-- the symbology and the height of what is asked for, where it is drawn
+abbrev pub ToldAsked : SymbolInfo → Result Asked ℕ → List ℕ → Type 0
+ToldAsked info found bytes = IfOk found (λ a. IfOk (symbol_of a.options.label a.symbology bytes)
+    (λ symbol. IsDrawnAs symbol info))

@@ -1,0 +1,2 @@
+-- Lemmas that the laws of a sink cite: nothing here has to be believed.
+pub mod Puts

@@ -1,0 +1,134 @@
+//! One picture into a caller's room.
+ghost use Rattle.std.specs.Prelude.{◌≡◌, ◌≢◌, ◌-◌, ◌^◌, [], Err, IsOk, MatchResult, length, min};
+ghost use Rattle.capi.specs.Room.{put_text};
+ghost use Rattle.labelcore.specs.LineItem.{drawn, outcome_of};
+ghost use Rattle.labelcore.specs.Message.{fault_text};
+ghost use Rattle.filter.specs.Symbol.{symbol_of};
+ghost use Rattle.filter.specs.Readback.{IsRead};
+ghost use Rattle.filter.specs.Output.{image_of};
+ghost use Rattle.std.specs.Prelude.{IfOk, List, ℕ};
+ghost use Rattle.capi.specs.Calls.{Answers, AnswersSymbol, Declines, ReadsAsked, asked};
+ghost use Rattle.capi.specs.Numbers.{code_of as number_of};
+
+use crate::numbers::{
+    Answer, BAD_OPTION, BAD_SYMBOLOGY, CallOptions, DONE, NO_DATA, NO_ROOM, code_of, options_of,
+    symbology_of,
+};
+use crate::slice_sink::SliceSink;
+use filter::draw;
+use labelcore::{Fault, Options, Symbology, write_reason};
+
+/// Draws one symbol into `out`, or puts the reason why there is none into `message`. Of a text that is too long it puts
+/// what there is room for, and answers with the length of the whole.
+#[tactic(auto, unfolding(crate::specs::Calls::asked))]
+pub fn draw_into(
+    options: &CallOptions,
+    symbology: u32,
+    bytes: &[u8],
+    out: &mut [u8],
+    message: &mut [u8],
+) -> Answer
+    ensures answers { Answers (record {
+      out = out.old;
+      out_after = out.new;
+      message = message.old;
+      message_after = message.new;
+    }) result (asked options.now symbology bytes.now) bytes.now }
+    ensures read { ReadsAsked (asked options.now symbology bytes.now) bytes.now }
+{
+    let Some(options) = options_of(options) else {
+        return declined(BAD_OPTION);
+    };
+    let Some(symbology) = symbology_of(symbology) else {
+        return declined(BAD_SYMBOLOGY);
+    };
+    if bytes.is_empty() {
+        return declined(NO_DATA);
+    }
+    draw_asked(&options, symbology, bytes, out, message)
+}
+
+/// The answer of a call that draws nothing and has no message.
+pub fn declined(code: u32) -> Answer
+    ensures { result ≡ record { code = code; reserved = 0; length = 0; message_length = 0 } }
+{
+    Answer {
+        code,
+        reserved: 0,
+        length: 0,
+        message_length: 0,
+    }
+}
+
+/// Draws one symbol.
+pub fn draw_asked(
+    options: &Options,
+    symbology: Symbology,
+    bytes: &[u8],
+    out: &mut [u8],
+    message: &mut [u8],
+) -> Answer
+    requires { bytes.now ≢ [] }
+    ensures answers { AnswersSymbol (record {
+      out = out.old;
+      out_after = out.new;
+      message = message.old;
+      message_after = message.new;
+    }) result options.now.run
+        (symbol_of options.now.label symbology bytes.now) }
+    ensures read { IfOk (symbol_of options.now.label symbology bytes.now) (λ symbol.
+        IsRead options.now.run.format options.now.run.scale (image_of options.now.run (drawn symbol)) symbol) }
+{
+    let room = out.len();
+    match put_picture(options, symbology, bytes, out) {
+        Ok(length) => Answer {
+            code: if length <= room { DONE } else { NO_ROOM },
+            reserved: 0,
+            length,
+            message_length: 0,
+        },
+        Err(fault) => refused(&fault, message),
+    }
+}
+
+/// Puts the picture of one symbol into a room. Returns its length, or why there is none.
+fn put_picture(
+    options: &Options,
+    symbology: Symbology,
+    bytes: &[u8],
+    out: &mut [u8],
+) -> Result<usize, Fault>
+    requires { bytes.now ≢ [] }
+    ensures put { out.new ≡ put_text out.old 0
+        (image_of options.now.run (outcome_of (symbol_of options.now.label symbology bytes.now))) }
+    ensures size { IfOk result (λ size. size ≡ min (length (image_of options.now.run
+        (outcome_of (symbol_of options.now.label symbology bytes.now)))) (2 ^ 64 - 1)) }
+    ensures refusal { MatchResult result (λ _. IsOk (symbol_of options.now.label symbology bytes.now))
+        (λ fault. symbol_of options.now.label symbology bytes.now ≡ Err fault) }
+    ensures read { IfOk (symbol_of options.now.label symbology bytes.now) (λ symbol.
+        IsRead options.now.run.format options.now.run.scale (image_of options.now.run (drawn symbol)) symbol) }
+{
+    let mut sink = SliceSink::new(out);
+    let drawn = draw(options, symbology, bytes, &mut sink);
+    let length = sink.count();
+    match drawn {
+        Ok(Ok(())) => Ok(length),
+        Ok(Err(fault)) => Err(fault),
+        Err(_) => Ok(0),
+    }
+}
+
+/// Puts the reason of a refusal.
+pub fn refused(fault: &Fault, message: &mut [u8]) -> Answer
+    ensures { (out : List ℕ) → Declines (record { out = out; out_after = out; message = message.old; message_after = message.new })
+        result (number_of fault.now) (fault_text fault.now) }
+{
+    let mut sink = SliceSink::new(message);
+    let _ = write_reason(fault, &mut sink);
+    Answer {
+        code: code_of(fault),
+        reserved: 0,
+        length: 0,
+        message_length: sink.count(),
+    }
+}

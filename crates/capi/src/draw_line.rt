@@ -1,0 +1,59 @@
+//! What the filter does with one line of text: the picture, into a caller's room.
+ghost use Rattle.filter.specs.Output.{outcome};
+ghost use Rattle.capi.specs.Line.{AnswersDrawnLine, AnswersPicture, ReadsDrawnLine, ReadsPicture};
+ghost use Rattle.capi.specs.Numbers.{options_numbered};
+
+use crate::draw::{declined, draw_asked, refused};
+use crate::numbers::{Answer, BAD_OPTION, CallOptions, NOT_ONE_LINE, SKIPPED, options_of};
+use labelcore::{Item, LineBuf, Options, Scratch, parse};
+
+/// Draws what a line asks for into `out`, or puts the reason why there is no picture into `message`. A text with an LF
+/// is refused.
+pub fn draw_line_into(
+    options: &CallOptions,
+    text: &[u8],
+    out: &mut [u8],
+    message: &mut [u8],
+) -> Answer
+    ensures answers { AnswersDrawnLine (record {
+      out = out.old;
+      out_after = out.new;
+      message = message.old;
+      message_after = message.new;
+    }) result (options_numbered options.now) text.now }
+    ensures read { ReadsDrawnLine (options_numbered options.now) text.now }
+{
+    let Some(options) = options_of(options) else {
+        return declined(BAD_OPTION);
+    };
+    if text.contains(&b'\n') {
+        return declined(NOT_ONE_LINE);
+    }
+    line_picture(&options, text, out, message)
+}
+
+/// Draws what a line asks for.
+fn line_picture(options: &Options, text: &[u8], out: &mut [u8], message: &mut [u8]) -> Answer
+    ensures answers { AnswersPicture (record {
+      out = out.old;
+      out_after = out.new;
+      message = message.old;
+      message_after = message.new;
+    }) result options.now.run (outcome options.now text.now) }
+    ensures read { ReadsPicture options.now.run (outcome options.now text.now) }
+{
+    let mut line = LineBuf::new();
+    line.extend(text);
+    let mut scratch = Scratch::new();
+    match parse(options, &line, &mut scratch) {
+        Item::Skipped => declined(SKIPPED),
+        Item::Refused(fault) => refused(&fault, message),
+        Item::Drawn(symbology, label, bytes) => {
+            let asked = Options {
+                run: options.run,
+                label,
+            };
+            draw_asked(&asked, symbology, bytes, out, message)
+        }
+    }
+}

@@ -1,0 +1,19 @@
+//! The calls of the C library over slices and numbers, with their contracts.
+#![tactic(auto)]
+
+mod draw;
+mod draw_line;
+mod line;
+mod numbers;
+mod room;
+mod slice_sink;
+mod symbol;
+mod text;
+
+pub use draw::draw_into;
+pub use draw_line::draw_line_into;
+pub use line::line_into;
+pub use numbers::{Answer, CallOptions, SymbolInfo, TextAnswer};
+pub use slice_sink::SliceSink;
+pub use symbol::symbol_into;
+pub use text::text_into;

@@ -1,0 +1,197 @@
+//! Numbers in place of enums, as C has them.
+ghost use Rattle.std.specs.Prelude.{◌≡◌, Some};
+ghost use Rattle.capi.specs.Numbers.{are_in_range, are_unused, code_of, flag_numbered, level_numbered};
+ghost use Rattle.capi.specs.Numbers.{options_numbered, symbology_numbered};
+
+use labelcore::{Fault, Format, Options, Symbology};
+use qrdata::Level;
+
+/// The call was done.
+pub const DONE: u32 = 0;
+/// The caller's room is too small.
+pub const NO_ROOM: u32 = 1;
+/// An option is out of its range.
+pub const BAD_OPTION: u32 = 2;
+/// The number names no symbology.
+pub const BAD_SYMBOLOGY: u32 = 3;
+/// There is no data.
+pub const NO_DATA: u32 = 4;
+/// The line is empty or a comment.
+pub const SKIPPED: u32 = 14;
+/// The text is more than one line.
+pub const NOT_ONE_LINE: u32 = 15;
+/// A line of a text is refused.
+pub const REFUSED: u32 = 17;
+
+/// The options of a call: `labels_options` of `lib/labels.h`. The spare words are 0.
+#[repr(C)]
+#[derive(Clone, Copy, Drop)]
+pub struct CallOptions {
+    pub format: u32,
+    pub scale: u32,
+    pub height: u32,
+    pub level: u32,
+    pub min_version: u32,
+    pub mask: u32,
+    pub escapes: u32,
+    pub reserved: [u32; 5],
+}
+
+/// What a call answers: a code, the length of what was put or would have been, and that of the message. It is the head of
+/// `labels_answer`. The spare word is 0.
+#[repr(C)]
+#[derive(Clone, Copy, Drop)]
+pub struct Answer {
+    pub code: u32,
+    pub reserved: u32,
+    pub length: usize,
+    pub message_length: usize,
+}
+
+/// What a call for a whole text answers: a code, and how many bytes its images and its messages have. It is
+/// `labels_run_answer`. The spare words are 0.
+#[repr(C)]
+#[derive(Clone, Copy, Drop)]
+pub struct TextAnswer {
+    pub code: u32,
+    pub reserved: [u32; 3],
+    pub images_length: usize,
+    pub messages_length: usize,
+}
+
+/// A symbol's symbology, its width, the rows that were put and how high they are drawn, in modules, its quiet zones, and
+/// of a QR symbol its version, level and mask: `labels_symbol_info`. The spare words are 0.
+#[repr(C)]
+#[derive(Clone, Copy, Drop)]
+pub struct SymbolInfo {
+    pub symbology: u32,
+    pub width: u32,
+    pub rows: u32,
+    pub height: u32,
+    pub left: u32,
+    pub right: u32,
+    pub top: u32,
+    pub bottom: u32,
+    pub version: u32,
+    pub level: u32,
+    pub mask: u32,
+    pub reserved: [u32; 5],
+}
+
+/// Returns the options that these numbers name.
+#[tactic(auto, unfolding(crate::specs::Numbers::options_numbered))]
+pub fn options_of(numbers: &CallOptions) -> Option<Options>
+    ensures { result ≡ options_numbered numbers.now }
+{
+    let format = match numbers.format {
+        0 => Format::Pbm,
+        1 => Format::Ascii,
+        _ => return None,
+    };
+    let level = level_of(numbers.level)?;
+    let escapes = flag_of(numbers.escapes)?;
+    if !are_in_range(numbers) || !are_unused(&numbers.reserved) {
+        return None;
+    }
+    let mask = if numbers.mask == 8 {
+        None
+    } else {
+        Some(numbers.mask as u8)
+    };
+    Options::new(
+        format,
+        numbers.scale as u8,
+        numbers.height as u16,
+        level,
+        numbers.min_version as u8,
+        mask,
+        escapes,
+    )
+}
+
+/// Returns whether the numbers that are no names are in their ranges.
+fn are_in_range(numbers: &CallOptions) -> bool
+    ensures { result ≡ are_in_range numbers.now }
+{
+    matches!(numbers.scale, 1..=8)
+        && matches!(numbers.height, 1..=500)
+        && matches!(numbers.min_version, 1..=10)
+        && numbers.mask <= 8
+}
+
+/// Returns whether the spare words are 0.
+fn are_unused(words: &[u32; 5]) -> bool
+    ensures { result ≡ are_unused words.now }
+{
+    words.iter().all(|word| *word == 0)
+}
+
+/// Returns the truth value of this number.
+fn flag_of(number: u32) -> Option<bool>
+    ensures { result ≡ flag_numbered number }
+{
+    match number {
+        0 => Some(false),
+        1 => Some(true),
+        _ => None,
+    }
+}
+
+/// Returns the level of this number.
+fn level_of(number: u32) -> Option<Level>
+    ensures { result ≡ level_numbered number }
+{
+    match number {
+        0 => Some(Level::L),
+        1 => Some(Level::M),
+        2 => Some(Level::Q),
+        3 => Some(Level::H),
+        _ => None,
+    }
+}
+
+/// Returns the symbology of this number.
+pub fn symbology_of(number: u32) -> Option<Symbology>
+    ensures { result ≡ symbology_numbered number }
+{
+    match number {
+        0 => Some(Symbology::Ean13),
+        1 => Some(Symbology::Ean8),
+        2 => Some(Symbology::UpcA),
+        3 => Some(Symbology::Code128),
+        4 => Some(Symbology::Qr),
+        _ => None,
+    }
+}
+
+/// Returns the code of a refusal.
+pub fn code_of(fault: &Fault) -> u32
+    ensures { result ≡ code_of fault.now }
+{
+    match fault {
+        Fault::NoData => NO_DATA,
+        Fault::NotADigit(_) => 5,
+        Fault::WrongNumberOfDigits(_) => 6,
+        Fault::WrongCheckDigit { .. } => 7,
+        Fault::DataTooLong => 8,
+        Fault::NotAscii(_) => 9,
+        Fault::DoesNotFit(_) => 10,
+        Fault::LineTooLong => 11,
+        Fault::UnknownSymbology => BAD_SYMBOLOGY,
+        Fault::UnknownSetting(_) | Fault::BadValue(_) => 12,
+        Fault::BadEscape(_) => 13,
+    }
+}
+
+/// Returns the number of a symbology.
+pub fn number_of(symbology: Symbology) -> u32
+    ensures { symbology_numbered result ≡ Some symbology }
+{
+    match symbology {
+        Symbology::Ean13 => 0,
+        Symbology::Ean8 => 1,
+        Symbology::UpcA => 2,
+        Symbology::Code128 => 3,
+        Symbology::Qr => 4,
+    }
+}

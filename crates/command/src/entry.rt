@@ -1,0 +1,140 @@
+//! The program: from the arguments to what it writes and to its status.
+ghost use Rattle.std.specs.Prelude.{◌≡◌, List, ℕ, Option, Some, IfSome, MatchResult, map, option_map, string_bytes};
+ghost use Rattle.device.specs.Streams.{reader_of};
+ghost use Rattle.command.specs.CommandLine.{invocation_of, run};
+ghost use Rattle.command.specs.Program.{EndsSo, Finishes, Helps, RunsOver, WriterTook};
+
+use crate::arguments::{ArgumentsFault, Choice, options_of};
+use crate::end::End;
+use crate::file::{NamedFiles, OpenFault};
+use device::{Buffered, IoFault, Sink, Source, StdSink, StdSource, write_whole};
+use filter::{RunFault, Status, run_streams};
+use labelcore::Options;
+use std::alloc::{AllocGlobal, Global};
+use std::env;
+use std::io::{ErrorKind, Read, Write};
+use std::rt::Env;
+
+/// Returns the arguments after the program's name.
+///
+/// # Errors
+///
+/// How the program ends without them: `NoMemory` if memory ran out, and `BadArguments` if one is not UTF-8.
+pub fn arguments_of<S: Env + AllocGlobal>(system: &S) -> Result<Vec<String>, End> {
+    match env::args(system) {
+        Ok(mut arguments) => {
+            let _name = arguments.next();
+            match arguments.collect(system.alloc()) {
+                Ok(arguments) => Ok(arguments),
+                Err(_) => Err(End::NoMemory),
+            }
+        }
+        Err(error) => Err(match error.kind() {
+            ErrorKind::OutOfMemory => End::NoMemory,
+            _ => End::BadArguments,
+        }),
+    }
+}
+
+/// Does what the arguments after the program's name ask for: runs the filter over the file that they name or over
+/// `input`, or prints the help text. Pictures and help go to `output`, messages to `errors`, and after the messages the
+/// line of the end, if it has one. Returns the exit status. Where there are no arguments, but an end, the program ends
+/// so.
+pub fn program<F: NamedFiles, R: Read + Drop, W: Write, E: Sink>(
+    alloc: Global,
+    arguments: Result<Vec<String>, End>,
+    files: &F,
+    input: R,
+    output: &mut Buffered<StdSink<W>>,
+    errors: &mut E,
+) -> u8
+    ensures { Finishes E.Sink (λ told end. MatchResult arguments
+        (λ known. EndsSo (⟦<StdSource<R> as Source>⟧) (⟦<StdSource<F::Reader> as Source>⟧)
+        (⟦<Buffered<StdSink<W>> as Sink>⟧) E.Sink (λ s. R.remaining (reader_of s))
+        (λ s. F.Reader.remaining (reader_of s)) (WriterTook W.contents) (R.remaining input)
+        (F.bytes_of files.now) (F.refuses files.now) output.old output.new errors.old told end
+        (invocation_of (map string_bytes known.items)))
+        (λ early. (end ≡ early) × (output.new ≡ output.old) × (told ≡ errors.old))) errors.new result }
+{
+    let end = match arguments {
+        Ok(arguments) => end_of(alloc, arguments.as_slice(), files, input, output, errors),
+        Err(end) => end,
+    };
+    // If the line can't be written, nothing changes: the status says how the program ended.
+    let _ = write_whole(end.line().as_bytes(), errors);
+    end.status()
+}
+
+/// Does what the arguments ask for, and returns how it ended.
+fn end_of<F: NamedFiles, R: Read + Drop, W: Write, E: Sink>(
+    alloc: Global,
+    arguments: &[String],
+    files: &F,
+    input: R,
+    output: &mut Buffered<StdSink<W>>,
+    errors: &mut E,
+) -> End
+    ensures { EndsSo (⟦<StdSource<R> as Source>⟧) (⟦<StdSource<F::Reader> as Source>⟧)
+        (⟦<Buffered<StdSink<W>> as Sink>⟧) E.Sink (λ s. R.remaining (reader_of s))
+        (λ s. F.Reader.remaining (reader_of s)) (WriterTook W.contents) (R.remaining input)
+        (F.bytes_of files.now) (F.refuses files.now) output.old output.new errors.old errors.new result
+        (invocation_of (map string_bytes arguments.now)) }
+{
+    match options_of(alloc, arguments) {
+        Ok(choice) => run_choice(&choice, files, input, output, errors),
+        Err(ArgumentsFault::Help(text)) => match help(text.as_str(), output) {
+            Ok(()) => End::Helped,
+            Err(_) => End::Ran(Err(RunFault::WriteOut)),
+        },
+        Err(ArgumentsFault::Bad) => End::BadArguments,
+        Err(ArgumentsFault::Memory) => End::NoMemory,
+    }
+}
+
+/// Prints the help text.
+fn help<O: Sink>(text: &str, output: &mut O) -> Result<(), IoFault>
+    ensures { Helps O.Sink output.old output.new result }
+{
+    write_whole(text.as_bytes(), output)?;
+    output.flush()
+}
+
+/// Runs the filter over the file of the choice, or over `input` if it names none.
+fn run_choice<F: NamedFiles, R: Read + Drop, W: Write, E: Sink>(
+    choice: &Choice,
+    files: &F,
+    input: R,
+    output: &mut Buffered<StdSink<W>>,
+    errors: &mut E,
+) -> End
+    ensures { EndsSo (⟦<StdSource<R> as Source>⟧) (⟦<StdSource<F::Reader> as Source>⟧)
+        (⟦<Buffered<StdSink<W>> as Sink>⟧) E.Sink (λ s. R.remaining (reader_of s))
+        (λ s. F.Reader.remaining (reader_of s)) (WriterTook W.contents) (R.remaining input)
+        (F.bytes_of files.now) (F.refuses files.now) output.old output.new errors.old errors.new result
+        (run choice.now.options (option_map string_bytes choice.now.file)) }
+{
+    match &choice.file {
+        Some(name) => match files.open(name.as_str()) {
+            Ok(file) => End::Ran(run_over(choice.options, file, output, errors)),
+            Err(OpenFault::NoFile) => End::NoFile,
+            Err(OpenFault::Memory) => End::NoMemory,
+        },
+        None => End::Ran(run_over(choice.options, input, output, errors)),
+    }
+}
+
+/// Runs the filter over a reader.
+fn run_over<R: Read + Drop, W: Write, E: Sink>(
+    options: Options,
+    reader: R,
+    output: &mut Buffered<StdSink<W>>,
+    errors: &mut E,
+) -> Result<Status, RunFault>
+    ensures { (known : Option (List ℕ)) → IfSome known (λ bytes. R.remaining reader ≡ Some bytes)
+        → RunsOver (⟦<StdSource<R> as Source>⟧) (⟦<Buffered<StdSink<W>> as Sink>⟧) E.Sink
+        (λ s. R.remaining (reader_of s)) (WriterTook W.contents) known options
+        output.old output.new errors.old errors.new result }
+{
+    let mut source = StdSource::new(reader);
+    run_streams(options, &mut source, output, errors)
+}

@@ -1,0 +1,79 @@
+-- What an image shows is read in no other way, whoever computes it.
+use Rattle.filter.proofs.Words.{◌≡◌, ◌∙◌, ℕ, Bool, true, false, List, Option, Some, None, refl, sym, ap, length}
+use Rattle.filter.proofs.Words.{arith, false≢true, get_or, option_and_then, Symbol, Ean13, Ean8, UpcA, Code128, Qr}
+use Rattle.filter.proofs.Words.{IfSome}
+use Rattle.std.proofs.lemmas.Option.{option_and_then_some}
+use Rattle.labelcore.specs.declared.options.Format.{Format}
+use Rattle.labelcore.specs.declared.symbology.Symbology.{Symbology}
+use Rattle.linear.specs.Code128Reading.{read_code128}
+use Rattle.linear.specs.EanReading.{read_ean13, read_ean8, read_upca}
+use Rattle.linear.specs.Scanning.{HasNoGap, HasOneReading}
+use Rattle.linear.proofs.GapLaws.{code128_gap, ean13_gap, ean8_gap, upca_gap}
+use Rattle.linear.proofs.OneReadingLaws.{has_one_reading}
+use Rattle.picture.specs.Reading.{common_row}
+use Rattle.qrmatrix.specs.Reading.{IsUnreadInMirrors, IsUnreadTurned, Reading, read_matrix}
+use Rattle.qrmatrix.specs.Square.{value_at}
+use Rattle.qrmatrix.proofs.MirrorLaws.{IsUnreadInMirrors-read}
+use Rattle.qrmatrix.proofs.TurnLaws.{IsUnreadTurned-read, first_rows_differ}
+use Rattle.filter.specs.OneReading.{IsAlone}
+use Rattle.filter.specs.Reading.{modules_in, read_image, read_modules}
+use Rattle.filter.proofs.FoundLaws.{common_rows, square_read}
+
+-- rows that are all one are no QR symbol
+one_row : (rows : List (List Bool)) (row : List Bool) (r : Reading) → common_row rows ≡ Some row
+    → read_matrix (length rows) (value_at rows) ≡ Some r → false ≡ true
+one_row rows row r e is =
+    let differ = first_rows_differ (length rows) (value_at rows) r is in
+    let same = (common_rows rows row e).1 in
+    sym differ.2 ∙ ap (λ (l : List Bool). get_or l 1 false) (same 1 (omega (arith, differ.0))
+    ∙ sym (same 0 (omega (arith, differ.0)))) ∙ differ.1
+
+row_alone : (reading : List Bool → Option (List ℕ))
+    → ((row : List Bool) (full : List ℕ) → reading row ≡ Some full → HasNoGap row) → (rows : List (List Bool))
+    (full : List ℕ) → option_and_then reading (common_row rows) ≡ Some full → (read_modules Qr rows ≡ None)
+    × ((row : List Bool) → common_row rows ≡ Some row → HasOneReading row × HasNoGap row)
+row_alone reading gap rows full read = (
+  at (read_modules Qr rows) refl,
+  λ row e. (has_one_reading row, gap row full (sym (ap (option_and_then reading) e) ∙ read)),
+)
+  where
+    at : (o : Option (List ℕ)) → read_modules Qr rows ≡ o → read_modules Qr rows ≡ None
+    at None e = e
+    at (Some found) e =
+        let square = square_read rows found e in
+        option_and_then_some reading (common_row rows) full read (λ row is rest.
+        absurd (false≢true (one_row rows row square.0 is square.1)))
+
+square_alone : (rows : List (List Bool)) (full : List ℕ) → read_modules Qr rows ≡ Some full
+    → (common_row rows ≡ None) × IsUnreadInMirrors (length rows) (value_at rows)
+    × IsUnreadTurned (length rows) (value_at rows)
+square_alone rows full read =
+    let square = square_read rows full read in (
+      at square.0 square.1 (common_row rows) refl,
+      IsUnreadInMirrors-read (length rows) (value_at rows) square.0 square.1,
+      IsUnreadTurned-read (length rows) (value_at rows) square.0 square.1,
+    )
+  where
+    at : (r : Reading) → read_matrix (length rows) (value_at rows) ≡ Some r → (o : Option (List Bool))
+        → common_row rows ≡ o → common_row rows ≡ None
+    at r is None e = e
+    at r is (Some row) e = absurd (false≢true (one_row rows row r e is))
+
+pub rows_alone : (symbology : Symbology) (rows : List (List Bool)) (full : List ℕ)
+    → read_modules symbology rows ≡ Some full → IsAlone symbology rows
+rows_alone Ean13 rows full read = row_alone read_ean13 ean13_gap rows full read
+rows_alone Ean8 rows full read = row_alone read_ean8 ean8_gap rows full read
+rows_alone UpcA rows full read = row_alone read_upca upca_gap rows full read
+rows_alone Code128 rows full read = row_alone read_code128 code128_gap rows full read
+rows_alone Qr rows full read = square_alone rows full read
+
+pub IsAlone-read : (format : Format) (scale : ℕ) (image : List ℕ) (symbol : Symbol)
+    → read_image format scale symbol.symbology image ≡ Some symbol.full
+    → IfSome (modules_in format scale symbol.symbology image) (IsAlone symbol.symbology)
+unfolding read_image
+IsAlone-read format scale image symbol read = at (modules_in format scale symbol.symbology image) read
+  where
+    at : (o : Option (List (List Bool))) → option_and_then (read_modules symbol.symbology) o ≡ Some symbol.full
+        → IfSome o (IsAlone symbol.symbology)
+    at None e = tt
+    at (Some rows) e = rows_alone symbol.symbology rows symbol.full e

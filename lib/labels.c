@@ -1,0 +1,153 @@
+/* Between callers in C and the proved calls of crates/labels_c: NULL, modules that are 0 or 1, and the end of a
+ * message. Nothing here is proved. */
+#include "labels.h"
+#include <string.h>
+
+/* The proved calls. No pointer is NULL; of an answer they write what is before its message. */
+void labels_proved_draw(const labels_options *options, uint32_t symbology, const void *data, size_t size, char *out,
+                        size_t room, char *message, size_t message_room, labels_answer *answer);
+void labels_proved_symbol(const labels_options *options, uint32_t symbology, const void *data, size_t size,
+                          unsigned char *modules, size_t room, char *message, size_t message_room,
+                          labels_symbol_info *info, labels_answer *answer);
+void labels_proved_draw_line(const labels_options *options, const void *text, size_t size, char *out, size_t room,
+                             char *message, size_t message_room, labels_answer *answer);
+void labels_proved_line(const labels_options *options, const void *text, size_t size, unsigned char *modules,
+                        size_t room, char *message, size_t message_room, labels_symbol_info *info,
+                        labels_answer *answer);
+void labels_proved_run(const labels_options *options, const void *text, size_t size, char *images, size_t images_room,
+                       char *messages, size_t messages_room, labels_run_answer *answer);
+
+enum { MESSAGE_ROOM = sizeof(((labels_answer *)0)->message) - 1 };
+
+static const labels_options defaults = LABELS_DEFAULTS;
+static char nothing; /* what a pointer to no bytes points to: it is not read or written */
+
+static const char *const texts[] = {
+    "done",
+    "the room is too small",
+    "an option is out of its range",
+    "unknown symbology",
+    "no data",
+    "not a digit",
+    "wrong number of digits",
+    "wrong check digit",
+    "data is longer than 80 bytes",
+    "a byte is not ASCII",
+    "data does not fit version 10",
+    "line is longer than 1100 bytes",
+    "bad setting",
+    "bad escape",
+    "an empty line or a comment",
+    "the line has a line feed",
+    "a pointer is NULL",
+    "a line is refused",
+};
+
+const char *labels_version(void) { return LABELS_VERSION; }
+
+const char *labels_code_text(int code) {
+    return code >= 0 && (size_t)code < sizeof texts / sizeof *texts ? texts[code] : "unknown code";
+}
+
+void labels_defaults(labels_options *options) {
+    if (options)
+        *options = defaults;
+}
+
+static int is_bad(const void *bytes, size_t size) { return (!bytes && size) || size > PTRDIFF_MAX; }
+
+static const void *read_from(const void *bytes) { return bytes ? bytes : &nothing; }
+
+static void *write_to(void *room) { return room ? room : &nothing; }
+
+/* Ends the message of an answer. Where the proved call put none, it is what the code means. */
+static int finish(labels_answer *answer) {
+    size_t end = answer->message_length < MESSAGE_ROOM ? answer->message_length : MESSAGE_ROOM;
+    if (end == 0 && answer->code != LABELS_OK)
+        for (const char *text = labels_code_text((int)answer->code); text[end]; end++)
+            answer->message[end] = text[end];
+    answer->message[end] = 0;
+    answer->message_length = end;
+    return (int)answer->code;
+}
+
+static int refuse(labels_answer *answer) {
+    answer->code = LABELS_NULL;
+    answer->reserved = 0;
+    answer->length = 0;
+    answer->message_length = 0;
+    return finish(answer);
+}
+
+/* The proved code takes modules as truth values, so each byte that it may write has to be 0 or 1. Clears as many as a
+ * symbol may have, at most. Returns how many there is room for. */
+static size_t cleared(unsigned char *modules, size_t room, size_t most) {
+    size_t used = room < most ? room : most;
+    memset(modules, 0, used);
+    return used;
+}
+
+int labels_draw(const labels_options *options, int symbology, const void *data, size_t size, char *out, size_t room,
+                labels_answer *answer) {
+    labels_answer own;
+    answer = answer ? answer : &own;
+    if (is_bad(data, size) || is_bad(out, room))
+        return refuse(answer);
+    labels_proved_draw(options ? options : &defaults, (uint32_t)symbology, read_from(data), size, write_to(out), room,
+                       answer->message, MESSAGE_ROOM, answer);
+    return finish(answer);
+}
+
+int labels_draw_line(const labels_options *options, const void *text, size_t size, char *out, size_t room,
+                     labels_answer *answer) {
+    labels_answer own;
+    answer = answer ? answer : &own;
+    if (is_bad(text, size) || is_bad(out, room))
+        return refuse(answer);
+    labels_proved_draw_line(options ? options : &defaults, read_from(text), size, write_to(out), room, answer->message,
+                            MESSAGE_ROOM, answer);
+    return finish(answer);
+}
+
+int labels_symbol(const labels_options *options, int symbology, const void *data, size_t size, unsigned char *modules,
+                  size_t room, labels_symbol_info *info, labels_answer *answer) {
+    labels_answer own;
+    labels_symbol_info own_info;
+    answer = answer ? answer : &own;
+    info = info ? info : &own_info;
+    *info = (labels_symbol_info){0};
+    if (is_bad(data, size) || is_bad(modules, room))
+        return refuse(answer);
+    modules = write_to(modules);
+    room = cleared(modules, room, symbology == LABELS_QR ? LABELS_MAX_MODULES : LABELS_MAX_BARS);
+    labels_proved_symbol(options ? options : &defaults, (uint32_t)symbology, read_from(data), size, modules, room,
+                         answer->message, MESSAGE_ROOM, info, answer);
+    return finish(answer);
+}
+
+int labels_line(const labels_options *options, const void *text, size_t size, unsigned char *modules, size_t room,
+                labels_symbol_info *info, labels_answer *answer) {
+    labels_answer own;
+    labels_symbol_info own_info;
+    answer = answer ? answer : &own;
+    info = info ? info : &own_info;
+    *info = (labels_symbol_info){0};
+    if (is_bad(text, size) || is_bad(modules, room))
+        return refuse(answer);
+    modules = write_to(modules);
+    room = cleared(modules, room, LABELS_MAX_MODULES);
+    labels_proved_line(options ? options : &defaults, read_from(text), size, modules, room, answer->message,
+                       MESSAGE_ROOM, info, answer);
+    return finish(answer);
+}
+
+int labels_run(const labels_options *options, const void *text, size_t size, char *images, size_t images_room,
+               char *messages, size_t messages_room, labels_run_answer *answer) {
+    labels_run_answer own;
+    answer = answer ? answer : &own;
+    *answer = (labels_run_answer){.code = LABELS_NULL};
+    if (!is_bad(text, size) && !is_bad(images, images_room) && !is_bad(messages, messages_room))
+        labels_proved_run(options ? options : &defaults, read_from(text), size, write_to(images), images_room,
+                          write_to(messages), messages_room, answer);
+    return (int)answer->code;
+}

@@ -1,0 +1,143 @@
+/* liblabels: bar codes and QR codes, drawn by proved code.
+ *
+ * EAN-13, EAN-8, UPC-A, Code 128 and QR versions 1 to 10, as a picture (plain PBM or text), as modules of a byte each,
+ * or as a run over a whole text of lines. The manual is labels(3); lines and options are those of labels(1).
+ *
+ * No call takes memory from the heap, keeps state, prints or aborts. All are reentrant: any number of threads may call
+ * at once. A call uses at most 40 KB of stack.
+ *
+ * A pointer may be NULL only where a call says so. It has to point to as many bytes as the size or room after it says.
+ * Memory that a call writes must not overlap anything else that the call is given.
+ *
+ * The structs keep their size for as long as the library is liblabels.so.1. Their `reserved` words are for later
+ * versions: in options they must be 0, as LABELS_DEFAULTS and labels_defaults() set them; in answers they are 0. A later
+ * version may have more codes and more symbologies. */
+#ifndef LABELS_H
+#define LABELS_H
+
+#include <stddef.h>
+#include <stdint.h>
+
+#ifdef __cplusplus
+extern "C" {
+#endif
+
+#if defined(__GNUC__)
+#define LABELS_API __attribute__((visibility("default")))
+#else
+#define LABELS_API
+#endif
+
+#define LABELS_VERSION "1.0.0"
+
+enum labels_symbology { LABELS_EAN13, LABELS_EAN8, LABELS_UPCA, LABELS_CODE128, LABELS_QR };
+enum labels_format { LABELS_PBM, LABELS_ASCII };
+enum labels_level { LABELS_LEVEL_L, LABELS_LEVEL_M, LABELS_LEVEL_Q, LABELS_LEVEL_H };
+enum { LABELS_MASK_AUTO = 8 };      /* the mask with the lowest penalty */
+enum { LABELS_MAX_BARS = 1795 };    /* no linear symbol has more modules */
+enum { LABELS_MAX_MODULES = 3249 }; /* no symbol has more: QR version 10 has 57 rows of 57 */
+
+/* What a call returns. */
+enum labels_code {
+    LABELS_OK,                     /* done */
+    LABELS_NO_ROOM,                /* the room is too small: the answer has the length that is needed */
+    LABELS_BAD_OPTION,             /* an option is out of its range, or a reserved word is not 0 */
+    LABELS_BAD_SYMBOLOGY,          /* the number or the name is that of no symbology */
+    LABELS_NO_DATA,                /* there is no data */
+    LABELS_NOT_A_DIGIT,            /* EAN, UPC: a byte is not a digit */
+    LABELS_WRONG_NUMBER_OF_DIGITS, /* EAN, UPC */
+    LABELS_WRONG_CHECK_DIGIT,      /* EAN, UPC */
+    LABELS_DATA_TOO_LONG,          /* Code 128: more than 80 bytes */
+    LABELS_NOT_ASCII,              /* Code 128: a byte above 127 */
+    LABELS_DOES_NOT_FIT,           /* QR: more than version 10 holds at this level */
+    LABELS_LINE_TOO_LONG,          /* line: more than 1,100 bytes */
+    LABELS_BAD_SETTING,            /* line: a setting is unknown, or its value is bad */
+    LABELS_BAD_ESCAPE,             /* line: an escape is bad */
+    LABELS_SKIPPED,                /* line: it is empty or a comment, and has no symbol */
+    LABELS_NOT_ONE_LINE,           /* line: it has a line feed */
+    LABELS_NULL,                   /* a pointer is NULL where it must not be, or a size is above PTRDIFF_MAX */
+    LABELS_REFUSED                 /* text: one line or more is refused; the others are drawn */
+};
+
+/* How labels are drawn. A call tests all of them, also those that it does not use. */
+typedef struct labels_options {
+    uint32_t format;      /* of pictures: enum labels_format */
+    uint32_t scale;       /* of pictures: pixels of a module, 1 to 8 */
+    uint32_t height;      /* of bars, in modules, 1 to 500 */
+    uint32_t level;       /* of QR: enum labels_level */
+    uint32_t min_version; /* of QR, 1 to 10 */
+    uint32_t mask;        /* of QR: 0 to 7, or LABELS_MASK_AUTO */
+    uint32_t escapes;     /* of lines: 1 where their data has escapes, else 0 */
+    uint32_t reserved[5];
+} labels_options;
+
+#define LABELS_DEFAULTS {LABELS_PBM, 1, 50, LABELS_LEVEL_M, 1, LABELS_MASK_AUTO, 0, {0, 0, 0, 0, 0}}
+
+/* What a call answers about one symbol. */
+typedef struct labels_answer {
+    uint32_t code;         /* as the call returns it: enum labels_code */
+    uint32_t reserved;
+    size_t length;         /* bytes of the whole picture, or modules of the symbol; 0 where there is none */
+    size_t message_length; /* bytes of the message */
+    char message[104];     /* why there is no symbol, as labels(1) prints it, ended by NUL; "" where there is one */
+} labels_answer;
+
+/* A symbol as its modules show it. A linear symbol has one row of modules. */
+typedef struct labels_symbol_info {
+    uint32_t symbology;                /* enum labels_symbology */
+    uint32_t width, rows;              /* of the modules */
+    uint32_t height;                   /* in modules, of the symbol as it is drawn */
+    uint32_t left, right, top, bottom; /* in modules, the quiet zones that a reader needs */
+    uint32_t version, level, mask;     /* of QR, as used; 0 of others */
+    uint32_t reserved[5];
+} labels_symbol_info;
+
+/* What labels_run() answers. */
+typedef struct labels_run_answer {
+    uint32_t code; /* as the call returns it: enum labels_code */
+    uint32_t reserved[3];
+    size_t images_length;   /* bytes of all pictures */
+    size_t messages_length; /* bytes of all messages; 0 where no line is refused */
+} labels_run_answer;
+
+/* Returns the version of the library that runs, as "1.0.0". */
+LABELS_API const char *labels_version(void);
+
+/* Returns what a code means, in English: never NULL, and not to be freed. */
+LABELS_API const char *labels_code_text(int code);
+
+/* Sets the options to their defaults: those of LABELS_DEFAULTS. With NULL it does nothing. */
+LABELS_API void labels_defaults(labels_options *options);
+
+/* All calls below return a code, which is in the answer too. `options` may be NULL for the defaults, `info` and `answer`
+ * where they are not wanted; `data` and `text` where their size is 0, and `out`, `modules`, `images` and `messages`
+ * where their room is 0. */
+
+/* Draws one symbol as a picture. Puts its bytes into `out`, as many as there is room for, and nothing after them; the
+ * picture has no NUL at its end. `answer->length` is that of the whole picture: a call without room asks for it. */
+LABELS_API int labels_draw(const labels_options *options, int symbology, const void *data, size_t size, char *out,
+                           size_t room, labels_answer *answer);
+
+/* Draws one symbol as modules. Puts them into `modules` where there is room for all, row by row from the top, a byte
+ * each, 1 where dark, else 0, without quiet zones. Room that they do not take may be set to 0, up to LABELS_MAX_MODULES
+ * bytes in all. `info` is set where the code is LABELS_OK or LABELS_NO_ROOM, else it is all 0. */
+LABELS_API int labels_symbol(const labels_options *options, int symbology, const void *data, size_t size,
+                             unsigned char *modules, size_t room, labels_symbol_info *info, labels_answer *answer);
+
+/* Draws what labels(1) draws for one line, as "qr,level=Q HELLO", as a picture. The line comes without its line feed. */
+LABELS_API int labels_draw_line(const labels_options *options, const void *text, size_t size, char *out, size_t room,
+                                labels_answer *answer);
+
+/* Draws the same line as modules, as labels_symbol() puts them. */
+LABELS_API int labels_line(const labels_options *options, const void *text, size_t size, unsigned char *modules,
+                           size_t room, labels_symbol_info *info, labels_answer *answer);
+
+/* Draws a whole text of lines, as labels(1) does: the pictures into `images`, and a message for each refused line into
+ * `messages`, each as much as there is room for. Returns LABELS_REFUSED where a line is refused. */
+LABELS_API int labels_run(const labels_options *options, const void *text, size_t size, char *images,
+                          size_t images_room, char *messages, size_t messages_room, labels_run_answer *answer);
+
+#ifdef __cplusplus
+}
+#endif
+#endif

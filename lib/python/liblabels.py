@@ -1,0 +1,430 @@
+"""Bar codes and QR codes, drawn by the proved library liblabels.
+
+>>> symbol = line("qr,level=Q HELLO")  # a line as of labels(1)
+>>> symbol.width, symbol.version, symbol.level, symbol.mask
+(21, 1, 'Q', 2)
+>>> draw("ean8", "7351353", format="ascii", height=1)[:20]  # a picture, as bytes
+b'              ##  ##'
+
+The modules as an array of numpy, and as an image of Pillow, both without quiet zones:
+
+    numpy.frombuffer(symbol.modules, bool).reshape(symbol.rows, symbol.width)
+    Image.frombytes("1", (symbol.width, symbol.rows), symbol.packed(), "raw", "1;I")
+
+Data and lines are bytes, or str, which is encoded as UTF-8. What the library refuses raises `Refused`
+with the text of labels(1); a wrong option raises ValueError. The module keeps no state, and other
+threads run during a call.
+
+The library is liblabels.so.1, or the file that the environment variable LABELS_LIBRARY names. Where
+it is not installed the import raises OSError.
+"""
+
+import ctypes
+import os
+from collections.abc import Callable
+from dataclasses import dataclass
+from functools import lru_cache
+
+__all__ = ["Refused", "Run", "Symbol", "draw", "draw_line", "line", "run", "symbol", "version"]
+
+SYMBOLOGIES = ("ean13", "ean8", "upca", "code128", "qr")
+FORMATS = ("pbm", "ascii")
+LEVELS = ("L", "M", "Q", "H")
+
+# The codes of labels.h that the module tells apart.
+_OK = 0
+_NO_ROOM = 1
+_SKIPPED = 14
+_MASK_AUTO = 8
+_MAX_MODULES = 3249
+# Bytes of most pictures at scale 1; a larger picture takes a second call.
+_ROOM = 16384
+
+
+class _Options(ctypes.Structure):
+    """labels_options: the seven options and five spare words."""
+
+    _fields_ = [("numbers", ctypes.c_uint32 * 7), ("reserved", ctypes.c_uint32 * 5)]
+
+
+class _Answer(ctypes.Structure):
+    """labels_answer."""
+
+    code: int
+    length: int
+    message: bytes
+
+    _fields_ = [
+        ("code", ctypes.c_uint32),
+        ("reserved", ctypes.c_uint32),
+        ("length", ctypes.c_size_t),
+        ("message_length", ctypes.c_size_t),
+        ("message", ctypes.c_char * 104),
+    ]
+
+
+class _Info(ctypes.Structure):
+    """labels_symbol_info."""
+
+    symbology: int
+    width: int
+    rows: int
+    height: int
+    left: int
+    right: int
+    top: int
+    bottom: int
+    version: int
+    level: int
+    mask: int
+
+    _fields_ = [
+        ("symbology", ctypes.c_uint32),
+        ("width", ctypes.c_uint32),
+        ("rows", ctypes.c_uint32),
+        ("height", ctypes.c_uint32),
+        ("left", ctypes.c_uint32),
+        ("right", ctypes.c_uint32),
+        ("top", ctypes.c_uint32),
+        ("bottom", ctypes.c_uint32),
+        ("version", ctypes.c_uint32),
+        ("level", ctypes.c_uint32),
+        ("mask", ctypes.c_uint32),
+        ("reserved", ctypes.c_uint32 * 5),
+    ]
+
+
+class _RunAnswer(ctypes.Structure):
+    """labels_run_answer."""
+
+    images_length: int
+    messages_length: int
+
+    _fields_ = [
+        ("code", ctypes.c_uint32),
+        ("reserved", ctypes.c_uint32 * 3),
+        ("images_length", ctypes.c_size_t),
+        ("messages_length", ctypes.c_size_t),
+    ]
+
+
+class Refused(ValueError):
+    """Data or a line that has no symbol: `code` is the number that labels.h has for the reason.
+
+    >>> draw("ean13", "4006381333930")
+    Traceback (most recent call last):
+    liblabels.Refused: check digit is 0, should be 1
+    """
+
+    def __init__(self, code: int, text: str) -> None:
+        super().__init__(text)
+        self.code = code
+
+
+@dataclass(frozen=True)
+class Symbol:
+    """A symbol's modules. A linear symbol has one row of them, which is drawn `height` modules high.
+
+    Attributes:
+        symbology: one of SYMBOLOGIES.
+        width: modules in a row, without quiet zones.
+        rows: rows of modules.
+        height: how high the symbol is drawn, in modules.
+        quiet_zones: left, right, top and bottom, in modules: what a reader needs to be light around the symbol.
+        version: of QR, 1 to 10; None of others, as are the next two.
+        level: of QR, one of LEVELS.
+        mask: of QR, 0 to 7.
+        modules: a byte for each module, row by row from the top: 1 where dark, else 0.
+    """
+
+    symbology: str
+    width: int
+    rows: int
+    height: int
+    quiet_zones: tuple[int, int, int, int]
+    version: int | None
+    level: str | None
+    mask: int | None
+    modules: bytes
+
+    def packed(self, quiet_zones: bool = False) -> bytes:
+        """Returns the modules as bits, 1 where dark, in rows of whole bytes, as binary PBM has them.
+
+        The quiet zones are light modules around them; without `quiet_zones` they are left out.
+
+        >>> symbol("ean8", "7351353").packed().hex()
+        'aedeb132a853a144a0'
+        """
+        left, right, top, bottom = self.quiet_zones if quiet_zones else (0, 0, 0, 0)
+        size = (left + self.width + right + 7) // 8
+        # All rows as one number: between two of them are the zones and the bits that fill a byte.
+        digits = self.modules.translate(bytes.maketrans(b"\0\1", b"01"))
+        starts = range(0, len(digits), self.width)
+        between = b"0" * (size * 8 - self.width)
+        number = int(between.join(digits[start : start + self.width] for start in starts), 2)
+        bits = (number << (size * 8 - left - self.width)).to_bytes(size * self.rows, "big")
+        return bytes(size * top) + bits + bytes(size * bottom)
+
+
+@dataclass(frozen=True)
+class Run:
+    """What labels(1) writes for a text of lines.
+
+    Attributes:
+        images: the pictures, one after the other.
+        messages: a line for each line that is refused: `line 2: unknown symbology`.
+    """
+
+    images: bytes
+    messages: str
+
+
+def _load() -> ctypes.CDLL:
+    library = ctypes.CDLL(os.environ.get("LABELS_LIBRARY", "liblabels.so.1"))
+    size = ctypes.c_size_t
+    data = [ctypes.c_char_p, size]
+    room = [ctypes.c_void_p, size]
+    answer = [ctypes.c_void_p]
+    options = [ctypes.POINTER(_Options)]
+    library.labels_draw.argtypes = [*options, ctypes.c_int, *data, *room, *answer]
+    library.labels_symbol.argtypes = [*options, ctypes.c_int, *data, *room, *answer, *answer]
+    library.labels_draw_line.argtypes = [*options, *data, *room, *answer]
+    library.labels_line.argtypes = [*options, *data, *room, *answer, *answer]
+    library.labels_run.argtypes = [*options, *data, *room, *room, *answer]
+    library.labels_version.restype = ctypes.c_char_p
+    return library
+
+
+_LIBRARY = _load()
+
+
+def _index(names: tuple[str, ...], kind: str, name: str) -> int:
+    if name not in names:
+        raise ValueError(f"unknown {kind} {name!r}: one of {', '.join(names)}")
+    return names.index(name)
+
+
+def _within(name: str, number: int, lowest: int, highest: int) -> int:
+    if not lowest <= number <= highest:
+        raise ValueError(f"{name} is {number}, and has to be {lowest} to {highest}")
+    return number
+
+
+@lru_cache(maxsize=64, typed=True)
+def _options(
+    format: str, scale: int, height: int, level: str, min_version: int, mask: int | None, escapes: bool
+) -> _Options:
+    numbers = (
+        _index(FORMATS, "format", format),
+        _within("scale", scale, 1, 8),
+        _within("height", height, 1, 500),
+        _index(LEVELS, "level", level),
+        _within("min_version", min_version, 1, 10),
+        _MASK_AUTO if mask is None else _within("mask", mask, 0, 7),
+        int(escapes),
+    )
+    return _Options((ctypes.c_uint32 * 7)(*numbers))
+
+
+def _encoded(text: str | bytes) -> bytes:
+    return text.encode() if isinstance(text, str) else text
+
+
+def _line_of(text: str | bytes) -> bytes:
+    return _encoded(text).removesuffix(b"\n")
+
+
+def _expect_drawn(answer: _Answer) -> None:
+    if answer.code != _OK:
+        raise Refused(answer.code, answer.message.decode("ascii"))
+
+
+def _picture(answer: _Answer, call: Callable[..., int], *asked: object) -> bytes:
+    """The picture that a call draws, in a room that is large enough; the answer says why there is none."""
+    room = _ROOM
+    while True:
+        out = ctypes.create_string_buffer(room)
+        if call(*asked, out, room, ctypes.byref(answer)) != _NO_ROOM:
+            return out.raw[: answer.length]
+        room = answer.length
+
+
+def _symbol_of(info: _Info, modules: "ctypes.Array[ctypes.c_char]") -> Symbol:
+    is_qr = info.version > 0
+    return Symbol(
+        symbology=SYMBOLOGIES[info.symbology],
+        width=info.width,
+        rows=info.rows,
+        height=info.height,
+        quiet_zones=(info.left, info.right, info.top, info.bottom),
+        version=info.version if is_qr else None,
+        level=LEVELS[info.level] if is_qr else None,
+        mask=info.mask if is_qr else None,
+        modules=ctypes.string_at(modules, info.width * info.rows),
+    )
+
+
+def line(
+    text: str | bytes,
+    *,
+    height: int = 50,
+    level: str = "M",
+    min_version: int = 1,
+    mask: int | None = None,
+    escapes: bool = False,
+) -> Symbol | None:
+    """Returns the symbol that labels(1) draws for one line, or None for an empty line or a comment.
+
+    The options are those of a run, which settings of the line change: `height` of bars in modules, 1 to 500; of QR
+    `level`, `min_version` 1 to 10, and `mask` 0 to 7, or None for the one with the lowest penalty; `escapes`: whether
+    the data has escapes. A line feed at the end of the text is no part of the line.
+
+    Raises Refused where labels(1) refuses the line, and where the text has another line feed; ValueError for an option
+    out of its range.
+
+    >>> line("ean13,height=20 4006381333931").height
+    20
+    >>> line("# a comment")
+    >>> line("qr,size=3 HELLO")
+    Traceback (most recent call last):
+    liblabels.Refused: unknown setting 1
+    """
+    options = _options("pbm", 1, height, level, min_version, mask, escapes)
+    raw = _line_of(text)
+    info = _Info()
+    answer = _Answer()
+    modules = ctypes.create_string_buffer(_MAX_MODULES)
+    _LIBRARY.labels_line(options, raw, len(raw), modules, _MAX_MODULES, ctypes.byref(info), ctypes.byref(answer))
+    if answer.code == _SKIPPED:
+        return None
+    _expect_drawn(answer)
+    return _symbol_of(info, modules)
+
+
+def symbol(
+    symbology: str,
+    data: str | bytes,
+    *,
+    height: int = 50,
+    level: str = "M",
+    min_version: int = 1,
+    mask: int | None = None,
+) -> Symbol:
+    """Returns the symbol of some data in a symbology, one of SYMBOLOGIES. The options are those of `line`.
+
+    Raises Refused where the data has no symbol; ValueError for an option out of its range.
+
+    >>> symbol("ean13", "400638133393").quiet_zones
+    (11, 7, 0, 0)
+    """
+    options = _options("pbm", 1, height, level, min_version, mask, False)
+    number = _index(SYMBOLOGIES, "symbology", symbology)
+    raw = _encoded(data)
+    info = _Info()
+    answer = _Answer()
+    modules = ctypes.create_string_buffer(_MAX_MODULES)
+    _LIBRARY.labels_symbol(
+        options, number, raw, len(raw), modules, _MAX_MODULES, ctypes.byref(info), ctypes.byref(answer)
+    )
+    _expect_drawn(answer)
+    return _symbol_of(info, modules)
+
+
+def draw(
+    symbology: str,
+    data: str | bytes,
+    *,
+    format: str = "pbm",
+    scale: int = 1,
+    height: int = 50,
+    level: str = "M",
+    min_version: int = 1,
+    mask: int | None = None,
+) -> bytes:
+    """Returns the picture of some data, byte for byte as labels(1) prints it, with its quiet zones.
+
+    `format` is "pbm" (plain PBM) or "ascii", `scale` the pixels of a module, 1 to 8. The other options are those of
+    `line`. Raises what `symbol` raises.
+
+    >>> draw("qr", "HELLO")[:9]
+    b'P1\\n29 29\\n'
+    """
+    options = _options(format, scale, height, level, min_version, mask, False)
+    number = _index(SYMBOLOGIES, "symbology", symbology)
+    raw = _encoded(data)
+    answer = _Answer()
+    picture = _picture(answer, _LIBRARY.labels_draw, options, number, raw, len(raw))
+    _expect_drawn(answer)
+    return picture
+
+
+def draw_line(
+    text: str | bytes,
+    *,
+    format: str = "pbm",
+    scale: int = 1,
+    height: int = 50,
+    level: str = "M",
+    min_version: int = 1,
+    mask: int | None = None,
+    escapes: bool = False,
+) -> bytes | None:
+    """Returns the picture that labels(1) prints for one line, or None for an empty line or a comment.
+
+    The options are those of `draw` and `line`. Raises what `line` raises.
+
+    >>> draw_line("ean8,height=2 7351353\\n", scale=2)[:9]
+    b'P1\\n162 4\\n'
+    """
+    options = _options(format, scale, height, level, min_version, mask, escapes)
+    raw = _line_of(text)
+    answer = _Answer()
+    picture = _picture(answer, _LIBRARY.labels_draw_line, options, raw, len(raw))
+    if answer.code == _SKIPPED:
+        return None
+    _expect_drawn(answer)
+    return picture
+
+
+def run(
+    text: str | bytes,
+    *,
+    format: str = "pbm",
+    scale: int = 1,
+    height: int = 50,
+    level: str = "M",
+    min_version: int = 1,
+    mask: int | None = None,
+    escapes: bool = False,
+) -> Run:
+    """Returns what labels(1) writes for a text of lines. A line that is refused gives a message, and raises nothing.
+
+    The options are those of `draw` and `line`. Raises ValueError for an option out of its range.
+
+    >>> run("ean8 7351353\\npdf x\\n").messages
+    'line 2: unknown symbology\\n'
+    """
+    options = _options(format, scale, height, level, min_version, mask, escapes)
+    raw = _encoded(text)
+    answer = _RunAnswer(images_length=_ROOM, messages_length=_ROOM)
+    while True:
+        images_room = answer.images_length
+        messages_room = answer.messages_length
+        images = ctypes.create_string_buffer(images_room)
+        messages = ctypes.create_string_buffer(messages_room)
+        code = _LIBRARY.labels_run(
+            options, raw, len(raw), images, images_room, messages, messages_room, ctypes.byref(answer)
+        )
+        if code != _NO_ROOM:
+            text_of_messages = messages.raw[: answer.messages_length].decode("ascii")
+            return Run(images.raw[: answer.images_length], text_of_messages)
+
+
+def version() -> str:
+    """Returns the version of the library.
+
+    >>> version()
+    '1.0.0'
+    """
+    number: bytes = _LIBRARY.labels_version()
+    return number.decode("ascii")

@@ -1,0 +1,28 @@
+/* Makes one call of the library many times: count_calls CALL LABEL TIMES. The labels are those of count_labels.h. */
+#include "count_labels.h"
+#include "labels.h"
+
+static char out[1 << 20];
+static unsigned char modules[LABELS_MAX_MODULES];
+
+static int call(const char *name, const struct label *label) {
+    labels_answer answer;
+    labels_symbol_info info;
+    size_t size = strlen(label->data);
+    size_t length = strlen(label->line);
+    if (strcmp(name, "labels_draw") == 0)
+        return labels_draw(NULL, label->labels, label->data, size, out, sizeof out, &answer);
+    if (strcmp(name, "labels_symbol") == 0)
+        return labels_symbol(NULL, label->labels, label->data, size, modules, sizeof modules, &info, &answer);
+    if (strcmp(name, "labels_line") == 0)
+        return labels_line(NULL, label->line, length, modules, sizeof modules, &info, &answer);
+    return -1;
+}
+
+int main(int count, char **words) {
+    const struct label *label = count == 4 ? label_of(words[2]) : NULL;
+    for (int left = label ? atoi(words[3]) : 0; left > 0; left--)
+        if (call(words[1], label) != LABELS_OK)
+            return 1;
+    return label ? 0 : 2;
+}

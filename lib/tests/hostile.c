@@ -1,0 +1,149 @@
+/* Calls with random and edge numbers, spare words that are not 0, NULL and rooms from 0 bytes on: hostile ROUNDS.
+ * Each room ends where its memory ends, so that a sanitizer sees a byte too many, and what a call must not write has to
+ * be as it was. Status 1 where it is not, or where a code is none. The last line counts the codes. */
+#include "labels_of_test.h"
+#include <stdio.h>
+#include <stdlib.h>
+
+enum { MARK = 0x5a, CODES = LABELS_REFUSED + 1 };
+
+static unsigned seed = 12345;
+static long codes[CODES];
+
+static unsigned next(void) {
+    seed = seed * 1664525u + 1013904223u;
+    return seed >> 8;
+}
+
+static int one_in(unsigned count) { return next() % count == 0; }
+
+static uint32_t number(void) {
+    static const uint32_t edges[] = {0,   1,   2,   3,   4,     7,     8,     9,          10,         11,        499,
+                                     500, 501, 255, 256, 257,   65535, 65536, 65792,      0x7fffffff, 0x80000000u,
+                                     0xffffffffu};
+    return one_in(12) ? edges[next() % (sizeof edges / sizeof *edges)] : 1 + next() % 4;
+}
+
+static uint32_t flag(void) { return one_in(30) ? number() : next() % 2; }
+
+static labels_options some_options(void) {
+    labels_options options = {flag(), number(), number(), number(), number(), number(), flag(), {0}};
+    if (one_in(30))
+        options.reserved[next() % 5] = number();
+    return options;
+}
+
+/* Memory of just so many bytes. */
+static void *memory(size_t size, int value) {
+    void *bytes = malloc(size ? size : 1);
+    if (!bytes)
+        abort();
+    return memset(bytes, value, size);
+}
+
+static void stop(const char *call, const char *what) {
+    printf("%s: %s\n", call, what);
+    exit(1);
+}
+
+static void see_code(const char *call, int code, const labels_answer *answer) {
+    if (code < 0 || code >= CODES)
+        stop(call, "a code that is none");
+    codes[code]++;
+    if (!answer)
+        return;
+    if (answer->code != (uint32_t)code || answer->reserved != 0)
+        stop(call, "another code in the answer, or a spare word that is not 0");
+    if (answer->message_length != strlen(answer->message))
+        stop(call, "a message without its end");
+    if ((code == LABELS_OK) != (answer->message_length == 0))
+        stop(call, "a message of what is drawn, or none of what is not");
+}
+
+/* Each byte from `first` on has to be as it was. */
+static void see_untouched(const char *call, const char *room, size_t size, size_t first) {
+    for (size_t i = first; i < size; i++)
+        if (room[i] != MARK)
+            stop(call, "a byte is written that must not be");
+}
+
+static void see_picture(const char *call, int code, const char *out, size_t room, const labels_answer *answer) {
+    see_code(call, code, answer);
+    if (code > LABELS_NO_ROOM)
+        see_untouched(call, out, room, 0);
+    if (code == LABELS_OK && answer)
+        see_untouched(call, out, room, answer->length);
+    if (code == LABELS_NO_ROOM && answer && answer->length <= room)
+        stop(call, "there was room");
+}
+
+static void see_modules(const char *call, int code, const unsigned char *modules, size_t room,
+                        const labels_answer *answer) {
+    see_code(call, code, answer);
+    see_untouched(call, (const char *)modules, room, LABELS_MAX_MODULES);
+    for (size_t i = 0; code == LABELS_OK && answer && i < answer->length; i++)
+        if (modules[i] > 1)
+            stop(call, "a module is neither 0 nor 1");
+}
+
+static void one_round(void) {
+    labels_options options = some_options();
+    const labels_options *wanted = one_in(10) ? NULL : &options;
+    size_t size = one_in(20) ? 0 : next() % (one_in(20) ? 1200 : 40);
+    size_t room = one_in(4) ? 0 : next() % 4000;
+    char *data = memory(size, 0);
+    char *out = memory(room, MARK);
+    unsigned char *modules = memory(room, MARK);
+    labels_answer *answer = memory(sizeof *answer, MARK);
+    labels_symbol_info *info = memory(sizeof *info, MARK);
+    for (size_t i = 0; i < size; i++)
+        data[i] = (char)(one_in(3) ? next() : '0' + next() % 10);
+    char *line = memory(size + 20, 0);
+    int length = snprintf(line, size + 20, "%s%s%.*s", symbologies[next() % SYMBOLOGIES],
+                          one_in(9) ? ",height=7 " : " ", (int)size, data);
+    if (one_in(10))
+        line[next() % (unsigned)length] = (char)next();
+    const void *from = one_in(50) ? NULL : data;
+    char *to = one_in(50) ? NULL : out;
+    unsigned char *modules_to = one_in(50) ? NULL : modules;
+    labels_answer *answered = one_in(40) ? NULL : answer;
+    labels_symbol_info *told = one_in(20) ? NULL : info;
+    int symbology = (int)(number() - (uint32_t)one_in(9));
+
+    int code = labels_draw(wanted, symbology, from, size, to, room, answered);
+    see_picture("labels_draw", code, out, room, answered);
+    memset(out, MARK, room);
+    code = labels_draw_line(wanted, one_in(50) ? NULL : line, (size_t)length, to, room, answered);
+    see_picture("labels_draw_line", code, out, room, answered);
+    code = labels_symbol(wanted, symbology, from, size, modules_to, room, told, answered);
+    see_modules("labels_symbol", code, modules, room, answered);
+    code = labels_line(wanted, line, (size_t)length, modules_to, room, told, answered);
+    see_modules("labels_line", code, modules, room, answered);
+
+    memset(out, MARK, room);
+    labels_run_answer ran;
+    size_t half = room / 2;
+    char *messages = one_in(50) ? NULL : out + half;
+    code = labels_run(wanted, line, (size_t)length, out, half, messages, room - half, one_in(40) ? NULL : &ran);
+    see_code("labels_run", code, NULL);
+    if (code == LABELS_OK || code == LABELS_REFUSED) {
+        labels_run(wanted, line, (size_t)length, out, half, messages, room - half, &ran);
+        see_untouched("labels_run", out, half, ran.images_length);
+        see_untouched("labels_run", out + half, room - half, ran.messages_length);
+    }
+    free(info);
+    free(answer);
+    free(modules);
+    free(out);
+    free(line);
+    free(data);
+}
+
+int main(int count, char **words) {
+    long rounds = count > 1 ? atol(words[1]) : 1000;
+    for (long i = 0; i < rounds; i++)
+        one_round();
+    for (int code = 0; code < CODES; code++)
+        printf("%ld of %d%s", codes[code], code, code + 1 < CODES ? ", " : "\n");
+    return 0;
+}

@@ -1,0 +1,26 @@
+/* What the test programs draw, and how they sum up what a call left. */
+#ifndef LABELS_OF_TEST_H
+#define LABELS_OF_TEST_H
+
+#include "labels.h"
+#include <stdint.h>
+#include <string.h>
+
+static const char *const symbologies[] = {"ean13", "ean8", "upca", "code128", "qr"};
+enum { SYMBOLOGIES = sizeof symbologies / sizeof *symbologies };
+
+static const char *const data_of_labels[] = {
+    "4006381333931", "LOT-000123/Shelf 7b", "https://example.com/article/000123", "7351353",
+    "HELLO WORLD",   "03600029145",         "12x",                                "",
+};
+enum { LABELS_OF_TEST = sizeof data_of_labels / sizeof *data_of_labels };
+
+/* FNV-1a. */
+static inline uint64_t hash_of(const void *bytes, size_t size, uint64_t hash) {
+    const unsigned char *at = bytes;
+    for (size_t i = 0; i < size; i++)
+        hash = (hash ^ at[i]) * UINT64_C(1099511628211);
+    return hash;
+}
+
+#endif

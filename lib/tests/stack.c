@@ -1,0 +1,78 @@
+/* How much stack the calls use at most, in bytes: a thread's stack is painted, and what is written over is counted. */
+#include "labels_of_test.h"
+#include <pthread.h>
+#include <stdio.h>
+
+enum { STACK = 1 << 20, ROOM = 8 << 20, PAINT = 0xa5 };
+
+static unsigned char stack[STACK] __attribute__((aligned(4096)));
+static char out[ROOM];
+static char messages[4096];
+static unsigned char modules[LABELS_MAX_MODULES];
+static char line[300];
+
+struct job {
+    int symbology; /* none where it is below 0: only the thread is measured */
+    size_t size;   /* of the data of a QR symbol */
+    uint32_t format, level;
+};
+
+static void *draw(void *given) {
+    const struct job *job = given;
+    labels_options options = LABELS_DEFAULTS;
+    labels_answer answer;
+    labels_symbol_info info;
+    labels_run_answer ran;
+    if (job->symbology < 0)
+        return NULL;
+    options.format = job->format;
+    options.level = job->level;
+    options.scale = 8;
+    options.height = 500;
+    options.escapes = 1;
+    const char *data = job->symbology == LABELS_QR ? line + 3 : data_of_labels[job->symbology == LABELS_CODE128];
+    size_t size = job->symbology == LABELS_QR ? job->size : strlen(data);
+    labels_draw(&options, job->symbology, data, size, out, sizeof out, &answer);
+    labels_draw(&options, job->symbology, "12x", 3, out, sizeof out, &answer);
+    labels_symbol(&options, job->symbology, data, size, modules, sizeof modules, &info, &answer);
+    labels_line(&options, line, 3 + size, modules, sizeof modules, &info, &answer);
+    labels_draw_line(&options, line, 3 + size, out, sizeof out, &answer);
+    labels_run(&options, line, 3 + size, out, sizeof out, messages, sizeof messages, &ran);
+    labels_run(&options, "ean13 400638133393", 18, out, sizeof out, messages, sizeof messages, &ran);
+    return NULL;
+}
+
+static size_t used(struct job job) {
+    pthread_attr_t attributes;
+    pthread_t thread;
+    size_t free_bytes = 0;
+    memset(stack, PAINT, sizeof stack);
+    pthread_attr_init(&attributes);
+    pthread_attr_setstack(&attributes, stack, sizeof stack);
+    if (pthread_create(&thread, &attributes, draw, &job) != 0)
+        return sizeof stack;
+    pthread_join(thread, NULL);
+    while (free_bytes < sizeof stack && stack[free_bytes] == PAINT)
+        free_bytes++;
+    return sizeof stack - free_bytes;
+}
+
+int main(void) {
+    const struct job jobs[] = {
+        {LABELS_EAN13, 0, LABELS_PBM, LABELS_LEVEL_M},  {LABELS_CODE128, 0, LABELS_PBM, LABELS_LEVEL_M},
+        {LABELS_QR, 5, LABELS_PBM, LABELS_LEVEL_M},     {LABELS_QR, 200, LABELS_PBM, LABELS_LEVEL_M},
+        {LABELS_QR, 271, LABELS_ASCII, LABELS_LEVEL_L}, {LABELS_EAN13, 0, LABELS_ASCII, LABELS_LEVEL_M},
+    };
+    struct job none = {-1, 0, 0, 0};
+    size_t most = 0;
+    memset(line, 'x', sizeof line);
+    memcpy(line, "qr ", 3);
+    used(none);
+    size_t base = used(none);
+    for (size_t i = 0; i < sizeof jobs / sizeof *jobs; i++) {
+        size_t size = used(jobs[i]);
+        most = size > most ? size : most;
+    }
+    printf("%zu\n", most - base);
+    return 0;
+}

@@ -1,0 +1,76 @@
+"""The built library: its files, its names, and what it may not have. Each check is shown a library that is wrong."""
+
+import re
+import tempfile
+import unittest
+from pathlib import Path
+
+from support import LIB, LIBDIR, PROGRAM, PYTHONDIR, WithLibrary, run, text_of
+
+FILES = {
+    "usr/include/labels.h",
+    f"{LIBDIR}/liblabels.a",
+    f"{LIBDIR}/liblabels.so",
+    f"{LIBDIR}/liblabels.so.1",
+    f"{LIBDIR}/liblabels.so.1.0.0",
+    f"{LIBDIR}/pkgconfig/labels.pc",
+    f"{PYTHONDIR}/liblabels.py",
+    "usr/share/man/man3/labels.3",
+}
+LAST = "const char *labels_version(void) { return LABELS_VERSION; }"
+WRONG = {
+    "exports other names": (
+        ("labels.c", LAST, LAST + "\nLABELS_API int labels_more(void);\nint labels_more(void) { return 0; }"),
+        ("labels.map", "        labels_run;", "        labels_run;\n        labels_more;"),
+    ),
+    "needs other names": (
+        (
+            "labels.c",
+            LAST,
+            "#include <stdlib.h>\n" + LAST.replace("return LABELS", 'return getenv("X") ? "" : LABELS'),
+        ),
+    ),
+    "a relocation in the code": (
+        ("labels.c", LAST, LAST + '\n__asm__(".text\\n.quad labels_version\\n");'),
+        ("Makefile", "-z,defs", "-z,defs,-z,notext"),
+    ),
+    "a stack that can be executed": (("Makefile", "noexecstack", "execstack"),),
+    "not of every amd64 processor": (("labels.c", LAST, LAST + '\n__asm__(".text\\npopcnt %rax, %rax\\n");'),),
+}
+
+
+class Built(WithLibrary):
+    def check(self, folder: Path) -> "tuple[int, str]":
+        done = run(LIB / "check.sh", folder, PROGRAM)
+        return done.returncode, text_of(done)
+
+    def test_files(self) -> None:
+        root = self.library.root
+        found = {str(path.relative_to(root)) for path in root.rglob("*") if not path.is_dir()}
+        self.assertEqual(found, FILES)
+        self.assertEqual((root / LIBDIR / "liblabels.so").resolve(), (root / LIBDIR / "liblabels.so.1.0.0").resolve())
+
+    def test_one_version(self) -> None:
+        code = "import liblabels; print(liblabels.version())"
+        version = self.run_ok("/usr/bin/python3", "-c", code).decode().strip()
+        header = (LIB / "labels.h").read_text(encoding="utf-8")
+        self.assertIn(f'#define LABELS_VERSION "{version}"', header)
+        self.assertEqual(self.run_ok("pkg-config", "--modversion", "labels").decode().strip(), version)
+        dynamic = self.run_ok("readelf", "-d", self.library.shared).decode()
+        self.assertEqual(re.findall(r"SONAME.*\[(.*)\]", dynamic), [f"liblabels.so.{version.partition('.')[0]}"])
+
+    def test_names_and_instructions(self) -> None:
+        self.assertEqual(self.check(self.library.built), (0, ""))
+
+    def test_wrong_libraries_are_refused(self) -> None:
+        for said, changes in WRONG.items():
+            with self.subTest(said):
+                out = Path(tempfile.mkdtemp(dir=self.library.folder))
+                made = self.library.make(self.library.changed(*changes), out, "all")
+                self.assertEqual(made.returncode, 0, text_of(made))
+                status, text = self.check(out)
+                self.assertEqual((status, said in text), (1, True), text)
+
+
+if __name__ == "__main__":
+    unittest.main()

@@ -1,0 +1,120 @@
+"""The Python module: its types, its docstrings, with numpy and Pillow, and against the program on random lines."""
+
+import json
+import re
+import shutil
+import tempfile
+import unittest
+from pathlib import Path
+
+from support import LIB, PROGRAM, PYTHONDIR, WithLibrary
+
+PYTHON = "/usr/bin/python3"
+LINES = "1000"
+TESTS = LIB / "tests"
+WITH_LIBRARIES = """
+import liblabels, numpy
+from PIL import Image
+symbol = liblabels.line("qr,level=Q https://example.com/article/000123")
+array = numpy.frombuffer(symbol.modules, bool).reshape(symbol.rows, symbol.width)
+image = Image.frombytes("1", (symbol.width, symbol.rows), symbol.packed(), "raw", "1;I")
+framed = Image.frombytes("1", (symbol.width + 8, symbol.rows + 8), symbol.packed(quiet_zones=True), "raw", "1;I")
+light = numpy.array(framed)
+assert (numpy.array(image) == ~array).all() and (light[4:-4, 4:-4] == ~array).all()
+assert light[:4].all() and light[-4:].all() and light[:, :4].all() and light[:, -4:].all()
+"""
+WRONG_OPTIONS = """
+import liblabels
+for bad in ({"height": 501}, {"level": "X"}, {"mask": 8}, {"height": -1}, {"min_version": 2**40}, {"min_version": 0}):
+    try:
+        liblabels.line("qr x", **bad)
+    except liblabels.Refused:
+        raise
+    except ValueError as why:
+        assert next(iter(bad)) in str(why), why
+    else:
+        raise AssertionError(bad)
+for line in ("ean13 1\\n2", "qr \\n\\n"):
+    try:
+        liblabels.line(line)
+    except liblabels.Refused as why:
+        assert (why.code, str(why)) == (15, "the line has a line feed"), why
+    else:
+        raise AssertionError(line)
+"""
+
+
+# For each code of a refusal a line that has it, and its message.
+REFUSALS = {
+    "LABELS_BAD_SYMBOLOGY": ("pdf x", "unknown symbology"),
+    "LABELS_NO_DATA": ("qr", "no data"),
+    "LABELS_NOT_A_DIGIT": ("ean13 40063813339x1", "not a digit at byte 12"),
+    "LABELS_WRONG_NUMBER_OF_DIGITS": ("ean8 12", "wrong number of digits: 2"),
+    "LABELS_WRONG_CHECK_DIGIT": ("ean13 4006381333930", "check digit is 0, should be 1"),
+    "LABELS_DATA_TOO_LONG": ("code128 " + 81 * "x", "data is longer than 80 bytes"),
+    "LABELS_NOT_ASCII": ("code128 \u00e4", "byte 1 is not ASCII"),
+    "LABELS_DOES_NOT_FIT": ("qr,level=H " + 200 * "x", "data does not fit version 10-H"),
+    "LABELS_LINE_TOO_LONG": ("qr " + 1200 * "x", "line is longer than 1100 bytes"),
+    "LABELS_BAD_SETTING": ("qr,size=3 x", "unknown setting 1"),
+    "LABELS_BAD_ESCAPE": ("qr \\q", "bad escape at byte 1"),
+    "LABELS_NOT_ONE_LINE": ("qr x\ny", "the line has a line feed"),
+}
+CODES = """
+import json, sys, liblabels
+for name, (line, message) in json.loads(sys.argv[1]).items():
+    try:
+        liblabels.line(line, escapes=True)
+    except liblabels.Refused as why:
+        print(name, why.code, message == str(why))
+"""
+
+
+class Module(WithLibrary):
+    def wrong_module(self, old: str, new: str) -> Path:
+        """A folder with a module in which a text has another in its place."""
+        folder = Path(tempfile.mkdtemp(dir=self.library.folder))
+        text = (LIB / "python/liblabels.py").read_text(encoding="utf-8")
+        self.assertIn(old, text)
+        (folder / "liblabels.py").write_text(text.replace(old, new), encoding="utf-8")
+        return folder / "liblabels.py"
+
+    def test_types(self) -> None:
+        mypy = ("mypy", "--strict", "--no-error-summary", "--cache-dir", str(self.library.folder / "mypy"))
+        self.run_ok(*mypy, LIB / "python/liblabels.py")
+        self.assert_fails(*mypy, self.wrong_module("-> Symbol | None:", "-> Symbol:"))
+
+    def test_docstrings(self) -> None:
+        doctest = (PYTHON, "-m", "doctest")
+        self.run_ok(*doctest, self.library.root / PYTHONDIR / "liblabels.py")
+        self.assert_fails(*doctest, self.wrong_module("(21, 1, 'Q', 2)", "(21, 1, 'Q', 3)"))
+
+    def test_with_numpy_and_pillow(self) -> None:
+        self.run_ok(PYTHON, "-c", WITH_LIBRARIES)
+        self.assert_fails(PYTHON, "-c", WITH_LIBRARIES.replace("1;I", "1"))
+
+    def test_wrong_arguments(self) -> None:
+        self.run_ok(PYTHON, "-c", WRONG_OPTIONS)
+
+    def test_codes(self) -> None:
+        """The numbers of the refusals are those that labels.h has for them."""
+        header = (LIB / "labels.h").read_text(encoding="utf-8")
+        enum = header.partition("enum labels_code {")[2].partition("};")[0]
+        names = re.findall(r"^ +(LABELS_\w+)", enum, re.M)
+        said = self.run_ok(PYTHON, "-c", CODES, json.dumps(REFUSALS)).decode().splitlines()
+        self.assertEqual(said, [f"{name} {names.index(name)} True" for name in REFUSALS])
+
+    def test_lines_of_the_program(self) -> None:
+        self.run_ok(PYTHON, TESTS / "compare_lines.py", PROGRAM, "1", LINES)
+
+    def test_other_pictures_and_messages_are_seen(self) -> None:
+        for more in (["--mask", "0"], ["--escapes"]):
+            self.assert_fails(PYTHON, TESTS / "compare_lines.py", PROGRAM, "1", "200", *more)
+
+    def test_no_library(self) -> None:
+        folder = Path(tempfile.mkdtemp(dir=self.library.folder))
+        shutil.copy(LIB / "python/liblabels.py", folder)
+        self.assert_fails("env", f"LABELS_LIBRARY={folder}/none.so", PYTHON, "-c", "import liblabels")
+
+
+if __name__ == "__main__":
+    unittest.main()

@@ -1,0 +1,76 @@
+/* Eight threads draw at once, each in an order of its own, what one thread draws. Status 1 where a label differs.
+ * Half of the calls want no answer, so that the library uses memory of its own for it. */
+#include "labels_of_test.h"
+#include <pthread.h>
+#include <stdio.h>
+#include <stdlib.h>
+
+enum { THREADS = 8, JOBS = 400, ROOM = 1 << 20 };
+
+static uint64_t sums[THREADS + 1][JOBS];
+
+static labels_options options_of(int job) {
+    labels_options options = LABELS_DEFAULTS;
+    options.format = (uint32_t)(job % 2);
+    options.scale = (uint32_t)(1 + job % 8);
+    options.height = (uint32_t)(1 + job % 60);
+    options.level = (uint32_t)(job % 4);
+    options.min_version = (uint32_t)(1 + job % 10);
+    options.mask = (uint32_t)(job % 9);
+    options.escapes = (uint32_t)(job % 2);
+    return options;
+}
+
+static uint64_t sum_of(int job, char *out) {
+    labels_options options = options_of(job);
+    const char *data = data_of_labels[job % LABELS_OF_TEST];
+    int symbology = job / LABELS_OF_TEST % SYMBOLOGIES;
+    char line[128];
+    int size = snprintf(line, sizeof line, "%s %s", symbologies[symbology], data);
+    unsigned char modules[LABELS_MAX_MODULES];
+    labels_symbol_info info;
+    labels_answer answer;
+    labels_run_answer ran;
+    uint64_t sum = UINT64_C(14695981039346656037);
+
+    sum ^= (uint64_t)labels_draw(&options, symbology, data, strlen(data), out, ROOM, &answer);
+    sum = hash_of(out, answer.length, hash_of(answer.message, answer.message_length, sum));
+    sum ^= (uint64_t)labels_symbol(&options, symbology, data, strlen(data), modules, sizeof modules, &info, NULL);
+    sum = hash_of(modules, info.width * info.rows, hash_of(&info, sizeof info, sum));
+    sum ^= (uint64_t)labels_line(&options, line, (size_t)size, modules, sizeof modules, NULL, &answer);
+    sum = hash_of(modules, answer.length, hash_of(answer.message, answer.message_length, sum));
+    sum ^= (uint64_t)labels_draw_line(&options, line, (size_t)size, out, ROOM, &answer);
+    sum = hash_of(out, answer.length, sum);
+    labels_run(&options, line, (size_t)size, out, ROOM / 2, out + ROOM / 2, ROOM / 2, &ran);
+    return hash_of(out, ran.images_length, hash_of(&ran, sizeof ran, sum));
+}
+
+static void *draw_all(void *number) {
+    long thread = (long)number;
+    char *out = malloc(ROOM);
+    if (!out)
+        abort();
+    for (long i = 0; i < JOBS; i++) {
+        int job = (int)(thread == THREADS ? i : (i * 7919 + thread * 131) % JOBS);
+        sums[thread][job] = sum_of(job, out);
+    }
+    free(out);
+    return NULL;
+}
+
+int main(void) {
+    pthread_t threads[THREADS];
+    draw_all((void *)(long)THREADS);
+    for (long thread = 0; thread < THREADS; thread++)
+        if (pthread_create(&threads[thread], NULL, draw_all, (void *)thread) != 0)
+            return 2;
+    for (int thread = 0; thread < THREADS; thread++)
+        pthread_join(threads[thread], NULL);
+    for (int thread = 0; thread < THREADS; thread++)
+        if (memcmp(sums[thread], sums[THREADS], sizeof sums[thread]) != 0) {
+            printf("thread %d differs\n", thread);
+            return 1;
+        }
+    printf("%d threads drew what one draws, %d labels each\n", THREADS, JOBS);
+    return 0;
+}

@@ -1,0 +1,157 @@
+"""How a tool starts and ends: its arguments, standard input and output, signals, messages and
+statuses.
+"""
+
+import argparse
+import os
+import signal
+import sys
+from contextlib import contextmanager, suppress
+from io import RawIOBase, TextIOWrapper
+from pathlib import Path
+from typing import Any, BinaryIO, Callable, Iterator, NoReturn, Optional
+
+from labeltools.messages import BAD_ARGUMENTS, Place, ToolError, sentence, write_message
+
+ENDING = (signal.SIGHUP, signal.SIGINT, signal.SIGTERM)
+
+
+class Parser(argparse.ArgumentParser):
+    """A parser that ends with status 2 for bad arguments even where standard error takes no
+    message.
+    """
+
+    def error(self, message: str) -> NoReturn:
+        """Writes the usage and a message, and ends."""
+        with suppress(OSError):
+            self.print_usage(sys.stderr)
+        write_message(self.prog, f"error: {message}")
+        sys.exit(BAD_ARGUMENTS)
+
+
+class CommandTalk:
+    """The talk of a command: what it is told is written on standard error."""
+
+    def __init__(self, tool: str) -> None:
+        self.tool = tool
+
+    def note(self, place: Place, cell: str, reason: str, hint: str) -> None:
+        """Writes why a row or line is left out."""
+        write_message(self.tool, f"{place}: {sentence(reason, hint)}")
+
+    def say(self, text: str, hint: str = "") -> None:
+        """Writes something about the whole."""
+        write_message(self.tool, sentence(text, hint))
+
+    def go_on(self, done: int, total: int) -> None:
+        """Does nothing: a signal ends a command."""
+
+
+def read_input(path: Optional[str]) -> tuple[str, bytes]:
+    """Returns the name and bytes of a file, or of standard input where it is None or `-`.
+
+    Raises `ToolError` if it is empty, and `OSError`.
+    """
+    is_standard = path is None or path == "-"
+    if is_standard and sys.stdin is None:
+        raise ToolError("standard input is closed")
+    name = "standard input" if is_standard else str(path)
+    data = sys.stdin.buffer.read() if is_standard else Path(str(path)).read_bytes()
+    if not data:
+        raise ToolError(f"{name} is empty: nothing is printed")
+    return name, data
+
+
+def standard_output() -> BinaryIO:
+    """Returns standard output for bytes; inside `main_of` its `write` takes all of them or
+    fails.
+    """
+    if sys.stdout is None:
+        raise ToolError("standard output is closed")
+    return sys.stdout.buffer
+
+
+def main_of(tool: str, function: Callable[[], Optional[int]]) -> NoReturn:
+    """Runs a tool and ends with its status (None is 0), or with a message and a status for
+    ToolError and OSError.
+    """
+    on_signals()
+    if sys.stderr is None:  # Python would write messages to standard output, which may be a printer
+        sys.stderr = open(os.devnull, "w", encoding="utf-8")
+    status = status_of(tool, function)
+    for stream in (sys.stdout, sys.stderr):
+        flush_or_forget(stream)
+    sys.exit(status)
+
+
+def status_of(tool: str, function: Callable[[], Optional[int]]) -> int:
+    """Returns the status of a tool; its messages are written."""
+    try:
+        buffer_output()
+        status = ended(function)
+        if sys.stdout is not None:
+            sys.stdout.flush()
+        return status
+    except ToolError as error:
+        write_message(tool, str(error))
+        return error.status
+    except OSError as error:
+        write_message(tool, f"{error.filename or 'standard output'}: {error.strerror or error}")
+        return 1
+
+
+def ended(function: Callable[[], Optional[int]]) -> int:
+    """Returns the status of a function, also where argparse ends it after a help text or bad
+    arguments.
+    """
+    try:
+        return function() or 0
+    except SystemExit as end:
+        return int(end.code or 0)
+
+
+def buffer_output() -> None:
+    """Gives standard output a buffer where PYTHONUNBUFFERED left it without one: its writes may
+    take a part only.
+    """
+    if sys.stdout is not None and isinstance(sys.stdout.buffer, RawIOBase):
+        whole = open(sys.stdout.fileno(), "wb", closefd=False)
+        sys.stdout = TextIOWrapper(whole, sys.stdout.encoding)
+
+
+def flush_or_forget(stream: Any) -> None:
+    """Flushes a stream, or sends what is left nowhere: Python's last flush would change the status
+    to 120.
+    """
+    try:
+        if stream is not None:
+            stream.flush()
+    except OSError:
+        os.dup2(os.open(os.devnull, os.O_WRONLY), stream.fileno())
+
+
+def on_signals(action: Any = signal.SIG_DFL) -> None:
+    """Sets what the signals do that end a tool, but for those that it was started to ignore."""
+    for number in ENDING:
+        if signal.getsignal(number) != signal.SIG_IGN:
+            signal.signal(number, action)
+
+
+@contextmanager
+def hold_signals() -> Iterator[None]:
+    """Holds a signal back while something goes out that has to be whole; a second one ends the tool
+    at once.
+    """
+    taken: list[int] = []
+
+    def take(number: int, _: object) -> None:
+        taken.append(number)
+        on_signals()
+
+    on_signals(take)
+    try:
+        yield
+    finally:
+        on_signals()
+        for number in taken:
+            os.kill(os.getpid(), number)

@@ -1,0 +1,399 @@
+"""Reads a table of text: CSV, in whatever encoding and with whatever delimiter."""
+
+import codecs
+import csv
+import re
+import unicodedata
+from dataclasses import dataclass, field
+from itertools import count, islice
+from typing import Iterator, NamedTuple, Sequence
+
+from labeltools.messages import BAD_ARGUMENTS, RowError, Talk, ToolError, named, quoted
+from labeltools.names import name_of, row_of_names
+from labeltools.rows import Row
+from labeltools.shape import Shape, said_of_unnamed, shape_of
+from labeltools.table_options import TableOptions
+
+LARGEST_FILE = 40 << 20  # bytes
+LONGEST_LINE = 1 << 20  # letters
+MOST_LINE_ENDS = 1_200_000  # a spreadsheet has at most 1,048,576 rows
+ROWS_LOOKED_AT = 1000  # for the delimiter
+NAMES_LOOKED_AT = 50  # for the row of names
+ONE_COLUMN = "\x1f"  # a delimiter that no table has
+DELIMITERS = {"tab": "\t", "none": ONE_COLUMN}
+# the first line in which some exports name the delimiter for Excel; no spreadsheet shows it as a
+# row
+SEPARATOR_LINE = re.compile(r'"?sep=([^"\r\n])"?[;,\t]*(?:\r\n|\r|\n|\Z)', re.IGNORECASE)
+LINE = re.compile(r"[^\r\n]*(?:\r\n|\r|\n)|[^\r\n]+")
+# the marks in front of a text; that of UTF-32 before the one of UTF-16, which is its beginning
+UNICODE = ("utf-8", "utf-32-le", "utf-32-be", "utf-16-le", "utf-16-be")
+MARKS = {"\ufeff".encode(codec): codec for codec in UNICODE}
+# the encodings of old files that a message tries on a word
+CANDIDATES = ("cp1252", "cp1250", "cp1251", "cp1253", "cp932", "gb18030")
+MOST_READINGS = 4
+OTHER_WORD = re.compile(rb'[^\s;,|"]*[\x80-\xff][^\s;,|"]*')
+# what words have that were read by the wrong one of two encodings of Windows
+SUSPICIOUS = re.compile(r"[^\W\d_]+[¡-©«-±´¶-¸»-¿×÷]+[^\W\d_]\w*|\w*[À-ÿ]{3,}\w*")
+UNCLOSED = "a quote is not closed"
+AFTER_QUOTE = "text after a closing quote"
+AFTER_QUOTE_HINT = 'write a quote in a quoted cell twice ("")'
+ALL_BELOW = "; this row and all below it are left out"
+
+
+class Record(NamedTuple):
+    """A row of CSV by its number; `problem` is why its cells cannot be read."""
+
+    number: int
+    cells: list[str]
+    problem: RowError | None = None
+
+    def is_blank(self) -> bool:
+        """Returns whether the row has nothing in it."""
+        return not self.problem and not any(map(str.strip, self.cells))
+
+
+class Fitness(NamedTuple):
+    """How well a delimiter fits: it cuts the row of names, the names are there then, so many rows
+    are as wide.
+    """
+
+    is_cut: bool
+    are_there: bool
+    rows: int
+
+
+@dataclass
+class CsvTable:
+    """A table of CSV. `begin` is where the text begins, behind a mark and a line that names the
+    delimiter.
+    """
+
+    text: str
+    begin: int
+    delimiter: str
+    options: TableOptions
+    talk: Talk
+    unnamed: dict[int, list[int]] = field(default_factory=dict)
+    first_cells: dict[int, str] = field(default_factory=dict)
+
+    def rows(self) -> Iterator[Row]:
+        """Yields the rows from the row of names on; one whose cells may have moved has a
+        problem.
+        """
+        header_row = self.options.file.header_row
+        head = first_row(parsed(self.text, self.begin, self.delimiter), header_row)
+        if head is None or head.problem:
+            yield from () if head is None else (Row(*head),)
+            return
+        shape = self.shape(head)
+        for row in parsed(self.text, self.begin, self.delimiter):
+            if row.number == head.number:
+                yield Row(*row)
+            elif row.number > head.number:
+                yield self.checked(row, shape)
+        self.say_unnamed()
+
+    def shape(self, head: Record) -> Shape:
+        """Returns the shape of the table."""
+        wanted = set(map(name_of, self.options.columns.prices))
+        prices = tuple(
+            place
+            for place, name in enumerate(head.cells)
+            if name_of(name) in wanted or str(place + 1) in wanted
+        )
+        below = (
+            row.cells
+            for row in parsed(self.text, self.begin, self.delimiter)
+            if row.number > head.number and not row.problem and not row.is_blank()
+        )
+        return shape_of(head.number, head.cells, below, prices, self.delimiter)
+
+    def checked(self, row: Record, shape: Shape) -> Row:
+        """Returns a row, with its problem where cells of it may have moved."""
+        if row.problem or row.is_blank():
+            return Row(*row)
+        cells = row.cells
+        problem = shape.problem(cells)
+        if problem:
+            return Row(row.number, cells, problem)
+        if len(cells) > shape.names and self.options.file.has_header is not False:
+            asked = [int(one) - 1 for one in self.options.columns.asked if one.isdecimal()]
+            for place in shape.unnamed(cells, asked):
+                self.unnamed.setdefault(place, []).append(row.number)
+                self.first_cells.setdefault(place, cells[place])
+        return Row(row.number, cells)
+
+    def say_unnamed(self) -> None:
+        """Says which columns without a name have values."""
+        for place, rows in sorted(self.unnamed.items()):
+            text = said_of_unnamed(place, len(rows), rows[0], self.first_cells[place])
+            self.talk.say(text, "have cells moved?")
+
+
+def csv_table(data: bytes, name: str, options: TableOptions, talk: Talk) -> CsvTable:
+    """Returns a table of text; raises `ToolError` where its encoding or its delimiter is not
+    sure.
+    """
+    if len(data) > LARGEST_FILE:
+        raise ToolError(
+            f"{name} has more than {LARGEST_FILE >> 20} MB", "make several tables of it"
+        )
+    text = decoded(data, name, options.file.encoding, talk)
+    if text.count("\n") + text.count("\r") - text.count("\r\n") > MOST_LINE_ENDS:
+        raise ToolError(f"{name} has more than {MOST_LINE_ENDS} line ends", "is it a table?")
+    if any(match.end() - match.start() > LONGEST_LINE for match in LINE.finditer(text)):
+        raise ToolError(f"{name} has a line of more than 1 MB", "is it a table?")
+    begin = 1 if text.startswith("\ufeff") else 0
+    given = DELIMITERS.get(options.file.delimiter or "", options.file.delimiter)
+    separator = SEPARATOR_LINE.match(text, begin)
+    if separator:
+        begin = separator.end()
+        given = given or separator[1]
+    return CsvTable(text, begin, delimiter_of(text, begin, given, options), options, talk)
+
+
+def first_row(rows: Iterator[Record], number: int | None) -> Record | None:
+    """Returns the row of this number, or the first one that is not blank."""
+    for row in rows:
+        is_wanted = row.number == number if number else not row.is_blank()
+        if is_wanted:
+            return row
+    return None
+
+
+def decoded(data: bytes, name: str, encoding: str | None, talk: Talk) -> str:
+    """Returns the text of a table, with its mark; raises `ToolError` with what to do."""
+    known = known_encoding(data)
+    try:
+        codec = codecs.lookup(encoding or known or "utf-8").name
+        text = data.decode(codec)
+    except LookupError:
+        raise unknown_encoding(encoding or "") from None
+    except UnicodeError as error:
+        if not isinstance(error, UnicodeDecodeError):
+            raise unknown_encoding(encoding or "") from None
+        refuse_other(known, codec, encoding, name)
+        raise wrong_encoding(data, name, codec, error.start) from None
+    refuse_other(known, codec, encoding, name)
+    unread = re.search("[\0\x80-\x9f]" if codec == "iso8859-1" else "\0", text)
+    if unread:
+        start = len(text[: unread.start()].encode(codec, "replace"))
+        raise wrong_encoding(data, name, codec, start)
+    if encoding and not known:
+        say_suspicious(text, codec, talk)
+    return text
+
+
+def known_encoding(data: bytes) -> str:
+    """Returns the encoding that a table surely has: by its mark, or as it is UTF-8 with other
+    letters than ASCII.
+    """
+    for mark, codec in MARKS.items():
+        if data.startswith(mark):
+            return codec
+    if data.isascii() or b"\0" in data:
+        return ""
+    try:
+        data.decode("utf-8")
+    except UnicodeDecodeError:
+        return ""
+    return "utf-8"
+
+
+def refuse_other(known: str, codec: str, encoding: str | None, name: str) -> None:
+    """Raises `ToolError` where another encoding was given than the one that is known."""
+    if known and known not in codec and codec not in known:
+        raise ToolError(
+            f"{name} is {known.upper()}", f"leave --encoding {encoding} away", BAD_ARGUMENTS
+        )
+
+
+def unknown_encoding(encoding: str) -> ToolError:
+    """Returns the error of an encoding that is none."""
+    return ToolError(
+        f"--encoding {quoted(encoding)} is unknown", "give one as cp1252", BAD_ARGUMENTS
+    )
+
+
+def wrong_encoding(data: bytes, name: str, codec: str, start: int) -> ToolError:
+    """Returns the error of a table in another encoding, with how others would read a word of it."""
+    line = data.count(b"\n", 0, start) + 1
+    what = f"{name} is not {codec.upper()}, as line {line} shows"
+    if data.startswith(tuple(MARKS)):
+        return ToolError(what, "it is cut off or damaged, save it again")
+    if b"\0" in data:
+        return ToolError(what, "save it as UTF-8, or give --encoding utf-16-le or utf-16-be")
+    begin = data.rfind(b"\n", 0, start) + 1
+    end = data.find(b"\n", start)
+    found = readings(data[begin : end if end >= 0 else len(data)], codec)
+    if not found:
+        return ToolError(what, "save it as UTF-8")
+    read = ", ".join(f"{other} reads {quoted(word)}" for other, word in found.items())
+    return ToolError(what, f"save it as UTF-8, or give the --encoding that reads it right: {read}")
+
+
+def readings(line: bytes, without: str) -> dict[str, str]:
+    """Returns how encodings, but for one, read a word of a line, where that makes a word.
+
+    >>> readings("Zażółć".encode("cp1250"), "utf-8")
+    {'cp1252': 'Za¿ó³æ', 'cp1250': 'Zażółć'}
+    >>> readings("Мыло".encode("cp1251"), "utf-8")["cp1251"]
+    'Мыло'
+    >>> readings("Käse".encode("cp1252"), "utf-8")
+    {'cp1252': 'Käse'}
+    """
+    found = OTHER_WORD.search(line)
+    word = found[0][:40] if found else line[:40]
+    read: dict[str, str] = {}
+    for codec in CANDIDATES:
+        try:
+            text = word.decode(codec)
+        except UnicodeDecodeError:
+            continue
+        if codec != without and text not in read.values() and is_word(text):
+            read[codec] = text
+    return dict(islice(read.items(), MOST_READINGS))
+
+
+def is_word(text: str) -> bool:
+    """Returns whether a text can be seen, and its letters are of one script."""
+    letters = [letter for letter in text if letter.isalpha()]
+    scripts = {unicodedata.name(letter, "?").split()[0] for letter in letters}
+    return text.isprintable() and len(scripts - {"MODIFIER", "MICRO", "FEMININE", "MASCULINE"}) <= 1
+
+
+def say_suspicious(text: str, codec: str, talk: Talk) -> None:
+    """Says a word that looks as if it was read by the wrong encoding."""
+    if codec not in ("cp1252", "iso8859-1", "cp1250"):
+        return
+    if found := SUSPICIOUS.search(text):
+        others = readings(found[0].encode(codec), codec)
+        read = ", ".join(f"{other} reads {quoted(word)}" for other, word in others.items())
+        if read:
+            talk.say(
+                f"the table is read as {codec.upper()}, with {quoted(found[0])}",
+                f"is that right? {read}",
+            )
+
+
+def delimiter_of(text: str, begin: int, given: str | None, options: TableOptions) -> str:
+    """Returns the delimiter: the one that was given, or else the one that row 1 has and that is
+    surely no data.
+    """
+    marks = [mark for mark in ("\t", ";", ",", given) if mark]
+    fits = {mark: fitness(text, begin, mark, options) for mark in marks}
+    best = max(fits, key=lambda mark: fits[mark])
+    is_cut = fits[best].is_cut
+    if given:
+        if is_cut and given != ONE_COLUMN and not fits[given].is_cut:
+            what = f"row 1 has no {named(given)} between cells, but {named(best)}"
+            raise ToolError(what, "leave --delimiter away", BAD_ARGUMENTS)
+        return given
+    if not is_cut and (later := delimiter_of_names(text, begin, options)):
+        return later
+    if is_cut and is_sure(text, begin, best, options):
+        return best
+    if is_cut or options.codes.is_free:
+        refuse_delimiter(text, begin, [best] if is_cut else marks)
+    return ONE_COLUMN
+
+
+def is_sure(text: str, begin: int, mark: str, options: TableOptions) -> bool:
+    """Returns whether a mark that row 1 has is a delimiter, and not a part of the data of its only
+    column.
+    """
+    if not options.codes.is_free or mark == "\t" or set(options.columns.asked) != {"1"}:
+        return True
+    return text[begin : begin + 100].lstrip("\r\n").startswith('"')
+
+
+def refuse_delimiter(text: str, begin: int, marks: Sequence[str]) -> None:
+    """Raises `ToolError` where a row has a mark that may be data or between cells."""
+    for mark in marks:
+        for row in parsed(text, begin, mark):
+            if len(row.cells) > 1:
+                option = "tab" if mark == "\t" else f"'{mark}'"
+                hint = (
+                    f"give --delimiter {option} if it is between cells, "
+                    "--delimiter none if it is data"
+                )
+                raise ToolError(f"row {row.number} has {named(mark)}", hint, BAD_ARGUMENTS)
+
+
+def delimiter_of_names(text: str, begin: int, options: TableOptions) -> str:
+    """Returns the delimiter by which a row below has all the names that were asked for; empty for
+    none.
+    """
+    if options.file.has_header is False:
+        return ""
+    for mark in ("\t", ";", ","):
+        rows = islice(parsed(text, begin, mark), NAMES_LOOKED_AT)
+        found = row_of_names(((row.number, row.cells) for row in rows), options.columns.asked)
+        if found > 1:
+            return mark
+    return ""
+
+
+def fitness(text: str, begin: int, mark: str, options: TableOptions) -> Fitness:
+    """Returns how well a delimiter fits the row of names and the rows below."""
+    header_row = options.file.header_row or 0
+    rows = list(islice(parsed(text, begin, mark), header_row + ROWS_LOOKED_AT))
+    filled_rows = [row.cells for row in rows if row.cells and row.number >= header_row]
+    if not filled_rows:
+        return Fitness(False, False, 0)
+    names = list(map(name_of, filled_rows[0]))
+    asked = options.columns.asked
+    are_there = all(name_of(column) in names or column.isdecimal() for column in asked)
+    return Fitness(
+        len(names) > 1, are_there, sum(len(cells) == len(names) for cells in filled_rows)
+    )
+
+
+def parsed(text: str, begin: int, delimiter: str) -> Iterator[Record]:
+    """Yields the rows with the numbers that a spreadsheet shows; after a quote that does not match,
+    the last one.
+    """
+    csv.field_size_limit(LONGEST_LINE)
+    taken: list[str] = []
+
+    def lines() -> Iterator[str]:
+        for match in LINE.finditer(text, begin):
+            taken.append(match[0])
+            yield match[0]
+
+    reader = csv.reader(lines(), delimiter=delimiter, strict=True)
+    for number in count(1):
+        taken.clear()
+        try:
+            yield Record(number, next(reader))
+        except StopIteration:
+            return
+        except csv.Error as error:
+            row, is_last = faulty(number, taken, delimiter, str(error))
+            yield row
+            if is_last:
+                return
+
+
+def faulty(number: int, lines: Sequence[str], delimiter: str, error: str) -> tuple[Record, bool]:
+    """Returns the row of lines that are not right CSV, and whether what is below it cannot be read.
+
+    White space between a closing quote and a delimiter is taken away.
+    """
+    record = "".join(lines)
+    closing = re.sub(rf'"[ \t]+(?={re.escape(delimiter)}|[\r\n]|\Z)', '"', record)
+    if closing != record and "expected after" in error:
+        try:
+            rows = list(csv.reader(LINE.findall(closing), delimiter=delimiter, strict=True))
+        except csv.Error:
+            rows = []
+        if len(rows) == 1:
+            return Record(number, rows[0]), False
+    is_one_line = len(lines) == 1
+    is_last = not is_one_line or lines[-1].count('"') % 2 == 1
+    below = ALL_BELOW if is_last else ""
+    if is_one_line and "expected after" in error:
+        problem = RowError(AFTER_QUOTE, AFTER_QUOTE_HINT + below)
+    else:
+        problem = RowError(UNCLOSED + below)
+    return Record(number, [], problem), is_last

@@ -1,0 +1,176 @@
+"""What becomes of a row of a table: its code, its texts, and its prices as they are read."""
+
+from dataclasses import dataclass
+from typing import Iterator, NamedTuple, Sequence
+
+from labeltools.codes import Code, CodeRules, code_of
+from labeltools.columns import Column, Columns, has_html, symbology_in
+from labeltools.messages import RowError, quoted
+from labeltools.money import MOST_DECIMALS, Money, NotMoney, parse, parse_unit_price, text_price
+from labeltools.names import is_repeated, name_of
+from labeltools.rows import Cell, Row
+from labeltools.table_options import TableOptions
+
+ZERO_HINT = "it is a zero, which its number format shows so"
+PROGRAM_DECIMALS = 17  # of a number that a program has calculated
+
+
+class Price(NamedTuple):
+    """A price of a row: the text of its cell, what it means, and the currency of the row.
+
+    `money` is None for free text; `currency` is empty where the table has no such column.
+    """
+
+    column: Column
+    text: str
+    money: Money | None
+    currency: str
+
+
+class Draft(NamedTuple):
+    """A row with a right code, before its prices are written; those that it does not have are
+    None.
+    """
+
+    row: int
+    code: Code
+    title: str
+    text: tuple[str, ...]
+    copies: int
+    price: Price | None
+    unit: Price | None
+    was: Price | None
+
+    @property
+    def prices(self) -> tuple[Price | None, ...]:
+        """The price, the price of a unit, and the old price."""
+        return self.price, self.unit, self.was
+
+
+@dataclass
+class RowReader:
+    """Reads rows that are not blank; it remembers the first ones about which something is said."""
+
+    options: TableOptions
+    columns: Columns
+    names: tuple[str, ...]
+    html: int = 0  # the first row with HTML in a title or text
+    other_link: int = 0  # the first row whose code leads to another address
+
+    def draft(self, row: Row) -> Draft | None:
+        """Returns what becomes of a row, None where it is not marked; raises `RowError`."""
+        if row.problem:
+            raise row.problem
+        if self.is_names(row):
+            raise RowError("the row has the names of the columns again")
+        if not self.is_marked(row):
+            return None
+        columns = self.columns
+        code = self.code(row)
+        title = "\n".join(self.texts(columns.title, row, code))
+        text = tuple(self.texts(columns.text, row, code))
+        currency = columns.currency.mark(row) if columns.currency else ""
+        copies = columns.copies.copies(row) if columns.copies else 1
+        price = self.price(columns.price, row, currency)
+        unit = self.price(columns.unit_price, row, currency)
+        was = self.price(columns.old_price, row, currency)
+        if not self.html and (has_html(title) or any(map(has_html, text))):
+            self.html = row.number
+        return Draft(row.number, code, title, text, copies, price, unit, was)
+
+    def is_names(self, row: Row) -> bool:
+        """Returns whether a row is the row of names again; its code is the name of the column
+        then.
+        """
+        place = self.columns.code.place
+        if place >= min(len(self.names), len(row.cells)):
+            return False
+        cell = row.cells[place]
+        if not isinstance(cell, str) or name_of(cell) != self.names[place]:
+            return False
+        return is_repeated(bare_texts(row), self.names)
+
+    def is_marked(self, row: Row) -> bool:
+        """Returns whether a row has the values that were asked for; raises `RowError`."""
+        for column, value in self.columns.where:
+            if column.mark(row).casefold() != value.casefold():
+                return False
+        return True
+
+    def code(self, row: Row) -> Code:
+        """Returns the code of a row; raises `RowError`."""
+        rules = self.rules(row)
+        column = self.columns.code
+        text = column.code(row, rules.is_free)
+        if rules.is_free and (link := row.link(column.place)):
+            text = self.linked(row, text, link)
+        try:
+            return code_of(text, rules)
+        except RowError as problem:
+            raise RowError(problem.what, problem.hint, column.place) from None
+
+    def linked(self, row: Row, text: str, link: str) -> str:
+        """Returns the address that a cell leads to, where that was asked for, or else its text."""
+        if self.options.links:
+            return link
+        if link != text:
+            self.other_link = self.other_link or row.number
+        return text
+
+    def rules(self, row: Row) -> CodeRules:
+        """Returns how the code of a row is read: its symbology may be in a column; raises
+        `RowError`.
+        """
+        rules = self.options.codes
+        if self.columns.symbology is None:
+            return rules
+        symbology = symbology_in(self.columns.symbology, row, rules.symbology)
+        is_number = not CodeRules(symbology).is_free
+        return CodeRules(
+            symbology=symbology,
+            fill_zeros=rules.fill_zeros and is_number,
+            without_check_digit=rules.without_check_digit and is_number,
+            allow_zeros=rules.allow_zeros,
+        )
+
+    def texts(self, columns: Sequence[Column], row: Row, code: Code) -> Iterator[str]:
+        """Yields the texts of columns that are not empty; that of the codes gives the code, with
+        all its digits.
+        """
+        for column in columns:
+            is_code = column.place == self.columns.code.place
+            if text := code.whole if is_code else column.text(row):
+                yield text
+
+    def price(self, column: Column | None, row: Row, currency: str) -> Price | None:
+        """Returns the price of a column, None where there is none; raises `RowError`."""
+        text = column.price(row) if column else ""
+        if column is None or not text:
+            return None
+        try:
+            is_unit = column is self.columns.unit_price
+            money = self.money(text, is_unit, currency or self.options.prices.currency_name)
+        except NotMoney as problem:
+            what = f"has {quoted(text)}, which is no price: it {problem.what}"
+            hint = ZERO_HINT if is_zero(row.cell(column.place)) else problem.hint
+            raise column.error(RowError(what, hint)) from None
+        return Price(column, text, money, currency)
+
+    def money(self, text: str, is_unit: bool, currency: str) -> Money | None:
+        """Returns the price of a text, None for free text; raises `NotMoney`."""
+        rules = self.options.prices
+        if rules.is_text:
+            text_price(text)
+            return None
+        most = PROGRAM_DECIMALS if rules.pattern else MOST_DECIMALS
+        return parse_unit_price(text, currency, most) if is_unit else parse(text, currency, most)
+
+
+def is_zero(cell: Cell) -> bool:
+    """Returns whether a cell is a zero, which its number format may show as a dash."""
+    return not isinstance(cell, str) and cell.value != "" and not cell.value.strip("0.")
+
+
+def bare_texts(row: Row) -> Iterator[str]:
+    """Yields the cells of a row as they were typed."""
+    return (cell if isinstance(cell, str) else cell.value for cell in row.cells)

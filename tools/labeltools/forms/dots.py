@@ -1,0 +1,78 @@
+"""Pages in dots, and their forms PBM and PNG."""
+
+import struct
+import zlib
+from dataclasses import dataclass
+
+import cairo
+
+from labeltools.area import MOST_DOTS, Dots
+from labeltools.engine import bytes_a_row
+from labeltools.messages import ToolError
+from labeltools.pen import REVERSED, Page, Pen
+
+LIGHT = bytes(range(255, -1, -1))  # of PNG, in which 1 is light
+MOST_OF_PAGE = 400_000_000  # dots: an A4 page of 1,800 dots an inch has fewer
+
+
+@dataclass(frozen=True, slots=True)
+class Picture:
+    """A page in dots: rows of whole bytes from the left, in which 1 is dark."""
+
+    width: int
+    height: int
+    rows: tuple[bytes, ...]
+
+
+def drawn_page(size: Dots, pen: Pen, page: Page, turn: int = 0) -> Picture:
+    """Returns a page of labels in dots; `turn` is as in `Pen.draw`. Raises `ToolError` where it is
+    too large.
+    """
+    width, height = size
+    surface = surface_of(size)
+    canvas = cairo.Context(surface)
+    canvas.set_antialias(cairo.Antialias.NONE)
+    pen.draw(canvas, page, turn)
+    surface.flush()
+    data = bytes(surface.get_data()).translate(REVERSED)
+    stride = surface.get_stride()
+    row_size = bytes_a_row(width)
+    starts = range(0, stride * height, stride)
+    return Picture(width, height, tuple(data[start : start + row_size] for start in starts))
+
+
+def surface_of(size: Dots) -> cairo.ImageSurface:
+    """Returns a page without a dot; raises `ToolError` where it is too large."""
+    width, height = size
+    if max(size) > MOST_DOTS or width * height > MOST_OF_PAGE:
+        hint = "give a smaller page, or fewer dots an inch by --dpi"
+        raise ToolError(f"{width} by {height} dots are too many for a page", hint)
+    try:
+        return cairo.ImageSurface(cairo.FORMAT_A1, width, height)
+    except (cairo.Error, MemoryError) as error:
+        raise ToolError(f"{width} by {height} dots cannot be drawn: {error}") from error
+
+
+def pbm(picture: Picture) -> bytes:
+    """Returns a page as raw PBM."""
+    return b"P4\n%d %d\n%b" % (picture.width, picture.height, b"".join(picture.rows))
+
+
+def png(picture: Picture, dot: float) -> bytes:
+    """Returns a page as PNG of one bit a pixel, which says the millimetres of a dot."""
+    head = struct.pack(">IIBBBBB", picture.width, picture.height, 1, 0, 0, 0, 0)
+    a_metre = struct.pack(">I", round(1000 / dot))
+    rows = b"".join(b"\0" + row.translate(LIGHT) for row in picture.rows)
+    chunks = (
+        chunk(b"IHDR", head),
+        chunk(b"pHYs", a_metre + a_metre + b"\1"),
+        chunk(b"IDAT", zlib.compress(rows, 9)),
+        chunk(b"IEND", b""),
+    )
+    return b"\x89PNG\r\n\x1a\n" + b"".join(chunks)
+
+
+def chunk(kind: bytes, data: bytes) -> bytes:
+    """Returns a chunk of PNG."""
+    check = zlib.crc32(kind + data)
+    return struct.pack(">I", len(data)) + kind + data + struct.pack(">I", check)

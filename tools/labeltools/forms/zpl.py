@@ -1,0 +1,87 @@
+"""ZPL II of label printers."""
+
+import binascii
+import re
+import zlib
+from itertools import chain
+
+from labeltools.engine import bytes_a_row
+from labeltools.forms.dots import Picture
+
+MOST_BYTES = 99_999  # of a graphic field
+# run lengths: counts of one are a letter from G on, counts of twenty a letter from g on
+MOST_COUNT = 400
+TWENTY = 20
+BEFORE_ONE = ord("F")
+BEFORE_TWENTY = ord("f")
+OFTEN = re.compile(r"(.)\1{2,}")
+RESTS = {"0": ",", "F": "!"}  # the rest of a row is light or dark
+
+
+def zpl(picture: Picture, copies: int, is_compressed: bool) -> bytes:
+    """Returns a label, which is printed `copies` times.
+
+    It is not turned (^PON), and begins at the left upper corner (^LH, ^LS), whatever the job before
+    has set. Its dots are graphic fields one below the other: run lengths, which each printer and
+    clone reads, or where `is_compressed` zlib in base 64 (:Z64:), which is a third of that.
+    """
+    head = b"^XA^PON^LH0,0^LS0^PW%d^LL%d\n" % (picture.width, picture.height)
+    fields = b"".join(graphic_fields(picture, is_compressed))
+    count = b"^PQ%d\n" % copies if copies > 1 else b""
+    return head + fields + count + b"^XZ\n"
+
+
+def graphic_fields(picture: Picture, is_compressed: bool) -> list[bytes]:
+    """Returns the graphic fields of a label."""
+    size = bytes_a_row(picture.width)
+    rows_a_field = MOST_BYTES // size
+    fields = []
+    for top in range(0, picture.height, rows_a_field):
+        rows = picture.rows[top : top + rows_a_field]
+        data = z64(rows) if is_compressed else run_lengths(rows)
+        length = len(rows) * size
+        fields.append(b"^FO0,%d^GFA,%d,%d,%d,%b^FS\n" % (top, length, length, size, data))
+    return fields
+
+
+def z64(rows: tuple[bytes, ...]) -> bytes:
+    """Returns rows compressed by zlib, in base 64, with their check sum."""
+    packed = binascii.b2a_base64(zlib.compress(b"".join(rows), 9), newline=False)
+    return b":Z64:%b:%04X" % (packed, binascii.crc_hqx(packed, 0))
+
+
+def run_lengths(rows: tuple[bytes, ...]) -> bytes:
+    """Returns rows in hexadecimal: a count before a digit that comes often, `,` and `!` for a rest
+    of 0 and F, `:` for the row above once more.
+
+    >>> run_lengths((bytes.fromhex("FF00AB"), bytes.fromhex("FF00AB"), bytes(3)))
+    b'FF00AB:,'
+    """
+    texts = []
+    for above, row in zip(chain([b""], rows), rows):
+        texts.append(":" if row == above else run_lengths_of(row))
+    return "".join(texts).encode()
+
+
+def run_lengths_of(row: bytes) -> str:
+    """Returns one row in hexadecimal with run lengths."""
+    text = row.hex().upper()
+    rest = RESTS.get(text[-1:], "")
+    if rest:
+        text = text.rstrip(text[-1])
+    return OFTEN.sub(lambda run: count_of(len(run[0])) + run[1], text) + rest
+
+
+def count_of(number: int) -> str:
+    """Returns a count: `z` is 400, `g` to `y` are 20 to 380, `G` to `Y` are 1 to 19.
+
+    >>> count_of(3), count_of(27), count_of(400), count_of(827)
+    ('I', 'gM', 'z', 'zzgM')
+    """
+    text = "z" * (number // MOST_COUNT)
+    twenties, ones = divmod(number % MOST_COUNT, TWENTY)
+    if twenties:
+        text += chr(BEFORE_TWENTY + twenties)
+    if ones:
+        text += chr(BEFORE_ONE + ones)
+    return text

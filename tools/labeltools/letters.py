@@ -1,0 +1,242 @@
+"""Letters by Pango: which font has them, and how large texts are, measured alike for all forms."""
+
+import unicodedata
+from dataclasses import dataclass
+from typing import Any, Iterable, NamedTuple, Optional
+
+import cairo
+
+from labeltools.layout import Extent, PrintLabel
+from labeltools.messages import ToolError
+from labeltools.pango import Pango, PangoCairo
+
+MEASURED = 200  # dots: the size of letters in which they are measured
+KEPT = 2048  # words of which the extent is kept
+MOST_NAMED = 9  # letters that a message names
+# letters that stand one behind another: Latin, Greek, Cyrillic; punctuation; currencies
+SIMPLE = ((0x20, 0x2FF), (0x370, 0x482), (0x48A, 0x52F), (0x2010, 0x2027), (0x20A0, 0x20CF))
+FONTS_OF_LETTERS = "apt-get install fonts-noto-core fonts-noto-cjk"
+FONTS_OF_SIGNS = "apt-get install fonts-symbola"
+
+
+@dataclass(frozen=True)
+class Fonts:
+    """The names of fonts: of titles, texts and prices, and of what is below bars."""
+
+    texts: str = "DejaVu Sans"
+    digits: str = "DejaVu Sans Mono"
+
+
+class Sign(NamedTuple):
+    """A letter or a line of them in sizes of its font: how far the next one is, the white at its
+    left and right, the top and bottom of its ink from the base line downwards.
+    """
+
+    advance: float
+    left: float
+    right: float
+    top: float
+    bottom: float
+
+
+BLANK = Sign(0.0, 0.0, 0.0, 0.0, 0.0)
+NOTHING = Extent(0.0, 0.0)
+
+
+def extent_of(sign: Sign) -> Extent:
+    """Returns the extent of the ink of a word; zeros where it has none."""
+    width = sign.advance - sign.left - sign.right
+    height = sign.bottom - sign.top
+    return Extent(width, height) if width > 0 and height > 0 else NOTHING
+
+
+def pango_context(options: cairo.FontOptions, is_rounded: bool) -> Any:
+    """Returns what lays texts out; glyphs are at whole dots where `is_rounded`."""
+    context = PangoCairo.FontMap.get_default().create_context()
+    context.set_round_glyph_positions(is_rounded)
+    PangoCairo.context_set_font_options(context, options)
+    return context
+
+
+def plain_options() -> cairo.FontOptions:
+    """Returns the options of letters that keep their shapes in any size."""
+    options = cairo.FontOptions()
+    options.set_hint_metrics(cairo.HintMetrics.OFF)
+    options.set_hint_style(cairo.HintStyle.NONE)
+    options.set_antialias(cairo.Antialias.GRAY)
+    return options
+
+
+def require_fonts(fonts: Fonts) -> None:
+    """Raises `ToolError` where a font is not there."""
+    context = pango_context(plain_options(), False)
+    for family in (fonts.texts, fonts.digits):
+        wanted = Pango.FontDescription(f"{family}, 9")
+        found = PangoCairo.FontMap.get_default().load_font(context, wanted)
+        if found is None or found.describe().get_family().lower() != family.lower():
+            hint = "fc-list : family lists what there is"
+            usual = "apt-get install fonts-dejavu-core has the usual ones"
+            raise ToolError(f"there is no font {family}", f"{hint}, {usual}")
+
+
+class Letters:
+    """Measures texts in a font."""
+
+    def __init__(self, fonts: Fonts) -> None:
+        require_fonts(fonts)
+        context = pango_context(plain_options(), False)
+        self.layouts = tuple(self.layout(context, fonts.texts, style) for style in ("", "Bold"))
+        self.signs: tuple[dict[str, Optional[Sign]], ...] = ({}, {})
+        self.words: tuple[dict[str, Optional[Sign]], ...] = ({}, {})
+        blanks = [self.extents(" ", is_bold)[1] for is_bold in (False, True)]
+        self.spaces = [blank.width for blank in blanks]
+        self.heights = [blank.height for blank in blanks]  # of lines
+
+    @staticmethod
+    def layout(context: Any, family: str, style: str) -> Any:
+        """Returns a layout in the size that is measured."""
+        layout = Pango.Layout.new(context)
+        font = Pango.FontDescription(f"{family}, {style}")
+        font.set_absolute_size(MEASURED * Pango.SCALE)
+        layout.set_font_description(font)
+        return layout
+
+    def extent(self, text: str, is_bold: bool) -> Extent:
+        """Returns the extent of a line of text; zeros for one without ink."""
+        if not text:
+            return NOTHING
+        line = self.line(text, is_bold)
+        return extent_of(line) if line else self.whole(text, is_bold)
+
+    def line(self, text: str, is_bold: bool) -> Optional[Sign]:
+        """Returns what a line of text takes, letter by letter; None where letters change beside
+        others.
+        """
+        found = []
+        for word in text.split(" "):
+            sign = self.word(word, is_bold) if word else BLANK
+            if sign is None:
+                return None
+            found.append(sign)
+        if len(found) == 1:
+            return found[0]
+        spaces = (len(found) - 1) * self.spaces[is_bold]
+        advance = sum([sign.advance for sign in found]) + spaces
+        top = min([sign.top for sign in found])
+        bottom = max([sign.bottom for sign in found])
+        return Sign(advance, found[0].left, found[-1].right, top, bottom)
+
+    def word(self, word: str, is_bold: bool) -> Optional[Sign]:
+        """Returns what a word takes, letter by letter; None where letters change beside others."""
+        known = self.words[is_bold]
+        if word not in known:
+            if len(known) >= KEPT:
+                known.clear()
+            known[word] = self.new_word(word, is_bold)
+        return known[word]
+
+    def new_word(self, word: str, is_bold: bool) -> Optional[Sign]:
+        """Measures a word."""
+        signs = self.signs[is_bold]
+        for letter in set(word).difference(signs):
+            signs[letter] = self.new_sign(letter, is_bold)
+        found = []
+        for letter in word:
+            sign = signs[letter]
+            if sign is None:
+                return None
+            found.append(sign)
+        advance = sum([sign.advance for sign in found])
+        top = min([sign.top for sign in found])
+        bottom = max([sign.bottom for sign in found])
+        return Sign(advance, found[0].left, found[-1].right, top, bottom)
+
+    def new_sign(self, letter: str, is_bold: bool) -> Optional[Sign]:
+        """Measures a letter; None where it may change beside others."""
+        if not any(first <= ord(letter) <= last for first, last in SIMPLE):
+            return None
+        ink, logical = self.extents(letter, is_bold)
+        right = logical.width - ink.x - ink.width
+        top = ink.y - self.layouts[is_bold].get_baseline() / (MEASURED * Pango.SCALE)
+        return Sign(logical.width, ink.x, right, top, top + ink.height)
+
+    def whole(self, text: str, is_bold: bool) -> Extent:
+        """Returns the extent of a line of text as Pango lays it out."""
+        ink, _ = self.extents(text, is_bold)
+        return Extent(ink.width, ink.height) if ink.width > 0 else NOTHING
+
+    def extents(self, text: str, is_bold: bool) -> tuple["Rectangle", "Rectangle"]:
+        """Returns the rectangles of the ink of a text and of its line."""
+        layout = self.layouts[is_bold]
+        layout.set_text(text, -1)
+        ink, logical = layout.get_extents()
+        return rectangle(ink), rectangle(logical)
+
+    def missing(self, labels: Iterable[PrintLabel]) -> dict[int, str]:
+        """Returns why some labels cannot be drawn: letters that no font has, by the numbers of
+        their lines, with a reason for each script.
+        """
+        used: set[str] = set()
+        kept = list(labels)
+        for label in kept:
+            used.update(*label.texts)
+        absent = sorted(letter for letter in used if self.is_missing(letter))
+        if not absent:
+            return {}
+        reasons = reasons_of(absent)
+        found = {}
+        for label in kept:
+            reason = first_reason(label, reasons)
+            if reason:
+                found[label.record.number] = reason
+        return found
+
+    def is_missing(self, letter: str) -> bool:
+        """Returns whether no font has a letter."""
+        layout = self.layouts[True]
+        layout.set_text(letter, -1)
+        return bool(layout.get_unknown_glyphs_count())
+
+
+class Rectangle(NamedTuple):
+    """A rectangle in sizes of letters."""
+
+    x: float
+    y: float
+    width: float
+    height: float
+
+
+def rectangle(found: Any) -> Rectangle:
+    """Returns a rectangle of Pango in sizes of the letters that are measured."""
+    scale = MEASURED * Pango.SCALE
+    return Rectangle(found.x / scale, found.y / scale, found.width / scale, found.height / scale)
+
+
+def reasons_of(letters: Iterable[str]) -> dict[str, str]:
+    """Returns a reason for each letter that no font has: one for each script."""
+    scripts: dict[str, list[str]] = {}
+    for letter in letters:
+        scripts.setdefault(script_of(letter), []).append(letter)
+    reasons = {}
+    for script, found in scripts.items():
+        fonts = FONTS_OF_SIGNS if script == "Signs" else FONTS_OF_LETTERS
+        reason = f"no font has {''.join(found[:MOST_NAMED])} ({script}): {fonts}"
+        reasons.update(dict.fromkeys(found, reason))
+    return reasons
+
+
+def script_of(letter: str) -> str:
+    """Returns the script of a letter; of a sign `Signs`."""
+    if unicodedata.category(letter)[0] not in "LM":
+        return "Signs"
+    return unicodedata.name(letter, "Signs").split()[0].capitalize()
+
+
+def first_reason(label: PrintLabel, reasons: dict[str, str]) -> Optional[str]:
+    """Returns the reason of the first letter of a label that no font has."""
+    for text in label.texts:
+        for letter in text:
+            if letter in reasons:
+                return reasons[letter]
+    return None

@@ -1,0 +1,292 @@
+"""The file between label-table and label-print, both ways: lines of labels(1), and what belongs to
+each label.
+
+    #{"labels":1,"table":"articles.xlsx"}
+    #{"row":2,"title":"Pencil","price":"0,80 €","copies":3}
+    ean13 4006381333931
+    #{"end":1,"lines":1,"left_out":[5],"left_out_count":1}
+
+A remark that begins with `#{` is one JSON object. The first of a part has the version, the last
+says that the part is whole, and each other one belongs to the next line. Lines without such remarks
+are a part too. LF ends a line, and nothing else does.
+"""
+
+import json
+import re
+import sys
+from dataclasses import dataclass, field
+from io import BytesIO
+from typing import Any, Iterator, Sequence
+
+from labeltools import VERSION
+from labeltools.messages import Place, ToolError, quoted
+from labeltools.symbologies import SYMBOLOGIES, check_digit
+
+MOST_COPIES = 9999
+MOST_LEFT_OUT = 20  # rows that the last remark names
+OBJECT = b"#{"
+# the keys of the object before a line, and of all objects: a number, a text, or a list of one of
+# these
+FIELDS: dict[str, Any] = {
+    "row": int,
+    "title": str,
+    "text": [str],
+    "price": str,
+    "unit": str,
+    "was": str,
+    "copies": int,
+}
+KEYS: dict[str, Any] = {
+    **FIELDS,
+    "labels": int,
+    "table": str,
+    "end": int,
+    "lines": int,
+    "left_out": [int],
+    "left_out_count": int,
+}
+ONE_LINE = ("price", "unit", "was")
+# what Pango cuts a text at or takes for a line end: controls (but LF), separators of lines and
+# paragraphs; surrogates
+UNPRINTABLE = re.compile("[\x00-\x09\x0b-\x1f\x7f-\x9f\u2028\u2029\ud800-\udfff]")
+ESCAPE = re.compile(rb"\\(?:x([0-9A-Fa-f]{2})|([n\\]))")
+ESCAPED = {b"n": b"\n", b"\\": b"\\"}
+encode = json.JSONEncoder(ensure_ascii=False, separators=(",", ":")).encode
+
+
+@dataclass(frozen=True, slots=True)
+class Label:
+    """What belongs to a line of labels(1). Texts may have several lines; what is not there is
+    empty.
+
+    `row` is that of the table, 0 where it is not known; `price` is printed as it stands, `unit` is
+    the unit price that belongs to it, and `was` the old price; `copies` is 1 where the table has no
+    such column.
+    """
+
+    row: int = 0
+    title: str = ""
+    text: tuple[str, ...] = ()
+    price: str = ""
+    unit: str = ""
+    was: str = ""
+    copies: int = 1
+
+
+@dataclass(frozen=True, slots=True)
+class LineRecord:
+    """A line of labels(1) with its label.
+
+    `number` is that of the line in its file, from 1; `data` has the check digit, and no escapes any
+    more; `table` is the name of its table, where that is known.
+    """
+
+    number: int
+    symbology: str
+    data: bytes
+    table: str
+    label: Label
+
+    @property
+    def place(self) -> Place:
+        """What messages name: the row of the table, or else the line."""
+        if self.label.row:
+            return Place(self.table, "row", self.label.row)
+        return Place("", "line", self.number)
+
+
+@dataclass(frozen=True)
+class LinesFile:
+    """A whole file: its lines, the first rows that label-table left out, and how many it left
+    out.
+    """
+
+    records: tuple[LineRecord, ...]
+    left_out: tuple[Place, ...]
+    left_out_count: int
+
+
+def lines_of(data: bytes) -> Iterator[bytes]:
+    """Yields the lines of a file as labels(1) counts them."""
+    return (line.removesuffix(b"\n") for line in BytesIO(data))
+
+
+def first_remark(table: str) -> str:
+    """Returns the first line of a file, with the name of its table, if there is one."""
+    named = {"table": table.encode(errors="replace").decode()} if table else {}
+    return f"#{encode({'labels': VERSION, **named})}\n"
+
+
+def label_lines(label: Label, line: str, has_copies: bool) -> str:
+    """Returns the lines of a label: its remark, and the line of labels(1)."""
+    found = [f'#{{"row":{label.row}']  # put together by hand, which takes a fifth of the time
+    if label.title:
+        found.append(f'"title":{encode(label.title)}')
+    if label.text:
+        found.append(f'"text":[{",".join(map(encode, label.text))}]')
+    if label.price:
+        found.append(f'"price":{encode(label.price)}')
+    if label.unit:
+        found.append(f'"unit":{encode(label.unit)}')
+    if label.was:
+        found.append(f'"was":{encode(label.was)}')
+    if has_copies:
+        found.append(f'"copies":{label.copies}')
+    return f"{','.join(found)}}}\n{line}\n"
+
+
+def last_remark(count: int, left_out: Sequence[int]) -> str:
+    """Returns the last line of a file of `count` lines, of whose table these rows were left out."""
+    rows = list(left_out[:MOST_LEFT_OUT])
+    end = {"end": VERSION, "lines": count, "left_out": rows, "left_out_count": len(left_out)}
+    return f"#{encode(end)}\n"
+
+
+def read_lines(data: bytes, name: str, has_escapes: bool = False) -> LinesFile:
+    """Returns the lines of a file; raises `ToolError` for one that is cut off, changed or not
+    understood.
+
+    `has_escapes` is whether labels(1) is given --escapes.
+    """
+    reader = _Reader(name, has_escapes)
+    is_own = data.startswith(OBJECT)
+    for number, line in enumerate(lines_of(data), 1):
+        if is_own and line.endswith(b"\r"):
+            hint = "take the file as label-table wrote it"
+            raise ToolError(
+                f"{name}: line {number} ends in CR LF: a program of Windows has changed the file",
+                hint,
+            )
+        if line.startswith(OBJECT):
+            reader.take_object(number, line)
+        elif line and not line.startswith(b"#"):
+            reader.take_line(number, line)
+    return reader.whole(is_own and not data.endswith(b"\n"))
+
+
+@dataclass
+class _Part:
+    """What is known of the part of a file that is read: a table, or lines of no table."""
+
+    table: str = ""
+    first: int = -1  # how many records were read before it; -1 for lines of no table
+
+
+@dataclass
+class _Reader:
+    """Reads a file line by line."""
+
+    name: str
+    has_escapes: bool
+    part: _Part = field(default_factory=_Part)
+    waiting: dict[str, Any] = field(default_factory=dict)
+    torn: str = ""
+    records: list[LineRecord] = field(default_factory=list)
+    left_out: list[Place] = field(default_factory=list)
+    left_out_count: int = 0
+
+    def take_object(self, number: int, line: bytes) -> None:
+        """Takes a remark that is an object."""
+        found = object_of(line, f"{self.name}: line {number}")
+        is_open = self.part.first >= 0
+        count = len(self.records) - self.part.first if is_open else -1
+        is_early = "labels" in found and is_open
+        is_short = "end" in found and found.get("lines", -2) != count
+        if self.waiting or is_early or is_short:
+            self.torn = self.torn or f"before line {number}"
+        if "labels" in found:
+            self.part = _Part(found.get("table", ""), len(self.records))
+            self.waiting = {}
+        elif "end" in found:
+            self.left_out += [
+                Place(self.part.table, "row", row) for row in found.get("left_out", [])
+            ]
+            self.left_out_count += found.get("left_out_count", 0)
+            self.part = _Part()
+            self.waiting = {}
+        else:
+            self.waiting = found
+
+    def take_line(self, number: int, line: bytes) -> None:
+        """Takes a line of labels(1), to which the object before it belongs."""
+        label = label_of(self.waiting)
+        symbology, data = symbology_and_data(line, self.has_escapes)
+        self.records.append(LineRecord(number, symbology, data, self.part.table, label))
+        self.waiting = {}
+
+    def whole(self, is_cut: bool) -> LinesFile:
+        """Returns what was read; raises `ToolError` where something is missing."""
+        torn = self.torn
+        if self.waiting or self.part.first >= 0 or is_cut:
+            torn = torn or "at its end"
+        if torn:
+            remarks = 'that begin with #{"labels" and #{"end"'
+            hint = f"to print it all the same, take out its lines {remarks}"
+            raise ToolError(
+                f"{self.name} is not whole: something is missing {torn}. Nothing is printed", hint
+            )
+        return LinesFile(tuple(self.records), tuple(self.left_out), self.left_out_count)
+
+
+def object_of(line: bytes, where: str) -> dict[str, Any]:
+    """Returns the object of a remark, all of which is understood; raises `ToolError`."""
+    try:
+        found: dict[str, Any] = json.loads(line[1:])
+    except (ValueError, RecursionError) as error:
+        raise ToolError(
+            f"{where}: the remark is no JSON object: the file is cut off or changed"
+        ) from error
+    wrong = [key for key, value in found.items() if key not in KEYS or not is_of(value, KEYS[key])]
+    if found.get("labels", found.get("end", VERSION)) != VERSION:
+        raise ToolError(f"{where}: the file is of another version of label-table", "make it again")
+    wrong += [key for key in ONE_LINE if "\n" in str(found.get(key, ""))]
+    if wrong or not found or found.get("copies", 0) > MOST_COPIES:
+        listed = ", ".join(map(quoted, wrong)) or quoted(line.decode("utf-8", "replace"))
+        raise ToolError(f"{where}: not understood: {listed}")
+    return found
+
+
+def is_of(value: object, kind: Any) -> bool:
+    """Returns whether a value is a whole number from 0, a text that can be printed, or a list of
+    these.
+    """
+    if isinstance(kind, list):
+        return isinstance(value, list) and all(is_of(one, kind[0]) for one in value)
+    if isinstance(value, int):
+        return type(value) is kind and value >= 0
+    return type(value) is kind and not UNPRINTABLE.search(str(value))
+
+
+def label_of(found: dict[str, Any]) -> Label:
+    """Returns the label of an object that is understood."""
+    if not found:
+        return Label()
+    texts = (text.strip() for text in found.get("text", ()))
+    return Label(
+        row=found.get("row", 0),
+        title=found.get("title", "").strip(),
+        text=tuple(text for text in texts if text),
+        price=sys.intern(found.get("price", "").strip()),  # many labels have the same price
+        unit=sys.intern(found.get("unit", "").strip()),
+        was=sys.intern(found.get("was", "").strip()),
+        copies=found.get("copies", 1),
+    )
+
+
+def symbology_and_data(line: bytes, has_escapes: bool) -> tuple[str, bytes]:
+    """Returns the symbology of a line of labels(1), and its data with the check digit and without
+    escapes.
+    """
+    head, _, data = line.partition(b" ")
+    symbology = sys.intern(head.partition(b",")[0].decode("ascii", "replace"))
+    if has_escapes:
+        data = ESCAPE.sub(unescaped, data)
+    known = SYMBOLOGIES.get(symbology)
+    if known and known.is_number and len(data) == known.digits - 1 and data.isdigit():
+        data += check_digit(data.decode()).encode()
+    return symbology, data
+
+
+def unescaped(match: re.Match[bytes]) -> bytes:
+    """Returns the byte that an escape of labels(1) means."""
+    return bytes([int(match[1], 16)]) if match[1] else ESCAPED[match[2]]

@@ -1,0 +1,161 @@
+"""Every message of the tools: errors, who is told while work goes on, and the one function that
+writes a message.
+"""
+
+import sys
+import unicodedata
+from contextlib import suppress
+from typing import NamedTuple, Protocol
+
+from labeltools.translation import translated
+
+BAD_ARGUMENTS = 2
+MOST_LETTERS = 40  # of a cell that a message quotes
+# the classes of characters in Unicode that change what a terminal shows, or that cut a message
+UNSEEN = ("Cc", "Cf", "Cs", "Zl", "Zp")
+NAMES = {" ": "a space", "\t": "a tab", "\n": "a line end", "\r": "a line end"}
+
+
+class ToolError(Exception):
+    """Why a tool cannot go on.
+
+    `what` is the reason, without an option of the command line; `hint`, which may name options, is
+    what to do. A command ends with `status`.
+    """
+
+    def __init__(self, what: str, hint: str = "", status: int = 1) -> None:
+        super().__init__(sentence(what, hint))
+        self.what = what
+        self.hint = hint
+        self.status = status
+
+
+class Cancelled(ToolError):
+    """The user has stopped the work; a `Talk` raises it in `go_on`."""
+
+
+class RowError(Exception):
+    """Why a row of a table, or a label, is left out.
+
+    `what` and `hint` are as in `ToolError`; `place` is that of the column, from 0, where the reason
+    is one cell.
+    """
+
+    def __init__(self, what: str, hint: str = "", place: int | None = None) -> None:
+        super().__init__(sentence(what, hint))
+        self.what = what
+        self.hint = hint
+        self.place = place
+
+
+class Place(NamedTuple):
+    """What a message is about: a row of a table, or a line of a file, by its number from 1."""
+
+    table: str  # the name of the table or file, where there may be several; else empty
+    unit: str  # `row` or `line`
+    number: int
+
+    def __str__(self) -> str:
+        return f"{self.unit} {self.number}"
+
+
+class Talk(Protocol):
+    """Who is told while work goes on. A command writes what it is told on standard error, a window
+    shows it.
+    """
+
+    def note(self, place: Place, cell: str, reason: str, hint: str) -> None:
+        """A row or line is left out: the text of its cell, why, and what to do, which may be
+        empty.
+        """
+
+    def say(self, text: str, hint: str = "") -> None:
+        """Something about the whole that leaves nothing out, and what to do about it."""
+
+    def go_on(self, done: int, total: int) -> None:
+        """Called often in long work, of which `done` of `total` is done (0: not known); may raise
+        `Cancelled`.
+        """
+
+
+class Silence:
+    """A talk to nobody."""
+
+    def note(self, place: Place, cell: str, reason: str, hint: str) -> None:
+        """Does nothing."""
+
+    def say(self, text: str, hint: str = "") -> None:
+        """Does nothing."""
+
+    def go_on(self, done: int, total: int) -> None:
+        """Does nothing."""
+
+
+def write_message(tool: str, message: str) -> None:
+    """Writes a message on standard error, on one line, if that takes it. Every message of a tool
+    goes through here.
+    """
+    with suppress(OSError):
+        print(f"{tool}: {visible(translated(message))}", file=sys.stderr, flush=True)
+
+
+def sentence(what: str, hint: str) -> str:
+    """Returns a reason and what to do as one text.
+
+    >>> sentence("there is no sheet", "give --sheet"), sentence("7: it is no EAN", "look at it")
+    ('there is no sheet: give --sheet', '7: it is no EAN; look at it')
+    """
+    if not hint:
+        return what
+    return f"{what}; {hint}" if ": " in what else f"{what}: {hint}"
+
+
+def visible(text: str) -> str:
+    """Returns a text with a number for each character that could change what a terminal shows.
+
+    >>> visible("a\\x1b[2Jb"), visible("Käse 1\\u202f299")
+    ('a<U+001B>[2Jb', 'Käse 1\\u202f299')
+    """
+    if text.isprintable():
+        return text
+    return "".join(
+        numbered(sign) if unicodedata.category(sign) in UNSEEN else sign for sign in text
+    )
+
+
+def quoted(text: str) -> str:
+    """Returns a cell for a message: in quotes, short, and with a number for each character that
+    cannot be seen.
+
+    >>> quoted("a\\u00a0b")
+    '"a<U+00A0>b"'
+    """
+    short = text if len(text) <= MOST_LETTERS else text[: MOST_LETTERS - 3] + "..."
+    return '"' + "".join(sign if sign.isprintable() else numbered(sign) for sign in short) + '"'
+
+
+def named(character: str) -> str:
+    """Returns a character for a message: as it is where it can be seen, with its number where it is
+    not ASCII.
+
+    >>> named("x"), named("\\t"), named("–")
+    ('"x"', 'a tab', 'en dash (U+2013)')
+    """
+    if "!" <= character <= "~":
+        return f'"{character}"'
+    name = unicodedata.name(character, "control character").lower()
+    return NAMES.get(character, f"{name} (U+{ord(character):04X})")
+
+
+def numbered(character: str) -> str:
+    """Returns the number of a character, as `<U+001B>`."""
+    return f"<U+{ord(character):04X}>"
+
+
+def counted(count: int, thing: str) -> str:
+    """Returns a number of things.
+
+    >>> counted(1, "row"), counted(2, "row")
+    ('1 row', '2 rows')
+    """
+    return f"{count} {thing}" if count == 1 else f"{count} {thing}s"

@@ -1,0 +1,97 @@
+"""The row of names, the rows that repeat it, and the rows that are named together in a message."""
+
+import re
+import unicodedata
+from collections import Counter
+from typing import Iterable, Mapping, Sequence
+
+from labeltools.messages import counted
+
+MOST_NAMED = 5  # rows in one message
+
+
+def name_of(text: str) -> str:
+    """Returns a name as it is compared: composed (macOS takes ü apart), without white space at its
+    ends.
+
+    >>> name_of("Stu\\u0308ck ") == name_of("Stück"), name_of("EAN\\n 13")
+    (True, 'EAN 13')
+    """
+    return unicodedata.normalize("NFC", " ".join(text.split()))
+
+
+def is_repeated(cells: Iterable[str], names: Sequence[str]) -> bool:
+    """Returns whether a row is the row of names again, as lists have it on each page.
+
+    Two cells at least have to be the same.
+
+    >>> names = ["EAN", "Name", "Preis"]
+    >>> is_repeated(["EAN", "Name", ""], names), is_repeated(["EAN", "Pen", "1"], names)
+    (True, False)
+    """
+    same = 0
+    for cell, name in zip(cells, names):
+        if cell.strip():
+            if name_of(cell) != name:
+                return False
+            same += 1
+    return same > 1
+
+
+def row_of_names(rows: Iterable[tuple[int, Sequence[str]]], asked: Sequence[str]) -> int:
+    """Returns the first row that has every name that was asked for, once; 0 where there is none.
+
+    >>> row_of_names([(1, ["Preisliste"]), (5, ["EAN", "Name"])], ["EAN", "Name"])
+    5
+    >>> row_of_names([(1, ["a"])], ["EAN"])
+    0
+    """
+    wanted = [name_of(one) for one in asked if not one.isdecimal()]
+    for number, cells in rows:
+        names = Counter(name_of(cell) for cell in cells)
+        if wanted and all(names[one] == 1 for one in wanted):
+            return number
+    return 0
+
+
+def unlike(codes: Mapping[int, str]) -> list[int]:
+    """Returns the rows of the codes without a digit, where nearly all codes of the column have one.
+
+    It is the only one among three others or more, or one of five among ten others or more.
+
+    >>> unlike({2: "1001", 3: "1002", 4: "1003", 5: "Summe"})
+    [5]
+    >>> unlike({2: "A", 3: "1", 4: "2"}), unlike({2: "WIFI:T", 3: "HELLO"})
+    ([], [])
+    """
+    without = [row for row, code in codes.items() if not re.search("[0-9]", code)]
+    others = len(codes) - len(without)
+    is_only = len(without) == 1 and others >= 3
+    is_rare = others >= 10 and others >= 4 * len(without)
+    return without if is_only or is_rare else []
+
+
+def listed(rows: Sequence[int]) -> str:
+    """Returns rows for a message.
+
+    >>> listed([3]), listed([3, 4]), listed(list(range(2, 12)))
+    ('row 3', 'rows 3 and 4', 'rows 2, 3, 4, 5, 6 and 5 more')
+    """
+    if len(rows) == 1:
+        return f"row {rows[0]}"
+    if len(rows) <= MOST_NAMED:
+        *first, last = map(str, rows)
+    else:
+        first = [str(row) for row in rows[:MOST_NAMED]]
+        last = f"{len(rows) - MOST_NAMED} more"
+    return f"rows {', '.join(first)} and {last}"
+
+
+def said_of_empty(what: str, rows: Sequence[int], labels: int) -> str:
+    """Returns the one message of empty titles or prices.
+
+    >>> said_of_empty("title", [3, 4], 3)
+    'rows 3 and 4 have no title (2 of 3 labels)'
+    """
+    has = "has" if len(rows) == 1 else "have"
+    return f"{listed(rows)} {has} no {what} ({len(rows)} of {counted(labels, 'label')})"

@@ -1,0 +1,486 @@
+"""Numbers as a spreadsheet shows them: formats of numbers, dates and times (ISO/IEC 29500-1,
+18.8.31).
+
+A format with names of days or months, elapsed hours, fractions, exponents, conditions or eras is
+not understood: what it shows depends on the spreadsheet, so a cell that has it leaves its row out.
+"""
+
+import locale
+import re
+from contextlib import suppress
+from dataclasses import dataclass, field
+from datetime import date, datetime, timedelta
+from decimal import ROUND_HALF_UP, Context, Decimal
+from functools import lru_cache
+from typing import NamedTuple
+
+from labeltools.messages import RowError, quoted
+
+LONGEST_FORMAT = 255  # letters, as spreadsheets have it
+TYPED = "enter it again as text"
+DATE_HINT = "give --date-as dd.mm.yyyy, or another pattern"
+# formats that a file names by their number alone, in so far as they do not depend on the language
+BUILT_IN = {
+    "0": "General",
+    "1": "0",
+    "2": "0.00",
+    "3": "#,##0",
+    "4": "#,##0.00",
+    "9": "0%",
+    "10": "0.00%",
+    "11": "0.00E+00",
+    "20": "h:mm",
+    "21": "h:mm:ss",
+    "45": "mm:ss",
+    "49": "@",
+}
+LANGUAGE = "of the language"  # any other format that is named by its number
+DATE_OF_LANGUAGE = "date of the language"
+BUILT_IN_DATES = {"14": DATE_OF_LANGUAGE}
+TOKEN = re.compile(
+    r"""(?P<number>General|@|[0\#?][0\#?,]*(?:\.[0\#?]*)?(?:E\+0+)?|\.[0\#?]+)
+      | (?P<percent>%)
+      | (?P<end>;)
+      | (?P<noon>AM/PM)
+      | (?P<date>d{1,2}(?!d)|m{1,2}(?!m)|(?:yy){1,2}(?!y)|h{1,2}(?!h)|s{1,2}(?![s.]))
+      | \[\$(?P<currency>[^\]-]{0,30})(?:-(?P<language>[0-9A-Za-z-]{0,30}))?\]
+      | "(?P<quoted>[^"]*)"
+      | \\(?P<escaped>.)
+      | (?P<space>_.)
+      | (?P<nothing>\*.|\[(?:black|blue|cyan|green|magenta|red|white|yellow|color\ ?[0-9]+)\])
+      | (?P<plain>[-+/():!^&'~{}<>=.,\ $]|[^\x00-\x7f])""",
+    re.IGNORECASE | re.VERBOSE | re.DOTALL,
+)
+DATE_TOKEN = re.compile("(?P<date>yyyy|yy|dd?|mm?|hh?|ss?)|(?P<plain>[-./: ,]|[^\x00-\x7f])")
+SIGNIFICANT = Context(prec=15)  # the digits of a number in a spreadsheet
+EXACT = Context(prec=400)  # those of any other
+FIRST_DAY = 61  # from March 1900 on all spreadsheets count from the same day
+LAST_DAY = 2958465  # the end of 9999
+LATER_IN_1904 = 1462  # days between the two beginnings
+DAY_ZERO = date(1899, 12, 30)
+SECONDS = 86400  # of a day
+SAME_SECOND = Decimal("0.01")
+TIMES = {"h", "n", "s"}
+WHOLE_PATTERN = re.compile("[#?,]*[#?0]0?0?")  # with signs of thousands
+# the decimal sign and the one of thousands by language, and by country where that differs
+COMMA_POINT = "de es it nl pt da el id tr hr sl ro is vi sr bs ca gl eu mk sq"
+COMMA_SPACE = "fr ru uk be cs sk pl hu bg fi sv nb nn no lt lv et ka kk hy az"
+POINT_COMMA = (
+    "en zh ja ko th he hi ms ta te bn ur sw af_NA es_MX es_US es_GT es_HN es_NI es_PA es_PE"
+)
+POINT_APOSTROPHE = "de_CH it_CH de_LI rm"
+
+
+class Signs(NamedTuple):
+    """The decimal sign of a number, and the one between its thousands."""
+
+    decimal: str
+    thousands: str
+
+
+SIGNS_OF = {
+    **{name: Signs(",", ".") for name in COMMA_POINT.split()},
+    **{name: Signs(",", "\u00a0") for name in COMMA_SPACE.split()},
+    **{name: Signs(".", ",") for name in POINT_COMMA.split()},
+    **{name: Signs(".", "’") for name in POINT_APOSTROPHE.split()},
+    "fr": Signs(",", "\u202f"),
+    "fr_CH": Signs(",", "\u202f"),
+    "pt_PT": Signs(",", "\u00a0"),
+    "de_AT": Signs(",", "\u00a0"),
+}
+
+
+class Part(NamedTuple):
+    """A part of a format: its kind, as in `TOKEN`, and its text."""
+
+    kind: str
+    text: str
+
+
+@dataclass(frozen=True)
+class Section:
+    """What a format shows of positive, negative or zero numbers, or of texts.
+
+    `language` is that of its signs, as `de_DE`; empty where it names none. The language of a
+    currency, as in `[$zł-415]`, is not that of the signs.
+    """
+
+    parts: tuple[Part, ...]
+    language: str = ""
+
+    def count(self, kind: str) -> int:
+        """Returns how many parts are of a kind."""
+        return sum(part.kind == kind for part in self.parts)
+
+    @property
+    def is_date(self) -> bool:
+        """Whether it shows a date or a time."""
+        return self.count("date") > 0 and not (self.count("number") or self.count("percent"))
+
+
+@dataclass
+class Formatter:
+    """Shows numbers as a spreadsheet does.
+
+    `signs` are those of formats without a language; `date_as` is how every date is shown, if it is
+    not empty, and `local_date` how one is whose format leaves it to the language. `first_number`
+    and `first_date` are what was shown first by these, for a message that asks whether that is
+    right.
+    """
+
+    signs: Signs
+    date_as: str = ""
+    local_date: str = "yyyy-mm-dd"
+    first_number: str = field(default="", init=False)
+    first_date: str = field(default="", init=False)
+
+    def shown(self, number_format: str, value: Decimal, is_from_1904: bool = False) -> str:
+        """Returns a number as its format shows it; raises `RowError` for a format that is not
+        understood.
+        """
+        if number_format == DATE_OF_LANGUAGE:
+            pattern = self.date_as or self.local_date
+            return date_text(date_section(pattern), value, is_from_1904)
+        if self.date_as and is_date_format(number_format):
+            return date_text(date_section(self.date_as), value, is_from_1904)
+        value = SIGNIFICANT.plus(value)
+        sections = sections_of(number_format)
+        place = section_for(value, len(sections))
+        section = sections[place]
+        if section.is_date:
+            return date_text(section, value, is_from_1904)
+        text = self.number_text(section, value, number_format)
+        is_below = value < 0 and place == 0 and re.search("[1-9]", text)
+        return f"-{text}" if is_below else text
+
+    def keep(self, number_format: str, text: str) -> None:
+        """Keeps a text that was shown, where the file does not say its signs, or the order of its
+        date.
+        """
+        if number_format == DATE_OF_LANGUAGE:
+            self.first_date = self.first_date or text
+        elif not self.first_number and has_own_signs(number_format):
+            has_sign = self.signs.decimal in text or self.signs.thousands in text
+            self.first_number = text if has_sign else ""
+
+    def number_text(self, section: Section, value: Decimal, number_format: str) -> str:
+        """Returns a number without its sign as a section shows it."""
+        if not is_number(section, value):
+            raise not_understood(number_format)
+        size = abs(value).scaleb(2) if section.count("percent") else abs(value)
+        signs = signs_of(section.language) or self.signs
+        shown = [
+            by_pattern(size, one.text, signs) if one.kind == "number" else one.text
+            for one in section.parts
+        ]
+        return "".join(shown).strip()
+
+
+def is_number(section: Section, value: Decimal) -> bool:
+    """Returns whether a section shows a number, once, and no other one.
+
+    One without a number shows zero alone, as `"free"`; a comma behind a number divides by thousand.
+    """
+    count = section.count("number")
+    if Part("number", "@") in section.parts and len(section.parts) > 1:  # here programs differ
+        return False
+    others = section.count("date") + section.count("noon") + section.parts.count(Part("plain", ","))
+    percents = section.count("percent")
+    if others or count > 1 or percents > 1:
+        return False
+    return count == 1 or not value and not percents
+
+
+def has_own_signs(number_format: str) -> bool:
+    """Returns whether a format shows numbers by the signs of its reader, and not by those of a
+    language.
+    """
+    try:
+        section = sections_of(number_format)[0]
+    except RowError:  # a date that is written anew
+        return False
+    return section.count("number") > 0 and not signs_of(section.language)
+
+
+def not_understood(number_format: str, is_code: bool = False) -> RowError:
+    """Returns the error of a format; a date, which is no code, may be written anew."""
+    if number_format == LANGUAGE:
+        what = "has a number format that depends on the language of the spreadsheet"
+        return RowError(what, TYPED)
+    what = f"has the number format {quoted(number_format)}, which is not understood"
+    if is_date_format(number_format) and not is_code:
+        return RowError(what, DATE_HINT)
+    return RowError(what, TYPED)
+
+
+def section_for(value: Decimal, count: int) -> int:
+    """Returns the place of the section that shows a number, of `count` sections."""
+    if count > 2 and value == 0:
+        return 2
+    return 1 if count > 1 and value < 0 else 0
+
+
+@lru_cache(maxsize=256)
+def sections_of(number_format: str) -> tuple[Section, ...]:
+    """Returns the sections of a format; raises `RowError` for one that is not understood."""
+    if len(number_format) > LONGEST_FORMAT or TOKEN.sub("", number_format):
+        raise not_understood(number_format)
+    sections: list[Section] = []
+    parts: list[Part] = []
+    language = ""
+    for match in TOKEN.finditer(number_format):
+        kind = match.lastgroup or ""
+        if kind == "end":
+            sections.append(Section(with_minutes(parts), language))
+            parts = []
+            language = ""
+        else:
+            if match["language"] and not match["currency"]:
+                language = language_of(match["language"], number_format)
+            parts.append(part_of(match))
+    return (*sections, Section(with_minutes(parts), language))
+
+
+def part_of(match: re.Match[str]) -> Part:
+    """Returns the part of a format that a token is."""
+    if match["currency"] is not None:
+        return Part("currency", match["currency"])
+    kind = match.lastgroup or ""
+    return Part(kind, {"space": " ", "nothing": ""}.get(kind, match[kind]))
+
+
+def language_of(code: str | None, number_format: str) -> str:
+    """Returns the language of a format by Windows' number or its name, as `407` or `de-DE`; empty
+    for none.
+
+    >>> [language_of(code, "") for code in ("407", "de-CH", None, "1")]
+    ['de_DE', 'de_CH', '', '']
+    """
+    if not code:
+        return ""
+    if not re.fullmatch("[0-9A-F]{1,8}", code, re.IGNORECASE):
+        return code.replace("-", "_")
+    number = int(code, 16)
+    if number > 0xFFFF or number in (
+        0xF800,
+        0xF400,
+    ):  # other digits, another calendar, the system's own format
+        raise not_understood(number_format)
+    return locale.windows_locale.get(number, "")
+
+
+def signs_of(language: str) -> Signs | None:
+    """Returns the signs of a language, if it is known.
+
+    >>> signs_of("de_DE"), signs_of("de_CH").decimal, signs_of("xx_YY")
+    (Signs(decimal=',', thousands='.'), '.', None)
+    """
+    return SIGNS_OF.get(language) or SIGNS_OF.get(language.partition("_")[0])
+
+
+def with_minutes(parts: list[Part]) -> tuple[Part, ...]:
+    """Returns the parts of a section; an `m` behind hours or before seconds is of minutes.
+
+    >>> [part.kind for part in with_minutes([Part("date", "h"), Part("date", "mm")])]
+    ['date', 'minutes']
+    """
+    dates = [place for place, part in enumerate(parts) if part.kind == "date"]
+    found = list(parts)
+    for at, place in enumerate(dates):
+        before = parts[dates[at - 1]].text.lower() if at else ""
+        behind = parts[dates[at + 1]].text.lower() if at + 1 < len(dates) else ""
+        is_time = before in ("h", "hh") or behind in ("s", "ss")
+        if parts[place].text.lower() in ("m", "mm") and is_time:
+            found[place] = Part("minutes", parts[place].text)
+    return tuple(found)
+
+
+def is_date_format(number_format: str) -> bool:
+    """Returns whether a format shows a date, of whatever kind; those that are not understood are
+    looked at too.
+
+    >>> [is_date_format(one) for one in ("d. mmm yyyy", "0.00", '"Day" 0', "h:mm")]
+    [True, False, False, False]
+    """
+    bare = re.sub(r'"[^"]*"|\\.|\[[^\]]*\]', "", number_format[:LONGEST_FORMAT])
+    return "general" not in bare.lower() and bool(re.search("[dy]", bare, re.IGNORECASE))
+
+
+@lru_cache(maxsize=16)
+def date_section(pattern: str) -> Section:
+    """Returns the section of a pattern of dates, as `dd.mm.yyyy`; raises ValueError.
+
+    >>> date_text(date_section("dd.mm.yy"), Decimal(46351))
+    '25.11.26'
+    """
+    if DATE_TOKEN.sub("", pattern) or not re.search("[dmy]", pattern):
+        raise ValueError(f"{pattern!r} is not as 'dd.mm.yyyy'")
+    parts = [Part(match.lastgroup or "", match[0]) for match in DATE_TOKEN.finditer(pattern)]
+    return Section(with_minutes(parts))
+
+
+def date_text(section: Section, value: Decimal, is_from_1904: bool = False) -> str:
+    """Returns the day and time of a number; raises `RowError` where spreadsheets show different
+    ones.
+    """
+    moment = moment_of(value, is_from_1904, letters_of(section))
+    is_noon = section.count("noon") > 0
+    return "".join(date_part(part, moment, is_noon) for part in section.parts).strip()
+
+
+def letters_of(section: Section) -> set[str]:
+    """Returns the letters of a format's parts of dates and times; those of minutes are `n`."""
+    dates = {part.text[0].lower() for part in section.parts if part.kind == "date"}
+    return dates | {"n" for part in section.parts if part.kind == "minutes"}
+
+
+def moment_of(value: Decimal, is_from_1904: bool, letters: set[str]) -> datetime:
+    """Returns the moment of a number of days, to the second; `letters` are those of its format."""
+    exact = value * SECONDS
+    seconds = int(exact.to_integral_value(ROUND_HALF_UP))
+    if letters & TIMES and seconds - exact > SAME_SECOND:
+        raise RowError("has a time between two seconds, which programs show differently", TYPED)
+    if seconds - exact > SAME_SECOND:
+        seconds -= 1
+    day, second = divmod(seconds, SECONDS)
+    if is_from_1904:
+        day += LATER_IN_1904
+    if not letters - TIMES and 0 <= day < FIRST_DAY:  # a time alone
+        day = FIRST_DAY
+    if not FIRST_DAY <= day <= LAST_DAY:
+        raise RowError("is a date before March 1900 or after 9999", TYPED)
+    start = datetime.combine(DAY_ZERO, datetime.min.time())
+    return start + timedelta(days=day, seconds=second)
+
+
+def date_part(part: Part, moment: datetime, is_noon: bool) -> str:
+    """Returns what a part of a format shows of a moment."""
+    if part.kind == "noon":
+        return "AM" if moment.hour < 12 else "PM"
+    if part.kind == "minutes":
+        return str(moment.minute).zfill(len(part.text))
+    if part.kind != "date":
+        return part.text
+    hour = (moment.hour + 11) % 12 + 1 if is_noon else moment.hour
+    numbers = {"d": moment.day, "m": moment.month, "h": hour, "s": moment.second}
+    letter = part.text[0].lower()
+    if letter == "y":
+        return f"{moment.year:04}"[-len(part.text) :]
+    return str(numbers[letter]).zfill(len(part.text))
+
+
+def by_pattern(value: Decimal, pattern: str, signs: Signs) -> str:
+    """Returns a number that is not negative by `General`, or by a pattern of `0`, `#`, `?`, `,` and
+    a point.
+    """
+    if pattern[0] in "Gg@":
+        return general(value, signs)
+    whole_pattern, point, decimals_pattern = pattern.partition(".")
+    has_groups = "," in whole_pattern
+    is_plain = "E" not in pattern.upper() and "," not in decimals_pattern
+    if not is_plain or has_groups and not WHOLE_PATTERN.fullmatch(whole_pattern):
+        raise not_understood(pattern)
+    rounded = value.quantize(Decimal(1).scaleb(-len(decimals_pattern)), ROUND_HALF_UP, EXACT)
+    whole, _, decimals = f"{rounded:,f}".partition(".")
+    needed = len(decimals_pattern.rstrip("#?"))
+    decimals = decimals[:needed] + decimals[needed:].rstrip("0")
+    is_odd = re.search("0,*[#?]", whole_pattern) and whole == "0"
+    if is_odd or point and not decimals:  # here spreadsheets differ
+        raise not_understood(pattern)
+    whole = whole.replace(",", signs.thousands if has_groups else "")
+    whole = whole.lstrip("0").zfill(least_digits(whole_pattern))
+    return whole + (signs.decimal + decimals if decimals else "")
+
+
+def least_digits(whole_pattern: str) -> int:
+    """Returns how many digits a pattern of a whole number has at least: those from its first `0`
+    on.
+
+    >>> least_digits("#,##0"), least_digits("0#"), least_digits("#")
+    (1, 2, 0)
+    """
+    _, zero, rest = whole_pattern.partition("0")
+    return len(zero + rest.replace(",", ""))
+
+
+def general(value: Decimal, signs: Signs) -> str:
+    """Returns a number by `General`; raises `RowError` for one that is shown otherwise in a narrow
+    column.
+
+    Up to nine digits each spreadsheet shows the same, however wide the column is.
+    """
+    text = f"{value.normalize():f}"
+    is_long = "." in text and len(text.strip("0.").replace(".", "")) > 9
+    if value >= 10**15 or is_long:
+        raise RowError(
+            f"is the number {text} without a number of decimals", "give it a format such as 0.00"
+        )
+    return text.replace(".", signs.decimal)
+
+
+def digits_of(number_format: str, value: Decimal, is_data: bool = False) -> str:
+    """Returns the digits of a whole number that is shown as one, with the zeros that its format
+    puts in front.
+
+    As data, which has no check digit, it must be shown without decimals and exponent. Raises
+    `RowError`.
+    """
+    if number_format in (LANGUAGE, DATE_OF_LANGUAGE):
+        raise not_understood(LANGUAGE, is_code=True)
+    parts = [part for part in sections_of(number_format)[0].parts if part.text.strip()]
+    if [part.kind for part in parts] != ["number"]:
+        raise not_understood(number_format, is_code=True)
+    if value != value.to_integral_value() or abs(value) >= 10**15:
+        raise RowError(f"is the number {value}, which is not whole or has too many digits", TYPED)
+    pattern = parts[0].text
+    is_general = pattern[0] in "Gg@"
+    if is_data and not is_general and re.search(r"[.Ee]|,\Z", pattern):
+        shown = f"has the number format {quoted(number_format)}"
+        raise RowError(f"{shown}, and would be drawn as {value:.0f}", TYPED)
+    zeros = 0 if is_general else least_digits(re.split("[.Ee]", pattern)[0])
+    return f"{value:.0f}".zfill(zeros)
+
+
+def shown_text(text: str, number_format: str) -> str:
+    """Returns a text as its format shows it: the last section that has `@` puts the rest around
+    it.
+    """
+    for section in reversed(sections_of(number_format)):
+        if Part("number", "@") in section.parts:
+            return "".join(
+                text if part.kind == "number" else part.text for part in section.parts
+            ).strip()
+    return text
+
+
+def local_signs(decimal: str | None) -> Signs:
+    """Returns the signs of numbers by their decimal sign, or those of the locale where that is
+    None.
+    """
+    if decimal is None:
+        with suppress(locale.Error):  # the locale is not installed
+            locale.setlocale(locale.LC_NUMERIC, "")
+    found = locale.localeconv()
+    point = decimal or str(found["decimal_point"])
+    thousands = str(found["thousands_sep"])
+    if not thousands or thousands == point:
+        thousands = "." if point == "," else ","
+    return Signs(point, thousands)
+
+
+def local_date() -> str:
+    """Returns how the locale writes a date, as `dd.mm.yyyy`; by ISO 8601 where it does not say it
+    plainly.
+    """
+    with suppress(locale.Error):
+        locale.setlocale(locale.LC_TIME, "")
+    if (locale.setlocale(locale.LC_TIME) or "C").startswith(("C", "POSIX")):
+        return "yyyy-mm-dd"
+    pattern = locale.nl_langinfo(locale.D_FMT)
+    for sign, letters in {"%d": "dd", "%m": "mm", "%Y": "yyyy", "%y": "yyyy", "%-d": "d"}.items():
+        pattern = pattern.replace(sign, letters)
+    try:
+        date_section(pattern)
+    except ValueError:
+        return "yyyy-mm-dd"
+    return pattern

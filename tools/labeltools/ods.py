@@ -1,0 +1,260 @@
+"""Reads .ods (ISO/IEC 26300)."""
+
+import re
+from dataclasses import dataclass, field
+from datetime import date, datetime
+from decimal import Decimal
+from itertools import chain, groupby
+from typing import Iterator, Mapping
+from xml.etree.ElementTree import Element
+from zipfile import ZipFile
+
+from labeltools.messages import RowError, ToolError, quoted
+from labeltools.number_format import DAY_ZERO, Formatter, date_section, date_text, digits_of
+from labeltools.rows import Cell, Fault, Merge, Row, Special, Truth
+from labeltools.workbook import (
+    LARGEST_ROW,
+    MOST_COLUMNS,
+    NOT_SAVED,
+    NOT_SAVED_HINT,
+    SAVE_AGAIN,
+)
+from labeltools.workbook import (
+    TOO_LARGE,
+    TYPED,
+    Sheet,
+    chosen,
+    elements,
+    exact_of,
+    filled,
+    merges_at,
+)
+from labeltools.workbook import repeats, rows_from, whole
+
+# groups of rows, which may be in one another, and count nothing
+GROUPS = ("table-row-group", "table-header-rows", "table-rows")
+TABLE = "/document-content/body/spreadsheet/table"
+STYLE = "/document-content/automatic-styles/style"
+HEADS = (STYLE, f"{STYLE}/table-properties", TABLE)
+NUMBERS = ("float", "percentage", "currency", "date", "time")
+# white space that counts, by signs that no XML has, and other white space
+SIGNS = {"s": "\0", "tab": "\1", "line-break": "\2"}
+UNSIGNED = {0: " ", 1: "\t", 2: "\n"}
+SPACE = re.compile("[ \t\r\n]+")
+PLAINLY_SHOWN = re.compile(r"[0-9.,'’\s]+(?:E[+][0-9]+)?")
+THOUSANDS = re.compile(r"(?<=[0-9])[.,'’\s](?=(?:[0-9]{3})+(?![0-9]))")
+# they calculate a formula before they save it, so one without a text has none to show
+CALCULATES = ("LibreOffice", "OpenOffice", "Collabora", "NeoOffice")
+
+
+@dataclass(frozen=True, slots=True)
+class Number(Special):
+    """A cell with a number, a date or a time, and the text that is shown.
+
+    `exact` is its number, None for a date; `moment` is the date, as the file has it.
+    """
+
+    value: str
+    text: str
+    exact: Decimal | None
+    moment: str
+    formatter: Formatter
+
+    def shown(self) -> str:
+        """Returns the text that is shown."""
+        pattern = self.formatter.date_as
+        if pattern and self.moment:
+            return date_text(date_section(pattern), days_of(self.moment))
+        return self.text
+
+    def digits(self) -> str:
+        """Returns the digits as they are shown, or else those of the number."""
+        if self.exact is None or not PLAINLY_SHOWN.fullmatch(self.text):
+            raise RowError(f"is shown as {quoted(self.text)}, which is no whole number", TYPED)
+        return self.text if self.text.isdecimal() else digits_of("0", self.exact)
+
+    def data(self) -> str:
+        """Returns the digits, which must be those that are shown; signs between thousands are
+        none.
+        """
+        digits = self.digits()
+        if THOUSANDS.sub("", self.text) != digits:
+            what = f"is shown as {quoted(self.text)}, and would be drawn as {digits}"
+            raise RowError(what, TYPED)
+        return digits
+
+    def count(self) -> str:
+        """Returns the number as it is saved."""
+        return self.value
+
+
+@dataclass
+class Content:
+    """What is known of a file while its content is read."""
+
+    formatter: Formatter
+    is_calculated: bool
+    hidden: set[str] = field(default_factory=set)
+    style: str = ""
+    sheet: tuple[str, bool] = ("", True)
+    number: int = 1
+    merges: list[Merge] = field(default_factory=list)
+
+
+def rows_of_ods(archive: ZipFile, wanted: str | None, formatter: Formatter) -> Iterator[Row]:
+    """Yields the rows of the sheet that is wanted, else of the only one that is visible and has
+    data.
+    """
+    sheets = groupby(sheet_rows(archive, formatter), lambda one: one[0])
+    named = (Sheet(*key, (row for _, row in rows)) for key, rows in sheets)
+    return chosen(named, wanted)
+
+
+def sheet_rows(archive: ZipFile, formatter: Formatter) -> Iterator[tuple[tuple[str, bool], Row]]:
+    """Yields each row behind the name of its sheet, and whether that is visible; an empty one for
+    each sheet.
+    """
+    content = Content(formatter, is_calculated(archive))
+    for element in elements(archive, "content.xml", f"{TABLE}/table-row", HEADS, GROUPS):
+        if element.tag == "table-row":
+            for row in element_rows(element, content):
+                yield content.sheet, row
+        elif element.tag == "style":
+            content.style = element.get("name", "")
+        elif element.tag == "table-properties":
+            if element.get("display") == "false":
+                content.hidden.add(content.style)
+        else:
+            is_visible = element.get("style-name") not in content.hidden
+            content.sheet = (element.get("name", ""), is_visible)
+            content.number = 1
+            content.merges = []
+            yield content.sheet, Row(0, ())
+
+
+def is_calculated(archive: ZipFile) -> bool:
+    """Returns whether the program that wrote a file calculates its formulas before."""
+    if "meta.xml" not in archive.namelist():
+        return False
+    for element in elements(archive, "meta.xml", "/document-meta/meta/generator"):
+        if (element.text or "").startswith(CALCULATES):
+            return True
+    return False
+
+
+def element_rows(element: Element, content: Content) -> Iterator[Row]:
+    """Yields the rows of an element, as often as it is repeated, but none that is empty and not
+    hidden.
+    """
+    number = content.number
+    content.merges = merges_at(content.merges, number)
+    links: dict[int, str] = {}
+    cells = cells_of(element, content, links)
+    is_hidden = element.get("visibility", "visible") != "visible"
+    repeat = repeats(element.attrib, "number-rows-repeated")
+    if is_hidden or any(cells):
+        merges = tuple(content.merges)
+        yield from rows_from(Row(number, cells, None, is_hidden, merges, links), repeat)
+    content.number = number + repeat
+
+
+def cells_of(row: Element, content: Content, links: dict[int, str]) -> list[Cell]:
+    """Returns the cells of a row; adds the merged cells that begin in it, and the addresses that
+    cells lead to.
+    """
+    letters = mark_spaces(row)
+    has_links = next(row.iter("a"), None) is not None
+    cells: list[Cell] = []
+    place = 0
+    for element in row:
+        attributes = element.attrib
+        repeat = repeats(attributes, "number-columns-repeated")
+        if "number-rows-spanned" in attributes or "number-columns-spanned" in attributes:
+            add_merge(attributes, content, place)
+        cell = cell_of(element, content)
+        if cell:
+            length = len(cell) if isinstance(cell, str) else 1
+            letters += length * min(repeat, MOST_COLUMNS)
+            if letters > LARGEST_ROW:
+                raise ToolError(TOO_LARGE, SAVE_AGAIN)
+            if has_links:
+                add_link(element, place, links)
+            filled(cells, place).extend([cell] * min(repeat, MOST_COLUMNS + 1))
+        place = min(place + repeat, MOST_COLUMNS)
+    return cells
+
+
+def mark_spaces(row: Element) -> int:
+    """Puts a sign for each white space that counts into a row; returns how many letters that
+    are.
+    """
+    letters = 0
+    for space in chain.from_iterable(map(row.iter, SIGNS)):
+        count = whole(space.get("c", "1"))
+        letters += count
+        if letters > LARGEST_ROW:
+            raise ToolError(TOO_LARGE, SAVE_AGAIN)
+        space.text = SIGNS[space.tag] * count
+    return letters
+
+
+def add_merge(attributes: Mapping[str, str], content: Content, place: int) -> None:
+    """Adds the merged cells that begin in a cell."""
+    rows = repeats(attributes, "number-rows-spanned")
+    columns = repeats(attributes, "number-columns-spanned")
+    if rows > 1 or columns > 1:
+        number = content.number
+        content.merges.append(Merge(number, place, number + rows - 1, place + columns - 1))
+
+
+def add_link(cell: Element, place: int, links: dict[int, str]) -> None:
+    """Adds the address that a cell leads to, if it has one alone."""
+    addresses = {link.get("href", "") for link in cell.iterfind("p//a")}
+    if len(addresses) == 1:
+        links[place] = addresses.pop()
+
+
+def cell_of(cell: Element, content: Content) -> Cell:
+    """Returns a cell by its type and its text, which is what the spreadsheet shows."""
+    kind = cell.get("value-type", "")
+    text = text_of(cell)
+    if kind in NUMBERS:
+        value = cell.get("value", "")
+        exact = exact_of(value) if value else None
+        moment = cell.get("date-value", "")
+        return Number(value or text, text, exact, moment, content.formatter)
+    if kind == "error":
+        what = f"has {quoted(text)}, which the spreadsheet writes where it has no value to show"
+        return Fault(what, "", text)
+    if kind == "boolean":
+        return Truth(text)
+    if not kind and not text and "formula" in cell.attrib and not content.is_calculated:
+        return Fault(NOT_SAVED, NOT_SAVED_HINT)
+    return text
+
+
+def text_of(cell: Element) -> str:
+    """Returns the text of a cell, without the comments and pictures that it has."""
+    return "\n".join(line_of(line) for line in cell if line.tag == "p").translate(UNSIGNED)
+
+
+def line_of(line: Element) -> str:
+    """Returns a line of a cell; runs of white space are one space."""
+    text = "".join(line.itertext()) if len(line) else line.text or ""
+    if "  " in text or not text.isprintable():
+        text = SPACE.sub(" ", text)
+    return text.strip(" ")
+
+
+def days_of(moment: str) -> Decimal:
+    """Returns a date of the file as spreadsheets count days; raises `RowError`.
+
+    >>> days_of("2026-11-25"), days_of("2026-11-25T12:00:00")
+    (Decimal('46351'), Decimal('46351.5'))
+    """
+    try:
+        found = datetime.fromisoformat(moment)
+    except ValueError:
+        raise RowError(f"has the date {quoted(moment)}, which is none", TYPED) from None
+    past = found - datetime.combine(date.fromordinal(DAY_ZERO.toordinal()), datetime.min.time())
+    return Decimal(past.days) + Decimal(past.seconds) / 86400

@@ -1,0 +1,218 @@
+"""Draws pages of labels and writes them in one of the forms."""
+
+import tempfile
+from dataclasses import dataclass
+from io import BytesIO
+from itertools import islice, repeat
+from pathlib import Path
+from typing import IO, Any, Iterator, Sequence
+
+from labeltools.area import Plan
+from labeltools.files import BLOCK, save, temporary
+from labeltools.forms import ESCPOS, PBM, PDF, PNG, SVG, ZPL, Form
+from labeltools.forms.dots import Picture, drawn_page, pbm, png
+from labeltools.forms.escpos import escpos
+from labeltools.forms.pdf import Paper, drawing
+from labeltools.forms.zpl import zpl
+from labeltools.layout import LaidOut, LaidOutFile
+from labeltools.letters import Fonts, Letters
+from labeltools.messages import Talk
+from labeltools.pen import Medium, Page, Pen
+
+
+@dataclass(frozen=True)
+class PrintJob:
+    """How labels go out: on which sheet, in which form and fonts, from which cell of the first page
+    on; whether ESC/POS cuts after each label, and whether ZPL is compressed.
+    """
+
+    plan: Plan
+    form: Form = PDF
+    fonts: Fonts = Fonts()
+    first: int = 1
+    is_cut: bool = True
+    is_compressed: bool = False
+
+
+@dataclass(frozen=True)
+class Prints:
+    """Labels in their order, and how often each of them is printed."""
+
+    items: Sequence[LaidOut]
+    copies: Sequence[int]
+
+    def __len__(self) -> int:
+        return sum(self.copies)
+
+    def each(self) -> Iterator[LaidOut]:
+        """Yields each label as often as it is printed."""
+        for item, copies in zip(self.items, self.copies):
+            yield from repeat(item, copies)
+
+    def runs(self) -> Iterator[tuple[LaidOut, int]]:
+        """Yields labels that differ from the one before, with how many follow one another that are
+        the same.
+        """
+        last = None
+        count = 0
+        for item, copies in zip(self.items, self.copies):
+            if last is not None and is_same(last, item):
+                count += copies
+                continue
+            if last is not None:
+                yield last, count
+            last = item
+            count = copies
+        if last is not None:
+            yield last, count
+
+
+def with_copies(items: Sequence[LaidOut]) -> Prints:
+    """Returns labels as often as their lines say."""
+    return Prints(items, [item.label.record.label.copies for item in items])
+
+
+def once(items: Sequence[LaidOut]) -> Prints:
+    """Returns labels once each."""
+    return Prints(items, [1] * len(items))
+
+
+def is_same(one: LaidOut, other: LaidOut) -> bool:
+    """Returns whether two labels have the same dots."""
+    is_code = one.label.record.data == other.label.record.data
+    is_drawn = is_code and one.label.modules == other.label.modules
+    return is_drawn and one.label.texts == other.label.texts and one.layout == other.layout
+
+
+class Press:
+    """Draws labels of a file, and writes them in the form of a job.
+
+    A press belongs to the thread that made it. `go_on` of the talk is called for each page and may
+    stop the work.
+    """
+
+    def __init__(self, job: PrintJob, laid_out: LaidOutFile, letters: Letters, talk: Talk) -> None:
+        self.job = job
+        self.letters = letters
+        self.talk = talk
+        area = laid_out.area
+        self.turn = area.height if area.is_turned else 0
+        self.pens = pens_of(job, letters)
+
+    @property
+    def pen(self) -> Pen:
+        """What draws the form of the job."""
+        return self.pens[0]
+
+    def page(self, number: int, prints: Prints) -> Page:
+        """Returns a page by its number, from 0."""
+        places = self.job.plan.places
+        unused = self.job.first - 1
+        start = max(0, number * len(places) - unused)
+        if number == 0:
+            places = places[unused:]
+        return [(item, at) for at, item in zip(places, islice(prints.each(), start, None))]
+
+    def pages(self, prints: Prints) -> Iterator[Page]:
+        """Yields labels in the cells of one page after another."""
+        rest = prints.each()
+        total = len(prints)
+        done = 0
+        places = self.job.plan.places[self.job.first - 1 :]
+        while page := [(item, at) for at, item in zip(places, rest)]:
+            yield page
+            places = self.job.plan.places
+            done += len(page)
+            self.talk.go_on(done, total)
+
+    def draw(self, canvas: Any, page: Page) -> None:
+        """Draws a page on a canvas of Cairo, whose units are dots."""
+        self.pen.draw(canvas, page, self.turn)
+
+    def documents(self, prints: Prints) -> Iterator[IO[bytes]]:
+        """Yields files that are whole by themselves: one PDF, or each page of another form, or each
+        label of ZPL with its number of copies.
+        """
+        if self.job.form == PDF:
+            yield self.drawing([], prints)
+        elif self.job.form == ZPL:
+            done = 0
+            for item, copies in prints.runs():
+                picture = self.picture([(item, self.job.plan.places[0])])
+                yield BytesIO(zpl(picture, copies, self.job.is_compressed))
+                done += copies
+                self.talk.go_on(done, len(prints))
+        else:
+            for number, page in enumerate(self.pages(prints)):
+                yield self.document(page, number == 0)
+
+    def document(self, page: Page, is_first: bool = True) -> IO[bytes]:
+        """Returns a file of one page; `is_first` is whether it begins a job."""
+        form = self.job.form
+        if form in (PDF, SVG):
+            return self.drawing([page], None)
+        picture = self.picture(page)
+        if form == ZPL:
+            return BytesIO(zpl(picture, 1, self.job.is_compressed))
+        if form == ESCPOS:
+            return BytesIO(escpos(picture, is_first, self.job.is_cut))
+        if form == PNG:
+            return BytesIO(png(picture, self.job.plan.dot))
+        assert form == PBM
+        return BytesIO(pbm(picture))
+
+    def drawing(self, pages: Sequence[Page], prints: "Prints | None") -> IO[bytes]:
+        """Returns a drawing of some pages, or of all of them."""
+        paper = Paper(self.job.plan.sheet.page, self.job.plan.dpi, self.turn)
+        with temporary():
+            return drawing(
+                paper,
+                self.pens,
+                lambda: self.pages(prints) if prints is not None else pages,
+                self.job.form == SVG,
+            )
+
+    def picture(self, page: Page) -> Picture:
+        """Returns a page in dots."""
+        return drawn_page(self.job.plan.page, self.pen, page, self.turn)
+
+    def save(self, prints: Prints, path: Path) -> None:
+        """Writes all labels to a file, which has its name once it is whole; raises `OSError`."""
+        with temporary(), Spool() as spool:
+            for document in self.documents(prints):
+                with document as file:
+                    spool.take(file)
+            spool.file.seek(0)
+            save(spool.file, path)
+
+
+class Spool:
+    """A temporary file that takes documents one after another."""
+
+    def __init__(self) -> None:
+        self.file: IO[bytes] = tempfile.TemporaryFile()
+
+    def __enter__(self) -> "Spool":
+        return self
+
+    def __exit__(self, *_: object) -> None:
+        self.file.close()
+
+    def take(self, document: IO[bytes]) -> None:
+        """Adds a document."""
+        while data := document.read(BLOCK):
+            self.file.write(data)
+
+
+def pens_of(job: PrintJob, letters: Letters) -> list[Pen]:
+    """Returns what draws a form: for PDF also pens that draw letters as shapes, for fonts that
+    Cairo cannot embed.
+    """
+    dpi = job.plan.dpi
+    fonts = job.fonts
+    if not job.form.is_drawn:
+        return [Pen(Medium(dpi, True), fonts, letters)]
+    outlines = (frozenset[str](), frozenset({fonts.digits}), frozenset({fonts.digits, fonts.texts}))
+    is_smooth = job.form == SVG
+    wanted = outlines[:1] if is_smooth else outlines
+    return [Pen(Medium(dpi, False, is_smooth, shapes), fonts, letters) for shapes in wanted]

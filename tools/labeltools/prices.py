@@ -1,0 +1,286 @@
+"""What the prices of a column say together, and how they are written anew."""
+
+import re
+from collections import Counter
+from dataclasses import dataclass, field, replace
+from decimal import ROUND_HALF_UP, Decimal
+from typing import Iterator, Mapping, NamedTuple
+
+from labeltools.messages import counted
+from labeltools.money import LOOKS, SPACES, WITH_THREE_DECIMALS, Money, NotMoney, currency_of
+from labeltools.money import is_pair, plain
+
+THOUSANDS_OR_DECIMALS = "may have thousands or decimals"
+SIGN_OF = {"crown": "kr", "EUR": "€", "GBP": "£"}
+ONE_SIGN = {"JPY": "¥", "CNY": "¥"}
+SAME = {("¥", "JPY"), ("¥", "CNY"), ("$", "USD")}
+PATTERN = re.compile(
+    r"""(?P<front>[^0-9#]*?)
+        (?:\#(?P<hash>[.,' ])\#\#)?0
+        (?:(?P<group>[.,' ])000)?
+        (?:(?P<point>[.,])(?P<decimals>0{1,4}|--?|[–—]))?
+        (?P<end>[^0-9#.,'][^0-9#]*)?""",
+    re.VERBOSE,
+)
+
+
+class Said(NamedTuple):
+    """What is said once of a column, and what to do about it."""
+
+    text: str
+    hint: str = ""
+
+
+class Seen(NamedTuple):
+    """Where something was seen: the first row and its text, and in how many rows."""
+
+    row: int
+    text: str
+    rows: int = 1
+
+
+@dataclass
+class PriceColumn:
+    """What the cells of a price column say together.
+
+    `decimal` is the decimal sign where it is known before. `points` and `kinds` are what was seen:
+    each decimal sign, prices that may have thousands or decimals, those with one decimal, and
+    zeros.
+    """
+
+    decimal: str | None = None
+    points: dict[str, Seen] = field(default_factory=dict)
+    kinds: dict[str, Seen] = field(default_factory=dict)
+    groups: set[str] = field(default_factory=set)
+    lengths: Counter[int] = field(default_factory=Counter)
+    currencies: set[str] = field(default_factory=set)
+    has_thousands: bool = False
+
+    def add(self, row: int, price: Money) -> None:
+        """Takes the price of a row."""
+        if price.is_open:
+            see(self.kinds, "open", row, price.text)
+        else:
+            self.lengths[price.decimals] += 1
+            if price.point in (".", ","):
+                see(self.points, price.point, row, price.text)
+            if price.group:
+                self.groups.add(price.group)
+        if price.decimals == 1:
+            see(self.kinds, "short", row, price.text)
+        if not price.value:
+            see(self.kinds, "zero", row, price.text)
+        if price.currency not in ("", "cent"):
+            self.currencies.add(ONE_SIGN.get(price.currency, price.currency))
+        self.has_thousands = self.has_thousands or price.value >= 1000 and not price.group
+
+    @property
+    def point(self) -> str:
+        """The decimal sign that its sure cells have; empty where there is none or two."""
+        if self.decimal:
+            return self.decimal
+        if not self.points and len(self.groups) == 1 and self.groups <= {".", ","}:
+            return "," if "." in self.groups else "."
+        return next(iter(self.points)) if len(self.points) == 1 else ""
+
+    @property
+    def decimals(self) -> int:
+        """How many decimals most cells have."""
+        return self.lengths.most_common(1)[0][0] if self.lengths else 0
+
+    def says(self) -> Iterator[Said]:
+        """Yields what is said once."""
+        if len(self.points) > 1:
+            first, second = list(self.points.values())[:2]
+            both = f"row {first.row} has {first.text} and row {second.row} has {second.text}"
+            yield Said(f"{both}: two decimal signs")
+        if "open" in self.kinds and not self.point:
+            row, text, rows = self.kinds["open"]
+            more = f" and {rows - 1} more" if rows > 1 else ""
+            yield Said(
+                f"{text} in row {row}{more} {THOUSANDS_OR_DECIMALS}", "it is printed as it is"
+            )
+        if "short" in self.kinds:
+            row, text, rows = self.kinds["short"]
+            hint = "give --price-as '0.00', or another pattern, to print two"
+            yield Said(f"row {row} has {text}, one decimal ({counted(rows, 'row')})", hint)
+        if "zero" in self.kinds:
+            row, text, rows = self.kinds["zero"]
+            yield Said(f"row {row} has the price {text} ({counted(rows, 'row')})")
+        if len(self.currencies) > 1:
+            listed = ", ".join(sorted(self.currencies))
+            yield Said(f"the prices have several currencies: {listed}")
+
+
+def see(found: dict[str, Seen], kind: str, row: int, text: str) -> None:
+    """Counts what was seen in a row."""
+    before = found.get(kind)
+    found[kind] = Seen(before.row, before.text, before.rows + 1) if before else Seen(row, text)
+
+
+def column_of(prices: Mapping[int, Money], decimal: str | None = None) -> PriceColumn:
+    """Returns what prices say together, by their rows; `decimal` is a sign that is known.
+
+    >>> from labeltools.money import parse
+    >>> column_of({2: parse("1.234"), 3: parse("0,80")}).point
+    ','
+    >>> [said.text for said in column_of({2: parse("1.234"), 3: parse("5.678")}).says()]
+    ['1.234 in row 2 and 1 more may have thousands or decimals']
+    >>> [said.text for said in column_of({2: parse("1,50"), 3: parse("1.50")}).says()]
+    ['row 2 has 1,50 and row 3 has 1.50: two decimal signs']
+    """
+    column = PriceColumn(decimal)
+    for row, price in prices.items():
+        column.add(row, price)
+    return column
+
+
+def settled(price: Money, column: PriceColumn) -> Money:
+    """Returns an open price as its column reads it; raises `NotMoney` where the column does not say
+    it.
+
+    >>> from labeltools.money import parse
+    >>> prices = {2: parse("1.234"), 3: parse("0,80")}
+    >>> settled(prices[2], column_of(prices)).value
+    Decimal('1234')
+    >>> prices = {2: parse("1.005"), 3: parse("0.80")}
+    >>> settled(prices[2], column_of(prices))
+    Traceback (most recent call last):
+    labeltools.money.NotMoney: has three digits behind ., which is the decimal sign of its column
+    >>> settled(prices[2], column_of({**prices, 4: parse("1234.50")})).value
+    Decimal('1.005')
+    """
+    if not price.is_open:
+        return price
+    if not column.point:
+        raise NotMoney(THOUSANDS_OR_DECIMALS, "give --decimal , or --decimal .")
+    if column.point != price.group:
+        return replace(price, is_open=False)
+    is_known = column.decimals == 3 or column.has_thousands or price.currency in WITH_THREE_DECIMALS
+    if not is_known:
+        sign = "which is the decimal sign of its column"
+        raise NotMoney(f"has three digits behind {price.group}, {sign}")
+    value = price.value / 1000
+    return replace(price, value=value, point=price.group, group="", decimals=3, is_open=False)
+
+
+@dataclass(frozen=True)
+class PricePattern:
+    """How prices are printed: `0,00 €`, `CHF 0'000.00`, `0.000,00 ¤`, `0,–`; ¤ is the currency of
+    the row.
+    """
+
+    front: str
+    group: str
+    point: str
+    decimals: int
+    dash: str
+    end: str
+
+    @classmethod
+    def of(cls, text: str) -> "PricePattern":
+        """Returns a pattern; raises ValueError. A sign with three zeros behind it and no other is
+        one of thousands.
+
+        >>> PricePattern.of("0.000,00 €")
+        PricePattern(front='', group='.', point=',', decimals=2, dash='', end=' €')
+        >>> PricePattern.of("¥0,000").group, PricePattern.of("0,–").dash
+        (',', '–')
+        """
+        found = PATTERN.fullmatch(text.translate(dict.fromkeys(map(ord, SPACES[:-1]), " ")))
+        if not found or (found["group"] or found["hash"]) == found["point"] is not None:
+            raise ValueError(f"{text!r} is no pattern as '0,00 €'")
+        front = text[: len(found["front"])]
+        end = text[len(text) - len(found["end"] or "") :]
+        check_currencies(text, front, end)
+        behind = found["decimals"] or ""
+        dash = "" if "0" in behind else behind
+        group = found["group"] or found["hash"] or ""
+        if group == " ":  # it may be a narrow one
+            inside = text[len(front) : len(text) - len(end)]
+            group = next(sign for sign in inside if LOOKS.get(sign, sign) == " ")
+        return cls(front, group, found["point"] or "", behind.count("0"), dash, end)
+
+    @property
+    def currency(self) -> str:
+        """The currency of the pattern as it is written, which may be ¤ or empty."""
+        return self.front.strip() + self.end.strip()
+
+    def write(self, price: Money, currency: str = "") -> str:
+        """Returns a price as it is printed; raises `NotMoney` where it would be another price.
+
+        `currency` is that of the row, where it has one in a column of its own.
+
+        >>> from labeltools.money import parse
+        >>> write = PricePattern.of("0.000,00 €").write
+        >>> write(parse("7.5")), write(parse("1,234.565")), write(parse("99 ct"))
+        ('7,50 €', '1.234,57 €', '0,99 €')
+        >>> PricePattern.of("0,– ¤").write(parse("4.00"), "CHF")
+        '4,– CHF'
+        >>> PricePattern.of("¤ 0,00").write(parse("3 kr."))
+        'kr 3,00'
+        >>> write(parse("8.330000000000002 €", most_decimals=17))
+        '8,33 €'
+        >>> write(parse("$3"))
+        Traceback (most recent call last):
+        labeltools.money.NotMoney: has $, and the pattern of prices has EUR
+        >>> PricePattern.of("0 €").write(parse("4,99"))
+        Traceback (most recent call last):
+        labeltools.money.NotMoney: has decimals, and the pattern of prices has none
+        """
+        if price.is_open:
+            raise NotMoney(THOUSANDS_OR_DECIMALS, "give --decimal , or --decimal .")
+        if price.words or price.count != 1:
+            raise NotMoney("has words, which the pattern of prices would lose")
+        self.check_currency(price, currency)
+        shown = price.value.quantize(Decimal(1).scaleb(-self.decimals), ROUND_HALF_UP)
+        if self.decimals < 2 and shown != price.value:
+            raise NotMoney("has decimals, and the pattern of prices has none")
+        if not shown and price.value:
+            raise NotMoney("would be printed as zero")
+        own = currency or SIGN_OF.get(price.currency, price.currency)
+        number = (self.front + self.number(shown) + self.end).replace("¤", own)
+        unit = f" {price.unit}".replace(" /", "/") if price.unit else ""
+        return f"{price.basis}{number}{unit}{price.end}"
+
+    def number(self, shown: Decimal) -> str:
+        """Returns a rounded number with the signs of the pattern."""
+        whole, _, decimals = f"{shown:,f}".partition(".")
+        behind = self.point + (self.dash or decimals) if self.point else ""
+        return whole.replace(",", self.group) + behind
+
+    def check_currency(self, price: Money, currency: str) -> None:
+        """Raises `NotMoney` where a price has another currency than the pattern, or none where it
+        wants one.
+        """
+        own = self.currency
+        row = currency_of(plain(currency), plain(currency)) if currency else ""
+        if (
+            currency
+            and price.currency not in ("", "cent")
+            and not is_same(price.currency, row or "")
+        ):
+            raise NotMoney(f"has {price.currency}, and its row has {currency}")
+        found = row or price.currency
+        wanted = currency_of(plain(own)) if own not in ("", "¤") else ""
+        has_one = found not in ("", "cent")
+        if has_one and wanted and not is_same(found, wanted):
+            raise NotMoney(f"has {found}, and the pattern of prices has {wanted}")
+        if "¤" in own and not has_one:
+            raise NotMoney("has no currency, and the pattern of prices wants one")
+        if not own and found:
+            raise NotMoney(f"has {found}, and the pattern of prices has no currency")
+
+
+def check_currencies(text: str, front: str, end: str) -> None:
+    """Raises ValueError where a pattern has what is no currency, or two."""
+    for one in (front.strip(), end.strip()):
+        if one not in ("", "¤") and currency_of(plain(one)) is None:
+            raise ValueError(f"{one!r} in {text!r} is no currency")
+    if front.strip() and end.strip():
+        raise ValueError(f"{text!r} has two currencies")
+
+
+def is_same(one: str, other: str) -> bool:
+    """Returns whether two currencies may be one."""
+    return one == other or (one, other) in SAME or (other, one) in SAME or is_pair(one, other)

@@ -1,0 +1,351 @@
+"""Prints the lines of label-table, or of labels(1), for sheets, printers and screens. Lengths are
+in millimetres.
+"""
+
+import argparse
+import re
+import sys
+import tempfile
+import time
+from pathlib import Path
+from typing import Any, Callable, Iterable, Optional
+
+from labeltools.area import DESIGNS
+from labeltools.command_line import (
+    CommandTalk,
+    Parser,
+    hold_signals,
+    read_input,
+    standard_output,
+)
+from labeltools.engine import option_words
+from labeltools.files import save, send, temporary
+from labeltools.forms import FORMS
+from labeltools.layout import LaidOut
+from labeltools.messages import BAD_ARGUMENTS, ToolError, counted, write_message
+from labeltools.press import PrintJob, Press, Prints, once, with_copies
+from labeltools.print_job import (
+    DRAWING_DPI,
+    Prepared,
+    PrintOptions,
+    drawn_lines,
+    planned,
+    prepared,
+)
+from labeltools.printer import check_queue, lp_words, print_by, typed
+from labeltools.report import report
+from labeltools.stock import forget, list_stock
+
+TOOL = "label-print"
+MOST_NAME = 100  # letters of the data in the name of a file
+MOST_ROWS = 1_048_576
+MOST_LABELS = 1_000_000  # of one run, with copies
+# seconds after which progress is shown, and between two times that it is
+QUIET = 2.0
+BETWEEN = 0.2
+NUMBER = r"-?\d{1,4}(?:\.\d{1,4})?"
+ROWS = re.compile(r"\d{1,7}(?:-\d{1,7})?(?:,\d{1,7}(?:-\d{1,7})?)*", re.ASCII)
+NUMBERED = re.compile(r"%(0?\d?)d|%s")
+
+
+class PrintTalk(CommandTalk):
+    """The talk of label-print: it shows on a terminal how many labels are done, where that takes
+    long.
+    """
+
+    def __init__(self) -> None:
+        super().__init__(TOOL)
+        self.next_time = time.monotonic() + QUIET
+        self.is_shown = False
+
+    def go_on(self, done: int, total: int) -> None:
+        """Shows progress."""
+        is_last = self.is_shown and done == total
+        if not done or not total or not sys.stderr.isatty():
+            return
+        if time.monotonic() >= self.next_time or is_last:
+            self.is_shown = True
+            self.next_time = time.monotonic() + BETWEEN
+            end = "\n" if done == total else ""
+            print(f"\r{TOOL}: {done} of {total} labels", end=end, file=sys.stderr, flush=True)
+
+
+def reads(example: str, least: float = 0.0, kind: type = float) -> Callable[[str], Any]:
+    """Returns what reads numbers, from `least` on, that are written as in an example."""
+    pattern = re.compile(re.sub(NUMBER, lambda _: f"({NUMBER})", example), re.ASCII)
+
+    def number(argument: str) -> Any:
+        match = pattern.fullmatch(argument)
+        numbers = [kind(number) for number in match.groups()] if match else []
+        if not numbers or min(numbers) < least:
+            raise argparse.ArgumentTypeError(f"{argument!r} is not as {example}")
+        return tuple(numbers) if len(numbers) > 1 else numbers[0]
+
+    return number
+
+
+def edges(argument: str) -> tuple[float, float, float, float]:
+    """Returns the edges of one number for all, or of four."""
+    numbers = reads("5,5,5,5")(argument) if "," in argument else (reads("5")(argument),) * 4
+    left, top, right, bottom = numbers
+    return left, top, right, bottom
+
+
+def rows(argument: str) -> frozenset[int]:
+    """Returns the rows of ranges such as 2,7-9."""
+    if not ROWS.fullmatch(argument):
+        raise argparse.ArgumentTypeError(f"{argument!r} is not as 2,7-9")
+    found: set[int] = set()
+    for part in argument.split(","):
+        first, _, last = part.partition("-")
+        found.update(range(int(first), min(int(last or first), MOST_ROWS) + 1))
+    return frozenset(found)
+
+
+def command_line() -> Parser:
+    """Returns the arguments; their names are those of `PrintOptions`."""
+    parser = Parser(TOOL, None, __doc__, allow_abbrev=False)
+    add_sheet_options(parser)
+    add_size_options(parser)
+    add_choice_options(parser)
+    add_output_options(parser)
+    add = parser.add_argument
+    lines = "the file of label-table, or lines (standard input)"
+    add("lines", metavar="LINES", nargs="?", help=lines)
+    return parser
+
+
+def add_sheet_options(parser: argparse.ArgumentParser) -> None:
+    """Adds the options of the paper."""
+    count = reads("3", 1, int)
+    size = reads("63x38", 0.0001)
+    one = parser.add_mutually_exclusive_group(required=True).add_argument
+    stock = "the sheet of labels by its name, such as 'Avery L7160' or l7160"
+    one("--stock", metavar="NAME", help=stock)
+    one("--list-stock", metavar="WORD", help="list the sheets that have these words or this size")
+    paper = "one label on each page of this size, as on a roll"
+    one("--paper", metavar="WxH", type=size, help=paper)
+    cell = "a grid, with --columns and --rows: the size of a cell"
+    one("--cell", metavar="WxH", type=size, help=cell)
+    add = parser.add_argument
+    add("--columns", metavar="N", type=count, help="cells side by side")
+    add("--rows", metavar="N", type=count, help="cells below one another")
+    page = "the size of the page (210x297)"
+    add("--page", metavar="WxH", type=size, default=PrintOptions.page, help=page)
+    margin = "where the first cell begins (all are in the middle)"
+    add("--margin", metavar="LEFTxTOP", type=reads("7x15"), help=margin)
+    gap = "between two cells (0x0)"
+    add("--gap", metavar="XxY", type=reads("7x15"), default=PrintOptions.gap, help=gap)
+    edge = "white at the edges of a page: one for all, or left,top,right,bottom (5; of a roll 0)"
+    add("--edge", metavar="MM", type=edges, help=edge)
+    shift = "move all, for a printer that feeds askew"
+    move = reads("-0.5,1", -10000)
+    add("--shift", metavar="X,Y", type=move, default=PrintOptions.shift, help=shift)
+
+
+def add_size_options(parser: argparse.ArgumentParser) -> None:
+    """Adds the options of how labels look."""
+    add = parser.add_argument
+    length = reads("38.1", 0.0001)
+    design = "article: bars for a till (the default); shelf: a large price"
+    add("--design", choices=tuple(DESIGNS), default=PrintOptions.design, help=design)
+    turn = parser.add_mutually_exclusive_group().add_argument
+    turned = "turn labels to the right (they are where more of them fit so)"
+    turn("--turn", action="store_const", const=True, help=turned)
+    turn("--no-turn", action="store_const", const=False, dest="turn", help="never turn labels")
+    module = "the narrowest bar, or a square of QR (what fits best)"
+    add("--module", metavar="MM", type=length, help=module)
+    add("--height", metavar="MM", type=length, help="the height of bars (what fits best)")
+    note = "a line of text for all labels, such as a date"
+    add("--note", metavar="TEXT", default=PrintOptions.note, help=note)
+    font = "of titles, texts and prices (DejaVu Sans)"
+    add("--font", metavar="NAME", default=PrintOptions.font, help=font)
+    digits = "the font below bars (DejaVu Sans Mono)"
+    add("--digits", metavar="NAME", default=PrintOptions.digits, help=digits)
+
+
+def add_choice_options(parser: argparse.ArgumentParser) -> None:
+    """Adds the options of which labels are printed, and from which lines."""
+    add = parser.add_argument
+    first = "begin at this cell of the first page (1)"
+    count = reads("3", 1, int)
+    add("--first", metavar="N", type=count, default=PrintOptions.first, help=first)
+    only = "print these rows of the table alone, such as 2,7-9"
+    add("--only", metavar="ROWS", type=rows, help=only)
+    options = "options of labels, such as '--level H'"
+    add("--labels", metavar="WORDS", type=option_words, dest="words", default=(), help=options)
+    read = "read each label as it is drawn, before anything goes out"
+    add("--read-back", action="store_true", help=read)
+
+
+def add_output_options(parser: argparse.ArgumentParser) -> None:
+    """Adds the options of where labels go, and in which form."""
+    add = parser.add_argument
+    count = reads("3", 1, int)
+    add("--to", metavar="FORM", choices=tuple(FORMS), help=f"{', '.join(FORMS)} (pdf)")
+    dpi = f"dots an inch of the printer (pdf and svg: {DRAWING_DPI})"
+    add("--dpi", metavar="N", type=count, help=dpi)
+    out = parser.add_mutually_exclusive_group().add_argument
+    out("--each", metavar="NAME", help="a file for each label: %%d is its number, %%s its data")
+    queue = "print on this queue of CUPS, in place of standard output"
+    out("--print", metavar="QUEUE", dest="queue", help=queue)
+    dots = "escpos: dots across the paper (576)"
+    add("--dots", metavar="N", type=count, default=PrintOptions.dots, help=dots)
+    cut = "escpos: do not cut after each label"
+    add("--no-cut", action="store_false", dest="is_cut", help=cut)
+    packed = "zpl: a third of the bytes, for printers that know :Z64:"
+    add("--compress", action="store_true", dest="is_compressed", help=packed)
+    summary = "say what was written and how it is printed (on a terminal always)"
+    add("--summary", action="store_true", help=summary)
+
+
+def paths_of(items: Iterable[LaidOut], name: str) -> list[Path]:
+    """Returns the file of each label, in a folder that is new or empty; raises `ToolError` where
+    two would be one.
+    """
+    folder = Path(name).parent
+    if folder == Path() or "%" in str(folder):
+        raise ToolError("--each", "name a folder for the files, as in labels/%s.png")
+    paths: dict[str, Path] = {}
+    for number, item in enumerate(items, 1):
+        path = Path(file_name(name, number, item.label.record.data))
+        if paths.setdefault(path.name.lower(), path) is not path:
+            raise ToolError(f"--each: two labels would be the file {path}", "put %d into the name")
+    folder.mkdir(parents=True, exist_ok=True)
+    if any(folder.iterdir()):
+        what = f"--each: the folder {folder} is not empty"
+        raise ToolError(what, "old labels would be among the new ones")
+    return list(paths.values())
+
+
+def file_name(name: str, number: int, data: bytes) -> str:
+    """Returns the name of the file of a label."""
+    text = data.decode("latin-1")
+    safe = re.sub(r"[^\w.-]|^[.-]", "_", text, flags=re.ASCII)[:MOST_NAME]
+
+    def part(match: re.Match[str]) -> str:
+        return safe if match[0] == "%s" else f"{number:{match[1]}d}"
+
+    return NUMBERED.sub(part, name)
+
+
+def write(press: Press, prints: Prints) -> None:
+    """Writes labels to standard output. A signal waits for the end of a document."""
+    output = standard_output().fileno()
+    for document in press.documents(prints):
+        with document as file, hold_signals():
+            send(file, output)
+
+
+def write_files(press: Press, items: Iterable[LaidOut], paths: Iterable[Path]) -> None:
+    """Writes each label into its file."""
+    at = press.job.plan.places[0]
+    for number, (item, path) in enumerate(zip(items, paths), 1):
+        with press.document([(item, at)]) as file, hold_signals():
+            save(file, path, number)
+        press.talk.go_on(number, 0)
+
+
+def print_on(press: Press, prints: Prints, queue: str) -> str:
+    """Prints labels on a queue of CUPS and returns what lp(1) says."""
+    with temporary(), tempfile.TemporaryFile() as whole:
+        for document in press.documents(prints):
+            with document as file:
+                whole.write(file.read())
+        whole.flush()
+        whole.seek(0)
+        return print_by(press.job, queue, whole)
+
+
+def say(found: Prepared) -> None:
+    """Writes why labels are left out, and what else is to be said of the others."""
+    for message in [*report(found.left_out, found.tables), *found.remarks]:
+        write_message(TOOL, message)
+
+
+def check_count(job: PrintJob, prints: Prints, is_each: bool) -> None:
+    """Raises `ToolError` where there are no labels, or more than one run or one file takes."""
+    if not prints.items:
+        raise ToolError("there is no label to print")
+    count = len(prints)
+    if count > MOST_LABELS:
+        hint = "print a part of them by --only"
+        raise ToolError(f"{count:,} labels with their copies: {MOST_LABELS:,} are the most", hint)
+    if job.form.is_one_page and not is_each and count + job.first - 1 > len(job.plan.places):
+        hint = "print fewer labels by --only, or a file of each by --each"
+        raise ToolError(f"--to {job.form.name} has one page", hint)
+
+
+def summary_of(job: PrintJob, prints: Prints) -> str:
+    """Returns what was written, and the line that prints it."""
+    text = counted(len(prints), "label")
+    if not job.form.is_roll:
+        pages = -(-(len(prints) + job.first - 1) // len(job.plan.places))
+        text += f" on {counted(pages, 'page')}"
+    if lp_words(job, "NAME"):
+        text += f"; print the file by: {typed(job, 'NAME')}"
+    return text
+
+
+def options_of(arguments: argparse.Namespace) -> PrintOptions:
+    """Returns the options that the arguments are."""
+    names = PrintOptions.__dataclass_fields__
+    return PrintOptions(**{name: value for name, value in vars(arguments).items() if name in names})
+
+
+def listed(wanted: str) -> int:
+    """Writes the sheets that have some words; returns the status."""
+    lines = list(list_stock(wanted))
+    if not lines:
+        hint = "try a part of the name, or the size of a cell, such as 70x37"
+        write_message(TOOL, f"no sheet has all of these words: {wanted}: {hint}")
+        return 1
+    print(*lines, sep="\n")
+    return 0
+
+
+def run() -> int:
+    """Returns 0 where each label is printed, 1 where one is left out."""
+    arguments = command_line().parse_args()
+    options = options_of(arguments)
+    if arguments.list_stock is not None:
+        return listed(arguments.list_stock)
+    job = planned(options)
+    forget()
+    queue: Optional[str] = arguments.queue
+    if queue is not None:
+        require_printable(job, queue)
+    elif options.each is None:
+        standard_output()  # a closed one is said before the input is read
+    talk = PrintTalk()
+    found = found_labels(options, job, arguments.lines, talk)
+    say(found)
+    press = Press(job, found.laid_out, found.letters, talk)
+    items = found.laid_out.labels
+    prints = with_copies(items) if options.each is None else once(items)
+    check_count(job, prints, options.each is not None)
+    if options.each is not None:
+        write_files(press, items, paths_of(items, options.each))
+    elif queue is not None:
+        write_message(TOOL, print_on(press, prints, queue))
+    else:
+        write(press, prints)
+        if arguments.summary or sys.stderr.isatty():
+            write_message(TOOL, summary_of(job, prints))
+    return 1 if found.left_out else 0
+
+
+def found_labels(
+    options: PrintOptions, job: PrintJob, path: Optional[str], talk: PrintTalk
+) -> Prepared:
+    """Returns the labels of a file, or of standard input; what was read is freed."""
+    lines = drawn_lines(options, *read_input(path), talk)
+    return prepared(options, job, lines, talk)
+
+
+def require_printable(job: PrintJob, queue: str) -> None:
+    """Raises `ToolError` where a queue cannot print a job."""
+    if lp_words(job, queue) is None:
+        what = f"--print: printers do not take {job.form.name}"
+        raise ToolError(what, "give --to pdf, zpl or escpos", BAD_ARGUMENTS)
+    check_queue(job, queue)

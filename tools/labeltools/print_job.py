@@ -1,0 +1,315 @@
+"""What label-print is asked for, and from lines to labels that are laid out.
+
+    options = PrintOptions(paper=(60.0, 40.0), dpi=203, to="zpl")
+    job = planned(options)
+    prepared = labels_of(options, job, "articles.lines", data, talk)
+    press = Press(job, prepared.laid_out, prepared.letters, talk)
+    press.save(with_copies(prepared.laid_out.labels), Path("labels.zpl"))
+"""
+
+from dataclasses import dataclass, replace
+from typing import Iterable, Mapping, Optional, Sequence
+
+from labeltools.area import ARTICLE, DESIGNS, Edges, Wishes, plan_of
+from labeltools.engine import Drawn, run_labels
+from labeltools.forms import ESCPOS, FORMS, PDF, Form
+from labeltools.layout import LaidOut, LaidOutFile, PrintLabel, lay_out, print_label
+from labeltools.letters import Fonts, Letters
+from labeltools.lines_file import UNPRINTABLE, LinesFile, read_lines
+from labeltools.messages import BAD_ARGUMENTS, Place, Talk, ToolError
+from labeltools.pen import Medium, Pen
+from labeltools.press import PrintJob, pens_of
+from labeltools.read_back import fault_of
+from labeltools.report import LeftOut, places_text
+from labeltools.stock import Grid, Sheet, Size, grid_sheet, stock_sheet
+
+A4 = (210.0, 297.0)
+EDGE = 5.0  # millimetres at the edge of a page of several labels where most printers print nothing
+DRAWING_DPI = 600
+MOST_DPI = 2400
+WORKBOOK = b"PK\x03\x04"  # what .xlsx and .ods begin with
+UNKNOWN = "unknown symbology"  # what labels(1) says
+TABLE_FIRST = "a table goes through label-table first"
+DENSE = 0.33  # millimetres: modules of QR below it are said
+ASKED = 256  # labels between two calls of `go_on`
+
+
+@dataclass(frozen=True)
+class PrintOptions:
+    """What is asked for. Lengths are in millimetres; None is what suits the form and the paper.
+
+    One of `stock`, `paper` and `cell` names the sheet. `only` are rows of the table, or lines where
+    no rows are known; `note` is a line of text for all labels; `words` are options of labels(1).
+    """
+
+    stock: Optional[str] = None
+    paper: Optional[Size] = None
+    cell: Optional[Size] = None
+    columns: Optional[int] = None
+    rows: Optional[int] = None
+    page: Size = A4
+    margin: Optional[Size] = None
+    gap: Size = (0.0, 0.0)
+    to: Optional[str] = None
+    dpi: Optional[int] = None
+    module: Optional[float] = None
+    height: Optional[float] = None
+    design: str = ARTICLE.name
+    turn: Optional[bool] = None
+    edge: Optional[Edges] = None
+    shift: Size = (0.0, 0.0)
+    first: int = 1
+    only: Optional[frozenset[int]] = None
+    each: Optional[str] = None
+    font: str = Fonts.texts
+    digits: str = Fonts.digits
+    words: tuple[str, ...] = ()
+    note: str = ""
+    dots: int = 576
+    is_cut: bool = True
+    is_compressed: bool = False
+    read_back: bool = False
+
+
+@dataclass(frozen=True)
+class Prepared:
+    """The labels of a file that can be printed, with their layouts; those that cannot; what else is
+    to be said; the tables that they are from; what measures their letters.
+    """
+
+    laid_out: LaidOutFile
+    left_out: tuple[LeftOut, ...]
+    remarks: tuple[str, ...]
+    tables: frozenset[str]
+    letters: Letters
+
+
+def planned(options: PrintOptions) -> PrintJob:
+    """Returns how labels go out; raises `ToolError` where options do not go together."""
+    form = form_of(options)
+    if not form.is_drawn and not options.dpi:
+        hint = "the dots an inch of the printer, such as 203 or 300"
+        raise ToolError(f"--to {form.name} needs --dpi", hint, BAD_ARGUMENTS)
+    dpi = options.dpi or DRAWING_DPI
+    if dpi > MOST_DPI:
+        raise ToolError(f"--dpi {dpi}: {MOST_DPI} are the most", status=BAD_ARGUMENTS)
+    for name in ("note", "font", "digits", "stock"):
+        if UNPRINTABLE.search(getattr(options, name) or ""):
+            raise ToolError(f"--{name} has characters that are no text", status=BAD_ARGUMENTS)
+    sheet = sheet_of(options, form)
+    edges = options.edge
+    if edges is None:
+        edge = 0.0 if sheet.is_single else EDGE
+        edges = edge, edge, edge, edge
+    wishes = Wishes(
+        DESIGNS[options.design],
+        options.module,
+        options.height,
+        options.turn,
+        options.paper is not None,
+    )
+    plan = plan_of(sheet, dpi, edges, wishes)
+    if form == ESCPOS and plan.page[0] > options.dots:
+        what = f"a label has {plan.page[0]} dots, and the printer has {options.dots} (--dots)"
+        raise ToolError(what, status=BAD_ARGUMENTS)
+    fonts = Fonts(options.font, options.digits)
+    return PrintJob(plan, form, fonts, options.first, options.is_cut, options.is_compressed)
+
+
+def form_of(options: PrintOptions) -> Form:
+    """Returns the form that is asked for, or that the names of files say."""
+    if options.to:
+        return FORMS[options.to]
+    named = (form for form in FORMS.values() if str(options.each).endswith(f".{form.name}"))
+    return next(named, PDF)
+
+
+def sheet_of(options: PrintOptions, form: Form) -> Sheet:
+    """Returns the sheet that the options name, or a page of one of its cells where each label is a
+    page; raises `ToolError` where they do not agree.
+    """
+    sheet = named_sheet(options)
+    is_page = options.each is not None or form.is_roll
+    places = ((0.0, 0.0),) if is_page else sheet.places
+    if options.first > len(places):
+        what = f"--first {options.first}: a page has {len(places)} labels"
+        raise ToolError(what, status=BAD_ARGUMENTS)
+    x, y = options.shift
+    shifted = tuple((left + x, top + y) for left, top in places)
+    return replace(sheet, page=sheet.cell if is_page else sheet.page, places=shifted)
+
+
+def named_sheet(options: PrintOptions) -> Sheet:
+    """Returns the whole sheet that the options name."""
+    if options.stock is not None:
+        return stock_sheet(options.stock)
+    if options.paper:
+        return Sheet(options.paper, options.paper, ((0.0, 0.0),))
+    if not options.cell or not options.columns or not options.rows:
+        raise ToolError("a grid needs --columns, --rows and --cell", status=BAD_ARGUMENTS)
+    grid = Grid(
+        options.page, options.cell, options.columns, options.rows, options.margin, options.gap
+    )
+    return grid_sheet(grid)
+
+
+def labels_of(options: PrintOptions, job: PrintJob, name: str, data: bytes, talk: Talk) -> Prepared:
+    """Returns the labels of a file of lines, laid out alike whether all or some of them are
+    printed.
+
+    Raises `ToolError` where the file is not whole, a font is not there, or labels(1) fails, and
+    what `talk.go_on` raises.
+    """
+    return prepared(options, job, drawn_lines(options, name, data, talk), talk)
+
+
+@dataclass(frozen=True)
+class DrawnLines:
+    """The lines of a file, and what labels(1) made of them."""
+
+    lines: LinesFile
+    drawn: Drawn
+
+
+def drawn_lines(options: PrintOptions, name: str, data: bytes, talk: Talk) -> DrawnLines:
+    """Returns the lines of a file with the modules of their codes; raises what `labels_of` does."""
+    if data.startswith(WORKBOOK):
+        raise ToolError(f"{name} is a workbook", TABLE_FIRST)
+    lines = read_lines(data, name, "--escapes" in options.words)
+    drawn = run_labels(data, options.words, talk)
+    if not drawn.pictures and set(drawn.refused.values()) == {UNKNOWN}:
+        raise ToolError(f"{name}: no line begins with a symbology, such as ean13", TABLE_FIRST)
+    return DrawnLines(lines, drawn)
+
+
+def prepared(options: PrintOptions, job: PrintJob, found: DrawnLines, talk: Talk) -> Prepared:
+    """Returns the labels of lines that labels(1) has drawn, laid out."""
+    lines = found.lines
+    drawn = found.drawn
+    letters = Letters(job.fonts)
+    labels = drawn_labels(lines, drawn, options.note)
+    reasons: dict[int, str] = dict(drawn.refused)
+    reasons.update(letters.missing(labels))
+    if reasons:
+        labels = [label for label in labels if label.record.number not in reasons]
+    laid_out = lay_out(labels, job.plan.area, letters, talk)
+    reasons.update(laid_out.left_out)
+    wanted = only_wanted(laid_out.labels, options.only)
+    if options.read_back:
+        reasons.update(faults(wanted, laid_out, job, letters, talk))
+        wanted = [item for item in wanted if item.label.record.number not in reasons]
+    left_out = list(without_line(lines, options.only))
+    left_out += refused_labels(lines, reasons, options.only)
+    tables = frozenset(record.table for record in lines.records if record.table)
+    remarks = tuple(remarks_on(wanted, laid_out, len(tables) > 1, pens_of(job, letters)[0]))
+    laid_out = replace(laid_out, labels=tuple(wanted))
+    return Prepared(laid_out, tuple(left_out), remarks, tables, letters)
+
+
+def drawn_labels(lines: LinesFile, drawn: Drawn, note: str) -> list[PrintLabel]:
+    """Returns the labels of the lines that labels(1) drew, but those of which none is printed."""
+    labels = []
+    for record in lines.records:
+        modules = drawn.pictures.get(record.number)
+        if modules is not None and record.label.copies:
+            labels.append(print_label(record, modules, note))
+    return labels
+
+
+def without_line(lines: LinesFile, only: Optional[frozenset[int]]) -> Iterable[LeftOut]:
+    """Yields what is not printed without a line of its own: rows that are asked for and not there,
+    and those that label-table left out.
+    """
+    named = list(lines.left_out)
+    count = lines.left_out_count
+    if only is not None:
+        known = {record.place.number for record in lines.records}
+        known.update(place.number for place in named)
+        for row in sorted(only - known):
+            yield LeftOut(Place("", "row", row), "", "of --only, but not in the input")
+        named = [place for place in named if place.number in only]
+        count = len(named)
+    reason = "left out by label-table"
+    if count > len(named):
+        reason += f", and {count - len(named)} rows more"
+    for place in named:
+        yield LeftOut(place, "", reason)
+    if count and not named:
+        yield LeftOut(None, "", reason)
+
+
+def only_wanted(items: Sequence[LaidOut], only: Optional[frozenset[int]]) -> list[LaidOut]:
+    """Returns the labels of the rows that are asked for."""
+    return [item for item in items if is_wanted(item.label.record.place, only)]
+
+
+def is_wanted(place: Place, only: Optional[frozenset[int]]) -> bool:
+    """Returns whether a row is printed."""
+    return only is None or place.number in only
+
+
+def refused_labels(
+    lines: LinesFile, reasons: Mapping[int, str], only: Optional[frozenset[int]]
+) -> Iterable[LeftOut]:
+    """Yields the lines that are not printed, with their reasons."""
+    for record in lines.records:
+        reason = reasons.get(record.number)
+        if reason is not None and is_wanted(record.place, only):
+            data = record.data.decode("utf-8", "backslashreplace")
+            yield LeftOut(record.place, data, reason)
+
+
+def faults(
+    items: Sequence[LaidOut], laid_out: LaidOutFile, job: PrintJob, letters: Letters, talk: Talk
+) -> dict[int, str]:
+    """Returns what is wrong with labels as they are drawn, by the numbers of their lines."""
+    pen = Pen(Medium(job.plan.dpi, True), job.fonts, letters)
+    found = {}
+    for done, item in enumerate(items):
+        if done % ASKED == 0:
+            talk.go_on(done, len(items))
+        fault = fault_of(item, laid_out.area, pen)
+        if fault is not None:
+            found[item.label.record.number] = fault
+    return found
+
+
+def remarks_on(
+    items: Sequence[LaidOut], laid_out: LaidOutFile, has_tables: bool, pen: Pen
+) -> Iterable[str]:
+    """Yields what is to be said of labels that are printed, each once for a file."""
+    dot = laid_out.area.dot
+    if laid_out.area.wishes.design == ARTICLE:
+        low = [item for item in items if has_low_bars(item)]
+        if low:
+            bars = min(item.layout.boxes["bars"].height for item in low) * dot
+            hint = "hand scanners read them, a till that reads in all directions may not"
+            yield f"{places_of(low, has_tables)}: bars of {bars:.1f} mm: {hint}"
+    dense = [item for item in items if is_dense(item, dot)]
+    if dense:
+        finest = min(item.layout.module for item in dense) * dot
+        hint = "some phones may not read them: shorten the data, or take a larger label"
+        yield f"{places_of(dense, has_tables)}: QR with modules of {finest:.2f} mm: {hint}"
+    small = [item for item in items if item.layout.is_small_price]
+    if small:
+        yield f"{places_of(small, has_tables)}: a wide price is smaller than the others"
+    shortened = [item for item in items if pen.is_shortened(item)]
+    if shortened:
+        yield f"{places_of(shortened, has_tables)}: shortened to fit, with an ellipsis"
+
+
+def has_low_bars(item: LaidOut) -> bool:
+    """Returns whether a label is for a till and its bars are lower than half their width."""
+    symbology = item.layout.symbology
+    modules = item.label.modules.width - sum(symbology.quiet)
+    return symbology.is_number and item.layout.has_low_bars(modules)
+
+
+def is_dense(item: LaidOut, dot: float) -> bool:
+    """Returns whether a label has a QR symbol of small modules."""
+    return not item.layout.symbology.nominal and item.layout.module * dot < DENSE
+
+
+def places_of(items: Iterable[LaidOut], has_tables: bool) -> str:
+    """Returns the places of labels in words."""
+    return places_text([item.label.record.place for item in items], has_tables)

@@ -1,0 +1,72 @@
+"""Reads labels as they are drawn, before anything goes out."""
+
+import re
+from typing import Any, Optional
+
+from labeltools.area import Area
+from labeltools.engine import Modules
+from labeltools.forms.dots import Picture, drawn_page
+from labeltools.frames import Box
+from labeltools.layout import LaidOut
+from labeltools.messages import ToolError
+from labeltools.pen import Pen, bits_of
+
+PIXELS = bytes.maketrans(b"01", b"\xff\0")
+
+
+def fault_of(item: LaidOut, area: Area, pen: Pen) -> Optional[str]:
+    """Returns what is wrong with a label as it is drawn in its area, if anything; raises
+    `ToolError` where zxing-cpp is not there.
+    """
+    size = area.width, area.height
+    return fault_in(drawn_page(size, pen, [(item, (0, 0))]), item)
+
+
+def fault_in(picture: Picture, item: LaidOut) -> Optional[str]:
+    """Returns what is wrong with dots of a label: its data is read by zxing-cpp, and each row of
+    its bars is compared.
+    """
+    rows = [bits_of(row) for row in picture.rows]
+    found = code_in(rows, re.sub("[- ]", "", item.layout.symbology.title))
+    if found is None:
+        return "as drawn it is not read"
+    if found != item.label.record.data:
+        return f"as drawn it is read as {found!r}"
+    box = item.layout.boxes["bars"]
+    if not is_drawn(rows, item.label.modules, box):
+        return "its bars as drawn are not those of labels"
+    return None
+
+
+def code_in(rows: list[str], form: str) -> Optional[bytes]:
+    """Returns the data of a code of a form in rows of dots; None where it is not read."""
+    zxingcpp = reader()
+    pixels = "".join(rows).encode().translate(PIXELS)
+    picture = memoryview(pixels).cast("B", [len(rows), len(rows[0])])
+    found = zxingcpp.read_barcode(
+        picture, formats=getattr(zxingcpp, form), binarizer=zxingcpp.Binarizer.BoolCast
+    )
+    return bytes(found.bytes) if found else None
+
+
+def reader() -> Any:
+    """Returns zxing-cpp; raises `ToolError` where it is not there."""
+    try:
+        import zxingcpp
+    except ImportError as error:
+        hint = "apt-get install python3-zxing-cpp"
+        raise ToolError(f"{error}: --read-back needs it", hint) from error
+    return zxingcpp
+
+
+def is_drawn(rows: list[str], modules: Modules, box: Box) -> bool:
+    """Returns whether dots in a box are the modules of a code, each row of them."""
+    scale = box.width // modules.width
+    wide = []
+    for row in modules.rows():
+        bits = bits_of(row)[: modules.width]
+        wide.append("".join(scale * bit for bit in bits))
+    high = box.height // len(wide)
+    wanted = [row for row in wide for _ in range(high)]
+    drawn = [row[box.left : box.right] for row in rows[box.top : box.bottom]]
+    return drawn == wanted

@@ -1,0 +1,246 @@
+"""From a table to lines: what a window or a command calls."""
+
+import re
+from dataclasses import dataclass, field
+from itertools import chain
+from typing import Iterator, NamedTuple, Sequence
+
+from labeltools.columns import Columns, Head, columns_of, names_of
+from labeltools.csv_table import csv_table
+from labeltools.drafts import RowReader
+from labeltools.line_writer import LineWriter, contents_of
+from labeltools.messages import BAD_ARGUMENTS, Place, RowError, Talk, ToolError, counted, quoted
+from labeltools.names import listed, said_of_empty, unlike
+from labeltools.number_format import Formatter, local_date, local_signs
+from labeltools.ods import rows_of_ods
+from labeltools.rows import Row, seen
+from labeltools.summary import summary
+from labeltools.table_options import TableOptions
+from labeltools.workbook import is_ods, named_errors, opened
+from labeltools.xlsx import rows_of_xlsx
+
+ZIP = (b"PK\x03\x04", b"PK\x05\x06")
+NO_TABLE = re.compile(rb"(?i)\xd0\xcf\x11\xe0|\s*<(?:\?xml|!doctype|html|table)")
+BETWEEN = 256  # rows between two calls of `go_on`
+
+
+@dataclass(frozen=True)
+class Lines:
+    """The lines of a table, in `output`, a file for label-print; which rows are left out, and a
+    summary.
+    """
+
+    output: bytes
+    count: int
+    left_out: tuple[int, ...]
+    hidden: int
+    summary: str
+
+
+class Start(NamedTuple):
+    """A table that is open: its head, the rows below, and how its numbers are shown."""
+
+    head: Head
+    rows: Iterator[Row]
+    formatter: Formatter
+
+
+def lines_of_table(data: bytes, name: str, options: TableOptions, talk: Talk) -> Lines:
+    """Returns the lines of a table; what is left out, and why, is told.
+
+    `name` is for messages. Raises `ToolError` where the table cannot be read, a column is not sure,
+    or no row is there, and `Cancelled` where the talk wants no more.
+    """
+    start = head_of(data, name, options, talk)
+    looked_at: list[Row] = []
+    columns = columns_of(start.head, kept(start.rows, looked_at), options)
+    work = Work(options, columns, start, talk)
+    work.take_all(chain(looked_at, start.rows))
+    writer = work.writer
+    if not (writer.taken or writer.left_out or work.hidden or work.unmarked):
+        row = start.head.row.number
+        raise ToolError(f"{name} has no row below row {row}, which has the names of the columns")
+    if work.unmarked and not writer.taken:
+        raise nothing_marked(columns, name)
+    output = writer.finish()
+    work.say_all()
+    left_out = tuple(writer.left_out)
+    return Lines(output, writer.count, left_out, work.hidden, summary(writer.totals))
+
+
+def head_of(data: bytes, name: str, options: TableOptions, talk: Talk) -> Start:
+    """Returns a table that is open; raises `ToolError` where it cannot be read. A window shows its
+    first rows.
+    """
+    formatter = Formatter(local_signs(options.file.decimal), options.file.date_as, local_date())
+    rows = rows_of(data, name, options, formatter, talk)
+    wanted = options.file.header_row
+    first = next((row for row in rows if is_first(row, wanted)), None)
+    if first is None or wanted and (first.number != wanted or first.is_blank()):
+        what = f"{name} has nothing in row {wanted}" if wanted else f"{name} has empty cells alone"
+        raise ToolError(what)
+    if first.problem:
+        problem = first.problem
+        raise ToolError(f"{name}: row {first.number}: {problem.what}", problem.hint)
+    if options.file.has_header is False:
+        return Start(Head(first, ()), chain([first], rows), formatter)
+    return Start(Head(first, names_of(first)), rows, formatter)
+
+
+def names_in(start: Start) -> list[str]:
+    """Returns the names of the columns; empty ones where the row has none."""
+    return list(names_of(start.head.row))
+
+
+def is_first(row: Row, wanted: int | None) -> bool:
+    """Returns whether a row is the one of the names, or below it."""
+    return row.number >= wanted if wanted else not row.is_blank()
+
+
+def kept(rows: Iterator[Row], looked_at: list[Row]) -> Iterator[Row]:
+    """Yields rows and keeps them in a list."""
+    for row in rows:
+        looked_at.append(row)
+        yield row
+
+
+def rows_of(
+    data: bytes, name: str, options: TableOptions, formatter: Formatter, talk: Talk
+) -> Iterator[Row]:
+    """Returns the rows of a table, whose kind its first bytes say; raises `ToolError` for another
+    kind.
+    """
+    if NO_TABLE.match(data):
+        what = f"{name} is an old .xls, XML, HTML, or has a password"
+        raise ToolError(what, "save it as .xlsx, without one")
+    is_csv = not data.startswith(ZIP)
+    for option in ("sheet",) if is_csv else ("delimiter", "encoding"):
+        if getattr(options.file, option) is not None:
+            what = f"{name} is {'CSV' if is_csv else 'no CSV'}"
+            raise ToolError(what, f"leave --{option} away", BAD_ARGUMENTS)
+    if is_csv:
+        return csv_table(data, name, options, talk).rows()
+    return rows_of_workbook(data, name, options.file.sheet, formatter)
+
+
+def rows_of_workbook(
+    data: bytes, name: str, wanted: str | None, formatter: Formatter
+) -> Iterator[Row]:
+    """Yields the rows of a sheet of a workbook."""
+    with named_errors(name), opened(data) as archive:
+        kind = rows_of_ods if is_ods(archive) else rows_of_xlsx
+        yield from kind(archive, wanted, formatter)
+
+
+def nothing_marked(columns: Columns, name: str) -> ToolError:
+    """Returns the error of a table in which no row has the values that were asked for."""
+    wanted = " and ".join(f"{quoted(value)} in {column.title}" for column, value in columns.where)
+    return ToolError(f"{name} has no row with {wanted}", "look how the cells are spelled")
+
+
+@dataclass
+class Work:
+    """The work on a table: what is to be said about a row is said at once, the rest at the end."""
+
+    options: TableOptions
+    columns: Columns
+    start: Start
+    talk: Talk
+    reader: RowReader = field(init=False)
+    writer: LineWriter = field(init=False)
+    hidden: int = 0
+    unmarked: int = 0
+
+    def __post_init__(self) -> None:
+        older = contents_of(self.options.new_since) if self.options.new_since else None
+        has_copies = self.columns.copies is not None
+        self.reader = RowReader(self.options, self.columns, self.start.head.names)
+        self.writer = LineWriter(self.options, self.talk, has_copies, older)
+
+    def take_all(self, rows: Iterator[Row]) -> None:
+        """Takes the rows below the head; empty ones are left out, but not those at the end."""
+        head = self.start.head
+        last = head.row.number - (not head.names)
+        empty: list[int] = []
+        for row in rows:
+            if row.number % BETWEEN == 0:
+                self.talk.go_on(row.number, 0)
+            empty += range(last + 1, row.number)
+            last = row.number + row.repeat - 1
+            if row.is_hidden and not self.options.file.hidden:
+                self.hidden += not row.is_blank()
+            elif row.is_blank():
+                empty.append(last)
+            else:
+                self.leave_out_empty(empty)
+                empty = []
+                self.take(row)
+
+    def leave_out_empty(self, empty: Sequence[int]) -> None:
+        """Leaves out empty rows."""
+        if empty:
+            more = f", and all to row {empty[-1]}" if empty[1:] else ""
+            self.talk.note(Place("", "row", empty[0]), "", f"the row is empty{more}", "")
+            self.writer.left_out += empty
+
+    def take(self, row: Row) -> None:
+        """Takes one row that is not blank, or leaves it out."""
+        try:
+            draft = self.reader.draft(row)
+        except RowError as problem:
+            place = self.columns.code.place if problem.place is None else problem.place
+            cell = row.cells[place] if place < len(row.cells) else ""
+            self.writer.leave_out(row.number, seen(cell), problem)
+            return
+        if draft is None:
+            self.unmarked += 1
+        else:
+            self.writer.take(draft)
+
+    def say_all(self) -> None:
+        """Says what there is to say about the whole table."""
+        self.say_of_empty()
+        if not self.options.prices.pattern:
+            for column in self.writer.columns:
+                for said in column.says():
+                    self.talk.say(said.text, said.hint)
+        self.say_of_codes()
+        if self.reader.html:
+            text = f"row {self.reader.html} has HTML in a title or text, which is printed as it is"
+            self.talk.say(text)
+        if self.hidden:
+            are = "is" if self.hidden == 1 else "are"
+            text = f"{counted(self.hidden, 'hidden row')} {are} not printed"
+            self.talk.say(text, "give --hidden to print them")
+        if self.writer.unchanged:
+            rows = f"{self.writer.unchanged} of {counted(self.writer.taken, 'row')}"
+            self.talk.say(f"{rows} are as before, and are not printed")
+        self.say_of_numbers()
+
+    def say_of_empty(self) -> None:
+        """Says which rows have no title or no price."""
+        asked = {"title": self.columns.title, "price": self.columns.price}
+        for kind, rows in self.writer.empty.items():
+            if asked[kind] and rows:
+                self.talk.say(said_of_empty(kind, rows, self.writer.count))
+
+    def say_of_codes(self) -> None:
+        """Says which codes are unlike the others, or lead to another address."""
+        codes = self.writer.codes
+        if odd := unlike(codes):
+            text = f"the code of {listed(odd)} has no digit, {quoted(codes[odd[0]])}"
+            self.talk.say(f"{text}, and others have", "is it one?")
+        if self.reader.other_link:
+            text = f"the code of row {self.reader.other_link} is a text that leads to an address"
+            self.talk.say(text, "give --links to draw the address")
+
+    def say_of_numbers(self) -> None:
+        """Shows how numbers and dates of .xlsx are printed, where the file does not say it."""
+        formatter = self.start.formatter
+        is_given = self.options.file.decimal is not None or self.options.prices.pattern
+        if formatter.first_number and not is_given:
+            text = f"numbers are printed as {quoted(formatter.first_number)}: is that right?"
+            self.talk.say(f"{text} else give --decimal , or .")
+        if formatter.first_date and not formatter.date_as:
+            text = f"dates are printed as {quoted(formatter.first_date)}: is that right?"
+            self.talk.say(f"{text} else give --date-as dd.mm.yyyy, or another pattern")

@@ -1,0 +1,333 @@
+"""The file of a workbook, a zip with parts of XML, read piece by piece.
+
+A file may be hostile: a document type, and a part, a row or a nesting that no spreadsheet writes,
+are refused before they take memory.
+"""
+
+import struct
+import zlib
+from contextlib import contextmanager
+from decimal import Decimal
+from functools import partial
+from io import BytesIO
+from itertools import chain, pairwise
+from typing import Iterable, Iterator, Mapping, NamedTuple, Sequence
+from xml.etree.ElementTree import Element, ParseError, XMLPullParser
+from zipfile import ZIP_DEFLATED, ZIP_STORED, BadZipFile, ZipFile
+
+from labeltools.messages import BAD_ARGUMENTS, ToolError, quoted
+from labeltools.rows import Cell, Merge, Row
+
+MOST_ROWS = 1048576
+MOST_COLUMNS = 16384
+MOST_MERGES = 256  # of those that cross one row
+LARGEST_PART = 1 << 28  # bytes
+LARGEST_ROW = 1 << 20  # bytes, or letters
+LARGEST_TEXTS = 1 << 27  # letters of all shared strings
+PIECE = 1 << 16
+DEEPEST = 100
+MOST_PARTS = 1 << 14  # of the zip
+MOST_OTHERS = 1 << 20  # elements one after another that are no part of a row
+MOST_NAMES = 4096
+LARGEST_EXPONENT = 307  # of a number
+MOST_DIGITS = 10  # of a count
+EACH = 16  # what a repeated row costs beside its letters
+DAMAGE = (
+    ParseError,
+    BadZipFile,
+    zlib.error,
+    struct.error,
+    EOFError,
+    LookupError,
+    RuntimeError,
+    ValueError,
+    ArithmeticError,
+)
+SAVE_AGAIN = "open it in the spreadsheet and save it again"
+TOO_LARGE = f"has a row or another element of more than 1 MB, or elements {DEEPEST} deep"
+TRUE = ("1", "true")
+NOT_SAVED = "has a formula without a saved value"
+NOT_SAVED_HINT = "open the table in the spreadsheet and save it"
+TYPED = "enter it again as text"
+
+
+class Sheet(NamedTuple):
+    """A sheet: its name, whether it can be seen, and its rows, but maybe without the empty ones."""
+
+    name: str
+    is_visible: bool
+    rows: Iterator[Row]
+
+
+@contextmanager
+def named_errors(name: str) -> Iterator[None]:
+    """Puts the name of a file before what is wrong with it."""
+    try:
+        yield
+    except ToolError as error:
+        raise ToolError(f"{name} {error.what}", error.hint, error.status) from None
+    except DAMAGE as error:
+        what = f"{name} is damaged, or neither .xlsx nor .ods ({reason(error)})"
+        raise ToolError(what, SAVE_AGAIN) from None
+
+
+def reason(error: Exception) -> str:
+    """Returns what an error of Python's library says, in short."""
+    text = str(error.args[0]) if error.args and isinstance(error.args[0], str) else ""
+    return text.split("\n")[0][:80] or type(error).__name__
+
+
+def opened(data: bytes) -> ZipFile:
+    """Returns the zip of a workbook; raises `ToolError`, or an error of `DAMAGE`."""
+    archive = ZipFile(BytesIO(data))
+    names = archive.namelist()
+    if len(names) > MOST_PARTS or len(set(names)) < len(names):
+        raise ValueError("one part twice, or too many parts")
+    for part in archive.infolist():
+        if part.file_size > LARGEST_PART:
+            raise ToolError(f"has a part of more than 256 MB, {quoted(part.filename)}", SAVE_AGAIN)
+        is_manifest = part.filename == "META-INF/manifest.xml"
+        is_locked = part.flag_bits & 1 or part.compress_type not in (ZIP_STORED, ZIP_DEFLATED)
+        if is_locked or is_manifest and has_word(archive, part.filename, b"encryption-data"):
+            raise ToolError(
+                "has a password, or is packed as no spreadsheet is", "save it again without one"
+            )
+    return archive
+
+
+def is_ods(archive: ZipFile) -> bool:
+    """Returns whether a workbook is .ods, as its first part says."""
+    return "mimetype" in archive.namelist() and has_word(
+        archive, "mimetype", b"opendocument.spreadsheet"
+    )
+
+
+def chosen(sheets: Iterable[Sheet], wanted: str | None) -> Iterator[Row]:
+    """Yields the rows of the sheet that is wanted, else of the only one that is visible and has
+    data.
+
+    Raises `ToolError`, maybe behind them, where that is not sure.
+    """
+    names: list[str] = []
+    found: list[str] = []
+    for sheet in sheets:
+        names.append(sheet.name)
+        is_meant = sheet.is_visible if wanted is None else sheet.name == wanted
+        for row in sheet.rows if is_meant else ():
+            if sheet.name not in found and not row.is_blank():
+                found.append(sheet.name)
+            if len(found) > 1:
+                break
+            yield row
+    if not names:
+        raise LookupError("no sheet in it")
+    if len(found) != 1:
+        what = f"{len(found)} visible sheets" if wanted is None else f"no sheet {quoted(wanted)}"
+        listed = ", ".join(map(quoted, found or names))
+        raise ToolError(
+            f"has {what} with data", f"give --sheet with one of {listed}", BAD_ARGUMENTS
+        )
+
+
+def pieces(archive: ZipFile, part: str) -> Iterator[bytes]:
+    """Yields a part, piece by piece."""
+    with archive.open(part) as stream:
+        yield from iter(partial(stream.read, PIECE), b"")
+
+
+def has_word(archive: ZipFile, part: str, word: bytes) -> bool:
+    """Returns whether a part has a word, which may be cut in two between pieces, and have zero
+    bytes (UTF-16).
+    """
+    for before, piece in pairwise(chain([b""], pieces(archive, part))):
+        if word in (before[-40:] + piece).replace(b"\0", b""):
+            return True
+    return False
+
+
+class LocalNames(dict[str, str]):
+    """The names of elements and attributes without their namespaces."""
+
+    def __missing__(self, name: str) -> str:
+        if len(self) >= MOST_NAMES:  # a hostile file has ever new ones
+            self.clear()
+        local = name.rpartition("}")[2]
+        self[name] = local
+        return local
+
+
+LOCAL = LocalNames()
+
+
+def localise(element: Element) -> None:
+    """Takes the namespaces from the names of an element and its attributes."""
+    element.tag = LOCAL[element.tag]
+    if element.attrib:
+        element.attrib = {LOCAL[name]: value for name, value in element.attrib.items()}
+
+
+class Walk:
+    """A walk through the elements of a part, which forgets those that nobody asked for.
+
+    `around` are the elements that are open, but for those within one that is asked for whole;
+    `inside` is the depth of that one, 0 where there is none; `size` counts the bytes since
+    something was forgotten. Elements at `passed` are passed over with all that is in them.
+    """
+
+    def __init__(
+        self, path: str, heads: Sequence[str], without: Sequence[str], passed: str
+    ) -> None:
+        self.path = path
+        self.heads = heads
+        self.without = without
+        self.passed = passed
+        self.is_passing = False
+        self.around = [Element("")]
+        self.depth = 0
+        self.inside = 0
+        self.size = 0
+        self.others = 0
+
+    def begin(self, element: Element) -> bool:
+        """Takes an element that begins; returns whether it is asked for as it begins."""
+        self.depth += 1
+        if self.depth >= DEEPEST:
+            raise ToolError(TOO_LARGE, SAVE_AGAIN)
+        return False if self.inside else self.begin_outside(element)
+
+    def begin_outside(self, element: Element) -> bool:
+        """Takes an element that is not within one that is asked for."""
+        localise(element)
+        self.around.append(element)
+        self.others += 1
+        if self.others > MOST_OTHERS:
+            raise ToolError(TOO_LARGE, SAVE_AGAIN)
+        if element.tag in self.without:
+            return False
+        at = "/".join(outer.tag for outer in self.around if outer.tag not in self.without)
+        if at in (self.path, self.passed):
+            self.is_passing = at == self.passed
+            self.inside = self.depth
+            self.others = 0
+        return at in self.heads
+
+    def end(self) -> bool:
+        """Takes the end of an element; returns whether it is one that is asked for whole."""
+        self.depth -= 1
+        if self.inside > self.depth and not self.is_passing:
+            return True
+        if self.inside == 0 or self.inside > self.depth:
+            self.forget()
+        return False
+
+    def whole(self, element: Element) -> Element:
+        """Returns an element that has ended, with the names of all in it without namespaces."""
+        for one in element:
+            for inner in one.iter():
+                localise(inner)
+        return element
+
+    def forget(self) -> None:
+        """Leaves the element that has ended."""
+        self.inside = 0
+        self.around.pop()
+        del self.around[-1][:]
+        self.size = 0
+
+
+def elements(
+    archive: ZipFile,
+    part: str,
+    path: str,
+    heads: Sequence[str] = (),
+    without: Sequence[str] = (),
+    passed: str = "",
+) -> Iterator[Element]:
+    """Yields the elements at a path of local names, whole, and those at `heads` as they begin.
+
+    Elements with a name of `without` are left out of paths; those at `passed` are passed over. All
+    names are local ones.
+    """
+    if not part:  # the file has no such part
+        return
+    if has_word(archive, part, b"<!DOCTYPE"):  # its entities may become any size
+        raise ToolError("has a document type (DOCTYPE), which no spreadsheet writes", SAVE_AGAIN)
+    walk = Walk(path, heads, without, passed)
+    parser = XMLPullParser(("start", "end"))
+    for piece in chain(pieces(archive, part), [b""]):
+        walk.size += len(piece)
+        if piece:
+            parser.feed(piece)
+        else:
+            parser.close()
+        for event, element in parser.read_events():
+            if event == "start":
+                if walk.begin(element):
+                    yield element
+            elif walk.end():
+                yield walk.whole(element)
+                walk.forget()
+        if walk.size > LARGEST_ROW:
+            raise ToolError(TOO_LARGE, SAVE_AGAIN)
+
+
+def rows_from(row: Row, repeat: int) -> Iterator[Row]:
+    """Yields a row as often as it is there; raises `ToolError` beyond what a sheet has."""
+    is_beyond = row.number + repeat - 1 > MOST_ROWS or len(row.cells) > MOST_COLUMNS
+    if is_beyond or len(row.merges) > MOST_MERGES:
+        most = f"{MOST_ROWS} rows, {MOST_COLUMNS} columns or {MOST_MERGES} merges across a row"
+        raise ToolError(f"has more than {most}")
+    letters = sum(len(cell) for cell in row.cells if isinstance(cell, str))
+    is_repeated = repeat > 1 and not row.is_hidden
+    if letters > LARGEST_ROW or is_repeated and (letters + EACH) * repeat > LARGEST_ROW:
+        raise ToolError(TOO_LARGE, SAVE_AGAIN)
+    if repeat > 1 and row.is_hidden and row.is_blank():  # there may be a million
+        yield row._replace(repeat=repeat)
+        return
+    yield row
+    for number in range(row.number + 1, row.number + repeat):
+        yield Row(number, row.cells, None, row.is_hidden, row.merges, row.links)
+
+
+def merges_at(merges: list[Merge], number: int) -> list[Merge]:
+    """Returns the merged cells that reach a row or one below it."""
+    return [merge for merge in merges if merge.last_row >= number]
+
+
+def filled(cells: list[Cell], place: int) -> list[Cell]:
+    """Returns a row with empty cells up to a place."""
+    if place > len(cells):
+        cells += [""] * (min(place, MOST_COLUMNS) - len(cells))
+    return cells
+
+
+def exact_of(value: str) -> Decimal:
+    """Returns a number of a file; raises ValueError or ArithmeticError for one that no spreadsheet
+    writes.
+    """
+    try:
+        exact = Decimal(value)
+    except ArithmeticError:
+        raise ValueError(f"number {value:.30}") from None
+    if not exact.is_finite() or exact.adjusted() > LARGEST_EXPONENT:
+        raise ValueError(f"number {value:.30}")
+    return exact
+
+
+def repeats(attributes: Mapping[str, str], name: str) -> int:
+    """Returns an attribute that counts from 1, and is 1 where it is not there; raises
+    ValueError.
+    """
+    value = attributes.get(name)
+    return 1 if value is None else whole(value, 1)
+
+
+def whole(value: str, least: int = 0) -> int:
+    """Returns a count or an index of a file; raises ValueError for one below the least, which
+    Python would take.
+    """
+    if not (
+        value.isascii() and value.isdigit() and len(value) <= MOST_DIGITS and int(value) >= least
+    ):
+        raise ValueError(f"number {value:.30}")
+    return int(value)

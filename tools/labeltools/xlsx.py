@@ -1,0 +1,328 @@
+"""Reads .xlsx (ISO/IEC 29500-1)."""
+
+import posixpath
+import re
+from dataclasses import dataclass
+from decimal import Decimal
+from functools import lru_cache, reduce
+from typing import Iterator, Mapping, NamedTuple
+from xml.etree.ElementTree import Element
+from zipfile import ZipFile
+
+from labeltools import number_format
+from labeltools.messages import RowError, ToolError, quoted
+from labeltools.number_format import BUILT_IN, BUILT_IN_DATES, LANGUAGE, Formatter
+from labeltools.rows import Cell, Fault, Merge, Row, Special, Truth
+from labeltools.workbook import LARGEST_TEXTS, MOST_COLUMNS, NOT_SAVED, NOT_SAVED_HINT
+from labeltools.workbook import (
+    SAVE_AGAIN,
+    TOO_LARGE,
+    TRUE,
+    TYPED,
+    Sheet,
+    chosen,
+    elements,
+    exact_of,
+)
+from labeltools.workbook import filled, has_word, merges_at, rows_from, whole
+
+ESCAPED = re.compile("_x([0-9A-Fa-f]{4})_")
+REFERENCE = re.compile("([A-Z]{1,3})([0-9]{1,7})")
+# an address and a text, as a formula has them
+HYPERLINK = re.compile(r'\s*HYPERLINK\("([^"]+)"[,)].*', re.DOTALL | re.IGNORECASE)
+ROW = "/worksheet/sheetData/row"
+NO_VALUE = Fault(NOT_SAVED, NOT_SAVED_HINT)
+
+
+class Target(NamedTuple):
+    """What a part refers to: the kind, and the path of another part or an address outside."""
+
+    kind: str
+    path: str
+
+
+@dataclass(frozen=True)
+class Book:
+    """What all sheets of a file share.
+
+    `formats` are those of the styles by their numbers; `is_stale` is whether the formulas are to be
+    calculated when the file is opened, so that their saved values say nothing.
+    """
+
+    strings: list[str]
+    formats: list[str]
+    formatter: Formatter
+    is_from_1904: bool
+    is_stale: bool
+
+
+@dataclass(frozen=True, slots=True)
+class Number(Special):
+    """A cell with a number."""
+
+    value: str
+    exact: Decimal
+    number_format: str
+    book: Book
+
+    def shown(self) -> str:
+        """Returns the number as its format shows it."""
+        return self.book.formatter.shown(self.number_format, self.exact, self.book.is_from_1904)
+
+    def printed(self) -> str:
+        """Returns the number as its format shows it, and keeps it as an example of the signs in
+        it.
+        """
+        text = self.shown()
+        self.book.formatter.keep(self.number_format, text)
+        return text
+
+    def digits(self) -> str:
+        """Returns the digits of a whole number."""
+        return number_format.digits_of(self.number_format, self.exact)
+
+    def data(self) -> str:
+        """Returns the digits of a whole number that is shown so."""
+        return number_format.digits_of(self.number_format, self.exact, is_data=True)
+
+    def count(self) -> str:
+        """Returns the number as it is saved."""
+        return self.value
+
+
+@dataclass(frozen=True, slots=True)
+class Framed(Special):
+    """A cell with a text, and a format that puts something around it, as `"SKU-"@` does."""
+
+    value: str
+    number_format: str
+
+    def shown(self) -> str:
+        """Returns the text as its format shows it."""
+        return number_format.shown_text(self.value, self.number_format)
+
+    def digits(self) -> str:
+        """Returns the text as it was typed."""
+        return self.value
+
+    def data(self) -> str:
+        """Returns the text, which must be what is shown."""
+        text = self.shown()
+        if text != self.value:
+            what = f"is shown as {quoted(text)}, and would be drawn as {quoted(self.value)}"
+            raise RowError(what, TYPED)
+        return text
+
+
+def rows_of_xlsx(archive: ZipFile, wanted: str | None, formatter: Formatter) -> Iterator[Row]:
+    """Yields the rows of the sheet that is wanted, else of the only one that is visible and has
+    data.
+    """
+    path = dict(relations(archive, "").values())["officeDocument"]
+    targets = relations(archive, path)
+    return chosen(sheets_of(archive, path, targets, formatter), wanted)
+
+
+def sheets_of(
+    archive: ZipFile, path: str, targets: Mapping[str, Target], formatter: Formatter
+) -> Iterator[Sheet]:
+    """Yields the sheets of a workbook."""
+    book = book_of(archive, path, targets, formatter)
+    for sheet in elements(archive, path, "/workbook/sheets/sheet"):
+        kind, part = targets[sheet.attrib["id"]]
+        if kind == "worksheet":
+            is_visible = sheet.get("state", "visible") == "visible"
+            yield Sheet(sheet.attrib["name"], is_visible, sheet_rows(archive, part, book))
+
+
+def book_of(
+    archive: ZipFile, path: str, targets: Mapping[str, Target], formatter: Formatter
+) -> Book:
+    """Returns what all sheets share."""
+    parts = dict(targets.values())
+    properties = elements(archive, path, "/workbook/workbookPr")
+    calculation = elements(archive, path, "/workbook/calcPr")
+    return Book(
+        strings=strings_of(archive, parts.get("sharedStrings", "")),
+        formats=formats_of(archive, parts.get("styles", "")),
+        formatter=formatter,
+        is_from_1904=any(one.get("date1904") in TRUE for one in properties),
+        is_stale=any(one.get("fullCalcOnLoad") in TRUE for one in calculation),
+    )
+
+
+def strings_of(archive: ZipFile, part: str) -> list[str]:
+    """Returns the shared strings."""
+    strings: list[str] = []
+    letters = 0
+    for element in elements(archive, part, "/sst/si"):
+        strings.append(string_of(element))
+        letters += len(strings[-1])
+        if letters > LARGEST_TEXTS:
+            raise ToolError(TOO_LARGE, SAVE_AGAIN)
+    return strings
+
+
+def formats_of(archive: ZipFile, part: str) -> list[str]:
+    """Returns the number formats of the styles."""
+    by_number = {**BUILT_IN, **BUILT_IN_DATES}
+    for element in elements(archive, part, "/styleSheet/numFmts/numFmt"):
+        by_number[element.attrib["numFmtId"]] = element.attrib["formatCode"]
+    styles = elements(archive, part, "/styleSheet/cellXfs/xf")
+    return [by_number.get(style.get("numFmtId", "0"), LANGUAGE) for style in styles] or ["General"]
+
+
+def relations(archive: ZipFile, path: str) -> dict[str, Target]:
+    """Returns what a part refers to, by the names that it uses; for no part, what the file refers
+    to.
+    """
+    folder, base = posixpath.split(path)
+    part = posixpath.join(folder, "_rels", f"{base}.rels")
+    targets: dict[str, Target] = {}
+    for element in elements(archive, part, "/Relationships/Relationship"):
+        kind = posixpath.basename(element.attrib["Type"])
+        target = element.attrib["Target"]
+        if element.get("TargetMode") != "External":
+            target = posixpath.normpath(posixpath.join("/", folder, target))[1:]
+        targets[element.attrib["Id"]] = Target(kind, target)
+    return targets
+
+
+def sheet_rows(archive: ZipFile, path: str, book: Book) -> Iterator[Row]:
+    """Yields the rows of a sheet; merged cells and links are below the rows in the file, and are
+    read first.
+    """
+    beginning = merges_of(archive, path)
+    links = links_of(archive, path)
+    merges: list[Merge] = []
+    number = 0
+    for element in elements(archive, path, ROW):
+        before = number
+        number = whole(element.get("r", str(before + 1)), 1)
+        if number <= before:
+            raise out_of_order(number)
+        row_links = dict(links.get(number, {}))
+        cells = cells_of(element, number, book, row_links)
+        merges = merges_at(merges, number) + beginning.get(number, [])
+        is_hidden = element.get("hidden") in TRUE
+        yield from rows_from(Row(number, cells, None, is_hidden, merges, row_links), 1)
+
+
+def out_of_order(number: int) -> ToolError:
+    """Returns the error of a row, or a cell of it, that is not behind the one before."""
+    return ToolError(f"has row {number} or a cell of it out of order", SAVE_AGAIN)
+
+
+def cells_of(row: Element, number: int, book: Book, links: dict[int, str]) -> list[Cell]:
+    """Returns the cells of a row, and adds the addresses that its formulas lead to."""
+    cells: list[Cell] = []
+    for element in row:
+        if element.tag != "c":
+            continue
+        place = len(cells)
+        if reference := element.get("r"):
+            place = place_of(reference.rstrip("0123456789"))
+        if place < len(cells):
+            raise out_of_order(number)
+        filled(cells, place).append(cell_of(element, book))
+        formula = element.findtext("f")
+        if formula and (found := HYPERLINK.fullmatch(formula)):
+            links[place] = found[1]
+    return cells
+
+
+def merges_of(archive: ZipFile, path: str) -> dict[int, list[Merge]]:
+    """Returns the merged cells of a sheet by their first row; reads the sheet only where it has the
+    word.
+    """
+    merges: dict[int, list[Merge]] = {}
+    if has_word(archive, path, b"mergeCell"):
+        for element in elements(archive, path, "/worksheet/mergeCells/mergeCell", passed=ROW):
+            corners = corners_of(element.attrib["ref"])
+            merges.setdefault(corners[0][0], []).append(Merge(*corners[0], *corners[-1]))
+    return merges
+
+
+def links_of(archive: ZipFile, path: str) -> dict[int, dict[int, str]]:
+    """Returns the addresses that cells lead to, by row and place; reads the sheet only where it has
+    the word.
+    """
+    links: dict[int, dict[int, str]] = {}
+    folder, base = posixpath.split(path)
+    has_relations = posixpath.join(folder, "_rels", f"{base}.rels") in archive.namelist()
+    if has_relations and has_word(archive, path, b"<hyperlink"):
+        targets = relations(archive, path)
+        for element in elements(archive, path, "/worksheet/hyperlinks/hyperlink", passed=ROW):
+            row, place = corners_of(element.attrib["ref"])[0]
+            if element.get("id") in targets:
+                address = targets[element.attrib["id"]].path
+                links.setdefault(row, {})[place] = address + fragment(element.get("location", ""))
+    return links
+
+
+def fragment(location: str) -> str:
+    """Returns the end of an address that leads to a place of a page."""
+    return f"#{location}" if location else ""
+
+
+def corners_of(reference: str) -> list[tuple[int, int]]:
+    """Returns the rows, from 1, and the places, from 0, of a range of cells.
+
+    >>> corners_of("A2:B3"), corners_of("C1")
+    ([(2, 0), (3, 1)], [(1, 2)])
+    """
+    return [(int(row), place_of(letters)) for letters, row in REFERENCE.findall(reference)]
+
+
+@lru_cache(maxsize=MOST_COLUMNS)
+def place_of(letters: str) -> int:
+    """Returns the place of a column, from 0.
+
+    >>> place_of("A"), place_of("AB")
+    (0, 27)
+    """
+    return reduce(lambda place, letter: place * 26 + ord(letter) - 64, letters[:4], 0) - 1
+
+
+def cell_of(cell: Element, book: Book) -> Cell:
+    """Returns a cell by its type, and its value, if there is one."""
+    kind = cell.get("t", "n")
+    value = cell.findtext("v")
+    style = book.formats[whole(cell.get("s", "0"))]
+    if cell.find("f") is not None:
+        if book.is_stale or not value and not (kind == "str" and value is not None):
+            return NO_VALUE
+    elif not value and kind != "inlineStr":
+        return ""
+    return value_of(cell, kind, value or "", style, book)
+
+
+def value_of(cell: Element, kind: str, value: str, style: str, book: Book) -> Cell:
+    """Returns a cell that has a value."""
+    if kind == "s":
+        return text_of(book.strings[whole(value)], style)
+    if kind == "n":
+        return Number(value, exact_of(value), style, book)
+    if kind in ("str", "inlineStr"):
+        return text_of(string_of(cell), style)
+    if kind == "e":
+        what = f"has {quoted(value)}, which the spreadsheet writes where it has no value to show"
+        return Fault(what, "", value)
+    return Truth({"1": "TRUE", "0": "FALSE"}.get(value, value))
+
+
+def text_of(text: str, style: str) -> Cell:
+    """Returns a text, with its format where that puts something around it."""
+    if "@" not in style or style == "@" or not text:
+        return text
+    return Framed(text, style)
+
+
+def string_of(element: Element) -> str:
+    """Returns a string without its own escapes: `_x000D_` is a carriage return (ST_Xstring)."""
+    runs = [element, *element.findall("r"), *element.findall("is"), *element.findall("is/r")]
+    text = "".join(run.findtext("t", "") or run.findtext("v", "") for run in runs)
+    if "_x" in text:
+        text = ESCAPED.sub(lambda match: chr(int(match[1], 16)), text)
+        text = text.encode("utf-16", "surrogatepass").decode("utf-16", "replace")
+    return text

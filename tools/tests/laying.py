@@ -1,0 +1,95 @@
+"""Labels of a file as they are laid out and drawn, for tests."""
+
+import itertools
+import unittest
+from dataclasses import dataclass
+from typing import Any, Optional, Sequence
+
+import numpy
+
+import jobs
+from labeltools.forms.dots import drawn_page
+from labeltools.layout import LaidOut
+from labeltools.messages import Silence
+from labeltools.pen import Medium, Pen
+from labeltools.press import PrintJob
+from labeltools.print_job import Prepared, PrintOptions, labels_of, planned
+from labeltools.read_back import fault_of
+
+AROUND = 40  # dots of white in which ink would be seen that leaves the area
+NO_EDGES = (0.0, 0.0, 0.0, 0.0)
+
+
+@dataclass(frozen=True)
+class Laid:
+    """Labels that are laid out, and what draws them in dots."""
+
+    job: PrintJob
+    prepared: Prepared
+    pen: Pen
+
+    @property
+    def labels(self) -> Sequence[LaidOut]:
+        """The labels that have a layout."""
+        return self.prepared.laid_out.labels
+
+    @property
+    def reasons(self) -> list[str]:
+        """Why others have none."""
+        return [one.reason for one in self.prepared.left_out]
+
+    def millimetres(self, dots: float) -> float:
+        """A length in millimetres."""
+        return dots * self.prepared.laid_out.area.dot
+
+    def fault(self, item: LaidOut) -> Optional[str]:
+        """What is wrong with a label as it is drawn, if anything."""
+        return fault_of(item, self.prepared.laid_out.area, self.pen)
+
+    def dots(self, item: LaidOut, around: int = 0, is_turned: bool = False) -> numpy.ndarray:
+        """The dots of a label with white around its area."""
+        area = self.prepared.laid_out.area
+        size = area.width + 2 * around, area.height + 2 * around
+        turn = 0
+        if is_turned:
+            size = size[::-1]
+            turn = area.height
+        picture = drawn_page(size, self.pen, [(item, (around, around))], turn)
+        return jobs.bits_of(list(picture.rows), picture.width)
+
+
+def laid_out(data: bytes, cell: tuple[float, float], dpi: int = 300, **options: Any) -> Laid:
+    """The labels of a file on a sheet of one cell; with `is_roll` on a roll."""
+    if options.pop("is_roll", False):
+        sheet = PrintOptions(paper=cell, dpi=dpi, to="pbm", **options)
+    else:
+        sheet = PrintOptions(
+            cell=cell, columns=1, rows=1, page=cell, edge=NO_EDGES, dpi=dpi, to="pbm", **options
+        )
+    job = planned(sheet)
+    prepared = labels_of(sheet, job, "lines", data, Silence())
+    return Laid(job, prepared, Pen(Medium(dpi, True), job.fonts, prepared.letters))
+
+
+def look(test: unittest.TestCase, laid: Laid, item: LaidOut) -> None:
+    """The ink of each part of a label is in its box; boxes do not overlap, none leaves the area,
+    and none is without ink.
+    """
+    area = laid.prepared.laid_out.area
+    boxes = item.layout.boxes
+    dots = laid.dots(item, AROUND)
+    inside = dots[AROUND : AROUND + area.height, AROUND : AROUND + area.width]
+    what = (item.label.texts, item.layout.frame.kind, boxes)
+    test.assertEqual(dots.sum(), inside.sum(), what)
+    for box in boxes.values():
+        test.assertGreaterEqual(min(box.left, box.top), 0, what)
+        test.assertLessEqual(box.right, area.width, what)
+        test.assertLessEqual(box.bottom, area.height, what)
+        test.assertTrue(inside[box.top : box.bottom, box.left : box.right].any(), what)
+    for one, other in itertools.combinations(boxes.values(), 2):
+        is_beside = one.right <= other.left or other.right <= one.left
+        is_below = one.bottom <= other.top or other.bottom <= one.top
+        test.assertTrue(is_beside or is_below, (one, other, what))
+    for box in boxes.values():
+        inside[box.top : box.bottom, box.left : box.right] = 0
+    test.assertFalse(dots.any(), what)

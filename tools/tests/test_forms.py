@@ -1,0 +1,216 @@
+"""Every form has the same dots: PDF, SVG, PNG, PBM, ZPL and ESC/POS of the same lines at one dpi.
+"""
+
+import os
+import re
+import subprocess
+import tempfile
+import unittest
+from pathlib import Path
+from typing import Any, Iterator
+
+import numpy
+
+import jobs
+import support
+from labeltools.layout import LaidOut
+from labeltools.messages import Silence
+from labeltools.print_job import PrintOptions, labels_of, planned
+
+LINES = (
+    "ean13 400638133393",
+    "ean8 7351353",
+    "upca 03600029145",
+    "code128 SHELF-7",
+    "qr https://example.com/7",
+)
+MIXES = (
+    {},
+    {"title": "Seife"},
+    {"price": "12,80 €"},
+    {"title": "Bleistift, weich, 2B", "price": "0,80 €", "unit": "1 kg = 5,98 €", "text": ["rot"]},
+)
+PAPER = (80.0, 50.0)
+
+
+def setUpModule() -> None:
+    os.environ["LABELS"] = str(support.labels_program())
+
+
+def printed(data: bytes, form: str, dpi: int, *arguments: str) -> bytes:
+    """What label-print makes of a file of one label."""
+    size = f"{PAPER[0]:g}x{PAPER[1]:g}"
+    roll = ("--paper", size, "--dpi", str(dpi), "--to", form, "--dots", "9999")
+    done = support.printed(*roll, *arguments, input=data)
+    if done.returncode:
+        raise AssertionError(done.stderr.decode())
+    return done.stdout
+
+
+def rendered(command: list[str], data: bytes) -> numpy.ndarray:
+    """The dots of a document, which is FILE in a command that writes PBM."""
+    with tempfile.TemporaryDirectory() as folder:
+        path = Path(folder, "label")
+        path.write_bytes(data)
+        words = [word.replace("FILE", str(path)) for word in command]
+        done = subprocess.run(words, capture_output=True, cwd=folder, timeout=support.SECONDS)
+        if done.returncode:
+            raise AssertionError(done.stderr.decode())
+        found = sorted(Path(folder).glob("out*"))
+        return jobs.pictures_of_pbm(found[0].read_bytes() if found else done.stdout)[0]
+
+
+def dots_of_svg(data: bytes, dpi: int) -> numpy.ndarray:
+    """The dots of an SVG: rsvg draws it in gray, and what is more than half dark is dark."""
+    command = ["rsvg-convert", "-d", str(dpi), "-p", str(dpi), "-b", "white"]
+    png = subprocess.run(command, input=data, capture_output=True, check=True).stdout
+    gray = subprocess.run(["pngtopnm"], input=png, capture_output=True, check=True).stdout
+    plain = subprocess.run(["ppmtopgm"], input=gray, capture_output=True, check=True).stdout
+    head = re.match(rb"P5\n([0-9]+) ([0-9]+)\n([0-9]+)\n", plain)
+    assert head is not None
+    shape = int(head[2]), int(head[1])
+    pixels = numpy.frombuffer(plain[head.end() :], dtype=numpy.uint8).reshape(shape)
+    return (pixels < 128).astype(numpy.uint8)
+
+
+def forms_of(data: bytes, dpi: int, *arguments: str) -> Iterator[tuple[str, numpy.ndarray]]:
+    """The dots of a label in each form."""
+    pdf = ["pdftoppm", "-r", str(dpi), "-mono", "FILE", "out"]
+    yield "pdf", rendered(pdf, printed(data, "pdf", dpi, *arguments))
+    yield "svg", dots_of_svg(printed(data, "svg", dpi, *arguments), dpi)
+    yield "png", rendered(["pngtopnm", "FILE"], printed(data, "png", dpi, *arguments))
+    yield "pbm", jobs.pictures_of_pbm(printed(data, "pbm", dpi, *arguments))[0]
+    yield "zpl", jobs.dots_of_zpl(printed(data, "zpl", dpi, *arguments))[0]
+    compressed = printed(data, "zpl", dpi, "--compress", *arguments)
+    yield "zpl of :Z64:", jobs.dots_of_zpl(compressed)[0]
+    yield "escpos", jobs.dots_of_escpos(printed(data, "escpos", dpi, *arguments))[0]
+
+
+def bars_of(data: bytes, dpi: int) -> tuple[slice, slice, numpy.ndarray]:
+    """Where the bars of a label are, and their dots by the modules of labels(1)."""
+    options = PrintOptions(paper=PAPER, dpi=dpi, to="pbm")
+    job = planned(options)
+    found = labels_of(options, job, "lines", data, Silence())
+    (item,) = found.laid_out.labels
+    box = item.layout.boxes["bars"]
+    left, top = job.plan.places[0]
+    rows = slice(top + box.top, top + box.bottom)
+    return rows, slice(left + box.left, left + box.right), modules_of(item)
+
+
+def modules_of(item: LaidOut) -> numpy.ndarray:
+    """The dots of the bars of a label."""
+    modules = item.label.modules
+    bits = jobs.bits_of(modules.rows(), modules.width)
+    box = item.layout.boxes["bars"]
+    wide = bits.repeat(box.width // modules.width, axis=1)
+    return wide.repeat(box.height // len(bits), axis=0)
+
+
+class SameDots(unittest.TestCase):
+    def test_bars_are_the_modules_in_every_form(self) -> None:
+        """Guards too: they go on below their bars, so the rows of the bars are whole."""
+        support.needs("pdftoppm", "rsvg-convert", "pngtopnm")
+        for line in LINES:
+            for fields in MIXES:
+                data = support.file_of([(line, dict(fields))])
+                for dpi in (203, 300):
+                    rows, columns, wanted = bars_of(data, dpi)
+                    for form, dots in forms_of(data, dpi):
+                        same = numpy.array_equal(dots[rows, columns], wanted)
+                        self.assertTrue(same, (line, fields, dpi, form))
+
+    def test_a_wrong_row_would_be_seen(self) -> None:
+        data = support.file_of([(LINES[0], {"title": "Seife"})])
+        rows, columns, wanted = bars_of(data, 203)
+        dots = jobs.pictures_of_pbm(printed(data, "pbm", 203))[0].copy()
+        self.assertTrue(numpy.array_equal(dots[rows, columns], wanted))
+        dots[rows.stop - 1, columns.start + 40] ^= 1
+        self.assertFalse(numpy.array_equal(dots[rows, columns], wanted))
+
+    def test_guards_are_where_their_bars_are(self) -> None:
+        """In a PDF they were rectangles of their own, which some programs draw a dot beside."""
+        support.needs("pdftoppm", "gs", "mutool")
+        data = support.file_of([(LINES[0], {"title": "Seife", "price": "1,20 €"})])
+        pdf = printed(data, "pdf", 203)
+        rows, columns, wanted = bars_of(data, 203)
+        renderers = {
+            "poppler": ["pdftoppm", "-r", "203", "-mono", "FILE", "out"],
+            "ghostscript": (
+                "gs -q -dBATCH -dNOPAUSE -sDEVICE=pbmraw -r203 -sOutputFile=out FILE".split()
+            ),
+            "mupdf": "mutool draw -q -r 203 -c mono -F pbm -o out FILE 1".split(),
+        }
+        module = (columns.stop - columns.start) // 113
+        for name, command in renderers.items():
+            dots = rendered(command, pdf)
+            below = dots[rows.stop + 2 * module, columns]
+            for guard in (11, 13, 57, 59, 103, 105):
+                place = slice(guard * module, (guard + 1) * module)
+                self.assertTrue(below[place].all(), (name, guard))
+                self.assertFalse(below[place.start - 1] or below[place.stop], (name, guard))
+
+    def test_turned_labels(self) -> None:
+        support.needs("pdftoppm")
+        data = support.file_of([(LINES[0], {"title": "Seife", "price": "1,20 €"})])
+        shown = dict(forms_of(data, 203, "--turn"))
+        code = jobs.ink_of(shown["pbm"])
+        for form, dots in shown.items():
+            ink = jobs.ink_of(dots)
+            self.assertTrue(
+                all(abs(one - other) <= 3 for one, other in zip(ink, code)), (form, ink, code)
+            )
+        self.assertTrue(numpy.array_equal(shown["zpl"], shown["pbm"]))
+
+
+class Zpl(unittest.TestCase):
+    def job(self, labels: list[tuple[str, dict[str, Any]]], *arguments: str) -> bytes:
+        """The job of labels for a roll."""
+        return printed(support.file_of(labels), "zpl", 203, *arguments)
+
+    def test_copies_are_counted_by_the_printer(self) -> None:
+        """Labels that are the same and follow one another are one label with ^PQ."""
+        one = (LINES[0], {"title": "Seife", "copies": 500})
+        other = (LINES[0], {"title": "Heft", "copies": 2})
+        job = self.job([one, one, other, one, (LINES[1], {"copies": 1})])
+        self.assertEqual(re.findall(rb"\^PQ([0-9]+)\n", job), [b"1000", b"2", b"500"])
+        self.assertEqual(job.count(b"^XA"), 4)
+        self.assertEqual(len(jobs.dots_of_zpl(job)), 1503)
+        self.assertLess(len(job), 30_000)
+
+    def test_each_label_begins_upright_at_the_corner(self) -> None:
+        job = self.job([(LINES[0], {"title": "Seife"}), (LINES[1], {})])
+        self.assertEqual(job.count(b"^XA^PON^LH0,0^LS0^PW639^LL400\n"), 2)
+
+    def test_run_lengths_as_the_manual_has_them(self) -> None:
+        """The worked example of the ZPL II manual: M is 7, hM is 47 (40 and 7), and so on."""
+        from labeltools.forms.zpl import count_of, run_lengths
+
+        for count, text in (
+            (1, "G"),
+            (7, "M"),
+            (19, "Y"),
+            (20, "g"),
+            (40, "h"),
+            (47, "hM"),
+            (400, "z"),
+        ):
+            self.assertEqual(count_of(count), text)
+        rows = (
+            b"\xff" * 3 + b"\x00" * 3,
+            b"\xff" * 3 + b"\x00" * 3,
+            bytes(6),
+            b"\x0a" + b"\xff" * 5,
+        )
+        self.assertEqual(run_lengths(rows), b"LF,:,0A!")
+        self.assertEqual(jobs.data_of_run_lengths(run_lengths(rows), 6), b"".join(rows))
+
+    def test_a_decoder_that_would_see_a_wrong_count(self) -> None:
+        with self.assertRaises(jobs.JobError):
+            jobs.data_of_run_lengths(b"MF,", 3)
+        with self.assertRaises(jobs.JobError):
+            jobs.data_of_run_lengths(b"KF", 3)
+
+
+if __name__ == "__main__":
+    unittest.main()

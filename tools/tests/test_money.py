@@ -1,0 +1,48 @@
+"""Every price of prices_right.txt is one, with its value, and no text of prices_wrong.txt is one.
+
+A line without a value is right, but needs --price-text: the grammar says so. `~`, `^` and `_` are
+spaces of Unicode.
+"""
+
+import unittest
+from decimal import Decimal
+
+import support
+from labeltools import money
+
+SPACES = str.maketrans({"~": "\u00a0", "^": "\u202f", "_": "\u2009"})
+
+
+def lines_of(name: str) -> list[str]:
+    lines = (support.TESTS / name).read_text(encoding="utf-8").split("\n")
+    return [line for line in lines if line and not line.startswith("# ")]
+
+
+class Prices(unittest.TestCase):
+    def test_prices(self) -> None:
+        count = 0
+        for line in lines_of("prices_right.txt"):
+            cell, bar, value = line.translate(SPACES).rpartition("|")
+            if value and bar:
+                with self.subTest(cell):
+                    price = money.parse(cell)
+                    readings = [price.value, price.value / 1000] if price.is_open else [price.value]
+                    self.assertIn(Decimal(value), readings)
+                    self.assertEqual(price.text, cell.strip())
+                    count += 1
+            elif bar:
+                with self.assertRaises(money.NotMoney, msg=cell):
+                    money.parse(cell)
+        self.assertGreater(count, 500)
+
+    def test_no_prices(self) -> None:
+        lines = lines_of("prices_wrong.txt")
+        self.assertGreater(len(lines), 300)
+        for line in lines:
+            cell = line.replace("\\n", "\n").replace("\\ufffd", "\ufffd")
+            with self.subTest(cell), self.assertRaises(money.NotMoney):
+                money.parse(cell)
+
+
+if __name__ == "__main__":
+    unittest.main()

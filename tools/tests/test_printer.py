@@ -1,0 +1,329 @@
+"""label-print and CUPS: the line to type, --print, and the edges of a page."""
+
+import os
+import re
+import subprocess
+import tempfile
+import unittest
+from pathlib import Path
+from typing import Any, Optional
+
+import jobs
+import support
+from labeltools.print_job import PrintOptions, planned
+from labeltools.printer import lp_words
+from laying import laid_out, look
+
+LINES = support.file_of(
+    [(f"ean13 {support.ean13(400638000000 + number)}", {"title": "Seife"}) for number in range(3)]
+)
+# a program that keeps its words and its standard input, and one that lists the options of a queue
+LP = """#!/bin/sh
+printf '%s\\n' "$@" > "$KEPT/words"; cat > "$KEPT/input"
+[ "$2" != broken ] || { echo 'lp: The printer or class does not exist.' >&2; exit 1; }
+echo "request id is $2-7 (1 file(s))"
+"""
+LPOPTIONS = """#!/bin/sh
+case $2 in
+zebra) echo 'PageSize/Media Size: *w288h360 Custom.WIDTHxHEIGHT'
+    echo 'Resolution/Resolution: *203dpi 300dpi 600dpi' ;;
+dymo) echo 'Resolution/Resolution: 300dpi *300x600dpi' ;;
+*) echo 'lpoptions: Unable to get PPD file' >&2; exit 1 ;;
+esac
+"""
+
+
+def setUpModule() -> None:
+    os.environ["LABELS"] = str(support.labels_program())
+
+
+class Lines(unittest.TestCase):
+    """The line of lp(1) that prints what was written."""
+
+    def words(self, **options: Any) -> Optional[str]:
+        words = lp_words(planned(PrintOptions(**options)), "NAME")
+        return " ".join(words) if words else None
+
+    def test_each_form(self) -> None:
+        end = "-o Resolution=203dpi -o print-scaling=none"
+        roll = {"paper": (60.0, 40.0), "dpi": 203}
+        self.assertEqual(self.words(**roll), f"lp -d NAME -o media=Custom.60x40mm {end}")
+        self.assertEqual(self.words(**roll, to="zpl"), "lp -d NAME -o raw")
+        self.assertEqual(self.words(**roll, to="escpos"), "lp -d NAME -o raw")
+        for form in ("png", "svg", "pbm"):
+            self.assertIsNone(self.words(**roll, to=form))
+        grid = {"cell": (63.5, 38.1), "columns": 3, "rows": 7}
+        line = "lp -d NAME -o media=A4 -o Resolution=600dpi -o print-scaling=none"
+        self.assertEqual(self.words(**grid), line)
+        letter = self.words(**grid, page=(215.9, 279.4))
+        self.assertIn("media=Letter", str(letter))
+
+    def test_it_is_said_by_summary(self) -> None:
+        done = support.printed("--paper", "60x40", "--dpi", "203", "--summary", input=LINES)
+        line = (
+            "lp -d NAME -o media=Custom.60x40mm -o Resolution=203dpi -o print-scaling=none FILE.pdf"
+        )
+        self.assertEqual(
+            support.messages(done),
+            [f"label-print: 3 labels on 3 pages; print the file by: {line}"],
+        )
+        done = support.printed("--paper", "60x40", "--dpi", "203", input=LINES)
+        self.assertEqual((done.returncode, done.stderr), (0, b""))
+
+    def test_it_is_said_on_a_terminal(self) -> None:
+        command = f"{support.TOOLS}/label-print --paper 60x40 --dpi 203 --to zpl FILE > /dev/null"
+        with tempfile.NamedTemporaryFile() as file:
+            Path(file.name).write_bytes(LINES)
+            line = command.replace("FILE", file.name)
+            shown = subprocess.run(
+                ["script", "-qec", line, "/dev/null"],
+                capture_output=True,
+                env=support.environment(),
+            )
+        self.assertIn(b"3 labels; print the file by: lp -d NAME -o raw FILE.zpl", shown.stdout)
+
+
+class Printing(unittest.TestCase):
+    def setUp(self) -> None:
+        folder = tempfile.TemporaryDirectory()
+        self.addCleanup(folder.cleanup)
+        self.folder = Path(folder.name)
+        for name, script in (("lp", LP), ("lpoptions", LPOPTIONS)):
+            (self.folder / name).write_text(script)
+            (self.folder / name).chmod(0o755)
+
+    def printed(self, *arguments: str) -> "support.Finished[bytes]":
+        """Runs label-print with the programs of this test in place of those of CUPS."""
+        path = f"{self.folder}{os.pathsep}{os.environ['PATH']}"
+        return support.printed(*arguments, input=LINES, PATH=path, KEPT=str(self.folder))
+
+    def sent(self) -> tuple[str, bytes]:
+        """The words and the standard input of lp."""
+        words = (self.folder / "words").read_text().split("\n")[:-1]
+        return " ".join(words), (self.folder / "input").read_bytes()
+
+    def test_a_queue_of_the_same_dots(self) -> None:
+        done = self.printed("--paper", "60x40", "--dpi", "300", "--print", "zebra")
+        self.assertEqual((done.returncode, done.stdout), (0, b""), done.stderr)
+        self.assertEqual(support.messages(done), ["label-print: request id is zebra-7 (1 file(s))"])
+        words, data = self.sent()
+        size = "media=Custom.60x40mm"
+        self.assertEqual(words, f"-d zebra -o {size} -o Resolution=300dpi -o print-scaling=none")
+        plain = support.printed("--paper", "60x40", "--dpi", "300", input=LINES).stdout
+        self.assertEqual(data, plain)
+
+    def test_a_job_for_the_printer_itself(self) -> None:
+        done = self.printed("--paper", "60x40", "--dpi", "203", "--to", "zpl", "--print", "raw")
+        self.assertEqual(done.returncode, 0, done.stderr)
+        words, data = self.sent()
+        self.assertEqual(words, "-d raw -o raw")
+        self.assertEqual(len(jobs.dots_of_zpl(data)), 3)
+
+    def test_a_queue_of_other_dots_is_refused(self) -> None:
+        for arguments, said in (
+            (
+                ("--dpi", "180", "--print", "zebra"),
+                "prints at 203dpi or 300dpi or 600dpi, and the labels",
+            ),
+            (("--print", "zebra", "--paper", "60x40", "--dpi", "1200"), "the labels have 1200 dpi"),
+            (("--dpi", "203", "--to", "zpl", "--print", "dymo"), "prints at 300dpi or 300x600dpi"),
+            (("--dpi", "203", "--print", "unknown"), "does not say its resolution"),
+        ):
+            sheet = () if "--paper" in arguments else ("--paper", "60x40")
+            done = self.printed(*sheet, *arguments)
+            self.assertNotEqual(done.returncode, 0)
+            self.assertIn(said, done.stderr.decode())
+            self.assertFalse((self.folder / "input").exists(), arguments)
+        self.assertIn("type: lp -d unknown -o media=Custom.60x40mm", done.stderr.decode())
+
+    def test_forms_that_no_printer_takes(self) -> None:
+        done = self.printed("--paper", "60x40", "--dpi", "203", "--to", "png", "--print", "zebra")
+        self.assertEqual(done.returncode, 2)
+        self.assertIn(b"printers do not take png", done.stderr)
+        done = self.printed("--paper", "60x40", "--print", "zebra", "--each", "x/%d.pdf")
+        self.assertEqual(done.returncode, 2)
+
+    def test_what_lp_refuses(self) -> None:
+        lpoptions = (self.folder / "lpoptions").read_text().replace("zebra)", "broken)")
+        (self.folder / "lpoptions").write_text(lpoptions)
+        done = self.printed("--paper", "60x40", "--dpi", "203", "--print", "broken")
+        self.assertEqual(done.returncode, 1)
+        self.assertIn(b"does not exist", done.stderr)
+        (self.folder / "lpoptions").unlink()
+        path = str(self.folder)
+        done = support.printed("--paper", "60x40", "--print", "zebra", input=LINES, PATH=path)
+        self.assertEqual(done.returncode, 1)
+        self.assertIn(b"apt-get install cups-client", done.stderr)
+
+
+class Edges(unittest.TestCase):
+    def test_four_edges(self) -> None:
+        """A Dymo prints nothing on 6 mm at one end and on 1.5 mm at the others."""
+        roll = ("--paper", "89x36", "--dpi", "300", "--to", "pbm")
+        data = support.file_of([("ean13 400638133393", {"title": "Seife", "price": "1,20 €"})])
+        done = support.printed(*roll, "--edge", "6,1.5,1.5,4", input=data)
+        self.assertEqual(done.returncode, 0, done.stderr)
+        (dots,) = jobs.pictures_of_pbm(done.stdout)
+        left, top, right, bottom = jobs.ink_of(dots)
+        dot = 25.4 / 300
+        self.assertGreaterEqual(left * dot, 6)
+        self.assertGreaterEqual(top * dot, 1.5)
+        self.assertLessEqual(right * dot, 87.5 + dot)
+        self.assertLessEqual(bottom * dot, 32 + dot)
+        other = support.printed(*roll, "--edge", "1.5,1.5,6,4", input=data)
+        self.assertLess(jobs.ink_of(jobs.pictures_of_pbm(other.stdout)[0])[0], left)
+
+    def test_an_edge_that_is_no_edge(self) -> None:
+        for edge in ("1,2", "1,2,3", "1,2,3,4,5", "a", "1,2,3,-4"):
+            done = support.printed("--paper", "89x36", "--edge", edge, input=LINES)
+            self.assertEqual((done.returncode, done.stdout), (2, b""), edge)
+
+    def test_one_edge_for_all(self) -> None:
+        one = support.printed("--paper", "89x36", "--edge", "3", input=LINES).stdout
+        four = support.printed("--paper", "89x36", "--edge", "3,3,3,3", input=LINES).stdout
+        self.assertTrue(one and one == four)
+
+
+class Hostile(unittest.TestCase):
+    """Input and arguments that would take much memory or time, or another program's pictures."""
+
+    def test_a_second_file_for_labels(self) -> None:
+        with tempfile.NamedTemporaryFile(suffix=".lines") as other:
+            Path(other.name).write_bytes(b"ean13 501234567890\n" * 3)
+            for words in (other.name, f"-- {other.name}", f"--level H {other.name}"):
+                done = support.printed("--paper", "60x40", f"--labels={words}", input=LINES)
+                self.assertEqual((done.returncode, done.stdout), (2, b""), words)
+
+    def test_copies_are_numbers(self) -> None:
+        labels = [("ean8 7351353", {"copies": 9999})] * 101
+        done = support.printed("--paper", "60x40", input=support.file_of(labels))
+        self.assertEqual((done.returncode, done.stdout), (1, b""))
+        self.assertIn(b"1,009,899 labels with their copies: 1,000,000 are the most", done.stderr)
+
+    def test_ten_thousand_marks_on_a_letter(self) -> None:
+        for title in ("a" + "\u0301" * 10_000, "x" * 30_000, "\n".join("abc" * 10_000)):
+            laid = laid_out(support.file_of([("ean8 7351353", {"title": title})]), (60.0, 40.0))
+            self.assertEqual(len(laid.labels), 1)
+            look(self, laid, laid.labels[0])
+
+    def test_pages_that_are_too_large(self) -> None:
+        for page in (
+            ("--paper", "9999x9999", "--dpi", "1200"),
+            ("--paper", "60x40", "--dpi", "9999"),
+        ):
+            done = support.printed(*page, "--to", "pbm", input=LINES)
+            self.assertNotEqual(done.returncode, 0)
+            self.assertEqual(done.stdout, b"")
+            self.assertTrue(done.stderr)
+
+    def test_files_that_follow_a_link(self) -> None:
+        """A name that another label has is no part of a file, and no link is followed."""
+        data = support.file_of([("qr a.part", {}), ("qr a", {}), ("qr .1.part", {})])
+        with tempfile.TemporaryDirectory() as folder:
+            roll = ("--paper", "60x40", "--dpi", "203", "--each", f"{folder}/new/%s")
+            done = support.printed(*roll, "--to", "png", input=data)
+            self.assertEqual((done.returncode, done.stderr), (0, b""))
+            found = sorted(os.listdir(f"{folder}/new"))
+            self.assertEqual(found, ["_1.part", "a", "a.part"])
+
+    def test_a_full_disk_names_its_file(self) -> None:
+        with tempfile.TemporaryDirectory() as folder:
+            shell = f'trap "" XFSZ; ulimit -f 1; "$@" --each {folder}/new/%d.pbm'
+            words = [str(support.TOOLS / "label-print"), "--paper", "90x90", "--dpi", "300"]
+            data = support.file_of([("ean8 7351353", {})])
+            done = subprocess.run(
+                ["bash", "-c", shell, "sh", *words],
+                input=data,
+                capture_output=True,
+                env=support.environment(),
+            )
+            self.assertEqual(done.returncode, 1)
+            self.assertIn(f"label-print: {folder}/new/1.pbm: File too large", done.stderr.decode())
+            self.assertEqual(os.listdir(f"{folder}/new"), [])
+
+    def test_control_characters_in_arguments(self) -> None:
+        for option in ("--stock", "--font", "--print"):
+            sheet = () if option == "--stock" else ("--paper", "60x40", "--dpi", "203")
+            done = support.run("label-print", *sheet, option, "\x1b[2J\u202e", input=LINES)
+            self.assertNotEqual(done.returncode, 0)
+            self.assertNotIn(b"\x1b", done.stderr, option)
+            self.assertNotIn("\u202e".encode(), done.stderr, option)
+
+    def test_bytes_that_are_no_text(self) -> None:
+        for option in (b"--stock", b"--font", b"--digits", b"--note"):
+            sheet = (b"--paper", b"60x40") if option != b"--stock" else ()
+            done = support.run("label-print", *sheet, option, b"\xff\xfe", input=LINES)
+            self.assertNotEqual(done.returncode, 0, option)
+            self.assertNotIn(b"Traceback", done.stderr, option)
+
+    def test_a_program_that_hangs_ends_with_its_parent(self) -> None:
+        with tempfile.TemporaryDirectory() as folder:
+            program = Path(folder, "labels")
+            program.write_text('#!/bin/sh\necho $$ > "$KEPT/pid"; exec sleep 300\n')
+            program.chmod(0o755)
+            lines = Path(folder, "lines")
+            lines.write_bytes(LINES)
+            command = [str(support.TOOLS / "label-print"), "--paper", "60x40", str(lines)]
+            names = {**support.environment(), "LABELS": str(program), "KEPT": folder}
+            run = subprocess.Popen(command, stdout=subprocess.DEVNULL, env=names)
+            kept = Path(folder, "pid")
+            while not (kept.exists() and kept.read_text().strip()):
+                self.assertIsNone(run.poll())
+            child = int(kept.read_text())
+            run.kill()
+            run.wait()
+            for _ in range(100):
+                if not Path(f"/proc/{child}").exists() or is_gone(child):
+                    break
+                subprocess.run(["sleep", "0.05"])
+            self.assertTrue(not Path(f"/proc/{child}").exists() or is_gone(child))
+
+    def test_a_program_that_is_killed(self) -> None:
+        with tempfile.TemporaryDirectory() as folder:
+            program = Path(folder, "labels")
+            program.write_text("#!/bin/sh\nprintf 'P1\\n81 1\\n0101'; kill -KILL $$\n")
+            program.chmod(0o755)
+            done = support.printed("--paper", "60x40", input=LINES, LABELS=str(program))
+            self.assertEqual((done.returncode, done.stdout), (3, b""))
+            self.assertIn(b"ended by signal 9 (SIGKILL)", done.stderr)
+
+    def test_another_program_on_the_path_draws_nothing(self) -> None:
+        """The program is the package's own, unless LABELS names another one; one on the path has to
+        be of the same version.
+        """
+        with tempfile.TemporaryDirectory() as folder:
+            program = Path(folder, "labels")
+            drawn = f"[ $1 = --help ] || touch {folder}/drawn"
+            program.write_text(f"#!/bin/sh\n{drawn}; echo labels 0.9.0\n")
+            program.chmod(0o755)
+            path = f"{folder}{os.pathsep}{os.environ['PATH']}"
+            done = support.printed("--paper", "60x40", input=LINES, LABELS="", PATH=path)
+            self.assertFalse(Path(folder, "drawn").exists())
+            built = support.TOP / "crates/labels/out/labels"
+            self.assertEqual(done.returncode, 0 if os.access(built, os.X_OK) else 1, done.stderr)
+            if done.returncode:
+                self.assertIn(b"is another labels than that of these tools", done.stderr)
+
+    def test_the_version_of_the_program(self) -> None:
+        from labeltools.engine import HELP, check_version
+        from labeltools.messages import ToolError
+
+        program = support.labels_program()
+        shown = subprocess.run([str(program), "--help"], capture_output=True).stdout
+        self.assertTrue(shown.startswith(HELP))
+        check_version(str(program))
+        with self.assertRaisesRegex(ToolError, "is another labels than that of these tools"):
+            check_version("/bin/echo")
+
+
+def is_gone(process: int) -> bool:
+    """Whether a process has ended and only its parent has not seen it."""
+    try:
+        state = Path(f"/proc/{process}/stat").read_text()
+    except OSError:
+        return True
+    return re.sub(r"^.*\) ", "", state).startswith("Z")
+
+
+if __name__ == "__main__":
+    unittest.main()

@@ -1,0 +1,152 @@
+"""Tests of what the tools share: messages, the table of symbologies, and the file between the two
+commands.
+"""
+
+import doctest
+import io
+import re
+import sys
+import unittest
+from types import ModuleType
+from unittest import mock
+
+import support
+from labeltools import codes, columns, csv_table, lines_file, messages, money, names, number_format
+from labeltools import ods, prices, shape, summary, symbologies, workbook, xlsx
+from labeltools.lines_file import Label, first_remark, label_lines, last_remark, read_lines
+from labeltools.messages import Place, ToolError, write_message
+from labeltools.symbologies import SYMBOLOGIES
+
+# the keys of settings of each symbology, as the filter's own source has them
+KEY_OF = support.TOP / "crates/labelcore/src/settings.rt"
+CODE = "4006381333931"
+
+
+class Messages(unittest.TestCase):
+    def written(self, message: str) -> str:
+        stream = io.StringIO()
+        with mock.patch.object(sys, "stderr", stream):
+            write_message("label-table", message)
+        return stream.getvalue()
+
+    def test_a_message_is_one_line_that_changes_no_terminal(self) -> None:
+        self.assertEqual(self.written("Käse: 1\u202f299 €"), "label-table: Käse: 1\u202f299 €\n")
+        for sign in ("\x1b", "\x07", "\x9b", "\r", "\n", "\u202e", "\u2028", "\udce4"):
+            shown = f"label-table: a<U+{ord(sign):04X}>b\n"
+            self.assertEqual(self.written(f"a{sign}b"), shown)
+
+    def test_what_a_message_says_and_what_to_do(self) -> None:
+        error = ToolError("there is no sheet", "give --sheet", 2)
+        self.assertEqual(
+            (str(error), error.what), ("there is no sheet: give --sheet", "there is no sheet")
+        )
+        self.assertEqual(str(ToolError("there is no sheet")), "there is no sheet")
+
+
+class Symbologies(unittest.TestCase):
+    def keys_of_the_filter(self) -> dict[str, tuple[str, ...]]:
+        """The keys that each symbology takes in `key_of`, by the arms of its match."""
+        body = KEY_OF.read_text("utf-8").split("fn key_of(", 1)[1].split("\n}\n", 1)[0]
+        found = {}
+        for arm in re.split(r"(?=\n        Symbology::)", body)[1:]:
+            names, _, rest = arm.partition("=>")
+            keys = tuple(re.findall('is_word\\(name, b"([a-z-]+)"\\)', rest))
+            for name in re.findall("Symbology::([A-Za-z0-9]+)", names):
+                found[name.lower()] = keys
+        return found
+
+    def test_the_keys_of_settings_are_those_of_the_filter(self) -> None:
+        wanted = {name: one.settings for name, one in SYMBOLOGIES.items()}
+        self.assertEqual(self.keys_of_the_filter(), wanted)
+
+    def test_the_modules_are_those_that_labels_draws(self) -> None:
+        examples = {"ean13": CODE, "ean8": "73513537", "upca": "036000291452"}
+        for name, data in examples.items():
+            picture, said, status = support.draw(
+                f"{name} {data}\n", "--scale", "1", "--height", "1"
+            )
+            self.assertEqual((said, status), (b"", 0))
+            row = "".join(picture.decode().split("\n")[2:])
+            symbology = SYMBOLOGIES[name]
+            left, right = symbology.quiet
+            self.assertEqual(row[: left + 1], "0" * left + "1")
+            self.assertEqual(row[-right - 1 :], "1" + "0" * right)
+            for span in symbology.guards:
+                self.assertIn("1", row[span.left : span.right])
+            places = [place.last - place.first for place in symbology.places]
+            self.assertEqual(sum(places), symbology.digits)
+
+
+class LinesFile(unittest.TestCase):
+    LABELS = (
+        Label(2, "Pencil\n2B", ("red",), "0,80 €", "8 €/kg", "1,00 €", 3),
+        Label(4),
+    )
+
+    def file(self) -> bytes:
+        lines = [first_remark("articles.xlsx")]
+        lines.append(label_lines(self.LABELS[0], f"ean13 {CODE[:-1]}", True))
+        lines.append(label_lines(self.LABELS[1], "qr,level=Q a\\nb", False))
+        lines.append(last_remark(2, [3, 5]))
+        return "".join(lines).encode()
+
+    def test_what_is_written_is_read(self) -> None:
+        found = read_lines(self.file(), "x")
+        self.assertEqual(tuple(record.label for record in found.records), self.LABELS)
+        places = [record.place for record in found.records]
+        self.assertEqual(places, [Place("articles.xlsx", "row", row) for row in (2, 4)])
+        data = [(record.number, record.symbology, record.data) for record in found.records]
+        self.assertEqual(data, [(3, "ean13", CODE.encode()), (5, "qr", b"a\\nb")])
+        self.assertEqual([str(place) for place in found.left_out], ["row 3", "row 5"])
+        self.assertEqual(found.left_out_count, 2)
+        self.assertEqual(read_lines(self.file(), "x", has_escapes=True).records[1].data, b"a\nb")
+
+    def test_lines_of_no_table(self) -> None:
+        found = read_lines(b"# a remark\nqr a\r\n\nean8 7351353\n", "x")
+        self.assertEqual([record.data for record in found.records], [b"a\r", b"73513537"])
+        self.assertEqual([str(record.place) for record in found.records], ["line 2", "line 4"])
+
+    def refused(self, data: bytes) -> str:
+        with self.assertRaises(ToolError) as caught:
+            read_lines(data, "x")
+        return str(caught.exception)
+
+    def test_a_file_that_is_cut_anywhere_is_refused(self) -> None:
+        data = self.file()
+        for end in range(2, len(data)):
+            self.assertRegex(self.refused(data[:end]), "^x(: line [0-9]+: | is not whole)")
+
+    def test_a_file_that_windows_has_changed(self) -> None:
+        problem = "x: line 1 ends in CR LF: a program of Windows has changed the file; "
+        problem += "take the file as label-table wrote it"
+        self.assertEqual(self.refused(self.file().replace(b"\n", b"\r\n")), problem)
+        some = self.file().replace(b"a\\nb\n", b"a\\nb\r\n")
+        self.assertEqual(self.refused(some), problem.replace("line 1", "line 5"))
+
+    def test_objects_that_are_not_understood(self) -> None:
+        for key, value in (
+            ("colour", '"red"'),
+            ("was", '"1\\n2"'),
+            ("unit", "3"),
+            ("copies", "10000"),
+            ("copies", "true"),
+            ("row", "-1"),
+            ("title", '"a\\u0007"'),
+        ):
+            text = self.file().replace(b'"row":4', f'"row":4,"{key}":{value}'.encode())
+            self.assertRegex(self.refused(text), "^x: line 4: not understood: ")
+
+
+def load_tests(
+    loader: unittest.TestLoader, tests: unittest.TestSuite, _: object
+) -> unittest.TestSuite:
+    shared: list[ModuleType] = [messages, symbologies, lines_file]
+    readers: list[ModuleType] = [csv_table, workbook, xlsx, ods, number_format, shape]
+    rules: list[ModuleType] = [codes, columns, money, names, prices, summary]
+    for module in (*shared, *readers, *rules):
+        tests.addTests(doctest.DocTestSuite(module))
+    return tests
+
+
+if __name__ == "__main__":
+    unittest.main()

@@ -1,0 +1,111 @@
+"""Files that are made to do harm: each ends with a message, within 10 seconds of the processor and
+500 MB.
+"""
+
+import io
+import resource
+import subprocess
+import unittest
+import zipfile
+from typing import Dict
+
+import support
+from test_table import SMALL, TableTest
+from test_table_workbooks import cell, ods, ods_cell, packed, rows, table, unpacked, xlsx
+
+SECONDS = 10
+MEMORY = 500 << 20
+MANY = 8_000_000
+
+
+class Hostile(TableTest):
+    def ended(self, data: bytes, *arguments: str) -> str:
+        """The last message of label-table with these limits; a traceback or a signal fails."""
+        path = self.folder / "hostile"
+        path.write_bytes(data)
+        command = [str(support.TOOLS / "label-table"), "--code", "EAN", *arguments, str(path)]
+
+        def limit() -> None:
+            resource.setrlimit(resource.RLIMIT_AS, (MEMORY, MEMORY))
+            resource.setrlimit(resource.RLIMIT_CPU, (SECONDS, SECONDS))
+
+        done = subprocess.run(
+            command, capture_output=True, env=support.environment(), timeout=300, preexec_fn=limit
+        )
+        self.assertNotIn(b"Traceback", done.stderr)
+        self.assertIn(done.returncode, (0, 1, 2), done.stderr[-300:])
+        return support.messages(done)[-1] if done.stderr else ""
+
+    def large_part(self, parts: Dict[str, str], name: str, piece: bytes, count: int) -> bytes:
+        """A zip with a part of many equal pieces."""
+        stream = io.BytesIO(packed({one: text for one, text in parts.items() if one != name}))
+        with zipfile.ZipFile(stream, "a", zipfile.ZIP_DEFLATED) as archive:
+            with archive.open(name, "w") as part:
+                for _ in range(count):
+                    part.write(piece)
+        return stream.getvalue()
+
+    def test_one_cell_many_times(self) -> None:
+        wide = ods_cell("x" * 100_000, more='table:number-columns-repeated="16384"')
+        self.assertIn("more than 1 MB", self.ended(ods(table(["EAN", wide]))))
+        row = (
+            "<table:table-row"
+            f' table:number-rows-repeated="1000000">{ods_cell(SMALL)}</table:table-row>'
+        )
+        self.assertIn("more than 1 MB", self.ended(ods(table(["EAN"], end=row))))
+        line = "".join('<c t="s"><v>0</v></c>' for _ in range(10_000))
+        data = xlsx(f'<row r="1">{line}</row>', strings=f"<si><t>{'x' * 1_000_000}</t></si>")
+        self.assertIn("more than 1 MB", self.ended(data))
+
+    def test_one_text_in_many_rows(self) -> None:
+        line = [SMALL, '<c t="s"><v>0</v></c>']
+        data = xlsx(
+            rows(["EAN", "Name"], *[line] * 20_000), strings=f"<si><t>{'x' * 100_000}</t></si>"
+        )
+        self.assertIn("more than 128 MB of texts", self.ended(data, "--title", "Name"))
+
+    def test_a_format_that_is_no_format(self) -> None:
+        for number_format in ("[$" * 16_000, "[$" * 120, '"' * 16_000, "0" * 16_000, "\\" * 255):
+            data = xlsx(
+                rows(["EAN", "x"], *([SMALL, cell(7, style=1)] for _ in range(50))),
+                formats=[number_format],
+            )
+            self.assertIn("which is not understood", self.ended(data, "--text", "x"))
+
+    def test_many_elements_that_are_none_of_ours(self) -> None:
+        parts = unpacked(xlsx(rows(["EAN"], [SMALL])))
+        sheet = "xl/worksheets/sheet1.xml"
+        begin, end = parts[sheet].split("<sheetData>")
+        stream = io.BytesIO(packed({one: text for one, text in parts.items() if one != sheet}))
+        with zipfile.ZipFile(stream, "a", zipfile.ZIP_DEFLATED) as archive:
+            archive.writestr(sheet, f"{begin}{'<a/>' * MANY}<sheetData>{end}")
+        self.assertIn("more than 1 MB", self.ended(stream.getvalue()))
+
+    def test_a_manifest_of_250_mb(self) -> None:
+        parts = unpacked(ods(table(["EAN"], [SMALL])))
+        self.assertEqual(
+            self.ended(self.large_part(parts, "META-INF/manifest.xml", b" " * (1 << 20), 250)), ""
+        )
+        self.assertIn(
+            "more than 256 MB",
+            self.ended(self.large_part(parts, "META-INF/manifest.xml", b" " * (1 << 20), 257)),
+        )
+
+    def test_lines_of_csv(self) -> None:
+        self.assertIn("has more than 40 MB", self.ended(b"EAN;" + b"a," * 30_000_000))
+        self.assertIn("has a line of more than 1 MB", self.ended(b"EAN;" + b"a," * 15_000_000))
+        self.assertIn(
+            "has a line of more than 1 MB", self.ended(b"EAN;" + b"\xf0\x9f\x98\x80" * 9_000_000)
+        )
+        text = f'EAN;Name\n{SMALL};"' + "abcdefghijklmno\n" * 1_100_000
+        self.assertIn("a quote is not closed", self.ended(text.encode()))
+        self.assertIn("line ends", self.ended(b"\n" * 39_000_000 + b"x;y\n"))
+        self.assertIn("no column", self.ended(b"\n" * 1_100_000 + b"x;y\n"))
+
+    def test_all_rows_are_wrong(self) -> None:
+        text = "EAN;Name\n" + "x;y\n" * 150_000
+        self.assertIn("left out for the same reason as row 2", self.ended(text.encode()))
+
+
+if __name__ == "__main__":
+    unittest.main()

@@ -1,0 +1,685 @@
+"""Workbooks of three writers, read by labeltools and by Gnumeric: each cell, row, hidden row and
+error is compared.
+
+openpyxl and xlsxwriter write .xlsx; .ods is written here as LibreOffice writes it, with the text
+that a cell shows beside its value. Gnumeric works that text out again from the value and the
+format. The seed is fixed. Where the two readers differ, the difference has a name and a reason; a
+difference without one fails.
+"""
+
+import csv
+import gzip
+import importlib.util
+import io
+import os
+import random
+import re
+import subprocess
+import tempfile
+import unittest
+import zipfile
+from collections import Counter
+from datetime import date, timedelta
+from pathlib import Path
+from typing import Any, Callable, Dict, Iterator, List, NamedTuple, Optional, Set, Tuple
+from xml.etree import ElementTree
+
+import support
+from labeltools.messages import RowError
+from labeltools.number_format import Formatter, Signs
+from labeltools.rows import Row
+from labeltools.table import rows_of_workbook
+from test_table_workbooks import ODS_SPACES, XML, packed
+
+SEED = 60
+FORMATS = (
+    *(
+        "General",
+        "0",
+        "0.0",
+        "0.00",
+        "0.000",
+        "0.00000",
+        "#,##0",
+        "#,##0.0",
+        "#,##0.00",
+        "#,##0.000",
+    ),
+    *(
+        "0%",
+        "0.0%",
+        "0.00%",
+        "00000",
+        "000",
+        "0000000000000",
+        "#",
+        "#.##",
+        "0.0#",
+        "0.00##",
+        "#,##0.00##",
+    ),
+    *(
+        '0" Stück"',
+        '0 "kg"',
+        '0.00 "€"',
+        '"€" 0.00',
+        '#,##0.00 "€"',
+        "#,##0.00\\ [$€-407]",
+        "[$$-409]#,##0.00",
+    ),
+    *(
+        "[$£-809]#,##0.00",
+        "#,##0.00\\ [$zł-415]",
+        "[$CHF-807] #,##0.00",
+        "$#,##0.00",
+        "[$€-2] 0.00",
+        "[$¥-411]#,##0",
+    ),
+    *(
+        "0.00;-0.00",
+        "0.00;[Red]-0.00",
+        "#,##0.00_);(#,##0.00)",
+        "0;(0)",
+        '0;0;"free"',
+        "+0;-0;0",
+        "0.00_ ",
+    ),
+    *(
+        '_-* #,##0.00\\ "€"_-;\\-* #,##0.00\\ "€"_-;_-* "-"??\\ "€"_-;_-@_-',
+        "_(* #,##0.00_);_(* (#,##0.00)",
+    ),
+    *(
+        "[Blue]0.00",
+        "[Red]0",
+        "\\A0",
+        "0\\ \\k\\g",
+        '"a;b"0',
+        '0.00 "per kg"',
+        '0.00"/kg"',
+        "(0)",
+        "-0",
+        "0#",
+        "##,##0",
+    ),
+    *(
+        "#,#00.00",
+        '"EUR "#,##0.00',
+        '#,##0"-"',
+        '0.00 "%"',
+        '"No. "0',
+        "[$-407]0.00",
+        "[$-409]#,##0.00",
+        "0.00 [$kr-41D]",
+    ),
+    *(
+        "yyyy-mm-dd",
+        "dd.mm.yyyy",
+        "d.m.yy",
+        "d/m/yy",
+        "dd/mm/yyyy",
+        "mm/dd/yyyy",
+        "yyyy/mm/dd",
+        "dd-mm-yyyy",
+    ),
+    *(
+        "dd.mm.yyyy hh:mm",
+        "yyyy-mm-dd h:mm:ss",
+        "h:mm",
+        "h:mm:ss",
+        "hh:mm AM/PM",
+        "mm:ss",
+        '"MHD "dd.mm.yyyy',
+        "mm/yyyy",
+    ),
+    *(
+        "0.00E+00",
+        "##0.0E+0",
+        "# ?/?",
+        "# ??/??",
+        "[h]:mm",
+        "d. mmm yyyy",
+        "mmm yy",
+        "dddd",
+        "[>100]0.0;0.000",
+    ),
+    *("0.0,", "0,", '0.0,,"M"', "0000-00", "0.?", "#,##0.00;;", "@", '"SKU-"@', '0;-0;0;"<"@">"'),
+)
+# formats of which a cell leaves its row out: what they show depends on the program
+NOT_UNDERSTOOD = {
+    *(
+        "0.00E+00",
+        "##0.0E+0",
+        "# ?/?",
+        "# ??/??",
+        "[h]:mm",
+        "d. mmm yyyy",
+        "mmm yy",
+        "dddd",
+        "[>100]0.0;0.000",
+    ),
+    *("0.0,", "0,", '0.0,,"M"', "0000-00"),
+}
+TEXTS = (
+    "Bleistift",
+    "Käse „x“",
+    "a\nb",
+    " a ",
+    "007",
+    "=A1",
+    "#N/A",
+    "1E5",
+    "x" * 300,
+    "日本語",
+    "A&B <c>",
+    "",
+)
+SPACES = dict.fromkeys(map(ord, "\u00a0\u202f\u2009"), " ")
+
+
+class Found(NamedTuple):
+    """What a reader says of a cell: its text as shown, or why it has none."""
+
+    text: Optional[str]
+    reason: str = ""
+
+
+class Sheet(NamedTuple):
+    """What a reader says of a sheet: its cells by row, from 1, and place, from 0, and its hidden
+    rows.
+    """
+
+    cells: Dict[Tuple[int, int], Found]
+    hidden: Set[int]
+
+
+class Made(NamedTuple):
+    """A workbook that was made: its data, and the format of each cell that has one."""
+
+    data: bytes
+    formats: Dict[Tuple[int, int], str]
+
+
+def ours(data: bytes) -> Sheet:
+    """What labeltools reads."""
+    formatter = Formatter(Signs(".", ","))
+    cells: Dict[Tuple[int, int], Found] = {}
+    hidden = set()
+    for row in rows_of_workbook(data, "x", None, formatter):
+        if row.is_hidden:
+            hidden.add(row.number)
+        for place in range(len(row.cells)):
+            found = found_in(row, place)
+            if found.text != "":
+                cells[row.number, place] = found
+    return Sheet(cells, hidden)
+
+
+def found_in(row: Row, place: int) -> Found:
+    """What labeltools reads in a cell."""
+    cell = row.cells[place]
+    try:
+        return Found(cell if isinstance(cell, str) else cell.shown())
+    except RowError as problem:
+        return Found(None, problem.what)
+
+
+def gnumerics(data: bytes, ending: str) -> Sheet:
+    """What Gnumeric reads: errors and truth values have a reason in place of a text."""
+    support.needs("ssconvert")
+    with tempfile.TemporaryDirectory() as folder:
+        path = Path(folder, f"book.{ending}")
+        path.write_bytes(data)
+        options = "separator=';' format=preserve quoting-mode=always eol=unix"
+        text = converted(path, "Gnumeric_stf:stf_assistant", "-O", options)
+        book = converted(path, "Gnumeric_XmlIO:sax:0")
+    root = ElementTree.fromstring(gzip.decompress(book) if book[:2] == b"\x1f\x8b" else book)
+    space = {"g": root.tag[1:].partition("}")[0]}
+    hidden = set()
+    for row in root.iterfind(".//g:RowInfo", space):
+        if row.get("Hidden") == "1":
+            first = int(row.attrib["No"]) + 1
+            hidden.update(range(first, first + int(row.get("Count", "1"))))
+    kinds = {
+        (int(one.attrib["Row"]) + 1, int(one.attrib["Col"])): one
+        for one in root.iterfind(".//g:Cell", space)
+    }
+    cells = {}
+    for number, line in enumerate(csv.reader(io.StringIO(text.decode()), delimiter=";"), 1):
+        for place, shown in enumerate(line):
+            if shown:
+                cells[number, place] = seen_by_gnumeric(shown, kinds.get((number, place)))
+    return Sheet(cells, hidden)
+
+
+def seen_by_gnumeric(shown: str, kind: Optional[ElementTree.Element]) -> Found:
+    """What Gnumeric says of a cell, by its text and its type."""
+    number = "" if kind is None else kind.get("ValueType", "")
+    is_formula = kind is not None and number == ""
+    if number == "50" or is_formula and re.fullmatch(r"#[A-Z0-9/]+[!?]?", shown):
+        return Found(None, "error")
+    return Found(None, "truth value") if number == "20" else Found(shown.replace("\u2212", "-"))
+
+
+def converted(path: Path, kind: str, *options: str) -> bytes:
+    """A workbook as ssconvert writes it."""
+    target = path.with_suffix(".out")
+    environment = {**os.environ, "LC_ALL": "C.UTF-8"}
+    command = ["ssconvert", "-T", kind, *options, str(path), str(target)]
+    done = subprocess.run(command, capture_output=True, env=environment, timeout=support.SECONDS)
+    if done.returncode:
+        raise AssertionError(done.stderr.decode())
+    return target.read_bytes()
+
+
+def same(one: str, other: str) -> bool:
+    """Whether two texts are the same but for the kind of their spaces, and those at their ends."""
+    return plain(one) == plain(other)
+
+
+def plain(text: str) -> str:
+    return " ".join(text.translate(SPACES).split())
+
+
+# ---- the differences that have a name: what labeltools and Gnumeric say, and the format
+
+Difference = Callable[[Found, Found, str], bool]
+
+
+def refused(wanted: str) -> Difference:
+    """labeltools refuses a cell for a reason."""
+    return lambda mine, theirs, number_format: mine.text is None and wanted in mine.reason
+
+
+def has_own_signs(mine: Found, theirs: Found, number_format: str) -> bool:
+    """The format names a language: labeltools takes its signs, Gnumeric those of its own
+    language.
+    """
+    if mine.text is None or theirs.text is None or "[$" not in number_format:
+        return False
+    swapped = plain(theirs.text).translate(str.maketrans({",": "", ".": ","}))
+    apostrophe = plain(theirs.text).replace(",", "’")
+    bare = re.sub(r"(?<=\d)[. ](?=\d{3})", "", plain(mine.text))
+    return bare == swapped or plain(mine.text) == apostrophe
+
+
+def has_fill(mine: Found, theirs: Found, number_format: str) -> bool:
+    """The format has `* `, which fills the column with spaces."""
+    if mine.text is None or theirs.text is None or "* " not in number_format:
+        return False
+    return mine.text.replace(" ", "") == theirs.text.replace(" ", "")
+
+
+def is_no_digit(mine: Found, theirs: Found, number_format: str) -> bool:
+    """A zero by a format without a digit that has to be there."""
+    return number_format == "#" and (mine.text, theirs.text) == ("", "0")
+
+
+def is_half(mine: Found, theirs: Found, number_format: str) -> bool:
+    """A number in the middle of two, as 26.05 by one decimal: the last digit is one lower."""
+    if mine.text is None or theirs.text is None or number_format not in ("0.?", "0.0", "0.00"):
+        return False
+    return abs(round(float(mine.text) - float(theirs.text), 6)) in (0.1, 0.01)
+
+
+def is_short(mine: Found, theirs: Found, number_format: str) -> bool:
+    """General, and more digits than Gnumeric shows."""
+    if number_format not in ("General", "@") or mine.text is None or "E" not in str(theirs.text):
+        return False
+    value = float(mine.text)
+    return abs(value - float(str(theirs.text))) <= abs(value) * 1e-5
+
+
+DIFFERENCES: Dict[str, Difference] = {
+    "the format depends on the program: the row is left out": lambda mine, theirs, number_format: (
+        number_format in NOT_UNDERSTOOD and mine.text is None and "number format" in mine.reason
+    ),
+    "a part of a format in which programs differ: the row is left out": refused(
+        "is not understood"
+    ),
+    "General with more digits than a column shows: the row is left out": refused(
+        "without a number of decimals"
+    ),
+    "a time between two seconds: LibreOffice cuts it, Gnumeric rounds": refused(
+        "between two seconds"
+    ),
+    "a number that is no date of every spreadsheet": refused(
+        "is a date before March 1900 or after 9999"
+    ),
+    "a format that a file names by its number, and each language has its own": refused(
+        "depends on the language"
+    ),
+    "the language of the format decides its signs": has_own_signs,
+    "Gnumeric fills a wide column with spaces": has_fill,
+    "Gnumeric shows a zero by #, and Excel and LibreOffice do not": is_no_digit,
+    "Gnumeric shows fewer digits by General": is_short,
+    "Gnumeric rounds a half down, and LibreOffice up": is_half,
+    "an error is an error in both": (
+        lambda mine, theirs, _: mine.text is None and theirs.reason == "error"
+    ),
+    "a truth value is one in both": (
+        lambda mine, theirs, _: mine.text is None and theirs.reason == "truth value"
+    ),
+    "a formula that was never calculated: Gnumeric calculates it": refused(
+        "a formula without a saved value"
+    ),
+}
+
+
+def values(numbers: random.Random) -> Iterator[float]:
+    """Numbers of shops: prices, counts, codes, calculated ones, and days."""
+    yield from (
+        0,
+        1,
+        7,
+        12,
+        0.5,
+        0.8,
+        -3.5,
+        1234.5,
+        12999,
+        45678,
+        4006381333931,
+        0.1 + 0.2,
+        1e-9,
+        -0.001,
+    )
+    while True:
+        yield numbers.choice(
+            (
+                round(numbers.uniform(0, 100), 2),
+                round(numbers.uniform(0, 5000), 2),
+                numbers.randrange(100000),
+                -round(numbers.uniform(0, 100), 2),
+                numbers.randrange(36526, 54789) + numbers.choice((0.0, 0.0, 0.25, 0.771875)),
+                numbers.uniform(0, 1),
+            )
+        )
+
+
+def table_of(numbers: random.Random, columns: int) -> List[List[Tuple[Any, str]]]:
+    """Rows of values with their formats: one row for each format, and rows of texts."""
+    lines = []
+    found = values(numbers)
+    first = [next(found) for _ in range(14)]
+    for number_format in FORMATS:
+        some = numbers.sample(first, columns // 2)
+        rest = [next(found) for _ in range(columns - len(some))]
+        lines.append([(value, number_format) for value in (*some, *rest)])
+    for _ in range(8):
+        lines.append(
+            [(numbers.choice(TEXTS), numbers.choice(("General", "@"))) for _ in range(columns)]
+        )
+    numbers.shuffle(lines)
+    return lines
+
+
+def placed(numbers: random.Random, count: int) -> List[int]:
+    """The numbers of rows, some of which are left empty."""
+    row, places = 0, []
+    for _ in range(count):
+        row += numbers.choice((1, 1, 1, 1, 2, 5))
+        places.append(row)
+    return places
+
+
+def by_openpyxl(numbers: random.Random, columns: int) -> Made:
+    """A workbook that openpyxl writes."""
+    from openpyxl import Workbook
+
+    book, stream, formats = Workbook(), io.BytesIO(), {}
+    sheet = book.active
+    lines = table_of(numbers, columns)
+    for row, line in zip(placed(numbers, len(lines)), lines):
+        for place, (value, number_format) in enumerate(line):
+            cell = sheet.cell(row, place + 1)
+            cell.number_format = number_format
+            if isinstance(value, str):
+                cell.value, cell.data_type = value, "s"
+            else:
+                cell.value = value
+            formats[row, place] = number_format
+        if numbers.random() < 0.1:
+            sheet.row_dimensions[row].hidden = True
+        if numbers.random() < 0.2:
+            sheet.cell(row, columns + 1).value = numbers.choice(
+                (True, "=1/0", "=A1&B1", "#REF!", "=1+1")
+            )
+    book.save(stream)
+    return Made(stream.getvalue(), formats)
+
+
+def by_xlsxwriter(numbers: random.Random, columns: int) -> Made:
+    """A workbook that xlsxwriter writes."""
+    import xlsxwriter
+
+    stream, formats = io.BytesIO(), {}
+    book = xlsxwriter.Workbook(stream, {"in_memory": True})
+    sheet = book.add_worksheet("Preise")
+    styles = {one: book.add_format({"num_format": one}) for one in FORMATS}
+    lines = table_of(numbers, columns)
+    for row, line in zip(placed(numbers, len(lines)), lines):
+        for place, (value, number_format) in enumerate(line):
+            if isinstance(value, str):
+                sheet.write_string(row - 1, place, value, styles[number_format])
+            else:
+                sheet.write_number(row - 1, place, value, styles[number_format])
+            formats[row, place] = number_format
+        if numbers.random() < 0.1:
+            sheet.set_row(row - 1, None, None, {"hidden": True})
+        if numbers.random() < 0.2:
+            sheet.write_boolean(row - 1, columns, True)
+        elif numbers.random() < 0.2:
+            sheet.write_formula(row - 1, columns, "=1+1", None, 2)
+    book.close()
+    return Made(stream.getvalue(), formats)
+
+
+# formats as .ods has them, and what a value shows by them
+ODS_STYLES: Dict[str, Tuple[str, Callable[[float], str]]] = {
+    "0": (
+        (
+            '<number:number-style style:name="N0"><number:number number:min-integer-digits="1" '
+            'number:decimal-places="0" number:min-decimal-places="0"/></number:number-style>'
+        ),
+        lambda value: f"{value:.0f}",
+    ),
+    "0.00": (
+        (
+            '<number:number-style style:name="N1"><number:number number:min-integer-digits="1" '
+            'number:decimal-places="2" number:min-decimal-places="2"/></number:number-style>'
+        ),
+        lambda value: f"{value:.2f}",
+    ),
+    "#,##0.00": (
+        (
+            '<number:number-style style:name="N2"><number:number number:min-integer-digits="1"'
+            ' number:grouping="true" number:decimal-places="2"'
+            ' number:min-decimal-places="2"/></number:number-style>'
+        ),
+        lambda value: f"{value:,.2f}",
+    ),
+    "0.0%": (
+        (
+            '<number:percentage-style style:name="N3"><number:number number:min-integer-digits="1" '
+            'number:decimal-places="1" number:min-decimal-places="1"/><number:text>%</number:text>'
+            "</number:percentage-style>"
+        ),
+        lambda value: f"{value * 100:.1f}%",
+    ),
+    "yyyy-mm-dd": (
+        (
+            '<number:date-style style:name="N4"><number:year'
+            ' number:style="long"/><number:text>-</number:text><number:month'
+            ' number:style="long"/><number:text>-</number:text><number:day'
+            ' number:style="long"/></number:date-style>'
+        ),
+        lambda value: str(date(1899, 12, 30) + timedelta(int(value))),
+    ),
+}
+NUMBER_SPACE = 'xmlns:number="urn:oasis:names:tc:opendocument:xmlns:datastyle:1.0"'
+
+
+def by_hand(numbers: random.Random, columns: int) -> Made:
+    """A file as LibreOffice writes it: rows and cells that are repeated, groups, header rows,
+    hidden and covered cells.
+    """
+    formats: Dict[Tuple[int, int], str] = {}
+    lines, row = [], 0
+    for number in range(90):
+        repeat = numbers.choice((1, 1, 1, 2, 3))
+        cells = [ods_value(numbers, repeat == 1) for _ in range(columns)]
+        for each in range(repeat):
+            for place, (_, number_format) in enumerate(cells):
+                formats[row + each + 1, place] = number_format
+        row += repeat
+        hidden = numbers.choice(
+            ("", "", "", ' table:visibility="filter"', ' table:visibility="collapse"')
+        )
+        line = (
+            "<table:table-row"
+            f" table:number-rows-repeated=\"{repeat}\"{hidden}>{''.join(text for text, _ in cells)}"
+        )
+        lines.append(wrapped(numbers, number, f"{line}</table:table-row>"))
+        if numbers.random() < 0.2:
+            gap = numbers.randrange(1, 4)
+            lines.append(
+                "<table:table-row"
+                f' table:number-rows-repeated="{gap}"><table:table-cell/></table:table-row>'
+            )
+            row += gap
+    styles = "".join(style for style, _ in ODS_STYLES.values())
+    for number in range(len(ODS_STYLES)):
+        styles += (
+            f'<style:style style:name="ce{number}" style:family="table-cell"'
+            f' style:data-style-name="N{number}"/>'
+        )
+    content = f'{XML}<office:document-content {ODS_SPACES} {NUMBER_SPACE} office:version="1.3">'
+    content += f"<office:automatic-styles>{styles}</office:automatic-styles>"
+    content += "<office:body><office:spreadsheet>"
+    content += f'<table:table table:name="A">{"".join(lines)}</table:table>'
+    content += "</office:spreadsheet></office:body></office:document-content>"
+    kind = "application/vnd.oasis.opendocument.spreadsheet"
+    space = "urn:oasis:names:tc:opendocument:xmlns:manifest:1.0"
+    manifest = f'<manifest:manifest xmlns:manifest="{space}" manifest:version="1.3">'
+    for path, media in (("/", kind), ("content.xml", "text/xml")):
+        manifest += (
+            f'<manifest:file-entry manifest:full-path="{path}" manifest:media-type="{media}"/>'
+        )
+    manifest += "</manifest:manifest>"
+    parts = {"mimetype": kind, "META-INF/manifest.xml": manifest, "content.xml": content}
+    return Made(packed(parts, zipfile.ZIP_STORED), formats)
+
+
+def wrapped(numbers: random.Random, number: int, line: str) -> str:
+    """A row, maybe in a group or in the rows that are repeated on each page."""
+    if number == 0:
+        return f"<table:table-header-rows>{line}</table:table-header-rows>"
+    if numbers.random() < 0.2:
+        begin, end = "<table:table-row-group>", "</table:table-row-group>"
+        return f"{begin}{begin}{line}{end}{end}"
+    return line
+
+
+def ods_value(numbers: random.Random, has_errors: bool) -> Tuple[str, str]:
+    """A cell of .ods and its format; Gnumeric does not repeat formulas, so errors are in rows that
+    are there once.
+    """
+    kind = numbers.randrange(10)
+    if kind == 0:
+        return "<table:table-cell/>", "General"
+    if kind == 1 and has_errors:
+        cell = (
+            '<table:table-cell table:formula="of:=1/0" office:value-type="string"'
+            ' office:string-value="" '
+        )
+        return (
+            f'{cell}calcext:value-type="error"><text:p>#DIV/0!</text:p></table:table-cell>',
+            "General",
+        )
+    if kind in (1, 2, 3):
+        text = numbers.choice(("Bleistift", "Käse", "A 7", "007"))
+        return (
+            (
+                "<table:table-cell"
+                f' office:value-type="string"><text:p>{text}</text:p></table:table-cell>'
+            ),
+            "General",
+        )
+    number_format = numbers.choice(list(ODS_STYLES))
+    number = list(ODS_STYLES).index(number_format)
+    shown = ODS_STYLES[number_format][1]
+    style = f'table:style-name="ce{number}"'
+    if number_format == "yyyy-mm-dd":
+        day = numbers.randrange(40000, 50000)
+        value = f'office:value-type="date" office:date-value="{shown(day)}"'
+        return (
+            f"<table:table-cell {style} {value}><text:p>{shown(day)}</text:p></table:table-cell>",
+            number_format,
+        )
+    amount = numbers.randrange(100000) / 8  # which binary numbers have exactly
+    amount = round(amount * 4) / 4 if number_format != "0" else float(int(amount))
+    kind_text = "percentage" if "%" in number_format else "float"
+    value = f'office:value-type="{kind_text}" office:value="{amount}"'
+    return (
+        f"<table:table-cell {style} {value}><text:p>{shown(amount)}</text:p></table:table-cell>",
+        number_format,
+    )
+
+
+class Oracle(unittest.TestCase):
+    """Two readers agree, or the difference has a name."""
+
+    WRITERS = {
+        "openpyxl": (by_openpyxl, "xlsx"),
+        "xlsxwriter": (by_xlsxwriter, "xlsx"),
+        "by hand": (by_hand, "ods"),
+    }
+
+    def setUp(self) -> None:
+        for module in ("openpyxl", "xlsxwriter"):
+            if importlib.util.find_spec(module) is None:
+                support.skip(f"{module} is not installed")
+
+    def difference(self, mine: Found, theirs: Found, number_format: str) -> str:
+        """The name of a difference; empty for none."""
+        if mine.text is not None and theirs.text is not None and same(mine.text, theirs.text):
+            return ""
+        for name, is_so in DIFFERENCES.items():
+            if is_so(mine, theirs, number_format):
+                return name
+        return f"{mine} is {theirs} in Gnumeric, by {number_format}"
+
+    def test_two_readers_agree(self) -> None:
+        names: Counter[str] = Counter()
+        cells = 0
+        for writer, (make, ending) in self.WRITERS.items():
+            made = make(random.Random(f"{SEED} {writer}"), 12)
+            mine, theirs = ours(made.data), gnumerics(made.data, ending)
+            self.assertEqual(mine.hidden, theirs.hidden, writer)
+            self.assertGreater(len(mine.hidden), 5, writer)
+            for key in sorted(mine.cells.keys() | theirs.cells.keys()):
+                number_format = made.formats.get(key, "General")
+                one, other = mine.cells.get(key, Found("")), theirs.cells.get(key, Found(""))
+                name = self.difference(one, other, number_format)
+                cells += 1
+                names[name] += 1
+                self.assertTrue(
+                    not name or name in DIFFERENCES, f"{writer}, row and place {key}: {name}"
+                )
+        self.assertGreater(cells, 2000)
+        self.assertGreater(len(FORMATS), 80)
+        self.assertEqual(
+            {name for name in DIFFERENCES if not names[name]}, set(), "a name that nothing has"
+        )
+        self.assertGreater(names[""], cells * 3 // 4, names)
+
+    def test_a_wrong_reader_is_seen(self) -> None:
+        made = by_hand(random.Random(SEED), 6)
+        mine, theirs = ours(made.data), gnumerics(made.data, "ods")
+        shifted = {(row + 1, place): found for (row, place), found in mine.cells.items()}
+        wrong = [key for key, found in shifted.items() if theirs.cells.get(key, Found("")) != found]
+        self.assertGreater(len(wrong), 100)
+
+
+if __name__ == "__main__":
+    unittest.main()

@@ -1,0 +1,809 @@
+"""Tests of the rules of label-table: a wrong label, text, price, count or row is never written
+without a word.
+
+Each case is a table that a shop, a web shop's export or a spreadsheet has made, and that went
+through once.
+"""
+
+import csv
+import io
+import unittest
+
+import support
+from labeltools.messages import quoted
+from test_table import BOOK, PENCIL, SMALL, SOAP, Label, TableTest, parts_of
+from test_table_workbooks import cell, ods, ods_cell, packed, relations, rows, table, unpacked, xlsx
+
+NO_PRICE = "which is no price: it"
+WORDS = "has other words than a price tag has; give --price-text if it is right"
+QUOTES = "a cell that contains the delimiter has to be in quotes"
+TYPED = "enter it again as text"
+NUMBER = 400638100000
+
+
+class RulesTest(TableTest):
+    """Steps that the tests share."""
+
+    def said(
+        self, data: str | bytes, *arguments: str
+    ) -> tuple[int, list[str], list[tuple[Label, str]]]:
+        """The status, the messages without the tool's name, and the labels and lines of a table."""
+        table_data = data.encode() if isinstance(data, str) else data
+        done = support.run_here("label-table", *arguments, input=table_data)
+        messages = [message.removeprefix("label-table: ") for message in support.messages(done)]
+        return done.returncode, messages, parts_of(done.stdout)[1]
+
+    def price(self, price: str, *arguments: str) -> str:
+        """What is printed of a price, or why it is not."""
+        stream = io.StringIO()
+        csv.writer(stream, delimiter=";").writerows([["EAN", "Preis"], [SMALL, price]])
+        _, messages, labels = self.said(
+            stream.getvalue(), "--code", "EAN", "--price", "Preis", *arguments
+        )
+        if labels:
+            return str(labels[0][0].get("price", ""))
+        return messages[0].removeprefix(
+            f'row 2: column 2 ("Preis") has {quoted(price)}, {NO_PRICE} '
+        )
+
+
+class RowNumbers(RulesTest):
+    """The number of a row is the spreadsheet's."""
+
+    def test_groups_and_header_rows_of_ods(self) -> None:
+        def row(code: str, name: str) -> str:
+            return f"<table:table-row>{ods_cell(code)}{ods_cell(name)}</table:table-row>"
+
+        inner = row(SMALL, "four") + row(BOOK, "five")
+
+        def within(name: str, text: str) -> str:
+            return f"<table:{name}>{text}</table:{name}>"
+
+        group = within("table-row-group", within("table-row-group", inner) + row(SOAP, "six"))
+        body = within("table-header-rows", row("EAN", "Name")) + row(PENCIL, "two")
+        body += within("table-rows", row("73513538", "three")) + group
+        data = ods(f'<table:table table:name="A">{body}</table:table>')
+        status, messages, labels = self.said(data, "--code", "EAN", "--title", "Name")
+        found = [(label["row"], label["title"]) for label, _ in labels]
+        self.assertEqual(found, [(2, "two"), (4, "four"), (5, "five"), (6, "six")])
+        self.assertEqual(
+            (status, messages), (1, ["row 3: 73513538: the check digit is 8, should be 7"])
+        )
+
+
+class Widths(RulesTest):
+    """A row of CSV has the cells of row 1."""
+
+    ARGUMENTS = ("--code", "EAN", "--title", "Name", "--price", "Price")
+
+    def test_an_unquoted_decimal_comma(self) -> None:
+        text = f"EAN,Name,Price,Copies,A,B\n{SMALL},Pen,1.99,2,,\n{PENCIL},Pen,1,99,2,,\n"
+        problem = f"row 3: the row has 7 cells and row 1 has 6: {QUOTES}"
+        self.check(text, [*self.ARGUMENTS, "--copies", "Copies"], [f"ean8 {SMALL}"], [problem], 1)
+
+    def test_an_unquoted_delimiter_in_a_title(self) -> None:
+        text = f"EAN;Name;Price\n{SMALL};Pen;1,99\n{PENCIL};Nail; verzinkt;\n"
+        problem = f"row 3: the row has 4 cells and row 1 has 3: {QUOTES}"
+        self.check(text, self.ARGUMENTS, [f"ean8 {SMALL}"], [problem], 1)
+
+    def test_a_price_cut_in_two_where_row_1_ends_in_an_empty_name(self) -> None:
+        text = f"EAN,Name,Price,\n{SMALL},Pen,1.99,\n{PENCIL},Pen,0,80\n"
+        problem = f'row 3: the cells "0" and "80" may be one price: {QUOTES}'
+        self.check(text, self.ARGUMENTS, [f"ean8 {SMALL}"], [problem], 1)
+
+    def test_delimiters_at_the_end_of_each_row_but_the_first(self) -> None:
+        text = f"EAN;Name;Price\n{SMALL};Pen;1,99;\n{PENCIL};Ink;2,99;\n"
+        self.check(text, self.ARGUMENTS, [f"ean8 {SMALL}", f"ean13 {PENCIL}"])
+
+    def test_a_value_under_an_empty_name_is_said(self) -> None:
+        text = f"EAN;Name;Price;\n{SMALL};Pen;1,99;order\n{PENCIL};Ink;2,99;\n"
+        said = (
+            'column 4 has no name and has values in 1 row, first in row 2 "order": have cells'
+            " moved?"
+        )
+        self.check(text, self.ARGUMENTS, [f"ean8 {SMALL}", f"ean13 {PENCIL}"], [said])
+
+
+class Prices(RulesTest):
+    """A price is a price."""
+
+    # what spreadsheets and programs write where they have no value, in languages of Europe and Asia
+    NONE = (
+        *(
+            "#VALEUR !",
+            "#WERT!",
+            "#NV",
+            "Fehler:502",
+            "Err :502",
+            "Erreur :502",
+            "Virhe:502",
+            "#¡VALOR!",
+        ),
+        *(
+            "nan",
+            "NULL",
+            "None",
+            "TRUE",
+            "n/a",
+            "Loading...",
+            "€",
+            "1e3",
+            "verzinkt",
+            "undefined",
+            "-",
+        ),
+        *(
+            "01.02.2026",
+            "12:50",
+            "4006381333931",
+            "5 kg",
+            "3 – 5 €",
+            "-30 %",
+            "007",
+            "A100",
+            "\\1,080",
+        ),
+        *("&euro;3.00", "<b>3.00</b>", "z³ 3,00", "#ЗНАЧ!", "Za¿ó³æ"),
+    )
+
+    def test_what_is_no_price_leaves_its_row_out(self) -> None:
+        for price in self.NONE:
+            for symbology in ([], ["--symbology", "code128"]):
+                with self.subTest(price):
+                    stream = io.StringIO()
+                    csv.writer(stream).writerows([["EAN", "Preis"], [SMALL, price], [BOOK, "1.20"]])
+                    arguments = ("--code", "EAN", "--price", "Preis", *symbology)
+                    status, messages, labels = self.said(stream.getvalue(), *arguments)
+                    self.assertEqual((status, len(labels)), (1, 1))
+                    self.assertRegex(messages[0], "^row 2: column 2 ")
+                    self.assertIn(quoted(price), messages[0])
+
+    def test_the_message_says_what_to_do(self) -> None:
+        no_number = "has no number; give --price-text if it is right"
+        self.assertEqual(self.price("verzinkt"), no_number)
+        self.assertEqual(self.price("auf Anfrage ab 5"), WORDS)
+        hint = "if they are a currency, name it by --currency-name"
+        self.assertEqual(
+            self.price("Zz12.50"), f"has letters before its digits, as a code does; {hint}"
+        )
+        self.assertEqual(self.price("Zz12.50", "--currency-name", "Zz"), "Zz12.50")
+        self.assertEqual(
+            self.price("R12"), f"has letters before its digits, as a code does; {hint}"
+        )
+        self.assertEqual(self.price("R12", "--currency-name", "R"), "R12")
+
+    def test_a_zero_that_is_a_dash(self) -> None:
+        dash = '#,##0.00\\ "€";-#,##0.00\\ "€";"-"\\ "€"'
+        data = xlsx(rows(["EAN", "Preis"], [SMALL, cell(0, style=1)]), formats=[dash])
+        problem = f'row 2: column 2 ("Preis") has "- €", {NO_PRICE} has no number; '
+        problem += "it is a zero, which its number format shows so"
+        self.check(data, ["--code", "EAN", "--price", "Preis"], [], [problem], 1)
+
+    def test_free_text(self) -> None:
+        for price in ("auf Anfrage", "gratis", "3 zum Preis von 2"):
+            self.assertEqual(self.price(price, "--price-text"), price)
+        problem = "is what a program writes where it has no value"
+        for price in ("1E3", "Loading...", "&euro;3.00"):
+            self.assertEqual(self.price(price, "--price-text"), problem)
+        for price in ("undefined", "Fehler:502", "#WERT!"):
+            found = self.price(price, "--price-text")
+            self.assertRegex(
+                found, "which (a program|the spreadsheet) writes where it has no value"
+            )
+
+    def test_a_price_is_printed_as_it_is(self) -> None:
+        for price in (
+            "0,80 €",
+            "1.234,50 €",
+            "CHF 4.–",
+            "2 für 5 €",
+            "\u200f٣٫٩٩ ر.س",
+            "1'234.50",
+            "12,- €",
+        ):
+            self.assertEqual(self.price(price), price)
+        self.assertEqual(self.price("0,80\t€"), "0,80 €")
+
+    def test_what_a_column_says_once(self) -> None:
+        cases = {
+            (
+                "1.234",
+                "5.678",
+            ): "1.234 in row 2 and 1 more may have thousands or decimals: it is printed as it is",
+            ("1,50", "1.50"): "row 2 has 1,50 and row 3 has 1.50: two decimal signs",
+            ("7.5", "8.25"): (
+                "row 2 has 7.5, one decimal (1 row): "
+                "give --price-as '0.00', or another pattern, to print two"
+            ),
+            ("0,00", "0"): "row 2 has the price 0,00 (2 rows)",
+            ("5 €", "5 CHF"): "the prices have several currencies: CHF, EUR",
+            ("1.234", "0,80"): "",
+        }
+        for prices, wanted in cases.items():
+            text = "".join(f"{code};{price}\n" for code, price in zip((SMALL, BOOK), prices))
+            status, messages, labels = self.said(
+                f"EAN;Preis\n{text}", "--code", "EAN", "--price", "Preis"
+            )
+            self.assertEqual(
+                (status, messages, len(labels)), (0, [wanted] if wanted else [], 2), prices
+            )
+
+    def test_prices_that_are_written_anew(self) -> None:
+        cases = {
+            ("7.5", "0,00 €"): "7,50 €",
+            ("49.90", "0,00 €"): "49,90 €",
+            ("99 ct", "0,00 €"): "0,99 €",
+            ("EUR 1'234.5", "0.000,00 €"): "1.234,50 €",
+            ("8.330000000000002", "0,00 €"): "8,33 €",
+            ("4.00", "0,– €"): "4,– €",
+            ("1080円", "¥0,000"): "¥1,080",
+            ("3.50 €/kg", "#,##0.00 €"): "3.50 €/kg",
+        }
+        for (price, pattern), wanted in cases.items():
+            self.assertEqual(self.price(price, "--price-as", pattern), wanted)
+        refused = {
+            ("$3", "0,00 €"): "has $, and the pattern of prices has EUR",
+            ("4,99", "0 €"): "has decimals, and the pattern of prices has none",
+            ("2 für 5 €", "0,00 €"): "has words, which the pattern of prices would lose",
+            ("2.675", "0,00 €"): "may have thousands or decimals; give --decimal , or --decimal .",
+            ("0.001", "0,00 €"): "would be printed as zero",
+            ("3 €", "0,00"): "has EUR, and the pattern of prices has no currency",
+            ("3", "0,00 ¤"): "has no currency, and the pattern of prices wants one",
+        }
+        for (price, pattern), wanted in refused.items():
+            found = self.price(price, "--price-as", pattern)
+            start = f'row 2: column 2 ("Preis") has "{price}", which cannot be printed so: it '
+            self.assertEqual(found.removeprefix(start), wanted)
+        self.assertEqual(self.price("2.675", "--price-as", "0,00 €", "--decimal", ","), "2675,00 €")
+
+    def test_the_column_decides_what_one_cell_does_not_say(self) -> None:
+        arguments = ("--code", "EAN", "--price", "Preis", "--price-as", "0.000,00 €")
+        text = f"EAN;Preis\n{SMALL};1.234\n{BOOK};0,80\n"
+        self.assertEqual(
+            [label["price"] for label, _ in self.said(text, *arguments)[2]],
+            ["1.234,00 €", "0,80 €"],
+        )
+        text = f"EAN;Preis\n{SMALL};1.005\n{BOOK};0.80\n"
+        status, messages, labels = self.said(text, *arguments)
+        problem = 'row 2: column 2 ("Preis") has "1.005", which cannot be printed so: '
+        problem += "it has three digits behind ., which is the decimal sign of its column"
+        self.assertEqual((status, messages, len(labels)), (1, [problem], 1))
+
+    def test_a_currency_in_a_column_of_its_own(self) -> None:
+        text = f"EAN;Preis;Währung\n{SMALL};7.5;EUR\n{BOOK};3.20;CHF\n{PENCIL};1.00;RF\n"
+        arguments = ("--code", "EAN", "--price", "Preis", "--currency", "Währung")
+        found = [label["price"] for label, _ in self.said(text, *arguments)[2]]
+        self.assertEqual(found, ["7.5 EUR", "3.20 CHF", "1.00 RF"])
+        found = [
+            label["price"] for label, _ in self.said(text, *arguments, "--price-as", "¤ 0,00")[2]
+        ]
+        self.assertEqual(found, ["EUR 7,50", "CHF 3,20", "RF 1,00"])
+        status, messages, labels = self.said(text, *arguments, "--price-as", "0,00 €")
+        self.assertEqual((status, [label["price"] for label, _ in labels]), (1, ["7,50 €"]))
+        self.assertIn("it has CHF, and the pattern of prices has EUR", messages[0])
+
+    def test_the_price_of_a_unit_and_the_old_price(self) -> None:
+        text = f"EAN;Preis;Grundpreis;Alt\n{SMALL};1,99;1 kg = 7,96 €;2,49\n{BOOK};5,00;5,00 €/l;\n"
+        arguments = (
+            "--code",
+            "EAN",
+            "--price",
+            "Preis",
+            "--unit-price",
+            "Grundpreis",
+            "--old-price",
+            "Alt",
+        )
+        status, messages, labels = self.said(text, *arguments)
+        first, second = (label for label, _ in labels)
+        self.assertEqual((status, messages), (0, []))
+        wanted = {"row": 2, "price": "1,99", "unit": "1 kg = 7,96 €", "was": "2,49"}
+        self.assertEqual((first, second), (wanted, {"row": 3, "price": "5,00", "unit": "5,00 €/l"}))
+        _, _, labels = self.said(text.replace(",", "."), *arguments, "--price-as", "0,00 €")
+        self.assertEqual(labels[0][0], {**wanted, "price": "1,99 €", "was": "2,49 €"})
+        for name in ("verzinkt", "nan"):
+            status, messages, _ = self.said(text.replace("2,49", name), *arguments)
+            self.assertEqual((status, messages[0][:22]), (1, 'row 2: column 4 ("Alt"'))
+
+
+class Copies(RulesTest):
+    def test_copies_are_whole_numbers(self) -> None:
+        for count in ("nan", "TRUE", "1.5", "1e1", "#WERT!"):
+            text = f"EAN;Copies\n{SMALL};{count}\n{BOOK};1\n"
+            status, messages, labels = self.said(text, "--code", "EAN", "--copies", "Copies")
+            self.assertEqual((status, len(labels)), (1, 1))
+            self.assertRegex(messages[0], '^row 2: column 2 \\("Copies"\\)')
+
+
+class Titles(RulesTest):
+    def test_empty_titles_and_prices_are_said_once(self) -> None:
+        lines = "".join(
+            f"{support.ean13(number)};{'x' if number % 7 else ''};\n"
+            for number in range(NUMBER, NUMBER + 40)
+        )
+        arguments = ("--code", "EAN", "--title", "Name", "--price", "Preis")
+        status, messages, labels = self.said(f"EAN;Name;Preis\n{lines}", *arguments)
+        said = ["rows 4, 11, 18, 25, 32 and 1 more have no title (6 of 40 labels)"]
+        said.append("rows 2, 3, 4, 5, 6 and 35 more have no price (40 of 40 labels)")
+        self.assertEqual((status, messages, len(labels)), (0, said, 40))
+
+    def test_what_programs_write_is_no_title(self) -> None:
+        for title in ("nan", "NULL", "None", "#VALEUR !", "Fehler:502", "undefined"):
+            status, messages, labels = self.said(
+                f"EAN;Name\n{SMALL};{title}\n{BOOK};a\n", "--code", "EAN", "--title", "2"
+            )
+            self.assertEqual(
+                (status, len(labels), quoted(title) in messages[0]), (1, 1, True), title
+            )
+
+    def test_html_is_said_once(self) -> None:
+        text = f"EAN,Name\n{SMALL},Salt & pepper\n{BOOK},<b>Tea</b> &amp; tin\n{PENCIL},&uuml;\n"
+        status, messages, labels = self.said(text, "--code", "EAN", "--title", "Name")
+        said = ["row 3 has HTML in a title or text, which is printed as it is"]
+        self.assertEqual((status, messages, len(labels)), (0, said, 3))
+
+    def test_tabs_and_marks_of_the_direction_are_white(self) -> None:
+        labels = self.labels(
+            f"EAN,Name\n{SMALL},a\tb \u200fc\n", "--code", "EAN", "--title", "Name"
+        )
+        self.assertEqual(labels, [{"row": 2, "title": "a b \u200fc"}])
+
+
+class Codes(RulesTest):
+    """What the spreadsheet shows is what is drawn."""
+
+    FREE = ("--code", "EAN", "--symbology", "code128")
+
+    def test_numbers_that_are_not_shown_as_they_are_drawn(self) -> None:
+        wanted = {
+            (
+                100000,
+                "0.00E+00",
+            ): f'has the number format "0.00E+00", and would be drawn as 100000: {TYPED}',
+            (12, "0.00"): f'has the number format "0.00", and would be drawn as 12: {TYPED}',
+            (1000000, "0,"): f'has the number format "0,", and would be drawn as 1000000: {TYPED}',
+            ("100", '"SKU-"@'): f'is shown as "SKU-100", and would be drawn as "100": {TYPED}',
+        }
+        for (value, number_format), problem in wanted.items():
+            text = (
+                f'<c t="str" s="1"><v>{value}</v></c>'
+                if isinstance(value, str)
+                else cell(value, style=1)
+            )
+            data = xlsx(rows(["EAN"], [text], [7]), formats=[number_format])
+            self.check(data, self.FREE, ["code128 7"], [f'row 2: column 1 ("EAN") {problem}'], 1)
+        data = xlsx(
+            rows(["EAN", "Name"], ["7", '<c t="str" s="1"><v>100</v></c>']), formats=['"SKU-"@']
+        )
+        self.assertEqual(
+            self.said(data, *self.FREE, "--title", "Name")[2][0][0]["title"], "SKU-100"
+        )
+
+    def test_numbers_of_ods_that_are_not_shown_as_they_are_drawn(self) -> None:
+        for shown, value in (("1,00E+05", "100000"), ("12,00", "12")):
+            data = ods(
+                table(["EAN"], [ods_cell(shown, "float", f'office:value="{value}"')], ["A7"])
+            )
+            problem = (
+                f'row 2: column 1 ("EAN") is shown as "{shown}", and would be drawn as {value}:'
+                f" {TYPED}"
+            )
+            self.check(data, self.FREE, ["code128 A7"], [problem], 1)
+
+    def test_what_programs_write_is_no_code(self) -> None:
+        for text in ("nan", "NULL", "None", "Loading...", "TRUE", "Fehler:502", "#VALEUR !"):
+            status, messages, labels = self.said(
+                f"EAN;x\nA-1;x\nA-2;x\nA-3;x\n{text};x\n", *self.FREE
+            )
+            self.assertIn(quoted(text), messages[0])
+            self.assertEqual(
+                (status, len(labels)), (0, 4) if text == "Loading..." else (1, 3), text
+            )
+
+    def test_a_code_unlike_all_others_is_said(self) -> None:
+        text = "EAN;Name\nA-1;x\nA-2;y\nA-3;z\nSumme;\n"
+        said = 'the code of row 5 has no digit, "Summe", and others have: is it one?'
+        self.check(
+            text, self.FREE, [f"code128 {code}" for code in ("A-1", "A-2", "A-3", "Summe")], [said]
+        )
+
+    def test_names_that_are_repeated_on_each_page(self) -> None:
+        text = "Art.-Nr.;Name\nA-1;x\nArt.-Nr.;Name\nA-2;y\n"
+        problem = "row 3: the row has the names of the columns again"
+        arguments = ["--code", "Art.-Nr.", "--symbology", "qr"]
+        self.check(text, arguments, ["qr A-1", "qr A-2"], [problem], 1)
+
+    def test_add_ons(self) -> None:
+        lengths = "ean8 has 8, upca has 12, ean13 has 13"
+        hint = "if its last {} digits are an add-on, write the first 13 alone"
+        for rest in ("12", "54321"):
+            problem = (
+                f"row 2: {PENCIL}{rest} has {13 + len(rest)} digits, {lengths}:"
+                f" {hint.format(len(rest))}"
+            )
+            self.check(
+                f"EAN\n{PENCIL}{rest}\n{SMALL}\n",
+                ["--code", "EAN"],
+                [f"ean8 {SMALL}"],
+                [problem],
+                1,
+            )
+
+    def test_the_symbology_of_each_row(self) -> None:
+        text = (
+            f"EAN;Art\n{PENCIL};EAN-13\nLOT 7;Code"
+            f" 128\nhttps://example.com/7;qr\n{SMALL};\nA;Aztec\n"
+        )
+        problem = 'row 6: column 2 ("Art") has "Aztec", which is no symbology: '
+        problem += "it is one of EAN-13, EAN-8, UPC-A, Code 128, QR Code"
+        lines = [f"ean13 {PENCIL}", "code128 LOT 7", "qr https://example.com/7", f"ean8 {SMALL}"]
+        self.check(text, ["--code", "EAN", "--symbology-column", "Art"], lines, [problem], 1)
+
+    def test_a_cell_that_leads_to_an_address(self) -> None:
+        link = '<hyperlinks><hyperlink ref="A2" r:id="rId1"/></hyperlinks>'
+        parts = unpacked(xlsx(rows(["EAN"], ["Hier klicken"], ["B7"]), after=link))
+        sheet = parts["xl/worksheets/sheet1.xml"]
+        namespace = "http://schemas.openxmlformats.org/officeDocument/2006/relationships"
+        parts["xl/worksheets/sheet1.xml"] = sheet.replace(
+            "<worksheet ", f'<worksheet xmlns:r="{namespace}" '
+        )
+        targets = relations([("rId1", "hyperlink", "https://example.com/7")])
+        parts["xl/worksheets/_rels/sheet1.xml.rels"] = targets.replace(
+            "Target=", 'TargetMode="External" Target='
+        )
+        formula = (
+            '<c t="str"><f>HYPERLINK("https://example.com/7","Hier klicken")</f><v>Hier'
+            " klicken</v></c>"
+        )
+        inside = (
+            "<text:a xmlns:xlink='http://www.w3.org/1999/xlink'"
+            " xlink:href='https://example.com/7'>Hier klicken</text:a>"
+        )
+        files = (
+            packed(parts),
+            xlsx(rows(["EAN"], [formula], ["B7"])),
+            ods(table(["EAN"], [ods_cell(inside)], ["B7"])),
+        )
+        said = (
+            "the code of row 2 is a text that leads to an address: give --links to draw the address"
+        )
+        for data in files:
+            arguments = ["--code", "EAN", "--symbology", "qr"]
+            self.check(data, arguments, ["qr Hier klicken", "qr B7"], [said])
+            self.check(data, [*arguments, "--links"], ["qr https://example.com/7", "qr B7"])
+
+
+class Names(RulesTest):
+    def test_a_name_over_several_columns(self) -> None:
+        merge = '<mergeCells><mergeCell ref="B1:C1"/></mergeCells>'
+        data = xlsx(rows(["EAN", "Preis"], [SMALL, "1,00", "1,19"]), after=merge)
+        problem = 'the name "Preis" is over the columns 2 to 3: give the number of one'
+        self.check(data, ["--code", "EAN", "--price", "Preis"], [], [problem], 2)
+        self.assertEqual(self.said(data, "--code", "EAN", "--price", "3")[2][0][0]["price"], "1,19")
+        spanned = (
+            ods_cell("Preis", more='table:number-columns-spanned="2"')
+            + "<table:covered-table-cell/>"
+        )
+        data = ods(table(["EAN", spanned], [SMALL, "1,00", "1,19"]))
+        self.check(data, ["--code", "EAN", "--price", "Preis"], [], [problem], 2)
+
+    def test_names_below_a_title(self) -> None:
+        lines = [
+            "Preisliste 2026",
+            "",
+            "Stand;1. Mai",
+            "",
+            "EAN;Name;Preis",
+            f"{SMALL};Pen;1,20",
+            f"{BOOK};Atlas;24,00",
+        ]
+        text = "\n".join(lines)
+        arguments = ["--code", "EAN", "--title", "Name", "--price", "Preis"]
+        status, messages, labels = self.said(text, *arguments)
+        self.assertEqual((status, labels), (2, []))
+        self.assertRegex(
+            messages[0],
+            (
+                '^no column "EAN"; row 1 has 1 "Preisliste 2026".* the names are in row 5: give'
+                " --header-row 5$"
+            ),
+        )
+        status, messages, labels = self.said(text, *arguments, "--header-row", "5")
+        self.assertEqual((status, messages), (0, []))
+        self.assertEqual(
+            [(label["row"], label["title"]) for label, _ in labels], [(6, "Pen"), (7, "Atlas")]
+        )
+        for data in (xlsx(rows(*([one] if ";" not in one else one.split(";") for one in lines))),):
+            status, messages, _ = self.said(data, *arguments)
+            self.assertRegex(messages[0], "the names are in row 5: give --header-row 5$")
+            self.assertEqual(
+                [label["row"] for label, _ in self.said(data, *arguments, "--header-row", "5")[2]],
+                [6, 7],
+            )
+        problem = "standard input has nothing in row 4"
+        self.check(text, [*arguments, "--header-row", "4"], [], [problem], 1)
+
+    def test_names_that_macos_takes_apart(self) -> None:
+        text = f"EAN;Stu\u0308ck\n{SMALL};3\n"
+        self.assertEqual(
+            self.labels(text, "--code", "EAN", "--copies", "Stück"), [{"row": 2, "copies": 3}]
+        )
+
+    def test_a_space_behind_a_quoted_name(self) -> None:
+        text = f'"EAN\n(x)" ;Name\n{SMALL};a\n'
+        self.check(text, ["--code", "EAN (x)"], [f"ean8 {SMALL}"])
+
+
+class Marked(RulesTest):
+    TEXT = f"EAN;Name;Drucken\n{SMALL};a;x\n{BOOK};b;\n{PENCIL};c; X \n"
+
+    def test_rows_that_are_marked(self) -> None:
+        self.check(
+            self.TEXT,
+            ["--code", "EAN", "--where", "Drucken=x"],
+            [f"ean8 {SMALL}", f"ean13 {PENCIL}"],
+        )
+        self.check(
+            self.TEXT,
+            ["--code", "EAN", "--where", "Drucken=x", "--where", "Name=c"],
+            [f"ean13 {PENCIL}"],
+        )
+        self.check(self.TEXT, ["--code", "EAN", "--where", "3="], [f"ean13 {BOOK}"])
+
+    def test_rows_that_a_truth_value_marks(self) -> None:
+        truth = '<c t="b"><v>{}</v></c>'
+        lines = [["EAN", "Drucken"], [SMALL, truth.format(1)], [BOOK, truth.format(0)]]
+        data = xlsx(rows(*lines))
+        self.check(data, ["--code", "EAN", "--where", "Drucken=true"], [f"ean8 {SMALL}"])
+
+    def test_no_row_is_marked(self) -> None:
+        problem = (
+            'standard input has no row with "ja" in column 3 ("Drucken"): look how the cells are'
+            " spelled"
+        )
+        self.check(self.TEXT, ["--code", "EAN", "--where", "Drucken=ja"], [], [problem], 1)
+
+    def test_only_what_is_new(self) -> None:
+        text = f"EAN;Name;Preis\n{SMALL};a;1,00\n{BOOK};b;2,00\n{PENCIL};c;3,00\n"
+        arguments = ("--code", "EAN", "--title", "Name", "--price", "Preis")
+        older = self.folder / "old.lines"
+        older.write_bytes(support.run_here("label-table", *arguments, input=text.encode()).stdout)
+        changed = text.replace("2,00", "2,20") + f"{SOAP};d;4,00\n"
+        status, messages, labels = self.said(changed, *arguments, "--new-since", str(older))
+        self.assertEqual(
+            (status, messages), (0, ["2 of 4 rows are as before, and are not printed"])
+        )
+        self.assertEqual([label["title"] for label, _ in labels], ["b", "d"])
+        for part in ("title", "price"):
+            without = [
+                word
+                for word in arguments
+                if word not in (f"--{part}", {"title": "Name", "price": "Preis"}[part])
+            ]
+            self.assertEqual(len(self.said(text, *without, "--new-since", str(older))[2]), 3)
+        older.write_bytes(older.read_bytes()[:-20])
+        status, messages, _ = self.said(text, *arguments, "--new-since", str(older))
+        self.assertRegex(messages[0], f"^{older}: line 8: the remark is no JSON object")
+
+
+class Summary(RulesTest):
+    def test_what_was_understood(self) -> None:
+        text = f"EAN;Preis;Stück\n{SMALL};0,80 €;1\n{BOOK};1.299,00 €;3\nx;1,00 €;1\n"
+        arguments = ("--code", "EAN", "--price", "Preis", "--copies", "Stück", "--summary")
+        said = (
+            "4 labels of 2 rows: 1 EAN-8, 1 EAN-13; prices 0,80 € to 1.299,00 €; copies 1 to 3; 1"
+            " row left out"
+        )
+        self.assertEqual(self.said(text, *arguments)[1][-1], said)
+        self.assertNotIn(said, self.said(text, *arguments[:-1])[1])
+
+    def test_it_is_written_where_somebody_sees_it(self) -> None:
+        support.needs("script")
+        command = f"printf 'EAN\\n{SMALL}\\n' | label-table --code EAN > {self.folder}/lines"
+        done = support.run("/usr/bin/script", "--quiet", "--command", command, "/dev/null")
+        self.assertIn(b"label-table: 1 label of 1 row: 1 EAN-8", done.stdout)
+
+
+class Workbooks(RulesTest):
+    """What cannot be known is refused, and what can be is read."""
+
+    def test_formulas_that_are_to_be_calculated(self) -> None:
+        data = xlsx(
+            rows(["EAN", "Preis"], [SMALL, "<c><f>A1*2</f><v>0</v></c>"], [BOOK, cell(2, style=1)]),
+            formats=["0.00"],
+        )
+        parts = unpacked(data)
+        book = parts["xl/workbook.xml"].replace(
+            "</workbook>", '<calcPr calcId="1" fullCalcOnLoad="1"/></workbook>'
+        )
+        data = packed({**parts, "xl/workbook.xml": book})
+        problem = 'row 2: column 2 ("Preis") has a formula without a saved value: '
+        problem += "open the table in the spreadsheet and save it"
+        arguments = ["--code", "EAN", "--price", "Preis", "--decimal", "."]
+        self.check(data, arguments, [f"ean13 {BOOK}"], [problem], 1)
+
+    def test_an_empty_text_of_a_formula(self) -> None:
+        empty = '<table:table-cell table:formula="of:=&quot;&quot;"/>'
+        meta = "<office:document-meta xmlns:office='o' xmlns:meta='m'><office:meta>"
+        meta += "<meta:generator>{}</meta:generator></office:meta></office:document-meta>"
+        arguments = ("--code", "EAN", "--title", "Name")
+        for program, status in (("LibreOffice/7.4.7.2$Linux", 0), ("SomeLibrary/1.0", 1)):
+            data = ods(
+                table(["EAN", "Name"], [SMALL, empty]), extra={"meta.xml": meta.format(program)}
+            )
+            self.assertEqual(self.said(data, *arguments)[0], status)
+
+    def test_dates(self) -> None:
+        def dates(number_format: str | int, *arguments: str) -> list[str]:
+            data = xlsx(
+                rows(["EAN", "MHD"], [SMALL, cell(46351, style=1)]), formats=[number_format]
+            )
+            status, messages, labels = self.said(data, "--code", "EAN", "--text", "MHD", *arguments)
+            return [*(label["text"][0] for label, _ in labels), *messages]
+
+        self.assertEqual(dates("yyyy-mm-dd h:mm:ss"), ["2026-11-25 0:00:00"])
+        self.assertEqual(dates("h:mm AM/PM"), ["12:00 AM"])
+        said = (
+            'dates are printed as "2026-11-25": is that right? else give --date-as dd.mm.yyyy, or'
+            " another pattern"
+        )
+        self.assertEqual(dates(14), ["2026-11-25", said])
+        for number_format in (
+            14,
+            "d. mmmm yyyy",
+            "yyyy-mm-dd h:mm:ss",
+            "[$-F800]dddd, mmmm dd, yyyy",
+        ):
+            self.assertEqual(dates(number_format, "--date-as", "dd.mm.yy"), ["25.11.26"])
+        more = 'office:date-value="2026-11-25"'
+        data = ods(table(["EAN", "MHD"], [SMALL, ods_cell("Mi 25. Nov", "date", more)]))
+        arguments = ("--code", "EAN", "--text", "MHD")
+        self.assertEqual(self.said(data, *arguments)[2][0][0]["text"], ["Mi 25. Nov"])
+        self.assertEqual(
+            self.said(data, *arguments, "--date-as", "d.m.yyyy")[2][0][0]["text"], ["25.11.2026"]
+        )
+        self.check_usage(
+            ["--code", "1", "--date-as", "xx"], "argument --date-as: 'xx' is not as 'dd.mm.yyyy'"
+        )
+
+    def test_the_language_of_a_format_decides_its_signs(self) -> None:
+        wanted = {
+            "[$-407]#,##0.00": "1.234,50",
+            "[$-409]#,##0.00": "1,234.50",
+            "[$-40C]#,##0.00": "1\u202f234,50",
+            "[$£-809]#,##0.00": "£1.234,50",
+            "[$-de-CH]#,##0.00": "1’234.50",
+            "#,##0.00": "1.234,50",
+        }
+        for number_format, text in wanted.items():
+            data = xlsx(rows(["EAN", "x"], [SMALL, cell(1234.5, style=1)]), formats=[number_format])
+            _, _, labels = self.said(data, "--code", "EAN", "--text", "x", "--decimal", ",")
+            self.assertEqual(labels[0][0]["text"], [text], number_format)
+
+    def test_damaged_numbers_and_counts(self) -> None:
+        damaged = "standard input is damaged, or neither .xlsx nor .ods "
+        ods_files = [
+            ods(table(["EAN", "x"], [SMALL, ods_cell("1", "float", f'office:value="{value}"')]))
+            for value in ("abc", "sNaN", "1e1000000", "NaN", "Infinity")
+        ]
+        for count in ("0", "-1", "1.5", "abc", "99999999999"):
+            row = (
+                "<table:table-row"
+                f' table:number-rows-repeated="{count}">{ods_cell(SMALL)}</table:table-row>'
+            )
+            ods_files.append(ods(table(["EAN"], end=row)))
+            ods_files.append(
+                ods(table(["EAN", ods_cell("x", more=f'table:number-columns-repeated="{count}"')]))
+            )
+        shared = '<c t="s"><v>-2</v></c>'
+        xlsx_files = [
+            xlsx(rows(["EAN"], [shared]), strings="<si><t>a</t></si><si><t>b</t></si>"),
+            xlsx(rows(["EAN"], [cell(7, style=-1)]), formats=["0"]),
+        ]
+        for data in (*ods_files, *xlsx_files):
+            status, messages, labels = self.said(data, "--code", "EAN")
+            self.assertEqual((status, labels, len(messages)), (1, [], 1))
+            self.assertTrue(messages[0].startswith(damaged), messages)
+
+    def test_one_part_twice(self) -> None:
+        parts = unpacked(xlsx(rows(["EAN"], [SMALL])))
+        data = packed(parts).replace(b"xl/styles.xml", b"xl/sheets.xml")
+        twice = packed({**parts, "xl/sheets.xml": "<x/>"}).replace(
+            b"xl/sheets.xml", b"xl/styles.xml"
+        )
+        self.assertNotEqual(data, twice)
+        status, messages, _ = self.said(twice, "--code", "EAN")
+        self.assertEqual((status, "one part twice" in messages[0]), (1, True))
+
+
+class Encodings(RulesTest):
+    def test_a_message_shows_how_a_word_would_be_read(self) -> None:
+        fix = "save it as UTF-8, or give the --encoding that reads it right: "
+        cases = {
+            ("Zażółć", "cp1250"): 'cp1252 reads "Za¿ó³æ", cp1250 reads "Zażółć"',
+            ("Käse", "cp1252"): 'cp1252 reads "Käse"',
+        }
+        for (word, codec), wanted in cases.items():
+            data = f"EAN;Name\n{SMALL};{word}\n".encode(codec)
+            problem = f"standard input is not UTF-8, as line 2 shows: {fix}{wanted}"
+            self.check(data, ["--code", "EAN", "--title", "Name"], [], [problem], 1)
+        data = f"EAN;Name\n{SMALL};Мыло\n".encode("cp1251")
+        _, messages, _ = self.said(data, "--code", "EAN")
+        self.assertIn('cp1251 reads "Мыло"', messages[0])
+
+    def test_a_wrong_encoding_is_seen(self) -> None:
+        data = f"EAN;Name\n{SMALL};Zażółć\n".encode("cp1250")
+        _, messages, _ = self.said(data, "--code", "EAN", "--title", "Name", "--encoding", "cp1252")
+        said = 'the table is read as CP1252, with "Za¿ó³æ": is that right? cp1250 reads "Zażółć"'
+        self.assertEqual(messages, [said])
+        for word in ("Käse", "Größe", "créée", "½ Liter", "5 µm", "Señorita", "10 €"):
+            data = f"EAN;Name\n{SMALL};{word}\n".encode("cp1252")
+            self.assertEqual(
+                self.said(data, "--code", "EAN", "--encoding", "cp1252")[:2], (0, []), word
+            )
+
+    def test_an_encoding_is_never_named_twice(self) -> None:
+        data = "EAN;Name\n\x81;\xfd\n".encode("latin-1")
+        _, messages, _ = self.said(data, "--code", "EAN", "--encoding", "cp1252")
+        self.assertNotIn("cp1252", messages[0])
+
+    def test_an_encoding_that_is_no_text(self) -> None:
+        done = support.run("label-table", "--code", "1", "--encoding", b"\xff", input=b"EAN\n")
+        problem = 'label-table: --encoding "<U+DCFF>" is unknown: give one as cp1252'
+        self.assertEqual((done.returncode, support.messages(done)), (2, [problem]))
+
+
+class Messages(RulesTest):
+    def test_many_messages_that_are_alike_are_counted(self) -> None:
+        text = "EAN;Name\n" + "".join(f"{SMALL};{number}\n" for number in range(5000))
+        status, messages, labels = self.said(text, "--code", "Name")
+        self.assertEqual((status, labels), (1, []))
+        self.assertLess(len(messages), 500)
+        self.assertIn("left out for the same reason as row ", messages[-1])
+
+    def test_control_characters_reach_no_terminal(self) -> None:
+        done = support.run("label-table", "--code", "\x1b[2J", input=f"EAN\n{SMALL}\n".encode())
+        self.assertNotIn(b"\x1b", done.stderr)
+        path = self.folder / "a\x1b[2Jb.csv"
+        path.write_text("")
+        for argument in (str(path), f"{path}.missing"):
+            done = support.run("label-table", "--code", "EAN", argument)
+            self.assertNotIn(b"\x1b", done.stderr)
+            self.assertIn(b"a<U+001B>[2Jb.csv", done.stderr)
+
+
+class OldTables(RulesTest):
+    """Ordinary tables give the same file as ever."""
+
+    def test_a_table(self) -> None:
+        text = (
+            f'EAN;Name;Size;Price;Copies\n{PENCIL};"Pencil\n2B";red;0,80 €;3\n36000291452;Soap;100'
+            " g;0,99 €;1\n"
+        )
+        arguments = (
+            "--code",
+            "EAN",
+            "--fill-zeros",
+            "--title",
+            "Name",
+            "--text",
+            "Size",
+            "--price",
+            "Price",
+        )
+        done = support.run_here(
+            "label-table", *arguments, "--copies", "Copies", input=text.encode()
+        )
+        lines = [
+            '#{"labels":1}',
+            '#{"row":2,"title":"Pencil\\n2B","text":["red"],"price":"0,80 €","copies":3}',
+            f"ean13 {PENCIL}",
+            '#{"row":3,"title":"Soap","text":["100 g"],"price":"0,99 €","copies":1}',
+            "ean13 0036000291452",
+            '#{"end":1,"lines":2,"left_out":[],"left_out_count":0}',
+        ]
+        self.assertEqual(done.stdout.decode().split("\n"), [*lines, ""])
+
+
+if __name__ == "__main__":
+    unittest.main()

@@ -1,0 +1,363 @@
+"""Tries the window on a screen of its own (Xvfb): what it prints is what the commands print."""
+
+import os
+import re
+import subprocess
+import sys
+import tempfile
+import time
+import unittest
+from dataclasses import replace
+from pathlib import Path
+
+import support
+
+TOOLS = Path(__file__).resolve().parent.parent
+TABLE = """Nr;EAN;Name;Price;Stock;Labels
+1;4006381333931;Pencil, red;0,80 €;5000;3
+2;036000291452;Soap;2,95 €;12;2
+3;4006381333932;wrong;1,20 €;7;1
+4;96385074;Gum, and a title that is longer than any label;1,20 €;8;1
+"""
+PROGRAMS = ("Xvfb", "pdftoppm", "msgfmt")
+WAIT = 60.0  # seconds for work
+BEAT = 0.01  # seconds between two heart beats
+LONGEST = 0.5  # seconds without a heart beat
+TRIES = 3  # a busy machine stalls every program
+
+
+def setUpModule():
+    """Starts a screen; GTK is loaded when there is one."""
+    support.labels_program()
+    support.needs(*PROGRAMS)
+    global screen, folder, window, GLib, Gtk
+    folder = tempfile.TemporaryDirectory()
+    reading, writing = os.pipe()
+    words = ["Xvfb", "-displayfd", str(writing), "-screen", "0", "1280x900x24", "-nolisten", "tcp"]
+    screen = subprocess.Popen(words, pass_fds=[writing], stderr=subprocess.DEVNULL)
+    os.close(writing)
+    with os.fdopen(reading) as file:
+        number = file.readline().strip()
+    os.environ.update(DISPLAY=f":{number}", NO_AT_BRIDGE="1", XDG_CONFIG_HOME=folder.name)
+    os.environ.update(GDK_BACKEND="x11", LANGUAGE="en")
+    sys.path.insert(0, str(TOOLS))
+    from labeltools import window
+    from labeltools.gtk import GLib, Gtk
+
+    Gtk.init([])
+
+
+def tearDownModule():
+    """Ends the screen."""
+    screen.terminate()
+    screen.wait()
+    folder.cleanup()
+
+
+def settle(seconds):
+    """Lets the window work; returns the longest time without a heart beat."""
+    end = time.monotonic() + seconds
+    longest = 0.0
+    before = time.monotonic()
+    while time.monotonic() < end:
+        while Gtk.events_pending():
+            Gtk.main_iteration_do(False)
+        longest = max(longest, time.monotonic() - before)
+        before = time.monotonic()
+        time.sleep(BEAT)
+    return longest
+
+
+def command(*words, data=None):
+    """What a command of the tools writes."""
+    ran = subprocess.run([TOOLS / words[0], *words[1:]], input=data, capture_output=True)
+    return ran.stdout
+
+
+def named(widget):
+    """Yields the controls at and below a widget that a keyboard reaches, with their names."""
+    accessible = widget.get_accessible()
+    if (
+        widget.get_visible()
+        and widget.get_can_focus()
+        and isinstance(widget, (Gtk.Button, Gtk.Entry, Gtk.TreeView, Gtk.DrawingArea))
+    ):
+        label = getattr(widget, "get_label", lambda: None)()
+        relations = accessible.ref_relation_set()
+        labelled = any(relations.get_relation(n) for n in range(relations.get_n_relations()))
+        yield widget, accessible.get_name() or label or labelled
+    if isinstance(widget, Gtk.Container):
+        for child in widget.get_children():
+            yield from named(child)
+
+
+class WindowTest(unittest.TestCase):
+    def setUp(self):
+        self.raised = []
+        hook = sys.excepthook
+        sys.excepthook = lambda *error: self.raised.append(error)  # GTK goes on after an error
+        self.addCleanup(setattr, sys, "excepthook", hook)
+        self.folder = Path(tempfile.mkdtemp(dir=folder.name))
+        os.environ["XDG_CONFIG_HOME"] = str(self.folder)
+        self.table = self.folder / "articles.csv"
+        self.table.write_text(TABLE)
+        self.window = window.Window(None)
+        self.window.present()
+
+    def tearDown(self):
+        self.window.window.destroy()
+        settle(0.05)
+        self.assertEqual(self.raised, [])
+
+    def shown(self):
+        """The pixels of what the window shows, and how many of them are dark."""
+        width, height = self.window.preview.size(self.window.view())
+        surface = self.window.preview.picture(self.window.view(), 4.0, 1)
+        self.assertEqual(
+            (surface.get_width(), surface.get_height()), (round(width * 4), round(height * 4))
+        )
+        data = bytes(surface.get_data())
+        return data, data.count(bytes(3))
+
+    def until(self, is_done, seconds=WAIT):
+        """Waits for something; returns the longest time without a heart beat."""
+        end = time.monotonic() + seconds
+        longest = 0.0
+        while not is_done():
+            self.assertLess(time.monotonic(), end, "the window did not get there")
+            longest = max(longest, settle(0.03))
+        return longest
+
+    def open(self, path=None):
+        self.window.open(str(path or self.table))
+        return self.until(lambda: self.window.made is not None or self.problem())
+
+    def change(self, **choices):
+        """Changes choices, and waits for the labels."""
+        before = self.window.made
+        self.window.widget("info").hide()
+        for name, value in choices.items():
+            widget = self.window.widget(name.replace("_", "-"))
+            if isinstance(widget, Gtk.ComboBoxText):
+                widget.set_active_id(value)
+            elif isinstance(widget, Gtk.ToggleButton):
+                widget.set_active(value)
+            elif isinstance(widget, Gtk.SpinButton):
+                widget.set_value(value)
+            else:
+                widget.set_text(value)
+        self.until(lambda: self.window.made is not before or self.problem())
+
+    def problem(self):
+        info = self.window.widget("info")
+        return self.window.widget("problem").get_text() if info.get_visible() else ""
+
+    def saved(self, name):
+        """What the window saves."""
+        path = self.folder / name
+        done = []
+        self.window.save(path, done.append)
+        self.until(lambda: done or self.problem())
+        self.assertEqual(self.problem(), "")
+        return path.read_bytes()
+
+    def by_commands(self, *words):
+        """What the commands write for the table."""
+        options = ["--header", "--code", "2", "--title", "3", "--price", "4", "--copies", "6"]
+        lines = command("label-table", *options, "--", self.table)
+        return command("label-print", *words, data=lines)
+
+    def rows(self):
+        return [tuple(row) for row in self.window.widget("notes")]
+
+    def test_saves_what_the_commands_print(self):
+        self.open()
+        self.assertEqual(self.window.widget("where").get_text(), "Page 1 of 1")
+        self.window.begin_at(9)
+        page = ("--stock", "Avery L7160", "--dpi", "600", "--first", "9")
+        self.assertEqual(self.saved("labels.pdf"), self.by_commands(*page))
+        self.change(roll=True, form="zpl", dpi="203")
+        roll = ("--paper", "60x40", "--to", "zpl", "--dpi", "203")
+        self.assertEqual(self.saved("labels.zpl"), self.by_commands(*roll))
+
+    def test_prints_the_dots_of_the_command(self):
+        self.open()
+        path = self.folder / "printed.pdf"
+        operation = self.window.operation()
+        operation.set_export_filename(str(path))
+        operation.set_allow_async(False)
+        operation.run(Gtk.PrintOperationAction.EXPORT, self.window.window)
+        settings = operation.get_print_settings()
+        self.assertEqual(settings.get("cups-Resolution"), "600dpi")
+        self.assertEqual(settings.get("cups-print-scaling"), "none")
+        other = self.folder / "command.pdf"
+        other.write_bytes(self.by_commands("--stock", "Avery L7160", "--dpi", "600"))
+        dots = []
+        for one in (path, other):
+            drawn = ["pdftoppm", "-r", "300", "-mono", str(one)]
+            dots.append(subprocess.run(drawn, capture_output=True, check=True).stdout)
+        self.assertTrue(dots[0])
+        self.assertEqual(hash(dots[0]), hash(dots[1]))
+
+    def test_says_what_is_left_out_and_what_there_is(self):
+        self.open()
+        self.assertEqual(self.window.widget("left-out").get_text(), "1 row is left out")
+        row, cell, why = self.rows()[0]
+        self.assertEqual((row, cell), ("4", "4006381333932"))
+        self.assertIn("check digit", why)
+        self.assertIn("6 labels of 3 rows", self.window.widget("count").get_text())
+        self.assertTrue(self.window.widget("guessed").get_visible())
+
+    def test_shows_pages_labels_and_dots(self):
+        self.open()
+        settle(0.2)
+        page, dark = self.shown()
+        self.assertGreater(dark, 500)
+        self.window.widget("dots").set_active(True)
+        dots, dark = self.shown()
+        self.assertNotEqual(hash(page), hash(dots))
+        self.assertGreater(dark, 500)
+        self.window.widget("single").set_active(True)
+        label, dark = self.shown()
+        self.assertLess(len(label), len(page))
+        self.assertGreater(dark, 100)
+        self.window.on_after(None)
+        self.assertNotEqual(hash(self.shown()[0]), hash(label))
+        for zoom in (self.window.on_larger, self.window.on_true_size, self.window.on_whole):
+            zoom(None)
+            settle(0.1)
+
+    def test_a_chosen_row_shows_its_label(self):
+        self.open()
+        self.window.widget("single").set_active(True)
+        self.assertEqual(self.window.widget("where").get_text(), "Label 1 of 3")
+        self.window.widget("notes").append(["3", "", ""])
+        self.window.widget("list").get_selection().select_path(Gtk.TreePath(1))
+        settle(0.1)
+        self.assertEqual(self.window.widget("where").get_text(), "Label 2 of 3")
+
+    def test_guesses_and_remembers_by_names(self):
+        self.open()
+        chosen = self.window.given()
+        self.assertEqual(
+            [chosen[name] for name in ("code", "title", "price", "copies")], ["2", "3", "4", "6"]
+        )
+        self.change(price="")
+        later = self.folder / "next week.csv"
+        later.write_text(TABLE.replace("Pencil", "Pen"))
+        other = window.Window(None)
+        self.window, before = other, self.window
+        self.open(later)
+        self.assertEqual(self.window.given()["price"], "")
+        self.assertFalse(self.window.widget("guessed").get_visible())
+        before.window.destroy()
+
+    def test_a_file_that_is_no_table_is_said(self):
+        for name, data in (
+            ("old.xls", b"\xd0\xcf\x11\xe0"),
+            ("empty.csv", b""),
+            ("torn.xlsx", b"PK\x03\x04torn"),
+        ):
+            path = self.folder / name
+            path.write_bytes(data)
+            self.open(path)
+            self.assertIn(name, self.problem())
+            self.assertFalse(self.window.widget("print").get_sensitive())
+        self.open(self.folder / "none.csv")
+        self.assertIn("none.csv", self.problem())
+        self.open()
+        self.assertEqual(self.problem(), "")
+
+    def test_wrong_words_are_said_and_the_page_stays(self):
+        self.open()
+        before = self.window.preview
+        self.change(for_table="--no-such-option")
+        self.assertIn("--no-such-option", self.problem())
+        self.change(for_table="'open")
+        self.assertIn("quotation", self.problem())
+        self.assertIs(self.window.preview, before)
+        self.change(for_table="--where Name=Soap")
+        self.assertIn("1 row", self.window.widget("count").get_text())
+
+    def test_a_wrong_picture_stops_the_print(self):
+        self.open()
+        made = self.window.made
+        first, *others = made.prepared.laid_out.labels
+        packed = bytearray(first.label.modules.packed)
+        packed[len(packed) // 2] ^= 0b00111100
+        wrong = replace(first.label, modules=replace(first.label.modules, packed=bytes(packed)))
+        laid_out = replace(made.prepared.laid_out, labels=(replace(first, label=wrong), *others))
+        self.window.made = replace(made, prepared=replace(made.prepared, laid_out=laid_out))
+        path = self.folder / "wrong.pdf"
+        self.window.save(path)
+        self.until(self.problem)
+        self.assertIn("row 2", self.problem())
+        self.assertFalse(path.exists())
+
+    def stall_of_a_save(self):
+        """The longest time without a heart beat while a long file is saved."""
+        self.window.save(self.folder / "long.pdf")
+        return settle(2)
+
+    def test_long_work_keeps_beating_and_stops(self):
+        numbers = range(20000)
+        rows = "".join(f"{one};{support.ean13(one)};Title {one};1,00 €\n" for one in numbers)
+        path = self.folder / "long.csv"
+        path.write_text("Nr;EAN;Name;Price\n" + rows)
+        stalls = []
+        for _ in range(TRIES):
+            stalls.append(max(self.open(path), self.stall_of_a_save()))
+            if stalls[-1] < LONGEST:
+                break
+        self.assertLess(min(stalls), LONGEST)
+        self.window.on_stop(None)
+        settle(0.5)
+        self.assertEqual(list(self.folder.glob("*.pdf")), [])
+        self.assertTrue(self.window.widget("print").get_sensitive())
+
+    def test_the_desktop_finds_the_window(self):
+        support.needs("desktop-file-validate", "appstreamcli")
+        data = TOOLS / "data"
+        entry = data / "org.labels.Window.desktop"
+        about = data / "org.labels.Window.metainfo.xml"
+        for words in (
+            ["desktop-file-validate", entry],
+            ["appstreamcli", "validate", "--no-net", about],
+        ):
+            ran = subprocess.run(words, capture_output=True, text=True)
+            self.assertEqual(ran.returncode, 0, ran.stdout + ran.stderr)
+
+    def test_speaks_german(self):
+        locale = self.folder / "locale/de/LC_MESSAGES"
+        locale.mkdir(parents=True)
+        catalogue = ["msgfmt", "--check-format", "-o", locale / "label-tools.mo"]
+        subprocess.run([*catalogue, TOOLS / "po/de.po"], check=True)
+        self.open()
+        page = self.window.widget("where").get_text()
+        code = (
+            "import sys; sys.path.insert(0, sys.argv[1])\n"
+            "from labeltools.words import _, translated_file\n"
+            "from labeltools.window import FILE\n"
+            "print(_('Page {number} of {all}').format(number=1, all=1))\n"
+            "print(translated_file(FILE))\n"
+        )
+        environment = {**os.environ, "LABELS_LOCALE": str(self.folder / "locale"), "LANGUAGE": "de"}
+        words = [sys.executable, "-c", code, TOOLS]
+        ran = subprocess.run(words, env=environment, capture_output=True, text=True, check=True)
+        said, *xml = ran.stdout.splitlines()
+        self.assertEqual((page, said), ("Page 1 of 1", "Seite 1 von 1"))
+        texts = re.findall('translatable="yes">([^<]*)<', window.FILE.read_text())
+        same = {"Code 128", "QR", "203 dpi", "300 dpi", "600 dpi"}
+        self.assertGreater(len(texts), 40)
+        self.assertEqual(
+            [one for one in texts if one not in same and f">{one}<" in "".join(xml)], []
+        )
+
+    def test_each_control_has_a_name_and_fits_a_small_screen(self):
+        self.open()
+        controls = list(named(self.window.window))
+        self.assertGreater(len(controls), 20)
+        self.assertEqual([str(one) for one, name in controls if not name], [])
+        width, _ = self.window.window.get_preferred_width()
+        height, _ = self.window.window.get_preferred_height()
+        self.assertLessEqual((width <= 800, height <= 560), (True, True))
