@@ -68,7 +68,7 @@ def counts_of_crate(top, crate, files):
             sys.exit(f"crates/{crate}/{name} has {', '.join(strange)}, which no script reads")
         yield f"{what} of {crate}", len(edits)
     proofs = [file for file in files if (file.crate, file.part) == (crate, "proofs")]
-    yield f"worked values of {crate}", sum(one.is_worked() for file in proofs for one in file.declarations)
+    yield f"worked values of {crate}", sum(one.worked_values() for file in proofs for one in file.declarations)
     yield f"stored runs of {crate}", len(glob.glob(f"{folder}/stdout"))
 
 

@@ -86,10 +86,12 @@ class Declaration:
                 if "=" in texts and not is_signature(statement):
                     yield statement[texts.index("=") + 1 :]
 
-    def is_worked(self):
-        """Whether it states something without variables, those of a module too: what it says is computed."""
-        words = {token.text for token in self.signature()}
-        return self.tokens[0].column == 0 and "→" not in words and bool(words & RELATIONS)
+    def worked_values(self):
+        """How many statements without variables it makes, those of a module too, of a product each for one: they are
+        computed."""
+        words = [token.text for token in self.signature()]
+        is_open = self.tokens[0].column > 0 or "→" in words
+        return 0 if is_open else sum(word in RELATIONS for word in words)
 
 
 class File:

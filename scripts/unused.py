@@ -10,7 +10,7 @@
   name of `ghost use` where a contract, a ghost item or an attribute has it; a trait of ours also where a function of
   it is called.
 - A function is used where its name is found in code outside of its own body, in its crate or, if it is `pub`, in any.
-  Tests, `main` and the functions of an `impl` of a trait are called by others.
+  Tests, `main`, exports to C and the functions of an `impl` of a trait are called by others.
 
 Where two things have one name it may miss one that is unused. The status is 1 where something is found, a line for
 each; the last line says how much it looked at.
@@ -81,7 +81,7 @@ def checked_for_itself(file, cited_files):
         return file.declarations
     if file.key() in cited_files:
         return []
-    return [one for one in file.declarations if one.is_worked()]
+    return [one for one in file.declarations if one.worked_values()]
 
 
 def unused_definitions(logic, code):
@@ -146,7 +146,7 @@ def functions_of(items, is_trait=False):
         if item.kind in ("impl", "trait", "mod") and " for " not in item.name:
             yield from functions_of(item.inner, item.kind == "trait")
         elif item.kind == "fn" and item.name != "main":
-            if "test" not in {token.text for token in item.attributes}:
+            if not {"test", "no_mangle"} & {token.text for token in item.attributes}:
                 yield Function(
                     item.name, item.place, item.key.crate, item.is_public or is_trait, names_of(item.tokens)
                 )
