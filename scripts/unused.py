@@ -47,16 +47,17 @@ def attributes_in(tokens):
             yield tokens[at : reader.after_bracket(tokens, at + 1 + (tokens[at + 1].text == "!"))]
 
 
-def ghost_tokens(tokens):
+def ghost_tokens(tokens, kinds=("Antt", "Text")):
     """Of code: what is in contracts, ghost items and attributes."""
-    found = [token for token in without_uses(tokens) if token.kind in ("Antt", "Text")]
+    found = [token for token in without_uses(tokens) if token.kind in kinds]
     return found + [token for attribute in attributes_in(tokens) for token in attribute]
 
 
 @functools.lru_cache(maxsize=None)
 def ghost_text(text):
-    """The same of a text, as words."""
-    return " ".join(token.text for token in ghost_tokens(reader.tokens_of_text(text)))
+    """The same of a text, with the heads of clauses and items, as words."""
+    tokens = ghost_tokens(reader.tokens_of_text(text), ("Head", "Antt", "Text", "End"))
+    return " ".join(token.text for token in tokens)
 
 
 def cited_by_code(file):

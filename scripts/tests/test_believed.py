@@ -1,6 +1,6 @@
 """What has to be believed is what the files give, and the results of wrong entries are those of the files.
 
-Run by `python3 -m unittest discover -s scripts/tests`. No kit and no built program is needed.
+Run by `python3 -m unittest discover -s scripts/tests`. The kit is needed, and no built program.
 """
 
 import contextlib

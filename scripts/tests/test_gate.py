@@ -1,6 +1,6 @@
 """The gate cannot look away: what is taken away in a copy of the repository makes a step of the gate fail.
 
-Run by `python3 -m unittest discover -s scripts/tests`. No kit, no third-party tool and no built program is needed.
+Run by `python3 -m unittest discover -s scripts/tests`. The kit is needed; no third-party tool and no built program is.
 """
 
 import ast

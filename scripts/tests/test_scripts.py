@@ -1,7 +1,7 @@
 """The scripts see what they are there to see: each planted mistake makes the script fail, and nothing passes unseen.
 
-Run by `python3 -m unittest discover -s scripts/tests`. No kit, no third-party tool and no built program is needed:
-where a script calls one, a stand-in of a few lines is put on the path.
+Run by `python3 -m unittest discover -s scripts/tests`. The kit is needed; no third-party tool and no
+built program: where a script calls one, a stand-in of a few lines is put on the path.
 """
 
 import contextlib
