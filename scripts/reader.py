@@ -108,7 +108,7 @@ class File:
             self.declarations = list(self.items(tokens))
             self.imports = [one for item in self.declarations for one in self.imports_in(item)]
         else:
-            self.take(tokens, None)
+            self.take(tokens)
 
     def key(self, name=""):
         return Key(self.crate, self.part, self.module, name)
@@ -133,9 +133,9 @@ class File:
 
     # ---- the logic
 
-    def take(self, tokens, current):
+    def take(self, tokens):
         """Cuts the tokens of a file or of a module into imports and declarations."""
-        before = []
+        current, before = None, []
         for statement in statements(tokens):
             words = [token.text for token in statement]
             modifiers = list(itertools.takewhile(MODIFIERS.__contains__, words))
@@ -145,7 +145,7 @@ class File:
             elif name in ("module", "mutual"):
                 inner = words.index("where") + 1 if name == "module" else len(modifiers) + 1
                 self.rest += statement[:inner]
-                self.take(statement[inner:], None)
+                self.take(statement[inner:])
             elif name in ("infix", "infixl", "infixr"):
                 before = statement
             elif name in ("use", "mod", "unfolding") or not (modifiers or is_signature(statement)):
@@ -218,7 +218,7 @@ class File:
             one.stated = tokens[:body]
         if kind in ("trait", "impl", "mod"):
             one.inner = list(self.items(tokens[body + 1 : -1]))
-            bodies = {token for it in one.inner for token in it.tokens[len(it.stated) :]}
+            bodies = {token for it in one.inner if it.kind == "fn" for token in it.tokens[len(it.stated) :]}
             one.stated = [token for token in tokens if token not in bodies]
         return one
 
