@@ -23,7 +23,6 @@ Token = namedtuple("Token", "kind text line column start")
 # What a definition, a lemma or an item is named by; `part` is "specs", "proofs" or "src". Of a whole file the name is
 # empty.
 Key = namedtuple("Key", "crate part module name")
-TOKEN = re.compile(r'^(\d+) (\d+) (\d+) (\w+) (".*")$', re.M)
 BRACKETS = {"(": ")", "[": "]", "{": "}"}
 MODIFIERS = {"abbrev", "unfoldable", "pub", "record", "data", "ruleset"}
 KINDS = {"fn", "struct", "enum", "trait", "impl", "mod", "const", "ghost", "use", "type", "static"}
@@ -329,11 +328,11 @@ def tokens_in(rows, path):
     """The tokens of a file by the kit's rows: the line, the first and last byte, the kind and the text of each."""
     with open(path, "rb") as file:
         starts = [0, 0, *(match.end() for match in re.finditer(b"\n", file.read()))]
-    for line, start, _, kind, text in TOKEN.findall(rows):
-        if kind == "Literal" and text.startswith('"///'):
-            continue
-        shown = json.loads(text) if "\\" in text else text[1:-1]
-        yield Token(kind, shown, int(line), int(start) - starts[int(line)], int(start))
+    for row in rows.split("\n")[:-1]:
+        line, start, _, kind, text = row.split(" ", 4)
+        if kind != "Literal" or not text.startswith('"///'):
+            shown = json.loads(text) if "\\" in text else text[1:-1]
+            yield Token(kind, shown, int(line), int(start) - starts[int(line)], int(start))
 
 
 def tokens_of_text(text):
@@ -348,7 +347,10 @@ def files_of(top, crates, *parts):
     """The files of src/, specs/ or proofs/ of crates, but for the lists of modules."""
     folders = [os.path.join(top, "crates", crate, part) for crate in crates for part in parts]
     paths = [path for folder in folders for path in sources.files_below(folder, (".rt", ".antt"))]
-    paths = [path for path in paths if os.path.basename(path) != "Lib.antt"]
+    return files_at(top, [path for path in paths if os.path.basename(path) != "Lib.antt"])
+
+
+def files_at(top, paths):
     return [File(top, path, tokens) for path, tokens in zip(paths, tokens_of(paths))]
 
 
@@ -375,12 +377,14 @@ def is_named_in(name, names):
 
 def cited(tokens, imports, of_name):
     """What tokens cite: definitions of their own file, and keys of imported ones."""
-    names, found = names_in(tokens), []
-    found += [one.key for name, one in of_name.items() if is_named_in(name, names)]
+    names, inner = names_in(tokens), {}
+    for first, _, second in (name.partition(".") for name in names):
+        if second and "." not in second:
+            inner.setdefault(first, []).append(second)
+    found = [one.key for name, one in of_name.items() if is_named_in(name, names)]
     for one in imports:
         if one.target and one.target.name and is_named_in(one.name, names):
             found.append(one.target)
         elif one.target:
-            inner = {it.split(".")[1] for it in names if it.startswith(one.name + ".") and it.count(".") == 1}
-            found += [one.target._replace(name=name) for name in inner]
+            found += [one.target._replace(name=name) for name in inner.get(one.name, ())]
     return found

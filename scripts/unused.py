@@ -17,6 +17,7 @@ each; the last line says how much it looked at.
 """
 
 import functools
+import itertools
 import re
 import sys
 from collections import Counter
@@ -110,21 +111,31 @@ def is_called(name, tokens):
     return any(token.text == name and before.text in (".", ":") for before, token in zip(tokens, tokens[1:]))
 
 
+def unused_in_logic(file):
+    names = reader.names_in([*file.rest, *(token for one in file.declarations for token in one.tokens)])
+    return [one for one in file.imports if not reader.is_named_in(one.name, names)]
+
+
+def unused_in_code(scope, imports, traits):
+    """The names that are imported for some tokens of code and not used there."""
+    ghost_names, tokens = reader.names_in(ghost_tokens(scope)), list(without_uses(scope))
+    names = {token.text for token in tokens} | TRAITS_OF_STD
+    for one in imports:
+        functions = [it.name for it in traits.get(one.name, ()) if it.kind == "fn"]
+        if one.is_ghost and not reader.is_named_in(one.name, ghost_names):
+            yield one
+        elif not one.is_ghost and one.name not in names and not any(is_called(it, tokens) for it in functions):
+            yield one
+
+
 def unused_imports(logic, code):
     """The imported names that are not used where they are imported."""
-    found = []
+    found = [one for file in logic for one in unused_in_logic(file)]
     traits = {one.name: one.inner for file in code for one in file.declarations if one.kind == "trait"}
-    for file in logic:
-        names = reader.names_in([*file.rest, *(token for one in file.declarations for token in one.tokens)])
-        found += [one for one in file.imports if not reader.is_named_in(one.name, names)]
-    for one in (it for file in code for it in file.imports):
-        if one.is_ghost:
-            is_used = reader.is_named_in(one.name, reader.names_in(ghost_tokens(one.scope)))
-        else:
-            tokens = list(without_uses(one.scope))
-            is_used = one.name in TRAITS_OF_STD or any(token.text == one.name for token in tokens)
-            is_used = is_used or any(is_called(it.name, tokens) for it in traits.get(one.name, ()) if it.kind == "fn")
-        found += [] if is_used else [one]
+    for file in code:
+        for _, group in itertools.groupby(file.imports, lambda one: id(one.scope)):
+            imports = list(group)
+            found += unused_in_code(imports[0].scope, imports, traits)
     return found
 
 
