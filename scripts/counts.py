@@ -11,12 +11,12 @@ program, crates/labels/out/labels.
 """
 
 import glob
+import importlib
 import os
 import re
 import subprocess
 import sys
 
-import compare_symbols
 import pages
 import reader
 import sources
@@ -89,6 +89,8 @@ def counts_of_text(top):
     yield from ((f"blocks of {language}", languages.count(language)) for language in sorted(pages.LANGUAGES))
     yield "terms of the glossary", len(list(pages.terms_of(texts[pages.GLOSSARY])))
     yield "manuals", len(glob.glob(f"{top}/man/*.[13]"))
+    # It needs numpy, which Debian's Python has; gate.py, which reads this file, may be run by another one.
+    compare_symbols = importlib.import_module("compare_symbols")
     yield "labels to compare", len(compare_symbols.all_labels())
 
 

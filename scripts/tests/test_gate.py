@@ -37,6 +37,10 @@ class TakenAway(InCopy):
         status, said = self.gate("counts.py", "pages.py")
         self.assertEqual((status, said.split("\n")[-2]), (0, "2 passed, 0 failed"), said)
 
+    def test_another_python(self):
+        """The gate can be begun by a Python that lacks Debian's modules, which may be the first on the path."""
+        self.assertEqual(run_command([PYTHON, "-S", self.path("scripts", "gate.py"), "--help"])[0], 0)
+
     def test_what_is_moved_away(self):
         name = sorted(os.listdir(self.path("crates/device/wrong-bodies")))[0]
         texts, differ = (
