@@ -24,6 +24,7 @@ crate or there is no kit. The last line is `N passed, M failed`, as of `rt ci`.
 
 import concurrent.futures
 import dataclasses
+import functools
 import importlib.machinery
 import importlib.util
 import os
@@ -33,6 +34,7 @@ import subprocess
 import sys
 import tempfile
 
+import reader
 import sources
 import unused
 
@@ -163,16 +165,22 @@ class Copy:
     text: str  # of the copy, with what stands above the function
 
 
-def function_at(text, path):
-    """Returns the offsets of a function, by its path below its file: a free one, or one of an `impl` of no trait."""
-    for item in sources.items_of(text):
-        if item.kind == "fn" and [item.name] == path:
-            return item.start, item.start + len(item.text)
-        if item.kind == "impl" and [item.name.partition("<")[0]] == path[:-1]:
-            begin, end = function_at(item.body, path[-1:])
-            at = item.start + len(item.text) - len(item.body) - 1
-            if end:
-                return at + begin, at + end
+@functools.lru_cache(maxsize=None)
+def file_at(folder, file):
+    """Returns a file of the code of a crate."""
+    return reader.files_at(os.path.dirname(folder), [f"{folder}/{file}"])[0]
+
+
+def function_at(file, path):
+    """Returns the offsets of a function in the text of a file, by its path there: a free one, or one of an `impl` of no
+    trait."""
+    inner = [
+        one for item in file.declarations if item.kind == "impl" and [item.name] == path[:-1] for one in item.inner
+    ]
+    for one in inner if path[:-1] else file.declarations:
+        if one.kind == "fn" and [one.name] == path[-1:]:
+            ends = one.tokens[0].start, one.tokens[-1].start + 1
+            return [len(file.text.encode()[:end].decode()) for end in ends]
     return 0, 0
 
 
@@ -180,10 +188,10 @@ def copy_of(body, ending, folder):
     """Returns a copy of the function that a body changes, with this ending of its name. There is none where the body
     changes something else too, of a function of a trait, and of one that calls itself."""
     function, file = body.functions[0], body.changes[0][0]
-    before, texts = sources.read(f"{folder}/{file}"), changed({}, body, folder)
+    before, texts = file_at(folder, file).text, changed({}, body, folder)
     module = [] if file == "src/lib.rt" else file.removeprefix("src/").removesuffix(".rt").split("/")
     path = function.split("::")
-    begin, end = function_at(before, path[len(module) :])
+    begin, end = function_at(file_at(folder, file), path[len(module) :])
     after = texts[file]
     new_end = len(after) - len(before) + end
     is_alone = len(body.functions) == len(texts) == 1 and path[: len(module)] == module
