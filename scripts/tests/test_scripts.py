@@ -199,6 +199,61 @@ class Outcomes(InFolder):
         self.edit(EDIT.format(" 2"), name="two")
         self.assertEqual(self.tried("not proved"), (1, 0, ["two: it leaves the same text as one"]))
 
+    def test_two_of_one_function(self):
+        """Both are tried in copies of the function, beside one that has to be proved as it is."""
+        self.edit(EDIT.format("2"))
+        self.edit(EDIT.format("3"), name="two")
+        refused = "not proved"
+        control = "one as it is: it is right, and not reported as not refused"
+        for said, wanted in (
+            ((refused, refused, "proved"), (2, 1, [])),
+            ((refused, "proved", "proved"), (1, 1, ["two: NOT REFUSED"])),
+            ((CALLS, refused, "proved"), (1, 1, ["one: not judged"])),
+            ((refused, refused, refused), (2, 0, [control])),
+            ((refused, refused, CALLS), (2, 0, ["one as it is: not judged"])),
+        ):
+            with self.subTest(said):
+                lines = "\nfn small::".join(map("{}: {}".format, ("one_0", "one_1", "one_as_it_is"), said))
+                self.assertEqual(self.tried(f"not asked\nfn small::{lines}"), wanted)
+        self.assertEqual(self.tried(refused), (0, 0, ["one: NOT REFUSED", "two: NOT REFUSED", control]))
+
+    def test_copies(self):
+        """A copy has the text of its own body and a proof of its own; the function stands as it is."""
+        self.edit(EDIT.format("2"))
+        self.edit(EDIT.format("3"), name="two")
+        copies = wrong_bodies.copies_of(wrong_bodies.bodies_of(self.folder), self.folder)
+        text = wrong_bodies.with_copies(copies, self.folder)["src/lib.rt"]
+        self.assertTrue(text.startswith(ONE.rstrip()))
+        names = [*zip(re.findall(r"pub fn (\w+)\(", text), re.findall(r"^    (\d)$", text, re.M))]
+        self.assertEqual(sorted(names), [("one", "1"), ("one_0", "2"), ("one_1", "3"), ("one_as_it_is", "1")])
+        for name in ("one.Goals", "one_more.Goals"):
+            write(self.path("proofs/one", f"{name}.antt"), f"use Rattle.small.proofs.{name} as goal\n")
+        wrong_bodies.copy_proof(copies[1], "small", self.folder)
+        self.assertEqual(
+            read(self.path("proofs/one_1/one.Goals.antt")), "use Rattle.small.proofs.one_1.Goals as goal\n"
+        )
+        self.assertNotIn("one_1", read(self.path("proofs/one_1/one_more.Goals.antt")))
+
+    def test_no_copies(self):
+        """What is more than one function, one of a trait, or one that calls itself, is tried in its place."""
+        text = "const A: u8 = 7;\nimpl<T> Some<T> {\n    #[inline]\n    fn one() -> u8 { 1 }\n}\n"
+        write(self.path("src/part.rt"), text + "impl Trait for Some {\n    fn one() -> u8 { 11 }\n}\n")
+        write(self.path("src/cycle.rt"), "#[cycle(one)]\nfn one() -> u8 { 1 }\n")
+        one = ("src/part.rt", "{ 1 }", "{ 2 }")
+        copy = wrong_bodies.copy_of(wrong_bodies.WrongBody("", ["part::Some::one"], [one]), 0, self.folder)
+        self.assertEqual(copy.text, "    #[inline]\n    fn one_0() -> u8 { 2 }")
+        for functions, changes in (
+            (["part::SomeTrait::one"], [("src/part.rt", "{ 11 }", "{ 2 }")]),
+            (["part::Some::one"], [("src/part.rt", "{ 11 }", "{ 2 }")]),
+            (["part::Some::one"], [one, ("src/part.rt", "= 7", "= 8")]),
+            (["part::Some::one"], [one, ("src/lib.rt", "    1", "    2")]),
+            (["part::Some::one", "one"], [one]),
+            (["other::Some::one"], [one]),
+            (["cycle::one"], [("src/cycle.rt", "{ 1 }", "{ 2 }")]),
+        ):
+            with self.subTest(functions=functions, changes=changes):
+                self.assertIsNone(wrong_bodies.copy_of(wrong_bodies.WrongBody("", functions, changes), 0, self.folder))
+
 
 class Judges(unittest.TestCase):
     """A judge that passes everything is found by the wrong cases that it is shown in each run."""
