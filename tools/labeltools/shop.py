@@ -34,7 +34,7 @@ class Talk:
 
     def __init__(self) -> None:
         self.notes: list[LeftOut] = []
-        self.progress = (0, 0)  # what is done, and all there is to do
+        self.progress = 0.0  # the part that is done, where that is known
         self.is_stopped = False
 
     def note(self, place: Place | None, cell: str, reason: str, hint: str) -> None:
@@ -49,7 +49,7 @@ class Talk:
         """Keeps how far the work is; raises `Cancelled` where it is stopped."""
         if self.is_stopped:
             raise Cancelled("stopped")
-        self.progress = (done, total)
+        self.progress = done / total if total else 0.0
 
 
 @dataclass(frozen=True)

@@ -37,7 +37,7 @@ CONTROLS = {
     **dict.fromkeys((*COLUMNS, "symbology", "design", "to", "dpi"), "active-id"),
     **dict.fromkeys(("stock", "for-table", "for-print"), "text"),
     **dict.fromkeys(("header-row", "first", "width", "height"), "value"),
-    "roll": "active",
+    **dict.fromkeys(("sheet", "roll"), "active"),
 }
 MANY = 1000  # labels above it are asked for before they are printed
 MOST_NOTES = 2000
@@ -79,7 +79,7 @@ class Window:
 
     # ---- work beside the window
 
-    def start(self, work: Callable[[Talk], Any], then: Then) -> None:
+    def start(self, work: Callable[[Talk], Any], then: Then = lambda _result: None) -> None:
         """Does work; nothing goes out until it is done."""
         self.talk.is_stopped = True
         self.talk = Talk()
@@ -92,7 +92,8 @@ class Window:
         if talk.is_stopped:
             return False
         if not future.done():
-            self.show_progress(*talk.progress)
+            self.widget("working").show()
+            self.widget("progress").set_fraction(talk.progress)
             return True
         self.end_work()
         try:
@@ -102,14 +103,6 @@ class Window:
         except OSError as error:
             self.show_problem(of_system(error))
         return False
-
-    def show_progress(self, done: int, total: int) -> None:
-        """Shows how far the work is."""
-        self.widget("working").show()
-        if total:
-            self.widget("progress").set_fraction(done / total)
-        else:
-            self.widget("progress").pulse()
 
     def end_work(self, _button: Any = None) -> None:
         """Ends work, and lets labels go out where there are some."""
@@ -273,7 +266,7 @@ class Window:
         chooser = self.widget("saver")
         chooser.set_current_name(f"labels.{labels.prepared.job.form.name}")
         if chooser.run() == Gtk.ResponseType.ACCEPT:
-            self.start(partial(shop.saved, labels, Path(chooser.get_filename())), nothing)
+            self.start(partial(shop.saved, labels, Path(chooser.get_filename())))
 
     def on_print(self, _button: Any) -> None:
         """Prints: by the dialog of the desktop, or for ZPL and ESC/POS the file at a queue."""
@@ -290,8 +283,6 @@ class Window:
         if self.labels is None or len(self.labels.prints) <= MANY:
             return self.labels
         dialog = self.widget("many")
-        text = _("Print {count} labels?").format(count=len(self.labels.prints))
-        dialog.set_property("text", text)
         dialog.set_property("secondary-text", translated(self.labels.lines.summary))
         answer = dialog.run()
         dialog.hide()
@@ -302,8 +293,8 @@ class Window:
         menu = Gtk.Menu()
         for name in names or [_("there is no printer")]:
             item = Gtk.MenuItem(label=name, sensitive=bool(names), visible=True)
-            send = partial(shop.sent, labels, name)
-            item.connect("activate", lambda _item, work: self.start(work, nothing), send)
+            send = partial(self.start, partial(shop.sent, labels, name))
+            item.connect("activate", lambda _item, then: then(), send)
             menu.append(item)
         south = Gdk.Gravity.SOUTH_WEST
         menu.popup_at_widget(self.widget("print"), south, Gdk.Gravity.NORTH_WEST, None)
@@ -336,10 +327,6 @@ class Window:
             lambda _self, context, number: pages.print(context.get_cairo_context(), number),
         )
         return operation
-
-
-def nothing(_result: Any) -> None:
-    """Does nothing with a result."""
 
 
 def said(what: str, hint: str) -> str:
