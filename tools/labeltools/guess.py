@@ -51,22 +51,22 @@ def guess_of(data: bytes, name: str, options: TableOptions, talk: Talk) -> Guess
     """Returns a guess of a table; raises `ToolError` where it cannot be read."""
     start = head_of(data, name, options, talk)
     rows = [start.head.row, *(row for row in islice(start.rows, SAMPLE) if not row.problem)]
-    if options.file.header_row is not None:
-        return guess(rows)
+    if options.file.has_header is False or options.file.header_row is not None:
+        return guess(rows, options.file.has_header is not False)
     # the names have more than half as many cells as any row; what is above is a title
     counts = [sum(map(bool, names_of(row))) for row in rows]
-    return guess(rows[[2 * count > max(counts) for count in counts].index(True) :])
+    rows = rows[[2 * count > max(counts) for count in counts].index(True) :]
+    return guess(rows, not any(map(is_code, names_of(rows[0]))))
 
 
-def guess(rows: Sequence[Row]) -> Guess:
+def guess(rows: Sequence[Row], has_names: bool) -> Guess:
     """Returns a guess from the row of names, or the first article, and some rows below it.
 
-    >>> guess([Row(1, ["Nr", "EAN"]), Row(2, ["7", "4006381333931"])]).columns
+    >>> guess([Row(1, ["Nr", "EAN"]), Row(2, ["7", "4006381333931"])], True).columns
     {'code': 1}
     """
     width = max(len(row.cells) for row in rows)
     texts = [[row.seen(place).strip() for place in range(width)] for row in rows]
-    has_names = not any(map(is_code, texts[0]))
     names = [*names_of(rows[0]), *[""] * width][:width] if has_names else [""] * width
     columns = [[line[place] for line in texts[has_names:] if line[place]] for place in range(width)]
     found: dict[str, int] = {}

@@ -90,7 +90,8 @@ def print_by(job: PrintJob, queue: str, file: IO[bytes]) -> str:
     done = called(lp_words(job, queue) or [], file)
     if done.returncode:
         said = done.stderr.decode("utf-8", "replace").strip()
-        hint = f"the queues are {', '.join(queues()) or 'none'}"
+        names = ", ".join(queues())
+        hint = f"the queues are {names}" if names else "there is no queue"
         raise ToolError(f"lp does not print on {queue}: {said}", hint)
     return done.stdout.decode("utf-8", "replace").strip()
 

@@ -62,12 +62,12 @@ class Table:
 
 
 def opened(path: Path, header: int | None, talk: Talk) -> Table:
-    """Returns a table, whose names are in the row `header` where that is known; raises `ToolError`
-    and `OSError` where it cannot be read.
+    """Returns a table, whose names are in the row `header` (0: in none) where that is known; raises
+    `ToolError` and `OSError` where it cannot be read.
     """
     _, data = read_input(str(path))
-    options = TableOptions(file=FileOptions(header_row=header))
-    return Table(path, data, guess_of(data, path.name, options, talk))
+    rules = FileOptions(has_header=False) if header == 0 else FileOptions(header_row=header)
+    return Table(path, data, guess_of(data, path.name, TableOptions(file=rules), talk))
 
 
 def table_words(table: Table, choices: Choices) -> list[str]:

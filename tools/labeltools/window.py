@@ -95,7 +95,7 @@ class Window:
             self.widget("working").show()
             self.widget("progress").set_fraction(talk.progress)
             return True
-        self.end_work()
+        self.on_stop()
         try:
             then(future.result())
         except ToolError as error:
@@ -104,7 +104,7 @@ class Window:
             self.show_problem(of_system(error))
         return False
 
-    def end_work(self, _button: Any = None) -> None:
+    def on_stop(self, _button: Any = None) -> None:
         """Ends work, and lets labels go out where there are some."""
         self.talk.is_stopped = True
         self.widget("working").hide()
@@ -173,7 +173,7 @@ class Window:
         self.widget("count").set_text(translated(labels.lines.summary))
         self.show_notes(labels)
         self.show_view()
-        self.end_work()
+        self.on_stop()
         check_count(labels.prepared.job, labels.prints, False)
 
     def show_notes(self, labels: Labels) -> None:
@@ -259,14 +259,19 @@ class Window:
             self.open(self.table.path, control.get_value_as_int())
 
     def on_save(self, _button: Any) -> None:
-        """Asks for a file, and writes what label-print writes."""
+        """Asks for a file, and writes it."""
         labels = self.meant()
         if labels is None:
             return
         chooser = self.widget("saver")
         chooser.set_current_name(f"labels.{labels.prepared.job.form.name}")
         if chooser.run() == Gtk.ResponseType.ACCEPT:
-            self.start(partial(shop.saved, labels, Path(chooser.get_filename())))
+            self.save(Path(chooser.get_filename()))
+
+    def save(self, path: Path) -> None:
+        """Writes what label-print writes into a file."""
+        assert self.labels is not None
+        self.start(partial(shop.saved, self.labels, path))
 
     def on_print(self, _button: Any) -> None:
         """Prints: by the dialog of the desktop, or for ZPL and ESC/POS the file at a queue."""
