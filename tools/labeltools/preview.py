@@ -10,7 +10,7 @@ from labeltools.forms.pdf import POINTS
 from labeltools.letters import Letters
 from labeltools.messages import Silence
 from labeltools.pen import Medium, Page, Pen
-from labeltools.press import Press, PrintJob, Prints, once, with_copies
+from labeltools.press import Press, PrintJob, Prints, once
 from labeltools.print_job import Prepared
 from labeltools.stock import Sheet, Size
 
@@ -97,7 +97,7 @@ class Preview:
 
 def of_pages(prepared: Prepared) -> Preview:
     """Returns what draws the pages."""
-    return Preview(prepared.job, prepared, with_copies(prepared.labels))
+    return Preview(prepared.job, prepared, prepared.prints)
 
 
 def of_labels(prepared: Prepared) -> Preview:

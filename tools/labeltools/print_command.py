@@ -22,7 +22,7 @@ from labeltools.files import save, send
 from labeltools.forms import FORMS
 from labeltools.layout import LaidOut
 from labeltools.messages import BAD_ARGUMENTS, ToolError, counted, write_message
-from labeltools.press import PrintJob, Press, Prints, once, with_copies
+from labeltools.press import PrintJob, Press, Prints, once
 from labeltools.print_job import (
     DRAWING_DPI,
     Prepared,
@@ -315,7 +315,7 @@ def run() -> int:
     say(found)
     press = found.press(talk)
     items = found.labels
-    prints = with_copies(items) if options.each is None else once(items)
+    prints = found.prints if options.each is None else once(items)
     check_count(job, prints, options.each is not None)
     if options.each is not None:
         write_files(press, items, paths_of(items, options.each))

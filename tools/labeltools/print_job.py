@@ -3,7 +3,7 @@
     options = PrintOptions(paper=(60.0, 40.0), dpi=203, to="zpl")
     job = planned(options)
     prepared = labels_of(options, job, "articles.lines", data, talk)
-    prepared.press(talk).save(with_copies(prepared.labels), Path("labels.zpl"))
+    prepared.press(talk).save(prepared.prints, Path("labels.zpl"))
 """
 
 from dataclasses import dataclass, replace
@@ -17,7 +17,7 @@ from labeltools.letters import Fonts, Letters
 from labeltools.lines_file import UNPRINTABLE, LinesFile, read_lines
 from labeltools.messages import BAD_ARGUMENTS, Place, Talk, ToolError
 from labeltools.pen import Medium, Pen
-from labeltools.press import Press, PrintJob, pens_of
+from labeltools.press import Press, PrintJob, Prints, pens_of, with_copies
 from labeltools.read_back import fault_of
 from labeltools.report import LeftOut, places_text
 from labeltools.stock import Grid, Sheet, Size, grid_sheet, stock_sheet
@@ -86,6 +86,11 @@ class Prepared:
     def labels(self) -> Sequence[LaidOut]:
         """The labels that can be printed, once each."""
         return self.laid_out.labels
+
+    @property
+    def prints(self) -> Prints:
+        """The labels with their copies."""
+        return with_copies(self.labels)
 
     def press(self, talk: Talk) -> Press:
         """Returns what writes them."""

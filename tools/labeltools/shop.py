@@ -5,6 +5,7 @@ of them, and what was chosen the last time.
 import json
 import os
 import shlex
+import time
 from collections.abc import Mapping, Sequence
 from contextlib import suppress
 from dataclasses import dataclass
@@ -17,7 +18,7 @@ from labeltools.command_line import read_input, words_of
 from labeltools.files import save
 from labeltools.guess import Guess, guess_of
 from labeltools.messages import Cancelled, Place, ToolError
-from labeltools.press import Prints, with_copies
+from labeltools.press import Press
 from labeltools.print_job import Prepared, faults, labels_of, planned
 from labeltools.report import LeftOut
 from labeltools.table import Lines, lines_of_table
@@ -36,6 +37,7 @@ class Talk:
         self.notes: list[LeftOut] = []
         self.progress = 0.0  # the part that is done, where that is known
         self.is_stopped = False
+        self.begin = time.monotonic()
 
     def note(self, place: Place | None, cell: str, reason: str, hint: str) -> None:
         """Keeps why a row is left out."""
@@ -112,11 +114,6 @@ class Labels:
     lines: Lines
     said: Sequence[LeftOut]
 
-    @property
-    def prints(self) -> Prints:
-        """The labels with their copies."""
-        return with_copies(self.prepared.labels)
-
     def left_out(self) -> list[LeftOut]:
         """Returns the labels of lines that are not printed."""
         found = ((one, one.place.number) for one in self.prepared.left_out if one.place)
@@ -146,26 +143,17 @@ def made(table: Table, choices: Choices, old: Labels | None, talk: Talk) -> Labe
     return Labels(labels_of(options, job, table.path.name, lines.output, talk), words, lines, said)
 
 
-def read_back(prepared: Prepared, talk: Talk) -> None:
-    """Reads each label as it is drawn; raises `ToolError` where one is not what it has to be."""
+def read_back(prepared: Prepared, talk: Talk) -> Press:
+    """Reads each label as it is drawn, and returns what writes them; raises `ToolError` where one
+    is not what it has to be.
+    """
     laid_out = prepared.laid_out
     found = faults(prepared.labels, laid_out, prepared.job, prepared.letters, talk)
     for item in prepared.labels:
         record = item.label.record
         if record.number in found:
             raise ToolError(f"nothing is printed: {record.place}: {found[record.number]}")
-
-
-def saved(labels: Labels, path: Path, talk: Talk) -> None:
-    """Reads each label back, and writes what label-print writes into a file."""
-    read_back(labels.prepared, talk)
-    labels.prepared.press(talk).save(labels.prints, path)
-
-
-def sent(labels: Labels, queue: str, talk: Talk) -> None:
-    """Reads each label back, and prints on a queue of CUPS."""
-    read_back(labels.prepared, talk)
-    print_command.print_on(labels.prepared.press(talk), labels.prints, queue)
+    return prepared.press(talk)
 
 
 def memory() -> Path:

@@ -3,6 +3,7 @@ printed, the rows that are left out, and the ways out. Its widgets are those of 
 """
 
 import math
+import time
 from collections.abc import Callable
 from concurrent.futures import Future, ThreadPoolExecutor
 from contextlib import suppress
@@ -17,9 +18,10 @@ from labeltools.forms.pdf import POINTS
 from labeltools.messages import ToolError, of_system
 from labeltools.pango import library
 from labeltools.preview import Preview
-from labeltools.print_command import check_count
+from labeltools.print_command import check_count, print_on
+from labeltools.print_job import Prepared
 from labeltools.printer import media_of, queues
-from labeltools.shop import COLUMNS, Choices, Labels, Table, Talk
+from labeltools.shop import COLUMNS, Choices, Labels, Table, Talk, read_back
 from labeltools.stock import list_stock
 from labeltools.translation import translated
 from labeltools.words import _, counted
@@ -44,6 +46,7 @@ MOST_NOTES = 2000
 DOT = 4  # pixels of a dot, where dots are looked at
 SCREEN_DPI = 96  # of a monitor that does not say its size
 LOOK = 50  # milliseconds between two looks at the work
+PATIENCE = 0.5  # seconds of work after which it is shown
 Then = Callable[[Any], object]
 
 
@@ -69,8 +72,9 @@ class Window:
     def offer_sheets(self) -> None:
         """Offers the sheets that have all words that are typed."""
         store = self.widget("sheets")
-        for line in list_stock(""):
-            store.append([line.partition(": ")[0], line])
+        with suppress(ToolError):  # glabels, which has the sheets, is not there
+            for line in list_stock(""):
+                store.append([line.partition(": ")[0], line])
         self.widget("completion").set_match_func(
             lambda _self, typed, row: all(
                 word in store[row][1].casefold() for word in typed.split()
@@ -92,12 +96,13 @@ class Window:
         if talk.is_stopped:
             return False
         if not future.done():
-            self.widget("working").show()
+            self.widget("working").set_visible(time.monotonic() - talk.begin > PATIENCE)
             self.widget("progress").set_fraction(talk.progress)
             return True
         self.on_stop()
         try:
-            then(future.result())
+            with suppress(SystemExit):  # --help was typed
+                then(future.result())
         except ToolError as error:
             self.show_problem(error)
         except OSError as error:
@@ -174,7 +179,7 @@ class Window:
         self.show_notes(labels)
         self.show_view()
         self.on_stop()
-        check_count(labels.prepared.job, labels.prints, False)
+        check_count(labels.prepared.job, labels.prepared.prints, False)
 
     def show_notes(self, labels: Labels) -> None:
         """Shows which rows are left out, and why."""
@@ -239,7 +244,8 @@ class Window:
         shown = self.view()[1]
         if row is not None and shown is not None and model[row][0]:
             page = shown.page_of_row(int(model[row][0]))
-            self.widget("number").set_value(self.view()[2] + 1 if page is None else page + 1)
+            if page is not None:
+                self.widget("number").set_value(page + 1)
 
     # ---- ways in and out
 
@@ -261,50 +267,54 @@ class Window:
     def on_save(self, _button: Any) -> None:
         """Asks for a file, and writes it."""
         labels = self.meant()
-        if labels is None:
-            return
         chooser = self.widget("saver")
-        chooser.set_current_name(f"labels.{labels.prepared.job.form.name}")
-        if chooser.run() == Gtk.ResponseType.ACCEPT:
-            self.save(Path(chooser.get_filename()))
+        if labels is not None:
+            chooser.set_current_name(f"labels.{labels.job.form.name}")
+            if chooser.run() == Gtk.ResponseType.ACCEPT:
+                self.save(Path(chooser.get_filename()))
 
     def save(self, path: Path) -> None:
-        """Writes what label-print writes into a file."""
+        """Reads each label back, and writes what label-print writes."""
         assert self.labels is not None
-        self.start(partial(shop.saved, self.labels, path))
+        labels = self.labels.prepared
+        self.start(lambda talk: read_back(labels, talk).save(labels.prints, path))
 
     def on_print(self, _button: Any) -> None:
         """Prints: by the dialog of the desktop, or for ZPL and ESC/POS the file at a queue."""
         labels = self.meant()
-        if labels is None:
-            return
-        if labels.prepared.job.form.is_roll:
+        if labels is not None and labels.job.form.is_roll:
             self.start(lambda _talk: queues(), partial(self.ask_queue, labels))
-        else:
-            self.start(partial(shop.read_back, labels.prepared), self.ask_printer)
+        elif labels is not None:
+            self.start(partial(read_back, labels), self.ask_printer)
 
-    def meant(self) -> Labels | None:
+    def meant(self) -> Prepared | None:
         """Returns the labels that are shown; asks whether many of them are meant."""
-        if self.labels is None or len(self.labels.prints) <= MANY:
-            return self.labels
-        dialog = self.widget("many")
-        dialog.set_property("secondary-text", translated(self.labels.lines.summary))
-        answer = dialog.run()
-        dialog.hide()
-        return self.labels if answer == Gtk.ResponseType.OK else None
+        if self.labels is None:
+            return None
+        if len(self.labels.prepared.prints) > MANY:
+            dialog = self.widget("many")
+            dialog.set_property("secondary-text", translated(self.labels.lines.summary))
+            answer = dialog.run()
+            dialog.hide()
+            if answer != Gtk.ResponseType.OK:
+                return None
+        return self.labels.prepared
 
-    def ask_queue(self, labels: Labels, names: list[str]) -> None:
-        """Asks for a queue, which gets the file of a printer's own language as it is."""
+    def ask_queue(self, labels: Prepared, names: list[str]) -> None:
+        """Asks for a queue for the file of a printer's own language."""
         menu = Gtk.Menu()
         for name in names or [_("there is no printer")]:
             item = Gtk.MenuItem(label=name, sensitive=bool(names), visible=True)
-            send = partial(self.start, partial(shop.sent, labels, name))
-            item.connect("activate", lambda _item, then: then(), send)
+            item.connect("activate", self.send, labels, name)
             menu.append(item)
         south = Gdk.Gravity.SOUTH_WEST
         menu.popup_at_widget(self.widget("print"), south, Gdk.Gravity.NORTH_WEST, None)
 
-    def ask_printer(self, _none: None) -> None:
+    def send(self, _item: Any, labels: Prepared, queue: str) -> None:
+        """Reads each label back, and sends what label-print writes to a queue."""
+        self.start(lambda talk: print_on(read_back(labels, talk), labels.prints, queue))
+
+    def ask_printer(self, _press: Any) -> None:
         """Asks for a printer by the dialog of the desktop, and prints."""
         self.operation().run(Gtk.PrintOperationAction.PRINT_DIALOG, self.window)
 

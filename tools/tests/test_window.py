@@ -8,7 +8,6 @@ import tempfile
 import time
 import unittest
 from dataclasses import replace
-from functools import partial
 from pathlib import Path
 from unittest import mock
 
@@ -35,7 +34,7 @@ def setUpModule():
     """Starts a screen; GTK is loaded when there is one."""
     support.labels_program()
     support.needs(*PROGRAMS)
-    global screen, folder, window, shop, Gio, GLib, Gtk
+    global screen, folder, window, Gio, GLib, Gtk
     folder = tempfile.TemporaryDirectory()
     reading, writing = os.pipe()
     words = ["Xvfb", "-displayfd", str(writing), "-screen", "0", "1280x900x24", "-nolisten", "tcp"]
@@ -46,7 +45,7 @@ def setUpModule():
     os.environ.update(DISPLAY=f":{number}", NO_AT_BRIDGE="1", XDG_CONFIG_HOME=folder.name)
     os.environ.update(GDK_BACKEND="x11", LANGUAGE="en")
     sys.path.insert(0, str(TOOLS))
-    from labeltools import shop, window
+    from labeltools import window
     from labeltools.window import Gio, GLib, Gtk
 
     Gtk.init([])
@@ -316,7 +315,7 @@ class WindowTest(unittest.TestCase):
 
     def test_many_labels_are_asked_for(self):
         self.open()
-        self.assertIs(self.window.meant(), self.window.labels)
+        self.assertIs(self.window.meant(), self.window.labels.prepared)
         self.table.write_text(TABLE.replace("5000;3", "5000;998"))
         self.open()
         widget = self.window.widget
@@ -324,7 +323,7 @@ class WindowTest(unittest.TestCase):
         self.window.widget = lambda name: many if name == "many" else widget(name)
         for answer, meant in (
             (Gtk.ResponseType.CANCEL, None),
-            (Gtk.ResponseType.OK, self.window.labels),
+            (Gtk.ResponseType.OK, self.window.labels.prepared),
         ):
             many.run.return_value = answer
             self.assertIs(self.window.meant(), meant)
@@ -350,9 +349,9 @@ class WindowTest(unittest.TestCase):
             labels, names = asked[0]
             self.assertEqual(names, ["office", "zebra"])
             window.Window.ask_queue(self.window, labels, names)
-            sent = []
-            self.window.start(partial(shop.sent, labels, "zebra"), sent.append)
-            self.until(lambda: sent or self.problem())
+            self.window.send(None, labels, "zebra")
+            self.until(lambda: self.window.talk.is_stopped)
+        self.assertEqual(self.problem(), "")
         self.assertEqual((self.folder / "words").read_text(), "-d zebra -o raw\n")
         roll = ("--paper", "60x40", "--to", "zpl", "--dpi", "203")
         self.assertEqual((self.folder / "sent").read_bytes(), self.by_commands(*roll))
