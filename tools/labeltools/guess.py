@@ -5,7 +5,7 @@ shows the guess, label-table proposes it, and the keeper of the shop decides.
 import re
 import unicodedata
 from collections.abc import Callable, Mapping, Sequence
-from dataclasses import dataclass
+from dataclasses import dataclass, replace
 from itertools import islice
 
 from labeltools.codes import AUTO, CodeRules, code_of
@@ -20,16 +20,23 @@ from labeltools.table_options import TableOptions
 # parts of names in seven languages; those in front count more. Counts of stock are no counts of
 # labels, so only names of labels are taken for these.
 NAMES = {
-    "code": "ean gtin upc isbn barcode strichcode code-barres codebarre streepjescode link url sku "
-    "lot charge batch code codigo codice kod artikelnummer art.-nr nummer",
+    "code": "ean gtin upc isbn barcode strichcode code-barres codebarre streepjescode qr link url "
+    "sku lot charge batch code codigo codice kod artikelnummer art.-nr nummer",
     "title": "bezeichnung artikelname titel title produkt product article artikel designation "
     "libelle descripcion descrizione omschrijving description beschreibung nazwa name nom nombre "
     "nome naam",
-    "price": "vk-preis verkaufspreis preis price prix precio prezzo prijs cena uvp vk",
-    "copies": "etiketten labels etiquettes etiquetas etichette etykiety copies kopien exemplare",
+    "price": "vk verkauf ttc brutto retail pvp ladenpreis preis price prix precio prezzo prijs "
+    "cena uvp chf euro",
+    "copies": "etiketten labels etiquettes etiquetas etichette etykiet copies kopien exemplare",
 }
+# parts of names of what a shop pays or has asked for, and of prices of a unit
+NO_PRICES = (
+    "ek einkauf achat cost acquisto compra inkoop zakup alte statt old ancien antiguo vecchio oude "
+    "stara liter litre kilo /kg grund unit"
+)
 SAMPLE = 300  # rows that are looked at
 COPIES = re.compile("[0-9]{1,3}")
+DECIMALS = re.compile("[0-9]+[.,][0-9]{2}")
 LONG = 30  # letters: a code above it is no bar code
 WORDS = 5  # letters of a title
 LEAST = 0.5  # a column that scores less is not guessed
@@ -50,13 +57,18 @@ class Guess:
 def guess_of(data: bytes, name: str, options: TableOptions, talk: Talk) -> Guess:
     """Returns a guess of a table; raises `ToolError` where it cannot be read."""
     start = head_of(data, name, options, talk)
-    rows = [start.head.row, *(row for row in islice(start.rows, SAMPLE) if not row.problem)]
+    rows = [start.head.row, *islice(start.rows, SAMPLE)]
     if options.file.has_header is False or options.file.header_row is not None:
-        return guess(rows, options.file.has_header is not False)
+        whole = [row for row in rows if not row.problem]
+        return guess(whole, options.file.has_header is not False)
     # the names have more than half as many cells as any row; what is above is a title
     counts = [sum(map(bool, names_of(row))) for row in rows]
-    rows = rows[[2 * count > max(counts) for count in counts].index(True) :]
-    return guess(rows, not any(map(is_code, names_of(rows[0]))))
+    top = next(row for row, count in zip(rows, counts) if 2 * count > max(counts))
+    if any(map(is_code, names_of(top))):
+        file = replace(options.file, has_header=False)
+    else:
+        file = replace(options.file, header_row=top.number)
+    return guess_of(data, name, replace(options, file=file), talk)
 
 
 def guess(rows: Sequence[Row], has_names: bool) -> Guess:
@@ -84,7 +96,7 @@ def symbology_of(texts: Sequence[str]) -> str:
     """Returns the symbology of a column of codes."""
     if share(texts, is_code) >= LEAST:
         return AUTO
-    is_long = share(texts, lambda text: "://" in text or len(text) > LONG) > LEAST
+    is_long = share(texts, lambda text: is_link(text) or len(text) > LONG) > LEAST
     return QR.name if is_long else CODE128.name
 
 
@@ -92,9 +104,11 @@ def score(kind: str, name: str, texts: Sequence[str]) -> float:
     """Returns how well a column is one of a kind: its name gives up to 2, its contents up to 3."""
     by_name = named(name, NAMES[kind].split())
     if kind == "code":
-        return by_name + 3 * share(texts, is_code)
+        return by_name + 3 * share(texts, is_code) + share(texts, is_link)
     if kind == "price":
-        return by_name + share(texts, is_price)
+        if named(name, NO_PRICES.split()):
+            return 0.0
+        return by_name + share(texts, is_price if by_name or not name else has_currency)
     if kind == "copies":
         return by_name if share(texts, COPIES.fullmatch) == 1 else 0.0
     is_wordy = share(texts, lambda text: len(re.sub(r"[\W\d]", "", text)) > WORDS)
@@ -123,10 +137,19 @@ def is_code(text: str) -> bool:
         return False
 
 
-def is_price(text: str) -> bool:
-    """Returns whether a text is a price with a currency or decimals."""
+def is_link(text: str) -> bool:
+    """Returns whether a text is an address."""
+    return "://" in text
+
+
+def has_currency(text: str) -> bool:
+    """Returns whether a text is a price with a currency."""
     try:
-        price = parse(text)
+        return bool(parse(text).currency)
     except NotMoney:
         return False
-    return bool(price.currency) or price.value != price.value.to_integral_value()
+
+
+def is_price(text: str) -> bool:
+    """Returns whether a text is a price with a currency, or a number with decimals."""
+    return has_currency(text) or DECIMALS.fullmatch(text) is not None

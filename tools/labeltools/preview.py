@@ -90,7 +90,7 @@ class Preview:
         """Draws the dots of the printer, on a canvas whose unit is a dot."""
         surface = drawn_surface(self.job.plan.page, self.dots, page, self.press.turn)
         pattern = cairo.SurfacePattern(surface)
-        if canvas.user_to_device_distance(1, 1)[0] >= 1:
+        if canvas.user_to_device_distance(1, 1)[0] >= 2:
             pattern.set_filter(cairo.Filter.NEAREST)
         canvas.mask(pattern)
 

@@ -8,7 +8,7 @@ import shlex
 import time
 from collections.abc import Mapping, Sequence
 from contextlib import suppress
-from dataclasses import dataclass
+from dataclasses import dataclass, replace
 from io import BytesIO
 from pathlib import Path
 from typing import Any
@@ -22,7 +22,6 @@ from labeltools.press import Press
 from labeltools.print_job import Prepared, faults, labels_of, planned
 from labeltools.report import LeftOut
 from labeltools.table import Lines, lines_of_table
-from labeltools.table_options import FileOptions, TableOptions
 
 COLUMNS = ("code", "title", "text", "price", "unit-price", "old-price", "copies")
 Choices = Mapping[str, Any]  # by the names of the options
@@ -63,13 +62,17 @@ class Table:
     guess: Guess
 
 
-def opened(path: Path, header: int | None, talk: Talk) -> Table:
-    """Returns a table, whose names are in the row `header` (0: in none) where that is known; raises
-    `ToolError` and `OSError` where it cannot be read.
+def opened(path: Path, words: str, header: int | None, talk: Talk) -> Table:
+    """Returns a table that is read by further words of label-table; its names are in the row
+    `header` (0: in none) where that is known. Raises `ToolError` and `OSError`.
     """
     _, data = read_input(str(path))
-    rules = FileOptions(has_header=False) if header == 0 else FileOptions(header_row=header)
-    return Table(path, data, guess_of(data, path.name, TableOptions(file=rules), talk))
+    options = table_command.options_of(table_command.understood(["--code", "1", *split(words)]))
+    if header is not None:
+        has_header = None if header else False
+        rules = replace(options.file, header_row=header or None, has_header=has_header)
+        options = replace(options, file=rules)
+    return Table(path, data, guess_of(data, path.name, options, talk))
 
 
 def table_words(table: Table, choices: Choices) -> list[str]:

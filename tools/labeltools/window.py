@@ -7,7 +7,7 @@ import time
 from collections.abc import Callable
 from concurrent.futures import Future, ThreadPoolExecutor
 from contextlib import suppress
-from functools import partial
+from functools import lru_cache, partial
 from pathlib import Path
 from typing import Any
 
@@ -43,7 +43,7 @@ CONTROLS = {
 }
 MANY = 1000  # labels above it are asked for before they are printed
 MOST_NOTES = 2000
-DOT = 4  # pixels of a dot, where dots are looked at
+DOT = 2  # pixels of a dot, where dots are looked at
 SCREEN_DPI = 96  # of a monitor that does not say its size
 LOOK = 50  # milliseconds between two looks at the work
 PATIENCE = 0.5  # seconds of work after which it is shown
@@ -61,6 +61,7 @@ class Window:
         self.window = self.widget("window")
         self.thread = ThreadPoolExecutor(1)
         self.talk = Talk()
+        self.path: Path | None = None  # None too while controls are filled
         self.table: Table | None = None
         self.labels: Labels | None = None
         self.previews: dict[bool, Preview] = {}  # by whether each page is a label
@@ -70,15 +71,14 @@ class Window:
         self.window.drag_dest_add_uri_targets()
 
     def offer_sheets(self) -> None:
-        """Offers the sheets that have all words that are typed."""
+        """Offers the sheets that label-print lists for what is typed."""
         store = self.widget("sheets")
         with suppress(ToolError):  # glabels, which has the sheets, is not there
             for line in list_stock(""):
                 store.append([line.partition(": ")[0], line])
+        listed = lru_cache(1)(lambda typed: set(list_stock(typed)))
         self.widget("completion").set_match_func(
-            lambda _self, typed, row: all(
-                word in store[row][1].casefold() for word in typed.split()
-            )
+            lambda _self, typed, row: store[row][1] in listed(typed)
         )
 
     # ---- work beside the window
@@ -126,18 +126,24 @@ class Window:
 
     def open(self, path: Path, header: int | None = None) -> None:
         """Reads a table, guesses its columns or takes those of the last time, and makes labels."""
+        self.path = path
         self.table = None
         self.labels = None
+        self.previews = {}
+        for name in ("columns", "notes"):
+            self.widget(name).clear()
+        self.widget("count").set_text("")
         self.widget("head").set_subtitle(path.name)
-        self.widget("stack").set_visible_child_name("empty")
-        self.start(partial(shop.opened, path, header), self.fill)
+        self.widget("stack").set_visible_child_name("work")
+        words = self.widget("for-table").get_text()
+        self.start(partial(shop.opened, path, words, header), self.fill)
 
     def fill(self, table: Table) -> None:
         """Fills the choices of columns for a table."""
+        self.path = None
         guess = table.guess
         kept = shop.remembered().get("\n".join(guess.names), {})
         store = self.widget("columns")
-        store.clear()
         store.append(["", _("none")])
         for number, name in enumerate(guess.names, 1):
             store.append([str(number), name or _("column {number}").format(number=number)])
@@ -145,7 +151,7 @@ class Window:
         self.take({**dict.fromkeys(COLUMNS, ""), "code": "1", **columns})
         self.take({"symbology": guess.symbology, **kept, "header-row": guess.header, "first": 1})
         self.widget("guessed").set_visible(not kept)
-        self.widget("stack").set_visible_child_name("work")
+        self.path = table.path
         self.table = table
         self.make()
 
@@ -261,8 +267,13 @@ class Window:
 
     def on_header(self, control: Any) -> None:
         """Takes the names of the columns from another row."""
-        if self.table is not None:
-            self.open(self.table.path, control.get_value_as_int())
+        if self.path is not None:
+            self.open(self.path, control.get_value_as_int())
+
+    def on_words(self, _entry: Any) -> None:
+        """Reads the table by other words, such as its encoding."""
+        if self.path is not None:
+            self.open(self.path)
 
     def on_save(self, _button: Any) -> None:
         """Asks for a file, and writes it."""

@@ -7,7 +7,9 @@ import sys
 import tempfile
 import time
 import unittest
+from contextlib import redirect_stdout
 from dataclasses import replace
+from io import StringIO
 from pathlib import Path
 from unittest import mock
 
@@ -393,13 +395,29 @@ class WindowTest(unittest.TestCase):
     def test_wrong_words_are_said_and_the_page_stays(self):
         self.open()
         before = self.window.view()[1]
+        for words, said in (("--no-such-option", "--no-such-option"), ("'open", "quotation")):
+            self.change(for_print=words)
+            self.assertIn(said, self.problem())
+            self.assertFalse(self.window.widget("print").is_sensitive())
+            self.assertIs(self.window.view()[1], before)
+        self.change(for_print="", price="")
+        self.assertEqual(self.problem(), "")
         self.change(for_table="--no-such-option")
         self.assertIn("--no-such-option", self.problem())
-        self.change(for_table="'open")
-        self.assertIn("quotation", self.problem())
-        self.assertIs(self.window.view()[1], before)
         self.change(for_table="--where Name=Soap")
         self.assertIn("1 row", self.window.widget("count").get_text())
+        self.assertEqual(self.window.choices()["price"], "")
+        with redirect_stdout(StringIO()):
+            self.window.take({"for-table": "--help"})
+            settle(0.5)
+
+    def test_a_table_of_old_windows_is_read_by_its_encoding(self):
+        self.table.write_bytes(TABLE.replace("Pencil", "Käse").encode("cp1252"))
+        self.open()
+        self.assertIn("--encoding", self.problem())
+        self.change(for_table="--encoding cp1252")
+        self.assertEqual(self.problem(), "")
+        self.assertIn("6 labels of 3 rows", self.window.widget("count").get_text())
 
     def test_a_wrong_picture_stops_the_print(self):
         self.open()
