@@ -36,6 +36,7 @@ NO_PRICES = (
 )
 SAMPLE = 300  # rows that are looked at
 COPIES = re.compile("[0-9]{1,3}")
+LINK = re.compile("://")
 DECIMALS = re.compile("[0-9]+[.,][0-9]{2}")
 LONG = 30  # letters: a code above it is no bar code
 WORDS = 5  # letters of a title
@@ -58,17 +59,16 @@ def guess_of(data: bytes, name: str, options: TableOptions, talk: Talk) -> Guess
     """Returns a guess of a table; raises `ToolError` where it cannot be read."""
     start = head_of(data, name, options, talk)
     rows = [start.head.row, *islice(start.rows, SAMPLE)]
-    if options.file.has_header is False or options.file.header_row is not None:
-        whole = [row for row in rows if not row.problem]
-        return guess(whole, options.file.has_header is not False)
-    # the names have more than half as many cells as any row; what is above is a title
-    counts = [sum(map(bool, names_of(row))) for row in rows]
-    top = next(row for row, count in zip(rows, counts) if 2 * count > max(counts))
-    if any(map(is_code, names_of(top))):
-        file = replace(options.file, has_header=False)
-    else:
-        file = replace(options.file, header_row=top.number)
-    return guess_of(data, name, replace(options, file=file), talk)
+    file = options.file
+    if file.has_header is None and file.header_row is None:
+        # the names have more than half as many cells as any row; what is above is a title
+        counts = [sum(map(bool, names_of(row))) for row in rows]
+        top = next(row for row, count in zip(rows, counts) if 2 * count > max(counts))
+        is_article = any(map(is_code, names_of(top)))
+        row = None if is_article else top.number
+        file = replace(file, has_header=not is_article, header_row=row)
+        return guess_of(data, name, replace(options, file=file), talk)
+    return guess([row for row in rows if not row.problem], file.has_header is not False)
 
 
 def guess(rows: Sequence[Row], has_names: bool) -> Guess:
@@ -96,7 +96,7 @@ def symbology_of(texts: Sequence[str]) -> str:
     """Returns the symbology of a column of codes."""
     if share(texts, is_code) >= LEAST:
         return AUTO
-    is_long = share(texts, lambda text: is_link(text) or len(text) > LONG) > LEAST
+    is_long = share(texts, lambda text: LINK.search(text) or len(text) > LONG) > LEAST
     return QR.name if is_long else CODE128.name
 
 
@@ -104,7 +104,7 @@ def score(kind: str, name: str, texts: Sequence[str]) -> float:
     """Returns how well a column is one of a kind: its name gives up to 2, its contents up to 3."""
     by_name = named(name, NAMES[kind].split())
     if kind == "code":
-        return by_name + 3 * share(texts, is_code) + share(texts, is_link)
+        return by_name + 3 * share(texts, is_code) + share(texts, LINK.search)
     if kind == "price":
         if named(name, NO_PRICES.split()):
             return 0.0
@@ -135,11 +135,6 @@ def is_code(text: str) -> bool:
         return bool(text) and bool(code_of(text, CodeRules()))
     except RowError:
         return False
-
-
-def is_link(text: str) -> bool:
-    """Returns whether a text is an address."""
-    return "://" in text
 
 
 def has_currency(text: str) -> bool:

@@ -12,7 +12,7 @@ from labeltools.messages import Silence
 from labeltools.pen import Medium, Page, Pen
 from labeltools.press import Press, PrintJob, Prints, once
 from labeltools.print_job import Prepared
-from labeltools.stock import Sheet, Size
+from labeltools.stock import Sheet
 
 USED = (0.90, 0.91, 0.92)
 EDGE = (0.80, 0.83, 0.87)
@@ -25,18 +25,11 @@ class Preview:
         letters = Letters(job.fonts)
         self.job = job
         self.prints = prints
+        self.size = job.plan.sheet.page  # in millimetres
+        self.count = max(1, job.pages_of(len(prints)))  # of pages
         self.press = Press(job, prepared.laid_out, letters, Silence())
         self.smooth = Pen(Medium(job.plan.dpi, False, True), job.fonts, letters)
         self.dots = Pen(Medium(job.plan.dpi, True), job.fonts, letters)
-
-    @property
-    def size(self) -> Size:
-        """The width and height of a page."""
-        return self.job.plan.sheet.page
-
-    def count(self) -> int:
-        """Returns how many pages there are, one at least."""
-        return max(1, self.job.pages_of(len(self.prints)))
 
     def cell_at(self, x: float, y: float) -> int:
         """Returns the number of the cell at a place of a page, from 1; 0 for none."""
@@ -93,11 +86,6 @@ class Preview:
         if canvas.user_to_device_distance(1, 1)[0] >= 2:
             pattern.set_filter(cairo.Filter.NEAREST)
         canvas.mask(pattern)
-
-
-def of_pages(prepared: Prepared) -> Preview:
-    """Returns what draws the pages."""
-    return Preview(prepared.job, prepared, prepared.prints)
 
 
 def of_labels(prepared: Prepared) -> Preview:

@@ -23,6 +23,8 @@ from labeltools.print_job import Prepared, faults, labels_of, planned
 from labeltools.report import LeftOut
 from labeltools.table import Lines, lines_of_table
 
+CONFIG = os.environ.get("XDG_CONFIG_HOME") or Path.home() / ".config"
+MEMORY = Path(CONFIG, "labels", "window.json")
 COLUMNS = ("code", "title", "text", "price", "unit-price", "old-price", "copies")
 Choices = Mapping[str, Any]  # by the names of the options
 
@@ -159,16 +161,10 @@ def read_back(prepared: Prepared, talk: Talk) -> Press:
     return prepared.press(talk)
 
 
-def memory() -> Path:
-    """Returns the file of what was chosen."""
-    folder = os.environ.get("XDG_CONFIG_HOME") or Path.home() / ".config"
-    return Path(folder, "labels", "window.json")
-
-
 def remembered() -> dict[str, Choices]:
     """Returns what was chosen, by the names of columns; nothing where that is not understood."""
     with suppress(OSError, ValueError, TypeError):
-        return dict(json.loads(memory().read_text(encoding="utf-8")))
+        return dict(json.loads(MEMORY.read_text(encoding="utf-8")))
     return {}
 
 
@@ -176,5 +172,5 @@ def remember(names: str, choices: Choices) -> None:
     """Keeps what was chosen; a folder that takes no file is no reason to stop."""
     kept = {**remembered(), names: choices}
     with suppress(OSError):
-        memory().parent.mkdir(parents=True, exist_ok=True)
-        save(BytesIO(json.dumps(kept, indent=1).encode()), memory())
+        MEMORY.parent.mkdir(parents=True, exist_ok=True)
+        save(BytesIO(json.dumps(kept, indent=1).encode()), MEMORY)

@@ -11,13 +11,13 @@ from functools import lru_cache, partial
 from pathlib import Path
 from typing import Any
 
-from labeltools import preview, shop
+from labeltools import shop
 from labeltools.area import MILLIMETRES
 from labeltools.command_line import Parser
 from labeltools.forms.pdf import POINTS
 from labeltools.messages import ToolError, of_system
 from labeltools.pango import library
-from labeltools.preview import Preview
+from labeltools.preview import Preview, of_labels
 from labeltools.print_command import check_count, print_on
 from labeltools.print_job import Prepared
 from labeltools.printer import media_of, queues
@@ -31,8 +31,6 @@ Gio = library("Gio", "2.0")
 GLib = library("GLib", "2.0")
 Gtk = library("Gtk", "3.0")
 
-TOOL = "label-window"
-ABOUT = "Prints labels from a table by a window over label-table and label-print."
 FILE = Path(__file__).with_name("window.ui")
 # the controls by the names of options, and the property of each that has what is chosen
 CONTROLS = {
@@ -64,7 +62,7 @@ class Window:
         self.path: Path | None = None  # None too while controls are filled
         self.table: Table | None = None
         self.labels: Labels | None = None
-        self.previews: dict[bool, Preview] = {}  # by whether each page is a label
+        self.previews: list[Preview] = []  # of pages, and of single labels
         self.offer_sheets()
         self.builder.connect_signals(self)
         self.window.drag_dest_set(Gtk.DestDefaults.ALL, [], Gdk.DragAction.COPY)
@@ -126,10 +124,12 @@ class Window:
 
     def open(self, path: Path, header: int | None = None) -> None:
         """Reads a table, guesses its columns or takes those of the last time, and makes labels."""
+        if path != self.path:
+            self.widget("for-table").set_text("")
         self.path = path
         self.table = None
         self.labels = None
-        self.previews = {}
+        self.previews = []
         for name in ("columns", "notes"):
             self.widget(name).clear()
         self.widget("count").set_text("")
@@ -175,10 +175,8 @@ class Window:
     def show_labels(self, table: Table, choices: Choices, labels: Labels) -> None:
         """Shows the labels that were made, and what there is to say about them."""
         self.labels = labels
-        self.previews = {
-            False: preview.of_pages(labels.prepared),
-            True: preview.of_labels(labels.prepared),
-        }
+        pages = Preview(labels.prepared.job, labels.prepared, labels.prepared.prints)
+        self.previews = [pages, of_labels(labels.prepared)]
         shop.remember("\n".join(table.guess.names), choices)
         self.widget("command").set_text(shop.command(table, choices))
         self.widget("count").set_text(translated(labels.lines.summary))
@@ -204,15 +202,16 @@ class Window:
     def view(self) -> tuple[str, Preview | None, int]:
         """Returns what is looked at: how, what draws it, and the number of the page, from 0."""
         kind = self.widget("view").get_active_id()
-        return kind, self.previews.get(kind != "page"), self.widget("number").get_value_as_int() - 1
+        shown = self.previews[kind != "page"] if self.previews else None
+        return kind, shown, self.widget("number").get_value_as_int() - 1
 
     def show_view(self, _control: Any = None) -> None:
         """Shows the page or the label, and how many there are."""
         kind, shown, _number = self.view()
         if shown is None:
             return
-        self.widget("number").set_range(1, shown.count())
-        self.widget("of").set_text(_("of {all}").format(all=shown.count()))
+        self.widget("number").set_range(1, shown.count)
+        self.widget("of").set_text(_("of {all}").format(all=shown.count))
         width, height = shown.size
         scale = {"dots": DOT / shown.job.plan.dot, "true": self.true_scale()}.get(kind, 0.0)
         paper = self.widget("paper")
@@ -331,7 +330,7 @@ class Window:
 
     def operation(self) -> Any:
         """Returns what prints each page in its own size: no scaling, no margins of the printer."""
-        pages = self.previews[False]
+        pages = self.previews[0]
         points = [side * POINTS / MILLIMETRES for side in pages.size]
         setup = Gtk.PageSetup()
         setup.set_paper_size(Gtk.PaperSize.new_from_ppd(media_of(pages.size), _("Labels"), *points))
@@ -343,7 +342,7 @@ class Window:
             print_settings=settings,
             use_full_page=True,
             unit=Gtk.Unit.POINTS,
-            n_pages=pages.count(),
+            n_pages=pages.count,
             job_name=self.widget("head").get_subtitle(),
             allow_async=True,
             show_progress=True,
@@ -362,7 +361,8 @@ def said(what: str, hint: str) -> str:
 
 def run() -> int:
     """Runs label-window and returns its status."""
-    parser = Parser(TOOL, None, ABOUT, allow_abbrev=False)
+    about = "Prints labels from a table by a window over label-table and label-print."
+    parser = Parser("label-window", None, about, allow_abbrev=False)
     parser.add_argument("table", metavar="TABLE", nargs="?", help="a table to open")
     table = parser.parse_args().table
     if not Gtk.init_check()[0]:

@@ -141,7 +141,9 @@ class WindowTest(unittest.TestCase):
         sys.excepthook = lambda *error: self.raised.append(error)  # GTK goes on after an error
         self.addCleanup(setattr, sys, "excepthook", hook)
         self.folder = Path(tempfile.mkdtemp(dir=folder.name))
-        os.environ["XDG_CONFIG_HOME"] = str(self.folder)
+        memory = mock.patch("labeltools.shop.MEMORY", self.folder / "labels/window.json")
+        memory.start()
+        self.addCleanup(memory.stop)
         self.table = self.folder / "articles.csv"
         self.table.write_text(TABLE)
         self.window = window.Window()
@@ -182,7 +184,7 @@ class WindowTest(unittest.TestCase):
         self.window.widget("info").hide()
         for name, value in choices.items():
             self.window.take({name.replace("_", "-"): value})
-        self.until(lambda: self.window.labels is not before or self.problem())
+        self.until(lambda: self.window.labels not in (None, before) or self.problem())
 
     def problem(self):
         info = self.window.widget("info")
