@@ -30,15 +30,15 @@ NAMES = {
     "copies": "etiketten labels etiquettes etiquetas etichette etykiet copies kopien exemplare",
 }
 # parts of names of what a shop pays or has asked for, and of prices of a unit
-NO_PRICES = (
-    "ek einkauf achat cost acquisto compra inkoop zakup alte statt old ancien antiguo vecchio oude "
-    "stara liter litre kilo /kg grund unit"
+NO_PRICE = re.compile(
+    r"\b(?:ek\b|einkauf|achat|cost|acquisto|compra|inkoop|zakup|alte|statt|old|ancien|antiguo"
+    r"|vecchio|oude|stara)|liter|litre|kilo|/kg|grund|unit"
 )
 SAMPLE = 300  # rows that are looked at
 COPIES = re.compile("[0-9]{1,3}")
 LINK = re.compile("://")
 DECIMALS = re.compile("[0-9]+[.,][0-9]{2}")
-LONG = 30  # letters: a code above it is no bar code
+NO_BARS = re.compile(".*://.*|.{31,}")
 WORDS = 5  # letters of a title
 LEAST = 0.5  # a column that scores less is not guessed
 
@@ -96,8 +96,7 @@ def symbology_of(texts: Sequence[str]) -> str:
     """Returns the symbology of a column of codes."""
     if share(texts, is_code) >= LEAST:
         return AUTO
-    is_long = share(texts, lambda text: LINK.search(text) or len(text) > LONG) > LEAST
-    return QR.name if is_long else CODE128.name
+    return QR.name if share(texts, NO_BARS.fullmatch) > LEAST else CODE128.name
 
 
 def score(kind: str, name: str, texts: Sequence[str]) -> float:
@@ -106,7 +105,7 @@ def score(kind: str, name: str, texts: Sequence[str]) -> float:
     if kind == "code":
         return by_name + 3 * share(texts, is_code) + share(texts, LINK.search)
     if kind == "price":
-        if named(name, NO_PRICES.split()):
+        if NO_PRICE.search(name.casefold()):
             return 0.0
         return by_name + share(texts, is_price if by_name or not name else has_currency)
     if kind == "copies":

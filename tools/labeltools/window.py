@@ -101,10 +101,8 @@ class Window:
         try:
             with suppress(SystemExit):  # --help was typed
                 then(future.result())
-        except ToolError as error:
-            self.show_problem(error)
-        except OSError as error:
-            self.show_problem(of_system(error))
+        except (ToolError, OSError) as error:
+            self.show_problem(error if isinstance(error, ToolError) else of_system(error))
         return False
 
     def on_stop(self, _button: Any = None) -> None:

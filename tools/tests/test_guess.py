@@ -90,6 +90,13 @@ class Guesses(unittest.TestCase):
             wanted = SYMBOLOGIES.get(names.partition(";")[0], "auto")
             self.assertEqual(found.symbology, wanted, names)
 
+    def test_what_a_shop_pays_is_no_price(self):
+        names = "EAN;Artikel;EK netto"
+        row = "4006381333931;Salbe, kühlend;2,10 €"
+        self.assertNotIn("price", guessed(f"{names}\n{row}\n").columns)
+        found = guessed(f"{names};Apothekenpreis\n{row};4,95 €\n")
+        self.assertEqual(found.columns["price"], 3)
+
     def test_the_row_of_the_names(self):
         names, row, _ = TABLES[0]
         for above, header in (("", 1), ("Preisliste;;;\n;;;\n", 3), ("Stand;Mai;;\n", 2)):
