@@ -293,6 +293,25 @@ class WindowTest(unittest.TestCase):
         settle(0.1)
         self.assertEqual(self.window.view()[2], 1)
 
+    def test_a_table_is_an_argument(self):
+        words = [TOOLS / "label-window", self.table]
+        with subprocess.Popen(words, env={**os.environ, "XDG_CONFIG_HOME": self.folder}) as program:
+            self.until((self.folder / "labels/window.json").exists)  # labels were made
+            program.terminate()
+        without = {name: value for name, value in os.environ.items() if name != "DISPLAY"}
+        ran = subprocess.run(words, env=without, capture_output=True, text=True)
+        self.assertEqual(ran.returncode, 1)
+        self.assertIn("label-window: there is no screen", ran.stderr)
+
+    def test_a_table_is_opened_by_the_button(self):
+        widget = self.window.widget
+        opener = mock.Mock()
+        opener.run.return_value = Gtk.ResponseType.ACCEPT
+        opener.get_filename.return_value = str(self.table)
+        self.window.widget = lambda name: opener if name == "opener" else widget(name)
+        self.window.widget("open").clicked()
+        self.until(lambda: self.window.labels)
+
     def test_a_table_is_dropped(self):
         data = mock.Mock()
         data.get_uris.return_value = [Gio.File.new_for_path(str(self.table)).get_uri()]
