@@ -118,8 +118,10 @@ class LineWriter:
         first, before = self.seen.setdefault(data, (draft.row, mark))
         if before not in (mark, 0):
             self.seen[data] = first, 0
-            what = f"have the same code, {data}, and another title, text or price"
-            self.talk.say(f"rows {first} and {draft.row} {what}")
+            self.talk.say(
+                f"rows {first} and {draft.row} have the same code, {data},"
+                " and another title, text or price"
+            )
 
     def write(self, draft: Draft, content: Content) -> None:
         """Writes the lines of a label, and counts what the summary needs."""
