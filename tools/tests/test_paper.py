@@ -711,9 +711,8 @@ class Users(unittest.TestCase):
             program = Path(folder, "labels")
             good = support.labels_program()
             other = "sed 's/^ean13 .*/ean13 501234567890/' /dev/stdin"
-            program.write_text(
-                f"#!/bin/sh\n[ $1 != --help ] || {{ echo labels 0.9.0; exit 0; }}\n{other} | {good} $*\n"
-            )
+            help_text = "[ $1 != --help ] || { echo labels 0.9.0; exit 0; }"
+            program.write_text(f"#!/bin/sh\n{help_text}\n{other} | {good} $*\n")
             program.chmod(0o755)
             path = f"{folder}{os.pathsep}{os.environ['PATH']}"
             data = support.file_of([(EAN, PRICED)])
