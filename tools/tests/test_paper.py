@@ -676,6 +676,7 @@ class Users(unittest.TestCase):
                 stdout=subprocess.PIPE,
                 stderr=subprocess.PIPE,
                 env={**support.environment(), "PYTHONPATH": folder},
+                preexec_fn=heed_signals,
             )
             assert run.stdout is not None
             run.stdout.readline()
@@ -722,6 +723,11 @@ class Users(unittest.TestCase):
             self.assertIn(codes, ([], ["4006381333931"]), done.stderr)
             if not codes:
                 self.assertIn(b"is another labels than that of these tools", done.stderr)
+
+
+def heed_signals() -> None:
+    """Ends the ignoring of signals that a shell begins for what runs beside it."""
+    signal.signal(signal.SIGINT, signal.SIG_DFL)
 
 
 def is_running(process: int) -> bool:
