@@ -37,14 +37,18 @@ class Definition:
     def text(self):
         return "\n".join(self.lines)
 
-    def is_worked(self):
-        """Whether it states something without variables, its module's too: what it says is computed."""
+    def worked_values(self):
+        """How many statements without variables it makes, its module's too, of a product each for one: they are
+        computed."""
         if self.lines[0].startswith(" "):
-            return False
+            return 0
         own = re.compile(rf"\s*(unfolding\b|{re.escape(self.key.name)}\b[^:]*=)")
         stated = list(itertools.takewhile(lambda line: not own.match(line), self.lines))
         text = "\n".join(stated).partition(":")[2]
-        return "→" not in text and bool(RELATION.search(text))
+        return 0 if "→" in text else len(RELATION.findall(text))
+
+    def is_worked(self):
+        return self.worked_values() > 0
 
 
 @dataclass

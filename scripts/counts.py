@@ -68,7 +68,7 @@ def counts_of_crate(top, crate):
             sys.exit(f"crates/{crate}/{name} has {', '.join(strange)}, which no script reads")
         yield f"{what} of {crate}", len(files)
     proofs = antt.files_of(top, crate, "proofs")
-    yield f"worked values of {crate}", sum(one.is_worked() for file in proofs for one in file.definitions)
+    yield f"worked values of {crate}", sum(one.worked_values() for file in proofs for one in file.definitions)
     yield f"stored runs of {crate}", len(glob.glob(f"{folder}/stdout"))
 
 
