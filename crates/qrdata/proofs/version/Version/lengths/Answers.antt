@@ -11,18 +11,6 @@ overflow_add-size c = omega (
   data_codewords-few c.args.self c.args.level c.data_codewords-codewords.ensures c.known.ensures,
 )
 
-pub push_lengths-requires-2 : goal.push_lengths-requires-2
-push_lengths-requires-2 c = record {
-  room = omega (
-    arith,
-    ap length c.new-lengths.ensures,
-    ap length c.push_lengths.ensures,
-    length-append {A = ℕ},
-    length-replicate {A = ℕ},
-    mod-lt c.data_codewords-codewords.result c.block_count-blocks.ensures.some,
-  );
-}
-
 pub returns : goal.returns
 returns c =
     rw (
