@@ -1,5 +1,4 @@
-use Rattle.std.proofs.Common.{◌≡◌, ◌≤◌, ◌++◌, ℕ, List, drop, length, append_assoc, append-nil, arith, ap, refl}
-use Rattle.std.proofs.Common.{length-append, lit<}
+use Rattle.std.proofs.Common.{◌≡◌, ◌≤◌, ◌++◌, ℕ, List, drop, length, append_assoc, append-nil, arith, refl}
 use Rattle.std.proofs.lemmas.List.{drop_all}
 use Rattle.qrdata.specs.declared.mode.Segment.{Segment}
 use Rattle.qrdata.specs.Fewest.{chosen_segments}

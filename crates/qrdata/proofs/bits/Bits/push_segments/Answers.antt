@@ -1,6 +1,6 @@
 use Rattle.std.proofs.Common.{◌≡◌, ℕ, ◌+◌, ◌-◌, ◌<◌, List, ◌++◌, drop, take, length, get_or, append-nil, arith, ap}
 use Rattle.std.proofs.Common.{length-append, Bool}
-use Rattle.std.proofs.lemmas.List.{drop-drop, drop_all, drop_more, length-drop, length-take-le}
+use Rattle.std.proofs.lemmas.List.{drop-drop, drop_all, drop_more, length-drop}
 use Rattle.std.proofs.lemmas.List.Sums.{sum_by-cons}
 use Rattle.qrdata.specs.Private.BitsInCodewords.{bits_in}
 use Rattle.qrdata.specs.declared.mode.Segment.{Segment}

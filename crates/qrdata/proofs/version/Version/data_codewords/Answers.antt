@@ -1,4 +1,4 @@
-use Rattle.std.proofs.Common.{◌*◌, ◌≤◌, arith}
+use Rattle.std.proofs.Common.{arith}
 use Rattle.qrdata.proofs.VersionLaws.{IsSound-of}
 use Rattle.qrdata.proofs.version.Version.data_codewords.Goals as goal
 

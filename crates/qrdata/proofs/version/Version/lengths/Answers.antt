@@ -1,6 +1,5 @@
-use Rattle.std.proofs.Common.{ℕ, length, arith, ap, length-append}
-use Rattle.std.proofs.Math.Nat.{mod-lt, div-le_self}
-use Rattle.std.proofs.lemmas.List.{length-replicate}
+use Rattle.std.proofs.Common.{arith}
+use Rattle.std.proofs.Math.Nat.{div-le_self}
 use Rattle.qrdata.proofs.VersionLaws.{IsSound-of, data_codewords-few}
 use Rattle.qrdata.proofs.version.Version.lengths.Goals as goal
 
