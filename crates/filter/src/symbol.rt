@@ -27,7 +27,7 @@ use qrmatrix::{Matrix, QUIET_ZONE};
 /// # Errors
 ///
 /// [`IoFault`] where a write fails: the sink took a beginning of the image.
-#[tactic(auto, using(crate::proofs::ReadLaws::image_of_data_read), unfolding(crate::specs::Symbol::symbol_of))]
+#[tactic(auto, unfolding(crate::specs::Symbol::symbol_of))]
 pub fn draw<O: Sink>(
     options: &Options,
     symbology: Symbology,
