@@ -40,7 +40,6 @@ impl Model for Filter {
 
 impl Filter {
     /// Returns a filter with these options that was fed nothing.
-    #[tactic(auto, unfolding(labelcore::specs::Lines::ended_lines, labelcore::specs::Lines::open_line, crate::specs::Output::events_after, crate::specs::Output::status_of,))]
     pub fn new(options: Options) -> Self
         ensures { IsAfter options result [] }
     {
