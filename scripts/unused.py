@@ -10,7 +10,7 @@
   name of `ghost use` where a contract, a ghost item or an attribute has it; a trait of ours also where a function of
   it is called.
 - A function is used where its name is found in code outside of its own body, in its crate or, if it is `pub`, in any.
-  Tests, `main` and the functions of an `impl` of a trait are called by others.
+  Tests, `main`, exports and the functions of an `impl` of a trait are called by others.
 
 It reads text. Where two things have one name it may miss one that is unused. The status is 1 where something is found,
 a line for each; the last line says how much it looked at.
@@ -174,7 +174,7 @@ def functions_of(file, text, start=0, is_trait=False):
             yield from functions_of(file, item.body, place + item.text.index(item.body), item.kind == "trait")
         elif item.kind == "fn" and item.name != "main":
             before = file.text[:place].rstrip().split("\n")[-6:]
-            if not any(line.strip().startswith("#[") and "test" in line for line in before):
+            if not any(re.match(r"\s*#\[(unsafe\(no_mangle\)|.*test)", line) for line in before):
                 names = Counter(re.findall(r"\w+", sources.blanked(item.text)))
                 where = f"{file.path}:{line_of(file.text, place)}"
                 yield Function(item.name, where, file.crate, item.is_public or is_trait, names)
