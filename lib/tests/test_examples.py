@@ -14,7 +14,7 @@ PYTHON = "/usr/bin/python3"
 STRICT = ("-O2", "-Wall", "-Wextra", "-pedantic", "-Werror")
 LABEL = b"ean13 4006381333931\n"
 LINES = 10_000
-SECONDS = 30  # that an answer may take on a busy machine
+SECONDS = 300  # that an answer may take on a busy machine
 
 
 def drawn(lines: bytes, *words: str) -> bytes:

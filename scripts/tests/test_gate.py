@@ -131,7 +131,7 @@ class TakenAway(InCopy):
     def test_no_labels_to_compare(self):
         text = read(self.path("scripts/compare_symbols.py"))
         self.replace("scripts/compare_symbols.py", text.replace("return [label for", "return [] and [label for"))
-        for tool in ("zbarimg", "pnmpad", "pnmtopng", "zint", "labels"):
+        for tool in ("zbarimg", "zint", "labels"):
             write(self.path("bin", tool), "#!/bin/sh\n", is_program=True)
         command = [PYTHON, self.path("scripts/compare_symbols.py"), self.path("bin/labels")]
         found = run_command(command, PATH=f"{self.path('bin')}:{os.environ['PATH']}")
@@ -304,7 +304,7 @@ class Packages(unittest.TestCase):
 
     def test_each_script_is_a_step(self):
         """Each program of scripts/ is a step of the gate, is run by `.ci/run` or by a page, or is one of these."""
-        beside = {"debian_changelog.py", "fresh_root.sh"}
+        beside = {"debian_changelog.py"}
         run = read(os.path.join(TOP, ".ci/run"))
         steps = module("steps")
         names = {step.split()[0] for step in (*steps.QUICK, *steps.BUILT)}

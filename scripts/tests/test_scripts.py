@@ -16,7 +16,8 @@ from support import SCRIPTS, InFolder, module, read, run, run_command, write
 
 compare_symbols = module("compare_symbols")
 run_recipes = module("run_recipes")
-sources = module("sources")
+pictures = module("pictures")
+reader = module("reader")
 wrong_bodies = module("wrong_bodies")
 
 
@@ -70,21 +71,27 @@ pub(crate) trait Named {
 """
 
 
-class Sources(unittest.TestCase):
+class Reader(InFolder):
     """Items are found by their brackets, whatever is in comments, texts and characters."""
 
+    def items(self):
+        write(self.path("crates/one/src/lib.rt"), CODE)
+        return reader.files_of(self.folder, ["one"], "src")[0].declarations
+
     def test_items(self):
-        found = [(item.kind, item.name, item.is_public) for item in sources.items_of(CODE)]
-        self.assertEqual(found, [("fn", "brace", True), ("use", "Rattle", False), ("trait", "Named", False)])
+        found = [(item.kind, item.name, item.is_public) for item in self.items() if item.kind != "use"]
+        self.assertEqual(found, [("fn", "brace", True), ("trait", "Named", False)])
 
-    def test_clauses_and_docs(self):
-        brace, _, named = sources.items_of(CODE)
-        self.assertEqual(brace.docs, "A brace.")
-        self.assertEqual([kind for kind, _ in brace.clauses], ["requires", "ensures"])
-        self.assertEqual([item.kind for item in sources.items_of(named.body)], ["ghost", "fn"])
+    def test_what_is_stated(self):
+        brace, _, named = self.items()
+        self.assertEqual(brace.about, "A brace.")
+        self.assertEqual([item.kind for item in named.inner], ["ghost", "fn"])
+        self.assertEqual((brace.lines, named.lines), (3, 5))
 
-    def test_lines(self):
-        self.assertEqual(len(sources.code_lines(CODE)), 12)
+    def test_file_that_cannot_be_read(self):
+        write(self.path("crates/one/src/lib.rt"), "fn one() ensures { 1 ")
+        with self.assertRaises(SystemExit):
+            reader.files_of(self.folder, ["one"], "src")
 
 
 class WrongBodies(InFolder):
@@ -197,9 +204,9 @@ class Judges(unittest.TestCase):
     """A judge that passes everything is found by the wrong cases that it is shown in each run."""
 
     def test_symbols(self):
-        picture = b"P1\n9 9\n" + b"0" * 81 + b"\n"
+        picture = pictures.pixels_of(b"9 9\n" + b"0" * 81 + b"\n")
         turned = compare_symbols.with_turned_module(picture)
-        self.assertEqual([at for at in range(len(picture)) if picture[at] != turned[at]], [7 + 40])
+        self.assertEqual((turned != picture).nonzero(), (4, 4))
         with mock.patch.object(compare_symbols, "pictures_of", return_value=[picture]):
             for difference, unread, count in (("", [], 2), ("it", [], 1), ("", ["it"], 1), ("it", ["it"], 0)):
                 with mock.patch.object(compare_symbols, "difference", return_value=difference):

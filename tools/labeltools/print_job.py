@@ -31,7 +31,6 @@ WORKBOOK = b"PK\x03\x04"  # what .xlsx and .ods begin with
 UNKNOWN = "unknown symbology"  # what labels(1) says
 TABLE_FIRST = "a table goes through label-table first"
 DENSE = 0.33  # millimetres: modules of QR below it are said
-ASKED = 256  # labels between two calls of `go_on`
 
 
 @dataclass(frozen=True)
@@ -266,8 +265,7 @@ def faults(
     pen = Pen(Medium(job.plan.dpi, True), job.fonts, letters)
     found = {}
     for done, item in enumerate(items):
-        if done % ASKED == 0:
-            talk.go_on(done, len(items))
+        talk.go_on(done, len(items))
         fault = fault_of(item, laid_out.area, pen)
         if fault is not None:
             found[item.label.record.number] = fault

@@ -10,6 +10,7 @@ import importlib
 import io
 import json
 import os
+import resource
 import shutil
 import subprocess
 import sys
@@ -24,7 +25,7 @@ TESTS = Path(__file__).resolve().parent
 TOOLS = TESTS.parent
 TOP = TOOLS.parent
 LOCALES = ("C", "C.UTF-8")
-SECONDS = 60
+SECONDS = 600  # that a program may take on a busy machine: one that hangs is ended
 MODULES = {"label-table": "labeltools.table_command"}  # of the tools that run in this process
 
 if str(TOOLS) not in sys.path:
@@ -52,6 +53,12 @@ def run(
         env={**environment(locale), **variables},
         timeout=SECONDS,
     )
+
+
+def processor_seconds() -> float:
+    """The processor time, in seconds, of all programs that this process ran to their end."""
+    used = resource.getrusage(resource.RUSAGE_CHILDREN)
+    return used.ru_utime + used.ru_stime
 
 
 def run_here(tool: str, *arguments: str, input: bytes = b"") -> "Finished[bytes]":

@@ -9,6 +9,7 @@ import time
 import unittest
 from dataclasses import replace
 from pathlib import Path
+from unittest import mock
 
 import support
 
@@ -20,10 +21,11 @@ TABLE = """Nr;EAN;Name;Price;Stock;Labels
 4;96385074;Gum, and a title that is longer than any label;1,20 €;8;1
 """
 PROGRAMS = ("Xvfb", "pdftoppm", "msgfmt")
-WAIT = 60.0  # seconds for work
-BEAT = 0.01  # seconds between two heart beats
-LONGEST = 0.5  # seconds without a heart beat
-TRIES = 3  # a busy machine stalls every program
+WAIT = 300.0  # seconds for work, on a busy machine too
+BEAT = 10  # milliseconds between two heart beats
+LONGEST_WORK = 0.5  # processor seconds without a heart beat
+LONGEST_WAIT = 10.0  # seconds without one
+TRIES = 3  # a window that stands still does so each time
 
 
 def setUpModule():
@@ -54,18 +56,57 @@ def tearDownModule():
     folder.cleanup()
 
 
+class Heart:
+    """A heart that beats in the main loop, where a key or a click would be seen.
+
+    `longest_wait` are the most seconds without a beat, and `longest_work` those of them in which the
+    processor worked for this program: on a busy machine it waits for other programs too.
+    """
+
+    def __init__(self):
+        self.longest_work = 0.0
+        self.longest_wait = 0.0
+        self.clock = time.monotonic()
+        self.worked = time.process_time()
+        self.source = GLib.timeout_add(BEAT, self.beat)
+
+    def beat(self):
+        """Takes the time since the last beat; returns that there is another."""
+        wait = time.monotonic() - self.clock
+        work = min(wait, time.process_time() - self.worked)  # two threads work twice as much
+        self.longest_wait = max(self.longest_wait, wait)
+        self.longest_work = max(self.longest_work, work)
+        self.clock += wait
+        self.worked = time.process_time()
+        return True
+
+    def stop(self):
+        """Ends the heart."""
+        self.beat()
+        GLib.source_remove(self.source)
+
+    def stood_still(self):
+        """Whether the window stood still for too long."""
+        return self.longest_work > LONGEST_WORK or self.longest_wait > LONGEST_WAIT
+
+    def __repr__(self):
+        return f"{self.longest_work:.3f} s of work and {self.longest_wait:.3f} s without a beat"
+
+
+def work_for(seconds):
+    """Works for some processor seconds."""
+    end = time.thread_time() + seconds
+    while time.thread_time() < end:
+        pass
+
+
 def settle(seconds):
-    """Lets the window work; returns the longest time without a heart beat."""
+    """Lets the window work."""
     end = time.monotonic() + seconds
-    longest = 0.0
-    before = time.monotonic()
     while time.monotonic() < end:
         while Gtk.events_pending():
             Gtk.main_iteration_do(False)
-        longest = max(longest, time.monotonic() - before)
-        before = time.monotonic()
-        time.sleep(BEAT)
-    return longest
+        time.sleep(BEAT / 1000)
 
 
 def command(*words, data=None):
@@ -119,18 +160,16 @@ class WindowTest(unittest.TestCase):
         data = bytes(surface.get_data())
         return data, data.count(bytes(3))
 
-    def until(self, is_done, seconds=WAIT):
-        """Waits for something; returns the longest time without a heart beat."""
-        end = time.monotonic() + seconds
-        longest = 0.0
+    def until(self, is_done):
+        """Waits for something."""
+        end = time.monotonic() + WAIT
         while not is_done():
             self.assertLess(time.monotonic(), end, "the window did not get there")
-            longest = max(longest, settle(0.03))
-        return longest
+            settle(0.03)
 
     def open(self, path=None):
         self.window.open(str(path or self.table))
-        return self.until(lambda: self.window.made is not None or self.problem())
+        self.until(lambda: self.window.made is not None or self.problem())
 
     def change(self, **choices):
         """Changes choices, and waits for the labels."""
@@ -294,22 +333,40 @@ class WindowTest(unittest.TestCase):
         self.assertIn("row 2", self.problem())
         self.assertFalse(path.exists())
 
-    def stall_of_a_save(self):
-        """The longest time without a heart beat while a long file is saved."""
+    def still_after(self, function, *values):
+        """Whether the window stood still for too long while it called a function."""
+        heart = Heart()
+        called = []
+        GLib.idle_add(lambda: called.append(function(*values)))
+        self.until(lambda: called)
+        heart.stop()
+        return heart.stood_still()
+
+    def test_a_window_that_stands_still_is_found(self):
+        self.assertTrue(self.still_after(work_for, 0.7))
+        self.assertFalse(self.still_after(work_for, 0.1))
+        self.assertFalse(self.still_after(time.sleep, 0.7))
+        with mock.patch(f"{__name__}.LONGEST_WAIT", 0.6):
+            self.assertTrue(self.still_after(time.sleep, 0.7))
+
+    def heart_of(self, path):
+        """The heart of a window that opens and saves a long file."""
+        heart = Heart()
+        self.open(path)
         self.window.save(self.folder / "long.pdf")
-        return settle(2)
+        settle(2)
+        heart.stop()
+        return heart
 
     def test_long_work_keeps_beating_and_stops(self):
         numbers = range(20000)
         rows = "".join(f"{one};{support.ean13(one)};Title {one};1,00 €\n" for one in numbers)
         path = self.folder / "long.csv"
         path.write_text("Nr;EAN;Name;Price\n" + rows)
-        stalls = []
-        for _ in range(TRIES):
-            stalls.append(max(self.open(path), self.stall_of_a_save()))
-            if stalls[-1] < LONGEST:
-                break
-        self.assertLess(min(stalls), LONGEST)
+        hearts = [self.heart_of(path)]
+        while hearts[-1].stood_still() and len(hearts) < TRIES:
+            hearts.append(self.heart_of(path))
+        self.assertFalse(hearts[-1].stood_still(), hearts)
         self.window.on_stop(None)
         settle(0.5)
         self.assertEqual(list(self.folder.glob("*.pdf")), [])
