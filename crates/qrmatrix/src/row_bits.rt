@@ -28,6 +28,7 @@ pub fn ones_below(row_bits: u64, n: usize) -> u32
 }
 
 /// Returns the places at which two rows have the same colour.
+#[tactic(auto, using(crate::proofs::RowBitsLaws::same_bit))]
 pub fn agreeing(a: u64, b: u64) -> u64
     ensures { (i : ℕ) → i < 64 → bit result i ≡ beq (bit b i) (bit a i) }
 {
@@ -35,6 +36,7 @@ pub fn agreeing(a: u64, b: u64) -> u64
 }
 
 /// Returns the places at which five rows have the same colour.
+#[tactic(auto, using(crate::proofs::RowBitsLaws::and_bit))]
 pub fn agreeing_five(a: u64, b: u64, c: u64, d: u64, e: u64) -> u64
     ensures { (i : ℕ) → i < 64 → bit result i
         ≡ (((beq (bit b i) (bit a i) && beq (bit c i) (bit a i))
@@ -44,6 +46,7 @@ pub fn agreeing_five(a: u64, b: u64, c: u64, d: u64, e: u64) -> u64
 }
 
 /// Returns the places of a row whose module differs from the next one.
+#[tactic(auto, using(crate::proofs::RowBitsLaws::xor_bit, crate::proofs::RowBitsLaws::shr_bit))]
 fn changes_in(row_bits: u64) -> u64
     ensures { (i : ℕ) → bit result i ≡ not (beq (bit row_bits i) (bit row_bits (i + 1))) }
 {
@@ -71,6 +74,7 @@ pub fn finders_from(row_bits: u64) -> u64
 }
 
 /// Returns the places at which seven rows, one after the other, have the modules of a finder pattern.
+#[tactic(auto, using(crate::proofs::RowBitsLaws::and_bit, crate::proofs::RowBitsLaws::not_bit))]
 pub fn finders_in(a: u64, b: u64, c: u64, d: u64, e: u64, f: u64, g: u64) -> u64
     ensures { (i : ℕ) → i < 64 → bit result i
         ≡ is_finder (bit a i) (bit b i) (bit c i) (bit d i) (bit e i) (bit f i) (bit g i) }
@@ -79,6 +83,7 @@ pub fn finders_in(a: u64, b: u64, c: u64, d: u64, e: u64, f: u64, g: u64) -> u64
 }
 
 /// Returns the places at which four rows are light.
+#[tactic(auto, using(crate::proofs::RowBitsLaws::and_bit, crate::proofs::RowBitsLaws::not_bit))]
 pub fn light_in(a: u64, b: u64, c: u64, d: u64) -> u64
     ensures { (i : ℕ) → i < 64 → bit result i ≡ is_light (bit a i) (bit b i) (bit c i) (bit d i) }
 {
@@ -86,6 +91,7 @@ pub fn light_in(a: u64, b: u64, c: u64, d: u64) -> u64
 }
 
 /// Returns the places of a row at which a run begins.
+#[tactic(auto, using(crate::proofs::RowBitsLaws::begins_bit))]
 pub fn run_starts(row_bits: u64) -> u64
     ensures { (i : ℕ) → i < 64 → bit result i ≡ begins_run (bit row_bits) i }
 {
@@ -94,6 +100,7 @@ pub fn run_starts(row_bits: u64) -> u64
 
 /// Returns the penalty of runs in the lowest `n` places. `uniform` has the places at which windows of one colour begin,
 /// and `begins` those at which a run begins.
+#[tactic(auto, using(crate::proofs::RowSumLaws::points_counted))]
 pub fn run_points(uniform: u64, begins: u64, n: usize) -> u32
     requires { n ≤ SIDE }
     ensures value { result
