@@ -74,6 +74,7 @@ fn with_zeros(codewords: &[u8]) -> [u8; ROOM]
 }
 
 /// Returns the bits of the codewords from bit `i` on, the first one the highest.
+#[tactic(auto, using(crate::proofs::TwoBitsLaws::codeword_more))]
 fn bits_from(bytes: &[u8; ROOM], i: usize) -> u64
     requires { i < 8 * (ROOM - 8) }
     ensures { HasBits 57 result bytes.now i }
