@@ -40,6 +40,13 @@ impl Square {
         Square { rows: self.rows }
     }
 
+    /// Takes over the values of another square.
+    pub fn copy_from(&mut self, other: &Square)
+        ensures { self.new ≡ other.now }
+    {
+        self.rows = other.rows;
+    }
+
     /// Returns the value at column `x` and row `y`.
     pub fn get(&self, x: usize, y: usize) -> bool
         requires { (x < SIDE) × (y < SIDE) }

@@ -76,6 +76,14 @@ impl Masked {
         }
     }
 
+    /// Becomes a copy of another symbol.
+    fn copy_from(&mut self, other: &Masked)
+        ensures { self.new ≡ other.now }
+    {
+        self.mask = other.mask;
+        self.modules.copy_from(&other.modules);
+    }
+
     /// Returns the limit below which the penalty of another mask replaces this one, which has the penalty `lowest`. Of
     /// two masks with the same penalty the one of the lower number is chosen.
     fn limit_for(&self, mask: Mask, lowest: u32) -> u32
@@ -180,7 +188,7 @@ impl Unmasked {
             let limit = best.limit_for(mask, lowest);
             if let Some(penalty) = self.penalty_below(&next, limit) {
                 lowest = penalty;
-                best = next.copied();
+                best.copy_from(&next);
             }
         }
         best

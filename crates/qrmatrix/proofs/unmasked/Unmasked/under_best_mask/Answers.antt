@@ -25,7 +25,7 @@ loop-turn-preserved c =
                 let value = rw w.in-Some.is at c.penalty_below.ensures.value codewords (shown codewords u) in
                 let below = rw w.in-Some.is at c.penalty_below.ensures.below in
                 Found-lower (before.found codewords u) one
-                (ap (λ z. z.mask) (w.best-is ∙ w.copied-best-in-Some.ensures) ∙ is_mask)
+                (ap (λ z. z.mask) (w.best-is ∙ w.copy_from.ensures) ∙ is_mask)
                 (w.lowest-is ∙ value ∙ ap (f codewords) is_mask) (rw (w.lowest-is, ← c.limit_for-limit.ensures.value) below)
             | in_default w ↦
                 let reached = rw w.in_default.is at c.penalty_below.ensures.reached codewords (shown codewords u) in
@@ -34,7 +34,7 @@ loop-turn-preserved c =
           ];
       shown = λ codewords u.
           elim c.match-penalty_below.branch [
-            | in-Some w ↦ rw (w.best-is, w.copied-best-in-Some.ensures) (shown codewords u)
+            | in-Some w ↦ rw (w.best-is, w.copy_from.ensures) (shown codewords u)
             | in_default w ↦ rw w.best-is (before.shown codewords u)
           ];
       drawn = λ codewords u. c.draw_under.ensures.within codewords u (before.drawn codewords u);
