@@ -14,12 +14,8 @@ from labeltools.command_line import CommandTalk, Parser, main_of, read_input, st
 from labeltools.command_line import words_of
 from labeltools.guess import guess_of
 from labeltools.lines_file import LinesFile, read_lines
-<<<<<<< HEAD
-from labeltools.messages import BadArguments, Place, Silence
+from labeltools.messages import BadArguments, Place, Silence, ToolError
 from labeltools.messages import quoted, sentence, write_message
-=======
-from labeltools.messages import Place, ToolError, quoted, sentence, write_message
->>>>>>> 47e0c798
 from labeltools.names import listed
 from labeltools.number_format import date_section
 from labeltools.prices import PricePattern
