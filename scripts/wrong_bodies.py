@@ -172,8 +172,8 @@ def file_at(folder, file):
 
 
 def function_at(file, path):
-    """Returns the offsets of a function in the text of a file, by its path there: a free one, or one of an `impl` of no
-    trait."""
+    """Returns the offsets of a function in the text of a file, by its path there: a free one, or one of an `impl` of
+    no trait."""
     inner = [
         one for item in file.declarations if item.kind == "impl" and [item.name] == path[:-1] for one in item.inner
     ]
