@@ -14,11 +14,12 @@ from labeltools.command_line import CommandTalk, Parser, main_of, read_input, st
 from labeltools.command_line import words_of
 from labeltools.guess import guess_of
 from labeltools.lines_file import LinesFile, read_lines
-from labeltools.messages import BadArguments, Place, Silence
+from labeltools.messages import BadArguments, Place, Silence, ToolError
 from labeltools.messages import quoted, sentence, write_message
 from labeltools.names import listed
 from labeltools.number_format import date_section
 from labeltools.prices import PricePattern
+from labeltools.symbologies import SYMBOLOGIES
 from labeltools.table import Lines, lines_of_table
 from labeltools.table_options import ColumnOptions, FileOptions, PriceRules, TableOptions
 
@@ -330,9 +331,14 @@ def proposed(arguments: argparse.Namespace) -> str:
 
 
 def older_lines(path: str) -> LinesFile:
-    """Returns the lines of an older file; one that is empty has none."""
-    data = Path(path).read_bytes()
-    return read_lines(data, path)
+    """Returns the lines of an older file; one that is empty has none. Raises `ToolError` for a file
+    that is not of label-table, such as an older table.
+    """
+    lines = read_lines(Path(path).read_bytes(), path)
+    if any(record.symbology not in SYMBOLOGIES for record in lines.records):
+        hint = "name the lines that were made of a table"
+        raise ToolError(f"{path} has lines that are not of label-table", hint)
+    return lines
 
 
 def run() -> int:

@@ -22,14 +22,15 @@ from typing import Any, Dict, List, NoReturn, Optional, Sequence, Tuple, Union
 from unittest import mock
 
 TESTS = Path(__file__).resolve().parent
-TOOLS = TESTS.parent
-TOP = TOOLS.parent
+TOP = TESTS.parent.parent
+OURS = TOP / "tools"
+TOOLS = Path(os.environ.get("TOOLS") or OURS)
 LOCALES = ("C", "C.UTF-8")
 SECONDS = 600  # that a program may take on a busy machine: one that hangs is ended
 MODULES = {"label-table": "labeltools.table_command"}  # of the tools that run in this process
 
-if str(TOOLS) not in sys.path:
-    sys.path.insert(0, str(TOOLS))
+if str(OURS) not in sys.path:
+    sys.path.insert(0, str(OURS))
 
 Finished = subprocess.CompletedProcess
 
@@ -174,6 +175,8 @@ def printed(
     *arguments: Union[str, Path], input: bytes = b"", **variables: str
 ) -> "Finished[bytes]":
     """Runs label-print in this process: the same result as of `run`, in a quarter of the time."""
+    if TOOLS != OURS:
+        return run("label-print", *arguments, input=input, **variables)
     tool = str(TOOLS / "label-print")
     sys.stdout.flush()
     sys.stderr.flush()

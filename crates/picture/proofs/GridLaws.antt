@@ -82,11 +82,11 @@ module _ (p : Picture) (zone : QuietZone) where
   }
 
   -- the bits of a row, moved up by the columns of the zone
-  pub row_bits-with_quiet_zone : (y row : ℕ) → zone.left + p.width < 64 → zone.top ≤ y → y < zone.top + p.height
+  pub row_bits_in_zone : (y row : ℕ) → zone.left + p.width < 64 → zone.top ≤ y → y < zone.top + p.height
       → ((x : ℕ) → bit row x ≡ (nat_lt x p.width && p.dark x (y - zone.top)))
       → (x : ℕ) → bit (row * 2 ^ zone.left % 2 ^ 64) x
       ≡ (nat_lt x (zone.left + p.width + zone.right) && (with_quiet_zone p zone).dark x y)
-  row_bits-with_quiet_zone y row narrow low high bits x =
+  row_bits_in_zone y row narrow low high bits x =
       elim (cases_lt x 64) [
         | inl l ↦ rw (up_bit row zone.left x l, bits (x - zone.left)) (grind (arith, nat_tests))
         | inr g ↦ rw (above_bit (row * 2 ^ zone.left % 2 ^ 64) 64 x (omega arith) g) (grind (arith, nat_tests))

@@ -17,16 +17,16 @@ length-pbm_pieces row (suc k) =
     (simp (length-append, length-map) (omega (arith, length-pbm_pieces row k)))
 
 -- a digit for each pixel, and a line feed for each piece
-pub length-pbm_row : (row : List Bool) → length (row_text pbm_piece [] row) ≡ length row + div_ceil (length row) 70
-length-pbm_row row =
+pub length_of_pbm_row : (row : List Bool) → length (row_text pbm_piece [] row) ≡ length row + div_ceil (length row) 70
+length_of_pbm_row row =
     let n = div_ceil (length row) 70 in
     ap length (append-nil (flat_map (λ k. pbm_piece (piece row k)) (below n)))
     ∙ (length-pbm_pieces row n ∙ ap (λ (pixels : List Bool). length pixels + n) (all_pieces row))
 
 -- two letters for each pixel, and a line feed
-pub length-ascii_row : (row : List Bool)
+pub length_of_ascii_row : (row : List Bool)
     → length (row_text (λ pixels. flat_map ascii_pixel pixels) (10 ∷ []) row) ≡ 2 * length row + 1
-length-ascii_row row =
+length_of_ascii_row row =
     let n = div_ceil (length row) 70 in
     length-append (flat_map (λ k. flat_map ascii_pixel (piece row k)) (below n)) (10 ∷ [])
     ∙ ap (λ (m : ℕ). m + 1) (ap length (letters_of_pieces row n ∙ ap (flat_map ascii_pixel) (all_pieces row))

@@ -120,16 +120,16 @@ pointwise-same : (row : List Bool) → pointwise beq row row ≡ true
 pointwise-same [] = refl
 pointwise-same (b ∷ row) = rw (beq-same b, pointwise-same row) refl
 
-pub pixel_row-bars : (row : List Bool) (height y : ℕ) → pixel_row (bars row height) y ≡ row
-pixel_row-bars row height y = sym (fill_by_all (λ x. get_or row x false) row (length row) false refl (λ k h. refl))
+pub pixel_row_of_bars : (row : List Bool) (height y : ℕ) → pixel_row (bars row height) y ≡ row
+pixel_row_of_bars row height y = sym (fill_by_all (λ x. get_or row x false) row (length row) false refl (λ k h. refl))
 
 same_rows : (row : List Bool) (height : ℕ) (ys : List ℕ)
     → list_all (pointwise beq row) (map (pixel_row (bars row height)) ys) ≡ true
 same_rows row height [] = refl
-same_rows row height (y ∷ ys) = rw (pixel_row-bars row height y, pointwise-same row, same_rows row height ys) refl
+same_rows row height (y ∷ ys) = rw (pixel_row_of_bars row height y, pointwise-same row, same_rows row height ys) refl
 
 -- bars of some height have one row
 pub common_row-bars : BarsAreOneRow
 common_row-bars row zero some = absurd (omega arith)
 common_row-bars row (suc n) some =
-    rw (pixel_row-bars row (suc n) 0, same_rows row (suc n) (range_with_len (0 + 1) n)) refl
+    rw (pixel_row_of_bars row (suc n) 0, same_rows row (suc n) (range_with_len (0 + 1) n)) refl

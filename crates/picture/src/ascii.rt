@@ -45,6 +45,7 @@ impl PixelText for AsciiPixels {
         b"\n"
     }
 
+    #[tactic(auto, using(crate::proofs::LengthLaws::length_of_ascii_row))]
     fn row_len(width: usize) -> usize {
         2 * width + 1
     }
@@ -60,6 +61,7 @@ fn write_letters<S: Sink>(pixels: &[bool], sink: &mut S) -> Result<(), IoFault>
 }
 
 /// Returns the letters of at most 35 pixels, and then spaces.
+#[tactic(auto, using(crate::proofs::LetterLaws::letters_step, crate::proofs::LetterLaws::letters_all))]
 fn letters(pixels: &[bool]) -> [u8; 70]
     requires { length pixels.now ≤ 35 }
     ensures { take (2 * length pixels.now) result ≡ flat_map ascii_pixel pixels.now }

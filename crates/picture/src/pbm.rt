@@ -71,6 +71,7 @@ impl PixelText for PbmPixels {
         b""
     }
 
+    #[tactic(auto, using(crate::proofs::LengthLaws::length_of_pbm_row))]
     fn row_len(width: usize) -> usize {
         width + width.div_ceil(PIECE)
     }

@@ -1,5 +1,5 @@
 -- Windows that look like a finder pattern, in two parts: the pattern, and the four light modules beside it.
-use Rattle.std.proofs.Common.{◌≡◌, ℕ, zero, suc, ◌+◌, ◌-◌, ◌/◌, ◌^◌, ◌<◌, ◌≤◌, refl, sym, ap, ◌∙◌, arith, Bool, true}
+use Rattle.std.proofs.Common.{◌≡◌, ℕ, zero, suc, ◌+◌, ◌-◌, ◌<◌, ◌≤◌, refl, sym, ap, ◌∙◌, arith, Bool, true}
 use Rattle.std.proofs.Common.{false, ◌&&◌, ◌||◌, ◌++◌, add-zero, List, [], ◌∷◌, length, inl, inr}
 use Rattle.std.specs.Prelude.{nat_le, nat_lt, if◌then◌else◌}
 use Rattle.std.proofs.lemmas.Bool.{cases_eq, le-ltb}
@@ -7,8 +7,8 @@ use Rattle.std.proofs.lemmas.Bool.Decides.{nat_tests}
 use Rattle.qrmatrix.specs.Bits.{bit}
 use Rattle.qrmatrix.specs.Penalty.{shows, shows_finder}
 use Rattle.qrmatrix.specs.Private.Counting.{count_below, one_if, sum_below}
-use Rattle.qrmatrix.specs.Private.PenaltyParts.{finder_from, is_finder, light_first, light_from, light_last}
-use Rattle.qrmatrix.proofs.RowBitsLaws.{above_bit, shr_bit}
+use Rattle.qrmatrix.specs.Private.PenaltyParts.{finder_from, light_first, light_from, light_last}
+use Rattle.qrmatrix.proofs.RowBitsLaws.{above_bit}
 use Rattle.qrmatrix.proofs.RowSumLaws.{sum_added}
 use Rattle.qrmatrix.proofs.SumLaws.{sum_below_same, sum_below_zero}
 
@@ -69,13 +69,6 @@ windows_of_row n m y =
 -- what a word of zeros says of a line
 pub none_found : (w : ℕ) (p : ℕ → Bool) → w ≡ 0 → ((i : ℕ) → i < 64 → bit w i ≡ p i) → (i : ℕ) → i < 64 → p i ≡ false
 none_found w p e shows i l = sym (shows i l) ∙ above_bit w 0 i (omega arith) (omega arith)
-
--- seven rows moved against one another show the finder patterns of a row
-pub row_found : (w found i : ℕ) → bit found i ≡ is_finder (bit w i) (bit (w / 2 ^ 1) i) (bit (w / 2 ^ 2) i)
-    (bit (w / 2 ^ 3) i) (bit (w / 2 ^ 4) i) (bit (w / 2 ^ 5) i) (bit (w / 2 ^ 6) i)
-    → bit found i ≡ finder_from (bit w) i
-row_found w found i e =
-    e ∙ rw (shr_bit w 1 i, shr_bit w 2 i, shr_bit w 3 i, shr_bit w 4 i, shr_bit w 5 i, shr_bit w 6 i) refl
 
 -- a line without finder patterns has no such windows
 pub no_windows : (k : ℕ) (line : ℕ → Bool) → k ≤ 47 → ((i : ℕ) → i < 64 → finder_from line i ≡ false)

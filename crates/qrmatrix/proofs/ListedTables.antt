@@ -48,14 +48,11 @@ format_informations : map (λ level. map (format_information level) (range_with_
 unfolding format_information binary_remainder
 format_informations = refl
 
-version_informations : map version_information (7 ∷ 8 ∷ 9 ∷ 10 ∷ []) ≡ 0x07c94 ∷ 0x085bc ∷ 0x09a99 ∷ 0x0a4d3 ∷ []
+-- versions 7 to 10, and the highest one (ISO/IEC 18004, annex D)
+version_informations : map version_information (7 ∷ 8 ∷ 9 ∷ 10 ∷ 40 ∷ []) ≡
+    0x07c94 ∷ 0x085bc ∷ 0x09a99 ∷ 0x0a4d3 ∷ 0x28c69 ∷ []
 unfolding version_information binary_remainder
 version_informations = refl
-
--- that of the highest version (ISO/IEC 18004, annex D)
-highest_version_information : version_information 40 ≡ 0x28c69
-unfolding version_information binary_remainder
-highest_version_information = refl
 
 -- The modules that a mask flips, in the square of 12 by 12 with its upper left module in column 12 and row 30: what
 -- differs between Zint's symbols `--vers=10 --mask=N` and `--mask=0`, and for mask 0 the modules whose column and row
@@ -67,45 +64,27 @@ window mask = flat_map (λ y. map (λ x. is_flipped mask x y) (range_with_len 12
 modules : List ℕ → List Bool
 modules text = flat_map (λ row. map (λ c. c == 49) row) (slice_split (λ c. c == 32) text)
 
-mask_0 : window 0 ≡ modules (codes "101010101010 010101010101 101010101010 010101010101 101010101010 010101010101 " ++
+-- masks 0 to 7
+flipped : map window (range_with_len 0 8) ≡ map modules (
+    (codes "101010101010 010101010101 101010101010 010101010101 101010101010 010101010101 " ++
     codes "101010101010 010101010101 101010101010 010101010101 101010101010 010101010101")
-unfolding window is_flipped modules
-mask_0 = refl
-
-mask_1 : window 1 ≡ modules (codes "111111111111 000000000000 111111111111 000000000000 111111111111 000000000000 " ++
+    ∷ (codes "111111111111 000000000000 111111111111 000000000000 111111111111 000000000000 " ++
     codes "111111111111 000000000000 111111111111 000000000000 111111111111 000000000000")
-unfolding window is_flipped modules
-mask_1 = refl
-
-mask_2 : window 2 ≡ modules (codes "100100100100 100100100100 100100100100 100100100100 100100100100 100100100100 " ++
+    ∷ (codes "100100100100 100100100100 100100100100 100100100100 100100100100 100100100100 " ++
     codes "100100100100 100100100100 100100100100 100100100100 100100100100 100100100100")
-unfolding window is_flipped modules
-mask_2 = refl
-
-mask_3 : window 3 ≡ modules (codes "100100100100 001001001001 010010010010 100100100100 001001001001 010010010010 " ++
+    ∷ (codes "100100100100 001001001001 010010010010 100100100100 001001001001 010010010010 " ++
     codes "100100100100 001001001001 010010010010 100100100100 001001001001 010010010010")
-unfolding window is_flipped modules
-mask_3 = refl
-
-mask_4 : window 4 ≡ modules (codes "000111000111 000111000111 111000111000 111000111000 000111000111 000111000111 " ++
+    ∷ (codes "000111000111 000111000111 111000111000 111000111000 000111000111 000111000111 " ++
     codes "111000111000 111000111000 000111000111 000111000111 111000111000 111000111000")
-unfolding window is_flipped modules
-mask_4 = refl
-
-mask_5 : window 5 ≡ modules (codes "111111111111 100000100000 100100100100 101010101010 100100100100 100000100000 " ++
+    ∷ (codes "111111111111 100000100000 100100100100 101010101010 100100100100 100000100000 " ++
     codes "111111111111 100000100000 100100100100 101010101010 100100100100 100000100000")
-unfolding window is_flipped modules
-mask_5 = refl
-
-mask_6 : window 6 ≡ modules (codes "111111111111 111000111000 110110110110 101010101010 101101101101 100011100011 " ++
+    ∷ (codes "111111111111 111000111000 110110110110 101010101010 101101101101 100011100011 " ++
     codes "111111111111 111000111000 110110110110 101010101010 101101101101 100011100011")
-unfolding window is_flipped modules
-mask_6 = refl
-
-mask_7 : window 7 ≡ modules (codes "101010101010 000111000111 100011100011 010101010101 111000111000 011100011100 " ++
+    ∷ (codes "101010101010 000111000111 100011100011 010101010101 111000111000 011100011100 " ++
     codes "101010101010 000111000111 100011100011 010101010101 111000111000 011100011100")
+    ∷ [])
 unfolding window is_flipped modules
-mask_7 = refl
+flipped = refl
 
 -- ---- the penalty
 

@@ -44,9 +44,9 @@ lines_summed n lines =
     omega arith
 
 -- the windows that look like a finder pattern, and the rest
-pub penalty-parts : (n : ℕ) (m : ℕ → ℕ → Bool)
+pub penalty_parts : (n : ℕ) (m : ℕ → ℕ → Bool)
     → penalty n m ≡ penalty_without_finders n m + 40 * finder_windows n m
-penalty-parts n m =
+penalty_parts n m =
     let whole = penalty-sum n m in
     let rows = lines_summed n (λ y x. m x y) in
     let columns = lines_summed n m in

@@ -6,4 +6,5 @@ pub mod Placing
 pub mod FunctionRows
 pub mod Squares
 pub mod PenaltyParts
+pub mod MaskOrder
 pub mod Drawing

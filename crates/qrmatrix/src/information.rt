@@ -41,6 +41,7 @@ fn level_indicator(level: Level) -> usize
 
 /// Returns the format information of 15 bits: level and mask with their check bits, under the mask of the format
 /// information (ISO/IEC 18004, 7.9).
+#[tactic(auto, using(crate::proofs::InformationTables::format_entry_is))]
 pub fn format_information(level: Level, mask: Mask) -> u32
     ensures { result ≡ Information.format_information level mask }
 {
@@ -48,6 +49,7 @@ pub fn format_information(level: Level, mask: Mask) -> u32
 }
 
 /// Returns the version information of 18 bits: the version with its check bits (ISO/IEC 18004, 7.10).
+#[tactic(auto, using(crate::proofs::InformationTables::version_entry_is))]
 pub fn version_information(version: Version) -> u32
     ensures { result ≡ Information.version_information version }
 {

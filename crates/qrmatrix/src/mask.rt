@@ -55,6 +55,7 @@ static PATTERNS: [[u64; 12]; 8] = [
 ];
 
 /// Returns the modules that a mask flips in the rows `place`, `place` + 12 and so on.
+#[tactic(auto, using(crate::proofs::MaskLaws::mask_row_is))]
 fn mask_row_bits(mask: Mask, place: usize) -> u64
     requires { place < 12 }
     ensures { (x y : ℕ) → x < SIDE → y < SIDE → y % 12 ≡ place

@@ -74,6 +74,7 @@ fn with_zeros(codewords: &[u8]) -> [u8; ROOM]
 }
 
 /// Returns the bits of the codewords from bit `i` on, the first one the highest.
+#[tactic(auto, using(crate::proofs::TwoBitsLaws::codeword_more))]
 fn bits_from(bytes: &[u8; ROOM], i: usize) -> u64
     requires { i < 8 * (ROOM - 8) }
     ensures { HasBits 57 result bytes.now i }
@@ -87,6 +88,7 @@ fn bits_from(bytes: &[u8; ROOM], i: usize) -> u64
 }
 
 /// Returns bit `x` and, one place higher, the next one.
+#[tactic(auto, using(crate::proofs::TwoBitsLaws::two_low, crate::proofs::TwoBitsLaws::two_high))]
 fn two_at(bits: u64, x: usize) -> u64
     requires { x + 1 < 64 }
     ensures low { bit result 0 ≡ bit bits x }

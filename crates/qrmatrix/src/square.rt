@@ -40,6 +40,13 @@ impl Square {
         Square { rows: self.rows }
     }
 
+    /// Takes over the values of another square.
+    pub fn copy_from(&mut self, other: &Square)
+        ensures { self.new ≡ other.now }
+    {
+        self.rows = other.rows;
+    }
+
     /// Returns the value at column `x` and row `y`.
     pub fn get(&self, x: usize, y: usize) -> bool
         requires { (x < SIDE) × (y < SIDE) }
@@ -49,6 +56,7 @@ impl Square {
     }
 
     /// Returns the bits of row `y`.
+    #[tactic(auto, using(crate::proofs::SquareLaws::rows_seen, crate::proofs::SquareLaws::narrow_at))]
     pub fn row(&self, y: usize) -> u64
         requires { y < SIDE }
         ensures bits { (x : ℕ) → bit result x ≡ value_at self.now x y }
@@ -58,6 +66,7 @@ impl Square {
     }
 
     /// Writes the values of row `y`.
+    #[tactic(auto, using(crate::proofs::SquareLaws::row_put))]
     pub fn put(&mut self, y: usize, row_bits: u64)
         requires row { y < SIDE }
         requires row_bits { row_bits < 2 ^ SIDE }
@@ -67,6 +76,7 @@ impl Square {
     }
 
     /// Turns over the values of row `y` at the places of the ones of `row_bits`.
+    #[tactic(auto, using(crate::proofs::SquareLaws::row_flipped, crate::proofs::SquareLaws::flipped_rows))]
     pub fn flip(&mut self, y: usize, row_bits: u64)
         requires row { y < SIDE }
         requires row_bits { row_bits < 2 ^ SIDE }
@@ -77,6 +87,7 @@ impl Square {
     }
 
     /// Returns the bits of all rows.
+    #[tactic(auto, using(crate::proofs::SquareLaws::rows_seen))]
     pub fn rows(&self) -> &[u64; SIDE]
         ensures bits { (x y : ℕ) → bit (slice_index result.now y) x ≡ value_at self.now x y }
         ensures narrow { All (λ w. w < 2 ^ SIDE) result.now }

@@ -1,10 +1,12 @@
 //! A symbol before its mask: what all eight masks share is drawn once.
-ghost use Rattle.std.specs.Prelude.{◌≡◌, ℕ, ◌<◌, ◌≤◌, List, None, IfSome, IfNone};
+ghost use Rattle.std.specs.Prelude.{◌≡◌, ℕ, ◌+◌, ◌*◌, nat_lt, ◌<◌, ◌≤◌, List, None, IfSome, IfNone};
 ghost use Rattle.qrdata.specs.Versions.{side_of};
 ghost use Rattle.qrmatrix.specs.Private.Drawing.{Draws, DrawsFunctions, Places, ShowsSymbol};
 ghost use Rattle.qrmatrix.specs.MaskChoice.{chosen_mask};
 ghost use Rattle.qrmatrix.specs.Modules.{module_at};
 ghost use Rattle.qrmatrix.specs.Penalty;
+ghost use Rattle.qrmatrix.specs.Private.Counting.{one_if};
+ghost use Rattle.qrmatrix.specs.Private.MaskOrder.{turn_of};
 ghost use Rattle.qrmatrix.specs.Private.Squares.{IsBlank, IsWithin};
 
 use crate::format::draw_format;
@@ -13,8 +15,22 @@ use crate::mask::write_masked;
 use crate::penalty::{penalty, penalty_below};
 use crate::placement::place;
 use crate::row_bits::low_ones;
-use crate::square::Square;
+use crate::square::{SIDE, Square};
 use qrdata::{Codewords, Level, Mask, Version};
+
+/// Returns the mask that is tried in a turn: first mask 2, which most often has the lowest penalty, then the others.
+fn mask_in_turn(turn: u8) -> Mask
+    requires { turn < 8 }
+    ensures turn { turn_of result ≡ turn }
+    ensures known { result < 8 }
+{
+    let number = match turn {
+        0 => 2,
+        1 | 2 => turn - 1,
+        _ => turn,
+    };
+    Mask::of(number)
+}
 
 /// Draws the function patterns on two blank squares: the modules that they leave free, and those of theirs that are
 /// dark.
@@ -57,6 +73,28 @@ impl Masked {
         Masked {
             mask: self.mask,
             modules: self.modules.copied(),
+        }
+    }
+
+    /// Becomes a copy of another symbol.
+    fn copy_from(&mut self, other: &Masked)
+        ensures { self.new ≡ other.now }
+    {
+        self.mask = other.mask;
+        self.modules.copy_from(&other.modules);
+    }
+
+    /// Returns the limit below which the penalty of another mask replaces this one, which has the penalty `lowest`. Of
+    /// two masks with the same penalty the one of the lower number is chosen.
+    fn limit_for(&self, mask: Mask, lowest: u32) -> u32
+        requires { lowest ≤ 329 * SIDE * SIDE }
+        ensures value { result ≡ lowest + one_if (nat_lt mask self.now.mask) }
+        ensures bound { result ≤ lowest + 1 }
+    {
+        if mask.number() < self.mask.number() {
+            lowest + 1
+        } else {
+            lowest
         }
     }
 }
@@ -112,18 +150,20 @@ impl Unmasked {
 
     /// Returns the penalty of the symbol under a mask.
     fn penalty_of(&self, masked: &Masked) -> u32
-        ensures { (codewords : List ℕ) → ShowsSymbol self.now codewords masked.now → result
+        ensures value { (codewords : List ℕ) → ShowsSymbol self.now codewords masked.now → result
             ≡ Penalty.penalty (side_of self.now.version)
             (module_at self.now.version self.now.level masked.now.mask codewords) }
+        ensures bound { result ≤ 329 * SIDE * SIDE }
     {
         penalty(&masked.modules, self.version.side())
     }
 
     /// Returns the penalty of the symbol under a mask where it is below a limit.
     fn penalty_below(&self, masked: &Masked, limit: u32) -> Option<u32>
-        ensures below { (codewords : List ℕ) → ShowsSymbol self.now codewords masked.now → IfSome result (λ found.
-            (found ≡ Penalty.penalty (side_of self.now.version)
-            (module_at self.now.version self.now.level masked.now.mask codewords)) × (found < limit)) }
+        ensures below { IfSome result (λ found. found < limit) }
+        ensures value { (codewords : List ℕ) → ShowsSymbol self.now codewords masked.now → IfSome result (λ found. found
+            ≡ Penalty.penalty (side_of self.now.version)
+            (module_at self.now.version self.now.level masked.now.mask codewords)) }
         ensures reached { (codewords : List ℕ) → ShowsSymbol self.now codewords masked.now → IfNone result
             (limit ≤ Penalty.penalty (side_of self.now.version)
             (module_at self.now.version self.now.level masked.now.mask codewords)) }
@@ -139,14 +179,16 @@ impl Unmasked {
         ensures modules { (codewords : List ℕ) → Places self.now codewords
             → ShowsSymbol self.now codewords result }
     {
-        let mut next = self.under(Mask::of(0));
+        let mut next = self.under(mask_in_turn(0));
         let mut lowest = self.penalty_of(&next);
         let mut best = next.copied();
-        for number in 1..8 {
-            self.draw_under(Mask::of(number), &mut next);
-            if let Some(penalty) = self.penalty_below(&next, lowest) {
+        for turn in 1..8 {
+            let mask = mask_in_turn(turn);
+            self.draw_under(mask, &mut next);
+            let limit = best.limit_for(mask, lowest);
+            if let Some(penalty) = self.penalty_below(&next, limit) {
                 lowest = penalty;
-                best = next.copied();
+                best.copy_from(&next);
             }
         }
         best
