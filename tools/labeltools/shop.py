@@ -9,13 +9,11 @@ import time
 from collections.abc import Mapping, Sequence
 from contextlib import suppress
 from dataclasses import dataclass, replace
-from io import BytesIO
 from pathlib import Path
 from typing import Any
 
 from labeltools import print_command, table_command
 from labeltools.command_line import read_input, words_of
-from labeltools.files import save
 from labeltools.guess import Guess, guess_of
 from labeltools.messages import Cancelled, Place, ToolError
 from labeltools.press import Press
@@ -121,8 +119,9 @@ class Labels:
 
     def left_out(self) -> list[LeftOut]:
         """Returns the labels of lines that are not printed."""
+        by_table = set(self.lines.left_out)
         found = ((one, one.place.number) for one in self.prepared.left_out if one.place)
-        return [one for one, row in found if row not in self.lines.left_out]
+        return [one for one, row in found if row not in by_table]
 
     def notes(self) -> list[LeftOut]:
         """Returns why rows are left out, and what else there is to say."""
@@ -163,8 +162,9 @@ def read_back(prepared: Prepared, talk: Talk) -> Press:
 
 def remembered() -> dict[str, Choices]:
     """Returns what was chosen, by the names of columns; nothing where that is not understood."""
-    with suppress(OSError, ValueError, TypeError):
-        return dict(json.loads(MEMORY.read_text(encoding="utf-8")))
+    with suppress(OSError, ValueError, AttributeError):
+        found = json.loads(MEMORY.read_text(encoding="utf-8")).items()
+        return {names: kept for names, kept in found if isinstance(kept, dict)}
     return {}
 
 
@@ -173,4 +173,4 @@ def remember(names: str, choices: Choices) -> None:
     kept = {**remembered(), names: choices}
     with suppress(OSError):
         MEMORY.parent.mkdir(parents=True, exist_ok=True)
-        save(BytesIO(json.dumps(kept, indent=1).encode()), MEMORY)
+        MEMORY.write_text(json.dumps(kept, indent=1), encoding="utf-8")

@@ -157,7 +157,8 @@ class Window:
         """Takes choices, but for what somebody has written into the file of them."""
         for name, value in choices.items():
             with suppress(KeyError, TypeError):
-                self.widget(name).set_property(CONTROLS[name], value)
+                kind = CONTROLS[name]
+                self.widget(name).set_property(kind, value)
 
     def choices(self) -> Choices:
         """Returns what is chosen."""

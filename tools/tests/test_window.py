@@ -393,9 +393,16 @@ class WindowTest(unittest.TestCase):
         chosen = self.window.choices()
         self.assertEqual((chosen["price"], chosen["roll"], chosen["sheet"]), ("", True, False))
         self.assertFalse(self.window.widget("guessed").get_visible())
-        (self.folder / "labels/window.json").write_text('{"Nr": [1], "EAN": 3}')
+        for written in ('{"Nr": [1], "EAN": 3}', "[]", "{", '{"Nr\\nEAN": {"price": 7}}'):
+            (self.folder / "labels/window.json").write_text(written)
+            self.open(later)
+            self.assertEqual(self.window.choices()["price"], "4")
+            self.assertTrue(self.window.widget("guessed").get_visible())
+        names = "Nr\\nEAN\\nName\\nPrice\\nStock\\nLabels"
+        wrong = f'{{"{names}": {{"price": 7, "title": "9", "widget": 1, "copies": ""}}}}'
+        (self.folder / "labels/window.json").write_text(wrong)
         self.open(later)
-        self.assertTrue(self.window.widget("guessed").get_visible())
+        self.assertEqual(self.window.choices()["copies"], "")
 
     def test_a_file_that_is_no_table_is_said(self):
         for name, data in (
