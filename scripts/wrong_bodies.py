@@ -10,13 +10,13 @@ A wrong body changes bodies of src/: it leaves clauses, ghost items and attribut
 leave the same text. The files of crates/*/right-bodies are of the same form and not wrong: the prover has to accept
 each, and one that is reported as refused is a fault of this script.
 
-`rt` tries each must-fail edit by a check of the crate. Here one check tries many. It is of a copy of the crate, in
-which each function is there once more for each of its wrong bodies, under another name, with its contract and its
-proof. It is there once more as it is, too, and so the prover has to accept it.
+`rt` tries each must-fail edit by a check of the crate. Here one check tries many. Where several wrong bodies are of
+one function, a copy of the crate has the function once more for each of them, under another name, with its contract
+and its proof. It also has it once more as it is, and the prover has to accept that: a copy is judged as a function is.
 
-A function of a trait, and a function whose wrong body changes something else too, is tried in its own place. A proof
-reads of other functions their contracts alone, so one check tries several functions. What fails only because it calls
-another is not judged, and is tried again without it.
+Any other body is tried in its function's place, and so are those that change something else too, or are of a trait. A
+proof reads of other functions their contracts alone, so one check tries several functions. What fails only because it
+calls another is not judged, and is tried again without it.
 
 The status is 0 where each wrong body is refused, 1 where one is not or there is none, and 2 where an argument names no
 crate or there is no kit. The last line is `N passed, M failed`, as of `rt ci`.
