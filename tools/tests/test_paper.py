@@ -651,7 +651,7 @@ class Users(unittest.TestCase):
             child = int(kept.read_text())
             run.kill()
             run.wait()
-            end = time.monotonic() + 20
+            end = time.monotonic() + 60
             while is_running(child) and time.monotonic() < end:
                 time.sleep(0.05)
             is_left = is_running(child)
