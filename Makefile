@@ -23,6 +23,7 @@ help:
 	@echo 'make quick     the texts, the lints and the tests that need no program: minutes'
 	@echo 'make check     proves and tests every crate: most of an hour'
 	@echo 'make gate      all that a change has to pass'
+	@echo 'make gate-test the same in a fresh Debian, as root'
 	@echo 'make all       the proved program in out/, the C library in out/lib/'
 	@echo 'make deb       the Debian packages of what is committed, in out/deb/'
 	@echo 'make deb-test  tries them in a fresh Debian, as root'
@@ -95,21 +96,37 @@ deb: $(LABELS) $(PROVED)
 	cd out/deb/source && LABELS=$(abspath $(LABELS)) PROVED=$(abspath $(PROVED)) dpkg-buildpackage -b -us -uc
 	ls out/deb/*.deb
 
+# A fresh Debian in out/root; MIRROR names another mirror.
+define fresh_root
+	rm -rf --one-file-system out/root && debootstrap --variant=minbase bookworm out/root $(MIRROR)
+	cp /etc/resolv.conf out/root/etc
+endef
+mounted = unshare --mount --propagation private sh -ec 'mount -t proc proc out/root/proc; \
+    mount -t devpts -o newinstance,ptmxmode=0666 devpts out/root/dev/pts; $(1)'
+KIT = $(patsubst %/bin/rt,%,$(realpath $(shell command -v rt)))
+
+# The gate in a fresh Debian: a clone of what is committed, with the kit of this machine beside it, and without what
+# that keeps of earlier proofs. It needs root and debootstrap.
+gate-test:
+	$(fresh_root)
+	git clone --quiet . out/root/work
+	mkdir -p out/root$(KIT) && ln -s $(KIT)/bin/rt out/root/usr/local/bin/rt
+	$(call mounted, mount --bind $(KIT) out/root$(KIT); \
+	    chroot out/root env -i HOME=/root PATH=/usr/local/bin:/usr/sbin:/usr/bin:/sbin:/bin CI=true /work/.ci/run)
+
 # The packages in a fresh Debian below out/, whose mounts are seen there alone. It needs root, debootstrap, autopkgtest
 # and piuparts, which installs, upgrades and purges, and sees that nothing is left.
 deb-test:
 	lintian -EvIL +pedantic --fail-on error,warning,info,pedantic out/deb/*.changes
-	rm -rf --one-file-system out/root && debootstrap --variant=minbase bookworm out/root
-	cp /etc/resolv.conf out/root/etc
+	$(fresh_root)
 	tar -C out/root -czf out/root.tgz .
 	cd out/deb && dpkg-scanpackages . > Packages
 	piuparts -b out/root.tgz -d bookworm --no-eatmydata --bindmount $(CURDIR)/out/deb \
 	    --extra-repo 'deb [trusted=yes] file:$(CURDIR)/out/deb ./' out/deb/*.changes
-	unshare --mount --propagation private sh -c 'mount -t proc proc out/root/proc; \
-	    mount -t devpts -o newinstance,ptmxmode=0666 devpts out/root/dev/pts; \
-	    autopkgtest $(filter-out %-dbgsym,$(wildcard out/deb/*.deb)) out/deb/source/ -- chroot $(CURDIR)/out/root'
+	$(call mounted, autopkgtest $(filter-out %-dbgsym,$(wildcard out/deb/*.deb)) out/deb/source/ -- chroot \
+	    $(CURDIR)/out/root)
 
 clean:
 	rm -rf out
 
-.PHONY: help quick check gate all install uninstall debian/changelog deb deb-test clean
+.PHONY: help quick check gate all install uninstall debian/changelog deb deb-test gate-test clean

@@ -54,6 +54,8 @@ void labels_defaults(labels_options *options) {
         *options = defaults;
 }
 
+static const labels_options *or_defaults(const labels_options *options) { return options ? options : &defaults; }
+
 static int is_bad(const void *bytes, size_t size) { return (!bytes && size) || size > PTRDIFF_MAX; }
 
 static const void *read_from(const void *bytes) { return bytes ? bytes : &nothing; }
@@ -93,7 +95,7 @@ int labels_draw(const labels_options *options, int symbology, const void *data, 
     answer = answer ? answer : &own;
     if (is_bad(data, size) || is_bad(out, room))
         return refuse(answer);
-    labels_proved_draw(options ? options : &defaults, (uint32_t)symbology, read_from(data), size, write_to(out), room,
+    labels_proved_draw(or_defaults(options), (uint32_t)symbology, read_from(data), size, write_to(out), room,
                        answer->message, MESSAGE_ROOM, answer);
     return finish(answer);
 }
@@ -104,7 +106,7 @@ int labels_draw_line(const labels_options *options, const void *text, size_t siz
     answer = answer ? answer : &own;
     if (is_bad(text, size) || is_bad(out, room))
         return refuse(answer);
-    labels_proved_draw_line(options ? options : &defaults, read_from(text), size, write_to(out), room, answer->message,
+    labels_proved_draw_line(or_defaults(options), read_from(text), size, write_to(out), room, answer->message,
                             MESSAGE_ROOM, answer);
     return finish(answer);
 }
@@ -120,7 +122,7 @@ int labels_symbol(const labels_options *options, int symbology, const void *data
         return refuse(answer);
     modules = write_to(modules);
     room = cleared(modules, room, symbology == LABELS_QR ? LABELS_MAX_MODULES : LABELS_MAX_BARS);
-    labels_proved_symbol(options ? options : &defaults, (uint32_t)symbology, read_from(data), size, modules, room,
+    labels_proved_symbol(or_defaults(options), (uint32_t)symbology, read_from(data), size, modules, room,
                          answer->message, MESSAGE_ROOM, info, answer);
     return finish(answer);
 }
@@ -136,7 +138,7 @@ int labels_line(const labels_options *options, const void *text, size_t size, un
         return refuse(answer);
     modules = write_to(modules);
     room = cleared(modules, room, LABELS_MAX_MODULES);
-    labels_proved_line(options ? options : &defaults, read_from(text), size, modules, room, answer->message,
+    labels_proved_line(or_defaults(options), read_from(text), size, modules, room, answer->message,
                        MESSAGE_ROOM, info, answer);
     return finish(answer);
 }
@@ -147,7 +149,7 @@ int labels_run(const labels_options *options, const void *text, size_t size, cha
     answer = answer ? answer : &own;
     *answer = (labels_run_answer){.code = LABELS_NULL};
     if (!is_bad(text, size) && !is_bad(images, images_room) && !is_bad(messages, messages_room))
-        labels_proved_run(options ? options : &defaults, read_from(text), size, write_to(images), images_room,
+        labels_proved_run(or_defaults(options), read_from(text), size, write_to(images), images_room,
                           write_to(messages), messages_room, answer);
     return (int)answer->code;
 }

@@ -27,8 +27,8 @@ import sys
 import textwrap
 from dataclasses import dataclass
 
-import antt
 import declared
+import reader
 import sources
 
 # The program's own call: its crate, its file and its name.
@@ -48,7 +48,7 @@ WHY = re.compile(r"Why: ((?:`[^`]+`,? )*`[^`]+`): ")
 def about(file):
     """The texts of the first comment of a file: what it is about, and each `Why: `."""
     texts = []
-    for line in itertools.takewhile(lambda line: line.startswith("--"), file.full.split("\n")):
+    for line in itertools.takewhile(lambda line: line.startswith("--"), file.lines):
         text = line.removeprefix("--").strip()
         if not texts or text.startswith("Why: "):
             texts.append(text)
@@ -58,12 +58,14 @@ def about(file):
 
 
 def read_files(top):
+    """The files of specs/ by crate and module, and those of the code."""
     unknown = set(sources.crates_of(top)) - {*CRATES} - AT_THE_TOP
     if unknown:
         names = ", ".join(sorted(unknown))
         sys.exit(f"crates.txt has {names}: scripts/believed.py has to name it in CRATES or AT_THE_TOP")
-    files = [file for crate in CRATES for file in antt.files_of(top, crate, "specs")]
-    return {(file.crate, file.module): file for file in files}
+    files = reader.files_of(top, CRATES, "specs", "src")
+    specs = {(file.crate, file.module): file for file in files if file.part == "specs"}
+    return specs, [file for file in files if file.part == "src"]
 
 
 def find(files, crate, module, name):
@@ -79,18 +81,20 @@ def find(files, crate, module, name):
 
 def rests_on(files, definition):
     """What a definition rests on, in the order of its text."""
-    found, text, file = [], definition.text(), files[definition.key.crate, definition.key.module]
+    found, file = [], files[definition.key.crate, definition.key.module]
     targets = {one.name: one.target for one in file.imports if one.target and one.target.part == "specs"}
-    for path in antt.PATH.findall(text):
-        first, _, rest = path.partition(".")
+    for token in definition.tokens:
+        first, _, rest = token.text.partition(".")
         if first in file.of_name:
             found.append(file.of_name[first])
         elif first in targets and (targets[first].name or rest):
             crate, _, module, name = targets[first]
             found.append(find(files, crate, module, name or rest.split(".")[0]))
-    signs = {**targets, **{name: one.key for name, one in file.of_name.items()}}
+    signs, names = {**targets, **{name: one.key for name, one in file.of_name.items()}}, reader.names_in(
+        definition.tokens
+    )
     for name, (crate, _, module, here) in signs.items():
-        if "◌" in name and antt.is_named_in(name, (), text):
+        if "◌" in name and reader.is_named_in(name, names):
             found.append(find(files, crate, module, here))
     return [one for one in found if one is not None and one is not definition]
 
@@ -120,7 +124,7 @@ def by_file(reached):
 
 
 def lines_of(definitions):
-    return sum(len(one.lines) for one in definitions)
+    return sum(one.lines for one in definitions)
 
 
 def cell(text):
@@ -130,7 +134,7 @@ def cell(text):
 def others(files, reached):
     """The definitions of specs/ that the headline does not rest on, but for those of private contracts."""
     public = [file for (_, module), file in files.items() if not module.startswith("Private")]
-    return [one for file in public for one in file.definitions if one not in reached]
+    return [one for file in public for one in file.declarations if one not in reached]
 
 
 def names_in(file, why):
@@ -145,7 +149,7 @@ def names_in(file, why):
 
 def whys_of(file, definitions):
     """Each `Why: ` of a file that names one of these definitions."""
-    here = {one.key.name for one in definitions}
+    here = {one.name for one in definitions}
     return [why for why in about(file)[1:] if names_in(file, why) & here]
 
 
@@ -159,7 +163,7 @@ def part(files, definitions):
             for text in ["", f"**`{module}`**: {about(file)[0]}", *whys_of(file, inside)]:
                 out += [*textwrap.wrap(text, 118, break_long_words=False, break_on_hyphens=False), ""]
             out += ["| Definition | What it says |", "|---|---|"]
-            out += [f"| `{one.key.name}` | {cell(' '.join(one.comment))} |" for one in inside]
+            out += [f"| `{one.name}` | {cell(one.about)} |" for one in inside]
     return "\n".join(out) + "\n"
 
 
@@ -183,10 +187,9 @@ def is_named(item, words):
 
 def imported_of_std(file, definition):
     """The names of std and of the kit's crates that a definition of a file has."""
-    text = definition.text()
-    names = antt.names_in(text)
+    names = reader.names_in(definition.tokens)
     of_kit = [one for one in file.imports if one.target and one.target.crate not in CRATES and one.target.name]
-    return {one.target.name for one in of_kit if antt.is_named_in(one.name, names, text)}
+    return {one.target.name for one in of_kit if reader.is_named_in(one.name, names)}
 
 
 def leans_on(files, reached, code_of_call):
@@ -209,25 +212,26 @@ def std_names(top, found):
 
 
 def read_lists(top):
-    files, call = read_files(top), declared.contract_of(top, *CALL)
+    files, code = read_files(top)
+    call = declared.contract_of(code, *CALL)
     if call is None:
         sys.exit(f"no function {CALL[2]} in crates/{CALL[0]}/src/{CALL[1]}.rt")
     program = os.path.join(top, "crates", PROGRAM, "src")
     if not any(f"{CALL[2]}(" in sources.read(path) for path in sources.files_below(program, ".rt")):
         sys.exit(f"crates/{PROGRAM} does not call {CALL[2]}: CALL in scripts/believed.py names the call that it makes")
-    words, of_call, count = set(re.findall(r"\w+", "\n".join(call.text))), [call], 0
+    words, of_call, count = {*call.words}, [call], 0
     while count != len(of_call):
         # What a trait, a view or members say names more definitions, and these more types.
         count = len(of_call)
         roots = [find(files, *it) for item in of_call for it in item.definitions if it[0] in CRATES]
         reached, types = believed(files, [it for it in roots if it is not None])
         named = declared.named_in(types)
-        items = declared.code_items(top, CRATES, named)
+        items = declared.code_items(code, named)
         of_call = [call, *(it for it in items if (it.crate, it.file, it.name) in named or is_named(it, words))]
         words |= {word for it in of_call for word in it.words}
     rest = others(files, reached)
     of_rest = [it for one in rest for it in rests_on(files, one) if isinstance(it, tuple)]
-    every = declared.code_items(top, CRATES, named | declared.named_in(of_rest))
+    every = declared.code_items(code, named | declared.named_in(of_rest))
     names = std_names(top, leans_on(files, reached, of_call))
     return Lists(files, reached, rest, of_call, [it for it in every if it not in of_call], names)
 

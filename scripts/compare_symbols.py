@@ -7,7 +7,7 @@ and UPC; Code 128 data of one code set; QR data of one mode, with its version, l
 
 The labels are the same in every run: all five symbologies, every error correction level, mask and QR version from 1 to
 10, short data and the longest that fits, control characters, all 256 bytes, with escapes and without, at 2, 3 and 4
-pixels a module. For zbarimg pnmpad puts white above and below, which a linear label lacks, and pnmtopng makes the PNG.
+pixels a module. For zbarimg there is white above and below, which a linear label lacks.
 
 The last line is `N labels: R read back, S of T as zint draws them`. Any other label is printed with its line, and the
 status is then 1, as where there are no labels. In each run both comparisons are shown a wrong case that they have to
@@ -17,18 +17,17 @@ third-party program missing."""
 import dataclasses
 import os
 import random
-import re
 import shutil
 import subprocess
 import sys
 import tempfile
 
 import sources
+from pictures import DIGITS, Label, box_of, gray, pictures_of, with_check_digit
 
-TOOLS = ("zbarimg", "pnmpad", "pnmtopng", "zint")
+TOOLS = ("zbarimg", "zint")
 # The reader that zbarimg has for each symbology. It reads UPC-A as the EAN-13 of the same bars.
 READERS = {"ean13": "ean13", "ean8": "ean8", "upca": "ean13", "code128": "code128", "qr": "qrcode"}
-DIGITS = "0123456789"
 LETTERS = "ABCDEFGHIJKLMNOPQRSTUVWXYZ"
 ALPHANUMERIC = f"{DIGITS}{LETTERS} $%*+-./:"
 # The most digits, alphanumeric characters and bytes that versions 1, 5 and 10 hold at each level (ISO/IEC 18004,
@@ -45,42 +44,6 @@ MOST = (
     (10, 20, 35, 50, 64, 84, 93, 122, 143, 174),
     (7, 14, 24, 34, 44, 58, 64, 84, 98, 119),
 )
-
-
-@dataclasses.dataclass(frozen=True)
-class Label:
-    """One label: its line's head, the data, what a reader must return, how the run is set, zint's arguments if any."""
-
-    head: str
-    data: bytes
-    full: bytes
-    scale: int
-    escapes: bool = False
-    zint: tuple = ()
-
-    def line(self):
-        return self.head.encode() + b" " + (escaped(self.data) if self.escapes else self.data) + b"\n"
-
-
-def escaped(data):
-    """The data as units of `--escapes`, in each of their forms."""
-    units = []
-    for place, byte in enumerate(data):
-        if byte == 0x5C:
-            units.append(b"\\\\")
-        elif byte == 0x0A and place % 2 == 0:
-            units.append(b"\\n")
-        elif byte < 0x20 or byte >= 0x7F:
-            units.append((b"\\x%02x" if place % 3 else b"\\x%02X") % byte)
-        else:
-            units.append(bytes([byte]))
-    return b"".join(units)
-
-
-def with_check_digit(digits):
-    """The digits and their check digit (ISO/IEC 15420)."""
-    total = sum(int(digit) * (3 if place % 2 == 0 else 1) for place, digit in enumerate(reversed(digits)))
-    return digits + str(-total % 10)
 
 
 def ean_and_upc(draw):
@@ -168,25 +131,11 @@ def all_labels():
     return [label for part in parts for label in part(draw)]
 
 
-def pictures_of(program, labels, *options):
-    """The pictures of a run over these labels: its output, cut before each line `P1`."""
-    lines = b"".join(label.line() for label in labels)
-    ran = subprocess.run([program, *options], input=lines, capture_output=True)
-    pictures = [b"P1\n" + rest for rest in ran.stdout.split(b"P1\n")[1:]]
-    if ran.returncode != 0 or len(pictures) != len(labels):
-        found = f"status {ran.returncode} and {len(pictures)} pictures"
-        sys.exit(f"{len(labels)} labels gave {found}\n{ran.stderr.decode()}")
-    return pictures
-
-
-def write_png(picture, scale, path):
-    """Writes a picture with ten modules of white above and below as PNG."""
-    rows = str(10 * scale)
-    how = {"capture_output": True, "check": True}
-    padded = subprocess.run(["pnmpad", "-white", "-top", rows, "-bottom", rows], input=picture, **how)
-    png = subprocess.run(["pnmtopng", "-quiet"], input=padded.stdout, **how)
+def write_picture(pixels, scale, path):
+    """Writes a picture with ten modules of white above and below as PGM."""
+    rows = gray(pixels, 10 * scale)
     with open(path, "wb") as file:
-        file.write(png.stdout)
+        file.write(b"P5\n%d %d\n255\n" % rows.shape[::-1] + rows.tobytes())
 
 
 def reading_of(path, symbology):
@@ -201,29 +150,24 @@ def reading_of(path, symbology):
 
 def not_read_back(program, labels, folder):
     """The labels that are not read back, each with what is read."""
-    found, path = [], os.path.join(folder, "label.png")
+    found, path = [], os.path.join(folder, "label.pgm")
     for scale, escapes in sorted({(label.scale, label.escapes) for label in labels}):
         group = [label for label in labels if (label.scale, label.escapes) == (scale, escapes)]
         options = ["--scale", str(scale)] + (["--escapes"] if escapes else [])
         for label, picture in zip(group, pictures_of(program, group, *options)):
-            write_png(picture, scale, path)
+            write_picture(picture, scale, path)
             reading = reading_of(path, label.head.split(",")[0])
             if reading != label.full:
                 found.append(f"scale {scale}, {label.line()!r}: read as {reading!r}")
     return found
 
 
-def rows_of_ours(picture):
+def rows_of_ours(pixels):
     """The rows of modules of a picture at one pixel a module, without its quiet zone, as texts of 0 and 1."""
-    _, header, rest = picture.split(b"\n", 2)
-    width, height = map(int, header.split())
-    pixels = rest.replace(b"\n", b"").decode()
-    rows = [pixels[start : start + width] for start in range(0, width * height, width)]
-    left = min(row.index("1") for row in rows if "1" in row)
-    right = max(row.rindex("1") for row in rows if "1" in row)
-    # Of a linear symbol all rows are the same; a QR symbol has as much white above and below as at its sides.
-    inner = rows[:1] if len(set(rows)) == 1 else rows[left : height - left]
-    return [row[left : right + 1] for row in inner]
+    left, top, right, bottom = box_of(pixels)
+    symbol = pixels[top:bottom, left:right]
+    is_linear = (symbol == symbol[0]).all()
+    return ["".join(map(str, row)) for row in (symbol[:1] if is_linear else symbol)]
 
 
 def rows_of_zint(arguments, width):
@@ -244,13 +188,12 @@ def difference(label, picture):
     return f"{label.line()!r}: {sizes}, {wrong} differ"
 
 
-def with_turned_module(picture):
+def with_turned_module(pixels):
     """A picture of a QR symbol with the module in its middle turned."""
-    head, size, rows = picture.split(b"\n", 2)
-    places = [match.start() for match in re.finditer(rb"[01]", rows)]
-    middle = places[len(places) // 2]
-    turned = b"1" if rows[middle : middle + 1] == b"0" else b"0"
-    return b"\n".join((head, size, rows[:middle] + turned + rows[middle + 1 :]))
+    height, width = pixels.shape
+    turned = pixels.copy()
+    turned[height // 2, width // 2] ^= 1
+    return turned
 
 
 def not_seen(program, folder):

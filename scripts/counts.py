@@ -11,14 +11,14 @@ program, crates/labels/out/labels.
 """
 
 import glob
+import importlib
 import os
 import re
 import subprocess
 import sys
 
-import antt
-import compare_symbols
 import pages
+import reader
 import sources
 import steps
 
@@ -56,30 +56,31 @@ def count_tests(top, folder):
     return int(ran.stdout.split()[-1])
 
 
-def counts_of_crate(top, crate):
+def counts_of_crate(top, crate, files):
     """The names and numbers of a crate: its tests, edits, worked values and stored run."""
     folder = os.path.join(top, "crates", crate)
-    code = [sources.blanked(sources.read(path)) for path in sources.files_below(f"{folder}/src", ".rt")]
-    yield f"tests of {crate}", sum(len(re.findall(r"#\[test\]", text)) for text in code)
+    items = [one for file in files if (file.crate, file.part) == (crate, "src") for one in file.declarations]
+    yield f"tests of {crate}", sum("#[test]" in "".join(it.text for it in one.attributes) for one in items)
     for name, what in FOLDERS_OF_EDITS.items():
-        files = os.listdir(f"{folder}/{name}") if os.path.isdir(f"{folder}/{name}") else []
-        strange = [file for file in files if not file.endswith(".edit")]
+        edits = os.listdir(f"{folder}/{name}") if os.path.isdir(f"{folder}/{name}") else []
+        strange = [file for file in edits if not file.endswith(".edit")]
         if strange:
             sys.exit(f"crates/{crate}/{name} has {', '.join(strange)}, which no script reads")
-        yield f"{what} of {crate}", len(files)
-    proofs = antt.files_of(top, crate, "proofs")
-    yield f"worked values of {crate}", sum(one.is_worked() for file in proofs for one in file.definitions)
+        yield f"{what} of {crate}", len(edits)
+    proofs = [file for file in files if (file.crate, file.part) == (crate, "proofs")]
+    yield f"worked values of {crate}", sum(one.worked_values() for file in proofs for one in file.declarations)
     yield f"stored runs of {crate}", len(glob.glob(f"{folder}/stdout"))
 
 
 def counts_of_text(top):
     """The names and numbers that the text of the repository gives."""
     crates = sources.crates_of(top)
+    files = reader.files_of(top, crates, "src", "proofs")
     yield "steps of quick", ", ".join(steps.QUICK)
     yield "steps of built", ", ".join(steps.BUILT)
     yield "crates", len(crates)
     for crate in crates:
-        yield from ((name, number) for name, number in counts_of_crate(top, crate) if number)
+        yield from ((name, number) for name, number in counts_of_crate(top, crate, files) if number)
     for folder in TESTS:
         yield folder, count_tests(top, folder)
     texts = pages.pages_of(top)
@@ -88,6 +89,8 @@ def counts_of_text(top):
     yield from ((f"blocks of {language}", languages.count(language)) for language in sorted(pages.LANGUAGES))
     yield "terms of the glossary", len(list(pages.terms_of(texts[pages.GLOSSARY])))
     yield "manuals", len(glob.glob(f"{top}/man/*.[13]"))
+    # It needs numpy, which Debian's Python has; gate.py, which reads this file, may be run by another one.
+    compare_symbols = importlib.import_module("compare_symbols")
     yield "labels to compare", len(compare_symbols.all_labels())
 
 

@@ -14,7 +14,7 @@
 # the system calls of one run, without those of a run over no line. Every tool writes to /dev/null.
 #
 # --calls prints the table of the calls of the C library, beside those of libqrencode, libzint and qrcodegen (packages
-# libqrencode-dev, libzint-dev, libqrcodegen-dev): the instructions of 11 calls without those of one, divided by 10.
+# libqrencode-dev, libzint-dev, libqrcodegen-dev): a tenth of the instructions of ten calls, after one that is not counted.
 # LIBRARY is crates/labels_c/out/liblabels_c.a where none is given. With --check it counts liblabels alone.
 #
 # --check counts for `labels` alone, and compares each row with these tables (or those in FILE). Status 1 where a row
@@ -271,18 +271,22 @@ sees_wrong_counts() {
     [ "$found" -eq 2 ] && [ "$(grep -c '^FAILS' said)" -eq 2 ]
 }
 
-# What one call costs, by a program that makes the call $2 of the label $3 as often as it is told.
-by_call() {
-    local one many
-    one=$(instructions_of "$1" "$2" "$3" 1)
-    many=$(instructions_of "$1" "$2" "$3" 11)
-    awk -v one="$one" -v many="$many" 'BEGIN { printf "%d", (many - one) / 10 + 0.5 }'
+# Counts the calls that the words after the program $1 name, each a call and a label, into the file `counted`: a line with
+# both and what one call takes. The program has callgrind write a file for each pair, which counts ten calls.
+count_calls() {
+    rm -f counts.*
+    valgrind --tool=callgrind --callgrind-out-file=counts "$@" > said 2>&1 || stop "no count of: $*, $(tail -n 1 said)"
+    awk '/^desc: Trigger: Client Request: / { name = $5 " " $6 }
+        /^summary: / { printf "%s %d\n", name, $2 / 10 + 0.5 }' counts.* >> counted
 }
+
+# The count of the call $1 for the label $2.
+counted() { awk -v name="$1 $2" '$1 " " $2 == name { print $3; found = 1 } END { exit !found }' counted; }
 
 # A row of the call $1 for the label $2, which the table names $3, beside the libraries after it.
 call_row() {
     local ours name="\`$1\`, $3" row library
-    ours=$(by_call ./count_calls "$1" "$2")
+    ours=$(counted "$1" "$2") || stop "no count of: $1 $2"
     if [ "$mode" = check ]; then
         compare "$name" "$ours"
         return
@@ -290,7 +294,7 @@ call_row() {
     row="| $name | $(rounded <<< "$ours" | shown) |"
     for library in libqrencode libzint qrcodegen; do
         if [[ " ${*:4} " = *" $library "* ]]; then
-            row+=" $(by_call ./count_others "$library" "$2" | rounded | shown) |"
+            row+=" $(counted "$library" "$2" | rounded | shown) |"
         else
             row+=' - |'
         fi
@@ -300,10 +304,16 @@ call_row() {
 
 # The calls of the library: modules against modules, then what is ours alone.
 calls_table() {
-    local tests=$top/lib/tests
+    local tests=$top/lib/tests call label pairs=()
+    for call in labels_symbol labels_draw labels_line; do
+        for label in ean13 code128 qr-34 qr-200; do pairs+=("$call" "$label"); done
+    done
     gcc -O2 -I "$top/lib" "$tests/count_calls.c" "$top/lib/labels.c" "$labels" -o count_calls || stop 'gcc failed'
+    count_calls ./count_calls "${pairs[@]}"
     if [ "$mode" = table ]; then
         gcc -O2 "$tests/count_others.c" -lqrencode -lzint -lqrcodegen -o count_others || stop 'gcc failed'
+        count_calls ./count_others libzint ean13 libzint code128 libzint qr-34 libzint qr-200 \
+            libqrencode qr-34 libqrencode qr-200 qrcodegen qr-34 qrcodegen qr-200
         printf '| Call | liblabels | libqrencode | libzint | qrcodegen |\n|---|---|---|---|---|\n'
     fi
     call_row labels_symbol ean13 'EAN-13' libzint

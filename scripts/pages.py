@@ -14,10 +14,12 @@ The last line is `N pages, B blocks, T terms, F faults`. The status is 1 where t
 """
 
 import glob
+import itertools
 import os
 import re
 import sys
 
+import reader
 import run_recipes
 import sources
 
@@ -129,25 +131,33 @@ def faults_of_glossary(top, terms):
         yield 1, "no term"
 
 
-def code_of(text):
-    """The text without white space, and without the commas that a formatter puts last."""
-    return re.sub(r"\s+|,(?=\s*([}\])]|$))", "", text)
+def words_of(tokens):
+    """The words of code, without the commas that a formatter puts last."""
+    words = [token.text for token in tokens]
+    return [word for word, after in zip(words, [*words[1:], ")"]) if word != "," or after not in (")", "]", "}")]
+
+
+def place_of(words, line, start):
+    """The index in words after a line of words, from a start on; nothing where the line is not there."""
+    places = (at for at in range(start, len(words)) if words[at : at + len(line)] == line)
+    return next((at + len(line) for at in places), None)
 
 
 def faults_of_example(name, page, blocks, tests):
     """What is wrong with a crate's page: its length, and each line that its test does not have in its place."""
     if page.count("\n") > LONGEST:
         yield 1, f"{page.count(chr(10))} lines, and at most {LONGEST} are wanted"
-    function = re.search(rf"^fn page_of_{name}\(.*?^}}", tests, re.M | re.S)
-    body, place, is_empty = code_of(function[0] if function else ""), 0, True
+    words, place, is_empty = words_of(tests.get(f"page_of_{name}", ())), 0, True
     for number, language, code, _ in blocks:
-        for line in (code or "").split("\n") if language == "rust" else ():
-            if line.strip() and not line.strip().startswith(("use ", "//")):
-                is_empty, found = False, body.find(code_of(line), place)
-                if found < 0:
-                    yield number, f"page_of_{name} of crates/tests/src/pages.rt lacks: {line.strip()}"
-                else:
-                    place = found + len(code_of(line))
+        tokens = reader.tokens_of_text(code) if language == "rust" and code else []
+        for line, of_line in itertools.groupby(tokens, lambda token: token.line):
+            wanted = words_of(of_line)
+            if wanted[0] != "use":
+                is_empty, found = False, place_of(words, wanted, place)
+                place = found or place
+                if found is None:
+                    shown = code.split("\n")[line - 1].strip()
+                    yield number, f"page_of_{name} of crates/tests/src/pages.rt lacks: {shown}"
     if is_empty and name not in WITHOUT_EXAMPLE:
         yield 1, "no example"
 
@@ -155,7 +165,8 @@ def faults_of_example(name, page, blocks, tests):
 def main():
     top = sources.parser_of(__doc__).parse_args().top
     pages = pages_of(top)
-    tests, faults, count = sources.read(os.path.join(top, "crates/tests/src/pages.rt")), [], 0
+    (file,) = reader.files_at(top, [os.path.join(top, "crates/tests/src/pages.rt")])
+    tests, faults, count = {one.name: one.tokens for one in file.declarations}, [], 0
     terms = list(terms_of(pages[GLOSSARY]))
     for page, text in pages.items():
         blocks = list(blocks_of(text))

@@ -13,6 +13,7 @@ The last line is `N labels by M drivers: all bars exact`. Status 1: a bar is wro
 arguments; 77: a program is missing.
 """
 
+import importlib
 import os
 import re
 import shutil
@@ -26,8 +27,11 @@ from typing import Callable, Iterator, Optional, Sequence
 import numpy
 
 TOP = Path(__file__).resolve().parent.parent
-sys.path.insert(0, str(TOP / "tools"))
+sys.path[:0] = [str(TOP / "tools"), str(TOP / "tools/tests")]
 sys.dont_write_bytecode = True
+# What the tests of the tools read ZPL by.
+jobs = importlib.import_module("jobs")
+JobError = jobs.JobError
 
 DRIVERS = "/usr/share/cups/drv/sample.drv"
 MISSING = 77
@@ -48,10 +52,6 @@ qr https://example.com/7
 """
 Dots = numpy.ndarray
 NEAR = 320  # dots by which a driver may move a page: its margins
-
-
-class JobError(Exception):
-    """What is wrong with what a driver sends."""
 
 
 @dataclass(frozen=True)
@@ -78,40 +78,10 @@ def rows_of(data: bytes, size: int) -> Dots:
 def pages_of_zpl(job: bytes) -> Iterator[Dots]:
     """Yields the pages of rastertolabel's ZPL: each a graphic with run lengths."""
     for total, size, text in re.findall(rb"~DGR:CUPS\.GRF,(\d+),(\d+),\n([^~^]*)", job):
-        rows = zpl_rows(text.decode(), 2 * int(size))
-        if len(rows) * int(size) != int(total):
-            raise JobError(f"{len(rows)} rows of {total!r} bytes in all")
-        yield rows_of(bytes.fromhex("".join(rows)), int(size))
-
-
-def zpl_rows(text: str, width: int) -> list[str]:
-    """Returns the rows of a graphic in hexadecimal."""
-    rows: list[str] = []
-    row = ""
-    often = 0
-    for letter in text.replace("\n", ""):
-        if "G" <= letter <= "Y":
-            often += ord(letter) - ord("F")
-        elif "g" <= letter <= "z":
-            often += 20 * (ord(letter) - ord("f"))
-        else:
-            row += zpl_part(letter, often, row, rows, width)
-            often = 0
-        if len(row) >= width:
-            rows.append(row[:width])
-            row = ""
-    return rows
-
-
-def zpl_part(letter: str, often: int, row: str, rows: Sequence[str], width: int) -> str:
-    """Returns what a letter adds to a row."""
-    if letter in "0123456789ABCDEF":
-        return letter * (often or 1)
-    if letter in ",!":
-        return ("0" if letter == "," else "F") * (width - len(row))
-    if letter == ":":
-        return rows[-1] if rows else "0" * width
-    raise JobError(f"{letter!r} in a graphic")
+        data = jobs.data_of_run_lengths(text.replace(b"\n", b""), int(size))
+        if len(data) != int(total):
+            raise JobError(f"{len(data)} of {total!r} bytes")
+        yield rows_of(data, int(size))
 
 
 def pages_of_epl(job: bytes) -> Iterator[Dots]:

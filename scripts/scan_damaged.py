@@ -27,8 +27,10 @@ from collections import Counter
 from dataclasses import dataclass
 from typing import Callable, Iterator
 
+import numpy
+
 import sources
-from compare_symbols import DIGITS, Label, pictures_of, with_check_digit
+from pictures import DIGITS, Label, box_of, gray, pictures_of, with_check_digit
 
 try:
     import zbar
@@ -66,13 +68,16 @@ TURNED = "modules turned"
 TURNED_IN_ROWS = "modules turned in each row"
 
 
-@dataclass(frozen=True)
+Pixels = numpy.ndarray
+
+
+@dataclass(frozen=True, eq=False)
 class Picture:
-    """A label as drawn: rows of pixels, 1 where dark; where its symbol begins and ends; and what it is."""
+    """A label as drawn: its pixels, 1 where dark; where its symbol begins and ends; and what it is."""
 
     symbology: str
     full: bytes
-    rows: tuple[bytes, ...]
+    pixels: Pixels
     left: int
     top: int
     right: int
@@ -89,17 +94,9 @@ class Picture:
     def ec_codewords(self) -> int:
         return EC_CODEWORDS[self.level][self.version - 1]
 
-
-def picture_of(symbology: str, full: bytes, text: bytes, version: int = 0, level: str = "") -> Picture:
-    """A picture of the program's plain PBM; a bar code is as high as it, a QR symbol has a quiet zone on each side."""
-    _, header, rest = text.split(b"\n", 2)
-    width, height = map(int, header.split())
-    pixels = bytes(byte & 1 for byte in rest if byte in b"01")
-    rows = tuple(pixels[start : start + width] for start in range(0, width * height, width))
-    dark = [number for number, row in enumerate(rows) if 1 in row]
-    left = min(row.index(1) for row in rows if 1 in row)
-    right = max(row.rindex(1) for row in rows if 1 in row) + 1
-    return Picture(symbology, full, rows, left, dark[0], right, dark[-1] + 1, version, level)
+    def nothing(self) -> Pixels:
+        """A mask of no pixel."""
+        return numpy.zeros_like(self.pixels)
 
 
 def bar_codes(draw: random.Random, count: int) -> Iterator[Label]:
@@ -164,39 +161,39 @@ def block_of(place: int, version: int, level: str) -> int:
     return (place - data_codewords) % blocks
 
 
-Pixels = list[tuple[int, int]]
-
-
 @dataclass(frozen=True)
 class Damage:
-    """A kind of damage: what it is called, and the pixels of a picture that it turns."""
+    """A kind of damage: what it is called, and the mask of the pixels of a picture that it turns."""
 
     name: str
-    pixels: Callable[[Picture, random.Random], Pixels]
+    mask: Callable[[Picture, random.Random], Pixels]
 
 
-def module(picture: Picture, x: int, y: int) -> Pixels:
-    """The pixels of a module of a QR symbol."""
-    left = picture.left + x * SCALE
-    top = picture.top + y * SCALE
-    return [(column, row) for row in range(top, top + SCALE) for column in range(left, left + SCALE)]
+def turn_modules(mask: Pixels, picture: Picture, places: list[tuple[int, int]]) -> None:
+    """Sets the pixels of modules of a QR symbol."""
+    for x, y in places:
+        left, top = picture.left + x * SCALE, picture.top + y * SCALE
+        mask[top : top + SCALE, left : left + SCALE] = 1
 
 
-def bars(picture: Picture, columns: list[int], top: int, bottom: int) -> Pixels:
-    """The pixels of these modules of a bar code, from one row of pixels to another."""
-    lefts = [picture.left + column * SCALE for column in columns]
-    return [(x, y) for y in range(top, bottom) for left in lefts for x in range(left, left + SCALE)]
+def turn_bars(mask: Pixels, picture: Picture, columns: list[int], top: int, bottom: int) -> None:
+    """Sets the pixels of modules of a bar code, from one row of pixels to another."""
+    for column in columns:
+        left = picture.left + column * SCALE
+        mask[top:bottom, left : left + SCALE] = 1
 
 
 def turned_modules(count: int) -> Damage:
     """Turns modules: of a bar code in all its rows, of a QR symbol anywhere."""
 
     def damage(picture: Picture, draw: random.Random) -> Pixels:
-        side = picture.columns
-        if picture.symbology != "qr":
-            return bars(picture, draw.sample(range(side), count), picture.top, picture.bottom)
-        places = draw.sample(range(side * side), count)
-        return [pixel for place in places for pixel in module(picture, place % side, place // side)]
+        side, mask = picture.columns, picture.nothing()
+        if picture.symbology == "qr":
+            places = [(place % side, place // side) for place in draw.sample(range(side * side), count)]
+            turn_modules(mask, picture, places)
+        else:
+            turn_bars(mask, picture, draw.sample(range(side), count), picture.top, picture.bottom)
+        return mask
 
     return Damage(TURNED, damage)
 
@@ -205,10 +202,10 @@ def turned_in_each_row(count: int) -> Damage:
     """Turns modules of a bar code, other ones in each row of modules."""
 
     def damage(picture: Picture, draw: random.Random) -> Pixels:
-        pixels = []
+        mask = picture.nothing()
         for top in range(picture.top, picture.bottom, SCALE):
-            pixels += bars(picture, draw.sample(range(picture.columns), count), top, top + SCALE)
-        return pixels
+            turn_bars(mask, picture, draw.sample(range(picture.columns), count), top, top + SCALE)
+        return mask
 
     return Damage(TURNED_IN_ROWS, damage)
 
@@ -217,8 +214,9 @@ def wrong_pixels(count: int) -> Damage:
     """Turns pixels anywhere in the picture."""
 
     def damage(picture: Picture, draw: random.Random) -> Pixels:
-        width = len(picture.rows[0])
-        return [(place % width, place // width) for place in draw.sample(range(width * len(picture.rows)), count)]
+        mask = picture.nothing()
+        mask.flat[draw.sample(range(mask.size), count)] = 1
+        return mask
 
     return Damage("wrong pixels", damage)
 
@@ -227,32 +225,22 @@ def wrong_codewords(count: int) -> Damage:
     """Spoils this many codewords in each block of a QR symbol."""
 
     def damage(picture: Picture, draw: random.Random) -> Pixels:
-        places = codeword_places(picture.version)
-        pixels = []
+        places, mask = codeword_places(picture.version), picture.nothing()
         for block in range(BLOCKS[picture.level][picture.version - 1]):
             own = [n for n in range(len(places)) if block_of(n, picture.version, picture.level) == block]
             for number in draw.sample(own, count):
-                for x, y in draw.sample(places[number], draw.randrange(1, 9)):
-                    pixels += module(picture, x, y)
-        return pixels
+                turn_modules(mask, picture, draw.sample(places[number], draw.randrange(1, 9)))
+        return mask
 
     return Damage("wrong codewords", damage)
 
 
-def damaged(picture: Picture, pixels: Pixels) -> list[bytes]:
-    """The picture's rows with these pixels turned."""
-    rows = [bytearray(row) for row in picture.rows]
-    for x, y in pixels:
-        rows[y][x] ^= 1
-    return [bytes(row) for row in rows]
-
-
-def positions(rows: list[bytes]) -> Iterator[list[bytes]]:
+def positions(pixels: Pixels) -> Iterator[Pixels]:
     """The picture turned by a quarter, a half and three quarters, and each of the four in a mirror."""
-    for _ in range(4):
-        rows = [bytes(column) for column in zip(*rows[::-1])]
-        yield rows
-        yield [row[::-1] for row in rows]
+    for quarters in range(1, 5):
+        turned = numpy.rot90(pixels, -quarters)
+        yield turned
+        yield numpy.fliplr(turned)
 
 
 def turned_limit(picture: Picture) -> int:
@@ -265,7 +253,7 @@ def turned_limit(picture: Picture) -> int:
 def within(picture: Picture) -> list[Damage]:
     """The damages up to the limits."""
     limit = turned_limit(picture)
-    pixels_of_a_module = SCALE * (SCALE if picture.symbology == "qr" else len(picture.rows))
+    pixels_of_a_module = SCALE * (SCALE if picture.symbology == "qr" else len(picture.pixels))
     damages = [turned_modules(count) for count in sorted({1, (limit + 1) // 2, limit})]
     damages.append(wrong_pixels((limit + 1) * pixels_of_a_module - 1))
     if picture.symbology == "qr":
@@ -284,16 +272,6 @@ def beyond(picture: Picture) -> list[Damage]:
     return damages
 
 
-def framed(rows: list[bytes]) -> tuple[int, int, bytes]:
-    """Width, height and grey pixels of a picture with white around it."""
-    width = len(rows[0]) + 2 * MARGIN
-    white = bytes([255]) * width
-    side = bytes([255]) * MARGIN
-    light = bytes.maketrans(b"\0\1", b"\xff\0")
-    lines = [white] * MARGIN + [side + row.translate(light) + side for row in rows] + [white] * MARGIN
-    return width, len(lines), b"".join(lines)
-
-
 class Scanners:
     """zbar and zxing-cpp, each set to all five symbologies."""
 
@@ -305,14 +283,13 @@ class Scanners:
         kinds = zxingcpp.BarcodeFormat
         self.formats = kinds.EAN13 | kinds.EAN8 | kinds.UPCA | kinds.Code128 | kinds.QRCode
 
-    def read(self, rows: list[bytes]) -> list[set[bytes]]:
-        """What each scanner reads in a picture."""
-        width, height, pixels = framed(rows)
-        image = zbar.Image(width, height, "Y800", pixels)
+    def read(self, pixels: Pixels) -> list[set[bytes]]:
+        """What each scanner reads in a picture, with white around it."""
+        grays = gray(pixels, MARGIN, MARGIN)
+        image = zbar.Image(grays.shape[1], grays.shape[0], "Y800", grays.tobytes())
         self.zbar.scan(image)
         by_zbar = {symbol.data.encode() for symbol in image}
-        grey = memoryview(pixels).cast("B", [height, width])
-        found = zxingcpp.read_barcode(grey, formats=self.formats)
+        found = zxingcpp.read_barcode(grays, formats=self.formats)
         return [by_zbar, {found.bytes} if found else set()]
 
 
@@ -328,10 +305,10 @@ def judge(full: bytes, found: set[bytes]) -> str:
     return "read" if {plain(data) for data in found} == {plain(full)} else "misread"
 
 
-def scan(scanners: Scanners, picture: Picture, rows: list[bytes], what: str) -> list[str]:
+def scan(scanners: Scanners, picture: Picture, pixels: Pixels, what: str) -> list[str]:
     """What each scanner made of a picture. Prints each misreading of what has a name."""
     results = []
-    for name, found in zip(("zbar", "zxing-cpp"), scanners.read(rows)):
+    for name, found in zip(("zbar", "zxing-cpp"), scanners.read(pixels)):
         result = judge(picture.full, found)
         if result == "misread" and what in (TURNED, TURNED_IN_ROWS) and picture.symbology != "qr":
             result = "guessed"
@@ -341,30 +318,29 @@ def scan(scanners: Scanners, picture: Picture, rows: list[bytes], what: str) -> 
     return results
 
 
-def other_labels(program: str) -> Iterator[tuple[Picture, list[bytes]]]:
+def other_labels(program: str) -> Iterator[tuple[Picture, Pixels]]:
     """A label, and its picture with two modules turned, which is the picture of another label."""
     numbers = [b"2431309135250", b"7452309135250"]
     drawn = pictures_of(program, [Label("ean13", number, number, SCALE) for number in numbers], "--scale", str(SCALE))
-    pictures = [picture_of("ean13", number, text) for number, text in zip(numbers, drawn)]
+    pictures = [Picture("ean13", number, pixels, *box_of(pixels)) for number, pixels in zip(numbers, drawn)]
     for picture, other in (pictures, pictures[::-1]):
-        yield picture, list(other.rows)
+        yield picture, other.pixels
 
 
-def all_pictures(program: str, draw: random.Random) -> list[Picture]:
+def all_pictures(program: str, draw: random.Random) -> Iterator[Picture]:
     """The labels, as the program draws them."""
     bar_labels = list(bar_codes(draw, 100))
-    drawn = pictures_of(program, bar_labels, "--scale", str(SCALE))
-    found = [picture_of(label.head.split(",")[0], label.full, text) for label, text in zip(bar_labels, drawn)]
     symbols = list(qr_symbols(draw, 2))
-    drawn = pictures_of(program, [label for label, _, _ in symbols], "--scale", str(SCALE))
-    for (label, version, level), text in zip(symbols, drawn):
-        found.append(picture_of("qr", label.full, text, version, level))
-    return found
+    labels = [*bar_labels, *(label for label, _, _ in symbols)]
+    kinds = [(0, "")] * len(bar_labels) + [(version, level) for _, version, level in symbols]
+    drawn = pictures_of(program, labels, "--scale", str(SCALE))
+    for label, pixels, kind in zip(labels, drawn, kinds):
+        yield Picture(label.head.split(",")[0], label.full, pixels, *box_of(pixels), *kind)
 
 
 def is_caught(scanners: Scanners, program: str) -> bool:
     """Whether both scanners are caught where a damaged label is another one."""
-    results = [scan(scanners, picture, rows, "") for picture, rows in other_labels(program)]
+    results = [scan(scanners, picture, pixels, "") for picture, pixels in other_labels(program)]
     return results == [["misread"] * 2] * 2
 
 
@@ -376,15 +352,15 @@ def main() -> int:
     unread = 0
     within_limits: Counter[str] = Counter()
     beyond_limits: Counter[str] = Counter()
-    for picture in all_pictures(program, draw):
-        unread += "read" not in scan(scanners, picture, list(picture.rows), "as drawn")
-        pictures = [("another position", rows) for rows in positions(list(picture.rows))]
-        pictures += [(one.name, damaged(picture, one.pixels(picture, draw))) for one in within(picture)]
-        for what, rows in pictures:
-            within_limits.update(scan(scanners, picture, rows, what))
+    for picture in list(all_pictures(program, draw)):
+        unread += "read" not in scan(scanners, picture, picture.pixels, "as drawn")
+        pictures = [("another position", pixels) for pixels in positions(picture.pixels)]
+        pictures += [(one.name, picture.pixels ^ one.mask(picture, draw)) for one in within(picture)]
+        for what, pixels in pictures:
+            within_limits.update(scan(scanners, picture, pixels, what))
         total += len(pictures)
         for one in beyond(picture):
-            beyond_limits.update(scan(scanners, picture, damaged(picture, one.pixels(picture, draw)), ""))
+            beyond_limits.update(scan(scanners, picture, picture.pixels ^ one.mask(picture, draw), ""))
     caught = is_caught(scanners, program)
     if not caught:
         print("a damaged label that is another label was not caught")

@@ -1,27 +1,14 @@
-"""Reads the text of the crates: names of crates, files, items and functions of the code. No tool of the kit is needed.
-
-Offsets into a text and into its `blanked` form are the same, so what is found in one is cut out of the other.
-"""
+"""What the scripts share: the repository, its crates and files, and how a command is run."""
 
 import argparse
 import glob
 import os
-import re
 import subprocess
 import sys
-from dataclasses import dataclass, field
 
 # Debian's Python, which has the modules that the tools need, whatever is first on the path.
 PYTHON = "/usr/bin/python3"
 TOP = os.path.dirname(os.path.dirname(os.path.abspath(__file__)))
-# A comment, a text, or a character: what may hold a bracket that is none.
-OPAQUE = re.compile(r"""//[^\n]*|/\*.*?\*/|b?"(?:\\.|[^"\\])*"|b?'(?:\\[^\n']*'|\\''|[^'\\\n]')""", re.S)
-BRACKETS = {"(": ")", "[": "]", "{": "}"}
-ITEM = re.compile(
-    r"(?P<public>pub(?:\([a-z]+\))?\s+)?(?:default\s+)?(?:const\s+(?=fn))?"
-    r"(?P<kind>fn|struct|enum|trait|impl|mod|const|ghost|use|type|static)\b"
-)
-FUNCTION_WORD = re.compile(r"\b(requires|ensures)\b(?:\s+(\w+))?\s*(?=\{)|[\[({;]")
 
 
 def run(command, **more):
@@ -76,112 +63,9 @@ def read(path):
 
 
 def files_below(folder, ending):
-    """The files below a folder with this ending, sorted by path."""
+    """The files below a folder with this ending, or one of these, sorted by path."""
     found = []
     for where, folders, names in os.walk(folder):
         folders[:] = [name for name in folders if name not in ("out", "__pycache__")]
         found += [os.path.join(where, name) for name in names if name.endswith(ending)]
     return sorted(found)
-
-
-def blanked(text):
-    """The text with spaces in place of comments, texts and characters."""
-    return OPAQUE.sub(lambda match: re.sub(r"[^\n]", " ", match.group()), text)
-
-
-def after_bracket(text, at):
-    """The offset after the bracket that closes the one at an offset, in a blanked text."""
-    waiting = []
-    for place in range(at, len(text)):
-        if text[place] in BRACKETS:
-            waiting.append(BRACKETS[text[place]])
-        elif waiting and text[place] == waiting[-1]:
-            waiting.pop()
-            if not waiting:
-                return place + 1
-    return len(text)
-
-
-@dataclass
-class Item:
-    """An item of the code: its kind and name, its docstring, its text from head to end, and the parts of that."""
-
-    kind: str
-    name: str
-    start: int  # the offset at which it begins
-    docs: str
-    text: str
-    is_public: bool
-    head: str  # up to the body, without clauses
-    body: str  # what is between the braces; nothing where there are none
-    clauses: list = field(default_factory=list)  # of a function: ("requires" or "ensures", its lines)
-
-
-def docs_before(lines):
-    """The docstring that ends a list of lines, with attributes between it and the end, as one line."""
-    found = []
-    for line in reversed(lines):
-        if line.startswith("///"):
-            found.append(line.removeprefix("///").strip())
-        elif not line.startswith("#[") or found:
-            break
-    return " ".join(reversed(found))
-
-
-def end_of_item(blank, at):
-    """The offset of the body of the item that begins at an offset, that after the item, and its clauses as offsets."""
-    clauses, place = [], at
-    while True:
-        match = FUNCTION_WORD.search(blank, place)
-        if not match:
-            return len(blank), len(blank), clauses
-        if match.group(1):
-            place = after_bracket(blank, match.end())
-            clauses.append((match.group(1), match.start(), place))
-        elif match.group() == ";":
-            return match.start(), match.end(), clauses
-        elif match.group() == "{":
-            return match.start(), after_bracket(blank, match.start()), clauses
-        else:
-            place = after_bracket(blank, match.start())
-
-
-def name_of(kind, head):
-    """The name of an item, by its head: of an `impl` the head itself, without parameters."""
-    if kind == "impl":
-        return re.sub(r"\s+", " ", re.sub(r"^impl\s*(<.*?>(?=\s))?", "", head)).strip()
-    match = re.search(rf"\b{kind}\s+(\w+)", head)
-    return match.group(1) if match else ""
-
-
-def items_of(text):
-    """The items of a text, side by side: those of a file, or of the body of a trait or an `impl`."""
-    blank, items, place = blanked(text), [], 0
-    while match := ITEM.search(blank, place):
-        start, kind = match.start(), match.group("kind")
-        if kind == "use" or re.match(r"ghost\s+use\b", blank[match.start("kind") :]):
-            kind, body, clauses = "use", blank.index(";", start), []
-            end = body + 1
-        else:
-            body, end, clauses = end_of_item(blank, start)
-        head = text[start : min([body, *(begin for _, begin, _ in clauses)])]
-        items.append(
-            Item(
-                kind=kind,
-                name=name_of(kind, head),
-                start=start,
-                docs=docs_before([line.strip() for line in text[:start].rstrip().split("\n")]),
-                text=text[start:end],
-                is_public=bool(match.group("public")) and "(" not in match.group("public"),
-                head=head.strip(),
-                body=text[body + 1 : end - 1] if blank[body : body + 1] == "{" else "",
-                clauses=[(word, text[begin:stop]) for word, begin, stop in clauses],
-            )
-        )
-        place = end
-    return items
-
-
-def code_lines(text):
-    """The lines of a text that hold code: no blank lines, comments and attributes."""
-    return [line for line in text.split("\n") if line.strip() and not line.strip().startswith(("//", "#[", "#!["))]

@@ -19,7 +19,7 @@ QUICK = (
     "tools/tests without the program",
 )
 BUILT = (
-    "believed_rows.py --sample",
+    "believed_rows.py --sample --built",
     "tools/tests",
     "lib/tests",
     "compare_symbols.py",
@@ -32,7 +32,7 @@ BUILT = (
 # The steps whose last line is in scripts/counts.txt.
 COUNTED = (
     "believed_rows.py",
-    "believed_rows.py --sample",
+    "believed_rows.py --sample --built",
     "compare_symbols.py",
     "scan_damaged.py",
     "refuse_each_growth.sh",

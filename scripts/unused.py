@@ -10,88 +10,67 @@
   name of `ghost use` where a contract, a ghost item or an attribute has it; a trait of ours also where a function of
   it is called.
 - A function is used where its name is found in code outside of its own body, in its crate or, if it is `pub`, in any.
-  Tests, `main` and the functions of an `impl` of a trait are called by others.
+  Tests, `main`, exports to C and the functions of an `impl` of a trait are called by others.
 
-It reads text. Where two things have one name it may miss one that is unused. The status is 1 where something is found,
-a line for each; the last line says how much it looked at.
+Where two things have one name it may miss one that is unused. The status is 1 where something is found, a line for
+each; the last line says how much it looked at.
 """
 
 import functools
-import os
+import itertools
 import re
 import sys
 from collections import Counter
 from dataclasses import dataclass
 
-import antt
+import reader
 import sources
 
 READ_BY_CHECK = ("Answers", "Invariants", "Proof")
 # Traits of std that code imports for their methods: whether these are called is not looked at.
 TRAITS_OF_STD = {"Read", "Write", "BufRead", "Model", "Error"}
-RUST_USE = re.compile(r"(?P<head>(?:pub(?:\([a-z]+\))?\s+)?(?:ghost\s+)?use)\s+(?P<path>[^;]*);")
-GHOST = re.compile(r"\b(?:requires|ensures)\b(?:\s+\w+)?\s*(?=\{)|\bghost\s+(?!use\b)\w+\s*[:=]\s*(?=\{)|#!?(?=\[)")
 
 
-class CodeFile:
-    """A file of code: its text, and its imports, each with whether it is ghost and the text in which it has to be."""
-
-    def __init__(self, top, crate, path):
-        self.crate, self.path, self.imports = crate, os.path.relpath(path, top), []
-        self.text = sources.read(path)
-        for item in sources.items_of(self.text):
-            if item.kind == "use":
-                self.bring_in(RUST_USE.match(item.text), item.start, self.text)
-            elif item.kind in ("impl", "trait", "fn", "mod"):
-                for match in RUST_USE.finditer(sources.blanked(item.text)):
-                    self.bring_in(match, item.start + match.start(), item.text)
-
-    def bring_in(self, match, start, scope):
-        if match.group("head").startswith("pub"):
-            return
-        is_ghost = "ghost" in match.group("head")
-        path, place = " ".join(match.group("path").split()), f"{self.path}:{line_of(self.text, start)}"
-        names = [name for name in re.findall(r"(\w+)\s*(?=[,}]|$)", path) if name != "self"]
-        found = antt.imported(path, place) if is_ghost else [antt.Import(name, place) for name in names]
-        self.imports += [(one, is_ghost, scope) for one in found]
+def without_uses(tokens):
+    """The tokens of code that are in no import."""
+    is_use = False
+    for token in tokens:
+        is_use = is_use or (token.text == "use" and token.kind in ("Code", "Head"))
+        if not is_use:
+            yield token
+        is_use = is_use and token.text != ";"
 
 
-def line_of(text, start):
-    return text[:start].count("\n") + 1
+def attributes_in(tokens):
+    """The tokens of attributes of code, each attribute by itself."""
+    for at, token in enumerate(tokens):
+        if token.text == "#" and token.kind == "Code":
+            yield tokens[at : reader.after_bracket(tokens, at + 1 + (tokens[at + 1].text == "!"))]
 
 
-@functools.lru_cache(maxsize=None)
-def without_uses(text):
-    return RUST_USE.sub(" ", sources.blanked(text))
+def ghost_tokens(tokens, kinds=("Antt", "Text")):
+    """Of code: what is in contracts, ghost items and attributes."""
+    found = [token for token in without_uses(tokens) if token.kind in kinds]
+    return found + [token for attribute in attributes_in(tokens) for token in attribute]
 
 
 @functools.lru_cache(maxsize=None)
 def ghost_text(text):
-    """Of code: contracts, ghost items and attributes."""
-    blank, found = without_uses(text), []
-    for match in GHOST.finditer(blank):
-        found.append(blank[match.end() : sources.after_bracket(blank, match.end())])
-    return "\n".join(found)
+    """The same of a text, with the heads of clauses and items, as words."""
+    tokens = ghost_tokens(reader.tokens_of_text(text), ("Head", "Antt", "Text", "End"))
+    return " ".join(token.text for token in tokens)
 
 
 def cited_by_code(file):
     """The definitions and lemmas that a file of code cites: in contracts by imported names, in attributes by paths."""
-    ghost = ghost_text(file.text)
-    found = antt.cited(ghost, [one for one, is_ghost, _ in file.imports if is_ghost], {})
-    for crate, part, path in re.findall(r"\b(\w+)::(specs|proofs)((?:::[\w-]+)+)", ghost):
-        *module, name = path[2:].split("::")
-        found.append((file.crate if crate == "crate" else crate, part, ".".join(module), name))
+    imports = [one for one in file.imports if one.is_ghost]
+    found = reader.cited(ghost_tokens(file.tokens), imports, {})
+    for attribute in attributes_in(file.tokens):
+        text = "".join(token.text for token in attribute)
+        for crate, part, path in re.findall(r"\b(\w+)::(specs|proofs)((?:::[\w-]+)+)", text):
+            *module, name = path[2:].split("::")
+            found.append(reader.Key(file.crate if crate == "crate" else crate, part, ".".join(module), name))
     return found
-
-
-def read_tree(top):
-    """The files of specs/ and proofs/ of all crates, and those of their code."""
-    logic, code = [], []
-    for crate in sources.crates_of(top):
-        logic += antt.files_of(top, crate, "specs", "proofs")
-        paths = sources.files_below(os.path.join(top, "crates", crate, "src"), ".rt")
-        code += [CodeFile(top, crate, path) for path in paths]
-    return logic, code
 
 
 def checked_for_itself(file, cited_files):
@@ -99,61 +78,64 @@ def checked_for_itself(file, cited_files):
     if file.part == "specs":
         return []
     if "." in file.module and file.module.split(".")[-1] in READ_BY_CHECK:
-        return [one for one in file.definitions if one.is_public]
+        return [one for one in file.declarations if one.is_public]
     if re.search("Examples|Theorems", file.module):
-        return file.definitions
-    if (file.crate, file.part, file.module) in cited_files:
+        return file.declarations
+    if file.key() in cited_files:
         return []
-    return [one for one in file.definitions if one.is_worked()]
+    return [one for one in file.declarations if one.worked_values()]
 
 
 def unused_definitions(logic, code):
     """The definitions and lemmas that nothing in use cites."""
-    files = {(file.crate, file.part, file.module): file for file in logic}
+    files = {file.key(): file for file in logic}
     waiting = [key for file in code for key in cited_by_code(file)]
-    cited_files = {key[:3] for key in waiting}
-    cited_files |= {one.target[:3] for file in logic for one in file.imports if one.target}
+    cited = [*waiting, *(one.target for file in logic for one in file.imports if one.target)]
+    cited_files = {key._replace(name="") for key in cited}
     for file in logic:
-        waiting += antt.cited("\n".join(file.rest), file.imports, file.of_name)
+        waiting += reader.cited(file.rest, file.imports, file.of_name)
         waiting += [one.key for one in checked_for_itself(file, cited_files)]
     reached = set()
     while waiting:
-        *place, name = waiting.pop()
-        file = files.get(tuple(place))
-        one = file.of_name.get(name) if file else None
-        if one and one.place not in reached:
-            reached.add(one.place)
-            waiting += antt.cited(one.text(), file.imports, file.of_name)
-    return [one for file in logic for one in file.definitions if one.place not in reached]
+        key = waiting.pop()
+        file = files.get(key._replace(name=""))
+        one = file.of_name.get(key.name) if file else None
+        if one and one not in reached:
+            reached.add(one)
+            waiting += reader.cited(one.tokens, file.imports, file.of_name)
+    return [one for file in logic for one in file.declarations if one not in reached]
 
 
-def functions_of_traits(code):
-    """The functions of each trait of ours, by its name."""
-    traits = [item for file in code for item in sources.items_of(file.text) if item.kind == "trait"]
-    return {one.name: [it.name for it in sources.items_of(one.body) if it.kind == "fn"] for one in traits}
+def is_called(name, tokens):
+    """Whether tokens have a name after a point or two colons."""
+    return any(token.text == name and before.text in (".", ":") for before, token in zip(tokens, tokens[1:]))
 
 
-def is_used_in_code(name, text, traits):
-    """Whether an imported name of the code is in a text without imports, or is that of a trait that is called."""
-    if re.search(rf"\b{re.escape(name)}\b", text) or name in TRAITS_OF_STD:
-        return True
-    return any(re.search(rf"(?:\.|::){function}\b", text) for function in traits.get(name) or [])
+def unused_in_logic(file):
+    names = reader.names_in([*file.rest, *(token for one in file.declarations for token in one.tokens)])
+    return [one for one in file.imports if not reader.is_named_in(one.name, names)]
+
+
+def unused_in_code(scope, imports, traits):
+    """The names that are imported for some tokens of code and not used there."""
+    ghost_names, tokens = reader.names_in(ghost_tokens(scope)), list(without_uses(scope))
+    names = {token.text for token in tokens} | TRAITS_OF_STD
+    for one in imports:
+        functions = [it.name for it in traits.get(one.name, ()) if it.kind == "fn"]
+        if one.is_ghost and not reader.is_named_in(one.name, ghost_names):
+            yield one
+        elif not one.is_ghost and one.name not in names and not any(is_called(it, tokens) for it in functions):
+            yield one
 
 
 def unused_imports(logic, code):
     """The imported names that are not used where they are imported."""
-    found, traits = [], functions_of_traits(code)
-    for file in logic:
-        text = file.own_text()
-        names = antt.names_in(text)
-        found += [one for one in file.imports if not antt.is_named_in(one.name, names, text)]
-    for one, is_ghost, scope in (it for file in code for it in file.imports):
-        if is_ghost:
-            text = ghost_text(scope)
-            is_used = antt.is_named_in(one.name, antt.names_in(text), text)
-        else:
-            is_used = is_used_in_code(one.name, without_uses(scope), traits)
-        found += [] if is_used else [one]
+    found = [one for file in logic for one in unused_in_logic(file)]
+    traits = {one.name: one.inner for file in code for one in file.declarations if one.kind == "trait"}
+    for file in code:
+        for _, group in itertools.groupby(file.imports, lambda one: id(one.scope)):
+            imports = list(group)
+            found += unused_in_code(imports[0].scope, imports, traits)
     return found
 
 
@@ -166,28 +148,31 @@ class Function:
     own: Counter  # how often each name is in it
 
 
-def functions_of(file, text, start=0, is_trait=False):
-    """The functions of a text, at an offset of its file, that have to be called by somebody."""
-    for item in sources.items_of(text):
-        place = start + item.start
-        if item.kind in ("impl", "trait", "mod") and not re.search(r"\bfor\b", item.name):
-            yield from functions_of(file, item.body, place + item.text.index(item.body), item.kind == "trait")
+def names_of(tokens):
+    return Counter(token.text for token in tokens if token.kind == "Code")
+
+
+def functions_of(items, is_trait=False):
+    """The functions among items, and in these, that have to be called by somebody."""
+    for item in items:
+        if item.kind in ("impl", "trait", "mod") and " for " not in item.name:
+            yield from functions_of(item.inner, item.kind == "trait")
         elif item.kind == "fn" and item.name != "main":
-            before = file.text[:place].rstrip().split("\n")[-6:]
-            if not any(line.strip().startswith("#[") and "test" in line for line in before):
-                names = Counter(re.findall(r"\w+", sources.blanked(item.text)))
-                where = f"{file.path}:{line_of(file.text, place)}"
-                yield Function(item.name, where, file.crate, item.is_public or is_trait, names)
+            if not {"test", "no_mangle"} & {token.text for token in item.attributes}:
+                yield Function(
+                    item.name, item.place, item.key.crate, item.is_public or is_trait, names_of(item.tokens)
+                )
 
 
 def unused_functions(code):
     """The functions whose names are nowhere but in themselves, and how many were looked at."""
     names = {}
     for file in code:
-        text = re.sub(r"\bpub use [^;]*;", " ", sources.blanked(file.text))
-        names.setdefault(file.crate, Counter()).update(re.findall(r"\w+", text))
+        passed_on = [one for one in file.declarations if one.kind == "use" and one.is_public]
+        here = names_of(file.tokens) - names_of(token for one in passed_on for token in one.tokens)
+        names.setdefault(file.crate, Counter()).update(here)
     everywhere = sum(names.values(), Counter())
-    functions = [one for file in code for one in functions_of(file, file.text)]
+    functions = [one for file in code for one in functions_of(file.declarations)]
     found = []
     for one in functions:
         seen = everywhere if one.is_public else names[one.crate]
@@ -198,19 +183,20 @@ def unused_functions(code):
 
 
 def main():
-    logic, code = read_tree(sources.parser_of(__doc__).parse_args().top)
+    top = sources.parser_of(__doc__).parse_args().top
+    files = reader.files_of(top, sources.crates_of(top), "specs", "proofs", "src")
+    code = [file for file in files if file.part == "src"]
+    logic = [file for file in files if file.part != "src"]
     functions, function_count = unused_functions(code)
     found = []
     for one in unused_definitions(logic, code):
         kind = "definition" if one.key.part == "specs" else "lemma"
-        found.append(f"{one.place}: nothing uses the {kind} {one.key.name}")
+        found.append(f"{one.place}: nothing uses the {kind} {one.name}")
     found += [f"{one.place}: the imported name {one.name} is not used" for one in unused_imports(logic, code)]
     found += [f"{one.place}: nothing calls the function {one.name}" for one in functions]
-    definition_count = sum(len(file.definitions) for file in logic)
-    counts = (
-        f"{definition_count} definitions and lemmas, {sum(len(file.imports) for file in [*logic, *code])} imported"
-    )
-    print(*found, f"{counts} names, {function_count} functions: {len(found)} unused", sep="\n")
+    definition_count = sum(len(file.declarations) for file in logic)
+    counts = f"{definition_count} definitions and lemmas, {sum(len(file.imports) for file in files)} imported names"
+    print(*found, f"{counts}, {function_count} functions: {len(found)} unused", sep="\n")
     return 1 if found or not definition_count or not function_count else 0
 
 

@@ -10,10 +10,13 @@ A wrong body changes bodies of src/: it leaves clauses, ghost items and attribut
 leave the same text. The files of crates/*/right-bodies are of the same form and not wrong: the prover has to accept
 each, and one that is reported as refused is a fault of this script.
 
-`rt` tries each must-fail edit by a check of the crate. Here one check tries many: a proof reads of other functions
-their contracts alone, so wrong bodies of several functions are put in one copy of the crate, and the check says of
-each function whether it is refused. What fails only because it calls another is not judged, and is tried again without
-it.
+`rt` tries each must-fail edit by a check of the crate. Here one check tries many. Where several wrong bodies are of
+one function, a copy of the crate has the function once more for each of them, under another name, with its contract
+and its proof. It also has it once more as it is, and the prover has to accept that: a copy is judged as a function is.
+
+Any other body is tried in its function's place, and so are those that change something else too, or are of a trait. A
+proof reads of other functions their contracts alone, so one check tries several functions. What fails only because it
+calls another is not judged, and is tried again without it.
 
 The status is 0 where each wrong body is refused, 1 where one is not or there is none, and 2 where an argument names no
 crate or there is no kit. The last line is `N passed, M failed`, as of `rt ci`.
@@ -21,6 +24,7 @@ crate or there is no kit. The last line is `N passed, M failed`, as of `rt ci`.
 
 import concurrent.futures
 import dataclasses
+import functools
 import importlib.machinery
 import importlib.util
 import os
@@ -30,6 +34,7 @@ import subprocess
 import sys
 import tempfile
 
+import reader
 import sources
 import unused
 
@@ -149,8 +154,95 @@ def together(bodies, folder):
     return chosen, texts
 
 
-def check(rtlib, crate, texts, functions, kept):
-    """Returns what a check of these functions alone says, over a copy of the crate with the changed texts."""
+@dataclasses.dataclass
+class Copy:
+    """A function once more, under another name."""
+
+    body: WrongBody  # which names the copy in place of the function
+    function: str  # that it is a copy of, by its path below the crate
+    file: str
+    end: int  # the offset in the file at which the function ends
+    text: str  # of the copy, with what stands above the function
+
+
+@functools.lru_cache(maxsize=None)
+def file_at(folder, file):
+    """Returns a file of the code of a crate."""
+    return reader.files_at(os.path.dirname(folder), [f"{folder}/{file}"])[0]
+
+
+def function_at(file, path):
+    """Returns the offsets of a function in the text of a file, by its path there: a free one, or one of an `impl` of
+    no trait."""
+    inner = [
+        one for item in file.declarations if item.kind == "impl" and [item.name] == path[:-1] for one in item.inner
+    ]
+    for one in inner if path[:-1] else file.declarations:
+        if one.kind == "fn" and [one.name] == path[-1:]:
+            ends = one.tokens[0].start, one.tokens[-1].start + 1
+            return [len(file.text.encode()[:end].decode()) for end in ends]
+    return 0, 0
+
+
+def copy_of(body, ending, folder):
+    """Returns a copy of the function that a body changes, with this ending of its name. There is none where the body
+    changes something else too, of a function of a trait, and of one that calls itself."""
+    function, file = body.functions[0], body.changes[0][0]
+    before, texts = file_at(folder, file).text, changed({}, body, folder)
+    module = [] if file == "src/lib.rt" else file.removeprefix("src/").removesuffix(".rt").split("/")
+    path = function.split("::")
+    begin, end = function_at(file_at(folder, file), path[len(module) :])
+    after = texts[file]
+    new_end = len(after) - len(before) + end
+    is_alone = len(body.functions) == len(texts) == 1 and path[: len(module)] == module
+    is_inside = after[:begin] == before[:begin] and after[new_end:] == before[end:]
+    line = before.rfind("\n", 0, begin) + 1
+    above = re.search(r"(^ *(///|#\[).*\n)*\Z", before[:line], re.M).group()
+    if not end or not is_alone or not is_inside or "#[cycle" in above:
+        return None
+    text = re.sub(rf"\bfn {path[-1]}\b", f"fn {path[-1]}_{ending}", after[line:new_end], count=1)
+    return Copy(dataclasses.replace(body, functions=[f"{function}_{ending}"]), function, file, end, above + text)
+
+
+def copies_of(bodies, folder):
+    """Returns copies of the functions that several bodies change, and one of each as it is."""
+    found = {}
+    for number, body in enumerate(bodies):
+        copy = copy_of(body, number, folder)
+        if copy:
+            found.setdefault(copy.function, []).append(copy)
+    several = [copies for copies in found.values() if len(copies) > 1]
+    for copies in several:
+        unchanged = [(file, old, old) for file, old, _ in copies[0].body.changes]
+        control = WrongBody(f"{copies[0].function} as it is", [copies[0].function], unchanged, is_right=True)
+        copies.append(copy_of(control, "as_it_is", folder))
+    return [copy for copies in several for copy in copies]
+
+
+def with_copies(copies, folder):
+    """Returns the texts of the files with the copies in them, each after its function."""
+    texts = {copy.file: sources.read(f"{folder}/{copy.file}") for copy in copies}
+    for copy in sorted(copies, key=lambda it: -it.end):
+        text = texts[copy.file]
+        texts[copy.file] = f"{text[:copy.end]}\n\n{copy.text}{text[copy.end:]}"
+    return texts
+
+
+def copy_proof(copy, name, room):
+    """Gives a copy the proof of its function, in a copy of the crate of this name."""
+    names = copy.function, copy.body.functions[0]
+    old_folder, folder = [f"{room}/proofs/{it.replace('::', '/')}" for it in names]
+    old_module, module = [f"Rattle.{name}.proofs.{it.replace('::', '.')}." for it in names]
+    if os.path.isdir(old_folder):
+        shutil.copytree(old_folder, folder)
+    for path in sources.files_below(folder, ".antt"):
+        text = sources.read(path).replace(old_module, module)
+        with open(path, "w", encoding="utf-8") as file:
+            file.write(text)
+
+
+def check(rtlib, crate, texts, functions, kept, copies=()):
+    """Returns what a check of these functions, or of all, says over a copy of the crate with the changed texts."""
     with tempfile.TemporaryDirectory(prefix="wrong-bodies-") as room:
         for part in rtlib.PARTS:
             if os.path.isdir(f"{crate.folder}/{part}"):
@@ -158,6 +250,8 @@ def check(rtlib, crate, texts, functions, kept):
         for file, text in texts.items():
             with open(f"{room}/{file}", "w", encoding="utf-8") as it:
                 it.write(text)
+        for copy in copies:
+            copy_proof(copy, crate.name, room)
         command = [rtlib.RATTLE, "check", *crate.words(["--jobs", "1"], keeps=False), "--incremental", kept]
         command += [it for function in functions for it in ("--only", function)]
         how = {"cwd": room, "stdin": subprocess.DEVNULL, "stdout": subprocess.PIPE, "stderr": subprocess.STDOUT}
@@ -204,7 +298,22 @@ class Tried:
 
     refused: int = 0
     accepted: int = 0
+    checks: int = 0
     lines: list = dataclasses.field(default_factory=list)
+
+    def judge(self, crate, bodies, said):
+        """Counts what a check says of bodies, and returns those that it does not judge."""
+        again = [body for body in bodies if outcome(crate, body, said) == "unknown"]
+        for body in bodies:
+            fault = fault_of_outcome(crate, body, said)
+            if body not in again:
+                self.lines += [fault] if fault else []
+                self.accepted += body.is_right and not fault
+                self.refused += not body.is_right and not fault
+        if not re.search(r"^(only|logic)=", said, re.M):
+            self.lines += ["the check did not reach its end:", *said.split("\n")[:6]]
+        self.checks += 1
+        return again
 
 
 def begin_with_proofs(crate, kept):
@@ -214,34 +323,43 @@ def begin_with_proofs(crate, kept):
         shutil.copytree(proved, kept, dirs_exist_ok=True)
 
 
+def try_copies(rtlib, crate, bodies, kept, tried):
+    """Tries bodies in copies of their functions, and returns the other ones."""
+    copies = copies_of(bodies, crate.folder)
+    if not copies:
+        return bodies
+    said = check(rtlib, crate, with_copies(copies, crate.folder), [], kept, copies)
+    again = tried.judge(crate, [copy.body for copy in copies], said)
+    tried.lines += [f"{body.name}: not judged" for body in again]
+    names = {copy.body.name for copy in copies}
+    return [body for body in bodies if body.name not in names]
+
+
+def try_in_place(rtlib, crate, left, kept, tried):
+    """Tries bodies in the places of their functions."""
+    while left:
+        chosen, texts = together(left, crate.folder)
+        said = check(rtlib, crate, texts, [name for it in chosen for name in it.functions], kept)
+        again = tried.judge(crate, chosen, said)
+        if again == chosen:
+            tried.lines += [f"{body.name}: not judged" for body in again]
+            break
+        for body in again:
+            body.apart.update(*(called_unproved(crate, said, name) for name in body.functions))
+        left = again + [body for body in left if body not in chosen]
+
+
 def try_all(rtlib, crate):
     """Tries the wrong and the right bodies of a crate."""
-    left = [*bodies_of(crate.folder), *bodies_of(crate.folder, "right-bodies")]
-    faults = faults_of(left, crate.folder)
-    left = [body for body in left if body not in [it for it, _ in faults]]
+    bodies = [*bodies_of(crate.folder), *bodies_of(crate.folder, "right-bodies")]
+    faults = faults_of(bodies, crate.folder)
+    left = [body for body in bodies if body not in [it for it, _ in faults]]
     tried = Tried(lines=[f"{body.name}: {reason}" for body, reason in faults])
-    checks = 0
     with tempfile.TemporaryDirectory(prefix="wrong-bodies-kept-") as kept:
         begin_with_proofs(crate, kept)
-        while left:
-            chosen, texts = together(left, crate.folder)
-            said = check(rtlib, crate, texts, [name for it in chosen for name in it.functions], kept)
-            checks += 1
-            again = [body for body in chosen if outcome(crate, body, said) == "unknown"]
-            done = [body for body in chosen if body not in again]
-            wrong = [fault for body in done if (fault := fault_of_outcome(crate, body, said))]
-            tried.lines += wrong
-            tried.accepted += sum(body.is_right and not fault_of_outcome(crate, body, said) for body in done)
-            tried.refused += sum(not body.is_right and not fault_of_outcome(crate, body, said) for body in done)
-            if not re.search(r"^only=", said, re.M):
-                tried.lines += ["the check did not reach its end:", *said.split("\n")[:6]]
-            if not done:
-                tried.lines += [f"{body.name}: not judged" for body in again]
-                break
-            for body in again:
-                body.apart.update(*(called_unproved(crate, said, name) for name in body.functions))
-            left = again + [body for body in left if body not in chosen]
-    print(f"{crate.name}: {tried.refused} refused, {tried.accepted} accepted, in {checks} checks", flush=True)
+        left = try_copies(rtlib, crate, left, kept, tried)
+        try_in_place(rtlib, crate, left, kept, tried)
+    print(f"{crate.name}: {tried.refused} refused, {tried.accepted} accepted, in {tried.checks} checks", flush=True)
     return tried
 
 

@@ -239,17 +239,30 @@ def _expect_drawn(answer: _Answer) -> None:
         raise Refused(answer.code, answer.message.decode("ascii"))
 
 
-def _picture(answer: _Answer, call: Callable[..., int], *asked: object) -> bytes:
-    """The picture that a call draws, in a room that is large enough; the answer says why there is none."""
+def _picture(call: Callable[..., int], *asked: object) -> bytes | None:
+    """The picture that a call draws, in a room that is large enough, or None for a line that is skipped."""
+    answer = _Answer()
     room = _ROOM
     while True:
         out = ctypes.create_string_buffer(room)
-        if call(*asked, out, room, ctypes.byref(answer)) != _NO_ROOM:
+        code = call(*asked, out, room, ctypes.byref(answer))
+        if code == _SKIPPED:
+            return None
+        if code != _NO_ROOM:
+            _expect_drawn(answer)
             return out.raw[: answer.length]
         room = answer.length
 
 
-def _symbol_of(info: _Info, modules: "ctypes.Array[ctypes.c_char]") -> Symbol:
+def _symbol(call: Callable[..., int], *asked: object) -> Symbol | None:
+    """The symbol that a call draws, or None for a line that is skipped."""
+    answer = _Answer()
+    info = _Info()
+    modules = ctypes.create_string_buffer(_MAX_MODULES)
+    code = call(*asked, modules, _MAX_MODULES, ctypes.byref(info), ctypes.byref(answer))
+    if code == _SKIPPED:
+        return None
+    _expect_drawn(answer)
     is_qr = info.version > 0
     return Symbol(
         symbology=SYMBOLOGIES[info.symbology],
@@ -291,14 +304,7 @@ def line(
     """
     options = _options("pbm", 1, height, level, min_version, mask, escapes)
     raw = _line_of(text)
-    info = _Info()
-    answer = _Answer()
-    modules = ctypes.create_string_buffer(_MAX_MODULES)
-    _LIBRARY.labels_line(options, raw, len(raw), modules, _MAX_MODULES, ctypes.byref(info), ctypes.byref(answer))
-    if answer.code == _SKIPPED:
-        return None
-    _expect_drawn(answer)
-    return _symbol_of(info, modules)
+    return _symbol(_LIBRARY.labels_line, options, raw, len(raw))
 
 
 def symbol(
@@ -320,14 +326,9 @@ def symbol(
     options = _options("pbm", 1, height, level, min_version, mask, False)
     number = _index(SYMBOLOGIES, "symbology", symbology)
     raw = _encoded(data)
-    info = _Info()
-    answer = _Answer()
-    modules = ctypes.create_string_buffer(_MAX_MODULES)
-    _LIBRARY.labels_symbol(
-        options, number, raw, len(raw), modules, _MAX_MODULES, ctypes.byref(info), ctypes.byref(answer)
-    )
-    _expect_drawn(answer)
-    return _symbol_of(info, modules)
+    drawn = _symbol(_LIBRARY.labels_symbol, options, number, raw, len(raw))
+    assert drawn is not None  # no data is a line that is skipped
+    return drawn
 
 
 def draw(
@@ -352,9 +353,8 @@ def draw(
     options = _options(format, scale, height, level, min_version, mask, False)
     number = _index(SYMBOLOGIES, "symbology", symbology)
     raw = _encoded(data)
-    answer = _Answer()
-    picture = _picture(answer, _LIBRARY.labels_draw, options, number, raw, len(raw))
-    _expect_drawn(answer)
+    picture = _picture(_LIBRARY.labels_draw, options, number, raw, len(raw))
+    assert picture is not None  # no data is a line that is skipped
     return picture
 
 
@@ -378,12 +378,7 @@ def draw_line(
     """
     options = _options(format, scale, height, level, min_version, mask, escapes)
     raw = _line_of(text)
-    answer = _Answer()
-    picture = _picture(answer, _LIBRARY.labels_draw_line, options, raw, len(raw))
-    if answer.code == _SKIPPED:
-        return None
-    _expect_drawn(answer)
-    return picture
+    return _picture(_LIBRARY.labels_draw_line, options, raw, len(raw))
 
 
 def run(

@@ -1,4 +1,4 @@
-/* Makes one call of the library many times: count_calls CALL LABEL TIMES. The labels are those of count_labels.h. */
+/* Makes calls of the library that are counted: count_calls CALL LABEL CALL LABEL .. */
 #include "count_labels.h"
 #include "labels.h"
 
@@ -19,10 +19,4 @@ static int call(const char *name, const struct label *label) {
     return -1;
 }
 
-int main(int count, char **words) {
-    const struct label *label = count == 4 ? label_of(words[2]) : NULL;
-    for (int left = label ? atoi(words[3]) : 0; left > 0; left--)
-        if (call(words[1], label) != LABELS_OK)
-            return 1;
-    return label ? 0 : 2;
-}
+int main(int count, char **words) { return count_calls(count, words, call); }

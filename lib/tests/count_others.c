@@ -1,5 +1,6 @@
-/* Makes one call of another library many times: count_others LIBRARY LABEL TIMES. What is compared is the call that a
- * program makes for the modules of a symbol, at level M for QR; the libraries may choose other versions and segments. */
+/* Makes calls of other libraries that are counted: count_others LIBRARY LABEL LIBRARY LABEL .. What is compared is the
+ * call that a program makes for the modules of a symbol, at level M for QR; the libraries may choose other versions and
+ * segments. */
 #include "count_labels.h"
 #include <qrcodegen/qrcodegen.h>
 #include <qrencode.h>
@@ -35,10 +36,4 @@ static int call(const char *name, const struct label *label) {
     return strcmp(name, "qrcodegen") == 0 ? by_qrcodegen(label) : 1;
 }
 
-int main(int count, char **words) {
-    const struct label *label = count == 4 ? label_of(words[2]) : NULL;
-    for (int left = label ? atoi(words[3]) : 0; left > 0; left--)
-        if (call(words[1], label) != 0)
-            return 1;
-    return label ? 0 : 2;
-}
+int main(int count, char **words) { return count_calls(count, words, call); }

@@ -15,11 +15,17 @@ static const char *const data_of_labels[] = {
 };
 enum { LABELS_OF_TEST = sizeof data_of_labels / sizeof *data_of_labels };
 
-/* FNV-1a. */
+/* FNV-1a over words of eight bytes, since a sanitizer looks at each read. */
 static inline uint64_t hash_of(const void *bytes, size_t size, uint64_t hash) {
     const unsigned char *at = bytes;
-    for (size_t i = 0; i < size; i++)
-        hash = (hash ^ at[i]) * UINT64_C(1099511628211);
+    while (size > 0) {
+        uint64_t word = 0;
+        size_t length = size < sizeof word ? size : sizeof word;
+        memcpy(&word, at, length);
+        hash = (hash ^ word) * UINT64_C(1099511628211);
+        at += length;
+        size -= length;
+    }
     return hash;
 }
 

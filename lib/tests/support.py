@@ -1,5 +1,7 @@
 """What the tests of the library share: the proved files, and liblabels built and installed below a folder."""
 
+import atexit
+import functools
 import os
 import shutil
 import subprocess
@@ -80,18 +82,22 @@ class Installed:
         shutil.rmtree(self.folder)
 
 
+@functools.cache
+def installed() -> Installed:
+    """The library as it is installed, which is built once for all tests of a run."""
+    library = Installed()
+    atexit.register(library.remove)
+    return library
+
+
 class WithLibrary(unittest.TestCase):
-    """Tests of the library as it is installed, which is built once for a class of them."""
+    """Tests of the library as it is installed."""
 
     library: Installed
 
     @classmethod
     def setUpClass(cls) -> None:
-        cls.library = Installed()
-
-    @classmethod
-    def tearDownClass(cls) -> None:
-        cls.library.remove()
+        cls.library = installed()
 
     def run_ok(self, *command: str | Path, given: bytes = b"") -> bytes:
         """What a command writes, which must end with status 0."""

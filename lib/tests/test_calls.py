@@ -48,7 +48,13 @@ class Calls(WithLibrary):
 
     def test_shared_memory_is_seen(self) -> None:
         own = "    labels_answer own;\n"
-        self.assert_fails(self.wrong("threads", THREAD, own, own.replace("labels", "static labels", 1)))
+        program = self.wrong("threads", THREAD, own, own.replace("labels", "static labels", 1))
+        self.assert_fails("env", "TSAN_OPTIONS=halt_on_error=1", program)
+
+    def test_exports(self) -> None:
+        """The proved calls by themselves, and a length that is wrong."""
+        self.run_ok(self.program("exports"))
+        self.assert_fails(self.program("exports", "-DEAN8_LENGTH=163"))
 
     def test_stack(self) -> None:
         most = int(self.run_ok(self.program("stack", "-O2")))

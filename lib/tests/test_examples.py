@@ -14,7 +14,7 @@ PYTHON = "/usr/bin/python3"
 STRICT = ("-O2", "-Wall", "-Wextra", "-pedantic", "-Werror")
 LABEL = b"ean13 4006381333931\n"
 LINES = 10_000
-SECONDS = 30  # that an answer may take on a busy machine
+SECONDS = 300  # that an answer may take on a busy machine
 
 
 def drawn(lines: bytes, *words: str) -> bytes:
@@ -149,6 +149,14 @@ with client.Labels() as labels:
         picture = drawn(b"ean8 7351353\n")
         self.assertEqual(both, drawn(b"qr Jo\n") + picture + b"line 5: unknown symbology\n" + picture)
         self.assertNotEqual(drawn(b"qr Jo\r\n"), drawn(b"qr Jo\n"))
+        refused = run(PROGRAM, given=b"ean8 7351353\r\n")
+        self.assertEqual((refused.stdout, refused.stderr), (b"", b"line 1: not a digit at byte 8\n"))
+
+    def test_statuses(self) -> None:
+        """Status 1 says that a line was refused; what ends a run begins with another word, and has status 3."""
+        self.assertEqual([run(PROGRAM, given=line).returncode for line in (LABEL, b"pdf x\n" + LABEL)], [0, 1])
+        ended = run("sh", "-c", f"{PROGRAM} > /dev/full", given=LABEL)
+        self.assertEqual((ended.returncode, ended.stderr.startswith(b"labels: ")), (3, True), text_of(ended))
 
     def test_bytes_of_a_picture(self) -> None:
         for line, words in ((b"ean13 4006381333931\n", ()), (b"qr x\n", ("--scale", "8"))):

@@ -1,6 +1,6 @@
 """What has to be believed is what the files give, and the results of wrong entries are those of the files.
 
-Run by `python3 -m unittest discover -s scripts/tests`. No kit and no built program is needed.
+Run by `python3 -m unittest discover -s scripts/tests`. The kit is needed, and no built program.
 """
 
 import contextlib
@@ -150,11 +150,11 @@ class Sample(unittest.TestCase):
         self.assertGreater(len(same), 20)
 
         def as_judged(change, lines):
-            specs = believed_rows.specs_of(believed_rows.sources.TOP, change.definition.crate)
-            text = specs[change.definition.file]
-            file = f"{change.definition.crate}/{change.definition.file}"
+            file = f"{change.file.crate}/{change.file.module}"
             return not any(
-                one == file and change.new in values.split() and believed_rows.place_of(text, pattern) == change.at
+                one == file
+                and change.new in values.split()
+                and believed_rows.place_of(change.file.text, pattern) == change.at
                 for one, pattern, values, _ in same
             )
 
@@ -168,10 +168,11 @@ class Sample(unittest.TestCase):
 
     def test_judged_by_own_values(self):
         """A worked value that is not in the line of a definition does not judge it."""
-        text = "one : ℕ\none = 1\n\nfirst : one ≡ 1\nfirst = refl\n\nother : one ≡ one\nother = refl\n"
-        self.assertIn("first", believed_rows.with_values(text, ["first"]))
-        self.assertNotIn("other", believed_rows.with_values(text, ["first"]))
-        self.assertEqual(believed_rows.with_values(text, ["gone"]), "")
+        first = believed_rows.Block("first", "first : one ≡ 1\nfirst = refl")
+        other = believed_rows.Block("other", "other : one ≡ one\nother = refl")
+        one = believed_rows.Block("one", "one : ℕ\none = 1")
+        self.assertEqual(believed_rows.with_values([one, first, other], ["first"]), [one, first])
+        self.assertEqual(believed_rows.joined(believed_rows.with_values([one, first], ["gone"])), "")
 
 
 if __name__ == "__main__":

@@ -1,7 +1,7 @@
 """The scripts see what they are there to see: each planted mistake makes the script fail, and nothing passes unseen.
 
-Run by `python3 -m unittest discover -s scripts/tests`. No kit, no third-party tool and no built program is needed:
-where a script calls one, a stand-in of a few lines is put on the path.
+Run by `python3 -m unittest discover -s scripts/tests`. The kit is needed; no third-party tool and no
+built program: where a script calls one, a stand-in of a few lines is put on the path.
 """
 
 import contextlib
@@ -16,7 +16,8 @@ from support import SCRIPTS, InFolder, module, read, run, run_command, write
 
 compare_symbols = module("compare_symbols")
 run_recipes = module("run_recipes")
-sources = module("sources")
+pictures = module("pictures")
+reader = module("reader")
 wrong_bodies = module("wrong_bodies")
 
 
@@ -70,21 +71,27 @@ pub(crate) trait Named {
 """
 
 
-class Sources(unittest.TestCase):
+class Reader(InFolder):
     """Items are found by their brackets, whatever is in comments, texts and characters."""
 
+    def items(self):
+        write(self.path("crates/one/src/lib.rt"), CODE)
+        return reader.files_of(self.folder, ["one"], "src")[0].declarations
+
     def test_items(self):
-        found = [(item.kind, item.name, item.is_public) for item in sources.items_of(CODE)]
-        self.assertEqual(found, [("fn", "brace", True), ("use", "Rattle", False), ("trait", "Named", False)])
+        found = [(item.kind, item.name, item.is_public) for item in self.items() if item.kind != "use"]
+        self.assertEqual(found, [("fn", "brace", True), ("trait", "Named", False)])
 
-    def test_clauses_and_docs(self):
-        brace, _, named = sources.items_of(CODE)
-        self.assertEqual(brace.docs, "A brace.")
-        self.assertEqual([kind for kind, _ in brace.clauses], ["requires", "ensures"])
-        self.assertEqual([item.kind for item in sources.items_of(named.body)], ["ghost", "fn"])
+    def test_what_is_stated(self):
+        brace, _, named = self.items()
+        self.assertEqual(brace.about, "A brace.")
+        self.assertEqual([item.kind for item in named.inner], ["ghost", "fn"])
+        self.assertEqual((brace.lines, named.lines), (3, 5))
 
-    def test_lines(self):
-        self.assertEqual(len(sources.code_lines(CODE)), 12)
+    def test_file_that_cannot_be_read(self):
+        write(self.path("crates/one/src/lib.rt"), "fn one() ensures { 1 ")
+        with self.assertRaises(SystemExit):
+            reader.files_of(self.folder, ["one"], "src")
 
 
 class WrongBodies(InFolder):
@@ -192,14 +199,69 @@ class Outcomes(InFolder):
         self.edit(EDIT.format(" 2"), name="two")
         self.assertEqual(self.tried("not proved"), (1, 0, ["two: it leaves the same text as one"]))
 
+    def test_two_of_one_function(self):
+        """Both are tried in copies of the function, beside one that has to be proved as it is."""
+        self.edit(EDIT.format("2"))
+        self.edit(EDIT.format("3"), name="two")
+        refused = "not proved"
+        control = "one as it is: it is right, and not reported as not refused"
+        for said, wanted in (
+            ((refused, refused, "proved"), (2, 1, [])),
+            ((refused, "proved", "proved"), (1, 1, ["two: NOT REFUSED"])),
+            ((CALLS, refused, "proved"), (1, 1, ["one: not judged"])),
+            ((refused, refused, refused), (2, 0, [control])),
+            ((refused, refused, CALLS), (2, 0, ["one as it is: not judged"])),
+        ):
+            with self.subTest(said):
+                lines = "\nfn small::".join(map("{}: {}".format, ("one_0", "one_1", "one_as_it_is"), said))
+                self.assertEqual(self.tried(f"not asked\nfn small::{lines}"), wanted)
+        self.assertEqual(self.tried(refused), (0, 0, ["one: NOT REFUSED", "two: NOT REFUSED", control]))
+
+    def test_copies(self):
+        """A copy has the text of its own body and a proof of its own; the function stands as it is."""
+        self.edit(EDIT.format("2"))
+        self.edit(EDIT.format("3"), name="two")
+        copies = wrong_bodies.copies_of(wrong_bodies.bodies_of(self.folder), self.folder)
+        text = wrong_bodies.with_copies(copies, self.folder)["src/lib.rt"]
+        self.assertTrue(text.startswith(ONE.rstrip()))
+        names = [*zip(re.findall(r"pub fn (\w+)\(", text), re.findall(r"^    (\d)$", text, re.M))]
+        self.assertEqual(sorted(names), [("one", "1"), ("one_0", "2"), ("one_1", "3"), ("one_as_it_is", "1")])
+        for name in ("one.Goals", "one_more.Goals"):
+            write(self.path("proofs/one", f"{name}.antt"), f"use Rattle.small.proofs.{name} as goal\n")
+        wrong_bodies.copy_proof(copies[1], "small", self.folder)
+        self.assertEqual(
+            read(self.path("proofs/one_1/one.Goals.antt")), "use Rattle.small.proofs.one_1.Goals as goal\n"
+        )
+        self.assertNotIn("one_1", read(self.path("proofs/one_1/one_more.Goals.antt")))
+
+    def test_no_copies(self):
+        """What is more than one function, one of a trait, or one that calls itself, is tried in its place."""
+        text = "const A: u8 = 7;\nimpl<T> Some<T> {\n    #[inline]\n    fn one() -> u8 { 1 }\n}\n"
+        write(self.path("src/part.rt"), text + "impl Trait for Some {\n    fn one() -> u8 { 11 }\n}\n")
+        write(self.path("src/cycle.rt"), "#[cycle(one)]\nfn one() -> u8 { 1 }\n")
+        one = ("src/part.rt", "{ 1 }", "{ 2 }")
+        copy = wrong_bodies.copy_of(wrong_bodies.WrongBody("", ["part::Some::one"], [one]), 0, self.folder)
+        self.assertEqual(copy.text, "    #[inline]\n    fn one_0() -> u8 { 2 }")
+        for functions, changes in (
+            (["part::SomeTrait::one"], [("src/part.rt", "{ 11 }", "{ 2 }")]),
+            (["part::Some::one"], [("src/part.rt", "{ 11 }", "{ 2 }")]),
+            (["part::Some::one"], [one, ("src/part.rt", "= 7", "= 8")]),
+            (["part::Some::one"], [one, ("src/lib.rt", "    1", "    2")]),
+            (["part::Some::one", "one"], [one]),
+            (["other::Some::one"], [one]),
+            (["cycle::one"], [("src/cycle.rt", "{ 1 }", "{ 2 }")]),
+        ):
+            with self.subTest(functions=functions, changes=changes):
+                self.assertIsNone(wrong_bodies.copy_of(wrong_bodies.WrongBody("", functions, changes), 0, self.folder))
+
 
 class Judges(unittest.TestCase):
     """A judge that passes everything is found by the wrong cases that it is shown in each run."""
 
     def test_symbols(self):
-        picture = b"P1\n9 9\n" + b"0" * 81 + b"\n"
+        picture = pictures.pixels_of(b"9 9\n" + b"0" * 81 + b"\n")
         turned = compare_symbols.with_turned_module(picture)
-        self.assertEqual([at for at in range(len(picture)) if picture[at] != turned[at]], [7 + 40])
+        self.assertEqual((turned != picture).nonzero(), (4, 4))
         with mock.patch.object(compare_symbols, "pictures_of", return_value=[picture]):
             for difference, unread, count in (("", [], 2), ("it", [], 1), ("", ["it"], 1), ("it", ["it"], 0)):
                 with mock.patch.object(compare_symbols, "difference", return_value=difference):

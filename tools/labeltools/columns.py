@@ -4,7 +4,7 @@ import re
 import unicodedata
 from dataclasses import dataclass
 from itertools import islice
-from typing import Iterable
+from typing import Iterable, Sequence
 
 from labeltools.codes import PROGRAM_ERROR
 from labeltools.lines_file import MOST_COPIES
@@ -279,6 +279,17 @@ def column_of(argument: str, head: Head) -> Column:
     if by_name:
         refuse_wide_name(place, name, head.row)
     return Column(place, f"column {place + 1} ({quoted(name)})" if name else f"column {place + 1}")
+
+
+def column_word(names: Sequence[str], place: int) -> str:
+    """Returns the name of a column where it is sure, else its number.
+
+    >>> column_word(["EAN", "", "7"], 0), column_word(["EAN", "", "7"], 2)
+    ('EAN', '3')
+    """
+    name = names[place]
+    is_sure = name and not name.isdecimal() and names.count(name) == 1
+    return name if is_sure else str(place + 1)
 
 
 def width_of(row: Row) -> int:

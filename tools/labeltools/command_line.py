@@ -9,24 +9,21 @@ import sys
 from contextlib import contextmanager, suppress
 from io import RawIOBase, TextIOWrapper
 from pathlib import Path
-from typing import Any, BinaryIO, Callable, Iterator, NoReturn, Optional
+from typing import Any, BinaryIO, Callable, Iterator, Mapping, NoReturn, Optional
 
-from labeltools.messages import BAD_ARGUMENTS, Place, ToolError, sentence, write_message
+from labeltools.messages import BadArguments, Place, ToolError, of_system, sentence, write_message
 
 ENDING = (signal.SIGHUP, signal.SIGINT, signal.SIGTERM)
 
 
 class Parser(argparse.ArgumentParser):
-    """A parser that ends with status 2 for bad arguments even where standard error takes no
-    message.
+    """A parser whose bad arguments are an error like others: `main_of` writes it, a window shows
+    it.
     """
 
     def error(self, message: str) -> NoReturn:
-        """Writes the usage and a message, and ends."""
-        with suppress(OSError):
-            self.print_usage(sys.stderr)
-        write_message(self.prog, f"error: {message}")
-        sys.exit(BAD_ARGUMENTS)
+        """Raises `BadArguments`."""
+        raise BadArguments(message, self.format_usage())
 
 
 class CommandTalk:
@@ -45,6 +42,22 @@ class CommandTalk:
 
     def go_on(self, done: int, total: int) -> None:
         """Does nothing: a signal ends a command."""
+
+
+def words_of(options: Mapping[str, Any]) -> list[str]:
+    """Returns the words of a command for options by their names; those without a value are left
+    out.
+
+    >>> words_of({"code": "2", "title": "", "header-row": 3.0, "hidden": True})
+    ['--code', '2', '--header-row', '3', '--hidden']
+    """
+    found = []
+    for name, value in options.items():
+        if value is True:
+            found.append(f"--{name}")
+        elif value:
+            found += [f"--{name}", value if isinstance(value, str) else f"{value:g}"]
+    return found
 
 
 def read_input(path: Optional[str]) -> tuple[str, bytes]:
@@ -92,11 +105,16 @@ def status_of(tool: str, function: Callable[[], Optional[int]]) -> int:
         if sys.stdout is not None:
             sys.stdout.flush()
         return status
+    except BadArguments as error:
+        with suppress(OSError):
+            sys.stderr.write(error.usage)
+        write_message(tool, f"error: {error}")
+        return error.status
     except ToolError as error:
         write_message(tool, str(error))
         return error.status
     except OSError as error:
-        write_message(tool, f"{error.filename or 'standard output'}: {error.strerror or error}")
+        write_message(tool, str(of_system(error)))
         return 1
 
 

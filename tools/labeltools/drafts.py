@@ -6,7 +6,8 @@ from typing import Iterator, NamedTuple, Sequence
 from labeltools.codes import Code, CodeRules, code_of
 from labeltools.columns import Column, Columns, has_html, symbology_in
 from labeltools.messages import RowError, quoted
-from labeltools.money import MOST_DECIMALS, Money, NotMoney, parse, parse_unit_price, text_price
+from labeltools.money import MOST_DECIMALS, Money, NotMoney, currency_of, parse
+from labeltools.money import parse_unit_price, plain, text_price
 from labeltools.names import is_repeated, name_of
 from labeltools.rows import Cell, Row
 from labeltools.table_options import TableOptions
@@ -18,13 +19,13 @@ PROGRAM_DECIMALS = 17  # of a number that a program has calculated
 class Price(NamedTuple):
     """A price of a row: the text of its cell, what it means, and the currency of the row.
 
-    `money` is None for free text; `currency` is empty where the table has no such column.
+    `money` is None for free text; `currency` is None where the table has no such column.
     """
 
     column: Column
     text: str
     money: Money | None
-    currency: str
+    currency: str | None
 
 
 class Draft(NamedTuple):
@@ -56,6 +57,7 @@ class RowReader:
     names: tuple[str, ...]
     html: int = 0  # the first row with HTML in a title or text
     other_link: int = 0  # the first row whose code leads to another address
+    other_currency: tuple[int, str] | None = None  # the first row with one that is not known
 
     def draft(self, row: Row) -> Draft | None:
         """Returns what becomes of a row, None where it is not marked; raises `RowError`."""
@@ -69,7 +71,7 @@ class RowReader:
         code = self.code(row)
         title = "\n".join(self.texts(columns.title, row, code))
         text = tuple(self.texts(columns.text, row, code))
-        currency = columns.currency.mark(row) if columns.currency else ""
+        currency = self.currency(row)
         copies = columns.copies.copies(row) if columns.copies else 1
         price = self.price(columns.price, row, currency)
         unit = self.price(columns.unit_price, row, currency)
@@ -142,7 +144,22 @@ class RowReader:
             if text := code.whole if is_code else column.text(row):
                 yield text
 
-    def price(self, column: Column | None, row: Row, currency: str) -> Price | None:
+    def currency(self, row: Row) -> str | None:
+        """Returns the currency of a row, None where the table has no column of them; raises
+        `RowError`.
+        """
+        column = self.columns.currency
+        if column is None:
+            return None
+        found = column.mark(row)
+        if any(letter.isdigit() for letter in found):
+            raise column.error(RowError(f"has {quoted(found)}, which is no currency"))
+        is_known = currency_of(plain(found), self.options.prices.currency_name) is not None
+        if found and not is_known and self.other_currency is None:
+            self.other_currency = row.number, found
+        return found
+
+    def price(self, column: Column | None, row: Row, currency: str | None) -> Price | None:
         """Returns the price of a column, None where there is none; raises `RowError`."""
         text = column.price(row) if column else ""
         if column is None or not text:

@@ -47,18 +47,14 @@ class Measure(Protocol):
 
 @dataclass(frozen=True, slots=True)
 class PrintLabel:
-    """A label to print: its line, the modules of its code, and its text, which may have a line that
-    is the same on all labels.
+    """A label to print: its line, the modules of its code, its title, and its text, which may have
+    a line that is the same on all labels.
     """
 
     record: LineRecord
     modules: Modules
+    title: str
     text: str
-
-    @property
-    def title(self) -> str:
-        """Its title."""
-        return short(self.record.label.title)
 
     @property
     def is_cut(self) -> bool:
@@ -140,7 +136,7 @@ def print_label(record: LineRecord, modules: Modules, note: str) -> PrintLabel:
     texts = record.label.text
     if note:
         texts = (*texts, note)
-    return PrintLabel(record, modules, short("\n".join(texts)))
+    return PrintLabel(record, modules, short(record.label.title), short("\n".join(texts)))
 
 
 def short(text: str) -> str:

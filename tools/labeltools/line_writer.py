@@ -9,7 +9,7 @@ from labeltools.drafts import Draft, Price
 from labeltools.lines_file import Label, LinesFile, first_remark, label_lines, last_remark
 from labeltools.messages import Place, RowError, Talk, ToolError, quoted
 from labeltools.money import NotMoney
-from labeltools.prices import PriceColumn, settled
+from labeltools.prices import PriceColumn, settled, with_currency
 from labeltools.summary import Totals
 from labeltools.table_options import TableOptions
 
@@ -101,12 +101,13 @@ class LineWriter:
         """Returns a price as it is printed; raises `RowError`."""
         if price is None:
             return ""
+        if price.money is None:
+            return price.text
         pattern = self.options.prices.pattern
-        if price.money is None or pattern is None:
-            has_one = price.money is None or price.money.currency or not price.currency
-            return price.text if has_one else f"{price.text} {price.currency}"
         try:
-            return pattern.write(settled(price.money, column), price.currency)
+            if pattern is None:
+                return with_currency(price.money, price.text, price.currency)
+            return pattern.write(settled(price.money, column), price.currency or "")
         except NotMoney as problem:
             what = f"has {quoted(price.text)}, which cannot be printed so: it {problem.what}"
             raise price.column.error(RowError(what, problem.hint)) from None
@@ -118,8 +119,10 @@ class LineWriter:
         first, before = self.seen.setdefault(data, (draft.row, mark))
         if before not in (mark, 0):
             self.seen[data] = first, 0
-            what = f"have the same code, {data}, and another title, text or price"
-            self.talk.say(f"rows {first} and {draft.row} {what}")
+            self.talk.say(
+                f"rows {first} and {draft.row} have the same code, {data},"
+                " and another title, text or price"
+            )
 
     def write(self, draft: Draft, content: Content) -> None:
         """Writes the lines of a label, and counts what the summary needs."""

@@ -30,6 +30,14 @@ class ToolError(Exception):
         self.status = status
 
 
+class BadArguments(ToolError):
+    """Words that a tool does not understand, with its usage."""
+
+    def __init__(self, what: str, usage: str, hint: str = "") -> None:
+        super().__init__(what, hint, BAD_ARGUMENTS)
+        self.usage = usage
+
+
 class Cancelled(ToolError):
     """The user has stopped the work; a `Talk` raises it in `go_on`."""
 
@@ -97,6 +105,11 @@ def write_message(tool: str, message: str) -> None:
     """
     with suppress(OSError):
         print(f"{tool}: {visible(translated(message))}", file=sys.stderr, flush=True)
+
+
+def of_system(error: OSError) -> ToolError:
+    """Returns what the system says as an error of a tool."""
+    return ToolError(f"{error.filename or 'standard output'}: {error.strerror or error}")
 
 
 def sentence(what: str, hint: str) -> str:

@@ -1,10 +1,16 @@
-"""Pango by GObject introspection, in the version that is meant."""
+"""Libraries by GObject introspection, in the versions that are meant, and Pango of them."""
 
 import importlib
 from typing import Any
 
 import gi
 
-gi.require_versions({"Pango": "1.0", "PangoCairo": "1.0"})
-Pango: Any = importlib.import_module("gi.repository.Pango")
-PangoCairo: Any = importlib.import_module("gi.repository.PangoCairo")
+
+def library(name: str, version: str) -> Any:
+    """Returns a library; raises `ImportError` and `ValueError` where it is not there."""
+    gi.require_version(name, version)
+    return importlib.import_module(f"gi.repository.{name}")
+
+
+Pango = library("Pango", "1.0")
+PangoCairo = library("PangoCairo", "1.0")

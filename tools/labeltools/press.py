@@ -1,10 +1,14 @@
 """Draws pages of labels and writes them in one of the forms."""
 
 import tempfile
+from bisect import bisect_right
+from contextlib import contextmanager
 from dataclasses import dataclass
+from functools import cached_property
 from io import BytesIO
-from itertools import islice, repeat
+from itertools import accumulate
 from pathlib import Path
+from shutil import copyfileobj
 from typing import IO, Any, Iterator, Sequence
 
 from labeltools.area import Plan
@@ -33,6 +37,10 @@ class PrintJob:
     is_cut: bool = True
     is_compressed: bool = False
 
+    def pages_of(self, labels: int) -> int:
+        """Returns how many pages so many labels take."""
+        return -(-(labels + self.first - 1) // len(self.plan.places))
+
 
 @dataclass(frozen=True)
 class Prints:
@@ -41,13 +49,17 @@ class Prints:
     items: Sequence[LaidOut]
     copies: Sequence[int]
 
-    def __len__(self) -> int:
-        return sum(self.copies)
+    @cached_property
+    def ends(self) -> list[int]:
+        """How many labels there are when all copies of each one are printed."""
+        return list(accumulate(self.copies))
 
-    def each(self) -> Iterator[LaidOut]:
-        """Yields each label as often as it is printed."""
-        for item, copies in zip(self.items, self.copies):
-            yield from repeat(item, copies)
+    def __len__(self) -> int:
+        return self.ends[-1] if self.ends else 0
+
+    def __getitem__(self, number: int) -> LaidOut:
+        """Returns a label by its number from 0 among all copies."""
+        return self.items[bisect_right(self.ends, number)]
 
     def runs(self) -> Iterator[tuple[LaidOut, int]]:
         """Yields labels that differ from the one before, with how many follow one another that are
@@ -107,23 +119,18 @@ class Press:
     def page(self, number: int, prints: Prints) -> Page:
         """Returns a page by its number, from 0."""
         places = self.job.plan.places
-        unused = self.job.first - 1
-        start = max(0, number * len(places) - unused)
-        if number == 0:
-            places = places[unused:]
-        return [(item, at) for at, item in zip(places, islice(prints.each(), start, None))]
+        start = number * len(places) - (self.job.first - 1)
+        end = min(start + len(places), len(prints))
+        return [(prints[label], places[label - start]) for label in range(max(0, start), end)]
 
     def pages(self, prints: Prints) -> Iterator[Page]:
         """Yields labels in the cells of one page after another."""
-        rest = prints.each()
-        total = len(prints)
         done = 0
-        places = self.job.plan.places[self.job.first - 1 :]
-        while page := [(item, at) for at, item in zip(places, rest)]:
+        for number in range(self.job.pages_of(len(prints))):
+            page = self.page(number, prints)
             yield page
-            places = self.job.plan.places
             done += len(page)
-            self.talk.go_on(done, total)
+            self.talk.go_on(done, len(prints))
 
     def draw(self, canvas: Any, page: Page) -> None:
         """Draws a page on a canvas of Cairo, whose units are dots."""
@@ -176,32 +183,20 @@ class Press:
         """Returns a page in dots."""
         return drawn_page(self.job.plan.page, self.pen, page, self.turn)
 
-    def save(self, prints: Prints, path: Path) -> None:
-        """Writes all labels to a file, which has its name once it is whole; raises `OSError`."""
-        with temporary(), Spool() as spool:
+    @contextmanager
+    def spooled(self, prints: Prints) -> Iterator[IO[bytes]]:
+        """Gives a temporary file with all labels, at its begin."""
+        with temporary(), tempfile.TemporaryFile() as whole:
             for document in self.documents(prints):
                 with document as file:
-                    spool.take(file)
-            spool.file.seek(0)
-            save(spool.file, path)
+                    copyfileobj(file, whole, BLOCK)
+            whole.seek(0)
+            yield whole
 
-
-class Spool:
-    """A temporary file that takes documents one after another."""
-
-    def __init__(self) -> None:
-        self.file: IO[bytes] = tempfile.TemporaryFile()
-
-    def __enter__(self) -> "Spool":
-        return self
-
-    def __exit__(self, *_: object) -> None:
-        self.file.close()
-
-    def take(self, document: IO[bytes]) -> None:
-        """Adds a document."""
-        while data := document.read(BLOCK):
-            self.file.write(data)
+    def save(self, prints: Prints, path: Path) -> None:
+        """Writes all labels to a file, which has its name once it is whole; raises `OSError`."""
+        with self.spooled(prints) as whole:
+            save(whole, path)
 
 
 def pens_of(job: PrintJob, letters: Letters) -> list[Pen]:

@@ -7,8 +7,8 @@ from decimal import ROUND_HALF_UP, Decimal
 from typing import Iterator, Mapping, NamedTuple
 
 from labeltools.messages import counted
-from labeltools.money import LOOKS, SPACES, WITH_THREE_DECIMALS, Money, NotMoney, currency_of
-from labeltools.money import is_pair, plain
+from labeltools.money import LOOKS, PER_UNIT, SPACES, WITH_THREE_DECIMALS, Money, NotMoney
+from labeltools.money import currency_of, is_pair, plain
 
 THOUSANDS_OR_DECIMALS = "may have thousands or decimals"
 SIGN_OF = {"crown": "kr", "EUR": "€", "GBP": "£"}
@@ -254,14 +254,7 @@ class PricePattern:
         wants one.
         """
         own = self.currency
-        row = currency_of(plain(currency), plain(currency)) if currency else ""
-        if (
-            currency
-            and price.currency not in ("", "cent")
-            and not is_same(price.currency, row or "")
-        ):
-            raise NotMoney(f"has {price.currency}, and its row has {currency}")
-        found = row or price.currency
+        found = currency_of_row(price, currency) or price.currency
         wanted = currency_of(plain(own)) if own not in ("", "¤") else ""
         has_one = found not in ("", "cent")
         if has_one and wanted and not is_same(found, wanted):
@@ -270,6 +263,34 @@ class PricePattern:
             raise NotMoney("has no currency, and the pattern of prices wants one")
         if not own and found:
             raise NotMoney(f"has {found}, and the pattern of prices has no currency")
+
+
+def currency_of_row(price: Money, currency: str) -> str:
+    """Returns the code of the currency of a row, which may be empty; raises `NotMoney` where the
+    price has another one.
+    """
+    row = currency_of(plain(currency), plain(currency)) or "" if currency else ""
+    if currency and price.currency not in ("", "cent") and not is_same(price.currency, row):
+        raise NotMoney(f"has {price.currency}, and its row has {currency}")
+    return row
+
+
+def with_currency(price: Money, text: str, currency: str | None) -> str:
+    """Returns the text of a price with the currency of its row, which stands before the unit;
+    `currency` is None where the table has no column of them. Raises `NotMoney` where there is none
+    or another one.
+    """
+    if currency is None:
+        return text
+    currency_of_row(price, currency)
+    if price.currency:
+        return text
+    if not currency:
+        raise NotMoney("has no currency, and its row has none")
+    unit = PER_UNIT.search(text) if price.unit else None
+    if unit is None:
+        return f"{text} {currency}"
+    return f"{text[: unit.start()]} {currency}{text[unit.start() :]}"
 
 
 def check_currencies(text: str, front: str, end: str) -> None:

@@ -5,7 +5,6 @@ in millimetres.
 import argparse
 import re
 import sys
-import tempfile
 import time
 from pathlib import Path
 from typing import Any, Callable, Iterable, Optional
@@ -19,11 +18,11 @@ from labeltools.command_line import (
     standard_output,
 )
 from labeltools.engine import option_words
-from labeltools.files import save, send, temporary
+from labeltools.files import save, send
 from labeltools.forms import FORMS
 from labeltools.layout import LaidOut
 from labeltools.messages import BAD_ARGUMENTS, ToolError, counted, write_message
-from labeltools.press import PrintJob, Press, Prints, once, with_copies
+from labeltools.press import PrintJob, Press, Prints, once
 from labeltools.print_job import (
     DRAWING_DPI,
     Prepared,
@@ -248,12 +247,7 @@ def write_files(press: Press, items: Iterable[LaidOut], paths: Iterable[Path]) -
 
 def print_on(press: Press, prints: Prints, queue: str) -> str:
     """Prints labels on a queue of CUPS and returns what lp(1) says."""
-    with temporary(), tempfile.TemporaryFile() as whole:
-        for document in press.documents(prints):
-            with document as file:
-                whole.write(file.read())
-        whole.flush()
-        whole.seek(0)
+    with press.spooled(prints) as whole:
         return print_by(press.job, queue, whole)
 
 
@@ -271,7 +265,7 @@ def check_count(job: PrintJob, prints: Prints, is_each: bool) -> None:
     if count > MOST_LABELS:
         hint = "print a part of them by --only"
         raise ToolError(f"{count:,} labels with their copies: {MOST_LABELS:,} are the most", hint)
-    if job.form.is_one_page and not is_each and count + job.first - 1 > len(job.plan.places):
+    if job.form.is_one_page and not is_each and job.pages_of(count) > 1:
         hint = "print fewer labels by --only, or a file of each by --each"
         raise ToolError(f"--to {job.form.name} has one page", hint)
 
@@ -280,8 +274,7 @@ def summary_of(job: PrintJob, prints: Prints) -> str:
     """Returns what was written, and the line that prints it."""
     text = counted(len(prints), "label")
     if not job.form.is_roll:
-        pages = -(-(len(prints) + job.first - 1) // len(job.plan.places))
-        text += f" on {counted(pages, 'page')}"
+        text += f" on {counted(job.pages_of(len(prints)), 'page')}"
     if lp_words(job, "NAME"):
         text += f"; print the file by: {typed(job, 'NAME')}"
     return text
@@ -320,9 +313,9 @@ def run() -> int:
     talk = PrintTalk()
     found = found_labels(options, job, arguments.lines, talk)
     say(found)
-    press = Press(job, found.laid_out, found.letters, talk)
-    items = found.laid_out.labels
-    prints = with_copies(items) if options.each is None else once(items)
+    press = found.press(talk)
+    items = found.labels
+    prints = found.prints if options.each is None else once(items)
     check_count(job, prints, options.each is not None)
     if options.each is not None:
         write_files(press, items, paths_of(items, options.each))

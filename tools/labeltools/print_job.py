@@ -3,8 +3,7 @@
     options = PrintOptions(paper=(60.0, 40.0), dpi=203, to="zpl")
     job = planned(options)
     prepared = labels_of(options, job, "articles.lines", data, talk)
-    press = Press(job, prepared.laid_out, prepared.letters, talk)
-    press.save(with_copies(prepared.laid_out.labels), Path("labels.zpl"))
+    prepared.press(talk).save(prepared.prints, Path("labels.zpl"))
 """
 
 from dataclasses import dataclass, replace
@@ -18,7 +17,7 @@ from labeltools.letters import Fonts, Letters
 from labeltools.lines_file import UNPRINTABLE, LinesFile, read_lines
 from labeltools.messages import BAD_ARGUMENTS, Place, Talk, ToolError
 from labeltools.pen import Medium, Pen
-from labeltools.press import PrintJob, pens_of
+from labeltools.press import Press, PrintJob, Prints, pens_of, with_copies
 from labeltools.read_back import fault_of
 from labeltools.report import LeftOut, places_text
 from labeltools.stock import Grid, Sheet, Size, grid_sheet, stock_sheet
@@ -31,7 +30,6 @@ WORKBOOK = b"PK\x03\x04"  # what .xlsx and .ods begin with
 UNKNOWN = "unknown symbology"  # what labels(1) says
 TABLE_FIRST = "a table goes through label-table first"
 DENSE = 0.33  # millimetres: modules of QR below it are said
-ASKED = 256  # labels between two calls of `go_on`
 
 
 @dataclass(frozen=True)
@@ -73,15 +71,30 @@ class PrintOptions:
 
 @dataclass(frozen=True)
 class Prepared:
-    """The labels of a file that can be printed, with their layouts; those that cannot; what else is
-    to be said; the tables that they are from; what measures their letters.
+    """How labels go out; those that can be printed, with their layouts; those that cannot;
+    what else is to be said; the tables that they are from; what measures their letters.
     """
 
+    job: PrintJob
     laid_out: LaidOutFile
     left_out: tuple[LeftOut, ...]
     remarks: tuple[str, ...]
     tables: frozenset[str]
     letters: Letters
+
+    @property
+    def labels(self) -> Sequence[LaidOut]:
+        """The labels that can be printed, once each."""
+        return self.laid_out.labels
+
+    @property
+    def prints(self) -> Prints:
+        """The labels with their copies."""
+        return with_copies(self.labels)
+
+    def press(self, talk: Talk) -> Press:
+        """Returns what writes them."""
+        return Press(self.job, self.laid_out, self.letters, talk)
 
 
 def planned(options: PrintOptions) -> PrintJob:
@@ -203,7 +216,7 @@ def prepared(options: PrintOptions, job: PrintJob, found: DrawnLines, talk: Talk
     tables = frozenset(record.table for record in lines.records if record.table)
     remarks = tuple(remarks_on(wanted, laid_out, len(tables) > 1, pens_of(job, letters)[0]))
     laid_out = replace(laid_out, labels=tuple(wanted))
-    return Prepared(laid_out, tuple(left_out), remarks, tables, letters)
+    return Prepared(job, laid_out, tuple(left_out), remarks, tables, letters)
 
 
 def drawn_labels(lines: LinesFile, drawn: Drawn, note: str) -> list[PrintLabel]:
@@ -266,8 +279,7 @@ def faults(
     pen = Pen(Medium(job.plan.dpi, True), job.fonts, letters)
     found = {}
     for done, item in enumerate(items):
-        if done % ASKED == 0:
-            talk.go_on(done, len(items))
+        talk.go_on(done, len(items))
         fault = fault_of(item, laid_out.area, pen)
         if fault is not None:
             found[item.label.record.number] = fault

@@ -1,23 +1,32 @@
-"""Starts label-print: what is missing on this computer is a message."""
+"""Starts label-print and label-window: what is missing on this computer is a message."""
 
 import importlib
+from typing import NoReturn
 
 from labeltools.command_line import main_of
 from labeltools.messages import ToolError
 
-TOOL = "label-print"
-PACKAGES = "apt-get install python3-gi-cairo gir1.2-pango-1.0"
+PACKAGES = "python3-gi-cairo gir1.2-pango-1.0"
 
 
-def run() -> int:
-    """Runs label-print and returns its status."""
-    try:
-        command = importlib.import_module("labeltools.print_command")
-    except (ImportError, ValueError) as missing:
-        raise ToolError(str(missing), PACKAGES) from missing
-    return int(command.run())
+def start(tool: str, module: str, packages: str) -> NoReturn:
+    """Runs the tool of a module to its end."""
+
+    def run() -> int:
+        try:
+            command = importlib.import_module(module)
+        except (ImportError, ValueError) as missing:
+            raise ToolError(str(missing), f"apt-get install {packages}") from missing
+        return int(command.run())
+
+    main_of(tool, run)
 
 
-def main() -> None:
+def main() -> NoReturn:
     """Runs label-print to its end."""
-    main_of(TOOL, run)
+    start("label-print", "labeltools.print_command", PACKAGES)
+
+
+def main_of_window() -> NoReturn:
+    """Runs label-window to its end."""
+    start("label-window", "labeltools.window", f"gir1.2-gtk-3.0 {PACKAGES}")

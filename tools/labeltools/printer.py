@@ -78,6 +78,11 @@ def resolutions_of(queue: str) -> list[str]:
     return [word.removeprefix("*") for word in match[1].split()] if match else []
 
 
+def queues() -> list[str]:
+    """Returns the queues of CUPS; raises `ToolError` where CUPS is not there."""
+    return called(["lpstat", "-e"], None).stdout.decode("utf-8", "replace").split()
+
+
 def print_by(job: PrintJob, queue: str, file: IO[bytes]) -> str:
     """Prints a file that a job has written and returns what lp(1) says; raises `ToolError` where it
     does not take it.
@@ -85,7 +90,9 @@ def print_by(job: PrintJob, queue: str, file: IO[bytes]) -> str:
     done = called(lp_words(job, queue) or [], file)
     if done.returncode:
         said = done.stderr.decode("utf-8", "replace").strip()
-        raise ToolError(f"lp does not print on {queue}: {said}", "lpstat -e lists the queues")
+        names = ", ".join(queues())
+        hint = f"the queues are {names}" if names else "there is no queue"
+        raise ToolError(f"lp does not print on {queue}: {said}", hint)
     return done.stdout.decode("utf-8", "replace").strip()
 
 

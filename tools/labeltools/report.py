@@ -12,11 +12,12 @@ MOST_RANGES = 10  # of rows that a message names
 
 @dataclass(frozen=True, slots=True)
 class LeftOut:
-    """A label that is not printed: its place where that is known, its data, and why."""
+    """A label that is not printed: its place where that is known, its data, why, and what to do."""
 
     place: Optional[Place]
     data: str
     reason: str
+    hint: str = ""
 
 
 def report(left_out: Sequence[LeftOut], tables: Iterable[str]) -> Iterator[str]:

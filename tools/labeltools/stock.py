@@ -169,8 +169,9 @@ def parts() -> dict[PartName, Element]:
 
 
 def forget() -> None:
-    """Frees the parts, which take some 16 MB."""
+    """Frees the parts, which take some 16 MB, and their sheets."""
     parts.cache_clear()
+    sheet_of.cache_clear()
 
 
 @cache
@@ -197,6 +198,7 @@ def length_of(text: Optional[str]) -> float:
     return float(match[1]) * UNITS[match[2]] if match else 0.0
 
 
+@cache
 def sheet_of(key: PartName) -> Sheet:
     """Returns the sheet of a part; raises `ToolError` where no label can be laid out for it."""
     part = parts()[key]

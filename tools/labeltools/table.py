@@ -205,6 +205,10 @@ class Work:
                 for said in column.says():
                     self.talk.say(said.text, said.hint)
         self.say_of_codes()
+        if self.reader.other_currency:
+            row, currency = self.reader.other_currency
+            text = f"row {row} has the currency {quoted(currency)}, which is not known"
+            self.talk.say(text, "if it is right, name it by --currency-name")
         if self.reader.html:
             text = f"row {self.reader.html} has HTML in a title or text, which is printed as it is"
             self.talk.say(text)

@@ -3,18 +3,23 @@
 import argparse
 import gc
 import re
+import shlex
 import sys
-from dataclasses import replace
 from pathlib import Path
-from typing import Callable, TypeVar
+from typing import Any, Callable, Sequence, TypeVar
 
 from labeltools.codes import AUTO, NAMES, CodeRules
+from labeltools.columns import column_word
 from labeltools.command_line import CommandTalk, Parser, main_of, read_input, standard_output
+from labeltools.command_line import words_of
+from labeltools.guess import guess_of
 from labeltools.lines_file import LinesFile, read_lines
-from labeltools.messages import Place, quoted, sentence, write_message
+from labeltools.messages import BadArguments, Place, Silence, ToolError
+from labeltools.messages import quoted, sentence, write_message
 from labeltools.names import listed
 from labeltools.number_format import date_section
 from labeltools.prices import PricePattern
+from labeltools.symbologies import SYMBOLOGIES
 from labeltools.table import Lines, lines_of_table
 from labeltools.table_options import ColumnOptions, FileOptions, PriceRules, TableOptions
 
@@ -77,7 +82,7 @@ def command_line() -> Parser:
 def add_columns(parser: argparse.ArgumentParser) -> None:
     """Adds the arguments that name columns."""
     add = parser.add_argument
-    add("--code", metavar="COLUMN", required=True, help="the column of the codes")
+    add("--code", metavar="COLUMN", help="the column of the codes; without it one is proposed")
     add(
         "--title",
         metavar="COLUMN",
@@ -232,7 +237,9 @@ def row_number(text: str) -> int:
 
 
 def options_of(arguments: argparse.Namespace) -> TableOptions:
-    """Returns the options that the arguments are."""
+    """Returns the options that the arguments are; raises `ToolError` and `OSError` for older lines
+    that cannot be read.
+    """
     is_standard = arguments.table in (None, "-")
     return TableOptions(
         columns=ColumnOptions(
@@ -257,6 +264,7 @@ def options_of(arguments: argparse.Namespace) -> TableOptions:
         prices=PriceRules(arguments.price_text, arguments.price_as, arguments.currency_name),
         settings=arguments.settings or "",
         links=arguments.links,
+        new_since=None if arguments.new_since is None else older_lines(arguments.new_since),
         table="" if is_standard else arguments.table,
     )
 
@@ -275,8 +283,19 @@ def file_options(arguments: argparse.Namespace) -> FileOptions:
     )
 
 
+def understood(words: Sequence[str]) -> argparse.Namespace:
+    """Returns the arguments that words are; raises `BadArguments`."""
+    parser = command_line()
+    arguments = parser.parse_args(words)
+    check(parser, arguments)
+    return arguments
+
+
 def check(parser: Parser, arguments: argparse.Namespace) -> None:
-    """Ends with status 2 for arguments that are wrong, or do not go together."""
+    """Raises `BadArguments` for arguments that are wrong, or do not go together."""
+    if arguments.code is None:
+        what = "the following arguments are required: --code"
+        raise BadArguments(what, parser.format_usage(), proposed(arguments))
     settings = arguments.settings
     if settings is not None and not SETTINGS.fullmatch(settings):
         parser.error(f"--settings {quoted(settings)} is not as height=30 or level=Q,mask=2")
@@ -294,21 +313,39 @@ def check(parser: Parser, arguments: argparse.Namespace) -> None:
         parser.error("--price-text and --price-as do not go together")
 
 
+def proposed(arguments: argparse.Namespace) -> str:
+    """Returns the words that may fit a table; none where it is not a file, or has no codes."""
+    if arguments.table in (None, "-"):
+        return ""
+    name, data = read_input(arguments.table)
+    guess = guess_of(data, name, TableOptions(file=file_options(arguments)), Silence())
+    if "code" not in guess.columns:
+        return ""
+    options: dict[str, Any] = {
+        option: column_word(guess.names, place) for option, place in guess.columns.items()
+    }
+    options["symbology"] = guess.symbology if guess.symbology != AUTO else ""
+    options["header-row"] = guess.header if guess.header > 1 else 0
+    options["no-header"] = not guess.header
+    return f"try {shlex.join([TOOL, *words_of(options), arguments.table])}"
+
+
 def older_lines(path: str) -> LinesFile:
-    """Returns the lines of an older file; one that is empty has none."""
-    data = Path(path).read_bytes()
-    return read_lines(data, path)
+    """Returns the lines of an older file; one that is empty has none. Raises `ToolError` for a file
+    that is not of label-table, such as an older table.
+    """
+    lines = read_lines(Path(path).read_bytes(), path)
+    if any(record.symbology not in SYMBOLOGIES for record in lines.records):
+        hint = "name the lines that were made of a table"
+        raise ToolError(f"{path} has lines that are not of label-table", hint)
+    return lines
 
 
 def run() -> int:
     """Reads the table, and then writes its lines; returns the status."""
-    parser = command_line()
-    arguments = parser.parse_args()
-    check(parser, arguments)
+    arguments = understood(sys.argv[1:])
     output = standard_output()
     options = options_of(arguments)
-    if arguments.new_since is not None:
-        options = replace(options, new_since=older_lines(arguments.new_since))
     name, data = read_input(arguments.table)
     talk = TableTalk()
     lines = lines_of_table(data, name, options, talk)

@@ -1,633 +1,376 @@
 """The window of the shop, by GTK 3: a table, what its columns are for, the pages as they are
-printed, the rows that are left out, and the ways out. Lengths on paper are in millimetres, on the
-screen in pixels.
+printed, the rows that are left out, and the ways out. Its widgets are those of window.ui.
 """
 
 import math
-import subprocess
-import tempfile
+import time
 from collections.abc import Callable
-from dataclasses import replace
-from functools import partial
+from concurrent.futures import Future, ThreadPoolExecutor
+from contextlib import suppress
+from functools import lru_cache, partial
 from pathlib import Path
 from typing import Any
 
-from labeltools.gtk import Gdk, Gio, GLib, Gtk
-from labeltools.memory import Memory
-from labeltools.messages import ToolError
-from labeltools.pango import Pango
-from labeltools.preview import Preview, View
-from labeltools.printer import lp_words
-from labeltools.press import Press
-from labeltools.shop import Choices, Head, Made, Talk, Worker, later_of, made, opened, read_back
+from labeltools import shop
+from labeltools.area import MILLIMETRES
+from labeltools.command_line import Parser
+from labeltools.forms.pdf import POINTS
+from labeltools.messages import ToolError, of_system
+from labeltools.pango import library
+from labeltools.preview import Preview, of_labels
+from labeltools.print_command import check_count, print_on
+from labeltools.print_job import Prepared
+from labeltools.printer import media_of, queues
+from labeltools.shop import COLUMNS, Choices, Labels, Table, Talk, read_back
 from labeltools.stock import list_stock
 from labeltools.translation import translated
-from labeltools.words import _, counted, translated_file
+from labeltools.words import _, counted
+
+Gdk = library("Gdk", "3.0")
+Gio = library("Gio", "2.0")
+GLib = library("GLib", "2.0")
+Gtk = library("Gtk", "3.0")
 
 FILE = Path(__file__).with_name("window.ui")
-COLUMNS = ("code", "title", "text", "price", "unit-price", "old-price", "copies")
-COMBOS = ("symbology", "design", "form", "dpi")
-ENTRIES = ("stock", "for-table", "for-print")
-SIZES = ("width", "height")
-PAPER = ("stock", "sheet", "width", "height", "form")  # a change of these begins at cell 1
-PATTERNS = ("*.xlsx", "*.ods", "*.csv", "*.txt", "*.tsv")
-WAIT = 250  # milliseconds without a change before labels are made anew
+# the controls by the names of options, and the property of each that has what is chosen
+CONTROLS = {
+    **dict.fromkeys((*COLUMNS, "symbology", "design", "to", "dpi"), "active-id"),
+    **dict.fromkeys(("stock", "for-table", "for-print"), "text"),
+    **dict.fromkeys(("header-row", "first", "width", "height"), "value"),
+    **dict.fromkeys(("sheet", "roll"), "active"),
+}
 MANY = 1000  # labels above it are asked for before they are printed
 MOST_NOTES = 2000
-MARGIN = 28  # around the page
-NARROW = 14  # letters of a choice on a small screen
-STEP = 1.25  # of a zoom
-LARGEST = 64.0  # pixels of a millimetre
-A4 = (210, 297)
-STYLE = b"""
-.heading { font-weight: bold; margin-top: 10px } .empty { font-size: 150%; font-weight: bold }
-.desk viewport { background-color: shade(@theme_bg_color, 0.88) }
-.guessed { color: @warning_color; font-weight: bold }
-"""
+DOT = 2  # pixels of a dot, where dots are looked at
+SCREEN_DPI = 96  # of a monitor that does not say its size
+LOOK = 50  # milliseconds between two looks at the work
+PATIENCE = 0.5  # seconds of work after which it is shown
+Then = Callable[[Any], object]
 
 
 class Window:
-    """A window for one table. Everything but `Worker`'s work runs in the thread of GTK."""
+    """A window for one table. Work is done in a thread of its own, since pens belong to one; new
+    work ends the old one, whose result is dropped.
+    """
 
-    def __init__(self, application: Any) -> None:
-        self.builder = Gtk.Builder.new_from_string(translated_file(FILE), -1)
-        self.builder.connect_signals(self)
+    def __init__(self) -> None:
+        self.builder = Gtk.Builder.new_from_file(str(FILE))
+        self.widget = self.builder.get_object
         self.window = self.widget("window")
-        self.window.set_application(application)
-        self.worker = Worker(later_of(GLib.idle_add), self.show_progress)
-        self.memory = Memory.of_user()
-        self.head: Head | None = None
-        self.made: Made | None = None
-        self.preview: Preview | None = None
-        self.first = 1
-        self.number = 0  # of the page or label that is shown, from 0
-        self.zoom = 0.0  # pixels of a millimetre; 0 for the whole
-        self.timer = 0
-        self.is_filling = False
+        self.thread = ThreadPoolExecutor(1)
+        self.talk = Talk()
+        self.path: Path | None = None  # None too while controls are filled
+        self.table: Table | None = None
+        self.labels: Labels | None = None
+        self.previews: list[Preview] = []  # of pages, and of single labels
+        self.offer_sheets()
+        self.builder.connect_signals(self)
         self.window.drag_dest_set(Gtk.DestDefaults.ALL, [], Gdk.DragAction.COPY)
         self.window.drag_dest_add_uri_targets()
-        for name in COMBOS:
-            self.widget(name).set_active(0)
-        for name in (*COLUMNS, *COMBOS):
-            for cell in self.widget(name).get_cells():
-                cell.set_property("ellipsize", Pango.EllipsizeMode.END)
-                cell.set_property("width-chars", NARROW)
-        self.widget("dpi").set_active_id("600")
-        self.offer_sheets()
-        self.show_state()
-
-    def widget(self, name: str) -> Any:
-        """Returns a widget of window.ui."""
-        return self.builder.get_object(name)
-
-    def present(self) -> None:
-        """Shows the window."""
-        self.window.present()
 
     def offer_sheets(self) -> None:
-        """Offers the sheets that have all words that are typed."""
+        """Offers the sheets that label-print lists for what is typed."""
         store = self.widget("sheets")
-        for line in list_stock(""):
-            store.append([line.partition(": ")[0], line])
-        completion = Gtk.EntryCompletion(model=store, minimum_key_length=2, popup_set_width=False)
-        cell = Gtk.CellRendererText()
-        completion.pack_start(cell, True)
-        completion.add_attribute(cell, "text", 1)
-        completion.set_match_func(
-            lambda _completion, typed, row: all(
-                word in store[row][1].casefold() for word in typed.casefold().split()
-            )
-        )
-        completion.connect("match-selected", self.on_sheet)
-        self.widget("stock").set_completion(completion)
-
-    # ---- from a table to labels
-
-    def open(self, path: str) -> None:
-        """Reads the head of a table, guesses its columns or takes those of the last time, and makes
-        its labels.
-        """
-        self.head = None
-        self.made = None
-        self.preview = None
-        self.first = 1
-        self.widget("head").set_subtitle(Path(path).name)
-        self.show_state()
-        self.start(partial(opened, path), self.fill)
-
-    def fill(self, head: Head) -> None:
-        """Fills the choices of columns for a table."""
-        self.head = head
-        self.is_filling = True
-        for option in COLUMNS:
-            combo = self.widget(option)
-            combo.remove_all()
-            if option != "code":
-                combo.append("", _("none"))
-            for number, name in enumerate(head.names, 1):
-                combo.append(str(number), name or _("column {number}").format(number=number))
-            place = head.guess.columns.get(option)
-            default = "1" if option == "code" else ""
-            combo.set_active_id(default if place is None else str(place + 1))
-        self.widget("symbology").set_active_id(head.guess.symbology)
-        self.widget("header").set_active(head.guess.has_header)
-        kept = self.memory.choices(head.names)
-        self.take(kept)
-        self.widget("guessed").set_visible(not kept)
-        self.is_filling = False
-        self.show_state()
-        self.make()
-
-    def take(self, kept: dict[str, Any]) -> None:
-        """Takes choices that were kept."""
-        for name in (*COLUMNS, *COMBOS):
-            if name in kept:
-                self.widget(name).set_active_id(kept[name])
-        for name in ENTRIES:
-            if name in kept:
-                self.widget(name).set_text(kept[name])
-        for name in SIZES:
-            if name in kept:
-                self.widget(name).set_value(kept[name])
-        for name in ("header", "roll"):
-            if name in kept:
-                self.widget(name).set_active(kept[name])
-
-    def given(self) -> dict[str, Any]:
-        """Returns the choices as they are kept."""
-        found: dict[str, Any] = {}
-        for name in (*COLUMNS, *COMBOS):
-            found[name] = self.widget(name).get_active_id() or ""
-        for name in ENTRIES:
-            found[name] = self.widget(name).get_text()
-        for name in SIZES:
-            found[name] = self.widget(name).get_value()
-        for name in ("header", "roll"):
-            found[name] = self.widget(name).get_active()
-        return found
-
-    def choices(self) -> Choices:
-        """Returns what is chosen."""
-        assert self.head is not None
-        given = self.given()
-        columns = {option: given[option] for option in COLUMNS if given[option]}
-        return Choices(
-            table=self.head.path,
-            columns=columns,
-            symbology=given["symbology"],
-            has_header=given["header"],
-            stock=given["stock"],
-            paper=(given["width"], given["height"]) if given["roll"] else None,
-            design=given["design"],
-            form=given["form"],
-            dpi=given["dpi"],
-            first=self.first,
-            for_table=given["for-table"],
-            for_print=given["for-print"],
+        with suppress(ToolError):  # glabels, which has the sheets, is not there
+            for line in list_stock(""):
+                store.append([line.partition(": ")[0], line])
+        listed = lru_cache(1)(lambda typed: set(list_stock(typed)))
+        self.widget("completion").set_match_func(
+            lambda _self, typed, row: store[row][1] in listed(typed)
         )
 
-    def make(self) -> None:
-        """Makes the labels that are chosen."""
-        self.timer = 0
-        if self.head is not None:
-            work = partial(made, self.head, self.choices(), self.made)
-            self.start(work, self.show_labels)
+    # ---- work beside the window
 
-    def start(self, work: Callable[[Talk], Any], then: Callable[[Any], object]) -> None:
-        """Does work beside the window; nothing is printed until it is done."""
+    def start(self, work: Callable[[Talk], Any], then: Then = lambda _result: None) -> None:
+        """Does work; nothing goes out until it is done."""
+        self.talk.is_stopped = True
+        self.talk = Talk()
         self.widget("info").hide()
-        for name in ("print", "save"):
-            self.widget(name).set_sensitive(False)
+        self.widget("out").set_sensitive(False)
+        GLib.timeout_add(LOOK, self.look, self.talk, self.thread.submit(work, self.talk), then)
 
-        def done(result: Any) -> None:
-            self.end_work()
-            then(result)
+    def look(self, talk: Talk, future: "Future[Any]", then: Then) -> bool:
+        """Shows how far work is, or what came of it; returns whether it goes on."""
+        if talk.is_stopped:
+            return False
+        if not future.done():
+            self.widget("working").set_visible(time.monotonic() - talk.begin > PATIENCE)
+            self.widget("progress").set_fraction(talk.progress)
+            return True
+        self.on_stop()
+        try:
+            with suppress(SystemExit):  # --help was typed
+                then(future.result())
+        except (ToolError, OSError) as error:
+            self.show_problem(error if isinstance(error, ToolError) else of_system(error))
+        return False
 
-        self.worker.start(work, done, self.show_problem)
-
-    # ---- what is shown
-
-    def show_state(self) -> None:
-        """Shows the face of the window that goes with what is known."""
-        is_open = self.head is not None
-        self.widget("stack").set_visible_child_name("work" if is_open else "empty")
-        self.widget("command").set_sensitive(is_open)
-        is_roll = self.widget("roll").get_active()
-        self.widget("stock").set_sensitive(not is_roll)
-        for name in SIZES:
-            self.widget(name).set_sensitive(is_roll)
-
-    def show_progress(self, done: int, total: int) -> None:
-        """Shows how far the work is."""
-        bar = self.widget("progress")
-        bar.show()
-        self.widget("stop").show()
-        if total:
-            bar.set_fraction(done / total)
-        else:
-            bar.pulse()
-
-    def end_work(self) -> None:
-        """Hides progress, and lets labels go out where there are some."""
-        self.widget("progress").hide()
-        self.widget("stop").hide()
-        has_labels = self.made is not None and len(self.made.prints) > 0
-        for name in ("print", "save"):
-            self.widget(name).set_sensitive(has_labels)
+    def on_stop(self, _button: Any = None) -> None:
+        """Ends work, and lets labels go out where there are some."""
+        self.talk.is_stopped = True
+        self.widget("working").hide()
+        has_labels = self.labels is not None and len(self.labels.prepared.labels) > 0
+        self.widget("out").set_sensitive(has_labels)
 
     def show_problem(self, error: ToolError) -> None:
         """Shows why there are no labels, or why they do not go out."""
-        self.end_work()
-        texts = [translated(text) for text in (error.what, error.hint) if text]
-        self.widget("problem").set_text("\n".join(texts))
+        self.widget("problem").set_text(said(error.what, error.hint))
         self.widget("info").show()
-        for name in ("print", "save"):
-            self.widget(name).set_sensitive(False)
+        self.widget("out").set_sensitive(False)
 
-    def show_labels(self, labels: Made) -> None:
+    # ---- from a table to labels
+
+    def open(self, path: Path, header: int | None = None) -> None:
+        """Reads a table, guesses its columns or takes those of the last time, and makes labels."""
+        if path != self.path:
+            self.widget("for-table").set_text("")
+        self.path = path
+        self.table = None
+        self.labels = None
+        self.previews = []
+        for name in ("columns", "notes"):
+            self.widget(name).clear()
+        self.widget("count").set_text("")
+        self.widget("head").set_subtitle(path.name)
+        self.widget("stack").set_visible_child_name("work")
+        words = self.widget("for-table").get_text()
+        self.start(partial(shop.opened, path, words, header), self.fill)
+
+    def fill(self, table: Table) -> None:
+        """Fills the choices of columns for a table."""
+        self.path = None
+        guess = table.guess
+        kept = shop.remembered().get("\n".join(guess.names), {})
+        store = self.widget("columns")
+        store.append(["", _("none")])
+        for number, name in enumerate(guess.names, 1):
+            store.append([str(number), name or _("column {number}").format(number=number)])
+        columns = {option: str(place + 1) for option, place in guess.columns.items()}
+        self.take({**dict.fromkeys(COLUMNS, ""), "code": "1", **columns})
+        self.take({"symbology": guess.symbology, **kept, "header-row": guess.header, "first": 1})
+        self.widget("guessed").set_visible(not kept)
+        self.path = table.path
+        self.table = table
+        self.make()
+
+    def take(self, choices: Choices) -> None:
+        """Takes choices, but for what somebody has written into the file of them."""
+        for name, value in choices.items():
+            with suppress(KeyError, TypeError):
+                kind = CONTROLS[name]
+                self.widget(name).set_property(kind, value)
+
+    def choices(self) -> Choices:
+        """Returns what is chosen."""
+        return {name: self.widget(name).get_property(kind) for name, kind in CONTROLS.items()}
+
+    def make(self, _control: Any = None) -> None:
+        """Makes the labels that are chosen."""
+        if self.table is not None:
+            choices = self.choices()
+            work = partial(shop.made, self.table, choices, self.labels)
+            self.start(work, partial(self.show_labels, self.table, choices))
+
+    def show_labels(self, table: Table, choices: Choices, labels: Labels) -> None:
         """Shows the labels that were made, and what there is to say about them."""
-        self.made = labels
-        assert self.head is not None
-        self.memory.keep(self.head.names, self.given())
-        self.preview = Preview(labels)
+        self.labels = labels
+        pages = Preview(labels.prepared.job, labels.prepared, labels.prepared.prints)
+        self.previews = [pages, of_labels(labels.prepared)]
+        shop.remember("\n".join(table.guess.names), choices)
+        self.widget("command").set_text(shop.command(table, choices))
+        self.widget("count").set_text(translated(labels.lines.summary))
         self.show_notes(labels)
-        self.end_work()
-        if not labels.prints.items:
-            self.show_problem(ToolError(_("There is no label to print: see below why.")))
         self.show_view()
+        self.on_stop()
+        check_count(labels.prepared.job, labels.prepared.prints, False)
 
-    def show_notes(self, labels: Made) -> None:
+    def show_notes(self, labels: Labels) -> None:
         """Shows which rows are left out, and why."""
         store = self.widget("notes")
         store.clear()
-        notes = labels.notes()
-        for note in notes[:MOST_NOTES]:
-            why = translated(note.reason)
-            if note.hint:
-                why += f" ({translated(note.hint)})"
-            store.append([note.row, note.cell, why])
-        count = labels.left_out()
-        said = counted(count, "{number} row is left out", "{number} rows are left out")
-        self.widget("left-out").set_text(said if count else _("Please look at this"))
-        self.widget("below").set_visible(bool(notes))
+        for note in labels.notes()[:MOST_NOTES]:
+            row = str(note.place.number) if note.place else ""
+            store.append([row, note.data, said(note.reason, note.hint)])
+        count = len(labels.lines.left_out) + len(labels.left_out())
+        text = counted(count, "{number} row is left out", "{number} rows are left out")
+        self.widget("left-out").set_text(text if count else _("Please look at this"))
+        self.widget("below").set_visible(len(store) > 0)
 
-    def view(self) -> View:
-        """Returns what is looked at."""
-        is_single = self.widget("single").get_active()
-        return View(self.number, is_single, self.widget("dots").get_active())
+    # ---- what is looked at
 
-    def show_view(self) -> None:
-        """Shows the page or the label, and where it is among all."""
-        if self.preview is None:
+    def view(self) -> tuple[str, Preview | None, int]:
+        """Returns what is looked at: how, what draws it, and the number of the page, from 0."""
+        kind = self.widget("view").get_active_id()
+        shown = self.previews[kind != "page"] if self.previews else None
+        return kind, shown, self.widget("number").get_value_as_int() - 1
+
+    def show_view(self, _control: Any = None) -> None:
+        """Shows the page or the label, and how many there are."""
+        kind, shown, _number = self.view()
+        if shown is None:
             return
-        count = self.preview.count(self.view())
-        self.number = max(0, min(self.number, count - 1))
-        where = (
-            _("Label {number} of {all}") if self.view().is_single else _("Page {number} of {all}")
-        )
-        self.widget("where").set_text(where.format(number=self.number + 1, all=count))
-        self.widget("count").set_text(translated(self.preview.made.lines.summary))
-        self.widget("before").set_sensitive(self.number > 0)
-        self.widget("after").set_sensitive(self.number < count - 1)
-        self.set_zoom(self.zoom)
-
-    def scale(self) -> float:
-        """Returns the pixels of a millimetre."""
-        assert self.preview is not None
-        width, height = self.preview.size(self.view())
-        room = self.widget("desk").get_allocation()
-        whole = min((room.width - 2 * MARGIN) / width, (room.height - 2 * MARGIN) / height)
-        return self.zoom or max(0.3, min(whole, LARGEST))
-
-    def set_zoom(self, zoom: float) -> None:
-        """Shows the view with so many pixels of a millimetre; 0 shows the whole."""
-        self.zoom = min(zoom, LARGEST)
-        if self.preview is None:
-            return
+        self.widget("number").set_range(1, shown.count)
+        self.widget("of").set_text(_("of {all}").format(all=shown.count))
+        width, height = shown.size
+        scale = {"dots": DOT / shown.job.plan.dot, "true": self.true_scale()}.get(kind, 0.0)
         paper = self.widget("paper")
-        sides = (1, 1)
-        if self.zoom:
-            width, height = self.preview.size(self.view())
-            sides = (math.ceil(width * zoom) + 2 * MARGIN, math.ceil(height * zoom) + 2 * MARGIN)
-        paper.set_size_request(*sides)
+        paper.set_size_request(math.ceil(width * scale), math.ceil(height * scale))
+        for side in ("halign", "valign"):
+            paper.set_property(side, Gtk.Align.CENTER if scale else Gtk.Align.FILL)
+        self.widget("desk").set_property("ratio", width / height)
         paper.queue_draw()
 
-    def corner(self) -> tuple[int, int]:
-        """Returns where the view begins in its area."""
-        assert self.preview is not None
-        width, height = self.preview.size(self.view())
-        room = self.widget("paper").get_allocation()
-        scale = self.scale()
-        return round((room.width - width * scale) / 2), round((room.height - height * scale) / 2)
+    def true_scale(self) -> float:
+        """Returns the pixels of a millimetre of the monitor, as far as it says its size."""
+        monitor = self.window.get_display().get_monitor_at_window(self.window.get_window())
+        width = monitor.get_width_mm()
+        return float(monitor.get_geometry().width / width if width else SCREEN_DPI / MILLIMETRES)
 
-    def cell_at(self, x: float, y: float) -> int:
-        """Returns the number of the cell at a point of the first page, from 1; 0 for none."""
-        if self.preview is None or self.number or self.view().is_single:
-            return 0
-        left, top = self.corner()
-        scale = self.scale()
-        return self.preview.cell_at((x - left) / scale, (y - top) / scale)
+    def on_draw(self, paper: Any, canvas: Any) -> None:
+        """Draws the view."""
+        kind, shown, number = self.view()
+        if shown is not None:
+            scale = paper.get_allocated_width() / shown.size[0]
+            canvas.scale(scale, scale)
+            shown.draw(canvas, number, kind == "dots")
 
-    def begin_at(self, number: int) -> None:
-        """Begins at a cell of the first page: those before it are used."""
-        if not number or self.made is None:
-            return
-        self.first = number
-        choices = replace(self.made.choices, first=number)
-        self.made = replace(self.made, choices=choices, job=replace(self.made.job, first=number))
-        self.preview = Preview(self.made)
-        self.show_view()
+    def on_click(self, paper: Any, event: Any) -> None:
+        """Begins at the cell of the first page that was clicked: those before it are used."""
+        kind, shown, number = self.view()
+        if shown is not None and kind == "page" and number == 0:
+            scale = paper.get_allocated_width() / shown.size[0]
+            cell = shown.cell_at(event.x / scale, event.y / scale)
+            self.widget("first").set_value(cell or shown.job.first)
 
-    # ---- ways out
+    def on_note(self, selection: Any) -> None:
+        """Shows the label of the row that was chosen, where there is one."""
+        model, row = selection.get_selected()
+        shown = self.view()[1]
+        if row is not None and shown is not None and model[row][0]:
+            page = shown.page_of_row(int(model[row][0]))
+            if page is not None:
+                self.widget("number").set_value(page + 1)
 
-    def current(self) -> Made:
-        """Returns the labels that are shown."""
-        assert self.made is not None
-        return self.made
+    # ---- ways in and out
 
-    def asked(self) -> bool:
-        """Returns whether so many labels are meant."""
-        count = len(self.current().prints)
-        if count <= MANY:
-            return True
-        text = _("Print {count} labels?").format(count=count)
-        dialog = Gtk.MessageDialog(
-            transient_for=self.window,
-            message_type=Gtk.MessageType.QUESTION,
-            buttons=Gtk.ButtonsType.OK_CANCEL,
-            text=text,
-            secondary_text=translated(self.current().lines.summary),
-        )
-        answer = dialog.run()
-        dialog.destroy()
-        return bool(answer == Gtk.ResponseType.OK)
+    def on_open(self, _button: Any) -> None:
+        """Asks for a table."""
+        if self.widget("opener").run() == Gtk.ResponseType.ACCEPT:
+            self.open(Path(self.widget("opener").get_filename()))
 
-    def save(self, path: Path, then: Callable[[Any], object] = lambda _result: None) -> None:
-        """Reads each label back, and writes what label-print writes into a file."""
-        labels = self.current()
+    def on_drop(self, _widget: Any, *event: Any) -> None:
+        """Opens a table that was dropped."""
+        for uri in event[3].get_uris()[:1]:
+            self.open(Path(Gio.File.new_for_uri(uri).get_path() or uri))
 
-        def work(talk: Talk) -> None:
-            read_back(labels, talk)
-            press = Press(labels.job, labels.prepared.laid_out, labels.prepared.letters, talk)
-            press.save(labels.prints, path)
+    def on_header(self, control: Any) -> None:
+        """Takes the names of the columns from another row."""
+        if self.path is not None:
+            self.open(self.path, control.get_value_as_int())
 
-        self.start(work, then)
+    def on_words(self, _entry: Any) -> None:
+        """Reads the table by other words, such as its encoding."""
+        if self.path is not None:
+            self.open(self.path)
 
-    def print_all(self) -> None:
+    def on_save(self, _button: Any) -> None:
+        """Asks for a file, and writes it."""
+        labels = self.meant()
+        chooser = self.widget("saver")
+        if labels is not None:
+            chooser.set_current_name(f"labels.{labels.job.form.name}")
+            if chooser.run() == Gtk.ResponseType.ACCEPT:
+                self.save(Path(chooser.get_filename()))
+
+    def save(self, path: Path) -> None:
+        """Reads each label back, and writes what label-print writes."""
+        assert self.labels is not None
+        labels = self.labels.prepared
+        self.start(lambda talk: read_back(labels, talk).save(labels.prints, path))
+
+    def on_print(self, _button: Any) -> None:
         """Prints: by the dialog of the desktop, or for ZPL and ESC/POS the file at a queue."""
-        labels = self.current()
-        if labels.job.form.is_roll:
-            self.offer_queues()
-        else:
-            self.start(partial(read_back, labels), lambda _result: self.run_dialog())
+        labels = self.meant()
+        if labels is not None and labels.job.form.is_roll:
+            self.start(lambda _talk: queues(), partial(self.ask_queue, labels))
+        elif labels is not None:
+            self.start(partial(read_back, labels), self.ask_printer)
 
-    def run_dialog(self) -> None:
-        """Asks for a printer, and prints."""
+    def meant(self) -> Prepared | None:
+        """Returns the labels that are shown; asks whether many of them are meant."""
+        if self.labels is None:
+            return None
+        if len(self.labels.prepared.prints) > MANY:
+            dialog = self.widget("many")
+            dialog.set_property("secondary-text", translated(self.labels.lines.summary))
+            answer = dialog.run()
+            dialog.hide()
+            if answer != Gtk.ResponseType.OK:
+                return None
+        return self.labels.prepared
+
+    def ask_queue(self, labels: Prepared, names: list[str]) -> None:
+        """Asks for a queue for the file of a printer's own language."""
+        menu = Gtk.Menu()
+        for name in names or [_("there is no printer")]:
+            item = Gtk.MenuItem(label=name, sensitive=bool(names), visible=True)
+            item.connect("activate", self.send, labels, name)
+            menu.append(item)
+        south = Gdk.Gravity.SOUTH_WEST
+        menu.popup_at_widget(self.widget("print"), south, Gdk.Gravity.NORTH_WEST, None)
+
+    def send(self, _item: Any, labels: Prepared, queue: str) -> None:
+        """Reads each label back, and sends what label-print writes to a queue."""
+        self.start(lambda talk: print_on(read_back(labels, talk), labels.prints, queue))
+
+    def ask_printer(self, _press: Any) -> None:
+        """Asks for a printer by the dialog of the desktop, and prints."""
         self.operation().run(Gtk.PrintOperationAction.PRINT_DIALOG, self.window)
 
     def operation(self) -> Any:
         """Returns what prints each page in its own size: no scaling, no margins of the printer."""
-        preview = self.preview
-        assert preview is not None
-        job = preview.made.job
-        width, height = job.plan.sheet.page
-        size = Gtk.PaperSize.new_custom("labels", _("Labels"), width, height, Gtk.Unit.MM)
-        if (round(width), round(height)) == A4:
-            size = Gtk.PaperSize.new("iso_a4")
+        pages = self.previews[0]
+        points = [side * POINTS / MILLIMETRES for side in pages.size]
         setup = Gtk.PageSetup()
-        setup.set_paper_size(size)
-        for side in ("top", "bottom", "left", "right"):
-            getattr(setup, f"set_{side}_margin")(0, Gtk.Unit.MM)
+        setup.set_paper_size(Gtk.PaperSize.new_from_ppd(media_of(pages.size), _("Labels"), *points))
         settings = Gtk.PrintSettings()
-        settings.set_scale(100)
         settings.set("cups-print-scaling", "none")
-        settings.set("cups-Resolution", f"{job.plan.dpi}dpi")
+        settings.set("cups-Resolution", f"{pages.job.plan.dpi}dpi")
         operation = Gtk.PrintOperation(
             default_page_setup=setup,
             print_settings=settings,
             use_full_page=True,
             unit=Gtk.Unit.POINTS,
-            n_pages=preview.pages(),
-            job_name=self.widget("head").get_subtitle() or "labels",
+            n_pages=pages.count,
+            job_name=self.widget("head").get_subtitle(),
             allow_async=True,
             show_progress=True,
         )
         operation.connect(
             "draw-page",
-            lambda _operation, context, number: preview.print_page(
-                context.get_cairo_context(), number
-            ),
+            lambda _self, context, number: pages.print(context.get_cairo_context(), number),
         )
         return operation
 
-    def offer_queues(self) -> None:
-        """Shows the queues that can take the file of a printer's own language."""
-        found = subprocess.run(["lpstat", "-e"], capture_output=True, text=True, check=False)
-        queues = found.stdout.split()
-        menu = Gtk.Menu()
-        for queue in queues or [_("there is no printer")]:
-            item = Gtk.MenuItem(label=queue, sensitive=bool(queues), visible=True)
-            item.connect("activate", lambda _item, name: self.send(name), queue)
-            menu.append(item)
-        place = (Gdk.Gravity.SOUTH_WEST, Gdk.Gravity.NORTH_WEST)
-        menu.popup_at_widget(self.widget("print"), *place, None)
 
-    def send(self, queue: str) -> None:
-        """Sends the file to a queue as it is."""
-        labels = self.current()
-        folder = tempfile.mkdtemp(prefix="labels-")
-        path = Path(folder, f"labels.{labels.job.form.name}")
-        words = [*(lp_words(labels.job, queue) or []), str(path)]
-
-        def sent(_result: object) -> None:
-            done = subprocess.run(words, capture_output=True, text=True, check=False)
-            path.unlink()
-            path.parent.rmdir()
-            if done.returncode:
-                self.show_problem(ToolError(done.stderr.strip()))
-
-        self.save(path, sent)
-
-    # ---- handlers of window.ui
-
-    def on_changed(self, widget: Any) -> None:
-        """A choice was changed: labels are made anew, once nothing was changed for a moment."""
-        self.show_state()
-        if self.head is None or self.is_filling:
-            return
-        if widget in map(self.widget, PAPER):
-            self.first = 1
-        if self.timer:
-            GLib.source_remove(self.timer)
-        self.timer = GLib.timeout_add(WAIT, self.make)
-
-    def on_sheet(self, _completion: Any, model: Any, row: Any) -> bool:
-        """A sheet was taken from those that are offered."""
-        self.widget("stock").set_text(model[row][0])
-        return True
-
-    def on_open(self, _button: Any) -> None:
-        """Asks for a table."""
-        action = Gtk.FileChooserAction.OPEN
-        dialog = Gtk.FileChooserNative.new(_("Open a table"), self.window, action, None, None)
-        names = Gtk.FileFilter()
-        names.set_name(_("Tables"))
-        for pattern in PATTERNS:
-            names.add_pattern(pattern)
-        dialog.add_filter(names)
-        if dialog.run() == Gtk.ResponseType.ACCEPT:
-            self.open(dialog.get_filename())
-        dialog.destroy()
-
-    def on_save(self, _button: Any) -> None:
-        """Asks for a file, and writes it."""
-        if self.made is None or not self.asked():
-            return
-        action = Gtk.FileChooserAction.SAVE
-        dialog = Gtk.FileChooserNative.new(_("Save"), self.window, action, None, None)
-        dialog.set_current_name(f"{Path(self.made.choices.table).stem}.{self.made.job.form.name}")
-        dialog.set_do_overwrite_confirmation(True)
-        if dialog.run() == Gtk.ResponseType.ACCEPT:
-            self.save(Path(dialog.get_filename()))
-        dialog.destroy()
-
-    def on_print(self, _button: Any) -> None:
-        """Prints."""
-        if self.made is not None and self.asked():
-            self.print_all()
-
-    def on_command(self, _button: Any) -> None:
-        """Shows the line that does the same in a shell."""
-        if self.head is None:
-            return
-        dialog = Gtk.MessageDialog(
-            transient_for=self.window, buttons=Gtk.ButtonsType.CLOSE, text=_("The command")
-        )
-        dialog.format_secondary_text(self.choices().command())
-        for label in dialog.get_message_area().get_children():
-            label.set_selectable(True)
-        dialog.connect("response", lambda box, _answer: box.destroy())
-        dialog.show()
-
-    def on_drop(self, _widget: Any, *event: Any) -> None:
-        """Opens a table that was dropped."""
-        uris = event[3].get_uris()
-        if uris:
-            self.open(Gio.File.new_for_uri(uris[0]).get_path() or "")
-
-    def on_stop(self, _button: Any) -> None:
-        """Stops the work."""
-        self.worker.stop()
-        self.end_work()
-
-    def on_destroy(self, _window: Any) -> None:
-        """Ends the work of a window that is closed."""
-        self.worker.stop()
-
-    def on_view(self, _button: Any) -> None:
-        """Shows pages or single labels, as on paper or in dots."""
-        self.show_view()
-
-    def on_room(self, _area: Any, _room: Any) -> None:
-        """Shows the whole in a room of another size."""
-        if self.preview is not None and not self.zoom:
-            self.widget("paper").queue_draw()
-
-    def on_before(self, _button: Any) -> None:
-        """Shows the page or label before."""
-        self.number -= 1
-        self.show_view()
-
-    def on_after(self, _button: Any) -> None:
-        """Shows the next page or label."""
-        self.number += 1
-        self.show_view()
-
-    def on_smaller(self, _button: Any) -> None:
-        """Shows the view smaller."""
-        if self.preview is not None:
-            self.set_zoom(self.scale() / STEP)
-
-    def on_larger(self, _button: Any) -> None:
-        """Shows the view larger."""
-        if self.preview is not None:
-            self.set_zoom(self.scale() * STEP)
-
-    def on_whole(self, _button: Any) -> None:
-        """Shows the whole view."""
-        self.set_zoom(0.0)
-
-    def on_true_size(self, _button: Any) -> None:
-        """Shows the view in its size on paper, as far as the monitor says its own size."""
-        monitor = self.window.get_display().get_monitor_at_window(self.window.get_window())
-        width = monitor.get_width_mm()
-        self.set_zoom(monitor.get_geometry().width / width if width else 96 / 25.4)
-
-    def on_draw(self, area: Any, canvas: Any) -> None:
-        """Draws the view."""
-        if self.preview is not None:
-            ratio = area.get_scale_factor()
-            self.preview.draw(canvas, self.view(), self.scale(), self.corner(), ratio)
-
-    def on_click(self, area: Any, event: Any) -> bool:
-        """Begins at the cell that was clicked."""
-        area.grab_focus()
-        self.begin_at(self.cell_at(event.x, event.y))
-        return True
-
-    def on_key(self, _area: Any, event: Any) -> bool:
-        """Turns pages, and moves the first cell, by keys."""
-        keys = {
-            Gdk.KEY_Page_Up: self.on_before,
-            Gdk.KEY_Page_Down: self.on_after,
-        }
-        if event.keyval in keys:
-            keys[event.keyval](None)
-            return True
-        steps = {Gdk.KEY_Left: -1, Gdk.KEY_Right: 1}
-        if event.keyval in steps and self.preview is not None:
-            cells = len(self.preview.made.job.plan.places)
-            self.begin_at(max(1, min(self.first + steps[event.keyval], cells)))
-            return True
-        return False
-
-    def on_tooltip(self, _area: Any, x: int, y: int, _is_keyboard: bool, tip: Any) -> bool:
-        """Says what a click does."""
-        number = self.cell_at(x, y)
-        tip.set_text(_("Begin at label {number}").format(number=number))
-        return number > 0
-
-    def on_note(self, selection: Any) -> None:
-        """Shows the label of the row that was chosen, where there is one."""
-        model, row = selection.get_selected()
-        if row is None or self.preview is None or not model[row][0].isdecimal():
-            return
-        number = self.preview.label_of_row(int(model[row][0]), self.view())
-        if number is not None:
-            self.number = number
-            self.show_view()
+def said(what: str, hint: str) -> str:
+    """Returns a reason, and below it what to do."""
+    return "\n".join(translated(text) for text in (what, hint) if text)
 
 
-def style() -> None:
-    """Loads the style of the window."""
-    provider = Gtk.CssProvider()
-    provider.load_from_data(STYLE)
-    priority = Gtk.STYLE_PROVIDER_PRIORITY_APPLICATION
-    Gtk.StyleContext.add_provider_for_screen(Gdk.Screen.get_default(), provider, priority)
-
-
-def application() -> Any:
-    """Returns the application: a window for each table that is opened."""
-    flags = Gio.ApplicationFlags.HANDLES_OPEN | Gio.ApplicationFlags.NON_UNIQUE
-    found = Gtk.Application(application_id="org.labels.Window", flags=flags)
-    found.connect("startup", lambda _application: style())
-    found.connect("activate", lambda one: Window(one).present())
-
-    def open_all(one: Any, files: Any, _count: int, _hint: str) -> None:
-        for file in files:
-            window = Window(one)
-            window.present()
-            window.open(file.get_path())
-
-    found.connect("open", open_all)
-    return found
+def run() -> int:
+    """Runs label-window and returns its status."""
+    about = "Prints labels from a table by a window over label-table and label-print."
+    parser = Parser("label-window", None, about, allow_abbrev=False)
+    parser.add_argument("table", metavar="TABLE", nargs="?", help="a table to open")
+    table = parser.parse_args().table
+    if not Gtk.init_check()[0]:
+        raise ToolError("there is no screen", "on a terminal type label-table and label-print")
+    GLib.set_prgname("org.labels.Window")
+    window = Window()
+    window.window.connect("destroy", Gtk.main_quit)
+    window.window.present()
+    if table is not None:
+        window.open(Path(table))
+    Gtk.main()
+    return 0

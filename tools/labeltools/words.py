@@ -1,9 +1,9 @@
 """Texts in the language of the user, by gettext."""
 
 import gettext
+import locale
 import os
 from pathlib import Path
-from xml.etree import ElementTree
 
 DOMAIN = "label-tools"
 # translations beside the package, where it is not installed
@@ -16,6 +16,7 @@ def folder() -> str | None:
     return named or (str(BESIDE) if BESIDE.is_dir() else None)
 
 
+locale.bindtextdomain(DOMAIN, folder())  # for the texts of window.ui, which GTK translates
 _translation = gettext.translation(DOMAIN, folder(), fallback=True)
 _ = _translation.gettext
 
@@ -28,12 +29,3 @@ def is_translated() -> bool:
 def counted(count: int, one: str, many: str) -> str:
     """Returns a text with a number of things, `{number}`, in its place."""
     return _translation.ngettext(one, many, count).format(number=count)
-
-
-def translated_file(path: Path) -> str:
-    """Returns a file of GtkBuilder with its texts in the language of the user."""
-    tree = ElementTree.parse(path)
-    for element in tree.iter():
-        if element.attrib.pop("translatable", "no") == "yes":
-            element.text = _(element.text or "")
-    return ElementTree.tostring(tree.getroot(), encoding="unicode")

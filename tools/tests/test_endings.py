@@ -2,6 +2,7 @@
 signals, streams.
 """
 
+import fcntl
 import json
 import os
 import signal
@@ -35,6 +36,13 @@ HEAD, END = (
 
 def setUpModule() -> None:
     os.environ["LABELS"] = str(support.labels_program())
+
+
+def takes(run: "subprocess.Popen[bytes]", number: int) -> bool:
+    """Whether a process has a handler of its own for a signal."""
+    status = Path(f"/proc/{run.pid}/status").read_text()
+    caught = int(status.partition("SigCgt:")[2].split()[0], 16)
+    return bool(caught >> (number - 1) & 1)
 
 
 def records_of(data: bytes) -> Tuple[LineRecord, ...]:
@@ -353,19 +361,21 @@ class Signals(unittest.TestCase):
 
     def test_a_second_signal_ends_it_at_once(self) -> None:
         reader, writer = os.pipe()
+        fcntl.fcntl(writer, fcntl.F_SETPIPE_SZ, 4096)
         lines = support.file_of([(line, {"copies": 99}) for line, _ in LABELS])
         with tempfile.NamedTemporaryFile() as file:
             Path(file.name).write_bytes(lines)
             command = [str(support.TOOLS / "label-print"), *ROLL, "pbm", file.name]
             with subprocess.Popen(command, stdout=writer, env=support.environment()) as run:
                 os.close(writer)
-                os.read(reader, 1)
-                time.sleep(0.3)  # the pipe is full then
+                os.read(reader, 1)  # a label is larger than the pipe: its write waits
+                self.assertTrue(takes(run, signal.SIGTERM))
                 run.terminate()
-                time.sleep(0.2)
+                while takes(run, signal.SIGTERM):
+                    time.sleep(0.01)
                 self.assertIsNone(run.poll())
                 run.terminate()
-                self.assertEqual(run.wait(10), -signal.SIGTERM)
+                self.assertEqual(run.wait(support.SECONDS), -signal.SIGTERM)
         os.close(reader)
 
     def test_an_ignored_signal_stays_ignored(self) -> None:

@@ -4,6 +4,7 @@ import os
 import re
 import subprocess
 import tempfile
+import time
 import unittest
 from pathlib import Path
 from typing import Any, Optional
@@ -272,11 +273,10 @@ class Hostile(unittest.TestCase):
             child = int(kept.read_text())
             run.kill()
             run.wait()
-            for _ in range(100):
-                if not Path(f"/proc/{child}").exists() or is_gone(child):
-                    break
-                subprocess.run(["sleep", "0.05"])
-            self.assertTrue(not Path(f"/proc/{child}").exists() or is_gone(child))
+            end = time.monotonic() + support.SECONDS
+            while not is_gone(child):
+                self.assertLess(time.monotonic(), end)
+                time.sleep(0.05)
 
     def test_a_program_that_is_killed(self) -> None:
         with tempfile.TemporaryDirectory() as folder:

@@ -12,7 +12,6 @@ import re
 import shutil
 import subprocess
 import tempfile
-import time
 import unittest
 from pathlib import Path
 from typing import Any, Dict, List, Sequence, Tuple, Union
@@ -1338,21 +1337,21 @@ class Manual(unittest.TestCase):
 class LongTables(TableTest):
     def test_many_rows_in_seconds(self) -> None:
         table = "code;name\n" + f'{PENCIL};"a, b"\n' * 20000
-        before = time.monotonic()
+        before = support.processor_seconds()
         done = support.run("label-table", "--code", "code", input=table.encode())
         self.assertEqual((done.returncode, done.stdout.count(b"\n"), done.stderr), (0, 40002, b""))
-        self.assertLess(time.monotonic() - before, 20)
+        self.assertLess(support.processor_seconds() - before, 20)
 
     def test_many_rows_of_qr_in_seconds(self) -> None:
         table = "code;name\n" + "".join(
             f"https://example.com/01/0{PENCIL}/21/{n};x\n" for n in range(20000)
         )
-        before = time.monotonic()
+        before = support.processor_seconds()
         done = support.run(
             "label-table", "--code", "code", "--symbology", "qr", input=table.encode()
         )
         self.assertEqual((done.returncode, done.stdout.count(b"\n"), done.stderr), (0, 40002, b""))
-        self.assertLess(time.monotonic() - before, 20)
+        self.assertLess(support.processor_seconds() - before, 20)
 
 
 if __name__ == "__main__":

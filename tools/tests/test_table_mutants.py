@@ -1,8 +1,8 @@
 """Thousands of damaged .xlsx and .ods, by a fixed seed: none ends label-table with a traceback,
 late, or in memory.
 
-The mutants are read in a process of their own, which has a limit of memory, and an alarm for each
-mutant. Whatever a mutant is, label-table writes a whole file or says what is wrong with a message.
+The mutants are read in a process of their own, which has a limit of memory, and one of its
+time for each mutant. Whatever a mutant is, label-table writes a whole file or says what is wrong with a message.
 """
 
 import os
@@ -15,7 +15,8 @@ import sys
 import time
 import unittest
 import zipfile
-from typing import Callable, Dict, List, Sequence
+from contextlib import contextmanager
+from typing import Callable, Dict, Iterator, List, Sequence
 
 import support
 from labeltools.messages import Silence, ToolError
@@ -205,17 +206,27 @@ def late(number: int, frame: object) -> None:
     raise TimeoutError
 
 
+@contextmanager
+def in_time(seconds: float) -> Iterator[None]:
+    """Raises `TimeoutError` in what takes more time of the processor."""
+    signal.signal(signal.SIGPROF, late)
+    signal.setitimer(signal.ITIMER_PROF, seconds)
+    try:
+        yield
+    finally:
+        signal.setitimer(signal.ITIMER_PROF, 0)
+
+
 def read_all(first: int, last: int) -> None:
     """Reads mutants, in a process of its own; prints those that end otherwise than they should."""
     resource.setrlimit(resource.RLIMIT_AS, (MEMORY, MEMORY))
-    signal.signal(signal.SIGALRM, late)
     files = base_files()
     whole = refused = 0
     for number in range(first, last):
         data = mutant(files, number)
-        signal.alarm(SECONDS)
         try:
-            lines = lines_of_table(data, "x", OPTIONS, Silence())
+            with in_time(SECONDS):
+                lines = lines_of_table(data, "x", OPTIONS, Silence())
             if not lines.output.endswith(b"\n") or b'#{"end":1,' not in lines.output:
                 print(f"mutant {number}: no whole file")
             whole += 1
@@ -229,7 +240,6 @@ def read_all(first: int, last: int) -> None:
             refused += 1
         except Exception as error:  # whatever it is, a user would see a traceback
             print(f"mutant {number}: {type(error).__name__}: {error}")
-        signal.alarm(0)
     print(f"{whole} whole, {refused} refused")
 
 
@@ -237,7 +247,7 @@ class Mutants(unittest.TestCase):
     def test_mutants(self) -> None:
         count = int(os.environ.get("MUTANTS", MUTANTS))
         step = -(-count // 4)
-        before = time.monotonic()
+        before = support.processor_seconds()
         command = [sys.executable, __file__, "--mutants"]
         children = [
             subprocess.Popen(
@@ -256,7 +266,14 @@ class Mutants(unittest.TestCase):
         refused = sum(int(total[2]) for total in totals if total)
         self.assertEqual(whole + refused, count)
         self.assertGreater(min(whole, refused), count // 20, "mutants of one kind alone say little")
-        self.assertLess(time.monotonic() - before, 600)
+        self.assertLess(support.processor_seconds() - before, 600)
+
+    def test_a_mutant_that_takes_too_long_is_found(self) -> None:
+        with in_time(0.1):
+            time.sleep(0.3)
+        with self.assertRaises(TimeoutError), in_time(0.1):
+            while True:
+                pass
 
     def test_mutants_are_by_the_seed_alone(self) -> None:
         files = base_files()

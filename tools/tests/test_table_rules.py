@@ -282,6 +282,29 @@ class Prices(RulesTest):
         self.assertEqual((status, [label["price"] for label, _ in labels]), (1, ["7,50 €"]))
         self.assertIn("it has CHF, and the pattern of prices has EUR", messages[0])
 
+    def test_a_column_that_has_no_currencies(self) -> None:
+        """One that is not known is said; one with digits, none, or another one than that of the
+        price is refused; it stands before the unit of a price.
+        """
+        row = f"{SMALL};1.00;2.00/kg;"
+        text = f"EAN;Preis;Grundpreis;Währung\n{row}EUR\n{row}Soap\n{row}7\n{row}\n"
+        text += f"{SMALL};1.00 €;;USD\n"
+        arguments = "--code EAN --price Preis --unit-price Grundpreis --currency Währung".split()
+        status, messages, labels = self.said(text, *arguments)
+        found = [(label["price"], label["unit"]) for label, _ in labels]
+        self.assertEqual(found, [("1.00 EUR", "2.00 EUR/kg"), ("1.00 Soap", "2.00 Soap/kg")])
+        cannot = "which cannot be printed so: it has"
+        for message in (
+            'row 4: column 4 ("Währung") has "7", which is no currency',
+            f'row 5: column 2 ("Preis") has "1.00", {cannot} no currency, and its row has none',
+            f'row 6: column 2 ("Preis") has "1.00 €", {cannot} EUR, and its row has USD',
+            'row 3 has the currency "Soap", which is not known: if it is right, name it by '
+            "--currency-name",
+        ):
+            self.assertIn(message, messages)
+        labels = self.said(text, *arguments, "--price-as", "0,00 €")[2]
+        self.assertEqual([label["price"] for label, _ in labels], ["1,00 €", "1,00 €"])
+
     def test_the_price_of_a_unit_and_the_old_price(self) -> None:
         text = f"EAN;Preis;Grundpreis;Alt\n{SMALL};1,99;1 kg = 7,96 €;2,49\n{BOOK};5,00;5,00 €/l;\n"
         arguments = (
@@ -562,6 +585,16 @@ class Marked(RulesTest):
             " spelled"
         )
         self.check(self.TEXT, ["--code", "EAN", "--where", "Drucken=ja"], [], [problem], 1)
+
+    def test_an_older_table_is_not_its_lines(self) -> None:
+        text = f"EAN;Name;Preis\n{SMALL};a;1,00\n"
+        older = self.folder / "old.csv"
+        older.write_text(text)
+        arguments = ("--code", "EAN", "--title", "Name", "--new-since", str(older))
+        status, messages, labels = self.said(text, *arguments)
+        self.assertEqual((status, labels), (1, []))
+        problem = f"{older} has lines that are not of label-table: name the lines that were made"
+        self.assertEqual(messages, [f"{problem} of a table"])
 
     def test_only_what_is_new(self) -> None:
         text = f"EAN;Name;Preis\n{SMALL};a;1,00\n{BOOK};b;2,00\n{PENCIL};c;3,00\n"

@@ -8,7 +8,6 @@ documentation of its number formats says.
 
 import io
 import subprocess
-import time
 import unittest
 import zipfile
 from typing import Dict, List, Optional, Sequence, Tuple, Union
@@ -962,7 +961,7 @@ class LongTables(WorkbookTest):
             xlsx(lines, formats=["0.00"]),
             ods(table(["EAN", "Name", "Price"], *([PENCIL, "a", "1"] for _ in range(20000)))),
         ):
-            before = time.monotonic()
+            before = support.processor_seconds()
             done = support.run(
                 "label-table",
                 *("--code", "EAN", "--title", "Name", "--price", "Price", "--decimal", ","),
@@ -971,7 +970,7 @@ class LongTables(WorkbookTest):
             self.assertEqual(
                 (done.returncode, done.stdout.count(b"\n"), done.stderr), (0, 40002, b"")
             )
-            self.assertLess(time.monotonic() - before, 40)
+            self.assertLess(support.processor_seconds() - before, 40)
 
 
 if __name__ == "__main__":

@@ -1,4 +1,3 @@
 pub mod SliceLaws
 pub mod LineLaws
-pub mod DeclinesLaws
 pub mod TextLaws

@@ -13,12 +13,8 @@ use Rattle.filter.specs.Symbol.{Symbol, symbol_of}
 use Rattle.capi.specs.Numbers.{code_of, options_numbered, symbology_numbered}
 use Rattle.capi.specs.Room.{put_text}
 use Rattle.capi.specs.declared.numbers.Answer.{Answer}
+use Rattle.capi.specs.declared.asked.Asked.{Asked}
 use Rattle.capi.specs.declared.numbers.CallOptions.{CallOptions}
-
--- what is asked for
-pub record Asked : Type 0 where
-  pub options : Options
-  pub symbology : Symbology
 
 -- what is asked for, or the code of why nothing can be drawn: options, then symbology, then data
 abbrev pub asked_of : Option Options → Option Symbology → List ℕ → Result Asked ℕ

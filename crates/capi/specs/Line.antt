@@ -1,6 +1,5 @@
 -- What a call of the C library leaves of one line of text.
-use Rattle.std.specs.Prelude.{ℕ, nat_eq, Bool, Option, None, Some, Ok, List, [], IfOk, IfSome, ⊤}
-use Rattle.std.specs.Bool.{MatchBool}
+use Rattle.std.specs.Prelude.{ℕ, nat_eq, Bool, Option, None, Some, Result, Ok, Err, List, [], IfOk, if◌then◌else◌, ⊤}
 use Rattle.std.specs.List.{list_any}
 use Rattle.labelcore.specs.LineItem.{Outcome, Request, skipped, refused, drawn, item}
 use Rattle.labelcore.specs.Lines.{LF}
@@ -16,13 +15,23 @@ use Rattle.filter.specs.Readback.{IsRead}
 use Rattle.filter.specs.Symbol.{Symbol, symbol_of}
 use Rattle.capi.specs.Calls.{Declines, PutsWhole, Rooms}
 use Rattle.capi.specs.Modules.{AnswersModules, DeclinesModules, HasNumbers, IsDrawnAs, ModuleRooms}
-use Rattle.capi.specs.Numbers.{code_of}
+use Rattle.capi.specs.Numbers.{code_of, options_numbered}
 use Rattle.capi.specs.declared.numbers.Answer.{Answer}
+use Rattle.capi.specs.declared.numbers.CallOptions.{CallOptions}
 use Rattle.capi.specs.declared.numbers.SymbolInfo.{SymbolInfo}
 
 -- whether a text has an LF, and so is more than one line
 abbrev pub has_LF : List ℕ → Bool
 has_LF text = list_any (λ byte. nat_eq byte LF) text
+
+-- the options of a line, or the code of why it cannot be read: options, then line feeds
+abbrev pub line_asked_of : Option Options → List ℕ → Result Options ℕ
+line_asked_of None text = Err 2
+line_asked_of (Some options) text = if has_LF text then Err 15 else Ok options
+
+-- the options that the numbers of a call give to a line
+unfoldable pub line_asked : CallOptions → List ℕ → Result Options ℕ
+line_asked options text = line_asked_of (options_numbered options) text
 
 -- the rows of a symbol that are put: one of a linear symbol, whose rows are equal
 abbrev pub rows_put : Symbology → ℕ → ℕ
@@ -43,21 +52,19 @@ AnswersOutcome rooms answer info (refused fault) code = DeclinesModules rooms an
 AnswersOutcome rooms answer info (drawn symbol) code =
     AnswersModules rooms answer info (Ok (with_rows_put symbol)) code × IsDrawnAs symbol info
 
--- what is left of a text: 2 where an option is out of its range, 15 where the text has an LF
-abbrev pub AnswersLine : ModuleRooms → Answer → SymbolInfo → Option Options → List ℕ → (Fault → ℕ) → Type 0
-AnswersLine rooms answer info None text code = DeclinesModules rooms answer 2 []
-AnswersLine rooms answer info (Some options) text code =
-    MatchBool (has_LF text) (DeclinesModules rooms answer 15 [])
-    (AnswersOutcome rooms answer info (outcome options text) code)
+-- the modules of the line that is asked for, or why there are none
+abbrev pub AnswersLine : ModuleRooms → Answer → SymbolInfo → Result Options ℕ → List ℕ → (Fault → ℕ) → Type 0
+AnswersLine rooms answer info (Err number) text code = DeclinesModules rooms answer number []
+AnswersLine rooms answer info (Ok options) text code = AnswersOutcome rooms answer info (outcome options text) code
 
 -- the modules of a symbol read as its full data, and as nothing else
 abbrev pub ReadsOutcome : Outcome Symbol → Type 0
 ReadsOutcome (drawn symbol) = IsReadInModules (with_rows_put symbol)
 ReadsOutcome other = ⊤
 
--- the same of a line's symbol, where the text is one line
-abbrev pub ReadsLine : Option Options → List ℕ → Type 0
-ReadsLine found text = IfSome found (λ options. MatchBool (has_LF text) ⊤ (ReadsOutcome (outcome options text)))
+-- the same of the line that is asked for
+abbrev pub ReadsLine : Result Options ℕ → List ℕ → Type 0
+ReadsLine found text = IfOk found (λ options. ReadsOutcome (outcome options text))
 
 -- the numbers of what a line asks for, where it is drawn
 abbrev pub NumbersItem : SymbolInfo → Outcome Request → Type 0
@@ -65,9 +72,9 @@ NumbersItem info (drawn asked) = IfOk (symbol_of asked.options asked.symbology a
     (λ symbol. HasNumbers asked.options asked.symbology asked.bytes info)
 NumbersItem info other = ⊤
 
--- the numbers of a line's symbol, where the text is one line
-abbrev pub NumbersLine : SymbolInfo → Option Options → List ℕ → Type 0
-NumbersLine info found text = IfSome found (λ options. MatchBool (has_LF text) ⊤ (NumbersItem info (item options text)))
+-- the numbers of the line that is asked for
+abbrev pub NumbersLine : SymbolInfo → Result Options ℕ → List ℕ → Type 0
+NumbersLine info found text = IfOk found (λ options. NumbersItem info (item options text))
 
 -- what is left of a line: its picture, or why there is none
 abbrev pub AnswersPicture : Rooms → Answer → RunValues → Outcome Symbol → Type 0
@@ -75,18 +82,16 @@ AnswersPicture rooms answer run skipped = Declines rooms answer 14 []
 AnswersPicture rooms answer run (refused fault) = Declines rooms answer (code_of fault) (fault_text fault)
 AnswersPicture rooms answer run (drawn symbol) = PutsWhole rooms answer (image_of run (drawn symbol))
 
--- what is left of a text: the picture of its line
-abbrev pub AnswersDrawnLine : Rooms → Answer → Option Options → List ℕ → Type 0
-AnswersDrawnLine rooms answer None text = Declines rooms answer 2 []
-AnswersDrawnLine rooms answer (Some options) text =
-    MatchBool (has_LF text) (Declines rooms answer 15 []) (AnswersPicture rooms answer options.run (outcome options text))
+-- the picture of the line that is asked for, or why there is none
+abbrev pub AnswersDrawnLine : Rooms → Answer → Result Options ℕ → List ℕ → Type 0
+AnswersDrawnLine rooms answer (Err code) text = Declines rooms answer code []
+AnswersDrawnLine rooms answer (Ok options) text = AnswersPicture rooms answer options.run (outcome options text)
 
 -- the picture of a symbol reads as its full data
 abbrev pub ReadsPicture : RunValues → Outcome Symbol → Type 0
 ReadsPicture run (drawn symbol) = IsRead run.format run.scale (image_of run (drawn symbol)) symbol
 ReadsPicture run other = ⊤
 
--- the picture of a line reads as the full data of its symbol
-abbrev pub ReadsDrawnLine : Option Options → List ℕ → Type 0
-ReadsDrawnLine found text =
-    IfSome found (λ options. MatchBool (has_LF text) ⊤ (ReadsPicture options.run (outcome options text)))
+-- the picture of the line that is asked for reads as the full data of its symbol
+abbrev pub ReadsDrawnLine : Result Options ℕ → List ℕ → Type 0
+ReadsDrawnLine found text = IfOk found (λ options. ReadsPicture options.run (outcome options text))

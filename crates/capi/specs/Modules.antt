@@ -16,7 +16,8 @@ use Rattle.qrmatrix.specs.MaskChoice.{chosen_mask}
 use Rattle.qrmatrix.specs.Symbol.{Symbol as Matrix}
 use Rattle.capi.specs.Numbers.{are_unused, level_numbered, symbology_numbered}
 use Rattle.picture.specs.Text.{below, pixel_row}
-use Rattle.capi.specs.Calls.{Asked, Declines}
+use Rattle.capi.specs.Calls.{Declines}
+use Rattle.capi.specs.declared.asked.Asked.{Asked}
 use Rattle.capi.specs.declared.numbers.Answer.{Answer}
 use Rattle.capi.specs.declared.numbers.SymbolInfo.{SymbolInfo}
 
@@ -83,7 +84,6 @@ one_row label = record label { height = 1 }
 -- the modules of what is asked for, or why there are none
 abbrev pub AnswersAsked : ModuleRooms → Answer → SymbolInfo → Result Asked ℕ → List ℕ → (Fault → ℕ) → Type 0
 AnswersAsked rooms answer info (Err number) bytes code = DeclinesModules rooms answer number []
-    × (rooms.message_after ≡ rooms.message)
 AnswersAsked rooms answer info (Ok a) bytes code =
     AnswersModules rooms answer info (symbol_of (one_row a.options.label) a.symbology bytes) code
 

@@ -10,17 +10,14 @@ ghost use Rattle.std.specs.Prelude.{IfOk, List, ℕ};
 ghost use Rattle.capi.specs.Calls.{Answers, AnswersSymbol, Declines, ReadsAsked, asked};
 ghost use Rattle.capi.specs.Numbers.{code_of as number_of};
 
-use crate::numbers::{
-    Answer, BAD_OPTION, BAD_SYMBOLOGY, CallOptions, DONE, NO_DATA, NO_ROOM, code_of, options_of,
-    symbology_of,
-};
+use crate::asked::asked_of;
+use crate::numbers::{Answer, CallOptions, DONE, NO_ROOM, code_of};
 use crate::slice_sink::SliceSink;
 use filter::draw;
 use labelcore::{Fault, Options, Symbology, write_reason};
 
 /// Draws one symbol into `out`, or puts the reason why there is none into `message`. Of a text that is too long it puts
 /// what there is room for, and answers with the length of the whole.
-#[tactic(auto, unfolding(crate::specs::Calls::asked))]
 pub fn draw_into(
     options: &CallOptions,
     symbology: u32,
@@ -36,21 +33,20 @@ pub fn draw_into(
     }) result (asked options.now symbology bytes.now) bytes.now }
     ensures read { ReadsAsked (asked options.now symbology bytes.now) bytes.now }
 {
-    let Some(options) = options_of(options) else {
-        return declined(BAD_OPTION);
-    };
-    let Some(symbology) = symbology_of(symbology) else {
-        return declined(BAD_SYMBOLOGY);
-    };
-    if bytes.is_empty() {
-        return declined(NO_DATA);
+    match asked_of(options, symbology, bytes) {
+        Ok(asked) => draw_asked(&asked.options, asked.symbology, bytes, out, message),
+        Err(code) => declined(code),
     }
-    draw_asked(&options, symbology, bytes, out, message)
 }
 
 /// The answer of a call that draws nothing and has no message.
 pub fn declined(code: u32) -> Answer
-    ensures { result ≡ record { code = code; reserved = 0; length = 0; message_length = 0 } }
+    ensures { (out message : List ℕ) → Declines (record {
+      out = out;
+      out_after = out;
+      message = message;
+      message_after = message;
+    }) result code [] }
 {
     Answer {
         code,

@@ -1,10 +1,10 @@
 //! What the filter does with one line of text: the picture, into a caller's room.
 ghost use Rattle.filter.specs.Output.{outcome};
-ghost use Rattle.capi.specs.Line.{AnswersDrawnLine, AnswersPicture, ReadsDrawnLine, ReadsPicture};
-ghost use Rattle.capi.specs.Numbers.{options_numbered};
+ghost use Rattle.capi.specs.Line.{AnswersDrawnLine, AnswersPicture, ReadsDrawnLine, ReadsPicture, line_asked};
 
 use crate::draw::{declined, draw_asked, refused};
-use crate::numbers::{Answer, BAD_OPTION, CallOptions, NOT_ONE_LINE, SKIPPED, options_of};
+use crate::line::line_options;
+use crate::numbers::{Answer, CallOptions, SKIPPED};
 use labelcore::{Item, LineBuf, Options, Scratch, parse};
 
 /// Draws what a line asks for into `out`, or puts the reason why there is no picture into `message`. A text with an LF
@@ -20,16 +20,13 @@ pub fn draw_line_into(
       out_after = out.new;
       message = message.old;
       message_after = message.new;
-    }) result (options_numbered options.now) text.now }
-    ensures read { ReadsDrawnLine (options_numbered options.now) text.now }
+    }) result (line_asked options.now text.now) text.now }
+    ensures read { ReadsDrawnLine (line_asked options.now text.now) text.now }
 {
-    let Some(options) = options_of(options) else {
-        return declined(BAD_OPTION);
-    };
-    if text.contains(&b'\n') {
-        return declined(NOT_ONE_LINE);
+    match line_options(options, text) {
+        Ok(options) => line_picture(&options, text, out, message),
+        Err(code) => declined(code),
     }
-    line_picture(&options, text, out, message)
 }
 
 /// Draws what a line asks for.

@@ -1,6 +1,7 @@
 //! The calls of the C library over slices and numbers, with their contracts.
 #![tactic(auto)]
 
+mod asked;
 mod draw;
 mod draw_line;
 mod line;

@@ -1,8 +1,10 @@
 //! What the filter does with one line of text: the modules, into a caller's room.
+ghost use Rattle.std.specs.Prelude.{◌≡◌};
 ghost use Rattle.labelcore.specs.LineItem.{item};
 ghost use Rattle.filter.specs.Output.{outcome};
 ghost use Rattle.capi.specs.Line.{AnswersLine, AnswersOutcome, NumbersItem, NumbersLine, ReadsLine, ReadsOutcome};
-ghost use Rattle.capi.specs.Numbers.{code_of as number_of, options_numbered};
+ghost use Rattle.capi.specs.Line.{line_asked};
+ghost use Rattle.capi.specs.Numbers.{code_of as number_of};
 
 use crate::draw::{declined, refused};
 use crate::numbers::{
@@ -10,6 +12,22 @@ use crate::numbers::{
 };
 use crate::symbol::symbol_told;
 use labelcore::{Item, LineBuf, Options, Scratch, parse};
+
+/// Returns the options of a call for one line.
+///
+/// # Errors
+///
+/// The code of an option out of its range, else of a text with an LF.
+#[tactic(auto, unfolding(crate::specs::Line::line_asked))]
+pub fn line_options(options: &CallOptions, text: &[u8]) -> Result<Options, u32>
+    ensures { result ≡ line_asked options.now text.now }
+{
+    let options = options_of(options).ok_or(BAD_OPTION)?;
+    if text.contains(&b'\n') {
+        return Err(NOT_ONE_LINE);
+    }
+    Ok(options)
+}
 
 /// Puts the modules of the symbol that a line draws into `modules`, or the reason why there is none into `message`. Of a
 /// linear symbol it puts one row. Format and scale are of no matter. A text with an LF is refused.
@@ -25,17 +43,14 @@ pub fn line_into(
       modules_after = modules.new;
       message = message.old;
       message_after = message.new;
-    }) result info.new (options_numbered options.now) text.now number_of }
-    ensures read { ReadsLine (options_numbered options.now) text.now }
-    ensures numbers { NumbersLine info.new (options_numbered options.now) text.now }
+    }) result info.new (line_asked options.now text.now) text.now number_of }
+    ensures read { ReadsLine (line_asked options.now text.now) text.now }
+    ensures numbers { NumbersLine info.new (line_asked options.now text.now) text.now }
 {
-    let Some(options) = options_of(options) else {
-        return declined(BAD_OPTION);
-    };
-    if text.contains(&b'\n') {
-        return declined(NOT_ONE_LINE);
+    match line_options(options, text) {
+        Ok(options) => line_modules(&options, text, modules, message, info),
+        Err(code) => declined(code),
     }
-    line_modules(&options, text, modules, message, info)
 }
 
 /// Puts the modules of the symbol that a line draws.

@@ -13,10 +13,10 @@ ghost use Rattle.capi.specs.Modules.{NumbersAsked, PutsModules, ReadsModules, To
 ghost use Rattle.capi.specs.Modules.{height_told, modules_of, one_row};
 ghost use Rattle.capi.specs.Numbers.{code_of as number_of};
 
+use crate::asked::asked_of;
 use crate::draw::{declined, refused};
 use crate::numbers::{
-    Answer, BAD_OPTION, BAD_SYMBOLOGY, CallOptions, DONE, NO_DATA, NO_ROOM, SymbolInfo,
-    number_of as number_of_symbology, options_of, symbology_of,
+    Answer, CallOptions, DONE, NO_ROOM, SymbolInfo, number_of as number_of_symbology,
 };
 use labelcore::{Fault, LabelOptions, Options, Symbology};
 use linear::{Code128, Ean8, Ean13, Linear, Row, UpcA};
@@ -66,7 +66,6 @@ fn offer_grid<G: Grid>(grid: &G, modules: &mut [bool]) -> Answer
 
 /// Puts the modules of one symbol into `modules`, or the reason why there is none into `message`. A linear symbol has
 /// one row, so the height is of no matter, nor are format and scale.
-#[tactic(auto, unfolding(crate::specs::Calls::asked))]
 pub fn symbol_into(
     options: &CallOptions,
     symbology: u32,
@@ -85,16 +84,17 @@ pub fn symbol_into(
     ensures numbers { NumbersAsked info.new (asked options.now symbology bytes.now) bytes.now }
     ensures told { ToldAsked info.new (asked options.now symbology bytes.now) bytes.now }
 {
-    let Some(options) = options_of(options) else {
-        return declined(BAD_OPTION);
-    };
-    let Some(symbology) = symbology_of(symbology) else {
-        return declined(BAD_SYMBOLOGY);
-    };
-    if bytes.is_empty() {
-        return declined(NO_DATA);
+    match asked_of(options, symbology, bytes) {
+        Ok(asked) => symbol_told(
+            &asked.options,
+            asked.symbology,
+            bytes,
+            modules,
+            message,
+            info,
+        ),
+        Err(code) => declined(code),
     }
-    symbol_told(&options, symbology, bytes, modules, message, info)
 }
 
 /// Puts the modules of one symbol, and tells its symbology and how high it is drawn.
@@ -120,20 +120,8 @@ pub fn symbol_told(
     ensures told { IfOk (symbol_of options.now.label symbology bytes.now) (λ symbol.
         IsDrawnAs symbol info.new) }
 {
-    let Some(label) = options.label.with_height(1) else {
-        return declined(BAD_OPTION);
-    };
-    let answer = symbol_asked(
-        &Options {
-            run: options.run,
-            label,
-        },
-        symbology,
-        bytes,
-        modules,
-        message,
-        info,
-    );
+    options.ranges();
+    let answer = symbol_asked(&options.label, symbology, bytes, modules, message, info);
     info.symbology = number_of_symbology(symbology);
     info.height = height_of(symbology, info.width, options.label.height());
     answer
@@ -149,36 +137,33 @@ fn height_of(symbology: Symbology, width: u32, height: u16) -> u32
     }
 }
 
-/// Puts the modules of one symbol, with the label's options.
+/// Puts the modules of one symbol. The height of the label is of no matter.
 #[tactic(auto, unfolding(filter::specs::Symbol::symbol_of))]
 fn symbol_asked(
-    options: &Options,
+    label: &LabelOptions,
     symbology: Symbology,
     bytes: &[u8],
     modules: &mut [bool],
     message: &mut [u8],
     info: &mut SymbolInfo,
 ) -> Answer
-    requires some { bytes.now ≢ [] }
-    requires one { options.now.label.height ≡ 1 }
+    requires { bytes.now ≢ [] }
     ensures answers { AnswersModules (record {
       modules = modules.old;
       modules_after = modules.new;
       message = message.old;
       message_after = message.new;
     }) result info.new
-        (symbol_of options.now.label symbology bytes.now) number_of }
-    ensures read { IfOk (symbol_of options.now.label symbology bytes.now) IsReadInModules }
-    ensures numbers { IfOk (symbol_of options.now.label symbology bytes.now) (λ symbol.
-        HasNumbers options.now.label symbology bytes.now info.new) }
+        (symbol_of (one_row label.now) symbology bytes.now) number_of }
+    ensures numbers { IfOk (symbol_of (one_row label.now) symbology bytes.now) (λ symbol.
+        HasNumbers label.now symbology bytes.now info.new) }
 {
-    options.ranges();
     match symbology {
         Symbology::Ean13 => linear_symbol::<Ean13>(bytes, modules, message, info),
         Symbology::Ean8 => linear_symbol::<Ean8>(bytes, modules, message, info),
         Symbology::UpcA => linear_symbol::<UpcA>(bytes, modules, message, info),
         Symbology::Code128 => linear_symbol::<Code128>(bytes, modules, message, info),
-        Symbology::Qr => qr_symbol(&options.label, bytes, modules, message, info),
+        Symbology::Qr => qr_symbol(label, bytes, modules, message, info),
     }
 }
 

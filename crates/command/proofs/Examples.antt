@@ -12,29 +12,14 @@ use Rattle.labelcore.specs.declared.options.Options.{Options}
 use Rattle.labelcore.specs.Names.{level_named}
 use Rattle.labelcore.specs.OptionValues.{LabelValues}
 
-scale-9 : invocation_of (codes "--scale" ∷ codes "9" ∷ []) ≡ bad
+bad-words : (invocation_of (codes "--scale" ∷ codes "9" ∷ []) ≡ bad)
+    × (invocation_of (codes "--level" ∷ codes "l" ∷ []) ≡ bad)
+    × (invocation_of (codes "--level" ∷ codes "Q" ∷ codes "--level" ∷ codes "M" ∷ []) ≡ bad)
+    × (invocation_of (codes "--height" ∷ []) ≡ bad)
+    × (invocation_of (codes "a" ∷ codes "b" ∷ []) ≡ bad)
+    × (invocation_of (codes "--format" ∷ codes "x" ∷ codes "-h" ∷ []) ≡ help)
 unfolding clap_on_literals level_named
-scale-9 = refl
-
-small-l : invocation_of (codes "--level" ∷ codes "l" ∷ []) ≡ bad
-unfolding clap_on_literals level_named
-small-l = refl
-
-twice : invocation_of (codes "--level" ∷ codes "Q" ∷ codes "--level" ∷ codes "M" ∷ []) ≡ bad
-unfolding clap_on_literals level_named
-twice = refl
-
-no-value : invocation_of (codes "--height" ∷ []) ≡ bad
-unfolding clap_on_literals level_named
-no-value = refl
-
-two-files : invocation_of (codes "a" ∷ codes "b" ∷ []) ≡ bad
-unfolding clap_on_literals level_named
-two-files = refl
-
-helped : invocation_of (codes "--format" ∷ codes "x" ∷ codes "-h" ∷ []) ≡ help
-unfolding clap_on_literals level_named
-helped = refl
+bad-words = (refl, refl, refl, refl, refl, refl)
 
 full : Options
 full = record {

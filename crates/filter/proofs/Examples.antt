@@ -41,20 +41,15 @@ settings = record {
 abbrev input : List (List ℕ)
 input = codes "ean8 7351353" ∷ codes "pdf x" ∷ codes "#" ∷ codes "ean8 73513530" ∷ []
 
-full_data_of_input : map (λ (s : Symbol). s.full) (drawn_symbols (events_after settings 0 input))
-    ≡ codes "73513537" ∷ []
-unfolding drawn_symbols events_after outcome symbol_of request head_read symbology_named line_limit
-full_data_of_input = refl
-
-images_of_input : sent settings.run Images (events_after settings 0 input)
-    ≡ codes "P1\n81 1\n0000000101011101101111010110001001100101010100001010011101000010100010\n01010000000\n"
-unfolding events_after outcome symbol_of request head_read symbology_named line_limit digits number_set_a
-images_of_input = refl
-
-messages_of_input : sent settings.run Messages (events_after settings 0 input)
-    ≡ codes "line 2: unknown symbology\nline 4: check digit is 0, should be 7\n"
-unfolding events_after outcome symbol_of request head_read symbology_named line_limit digits
-messages_of_input = refl
+symbols_of_input : (map (λ (s : Symbol). s.full) (drawn_symbols (events_after settings 0 input)) ≡ codes "73513537" ∷ [])
+    × (sent settings.run Images (events_after settings 0 input)
+    ≡ codes "P1\n81 1\n0000000101011101101111010110001001100101010100001010011101000010100010\n01010000000\n")
+    × (sent settings.run Messages (events_after settings 0 input)
+    ≡ codes "line 2: unknown symbology\nline 4: check digit is 0, should be 7\n")
+    × (sent settings.run Messages (events_after settings 9 (codes "#" ∷ codes "pdf x" ∷ []))
+    ≡ codes "line 11: unknown symbology\n")
+unfolding drawn_symbols events_after outcome symbol_of request head_read symbology_named line_limit digits number_set_a
+symbols_of_input = (refl, refl, refl, refl)
 
 -- the quiet zones: 11 and 7, 7 and 7, 9 and 9 modules (ISO/IEC 15420), 10 on each side (ISO/IEC 15417), 4 on all four
 -- sides (ISO/IEC 18004, 6.3.8), as `zint --quietzones` has them, but for bars, which have none above and below
@@ -67,30 +62,19 @@ unfolding beside
 zones = refl
 
 -- a digit more than with the check digit, and one less than without it
-wrong_numbers : map (λ bytes. symbol_of settings.label Ean13 bytes) (codes "40063813339" ∷ codes "40063813339311" ∷ [])
-    ≡ Err (WrongNumberOfDigits 11) ∷ Err (WrongNumberOfDigits 14) ∷ []
+wrong_numbers : (symbol_of settings.label Ean13 (codes "40063813339") ≡ Err (WrongNumberOfDigits 11))
+    × (symbol_of settings.label Ean13 (codes "40063813339311") ≡ Err (WrongNumberOfDigits 14))
+    × (symbol_of settings.label Ean8 (codes "735135") ≡ Err (WrongNumberOfDigits 6))
+    × (symbol_of settings.label Ean8 (codes "735135377") ≡ Err (WrongNumberOfDigits 9))
+    × (symbol_of settings.label UpcA (codes "0360002914") ≡ Err (WrongNumberOfDigits 10))
+    × (symbol_of settings.label UpcA (codes "0360002914522") ≡ Err (WrongNumberOfDigits 13))
 unfolding symbol_of
-wrong_numbers = refl
-
-wrong_numbers_8 : map (λ bytes. symbol_of settings.label Ean8 bytes) (codes "735135" ∷ codes "735135377" ∷ []) ≡
-    Err (WrongNumberOfDigits 6) ∷ Err (WrongNumberOfDigits 9) ∷ []
-unfolding symbol_of
-wrong_numbers_8 = refl
-
-wrong_numbers_a : map (λ bytes. symbol_of settings.label UpcA bytes) (codes "0360002914" ∷ codes "0360002914522" ∷ []) ≡
-    Err (WrongNumberOfDigits 10) ∷ Err (WrongNumberOfDigits 13) ∷ []
-unfolding symbol_of
-wrong_numbers_a = refl
+wrong_numbers = (refl, refl, refl, refl, refl, refl)
 
 -- lines are numbered from 1, and the number stops at the greatest of 64 bits
 line_numbers : map line_number (0 ∷ 1 ∷ 18446744073709551613 ∷ 18446744073709551614 ∷ 18446744073709551615 ∷ []) ≡
     1 ∷ 2 ∷ 18446744073709551614 ∷ 18446744073709551615 ∷ 18446744073709551615 ∷ []
 line_numbers = refl
-
-second_message : sent settings.run Messages (events_after settings 9 (codes "#" ∷ codes "pdf x" ∷ []))
-    ≡ codes "line 11: unknown symbology\n"
-unfolding events_after outcome symbol_of request head_read symbology_named line_limit digits
-second_message = refl
 
 -- the first line of a text is line 1; a last line without an end is in the script alone
 unended : List ℕ
@@ -124,20 +108,16 @@ ean8_read : map (read_modules Ean8) (shown (ean8_row ∷ ean8_row ∷ []) ∷ sh
 unfolding shown ean8_row number_set_a
 ean8_read = refl
 
--- the image of `ean8 7351353`: it reads in its own format, scale and symbology alone
+-- the image of `ean8 7351353`
 image : List ℕ
 image = codes "P1\n81 1\n0000000101011101101111010110001001100101010100001010011101000010100010\n01010000000\n"
 
+-- it reads in its own format, scale and symbology alone, and not with a dark pixel in the quiet zone
 image_read : (read_image Pbm 1 Ean8 image ≡ Some (codes "73513537")) × (read_image Ascii 1 Ean8 image ≡ None)
-    × (read_image Pbm 2 Ean8 image ≡ None) × (read_image Pbm 1 UpcA image ≡ None)
+    × (read_image Pbm 2 Ean8 image ≡ None) × (read_image Pbm 1 UpcA image ≡ None) × (read_image Pbm 1 Ean8
+    (codes "P1\n81 1\n1000000101011101101111010110001001100101010100001010011101000010100010\n01010000000\n") ≡ None)
 unfolding read_image modules_in image pbm_pixels ascii_pixels sample lines ended_lines open_line number_set_a
-image_read = (refl, refl, refl, refl)
-
--- a dark pixel in the quiet zone
-dark_beside : read_image Pbm 1 Ean8
-    (codes "P1\n81 1\n1000000101011101101111010110001001100101010100001010011101000010100010\n01010000000\n") ≡ None
-unfolding read_image modules_in pbm_pixels sample lines ended_lines open_line
-dark_beside = refl
+image_read = (refl, refl, refl, refl, refl)
 
 -- ISO/IEC 18004, Annex I: 01234567 in version 1-M, and a row that is a module longer than the others
 qr_rows : List (List ℕ)
@@ -150,13 +130,10 @@ qr_rows =
     ∷ codes "100000101011111000101" ∷ codes "101110101000100101100" ∷ codes "101110101100100100000"
     ∷ codes "101110101011010010100" ∷ codes "100000100000000110110" ∷ codes "111111101111010010100" ∷ []
 
-qr_read : read_modules Qr (shown qr_rows) ≡ Some (codes "01234567")
+qr_read : (read_modules Qr (shown qr_rows) ≡ Some (codes "01234567"))
+    × (read_modules Qr (shown (slice_set qr_rows 20 (slice_index_or qr_rows 20 [] ++ codes "0"))) ≡ None)
 unfolding shown qr_rows read_matrix xor total_codewords read_format shows_version shows_functions read_bits walk
     codewords_of number_of fixed_module role is_free is_flipped format_information version_information binary_remainder
     bits_of byte_bits ec_codewords_per_block data_codewords block_lengths groups_of block_table evaluate field_power
     field_product binary_product number_at digits_at segment_at segments_at deinterleaving data_in
-qr_read = refl
-
-no_square : read_modules Qr (shown (slice_set qr_rows 20 (slice_index_or qr_rows 20 [] ++ codes "0"))) ≡ None
-unfolding shown qr_rows
-no_square = refl
+qr_read = (refl, refl)

@@ -49,3 +49,5 @@ pub power-log : (a : ℕ) → 0 < a → a < 256 → field_power 2 (log a) ≡ a
 power-log zero some h = absurd (omega arith)
 power-log (suc a) some h = sym (field_power-table (log (suc a)))
     ∙ eqb-true _ _ (all_below-at (λ a. exp (log (suc a) % 255) == suc a) 255 a logs (omega arith))
+
+pub ruleset of_powers = (exp-power, field_power-table)

@@ -140,6 +140,8 @@ zip2-polynomial_sum [] (b ∷ q) same = absurd (omega (arith, same))
 zip2-polynomial_sum (a ∷ p) [] same = absurd (omega (arith, same))
 zip2-polynomial_sum (a ∷ p) (b ∷ q) same = ap (λ l. bit_xor a b ∷ l) (zip2-polynomial_sum p q (omega (arith, same)))
 
+pub ruleset of_sum = (zip2-polynomial_sum)
+
 -- the sum of a vector and the rows of two tables, of which each holds a part of a multiple
 pub zip2-parts : (p low high divisor : List ℕ) (fed : ℕ) → fed < 256 → All IsElement divisor
     → length p ≡ length divisor → low ≡ scalar_multiple (fed % 16) divisor

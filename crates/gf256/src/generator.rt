@@ -87,6 +87,7 @@ impl Generator {
 }
 
 /// Returns a register whose codewords are moved up by one place, with 0 in the last place.
+#[tactic(auto, using(crate::proofs::RegisterLaws::next_places))]
 fn moved_up(register: u8x32) -> u8x32
     ensures { result ≡ drop 1 register ++ 0 ∷ [] }
 {
@@ -119,6 +120,7 @@ fn doubled(polynomial: &Multiple) -> Multiple
 }
 
 /// Returns the sum of two polynomials.
+#[tactic(auto, using(crate::proofs::RegisterLaws::of_sum))]
 fn sum_of(first: &Multiple, second: &Multiple) -> Multiple
     ensures { result ≡ polynomial_sum first.now second.now }
 {

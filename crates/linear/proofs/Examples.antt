@@ -24,27 +24,20 @@ use Rattle.linear.specs.Code128Reading.{meaning, text, change, shift, none, read
 guards : (normal_guard ≡ true ∷ false ∷ true ∷ []) × (centre_guard ≡ false ∷ true ∷ false ∷ true ∷ false ∷ [])
 guards = (refl, refl)
 
--- the widths of a digit's modules in set A, light first, in the left halves of EAN-8 symbols (ISO/IEC 15420, symbol
--- characters)
-widths_in_a : map (pattern number_set.A) (range_with_len 0 10) ≡
-    map (λ widths. bars_and_spaces false (map digit_value widths))
-    (rows (codes "3211 2221 2122 1411 1132 1231 1114 1312 1213 3112"))
-unfolding number_set_a
-widths_in_a = refl
+-- bars and spaces of the widths that texts show, the first of them dark or light
+of_widths : Bool → List ℕ → List (List Bool)
+of_widths first texts = map (λ widths. bars_and_spaces first (map digit_value widths)) (rows texts)
 
--- in set B, in the left halves of EAN-13 symbols
-widths_in_b : map (pattern number_set.B) (range_with_len 0 10) ≡
-    map (λ widths. bars_and_spaces false (map digit_value widths))
-    (rows (codes "1123 1222 2212 1141 2311 1321 4111 2131 3121 2113"))
-unfolding number_set_a
-widths_in_b = refl
-
--- in set C, dark first, in right halves
-widths_in_c : map (pattern number_set.C) (range_with_len 0 10) ≡
-    map (λ widths. bars_and_spaces true (map digit_value widths))
-    (rows (codes "3211 2221 2122 1411 1132 1231 1114 1312 1213 3112"))
-unfolding number_set_a
-widths_in_c = refl
+-- the widths of a digit's modules (ISO/IEC 15420, symbol characters): in set A, light first, in the left halves of EAN-8
+-- symbols; in set B, in the left halves of EAN-13 symbols; in set C, dark first, in right halves
+widths_of_digits : (map (pattern number_set.A) (range_with_len 0 10)
+    ≡ of_widths false (codes "3211 2221 2122 1411 1132 1231 1114 1312 1213 3112"))
+    × (map (pattern number_set.B) (range_with_len 0 10)
+    ≡ of_widths false (codes "1123 1222 2212 1141 2311 1321 4111 2131 3121 2113"))
+    × (map (pattern number_set.C) (range_with_len 0 10)
+    ≡ of_widths true (codes "3211 2221 2122 1411 1132 1231 1114 1312 1213 3112"))
+unfolding of_widths number_set_a
+widths_of_digits = (refl, refl, refl)
 
 -- the sets of digits 3 to 7 of an EAN-13 symbol, after a 2nd digit in set A, for the first digits 0 to 9
 sets_of_left_halves : left_half_sets ≡ map (λ letters. 65 ∷ letters)
@@ -73,200 +66,98 @@ modules_of_values : characters ≡ map modules (rows (
 unfolding character_widths
 modules_of_values = refl
 
--- ---- symbols
+-- ---- digits
 
--- `ean8 7351353`
-sum_ean8 : weighted_sum (codes "7351353") ≡ 63
-sum_ean8 = refl
+-- the sums of the digits by their weights (ISO/IEC 15420, check digit)
+weighted_sums : map weighted_sum (codes "7351353" ∷ codes "400638133393" ∷ codes "03600029145" ∷ []) ≡
+    63 ∷ 89 ∷ 58 ∷ []
+weighted_sums = refl
 
-full_ean8 : full_digits 7 (codes "7351353") ≡ Ok (codes "73513537")
-full_ean8 = refl
+-- the full digits of `ean8` with check digits 7, 0 and 9 (the last two as Zint 2.11.1 appends them), of `ean13` and of
+-- `upca`, and what is refused
+numbers : (full_digits 7 (codes "7351353") ≡ Ok (codes "73513537"))
+    × (full_digits 7 (codes "73513537") ≡ Ok (codes "73513537"))
+    × (full_digits 7 (codes "1234567") ≡ Ok (codes "12345670"))
+    × (full_digits 7 (codes "1234564") ≡ Ok (codes "12345649"))
+    × (full_digits 12 (codes "4006381333931") ≡ Ok (codes "4006381333931"))
+    × (full_digits 12 (codes "0036000291452") ≡ Ok (codes "0036000291452"))
+    × (full_digits 11 (codes "03600029145") ≡ Ok (codes "036000291452"))
+    × (full_digits 7 (codes "73513530") ≡ Err (WrongCheckDigit 0 7))
+    × (full_digits 12 (codes "4006381333932") ≡ Err (WrongCheckDigit 2 1))
+    × (full_digits 7 (codes "73x1353") ≡ Err (NotADigit 3))
+    × (full_digits 11 (codes "12345") ≡ Err (WrongNumberOfDigits 5))
+numbers = (refl, refl, refl, refl, refl, refl, refl, refl, refl, refl, refl)
 
-checked_ean8 : full_digits 7 (codes "73513537") ≡ Ok (codes "73513537")
-checked_ean8 = refl
+-- ---- rows of digits
 
-wrong_ean8 : full_digits 7 (codes "73513530") ≡ Err (WrongCheckDigit 0 7)
-wrong_ean8 = refl
-
-letter_ean8 : full_digits 7 (codes "73x1353") ≡ Err (NotADigit 3)
-letter_ean8 = refl
-
-row_ean8 : ean8_row (codes "73513537")
-    ≡ modules (codes "1010111011011110101100010011001010101000010100111010000101000100101")
-unfolding number_set_a
-row_ean8 = refl
-
-read_row_ean8 : read_ean8 (ean8_row (codes "73513537")) ≡ Some (codes "73513537")
-unfolding number_set_a
-read_row_ean8 = refl
-
--- `ean13 4006381333931`
-sum_ean13 : weighted_sum (codes "400638133393") ≡ 89
-sum_ean13 = refl
-
-full_ean13 : full_digits 12 (codes "4006381333931") ≡ Ok (codes "4006381333931")
-full_ean13 = refl
-
-wrong_ean13 : full_digits 12 (codes "4006381333932") ≡ Err (WrongCheckDigit 2 1)
-wrong_ean13 = refl
-
-row_ean13 : ean13_row (codes "4006381333931")
-    ≡ modules (codes "10100011010100111010111101111010001001011001101010100001010000101000010111010010000101100110101")
+-- `ean8 7351353`, `ean13 4006381333931`, `upca 03600029145` and `ean13 0036000291452`
+rows_of_digits : (ean8_row (codes "73513537")
+    ≡ modules (codes "1010111011011110101100010011001010101000010100111010000101000100101"))
+    × (ean13_row (codes "4006381333931")
+    ≡ modules (codes "10100011010100111010111101111010001001011001101010100001010000101000010111010010000101100110101"))
+    × (upca_row (codes "036000291452") ≡ ean13_row (codes "0036000291452"))
+    × (length (ean13_row (codes "0036000291452")) ≡ 95)
 unfolding left_half_sets number_set_a
-row_ean13 = refl
+rows_of_digits = (refl, refl, refl, refl)
 
-read_row_ean13 : read_ean13 (ean13_row (codes "4006381333931")) ≡ Some (codes "4006381333931")
+rows_read : (read_ean8 (ean8_row (codes "73513537")) ≡ Some (codes "73513537"))
+    × (read_ean13 (ean13_row (codes "4006381333931")) ≡ Some (codes "4006381333931"))
+    × (read_upca (upca_row (codes "036000291452")) ≡ Some (codes "036000291452"))
 unfolding left_half_sets number_set_a
-read_row_ean13 = refl
+rows_read = (refl, refl, refl)
 
--- `upca 03600029145`
-sum_upca : weighted_sum (codes "03600029145") ≡ 58
-sum_upca = refl
-
-full_upca : full_digits 11 (codes "03600029145") ≡ Ok (codes "036000291452")
-full_upca = refl
-
-same_as_ean13 : upca_row (codes "036000291452") ≡ ean13_row (codes "0036000291452")
-unfolding left_half_sets
-same_as_ean13 = refl
-
-read_row_upca : read_upca (upca_row (codes "036000291452")) ≡ Some (codes "036000291452")
-unfolding left_half_sets number_set_a
-read_row_upca = refl
-
-short_upca : full_digits 11 (codes "12345") ≡ Err (WrongNumberOfDigits 5)
-short_upca = refl
-
--- `ean13 0036000291452`
-full_zero_ean13 : full_digits 12 (codes "0036000291452") ≡ Ok (codes "0036000291452")
-full_zero_ean13 = refl
-
-length_zero_ean13 : length (ean13_row (codes "0036000291452")) ≡ 95
-unfolding left_half_sets number_set_a
-length_zero_ean13 = refl
+-- ---- rows of values
 
 -- the start value and the values of the data
 values_of : List ℕ → List ℕ
 values_of bytes = start_value (start_set bytes) ∷ data_values (start_set bytes) bytes
 
--- `code128 PJJ123C`: three digits stay in set B
-values_letters : values_of (codes "PJJ123C") ≡ 104 ∷ 48 ∷ 42 ∷ 42 ∷ 17 ∷ 18 ∷ 19 ∷ 35 ∷ []
+-- three digits stay in set B, exactly two digits start in set C, an odd digit is left over there, six digits change to
+-- it, and a control character between letters is shifted
+values_of_texts : (values_of (codes "PJJ123C") ≡ 104 ∷ 48 ∷ 42 ∷ 42 ∷ 17 ∷ 18 ∷ 19 ∷ 35 ∷ [])
+    × (values_of (codes "42") ≡ 105 ∷ 42 ∷ [])
+    × (values_of (codes "12345") ≡ 105 ∷ 12 ∷ 34 ∷ 100 ∷ 21 ∷ [])
+    × (values_of (codes "A123456") ≡ 104 ∷ 33 ∷ 99 ∷ 12 ∷ 34 ∷ 56 ∷ [])
+    × (values_of (97 ∷ 1 ∷ 98 ∷ []) ≡ 104 ∷ 65 ∷ 98 ∷ 65 ∷ 66 ∷ [])
+    × (values_of (codes "a\\x01b") ≡ 104 ∷ 65 ∷ 60 ∷ 88 ∷ 16 ∷ 17 ∷ 66 ∷ [])
+    × (values_of (codes "1") ≡ 104 ∷ 17 ∷ [])
 unfolding values_of
-values_letters = refl
+values_of_texts = (refl, refl, refl, refl, refl, refl, refl)
 
-sum_letters : 104 + sum_by (λ item. item.0 * item.1) (enumerate_from 1 (48 ∷ 42 ∷ 42 ∷ 17 ∷ 18 ∷ 19 ∷ 35 ∷ [])) ≡ 879
-sum_letters = refl
+-- of these values the sum, each times its place, and the check value
+checked : ℕ → List ℕ → ℕ × ℕ
+checked start values =
+    (start + sum_by (λ item. item.0 * item.1) (enumerate_from 1 values), check_value start values)
 
-check_letters : check_value 104 (48 ∷ 42 ∷ 42 ∷ 17 ∷ 18 ∷ 19 ∷ 35 ∷ []) ≡ 55
-check_letters = refl
+check_values : (checked 104 (48 ∷ 42 ∷ 42 ∷ 17 ∷ 18 ∷ 19 ∷ 35 ∷ []) ≡ (879, 55))
+    × (checked 105 (42 ∷ []) ≡ (147, 44))
+    × (checked 105 (12 ∷ 34 ∷ 100 ∷ 21 ∷ []) ≡ (569, 54))
+    × (checked 104 (33 ∷ 99 ∷ 12 ∷ 34 ∷ 56 ∷ []) ≡ (787, 66))
+    × (checked 104 (65 ∷ 98 ∷ 65 ∷ 66 ∷ []) ≡ (824, 0))
+    × (checked 104 (65 ∷ 60 ∷ 88 ∷ 16 ∷ 17 ∷ 66 ∷ []) ≡ (1098, 68))
+    × (checked 104 (17 ∷ []) ≡ (121, 18))
+unfolding checked
+check_values = (refl, refl, refl, refl, refl, refl, refl)
 
-length_letters : length (code128_row (codes "PJJ123C")) ≡ 112
+lengths_of_rows : map (λ text. length (code128_row text)) (codes "PJJ123C" ∷ codes "42" ∷ codes "1" ∷ []) ≡
+    112 ∷ 46 ∷ 46 ∷ []
 unfolding character_widths
-length_letters = refl
+lengths_of_rows = refl
 
-read_letters : read_code128 (code128_row (codes "PJJ123C")) ≡ Some (codes "PJJ123C")
+-- with changes of set, and the last with shifts both ways
+texts_read : (read_code128 (code128_row (codes "PJJ123C")) ≡ Some (codes "PJJ123C"))
+    × (read_code128 (code128_row (codes "42")) ≡ Some (codes "42"))
+    × (read_code128 (code128_row (codes "A123456")) ≡ Some (codes "A123456"))
+    × (read_code128 (code128_row (97 ∷ 1 ∷ 98 ∷ [])) ≡ Some (97 ∷ 1 ∷ 98 ∷ []))
+    × (read_code128 (code128_row (1 ∷ 97 ∷ 2 ∷ 98 ∷ 97 ∷ 3 ∷ [])) ≡ Some (1 ∷ 97 ∷ 2 ∷ 98 ∷ 97 ∷ 3 ∷ []))
 unfolding character_widths
-read_letters = refl
-
--- `code128 42`: exactly two digits start in set C
-values_two_digits : values_of (codes "42") ≡ 105 ∷ 42 ∷ []
-unfolding values_of
-values_two_digits = refl
-
-check_two_digits : check_value 105 (42 ∷ []) ≡ 44
-check_two_digits = refl
-
-length_two_digits : length (code128_row (codes "42")) ≡ 46
-unfolding character_widths
-length_two_digits = refl
-
-read_two_digits : read_code128 (code128_row (codes "42")) ≡ Some (codes "42")
-unfolding character_widths
-read_two_digits = refl
-
--- `code128 12345`: an odd digit is left over in set C
-values_five_digits : values_of (codes "12345") ≡ 105 ∷ 12 ∷ 34 ∷ 100 ∷ 21 ∷ []
-unfolding values_of
-values_five_digits = refl
-
-sum_five_digits : 105 + sum_by (λ item. item.0 * item.1) (enumerate_from 1 (12 ∷ 34 ∷ 100 ∷ 21 ∷ [])) ≡ 569
-sum_five_digits = refl
-
-check_five_digits : check_value 105 (12 ∷ 34 ∷ 100 ∷ 21 ∷ []) ≡ 54
-check_five_digits = refl
-
--- `code128 A123456`: six digits change to set C
-values_six_digits : values_of (codes "A123456") ≡ 104 ∷ 33 ∷ 99 ∷ 12 ∷ 34 ∷ 56 ∷ []
-unfolding values_of
-values_six_digits = refl
-
-sum_six_digits : 104 + sum_by (λ item. item.0 * item.1) (enumerate_from 1 (33 ∷ 99 ∷ 12 ∷ 34 ∷ 56 ∷ [])) ≡ 787
-sum_six_digits = refl
-
-check_six_digits : check_value 104 (33 ∷ 99 ∷ 12 ∷ 34 ∷ 56 ∷ []) ≡ 66
-check_six_digits = refl
-
-read_six_digits : read_code128 (code128_row (codes "A123456")) ≡ Some (codes "A123456")
-unfolding character_widths
-read_six_digits = refl
-
--- `a`, byte 1, `b`: a control character between letters is shifted
-values_shift : values_of (97 ∷ 1 ∷ 98 ∷ []) ≡ 104 ∷ 65 ∷ 98 ∷ 65 ∷ 66 ∷ []
-unfolding values_of
-values_shift = refl
-
-sum_shift : 104 + sum_by (λ item. item.0 * item.1) (enumerate_from 1 (65 ∷ 98 ∷ 65 ∷ 66 ∷ [])) ≡ 824
-sum_shift = refl
-
-check_shift : check_value 104 (65 ∷ 98 ∷ 65 ∷ 66 ∷ []) ≡ 0
-check_shift = refl
-
-read_shift : read_code128 (code128_row (97 ∷ 1 ∷ 98 ∷ [])) ≡ Some (97 ∷ 1 ∷ 98 ∷ [])
-unfolding character_widths
-read_shift = refl
-
--- `a\x01b` as six characters
-values_backslash : values_of (codes "a\\x01b") ≡ 104 ∷ 65 ∷ 60 ∷ 88 ∷ 16 ∷ 17 ∷ 66 ∷ []
-unfolding values_of
-values_backslash = refl
-
-sum_backslash : 104 + sum_by (λ item. item.0 * item.1) (enumerate_from 1 (65 ∷ 60 ∷ 88 ∷ 16 ∷ 17 ∷ 66 ∷ [])) ≡ 1098
-sum_backslash = refl
-
-check_backslash : check_value 104 (65 ∷ 60 ∷ 88 ∷ 16 ∷ 17 ∷ 66 ∷ []) ≡ 68
-check_backslash = refl
-
--- `code128 1`
-values_one_digit : values_of (codes "1") ≡ 104 ∷ 17 ∷ []
-unfolding values_of
-values_one_digit = refl
-
-check_one_digit : check_value 104 (17 ∷ []) ≡ 18
-check_one_digit = refl
-
-length_one_digit : length (code128_row (codes "1")) ≡ 46
-unfolding character_widths
-length_one_digit = refl
-
--- shifts both ways, and changes of set
-read_mixed : read_code128 (code128_row (1 ∷ 97 ∷ 2 ∷ 98 ∷ 97 ∷ 3 ∷ [])) ≡ Some (1 ∷ 97 ∷ 2 ∷ 98 ∷ 97 ∷ 3 ∷ [])
-unfolding character_widths
-read_mixed = refl
-
--- a row without modules is not read, whatever the tables
-nothing_ean8 : read_ean8 [] ≡ None
-nothing_ean8 = refl
-
-nothing_ean13 : read_ean13 [] ≡ None
-nothing_ean13 = refl
-
-nothing_upca : read_upca [] ≡ None
-nothing_upca = refl
-
-nothing_code128 : read_code128 [] ≡ None
-nothing_code128 = refl
+texts_read = (refl, refl, refl, refl, refl)
 
 -- ---- what is not read
+
+-- a row without modules, whatever the tables
+nothing_read : (read_ean8 [] ≡ None) × (read_ean13 [] ≡ None) × (read_upca [] ≡ None) × (read_code128 [] ≡ None)
+nothing_read = (refl, refl, refl, refl)
 
 -- a row whose module at a place has the other colour
 changed : ℕ → List Bool → List Bool
@@ -277,37 +168,28 @@ read_changed : (List Bool → Option (List ℕ)) → List Bool → List ℕ → 
 read_changed read row places = map (λ place. read (changed place row)) places
 
 -- each module of the guards (ISO/IEC 15420, guard patterns): the first three, the five in the middle, the last three
-wrong_guards_ean8 : read_changed read_ean8 (ean8_row (codes "73513537"))
-    (range_with_len 0 3 ++ (range_with_len 31 5 ++ range_with_len 64 3)) ≡ replicate 11 None
-unfolding read_changed changed number_set_a
-wrong_guards_ean8 = refl
-
-wrong_guards_ean13 : read_changed read_ean13 (ean13_row (codes "4006381333931"))
-    (range_with_len 0 3 ++ (range_with_len 45 5 ++ range_with_len 92 3)) ≡ replicate 11 None
+wrong_guards : (read_changed read_ean8 (ean8_row (codes "73513537"))
+    (range_with_len 0 3 ++ (range_with_len 31 5 ++ range_with_len 64 3)) ≡ replicate 11 None)
+    × (read_changed read_ean13 (ean13_row (codes "4006381333931"))
+    (range_with_len 0 3 ++ (range_with_len 45 5 ++ range_with_len 92 3)) ≡ replicate 11 None)
 unfolding read_changed changed left_half_sets number_set_a
-wrong_guards_ean13 = refl
+wrong_guards = (refl, refl)
 
--- a module more at the end, and one less
-wrong_lengths : map read_ean8 ((ean8_row (codes "73513537") ++ (false ∷ []))
-    ∷ take 66 (ean8_row (codes "73513537")) ∷ []) ≡ None ∷ None ∷ []
-unfolding number_set_a
-wrong_lengths = refl
-
--- a group that is no digit of set A in the left half, and none of set C in the right one
-wrong_groups : read_changed read_ean8 (ean8_row (codes "73513537")) (3 ∷ 63 ∷ []) ≡ None ∷ None ∷ []
+-- a module more at the end, and one less; a group that is no digit of set A in the left half, and none of set C in the
+-- right one
+wrong_ean8 : (map read_ean8 ((ean8_row (codes "73513537") ++ (false ∷ []))
+    ∷ take 66 (ean8_row (codes "73513537")) ∷ []) ≡ None ∷ None ∷ [])
+    × (read_changed read_ean8 (ean8_row (codes "73513537")) (3 ∷ 63 ∷ []) ≡ None ∷ None ∷ [])
 unfolding read_changed changed number_set_a
-wrong_groups = refl
+wrong_ean8 = (refl, refl)
 
-wrong_checks : (read_ean8 (ean8_row (codes "73513530")) ≡ None)
+-- wrong check digits; and a UPC-A symbol is an EAN-13 symbol whose first digit is 0
+wrong_digits : (read_ean8 (ean8_row (codes "73513530")) ≡ None)
     × (read_ean13 (ean13_row (codes "4006381333932")) ≡ None)
     × (read_upca (upca_row (codes "036000291453")) ≡ None)
+    × (read_upca (ean13_row (codes "4006381333931")) ≡ None)
 unfolding left_half_sets number_set_a
-wrong_checks = (refl, refl, refl)
-
--- a UPC-A symbol is an EAN-13 symbol whose first digit is 0
-not_upca : read_upca (ean13_row (codes "4006381333931")) ≡ None
-unfolding left_half_sets number_set_a
-not_upca = refl
+wrong_digits = (refl, refl, refl, refl)
 
 -- the row of values, the last of them in the place of the stop character
 row_of : List ℕ → List Bool
@@ -342,24 +224,11 @@ wrong_values = refl
 -- ---- limits
 
 -- docs/SPECIFICATION.md, Code 128: at most 80 bytes, the last ASCII byte being 127
-most_bytes : full_code128 (replicate 80 97) ≡ Ok (replicate 80 97)
-most_bytes = refl
-
-too_many_bytes : full_code128 (replicate 81 97) ≡ Err DataTooLong
-too_many_bytes = refl
-
-last_ascii : full_code128 (0 ∷ 127 ∷ []) ≡ Ok (0 ∷ 127 ∷ [])
-last_ascii = refl
-
-first_not_ascii : full_code128 (127 ∷ 128 ∷ []) ≡ Err (NotAscii 2)
-first_not_ascii = refl
-
--- check digits 0 and 9, as Zint 2.11.1 appends them
-check_digit_zero : full_digits 7 (codes "1234567") ≡ Ok (codes "12345670")
-check_digit_zero = refl
-
-check_digit_nine : full_digits 7 (codes "1234564") ≡ Ok (codes "12345649")
-check_digit_nine = refl
+limits : (full_code128 (replicate 80 97) ≡ Ok (replicate 80 97))
+    × (full_code128 (replicate 81 97) ≡ Err DataTooLong)
+    × (full_code128 (0 ∷ 127 ∷ []) ≡ Ok (0 ∷ 127 ∷ []))
+    × (full_code128 (127 ∷ 128 ∷ []) ≡ Err (NotAscii 2))
+limits = (refl, refl, refl, refl)
 
 -- ---- code sets
 
@@ -398,17 +267,13 @@ unfolding values_of
 values_of_last_bytes = refl
 
 -- what the first and the last values of each set mean (ISO/IEC 15417, symbol characters)
-meanings_in_a : map (meaning A) (0 ∷ 63 ∷ 64 ∷ 95 ∷ 96 ∷ 98 ∷ 99 ∷ 100 ∷ 101 ∷ []) ≡ text (32 ∷ []) ∷ text (95 ∷ [])
-    ∷ text (0 ∷ []) ∷ text (31 ∷ []) ∷ none ∷ shift ∷ change C ∷ change B ∷ none ∷ []
-meanings_in_a = refl
-
-meanings_in_b : map (meaning B) (0 ∷ 64 ∷ 95 ∷ 96 ∷ 98 ∷ 99 ∷ 100 ∷ 101 ∷ []) ≡ text (32 ∷ []) ∷ text (96 ∷ [])
-    ∷ text (127 ∷ []) ∷ none ∷ shift ∷ change C ∷ none ∷ change A ∷ []
-meanings_in_b = refl
-
-meanings_in_c : map (meaning C) (0 ∷ 42 ∷ 99 ∷ 100 ∷ 101 ∷ 102 ∷ []) ≡ text (codes "00") ∷ text (codes "42")
-    ∷ text (codes "99") ∷ change B ∷ change A ∷ none ∷ []
-meanings_in_c = refl
+meanings : (map (meaning A) (0 ∷ 63 ∷ 64 ∷ 95 ∷ 96 ∷ 98 ∷ 99 ∷ 100 ∷ 101 ∷ []) ≡ text (32 ∷ []) ∷ text (95 ∷ [])
+    ∷ text (0 ∷ []) ∷ text (31 ∷ []) ∷ none ∷ shift ∷ change C ∷ change B ∷ none ∷ [])
+    × (map (meaning B) (0 ∷ 64 ∷ 95 ∷ 96 ∷ 98 ∷ 99 ∷ 100 ∷ 101 ∷ []) ≡ text (32 ∷ []) ∷ text (96 ∷ []) ∷ text (127 ∷ [])
+    ∷ none ∷ shift ∷ change C ∷ none ∷ change A ∷ [])
+    × (map (meaning C) (0 ∷ 42 ∷ 99 ∷ 100 ∷ 101 ∷ 102 ∷ []) ≡ text (codes "00") ∷ text (codes "42") ∷ text (codes "99")
+    ∷ change B ∷ change A ∷ none ∷ [])
+meanings = (refl, refl, refl)
 
 -- a step in set C takes two digits
 step_in_c : step C 49 (codes "234") ≡ record { values = 12 ∷ []; set = C; rest = codes "34" }

@@ -18,24 +18,17 @@ abbrev ean8_picture : Picture
 ean8_picture = enlargement (with_quiet_zone (bars ean8_modules 1)
     (record { left = 7; right = 7; top = 0; bottom = 0 })) 1
 
-pbm_ean8 : pbm_text ean8_picture
-    ≡ codes "P1\n81 1\n0000000101011101101111010110001001100101010100001010011101000010100010\n01010000000\n"
-unfolding digits
-pbm_ean8 = refl
-
-pbm_ean8_read : pbm_pixels (pbm_text ean8_picture) ≡ Some (raster ean8_picture)
+pbm_ean8 : (pbm_text ean8_picture
+    ≡ codes "P1\n81 1\n0000000101011101101111010110001001100101010100001010011101000010100010\n01010000000\n")
+    × (pbm_pixels (pbm_text ean8_picture) ≡ Some (raster ean8_picture))
 unfolding digits pbm_pixels
-pbm_ean8_read = refl
+pbm_ean8 = (refl, refl)
 
-ascii_ean8_length : length (ascii_text ean8_picture) ≡ 164
-ascii_ean8_length = refl
-
-ascii_ean8_head : take 18 (ascii_text ean8_picture) ≡ codes "              ##  "
-ascii_ean8_head = refl
-
-ascii_ean8_read : ascii_pixels (ascii_text ean8_picture) ≡ Some (raster ean8_picture)
+ascii_ean8 : (length (ascii_text ean8_picture) ≡ 164)
+    × (take 18 (ascii_text ean8_picture) ≡ codes "              ##  ")
+    × (ascii_pixels (ascii_text ean8_picture) ≡ Some (raster ean8_picture))
 unfolding ascii_pixels
-ascii_ean8_read = refl
+ascii_ean8 = (refl, refl, refl)
 
 -- three times as large, cut from a stream, and sampled
 abbrev zone : QuietZone
@@ -44,38 +37,28 @@ zone = record { left = 2; right = 1; top = 0; bottom = 0 }
 abbrev large : Picture
 large = enlargement (with_quiet_zone (bars (true ∷ false ∷ true ∷ true ∷ []) 2) zone) 3
 
-pbm_cut : pbm_files (pbm_text large ++ pbm_text ean8_picture) ≡ pbm_text large ∷ pbm_text ean8_picture ∷ []
-unfolding digits
-pbm_cut = refl
-
-ascii_cut : ascii_files (ascii_text large ++ ascii_text ean8_picture) ≡ ascii_text large ∷ ascii_text ean8_picture ∷ []
-ascii_cut = refl
-
 -- a beginning of the next file is cut too, be it one byte
-pbm_cut_at_end : pbm_files (codes "P1\n1 1\n0\nP1") ≡ codes "P1\n1 1\n0\n" ∷ codes "P1" ∷ []
-pbm_cut_at_end = refl
-
-pbm_cut_after_a_byte : pbm_files (codes "P1\n1 1\n0\nP") ≡ codes "P1\n1 1\n0\n" ∷ codes "P" ∷ []
-pbm_cut_after_a_byte = refl
+cut : (pbm_files (pbm_text large ++ pbm_text ean8_picture) ≡ pbm_text large ∷ pbm_text ean8_picture ∷ [])
+    × (ascii_files (ascii_text large ++ ascii_text ean8_picture) ≡ ascii_text large ∷ ascii_text ean8_picture ∷ [])
+    × (pbm_files (codes "P1\n1 1\n0\nP1") ≡ codes "P1\n1 1\n0\n" ∷ codes "P1" ∷ [])
+    × (pbm_files (codes "P1\n1 1\n0\nP") ≡ codes "P1\n1 1\n0\n" ∷ codes "P" ∷ [])
+unfolding digits
+cut = (refl, refl, refl, refl)
 
 large_sampled : sample (raster large) 3 zone ≡ Some
     ((true ∷ false ∷ true ∷ true ∷ []) ∷ (true ∷ false ∷ true ∷ true ∷ []) ∷ [])
 unfolding sample
 large_sampled = refl
 
--- a row of a multiple of 70 pixels has no empty line after it
-full_row : pbm_text (bars
+-- a row of a multiple of 70 pixels has no empty line after it, and 71 pixels are a full line and one more
+wide_rows : (pbm_text (bars
     (map (λ b. b == 49) (codes "1111111111111111111111111111111111111111111111111111111111111111111111")) 2)
     ≡ codes "P1\n70 2\n1111111111111111111111111111111111111111111111111111111111111111111111\n"
-    ++ codes "1111111111111111111111111111111111111111111111111111111111111111111111\n"
+    ++ codes "1111111111111111111111111111111111111111111111111111111111111111111111\n")
+    × (pbm_text (bars (replicate 71 true) 1)
+    ≡ codes "P1\n71 1\n1111111111111111111111111111111111111111111111111111111111111111111111\n1\n")
 unfolding digits
-full_row = refl
-
--- 71 pixels are a full line and one more
-longer_row : pbm_text (bars (replicate 71 true) 1)
-    ≡ codes "P1\n71 1\n1111111111111111111111111111111111111111111111111111111111111111111111\n1\n"
-unfolding digits
-longer_row = refl
+wide_rows = (refl, refl)
 
 -- pbm(5): white space is a blank, a tab, a carriage return or a line feed, and a number is decimal
 white : map is_white (8 ∷ 9 ∷ 10 ∷ 11 ∷ 12 ∷ 13 ∷ 14 ∷ 31 ∷ 32 ∷ 33 ∷ []) ≡
@@ -104,19 +87,14 @@ unfolding pbm_pixels
 not_read = refl
 
 -- a text picture has lines of equal length, each of pairs of one letter, and then an empty line
-text_pixels : ascii_pixels (codes "##  ##\n    ##\n\n")
-    ≡ Some (record { width = 3; height = 2; rows = rows_of (codes "101" ∷ codes "001" ∷ []) })
+text_pixels : (ascii_pixels (codes "##  ##\n    ##\n\n")
+    ≡ Some (record { width = 3; height = 2; rows = rows_of (codes "101" ∷ codes "001" ∷ []) }))
+    × (map ascii_pixels (codes "##\n####\n\n" ∷ codes "####\n##\n\n" ∷ codes "##\n" ∷ codes "##\n##" ∷ [] ∷ [])
+    ≡ replicate 5 None)
+    × (map line_pixels (codes "# \n" ∷ codes " #\n" ∷ codes "00\n" ∷ codes "###\n" ∷ codes "##00\n" ∷ codes "##" ∷ [])
+    ≡ replicate 6 None)
 unfolding ascii_pixels
-text_pixels = refl
-
-no_text_pixels : map ascii_pixels (codes "##\n####\n\n" ∷ codes "####\n##\n\n" ∷ codes "##\n" ∷ codes "##\n##"
-    ∷ [] ∷ []) ≡ replicate 5 None
-unfolding ascii_pixels
-no_text_pixels = refl
-
-no_pairs : map line_pixels (codes "# \n" ∷ codes " #\n" ∷ codes "00\n" ∷ codes "###\n" ∷ codes "##00\n"
-    ∷ codes "##" ∷ []) ≡ replicate 6 None
-no_pairs = refl
+text_pixels = (refl, refl, refl)
 
 -- three modules in a quiet zone of another width on each side, a pixel for each: in the quiet zone no pixel is dark
 -- (ISO/IEC 18004, 6.3.8)
@@ -136,15 +114,12 @@ changed r place =
     let x = place % r.width in let y = place / r.width in let row = slice_index_or r.rows y [] in
     record r { rows = slice_set r.rows y (slice_set row x (not (slice_index_or row x false))) }
 
-framed_sampled : sample framed 1 four_sides ≡ Some ((true ∷ false ∷ true ∷ []) ∷ [])
-unfolding sample
-framed_sampled = refl
-
-one_pixel_changed : map (λ place. sample (changed framed place) 1 four_sides) (range_with_len 0 24) ≡
+framed_sampled : (sample framed 1 four_sides ≡ Some ((true ∷ false ∷ true ∷ []) ∷ []))
+    × (map (λ place. sample (changed framed place) 1 four_sides) (range_with_len 0 24) ≡
     replicate 8 None ++ (Some (rows_of (codes "001" ∷ [])) ∷ Some (rows_of (codes "111" ∷ []))
-    ∷ Some (rows_of (codes "100" ∷ [])) ∷ replicate 13 None)
+    ∷ Some (rows_of (codes "100" ∷ [])) ∷ replicate 13 None))
 unfolding sample changed
-one_pixel_changed = refl
+framed_sampled = (refl, refl)
 
 -- cells of two by two pixels, a light one and then two modules: each pixel has the colour of its cell
 abbrev beside : QuietZone
@@ -153,13 +128,10 @@ beside = record { left = 1; right = 0; top = 0; bottom = 0 }
 abbrev cells : Raster
 cells = record { width = 6; height = 2; rows = replicate 2 (map (λ b. b == 49) (codes "001100")) }
 
-cells_sampled : sample cells 2 beside ≡ Some (rows_of (codes "10" ∷ []))
-unfolding sample
-cells_sampled = refl
-
-cells_of_two_colours : map (λ place. sample (changed cells place) 2 beside) (range_with_len 0 12) ≡ replicate 12 None
+cells_sampled : (sample cells 2 beside ≡ Some (rows_of (codes "10" ∷ [])))
+    × (map (λ place. sample (changed cells place) 2 beside) (range_with_len 0 12) ≡ replicate 12 None)
 unfolding sample changed
-cells_of_two_colours = refl
+cells_sampled = (refl, refl)
 
 -- cells below one another, a light one and then a light and a dark module
 abbrev above : QuietZone
@@ -168,31 +140,25 @@ above = record { left = 0; right = 0; top = 1; bottom = 0 }
 abbrev column : Raster
 column = record { width = 2; height = 6; rows = replicate 4 (replicate 2 false) ++ replicate 2 (replicate 2 true) }
 
-column_sampled : sample column 2 above ≡ Some ((false ∷ []) ∷ (true ∷ []) ∷ [])
-unfolding sample
-column_sampled = refl
-
-column_of_two_colours : map (λ place. sample (changed column place) 2 above) (range_with_len 0 12) ≡ replicate 12 None
+column_sampled : (sample column 2 above ≡ Some ((false ∷ []) ∷ (true ∷ []) ∷ []))
+    × (map (λ place. sample (changed column place) 2 above) (range_with_len 0 12) ≡ replicate 12 None)
 unfolding sample changed
-column_of_two_colours = refl
+column_sampled = (refl, refl)
 
--- a width or a height that is no multiple of the scale, and a picture that is smaller than its quiet zone
+-- a width or a height that is no multiple of the scale, a picture that is smaller than its quiet zone, and quiet zones
+-- that fill the picture and leave no modules
 abbrev light : ℕ → ℕ → Raster
 light width height = record { width = width; height = height; rows = replicate height (replicate width false) }
 
 abbrev no_zone : QuietZone
 no_zone = record { left = 0; right = 0; top = 0; bottom = 0 }
 
-not_sampled : (sample (light 2 2) 2 no_zone ≡ Some ((false ∷ []) ∷ [])) × (sample (light 3 2) 2 no_zone ≡ None)
+sizes_sampled : (sample (light 2 2) 2 no_zone ≡ Some ((false ∷ []) ∷ [])) × (sample (light 3 2) 2 no_zone ≡ None)
     × (sample (light 2 3) 2 no_zone ≡ None) × (sample (light 2 4) 1 four_sides ≡ None)
-    × (sample (light 6 2) 1 four_sides ≡ None)
+    × (sample (light 6 2) 1 four_sides ≡ None) × (sample (light 3 4) 1 four_sides ≡ Some ([] ∷ []))
+    × (sample (light 6 3) 1 four_sides ≡ Some [])
 unfolding sample
-not_sampled = (refl, refl, refl, refl, refl)
-
--- a quiet zone that fills the picture leaves no modules
-zone_alone : (sample (light 3 4) 1 four_sides ≡ Some ([] ∷ [])) × (sample (light 6 3) 1 four_sides ≡ Some [])
-unfolding sample
-zone_alone = (refl, refl)
+sizes_sampled = (refl, refl, refl, refl, refl, refl, refl)
 
 -- the rows of a linear symbol are one row: rows that differ in a module, or in their length, are none
 one_row : map (λ texts. common_row (rows_of texts)) ((codes "101" ∷ codes "101" ∷ []) ∷ (codes "101" ∷ codes "101"
@@ -214,9 +180,7 @@ in_quiet_zones : map (λ (dark : ℕ → ℕ → Bool).
     ((codes "01000" ∷ codes "00100" ∷ codes "01100" ∷ []) ∷ replicate 3 (codes "01100") ∷ []))
 in_quiet_zones = refl
 
-beside_bars : (bars (true ∷ []) 1).dark 1 0 ≡ false
-beside_bars = refl
-
 -- light beside the picture
-beside_pixels : map (λ y. value_at (raster (bars (true ∷ []) 1)).rows 1 y) (0 ∷ 1 ∷ []) ≡ false ∷ false ∷ []
-beside_pixels = refl
+beside_bars : ((bars (true ∷ []) 1).dark 1 0 ≡ false)
+    × (map (λ y. value_at (raster (bars (true ∷ []) 1)).rows 1 y) (0 ∷ 1 ∷ []) ≡ false ∷ false ∷ [])
+beside_bars = (refl, refl)

@@ -28,33 +28,24 @@ abbrev blocks_of_versions : Level → List (ℕ × List ℕ)
 blocks_of_versions level =
     map (λ version. (ec_codewords_per_block version level, block_lengths version level)) (range_with_len 1 10)
 
-blocks_at_l : blocks_of_versions L ≡
+blocks : (blocks_of_versions L ≡
     (7, 19 ∷ []) ∷ (10, 34 ∷ []) ∷ (15, 55 ∷ []) ∷ (20, 80 ∷ []) ∷ (26, 108 ∷ []) ∷ (18, 68 ∷ 68 ∷ []) ∷
-    (20, 78 ∷ 78 ∷ []) ∷ (24, 97 ∷ 97 ∷ []) ∷ (30, 116 ∷ 116 ∷ []) ∷ (18, 68 ∷ 68 ∷ 69 ∷ 69 ∷ []) ∷ []
-unfolding ec_codewords_per_block block_lengths groups_of block_table
-blocks_at_l = refl
-
-blocks_at_m : blocks_of_versions M ≡
+    (20, 78 ∷ 78 ∷ []) ∷ (24, 97 ∷ 97 ∷ []) ∷ (30, 116 ∷ 116 ∷ []) ∷ (18, 68 ∷ 68 ∷ 69 ∷ 69 ∷ []) ∷ [])
+    × (blocks_of_versions M ≡
     (10, 16 ∷ []) ∷ (16, 28 ∷ []) ∷ (26, 44 ∷ []) ∷ (18, 32 ∷ 32 ∷ []) ∷ (24, 43 ∷ 43 ∷ []) ∷
     (16, 27 ∷ 27 ∷ 27 ∷ 27 ∷ []) ∷ (18, 31 ∷ 31 ∷ 31 ∷ 31 ∷ []) ∷ (22, 38 ∷ 38 ∷ 39 ∷ 39 ∷ []) ∷
-    (22, 36 ∷ 36 ∷ 36 ∷ 37 ∷ 37 ∷ []) ∷ (26, 43 ∷ 43 ∷ 43 ∷ 43 ∷ 44 ∷ []) ∷ []
-unfolding ec_codewords_per_block block_lengths groups_of block_table
-blocks_at_m = refl
-
-blocks_at_q : blocks_of_versions Q ≡
+    (22, 36 ∷ 36 ∷ 36 ∷ 37 ∷ 37 ∷ []) ∷ (26, 43 ∷ 43 ∷ 43 ∷ 43 ∷ 44 ∷ []) ∷ [])
+    × (blocks_of_versions Q ≡
     (13, 13 ∷ []) ∷ (22, 22 ∷ []) ∷ (18, 17 ∷ 17 ∷ []) ∷ (26, 24 ∷ 24 ∷ []) ∷ (18, 15 ∷ 15 ∷ 16 ∷ 16 ∷ []) ∷
     (24, 19 ∷ 19 ∷ 19 ∷ 19 ∷ []) ∷ (18, 14 ∷ 14 ∷ 15 ∷ 15 ∷ 15 ∷ 15 ∷ []) ∷
     (22, 18 ∷ 18 ∷ 18 ∷ 18 ∷ 19 ∷ 19 ∷ []) ∷ (20, 16 ∷ 16 ∷ 16 ∷ 16 ∷ 17 ∷ 17 ∷ 17 ∷ 17 ∷ []) ∷
-    (24, 19 ∷ 19 ∷ 19 ∷ 19 ∷ 19 ∷ 19 ∷ 20 ∷ 20 ∷ []) ∷ []
-unfolding ec_codewords_per_block block_lengths groups_of block_table
-blocks_at_q = refl
-
-blocks_at_h : blocks_of_versions H ≡
+    (24, 19 ∷ 19 ∷ 19 ∷ 19 ∷ 19 ∷ 19 ∷ 20 ∷ 20 ∷ []) ∷ [])
+    × (blocks_of_versions H ≡
     (17, 9 ∷ []) ∷ (28, 16 ∷ []) ∷ (22, 13 ∷ 13 ∷ []) ∷ (16, 9 ∷ 9 ∷ 9 ∷ 9 ∷ []) ∷ (22, 11 ∷ 11 ∷ 12 ∷ 12 ∷ []) ∷
     (28, 15 ∷ 15 ∷ 15 ∷ 15 ∷ []) ∷ (26, 13 ∷ 13 ∷ 13 ∷ 13 ∷ 14 ∷ []) ∷ (26, 14 ∷ 14 ∷ 14 ∷ 14 ∷ 15 ∷ 15 ∷ []) ∷
-    (24, 12 ∷ 12 ∷ 12 ∷ 12 ∷ 13 ∷ 13 ∷ 13 ∷ 13 ∷ []) ∷ (28, 15 ∷ 15 ∷ 15 ∷ 15 ∷ 15 ∷ 15 ∷ 16 ∷ 16 ∷ []) ∷ []
+    (24, 12 ∷ 12 ∷ 12 ∷ 12 ∷ 13 ∷ 13 ∷ 13 ∷ 13 ∷ []) ∷ (28, 15 ∷ 15 ∷ 15 ∷ 15 ∷ 15 ∷ 15 ∷ 16 ∷ 16 ∷ []) ∷ [])
 unfolding ec_codewords_per_block block_lengths groups_of block_table
-blocks_at_h = refl
+blocks = (refl, refl, refl, refl)
 
 -- ---- the tables of qrencode 4.1.1 (qrspec.c, qrinput.c), which come from those of JIS X 0510 and ISO/IEC 18004
 
@@ -131,20 +122,14 @@ indicators = (refl, refl)
 bits : List ℕ → List Bool
 bits text = map (λ c. c == 49) text
 
--- the standard's examples `01234567`, `0123456789012345` and `AC-42`
-standard_digits : (numeric_bits (codes "01234567") ≡ bits (codes "000000110001010110011000011"))
+-- the standard's examples `01234567`, `0123456789012345` and `AC-42`, and three bytes
+payloads : (numeric_bits (codes "01234567") ≡ bits (codes "000000110001010110011000011"))
     × (numeric_bits (codes "0123456789012345")
     ≡ bits (codes "000000110001010110011010100110111000010100111010100101"))
-unfolding numeric_bits bits_of bits
-standard_digits = (refl, refl)
-
-five_characters : alphanumeric_bits (codes "AC-42") ≡ bits (codes "0011100111011100111001000010")
-unfolding alphanumeric_bits alphanumeric_value alphanumeric_characters bits_of bits
-five_characters = refl
-
-three_bytes : byte_bits (0 ∷ 170 ∷ 255 ∷ []) ≡ bits (codes "000000001010101011111111")
-unfolding byte_bits bits_of bits
-three_bytes = refl
+    × (alphanumeric_bits (codes "AC-42") ≡ bits (codes "0011100111011100111001000010"))
+    × (byte_bits (0 ∷ 170 ∷ 255 ∷ []) ≡ bits (codes "000000001010101011111111"))
+unfolding numeric_bits alphanumeric_bits alphanumeric_value alphanumeric_characters byte_bits bits_of bits
+payloads = (refl, refl, refl, refl)
 
 -- the lengths of such payloads
 lengths_of_payloads : (map (payload_length Numeric) (1 ∷ 2 ∷ 3 ∷ 8 ∷ 16 ∷ []) ≡ 4 ∷ 7 ∷ 10 ∷ 27 ∷ 54 ∷ [])
@@ -166,35 +151,24 @@ two_segments : segments_bits 1 (segment_of Byte 1 ∷ segment_of Numeric 5 ∷ [
 unfolding segments_bits numeric_bits byte_bits bits_of bits
 two_segments = refl
 
--- a terminator has four bits, or as many as are left
+-- a terminator has four bits, or as many as are left; zeros fill the last codeword, and pad codewords follow
 terminators : (map (λ n. length (with_terminator 152 (replicate n true))) (41 ∷ 147 ∷ 148 ∷ 149 ∷ 151 ∷ 152 ∷ []) ≡
     45 ∷ 151 ∷ 152 ∷ 152 ∷ 152 ∷ 152 ∷ []) × (with_terminator 8 (true ∷ []) ≡ true ∷ false ∷ false ∷ false ∷ false ∷ [])
-unfolding with_terminator
-terminators = (refl, refl)
-
-aligned_bits : (map (λ n. length (with_zeros (replicate n true))) (0 ∷ 1 ∷ 7 ∷ 8 ∷ 9 ∷ []) ≡ 0 ∷ 8 ∷ 8 ∷ 8 ∷ 16 ∷ [])
+    × (map (λ n. length (with_zeros (replicate n true))) (0 ∷ 1 ∷ 7 ∷ 8 ∷ 9 ∷ []) ≡ 0 ∷ 8 ∷ 8 ∷ 8 ∷ 16 ∷ [])
     × (with_zeros (replicate 7 true) ≡ true ∷ true ∷ true ∷ true ∷ true ∷ true ∷ true ∷ false ∷ [])
-unfolding with_zeros
-aligned_bits = (refl, refl)
+    × (map pad_codewords (1 ∷ 5 ∷ []) ≡ (236 ∷ []) ∷ (236 ∷ 17 ∷ 236 ∷ 17 ∷ 236 ∷ []) ∷ [])
+unfolding with_terminator with_zeros
+terminators = (refl, refl, refl, refl, refl)
 
-pads : map pad_codewords (1 ∷ 5 ∷ []) ≡ (236 ∷ []) ∷ (236 ∷ 17 ∷ 236 ∷ 17 ∷ 236 ∷ []) ∷ []
-pads = refl
-
--- versions from the smallest one allowed to 10
-versions_asked_for : map (λ lowest. chosen_version lowest H (codes "1")) (1 ∷ 2 ∷ 10 ∷ 11 ∷ []) ≡
-    Some 1 ∷ Some 2 ∷ Some 10 ∷ None ∷ []
+-- versions from the smallest one allowed to 10; version 1-H has 72 data bits: eight letters have 76, seven letters 68,
+-- four letters and four digits 72
+versions : (map (λ lowest. chosen_version lowest H (codes "1")) (1 ∷ 2 ∷ 10 ∷ 11 ∷ []) ≡
+    Some 1 ∷ Some 2 ∷ Some 10 ∷ None ∷ [])
+    × (map (λ lowest. chosen_version lowest H (codes "abcdefgh")) (1 ∷ 2 ∷ 3 ∷ []) ≡ Some 2 ∷ Some 2 ∷ Some 3 ∷ [])
+    × (chosen_version 1 H (codes "abcdefg") ≡ Some 1) × (chosen_version 1 H (codes "abcd1234") ≡ Some 1)
 unfolding chosen_version chosen_segments best_within first_segments alphanumeric_characters alphanumeric_value
     data_codewords block_lengths groups_of block_table
-versions_asked_for = refl
-
--- version 1-H has 72 data bits: eight letters have 76, seven letters 68, four letters and four digits 72; the search
--- begins at the version that is asked for
-versions_of_letters : (map (λ lowest. chosen_version lowest H (codes "abcdefgh")) (1 ∷ 2 ∷ 3 ∷ []) ≡
-    Some 2 ∷ Some 2 ∷ Some 3 ∷ []) × (chosen_version 1 H (codes "abcdefg") ≡ Some 1)
-    × (chosen_version 1 H (codes "abcd1234") ≡ Some 1)
-unfolding chosen_version chosen_segments best_within first_segments alphanumeric_characters alphanumeric_value
-    data_codewords block_lengths groups_of block_table
-versions_of_letters = (refl, refl, refl)
+versions = (refl, refl, refl, refl)
 
 -- the largest numbers of digits, characters and bytes are read, and those that none have are not
 digits_read : (digits_at 1 (bits_of 4 9) ≡ Some (codes "9", []))
@@ -215,17 +189,13 @@ characters_read : (characters_at 1 (bits_of 6 44) ≡ Some (codes ":", []))
 unfolding characters_at bytes_at number_at number_of bits_of alphanumeric_characters
 characters_read = (refl, refl, refl, refl, refl)
 
--- the segments end at four zeros, or where fewer than four bits are left
-ends : map is_end (bits (codes "0000") ∷ bits (codes "0001") ∷ bits (codes "00001") ∷ bits (codes "111")
-    ∷ bits (codes "1111") ∷ [] ∷ []) ≡ true ∷ false ∷ true ∷ true ∷ false ∷ true ∷ []
-unfolding bits number_of
-ends = refl
-
--- no mode indicator beside the three
-no_mode : map (segment_at 1) (bits (codes "0011000000000100001") ∷ bits (codes "1000000000000100001") ∷ []) ≡
-    None ∷ None ∷ []
+-- the segments end at four zeros, or where fewer than four bits are left; no mode indicator beside the three
+ends : (map is_end (bits (codes "0000") ∷ bits (codes "0001") ∷ bits (codes "00001") ∷ bits (codes "111")
+    ∷ bits (codes "1111") ∷ [] ∷ []) ≡ true ∷ false ∷ true ∷ true ∷ false ∷ true ∷ [])
+    × (map (segment_at 1) (bits (codes "0011000000000100001") ∷ bits (codes "1000000000000100001") ∷ []) ≡
+    None ∷ None ∷ [])
 unfolding segment_at number_at number_of bits
-no_mode = refl
+ends = (refl, refl)
 
 -- the data bits of versions 1 and 10 (table 7)
 data_bits : map (λ version. map (capacity version) (L ∷ M ∷ Q ∷ H ∷ [])) (1 ∷ 10 ∷ []) ≡
@@ -233,15 +203,12 @@ data_bits : map (λ version. map (capacity version) (L ∷ M ∷ Q ∷ H ∷ [])
 unfolding data_codewords block_lengths groups_of block_table
 data_bits = refl
 
--- `:` is the last alphanumeric character
-last_character : map (has_character Alphanumeric) (codes ":;") ≡ true ∷ false ∷ []
-unfolding alphanumeric_value alphanumeric_characters
-last_character = refl
-
--- a character count of 10 bits counts to 1023, and one of 8 bits to 255
-counted_lengths : (map (λ n. is_first 1 (replicate n 49) (segment_of Numeric n)) (1023 ∷ 1024 ∷ []) ≡ true ∷ false ∷ [])
+-- `:` is the last alphanumeric character; a character count of 10 bits counts to 1023, and one of 8 bits to 255
+limits : (map (has_character Alphanumeric) (codes ":;") ≡ true ∷ false ∷ [])
+    × (map (λ n. is_first 1 (replicate n 49) (segment_of Numeric n)) (1023 ∷ 1024 ∷ []) ≡ true ∷ false ∷ [])
     × (map (λ n. is_first 1 (replicate n 97) (segment_of Byte n)) (255 ∷ 256 ∷ []) ≡ true ∷ false ∷ [])
-counted_lengths = (refl, refl)
+unfolding alphanumeric_value alphanumeric_characters
+limits = (refl, refl, refl)
 
 -- seven codewords of bits, and a terminator that ends in the eighth or is cut at the end of the second
 filled_words : (with_pad_codewords 8 (replicate 56 true) ≡ 255 ∷ 255 ∷ 255 ∷ 255 ∷ 255 ∷ 255 ∷ 255 ∷ 236 ∷ [])
@@ -252,30 +219,31 @@ filled_words = (refl, refl, refl)
 
 -- ---- the choice of segments
 
--- the fewest bits, and ties to the longest first segment
+-- the fewest bits, and ties to the longest first segment; what the three segments of the last text cost
 mixed : (chosen_segments 1 (codes "a12345") ≡ segment_of Byte 1 ∷ segment_of Numeric 5 ∷ [])
     × (chosen_segments 1 (codes "a123") ≡ segment_of Byte 4 ∷ [])
     × (chosen_segments 1 (codes "a12b") ≡ segment_of Byte 4 ∷ [])
+    × (cost 1 (segment_of Byte 1 ∷ segment_of Numeric 2 ∷ segment_of Byte 1 ∷ []) ≡ 61)
 unfolding alphanumeric_characters alphanumeric_value first_segments best_within chosen_segments
-mixed = (refl, refl, refl)
-
-three_segments_cost : cost 1 (segment_of Byte 1 ∷ segment_of Numeric 2 ∷ segment_of Byte 1 ∷ []) ≡ 61
-three_segments_cost = refl
+mixed = (refl, refl, refl, refl)
 
 -- ---- codewords
 
--- a symbol of version 1-Q that is known from outside is read
+-- a symbol of version 1-Q that is known from outside
 hello_world : List ℕ
 hello_world =
     32 ∷ 91 ∷ 11 ∷ 120 ∷ 209 ∷ 114 ∷ 220 ∷ 77 ∷ 67 ∷ 64 ∷ 236 ∷ 17 ∷ 236 ∷ 168 ∷ 72 ∷ 22 ∷ 82 ∷ 217 ∷ 54 ∷ 156 ∷ 0 ∷
     46 ∷ 15 ∷ 180 ∷ 122 ∷ 16 ∷ []
 
-hello_world_reads : data_in 1 Q hello_world ≡ Some (codes "HELLO WORLD")
+-- it is read; a codeword more than version 1 has, one less, and the last two codewords changed in one bit are not: the
+-- value at alpha^0 is still 0, and at the other roots it is not
+hello_world_reads : (data_in 1 Q hello_world ≡ Some (codes "HELLO WORLD"))
+    × (map (data_in 1 Q) ((hello_world ++ (0 ∷ [])) ∷ take 25 hello_world ∷ (take 24 hello_world ++ (123 ∷ 17 ∷ []))
+    ∷ []) ≡ replicate 3 None)
 unfolding hello_world alphanumeric_characters bits_of number_of byte_bits total_codewords ec_codewords_per_block
-    data_codewords
-    block_lengths groups_of block_table evaluate field_power field_product binary_product binary_remainder number_at
-    digits_at characters_at bytes_at segment_at segments_at deinterleaving data_in
-hello_world_reads = refl
+    data_codewords block_lengths groups_of block_table evaluate field_power field_product binary_product
+    binary_remainder number_at digits_at characters_at bytes_at segment_at segments_at deinterleaving data_in
+hello_world_reads = (refl, refl)
 
 -- the interleaving of version 5-Q, whose blocks have 15, 15, 16 and 16 codewords
 interleaved_5q : List ℕ
@@ -285,31 +253,16 @@ interleaved_5q =
     ∷ 8 ∷ 23 ∷ 38 ∷ 54 ∷ 9 ∷ 24 ∷ 39 ∷ 55 ∷ 10 ∷ 25 ∷ 40 ∷ 56 ∷ 11 ∷ 26 ∷ 41 ∷ 57 ∷ 12 ∷ 27 ∷ 42 ∷ 58 ∷ 13 ∷ 28 ∷ 43
     ∷ 59 ∷ 14 ∷ 29 ∷ 44 ∷ 60 ∷ 45 ∷ 61 ∷ []
 
-interleaving-split_by : interleaving (split_by (block_lengths 5 Q) (range_with_len 0 62)) ≡ interleaved_5q
-unfolding block_lengths groups_of block_table split_by interleaving interleaved_5q
-interleaving-split_by = refl
-
--- a codeword more than version 1 has, one less, and the last two codewords changed in one bit: the value at alpha^0 is
--- still 0, and at the other roots it is not
-not_read : map (data_in 1 Q) ((hello_world ++ (0 ∷ [])) ∷ take 25 hello_world ∷ (take 24 hello_world ++ (123 ∷ 17 ∷ []))
-    ∷ []) ≡ replicate 3 None
-unfolding hello_world alphanumeric_characters bits_of number_of byte_bits total_codewords ec_codewords_per_block
-    data_codewords block_lengths groups_of block_table evaluate field_power field_product binary_product
-    binary_remainder number_at digits_at characters_at bytes_at segment_at segments_at deinterleaving data_in
-not_read = refl
-
--- the blocks of version 5-Q taken out of the order that the standard lists (ISO/IEC 18004, 7.6)
-blocks_taken_back : deinterleaving (15 ∷ 15 ∷ 16 ∷ 16 ∷ []) interleaved_5q
-    ≡ split_by (15 ∷ 15 ∷ 16 ∷ 16 ∷ []) (range_with_len 0 62)
-unfolding deinterleaving interleaved_5q split_by
-blocks_taken_back = refl
-
--- the third block of such a symbol, whose error correction codewords are numbered from 62 in their order there
-third_block : block_in 5 Q (interleaved_5q ++ range_with_len 62 72) 2
-    ≡ range_with_len 30 16 ++ map (λ i. 64 + 4 * i) (range_with_len 0 18)
-unfolding block_in deinterleaving interleaved_5q block_lengths data_codewords ec_codewords_per_block groups_of
-    block_table
-third_block = refl
+-- laid in and taken out of the order that the standard lists (ISO/IEC 18004, 7.6); in a symbol the third block, whose
+-- error correction codewords are numbered from 62 in their order there
+blocks_of_5q : (interleaving (split_by (block_lengths 5 Q) (range_with_len 0 62)) ≡ interleaved_5q)
+    × (deinterleaving (15 ∷ 15 ∷ 16 ∷ 16 ∷ []) interleaved_5q
+    ≡ split_by (15 ∷ 15 ∷ 16 ∷ 16 ∷ []) (range_with_len 0 62))
+    × (block_in 5 Q (interleaved_5q ++ range_with_len 62 72) 2
+    ≡ range_with_len 30 16 ++ map (λ i. 64 + 4 * i) (range_with_len 0 18))
+unfolding block_in interleaving deinterleaving split_by interleaved_5q block_lengths data_codewords
+    ec_codewords_per_block groups_of block_table
+blocks_of_5q = (refl, refl, refl)
 
 -- ---- four blocks
 

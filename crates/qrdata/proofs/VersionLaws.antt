@@ -99,6 +99,8 @@ widest-le version = elim (nat_lt version 10) as (λ t. cond (nat_lt (cond t 8 16
 pub capacity-le : (level : Level) (version : ℕ) → IsVersion version → capacity version level ≤ 2192
 capacity-le level version known = omega (arith, (IsSound-of version level known).few_bits, widest-le version)
 
+pub ruleset most_bits = (capacity-le)
+
 pub data_codewords-few : {n : ℕ} (version : ℕ) (level : Level) → n ≡ data_codewords version level → IsVersion version
     → n ≤ 274
 data_codewords-few version level e known = omega (arith, e, capacity-le level version known)

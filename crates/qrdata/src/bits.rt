@@ -61,6 +61,7 @@ impl Bits {
     ghost use Rattle.qrdata.specs.Private.BitsInCodewords.{bits_in};
 
     /// Makes an empty list of bits.
+    #[tactic(auto, unfolding(crate::specs::Segments::byte_bits, crate::specs::Bits::bits_of))]
     pub(crate) fn new() -> Bits
         ensures { bits_in result ≡ [] }
     {

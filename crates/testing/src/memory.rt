@@ -1,5 +1,5 @@
 //! Devices in memory.
-ghost use Rattle.std.specs.Prelude.{◌≡◌, ◌+◌, ◌-◌, ◌<◌, ◌≤◌, ◌↔◌, ◌++◌, [], true, length, min};
+ghost use Rattle.std.specs.Prelude.{◌≡◌, ◌-◌, ◌<◌, ◌≤◌, ◌↔◌, ◌++◌, [], true, length, min};
 ghost use Rattle.std.specs.Prelude.{IfOk, IsOk, IsErr, refl, ⊤};
 ghost use Rattle.std.proofs.lemmas.List.{append-nil};
 ghost use Rattle.std.proofs.Common.{sym};

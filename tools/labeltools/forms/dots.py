@@ -29,16 +29,22 @@ def drawn_page(size: Dots, pen: Pen, page: Page, turn: int = 0) -> Picture:
     too large.
     """
     width, height = size
-    surface = surface_of(size)
-    canvas = cairo.Context(surface)
-    canvas.set_antialias(cairo.Antialias.NONE)
-    pen.draw(canvas, page, turn)
-    surface.flush()
+    surface = drawn_surface(size, pen, page, turn)
     data = bytes(surface.get_data()).translate(REVERSED)
     stride = surface.get_stride()
     row_size = bytes_a_row(width)
     starts = range(0, stride * height, stride)
     return Picture(width, height, tuple(data[start : start + row_size] for start in starts))
+
+
+def drawn_surface(size: Dots, pen: Pen, page: Page, turn: int = 0) -> cairo.ImageSurface:
+    """Returns a page of labels as a surface with a bit for each dot; raises as `drawn_page`."""
+    surface = surface_of(size)
+    canvas = cairo.Context(surface)
+    canvas.set_antialias(cairo.Antialias.NONE)
+    pen.draw(canvas, page, turn)
+    surface.flush()
+    return surface
 
 
 def surface_of(size: Dots) -> cairo.ImageSurface:

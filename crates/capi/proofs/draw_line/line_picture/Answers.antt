@@ -1,5 +1,4 @@
 use Rattle.std.proofs.Common.{[]}
-use Rattle.capi.proofs.DeclinesLaws.{declines}
 use Rattle.capi.proofs.LineLaws.{outcome_seen, picture_answers, reads_picture}
 use Rattle.capi.proofs.draw_line.line_picture.Goals as goal
 
@@ -9,7 +8,7 @@ returns-in-Skipped-clause-answers c =
     let text = c.args.text.now in
     let seen = c.parse.ensures.item text (c.extend.ensures [] c.new-line.ensures) in
     rw (outcome_seen options text _ seen, c.in-Skipped.is)
-    (declines c.args.out.now c.args.message.now _ 14 c.declined.ensures)
+    (c.declined.ensures c.args.out.now c.args.message.now)
 
 pub returns-in-Skipped-clause-read : goal.returns-in-Skipped-clause-read
 returns-in-Skipped-clause-read c =

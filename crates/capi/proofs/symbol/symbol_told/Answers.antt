@@ -1,12 +1,27 @@
-use Rattle.std.proofs.Common.{◌≡◌}
+use Rattle.std.proofs.Common.{arith}
+use Rattle.filter.proofs.ReadLaws.{modules_of_data_read}
 use Rattle.capi.proofs.LineLaws.{drawn_as, lowered}
 use Rattle.capi.specs.Modules.{one_row}
 use Rattle.capi.proofs.symbol.symbol_told.Goals as goal
 
+pub returns-clause-read : goal.returns-clause-read
+returns-clause-read c =
+    let options = c.args.options.now in
+    let range = c.ranges-2.ensures in
+    modules_of_data_read (record { run = options.run; label = one_row options.label })
+    (record {
+      scale_low = range.scale_low;
+      scale_high = range.scale_high;
+      height_low = omega arith;
+      height_high = omega arith;
+      version_low = range.version_low;
+      version_high = range.version_high;
+      mask_fits = range.mask_fits;
+    }) _ _ c.type_inv.bytes
+
 pub returns-clause-told : goal.returns-clause-told
 returns-clause-told c =
     let label = c.args.options.now.label in
-    let same : c.in-Some.label ≡ one_row label = let e = c.in-Some.ensures in cc in
     drawn_as c.args.symbology label.height _ _ (lowered label c.args.symbology c.args.bytes.now) _ _
-    c.symbol_asked-answer.new.info _ _ (rw same at c.symbol_asked-answer.ensures.answers)
+    c.symbol_asked-answer.new.info _ _ c.symbol_asked-answer.ensures.answers
     c.number_of-info.ensures (rw c.height.ensures.value at c.height_of-info.ensures)

@@ -4,14 +4,6 @@ use Rattle.std.proofs.lemmas.List.Sums.{sum_by-drop_more}
 use Rattle.qrdata.specs.Codewords.{split_by}
 use Rattle.qrdata.proofs.blocks.push_ec_codewords.Goals as goal
 
-pub overflow_add-end : goal.overflow_add-end
-overflow_add-end c =
-    omega (arith, sum_by-drop_more (λ x. x) c.args.lengths.now c.loop-size.size-index 0 c.loop-size-test.true)
-
-pub slice_bounds-push_block_ec_codewords-end : goal.slice_bounds-push_block_ec_codewords-end
-slice_bounds-push_block_ec_codewords-end c =
-    omega (arith, sum_by-drop_more (λ x. x) c.args.lengths.now c.loop-size.size-index 0 c.loop-size-test.true)
-
 pub loop-size-preserved : goal.loop-size-preserved
 unfolding split_by
 loop-size-preserved c =

@@ -1,25 +1,10 @@
-use Rattle.std.proofs.Common.{◌≡◌, ◌≤◌, ◌++◌, ℕ, List, drop, length, append_assoc, append-nil, arith, ap, refl}
-use Rattle.std.proofs.Common.{length-append, lit<}
+use Rattle.std.proofs.Common.{◌≡◌, ◌≤◌, ◌++◌, ℕ, List, drop, length, append_assoc, append-nil, arith, refl}
 use Rattle.std.proofs.lemmas.List.{drop_all}
 use Rattle.qrdata.specs.declared.mode.Segment.{Segment}
 use Rattle.qrdata.specs.Fewest.{chosen_segments}
 use Rattle.qrdata.proofs.FewestBitsLaws.{chosen_segments-nil, chosen_segments-is}
 use Rattle.qrdata.proofs.FirstsTableLaws.{IsNamed-first}
 use Rattle.qrdata.proofs.plan.plan_of.Goals as goal
-
-pub loop-place-init : goal.loop-place-init
-loop-place-init c = (rw c.new-segments.ensures refl, omega arith, omega (arith, c.requires.bits.value))
-
-pub push-requires : goal.push-requires
-push-requires c =
-    let named = IsNamed-first c.loop-place-test.true c.requires.table c.loop-place.invariant.2 c.at-first.ensures in
-    let all = rw named.next at c.loop-place.invariant.0 in
-    (lit< tt, omega (arith, ap length all, length-append {A = Segment}, c.requires.bits.short))
-
-pub overflow_add-place : goal.overflow_add-place
-overflow_add-place c =
-    let named = IsNamed-first c.loop-place-test.true c.requires.table c.loop-place.invariant.2 c.at-first.ensures in
-    omega (arith, named.inside, c.requires.table.few, c.from-place.ensures)
 
 pub loop-place-smaller : goal.loop-place-smaller
 loop-place-smaller c =

@@ -21,25 +21,6 @@ feedback register codeword first fed some fits small is e =
     e ∙ ap (λ r. bit_xor r codeword) (is ∙ get_or_default_zero register 0 first some) in
     (sum, omega (arith, element, sum))
 
-pub bounds-self-inside-feedback : goal.bounds-self-inside-feedback
-bounds-self-inside-feedback c = omega arith
-
-pub offset_bounds-self-inside-feedback-2 : goal.offset_bounds-self-inside-feedback-2
-offset_bounds-self-inside-feedback-2 c =
-    let some : 0 < length c.args.register = omega (arith, c.fits-register.0) in
-    let fed = feedback c.args.register c.args.codeword c.index.result.now c.from-feedback.result
-    some (Each1-get_or (Fits w8) c.args.register 0 0 some c.fits-register.1).fits c.ranges.codeword.fits
-    c.index.ensures c.from-feedback.ensures in
-    omega (arith, fed.1)
-
-pub bounds-self-inside-feedback-2 : goal.bounds-self-inside-feedback-2
-bounds-self-inside-feedback-2 c =
-    let some : 0 < length c.args.register = omega (arith, c.fits-register.0) in
-    let fed = feedback c.args.register c.args.codeword c.index.result.now c.from-feedback.result
-    some (Each1-get_or (Fits w8) c.args.register 0 0 some c.fits-register.1).fits c.ranges.codeword.fits
-    c.index.ensures c.from-feedback.ensures in
-    omega (arith, fed.1)
-
 pub returns : goal.returns
 unfolding next_register
 returns c =

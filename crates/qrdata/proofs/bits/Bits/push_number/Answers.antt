@@ -23,9 +23,6 @@ loop-count-init c =
       room = omega (arith, long, length-byte_bits codewords, length-bits_of rest.count rest.number, c.requires.room);
     })
 
-pub power_of_two-unit-requires-in-loop-count : goal.power_of_two-unit-requires-in-loop-count
-power_of_two-unit-requires-in-loop-count c = omega (arith, c.loop-count.invariant.few)
-
 pub overflow_cast-value : goal.overflow_cast-value
 overflow_cast-value c =
     let n = c.loop-count.count - 8 in
@@ -33,9 +30,6 @@ overflow_cast-value c =
     let high = high_byte-lt n c.loop-count.value
     (subst (λ k. c.loop-count.value < 2 ^ k) count c.loop-count.invariant.small) in
     rw c.power_of_two-unit-in-loop-count.ensures (omega (arith, high))
-
-pub push-requires : goal.push-requires
-push-requires c = (omega arith, omega (arith, c.loop-count.invariant.room, c.loop-count-test.true))
 
 pub loop-count-preserved : goal.loop-count-preserved
 loop-count-preserved c =
@@ -54,6 +48,3 @@ loop-count-preserved c =
       few = omega (arith, c.loop-count.invariant.few);
       room = omega (arith, c.loop-count.invariant.room, c.push.ensures.len, c.loop-count-test.true);
     })
-
-pub invariant_of-self : goal.invariant_of-self
-invariant_of-self c = record { few = omega (arith, c.loop-count-test.false); small = c.loop-count.invariant.small }

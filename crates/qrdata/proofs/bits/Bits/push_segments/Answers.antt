@@ -1,6 +1,6 @@
 use Rattle.std.proofs.Common.{◌≡◌, ℕ, ◌+◌, ◌-◌, ◌<◌, List, ◌++◌, drop, take, length, get_or, append-nil, arith, ap}
 use Rattle.std.proofs.Common.{length-append, Bool}
-use Rattle.std.proofs.lemmas.List.{drop-drop, drop_all, drop_more, length-drop, length-take-le}
+use Rattle.std.proofs.lemmas.List.{drop-drop, drop_all, drop_more, length-drop}
 use Rattle.std.proofs.lemmas.List.Sums.{sum_by-cons}
 use Rattle.qrdata.specs.Private.BitsInCodewords.{bits_in}
 use Rattle.qrdata.specs.declared.mode.Segment.{Segment}
@@ -14,35 +14,6 @@ next_held : (version : ℕ) (segments : List Segment) (i : ℕ) (bytes : List �
     → IsSegmentation version (drop i segments) bytes → IsFirstSegment version bytes (get_or segments i default_segment)
     × IsSegmentation version (drop (i + 1) segments) (drop (get_or segments i default_segment).len bytes)
 next_held version segments i bytes inside cut = rw (drop_more segments i default_segment inside) at cut
-
-pub slice_bounds-push_segment-end : goal.slice_bounds-push_segment-end
-slice_bounds-push_segment-end c =
-    let held = next_held c.args.version c.args.segments.now c.loop-segment.segment-index
-    (drop c.loop-segment.place c.args.bytes.now) c.loop-segment-test.true c.loop-segment.invariant.cut in
-    omega (arith, held.0.inside, length-drop c.loop-segment.place c.args.bytes.now, c.from.ensures)
-
-pub push_segment-requires-clause-characters : goal.push_segment-requires-clause-characters
-push_segment-requires-clause-characters c =
-    let held = next_held c.args.version c.args.segments.now c.loop-segment.segment-index
-    (drop c.loop-segment.place c.args.bytes.now) c.loop-segment-test.true c.loop-segment.invariant.cut in
-    let piece : c.loop-segment.place + c.from.result - c.loop-segment.place ≡ c.from.result = omega arith in
-    rw (piece, c.from.ensures) held.0.characters
-
-pub push_segment-requires-clause-room : goal.push_segment-requires-clause-room
-push_segment-requires-clause-room c =
-    let version = c.args.version in
-    let segments = c.args.segments.now in
-    let i = c.loop-segment.segment-index in
-    let place = c.loop-segment.place in
-    let rest = drop place c.args.bytes.now in
-    let s = get_or segments i default_segment in
-    let held = next_held version segments i rest c.loop-segment-test.true c.loop-segment.invariant.cut in
-    let piece : place + c.from.result - place ≡ s.len = omega (arith, c.from.ensures) in
-    rw (piece, length-take-le s.len rest held.0.inside) (omega (
-      arith,
-      sum_by-cons (segment_length version) s (drop (i + 1) segments),
-      (rw (drop_more segments i default_segment c.loop-segment-test.true) at c.loop-segment.invariant.room),
-    ))
 
 pub loop-segment-preserved : goal.loop-segment-preserved
 unfolding segments_bits

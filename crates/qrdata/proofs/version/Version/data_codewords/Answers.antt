@@ -1,4 +1,4 @@
-use Rattle.std.proofs.Common.{◌*◌, ◌≤◌, arith}
+use Rattle.std.proofs.Common.{arith}
 use Rattle.qrdata.proofs.VersionLaws.{IsSound-of}
 use Rattle.qrdata.proofs.version.Version.data_codewords.Goals as goal
 
@@ -6,13 +6,6 @@ pub overflow_sub-result : goal.overflow_sub-result
 overflow_sub-result c =
     rw (c.total_codewords.ensures, c.block_count.ensures.value, c.ec_codewords_per_block.ensures.value)
     (omega (arith, (IsSound-of c.args.self c.args.level c.known.ensures).all))
-
-pub overflow_mul-result : goal.overflow_mul-result
-overflow_mul-result c =
-    let within : c.block_count.result * c.ec_codewords_per_block.result ≤ c.total_codewords.result =
-    rw (c.total_codewords.ensures, c.block_count.ensures.value, c.ec_codewords_per_block.ensures.value)
-    (omega (arith, (IsSound-of c.args.self c.args.level c.known.ensures).all)) in
-    omega (arith, within, c.total_codewords.type_inv)
 
 pub returns : goal.returns
 returns c = rw (c.total_codewords.ensures, c.block_count.ensures.value, c.ec_codewords_per_block.ensures.value)

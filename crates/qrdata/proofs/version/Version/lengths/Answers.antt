@@ -1,6 +1,5 @@
-use Rattle.std.proofs.Common.{ℕ, length, arith, ap, length-append}
-use Rattle.std.proofs.Math.Nat.{mod-lt, div-le_self}
-use Rattle.std.proofs.lemmas.List.{length-replicate}
+use Rattle.std.proofs.Common.{arith}
+use Rattle.std.proofs.Math.Nat.{div-le_self}
 use Rattle.qrdata.proofs.VersionLaws.{IsSound-of, data_codewords-few}
 use Rattle.qrdata.proofs.version.Version.lengths.Goals as goal
 
@@ -10,18 +9,6 @@ overflow_add-size c = omega (
   div-le_self c.data_codewords-codewords.result c.block_count-blocks.result,
   data_codewords-few c.args.self c.args.level c.data_codewords-codewords.ensures c.known.ensures,
 )
-
-pub push_lengths-requires-2 : goal.push_lengths-requires-2
-push_lengths-requires-2 c = record {
-  room = omega (
-    arith,
-    ap length c.new-lengths.ensures,
-    ap length c.push_lengths.ensures,
-    length-append {A = ℕ},
-    length-replicate {A = ℕ},
-    mod-lt c.data_codewords-codewords.result c.block_count-blocks.ensures.some,
-  );
-}
 
 pub returns : goal.returns
 returns c =

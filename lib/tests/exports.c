@@ -1,0 +1,126 @@
+/* Makes each proved call as labels.c does, without labels.c: what is put, what is left as it was, each length, and the
+ * code and text of a refusal. Status 1, with the line, where one of them is another. */
+#include "labels.h"
+#include <stdio.h>
+#include <stdlib.h>
+#include <string.h>
+
+#ifndef EAN8_LENGTH
+#define EAN8_LENGTH 164 /* 81 modules of two characters, the line's end, and the empty line after a picture */
+#endif
+
+void labels_proved_draw(const labels_options *options, uint32_t symbology, const void *data, size_t size, char *out,
+                        size_t room, char *message, size_t message_room, labels_answer *answer);
+void labels_proved_symbol(const labels_options *options, uint32_t symbology, const void *data, size_t size,
+                          unsigned char *modules, size_t room, char *message, size_t message_room,
+                          labels_symbol_info *info, labels_answer *answer);
+void labels_proved_draw_line(const labels_options *options, const void *text, size_t size, char *out, size_t room,
+                             char *message, size_t message_room, labels_answer *answer);
+void labels_proved_line(const labels_options *options, const void *text, size_t size, unsigned char *modules,
+                        size_t room, char *message, size_t message_room, labels_symbol_info *info,
+                        labels_answer *answer);
+void labels_proved_run(const labels_options *options, const void *text, size_t size, char *images, size_t images_room,
+                       char *messages, size_t messages_room, labels_run_answer *answer);
+
+enum { UNTOUCHED = 7, ROOM = 400 };
+
+static labels_options options;
+static labels_answer answer;
+static labels_symbol_info info;
+static char out[ROOM], message[63];
+static unsigned char modules[LABELS_MAX_MODULES];
+
+#define SEE(fact) see(fact, #fact, __LINE__)
+
+static void see(int fact, const char *text, int line) {
+    if (fact)
+        return;
+    printf("line %d: not so: %s\n", line, text);
+    exit(1);
+}
+
+/* What every test begins with: options of one row as text, and answers that say nothing true. */
+static void begin(void) {
+    options = (labels_options)LABELS_DEFAULTS;
+    options.format = LABELS_ASCII;
+    options.height = 1;
+    memset(&answer, 9, sizeof answer);
+    memset(&info, 9, sizeof info);
+    memset(out, UNTOUCHED, sizeof out);
+    memset(message, 0, sizeof message);
+    memset(modules, 0, sizeof modules);
+}
+
+static int begins(const char *text) { return strncmp(message, text, strlen(text)) == 0; }
+
+static void a_picture_is_put_and_its_length_answered(void) {
+    begin();
+    labels_proved_draw(&options, LABELS_EAN8, "7351353", 7, out, sizeof out, message, sizeof message, &answer);
+    SEE(answer.code == LABELS_OK);
+    SEE(answer.length == EAN8_LENGTH);
+    SEE(out[EAN8_LENGTH - 1] == '\n');
+    SEE(out[EAN8_LENGTH] == UNTOUCHED);
+    labels_proved_draw(&options, LABELS_EAN13, "4006381333930", 13, out, sizeof out, message, sizeof message, &answer);
+    SEE(answer.code == LABELS_WRONG_CHECK_DIGIT);
+    SEE(begins("check digit is 0, should be 1"));
+    SEE(answer.message_length == 29);
+}
+
+static void modules_are_put_row_by_row(void) {
+    begin();
+    options.mask = 0;
+    labels_proved_symbol(&options, LABELS_QR, "HELLO WORLD", 11, modules, sizeof modules, message, sizeof message,
+                         &info, &answer);
+    SEE(answer.code == LABELS_OK);
+    SEE(answer.length == 441);
+    SEE(info.width == 21);
+    SEE(info.version == 1);
+    SEE(info.mask == 0);
+    SEE(info.level == LABELS_LEVEL_M);
+    SEE(modules[0] == 1 && modules[7] == 0);
+    SEE(modules[6 * 21 + 8] == 1 && modules[6 * 21 + 9] == 0);
+}
+
+static void a_line_is_put_skipped_or_refused(void) {
+    const char line[] = "ean8,height=20 735\\x31353";
+    begin();
+    options.escapes = 1;
+    labels_proved_line(&options, line, strlen(line), modules, sizeof modules, message, sizeof message, &info, &answer);
+    SEE(answer.code == LABELS_OK);
+    SEE(answer.length == 67);
+    SEE(info.symbology == LABELS_EAN8);
+    SEE(info.rows == 1 && info.height == 20 && info.left == 7);
+    SEE(modules[0] == 1 && modules[1] == 0);
+    labels_proved_line(&options, "# a remark", 10, modules, sizeof modules, message, sizeof message, &info, &answer);
+    SEE(answer.code == LABELS_SKIPPED);
+    labels_proved_draw_line(&options, "qr,leve=M x", 11, out, sizeof out, message, sizeof message, &answer);
+    SEE(answer.code == LABELS_BAD_SETTING);
+    SEE(begins("unknown setting 1"));
+    SEE(out[0] == UNTOUCHED);
+}
+
+static void a_text_is_drawn_and_its_refusals_put(void) {
+    const char text[] = "ean8 7351353\n# a remark\npdf x\nean8 7351353";
+    labels_run_answer ran;
+    begin();
+    memset(&ran, 9, sizeof ran);
+    labels_proved_run(&options, text, strlen(text), out, sizeof out, message, sizeof message, &ran);
+    SEE(ran.code == LABELS_REFUSED);
+    SEE(ran.images_length == 2 * EAN8_LENGTH);
+    SEE(out[EAN8_LENGTH - 1] == '\n');
+    SEE(out[2 * EAN8_LENGTH] == UNTOUCHED);
+    SEE(begins("line 3: unknown symbology\n"));
+    SEE(ran.messages_length == 26);
+    SEE(message[26] == 0);
+    labels_proved_run(&options, text, strlen(text), out, sizeof out, message, 10, &ran);
+    SEE(ran.code == LABELS_NO_ROOM);
+    SEE(ran.messages_length == 26);
+}
+
+int main(void) {
+    a_picture_is_put_and_its_length_answered();
+    modules_are_put_row_by_row();
+    a_line_is_put_skipped_or_refused();
+    a_text_is_drawn_and_its_refusals_put();
+    return 0;
+}

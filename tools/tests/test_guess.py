@@ -1,0 +1,131 @@
+"""What the columns of a table are guessed to be for, on tables of many shops, with decoys."""
+
+import tempfile
+import unittest
+from pathlib import Path
+
+import support
+from labeltools.guess import guess_of
+from labeltools.messages import Silence
+from labeltools.table_options import FileOptions, TableOptions
+
+# the names of the columns, a row, and what is to be guessed
+TABLES = (
+    (
+        "Warengruppe;Artikel;GTIN;Preis EUR",
+        "Brot;Roggenbrot;4006381333931;3,20",
+        "- title code price",
+    ),
+    (
+        "Référence;Désignation;Code-barres;Prix achat;Prix TTC;Qté stock",
+        "JR1;Poupée Léa;4006381333931;2,10;5,90 €;40",
+        "- title code - price -",
+    ),
+    (
+        "Handle;Title;Variant SKU;Variant Inventory Qty;Variant Price;Variant Barcode",
+        "c-1;Chain, silver;C1;7;25.95;4006381333931",
+        "- title - - price code",
+    ),
+    (
+        "Lp.;Kod kreskowy;Nazwa towaru;Cena brutto;Ilość etykiet",
+        "1;4006381333931;Masło extra;6,49 zł;2",
+        "- code title price copies",
+    ),
+    (
+        "CN;EAN;Descripción;PVP;Existencias;Etiquetas",
+        "654321;4006381333931;Gel de baño;3,75 €;20;2",
+        "- code title price - copies",
+    ),
+    (
+        "Item no;Description;Barcode;Cost;Retail;On hand",
+        "12;Hammer 12 oz;4006381333931;12.10;$24.49;3",
+        "- title code - price -",
+    ),
+    (
+        "Codice articolo;Descrizione;EAN13;Prezzo acquisto;Prezzo vendita;Giacenza",
+        "P4;Crema mani;4006381333931;4,00;€ 8,50;6",
+        "- title code - price -",
+    ),
+    (
+        "Produkt;Strichcode;Alter Preis;Neuer Preis;Anzahl Etiketten",
+        "Honig Linde;4006381333931;3,50 €;2,99 €;4",
+        "title code - price copies",
+    ),
+    (
+        "Artikelnr;Omschrijving;EAN;Inkoopprijs;Adviesprijs",
+        "A1;Drop zoet;4006381333931;1,00;1,95",
+        "- title code - price",
+    ),
+    (
+        "Autor;Titel;ISBN;Ladenpreis",
+        "K. Lenz;Herbstlicht;978-3-16-148410-0;24,00 €",
+        "- title code price",
+    ),
+    (
+        "PLU;Ware;Herkunft;Preis;Grundpreis;EAN",
+        "4100;Birnen Conference;Italien;2,99;2,33 €/kg;4006381333931",
+        "- title - price - code",
+    ),
+    ("Inventarnummer;Gegenstand;Raum", "INV-00118;Drehstuhl;2.14", "code title -"),
+    ("Charge;Sorte;Datum", "L26-0011A;Apfelsaft;11.03.2026", "code title -"),
+    ("Regal;Inhalt;Adresse", "R3;Schrauben M3;https://lager.example/r/3", "- title code"),
+    ("Artikelbezeichnung;GTIN;CHF", "Rivella rot;4006381333931;2.50", "title code price"),
+)
+SYMBOLOGIES = {"Inventarnummer": "code128", "Charge": "code128", "Regal": "qr"}
+
+
+def guessed(text, options=TableOptions()):
+    """The guess of a table."""
+    return guess_of(text.encode(), "table.csv", options, Silence())
+
+
+class Guesses(unittest.TestCase):
+    def test_columns_of_shops(self):
+        for names, row, wanted in TABLES:
+            found = guessed(f"{names}\n{row}\n")
+            kinds = {place: kind for kind, place in found.columns.items()}
+            said = [kinds.get(place, "-") for place in range(len(found.names))]
+            self.assertEqual(" ".join(said), wanted, names)
+            self.assertEqual(found.header, 1)
+            wanted = SYMBOLOGIES.get(names.partition(";")[0], "auto")
+            self.assertEqual(found.symbology, wanted, names)
+
+    def test_what_a_shop_pays_is_no_price(self):
+        names = "EAN;Artikel;EK netto"
+        row = "4006381333931;Salbe, kühlend;2,10 €"
+        self.assertNotIn("price", guessed(f"{names}\n{row}\n").columns)
+        found = guessed(f"{names};Apothekenpreis\n{row};4,95 €\n")
+        self.assertEqual(found.columns["price"], 3)
+
+    def test_the_row_of_the_names(self):
+        names, row, _ = TABLES[0]
+        for above, header in (("", 1), ("Preisliste;;;\n;;;\n", 3), ("Stand;Mai;;\n", 2)):
+            self.assertEqual(guessed(f"{above}{names}\n{row}\n").header, header, above)
+        found = guessed("4006381333931;Kerze;1,20\n96385074;Docht;0,80\n")
+        self.assertEqual((found.header, found.columns["price"]), (0, 2))
+        said = guessed(f"{names}\n{row}\n", TableOptions(file=FileOptions(has_header=False)))
+        self.assertEqual(said.header, 0)
+        said = guessed(f"{row}\n{names}\n", TableOptions(file=FileOptions(header_row=1)))
+        self.assertEqual(said.header, 1)
+
+    def test_label_table_proposes_columns(self):
+        names, row, _ = TABLES[7]
+        with tempfile.TemporaryDirectory() as folder:
+            path = Path(folder, "Hofladen Mai.csv")
+            path.write_text(f"Hofladen;\n{names}\n{row}\n")
+            done = support.run("label-table", path)
+            proposed = support.messages(done)[-1].partition("; try ")[2]
+            self.assertEqual((done.returncode, done.stdout), (2, b""))
+            self.assertEqual(
+                proposed,
+                "label-table --code Strichcode --title Produkt --price 'Neuer Preis' "
+                f"--copies 'Anzahl Etiketten' --header-row 2 '{path}'",
+            )
+            path.write_text("Name;Ort\nUlla;Ulm\n")
+            self.assertNotIn("try", support.messages(support.run("label-table", path))[-1])
+            done = support.run("label-table", Path(folder, "none.csv"))
+            self.assertIn("No such file", support.messages(done)[-1])
+
+
+if __name__ == "__main__":
+    unittest.main()
