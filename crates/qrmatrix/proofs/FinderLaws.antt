@@ -70,13 +70,6 @@ windows_of_row n m y =
 pub none_found : (w : ℕ) (p : ℕ → Bool) → w ≡ 0 → ((i : ℕ) → i < 64 → bit w i ≡ p i) → (i : ℕ) → i < 64 → p i ≡ false
 none_found w p e shows i l = sym (shows i l) ∙ above_bit w 0 i (omega arith) (omega arith)
 
--- a line without finder patterns has no such windows
-pub no_windows : (k : ℕ) (line : ℕ → Bool) → k ≤ 47 → ((i : ℕ) → i < 64 → finder_from line i ≡ false)
-    → count_below k (shows_finder line) ≡ 0
-no_windows k line h none =
-    sum_below_zero k (λ i. one_if (shows_finder line i)) (λ i l.
-    rw (shows_finder-parts line i, none i (omega arith), none (i + 4) (omega arith)) (grind arith))
-
 -- no finder pattern begins in a row, and so no windows of columns have theirs there
 pub no_columns : (n y : ℕ) (m : ℕ → ℕ → Bool) → n ≤ 57 → ((x : ℕ) → x < 64 → finder_from (m x) y ≡ false)
     → (if nat_le 4 y then light_first n m (y - 4) else 0) + (if nat_lt y (n - 10) then light_last n m y else 0) ≡ 0
