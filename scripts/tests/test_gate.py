@@ -180,7 +180,7 @@ class TakenAway(InCopy):
 
 # Stands in for a part of the gate. Of gate.py `quick` runs one step, `built` two.
 STUB = """import sys
-ran = dict(quick=["one"], built={built!r}).get(sys.argv[1], [])
+ran = dict(quick=["one"], built={built!r}).get(sys.argv[-1], [])
 print(*(f"ok: {{step}}, 1.5 s" for step in ran), sep="\\n")
 print("{name}", *sys.argv[1:], "ran")
 print({last!r})
@@ -204,6 +204,7 @@ class Run(InFolder):
             os.makedirs(self.path("crates", crate), exist_ok=True)
         self.part("gate.py", "5 passed, 0 failed", 0)
         self.part("wrong_bodies.py", "2 passed, 0 failed", 0)
+        self.part("plain_builds.py", "built", 0)
         self.kit("echo 'rt ci ran'; echo '3 passed, 0 failed (30 minutes)'")
         self.program("apt-get", 'echo "apt-get $*"')
         self.program("id", "echo ${ID:-0}")
@@ -278,6 +279,13 @@ class Run(InFolder):
             self.part("wrong_bodies.py", last, 1)
             status, lines = self.run_gate()
             self.assertEqual((status, lines[-4], lines[-1]), (1, "gate.py built ran", wanted))
+
+    def test_builds_that_fail(self):
+        """What needs the program does not run without it."""
+        self.part("plain_builds.py", "not proved", 1)
+        status, lines = self.run_gate()
+        self.assertEqual((status, lines[-3], lines[-1]), (1, "not proved", "10 passed, 1 failed"))
+        self.assertNotIn("gate.py built ran", lines)
 
 
 class Packages(unittest.TestCase):
