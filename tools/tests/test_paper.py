@@ -696,6 +696,20 @@ class Users(unittest.TestCase):
             self.assertEqual(done.returncode, 1)
             self.assertIn(f"{folder}/new/1.pbm: File too large", done.stderr.decode())
 
+    def test_a_full_temporary_folder_is_named(self) -> None:
+        with tempfile.TemporaryDirectory() as folder:
+            shell = 'trap "" XFSZ; ulimit -f 8; "$@" > /dev/null'
+            words = [str(support.TOOLS / "label-print"), "--stock", "l7160"]
+            many = [(f"ean13 {support.ean13(number)}", {}) for number in range(400)]
+            done = subprocess.run(
+                ["bash", "-c", shell, "sh", *words],
+                input=support.file_of(many),
+                capture_output=True,
+                env={**support.environment(), "TMPDIR": folder},
+            )
+            self.assertEqual((done.returncode, os.listdir(folder)), (1, []))
+            self.assertIn(f"{folder}: File too large; make room", done.stderr.decode())
+
     def test_a_program_that_is_killed(self) -> None:
         with tempfile.TemporaryDirectory() as folder:
             program = Path(folder, "labels")
