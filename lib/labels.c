@@ -1,21 +1,7 @@
 /* Between callers in C and the proved calls of crates/labels_c: NULL, modules that are 0 or 1, and the end of a
  * message. Nothing here is proved. */
-#include "labels.h"
+#include "proved.h"
 #include <string.h>
-
-/* The proved calls. No pointer is NULL; of an answer they write what is before its message. */
-void labels_proved_draw(const labels_options *options, uint32_t symbology, const void *data, size_t size, char *out,
-                        size_t room, char *message, size_t message_room, labels_answer *answer);
-void labels_proved_symbol(const labels_options *options, uint32_t symbology, const void *data, size_t size,
-                          unsigned char *modules, size_t room, char *message, size_t message_room,
-                          labels_symbol_info *info, labels_answer *answer);
-void labels_proved_draw_line(const labels_options *options, const void *text, size_t size, char *out, size_t room,
-                             char *message, size_t message_room, labels_answer *answer);
-void labels_proved_line(const labels_options *options, const void *text, size_t size, unsigned char *modules,
-                        size_t room, char *message, size_t message_room, labels_symbol_info *info,
-                        labels_answer *answer);
-void labels_proved_run(const labels_options *options, const void *text, size_t size, char *images, size_t images_room,
-                       char *messages, size_t messages_room, labels_run_answer *answer);
 
 enum { MESSAGE_ROOM = sizeof(((labels_answer *)0)->message) - 1 };
 

@@ -1,6 +1,6 @@
 /* Makes each proved call as labels.c does, without labels.c: what is put, what is left as it was, each length, and the
  * code and text of a refusal. Status 1, with the line, where one of them is another. */
-#include "labels.h"
+#include "proved.h"
 #include <stdio.h>
 #include <stdlib.h>
 #include <string.h>
@@ -8,19 +8,6 @@
 #ifndef EAN8_LENGTH
 #define EAN8_LENGTH 164 /* 81 modules of two characters, the line's end, and the empty line after a picture */
 #endif
-
-void labels_proved_draw(const labels_options *options, uint32_t symbology, const void *data, size_t size, char *out,
-                        size_t room, char *message, size_t message_room, labels_answer *answer);
-void labels_proved_symbol(const labels_options *options, uint32_t symbology, const void *data, size_t size,
-                          unsigned char *modules, size_t room, char *message, size_t message_room,
-                          labels_symbol_info *info, labels_answer *answer);
-void labels_proved_draw_line(const labels_options *options, const void *text, size_t size, char *out, size_t room,
-                             char *message, size_t message_room, labels_answer *answer);
-void labels_proved_line(const labels_options *options, const void *text, size_t size, unsigned char *modules,
-                        size_t room, char *message, size_t message_room, labels_symbol_info *info,
-                        labels_answer *answer);
-void labels_proved_run(const labels_options *options, const void *text, size_t size, char *images, size_t images_room,
-                       char *messages, size_t messages_room, labels_run_answer *answer);
 
 enum { UNTOUCHED = 7, ROOM = 400 };
 

@@ -32,6 +32,22 @@ from labeltools.table import rows_of_workbook
 from test_table_workbooks import ODS_SPACES, XML, packed
 
 SEED = 60
+# formats of which a cell leaves its row out: what they show depends on the program
+NOT_UNDERSTOOD = (
+    "0.00E+00",
+    "##0.0E+0",
+    "# ?/?",
+    "# ??/??",
+    "[h]:mm",
+    "d. mmm yyyy",
+    "mmm yy",
+    "dddd",
+    "[>100]0.0;0.000",
+    "0.0,",
+    "0,",
+    '0.0,,"M"',
+    "0000-00",
+)
 FORMATS = (
     *(
         "General",
@@ -131,34 +147,9 @@ FORMATS = (
         '"MHD "dd.mm.yyyy',
         "mm/yyyy",
     ),
-    *(
-        "0.00E+00",
-        "##0.0E+0",
-        "# ?/?",
-        "# ??/??",
-        "[h]:mm",
-        "d. mmm yyyy",
-        "mmm yy",
-        "dddd",
-        "[>100]0.0;0.000",
-    ),
-    *("0.0,", "0,", '0.0,,"M"', "0000-00", "0.?", "#,##0.00;;", "@", '"SKU-"@', '0;-0;0;"<"@">"'),
+    *NOT_UNDERSTOOD,
+    *("0.?", "#,##0.00;;", "@", '"SKU-"@', '0;-0;0;"<"@">"'),
 )
-# formats of which a cell leaves its row out: what they show depends on the program
-NOT_UNDERSTOOD = {
-    *(
-        "0.00E+00",
-        "##0.0E+0",
-        "# ?/?",
-        "# ??/??",
-        "[h]:mm",
-        "d. mmm yyyy",
-        "mmm yy",
-        "dddd",
-        "[>100]0.0;0.000",
-    ),
-    *("0.0,", "0,", '0.0,,"M"', "0000-00"),
-}
 TEXTS = (
     "Bleistift",
     "Käse „x“",
