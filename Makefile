@@ -98,7 +98,7 @@ deb: $(LABELS) $(PROVED)
 
 # A fresh Debian in out/root; MIRROR names another mirror.
 define fresh_root
-	rm -rf --one-file-system out/root && debootstrap --variant=minbase bookworm out/root $(MIRROR)
+	rm -rf --one-file-system out/root && mkdir -p out && debootstrap --variant=minbase bookworm out/root $(MIRROR)
 	cp /etc/resolv.conf out/root/etc
 endef
 mounted = unshare --mount --propagation private sh -ec 'mount -t proc proc out/root/proc; \
