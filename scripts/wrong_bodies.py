@@ -12,11 +12,12 @@ each, and one that is reported as refused is a fault of this script.
 
 `rt` tries each must-fail edit by a check of the crate. Here one check tries many. Where several wrong bodies are of
 one function, a copy of the crate has the function once more for each of them, under another name, with its contract
-and its proof. It also has it once more as it is, and the prover has to accept that: a copy is judged as a function is.
+and its proof. It also has it once more as it is, and there the prover must find nothing wrong: a copy is judged as a
+function is.
 
 Any other body is tried in its function's place, and so are those that change something else too, or are of a trait. A
-proof reads of other functions their contracts alone, so one check tries several functions. What fails only because it
-calls another is not judged, and is tried again without it.
+proof reads of other functions their contracts alone, so one check tries several functions, copies too. What fails only
+because it calls another is not judged, and is tried again without it.
 
 The status is 0 where each wrong body is refused, 1 where one is not or there is none, and 2 where an argument names no
 crate or there is no kit. The last line is `N passed, M failed`, as of `rt ci`.
@@ -64,6 +65,7 @@ class WrongBody:
     changes: list  # (file, old, new)
     alone: bool = False
     is_right: bool = False  # it is there to be accepted
+    is_control: bool = False  # it is a function as it is, beside copies of it
     apart: set = dataclasses.field(default_factory=set)  # functions that it calls, which were wrong beside it
 
 
@@ -139,11 +141,11 @@ def changed(texts, body, folder):
     return texts
 
 
-def together(bodies, folder):
-    """Returns as many of the wrong bodies as fit in one copy, each in functions of its own, and the changed texts."""
-    chosen, texts = [], {}
+def together(bodies, folder, texts):
+    """Returns as many of the wrong bodies as fit into texts, each in functions of its own, and the texts."""
+    chosen = []
     for body in bodies:
-        if chosen and (body.alone or chosen[0].alone):
+        if texts and body.alone or any(it.alone for it in chosen):
             continue
         beside = {name for it in chosen for name in it.functions}
         apart = {name for it in chosen for name in it.apart}
@@ -214,7 +216,7 @@ def copies_of(bodies, folder):
     several = [copies for copies in found.values() if len(copies) > 1]
     for copies in several:
         unchanged = [(file, old, old) for file, old, _ in copies[0].body.changes]
-        control = WrongBody(f"{copies[0].function} as it is", [copies[0].function], unchanged, is_right=True)
+        control = WrongBody(f"{copies[0].function} as it is", [copies[0].function], unchanged, is_control=True)
         copies.append(copy_of(control, "as_it_is", folder))
     return [copy for copies in several for copy in copies]
 
@@ -277,19 +279,22 @@ def called_unproved(crate, said, function):
 
 def outcome(crate, body, said):
     """Returns "refused" where each function of a body is refused, "accepted" where one is not, and "unknown" where one
-    fails only by what it calls."""
+    fails only by what it calls. A control is accepted there: nothing that is written in it was refused."""
     lines = [verdict(crate, said, function) for function in body.functions]
     if any(not line or line.startswith("proved") for line in lines):
         return "accepted"
-    return "refused" if all(REFUSED.match(line) for line in lines) else "unknown"
+    if all(REFUSED.match(line) for line in lines):
+        return "refused"
+    return "accepted" if body.is_control and not any(REFUSED.match(line) for line in lines) else "unknown"
 
 
 def fault_of_outcome(crate, body, said):
     """Returns what is wrong with the outcome of a body, or nothing."""
-    if not body.is_right:
-        return f"{body.name}: NOT REFUSED" if outcome(crate, body, said) == "accepted" else ""
-    is_proved = all(verdict(crate, said, function).startswith("proved") for function in body.functions)
-    return "" if is_proved else f"{body.name}: it is right, and not reported as not refused"
+    is_accepted = outcome(crate, body, said) == "accepted"
+    if not body.is_right and not body.is_control:
+        return f"{body.name}: NOT REFUSED" if is_accepted else ""
+    is_reported = all(verdict(crate, said, function) for function in body.functions)
+    return "" if is_accepted and is_reported else f"{body.name}: it is right, and not reported as not refused"
 
 
 @dataclasses.dataclass
@@ -308,8 +313,9 @@ class Tried:
             fault = fault_of_outcome(crate, body, said)
             if body not in again:
                 self.lines += [fault] if fault else []
-                self.accepted += body.is_right and not fault
-                self.refused += not body.is_right and not fault
+                is_right = body.is_right or body.is_control
+                self.accepted += is_right and not fault
+                self.refused += not is_right and not fault
         if not re.search(r"^(only|logic)=", said, re.M):
             self.lines += ["the check did not reach its end:", *said.split("\n")[:6]]
         self.checks += 1
@@ -323,42 +329,31 @@ def begin_with_proofs(crate, kept):
         shutil.copytree(proved, kept, dirs_exist_ok=True)
 
 
-def try_copies(rtlib, crate, bodies, kept, tried):
-    """Tries bodies in copies of their functions, and returns the other ones."""
-    copies = copies_of(bodies, crate.folder)
-    if not copies:
-        return bodies
-    said = check(rtlib, crate, with_copies(copies, crate.folder), [], kept, copies)
-    again = tried.judge(crate, [copy.body for copy in copies], said)
-    tried.lines += [f"{body.name}: not judged" for body in again]
-    names = {copy.body.name for copy in copies}
-    return [body for body in bodies if body.name not in names]
-
-
-def try_in_place(rtlib, crate, left, kept, tried):
-    """Tries bodies in the places of their functions."""
-    while left:
-        chosen, texts = together(left, crate.folder)
-        said = check(rtlib, crate, texts, [name for it in chosen for name in it.functions], kept)
-        again = tried.judge(crate, chosen, said)
-        if again == chosen:
-            tried.lines += [f"{body.name}: not judged" for body in again]
-            break
-        for body in again:
-            body.apart.update(*(called_unproved(crate, said, name) for name in body.functions))
-        left = again + [body for body in left if body not in chosen]
-
-
 def try_all(rtlib, crate):
-    """Tries the wrong and the right bodies of a crate."""
+    """Tries the bodies of a crate: in the first check all copies, and what fits beside them in its place."""
     bodies = [*bodies_of(crate.folder), *bodies_of(crate.folder, "right-bodies")]
     faults = faults_of(bodies, crate.folder)
-    left = [body for body in bodies if body not in [it for it, _ in faults]]
+    bodies = [body for body in bodies if body not in [it for it, _ in faults]]
     tried = Tried(lines=[f"{body.name}: {reason}" for body, reason in faults])
+    by_name = {body.name: body for body in bodies}
+    copies = copies_of(bodies, crate.folder)
+    left = [body for body in bodies if body.name not in {copy.body.name for copy in copies}]
     with tempfile.TemporaryDirectory(prefix="wrong-bodies-kept-") as kept:
         begin_with_proofs(crate, kept)
-        left = try_copies(rtlib, crate, left, kept, tried)
-        try_in_place(rtlib, crate, left, kept, tried)
+        while copies or left:
+            chosen, texts = together(left, crate.folder, with_copies(copies, crate.folder))
+            beside = [*(copy.body for copy in copies), *chosen]
+            said = check(rtlib, crate, texts, [name for body in beside for name in body.functions], kept, copies)
+            again = tried.judge(crate, beside, said)
+            if again == beside:
+                tried.lines += [f"{body.name}: not judged" for body in again]
+                break
+            for body in again:
+                unproved = [called_unproved(crate, said, name) for name in body.functions]
+                by_name[body.name].apart.update(*unproved)
+            others = [body for body in left if body not in chosen]
+            left = [by_name[body.name] for body in again] + others
+            copies = []
     print(f"{crate.name}: {tried.refused} refused, {tried.accepted} accepted, in {tried.checks} checks", flush=True)
     return tried
 

@@ -208,14 +208,36 @@ class Outcomes(InFolder):
         for said, wanted in (
             ((refused, refused, "proved"), (2, 1, [])),
             ((refused, "proved", "proved"), (1, 1, ["two: NOT REFUSED"])),
-            ((CALLS, refused, "proved"), (1, 1, ["one: not judged"])),
             ((refused, refused, refused), (2, 0, [control])),
-            ((refused, refused, CALLS), (2, 0, ["one as it is: not judged"])),
+            ((refused, refused, CALLS), (2, 1, [])),
         ):
             with self.subTest(said):
-                lines = "\nfn small::".join(map("{}: {}".format, ("one_0", "one_1", "one_as_it_is"), said))
-                self.assertEqual(self.tried(f"not asked\nfn small::{lines}"), wanted)
+                self.assertEqual(self.tried(self.of_copies(*said)), wanted)
         self.assertEqual(self.tried(refused), (0, 0, ["one: NOT REFUSED", "two: NOT REFUSED", control]))
+        # A copy that fails only by what it calls is tried again, in its function's place.
+        for said, wanted in (
+            (refused, (2, 1, [])),
+            ("proved", (1, 1, ["one: NOT REFUSED"])),
+            (CALLS, (1, 1, ["one: not judged"])),
+        ):
+            with self.subTest(again=said):
+                self.assertEqual(self.tried(self.of_copies(CALLS, refused, "proved"), said), wanted)
+
+    def of_copies(self, *said):
+        """What a check says of two copies of a function, and of the one as it is."""
+        lines = "\nfn small::".join(map("{}: {}".format, ("one_0", "one_1", "one_as_it_is"), said))
+        return f"not asked\nfn small::{lines}"
+
+    def test_copies_beside_others(self):
+        """One check tries copies, and bodies in the places of other functions; what has to be alone comes after."""
+        write(self.path("src/lib.rt"), ONE + "pub fn other() -> u8 {\n    4\n}\npub fn third() -> u8 {\n    7\n}\n")
+        self.edit(EDIT.format("2"), name="a")
+        self.edit(EDIT.format("3"), name="b")
+        other = "refused: other\nfile: src/lib.rt\nold:     4\nnew:     5\n"
+        self.edit(other, name="c")
+        self.edit(other.replace("other", "third").replace("4", "7") + "alone: it is read by all\n", name="d")
+        first = self.of_copies("not proved", "not proved", CALLS) + "\nfn small::other: not proved"
+        self.assertEqual(self.tried(first, "not asked\nfn small::third: not proved"), (4, 1, []))
 
     def test_copies(self):
         """A copy has the text of its own body and a proof of its own; the function stands as it is."""
