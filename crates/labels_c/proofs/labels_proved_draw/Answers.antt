@@ -1,0 +1,7 @@
+use Rattle.labels_c.proofs.labels_proved_draw.Goals as goal
+
+pub returns-clause-answers : goal.returns-clause-answers
+returns-clause-answers c = c.draw_into.ensures.answers
+
+pub returns-clause-read : goal.returns-clause-read
+returns-clause-read c = c.draw_into.ensures.read
