@@ -41,6 +41,8 @@ import unused
 
 # The line of a function that was not proved for what is written in it, and not for what it calls.
 REFUSED = re.compile(r"not proved|no proof: expected answers|.*did not prove")
+# What the prover says of a function where some goals wait for what it calls.
+NOT_TRIED = "`search` has not tried the goals of `{}::{}`,"
 
 
 def stop(why):
@@ -141,15 +143,17 @@ def changed(texts, body, folder):
     return texts
 
 
-def together(bodies, folder, texts):
-    """Returns as many of the wrong bodies as fit into texts, each in functions of its own, and the texts."""
+def together(bodies, folder, texts, beside):
+    """Returns as many of the wrong bodies as fit into texts, each in functions of its own and beside those in copies, and
+    the texts then."""
     chosen = []
     for body in bodies:
-        if texts and body.alone or any(it.alone for it in chosen):
+        others = [*beside, *chosen]
+        if others and (body.alone or any(it.alone for it in others)):
             continue
-        beside = {name for it in chosen for name in it.functions}
-        apart = {name for it in chosen for name in it.apart}
-        if not (beside & {*body.functions, *body.apart} or apart & {*body.functions}):
+        named = {name for it in others for name in it.functions}
+        apart = {name for it in others for name in it.apart}
+        if not (named & {*body.functions, *body.apart} or apart & {*body.functions}):
             more = changed(texts, body, folder)
             if more is not None:
                 chosen, texts = [*chosen, body], more
@@ -203,7 +207,8 @@ def copy_of(body, ending, folder):
     if not end or not is_alone or not is_inside or "#[cycle" in above:
         return None
     text = re.sub(rf"\bfn {path[-1]}\b", f"fn {path[-1]}_{ending}", after[line:new_end], count=1)
-    return Copy(dataclasses.replace(body, functions=[f"{function}_{ending}"]), function, file, end, above + text)
+    copied = dataclasses.replace(body, functions=[f"{function}_{ending}"], alone=False, apart=set())
+    return Copy(copied, function, file, end, above + text)
 
 
 def copies_of(bodies, folder):
@@ -279,13 +284,14 @@ def called_unproved(crate, said, function):
 
 def outcome(crate, body, said):
     """Returns "refused" where each function of a body is refused, "accepted" where one is not, and "unknown" where one
-    fails only by what it calls. A control is accepted there: nothing that is written in it was refused."""
+    fails only by what it calls. A control is accepted there if the prover tried all its goals."""
     lines = [verdict(crate, said, function) for function in body.functions]
     if any(not line or line.startswith("proved") for line in lines):
         return "accepted"
     if all(REFUSED.match(line) for line in lines):
         return "refused"
-    return "accepted" if body.is_control and not any(REFUSED.match(line) for line in lines) else "unknown"
+    is_tried = not any(NOT_TRIED.format(crate.name, function) in said for function in body.functions)
+    return "accepted" if body.is_control and is_tried else "unknown"
 
 
 def fault_of_outcome(crate, body, said):
@@ -335,25 +341,23 @@ def try_all(rtlib, crate):
     faults = faults_of(bodies, crate.folder)
     bodies = [body for body in bodies if body not in [it for it, _ in faults]]
     tried = Tried(lines=[f"{body.name}: {reason}" for body, reason in faults])
-    by_name = {body.name: body for body in bodies}
     copies = copies_of(bodies, crate.folder)
     left = [body for body in bodies if body.name not in {copy.body.name for copy in copies}]
     with tempfile.TemporaryDirectory(prefix="wrong-bodies-kept-") as kept:
         begin_with_proofs(crate, kept)
         while copies or left:
-            chosen, texts = together(left, crate.folder, with_copies(copies, crate.folder))
-            beside = [*(copy.body for copy in copies), *chosen]
-            said = check(rtlib, crate, texts, [name for body in beside for name in body.functions], kept, copies)
-            again = tried.judge(crate, beside, said)
-            if again == beside:
+            beside = [copy.body for copy in copies]
+            chosen, texts = together(left, crate.folder, with_copies(copies, crate.folder), beside)
+            names = [name for body in [*beside, *chosen] for name in body.functions]
+            said = check(rtlib, crate, texts, names, kept, copies)
+            again = tried.judge(crate, [*beside, *chosen], said)
+            if again == [*beside, *chosen]:
                 tried.lines += [f"{body.name}: not judged" for body in again]
                 break
             for body in again:
-                unproved = [called_unproved(crate, said, name) for name in body.functions]
-                by_name[body.name].apart.update(*unproved)
-            others = [body for body in left if body not in chosen]
-            left = [by_name[body.name] for body in again] + others
-            copies = []
+                body.apart.update(*(called_unproved(crate, said, name) for name in body.functions))
+            copies = [copy for copy in copies if copy.body in again]
+            left = [body for body in left if body in again or body not in chosen]
     print(f"{crate.name}: {tried.refused} refused, {tried.accepted} accepted, in {tried.checks} checks", flush=True)
     return tried
 

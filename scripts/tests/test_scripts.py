@@ -214,14 +214,20 @@ class Outcomes(InFolder):
             with self.subTest(said):
                 self.assertEqual(self.tried(self.of_copies(*said)), wanted)
         self.assertEqual(self.tried(refused), (0, 0, ["one: NOT REFUSED", "two: NOT REFUSED", control]))
-        # A copy that fails only by what it calls is tried again, in its function's place.
+        # A copy that fails only by what it calls is tried again, and so is a control whose goals were not all tried.
         for said, wanted in (
             (refused, (2, 1, [])),
             ("proved", (1, 1, ["one: NOT REFUSED"])),
             (CALLS, (1, 1, ["one: not judged"])),
         ):
             with self.subTest(again=said):
-                self.assertEqual(self.tried(self.of_copies(CALLS, refused, "proved"), said), wanted)
+                first, again = self.of_copies(CALLS, refused, "proved"), f"not asked\nfn small::one_0: {said}"
+                self.assertEqual(self.tried(first, again), wanted)
+        waits = "\nnote: `search` has not tried the goals of `small::one_as_it_is`, which wait for a callee's proof"
+        first = self.of_copies(refused, refused, CALLS) + waits
+        for said, wanted in (("proved", (2, 1, [])), (refused, (2, 0, [control]))):
+            with self.subTest(control=said):
+                self.assertEqual(self.tried(first, f"not asked\nfn small::one_as_it_is: {said}"), wanted)
 
     def of_copies(self, *said):
         """What a check says of two copies of a function, and of the one as it is."""
