@@ -144,7 +144,7 @@ def changed(texts, body, folder):
 
 
 def together(bodies, folder, texts, beside):
-    """Returns as many of the wrong bodies as fit into texts, each in functions of its own and beside those in copies, and
+    """Returns as many of the wrong bodies as fit into texts beside those in copies, each in functions of its own, and
     the texts then."""
     chosen = []
     for body in bodies:
