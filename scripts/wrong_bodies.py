@@ -102,6 +102,13 @@ def code_of(text):
     return re.sub(r"^\s*//.*$|\s+", "", text, flags=re.M)
 
 
+@functools.lru_cache(maxsize=None)
+def ghost_text(text):
+    """Returns what a text of code has in contracts, ghost items and attributes, as words."""
+    tokens = unused.ghost_tokens(reader.tokens_of_text(text), ("Head", "Antt", "Text", "End"))
+    return " ".join(token.text for token in tokens)
+
+
 def faults_of(bodies, folder):
     """Returns what keeps bodies of a crate from being tried, as (body, reason): what they change, or where."""
     faults, seen = [], {}
@@ -117,7 +124,7 @@ def faults_of(bodies, folder):
         before = {file: sources.read(f"{folder}/{file}") for file in texts}
         if all(code_of(before[file]) == code_of(text) for file, text in texts.items()):
             faults.append((body, "it changes no code"))
-        if any(unused.ghost_text(before[file]) != unused.ghost_text(text) for file, text in texts.items()):
+        if any(ghost_text(before[file]) != ghost_text(text) for file, text in texts.items()):
             faults.append((body, "it changes a clause, a ghost item or an attribute"))
         code = tuple(sorted((file, code_of(text)) for file, text in texts.items()))
         twin = seen.setdefault(code, body)
@@ -179,8 +186,7 @@ def function_at(file, path):
     ]
     for one in inner if path[:-1] else file.declarations:
         if one.kind == "fn" and [one.name] == path[-1:]:
-            ends = one.tokens[0].start, one.tokens[-1].start + 1
-            return [len(file.text.encode()[:end].decode()) for end in ends]
+            return one.tokens[0].start, one.tokens[-1].start + 1
     return 0, 0
 
 

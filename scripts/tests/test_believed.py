@@ -10,7 +10,7 @@ import sys
 import unittest
 from unittest import mock
 
-from support import InCopy, module, read, run, write
+from support import InCopy, module, read, run
 
 believed_rows = module("believed_rows")
 
@@ -27,25 +27,23 @@ class Believed(InCopy):
         super().setUpClass()
         if run("believed.py", "--write", "--top", cls.folder)[0] != 0:
             raise AssertionError("believed.py --write failed")
-        said = run("believed.py", "--top", cls.folder)[1]
-        cls.lines = int(re.search(r"to be believed: (\d+) lines", said).group(1))
-        readme = read(f"{cls.folder}/README.md")
-        write(f"{cls.folder}/README.md", re.sub(r"[\d,]+(\s+lines\s+of\s+\[def)", rf"{cls.lines:,}\1", readme))
 
     def check(self):
         return run("believed.py", "--check", "--top", self.folder)
 
     def test_what_write_leaves_is_right(self):
-        self.assertEqual(self.check(), (0, ""))
+        status, said = self.check()
+        self.assertEqual(status, 0, said)
+        self.assertRegex(said, r"^\d{4} lines to believe: \d+ of definitions, \d+ of the code, \d+ of std\n$")
 
-    def test_page(self):
-        """Nonsense for a description or a reason, a row or a mark that is gone, another number in README."""
-        feed, why, number = (
-            "| `LF` | the line feed |",
-            "Why: `penalty`: in the manner of 7.8.3.",
-            f"{self.lines:,} lines",
-        )
+    def test_changes(self):
+        """Another row, reason, mark or number on the pages; another comment, clause, call or crate in the files."""
+        feed, why, says = "| `LF` | the line feed |", "Why: `penalty`: in the manner of 7.8.3.", "as the files give it"
+        number = re.search(r"[\d,]+ lines of \[definitions", read(self.path("README.md"))).group()
         fault = re.search(r"\| type `Fault` .*\n", read(self.path(PAGE))).group()
+        lines, penalty = "crates/labelcore/specs/Lines.antt", "crates/qrmatrix/specs/Penalty.antt"
+        entry, held_line = "crates/command/src/entry.rt", "crates/labelcore/specs/HeldLine.antt"
+        for_take = "| `take` | the first n elements of a list |\n"
         changes = (
             (PAGE, feed, "| `LF` | purple elephants |", f"-| `LF` | purple elephants |\n+{feed}"),
             (PAGE, f"{feed}\n", "", f"+{feed}"),
@@ -57,34 +55,18 @@ class Believed(InCopy):
                 "",
                 "lacks the line '<!-- code: begin -->' or, after it, the line '<!-- code: end",
             ),
-            ("README.md", number, f"{self.lines + 1:,} lines", f"{self.lines + 1:,}, where '{number} of"),
-            ("README.md", number, "few lines", f"says nothing, where '{number} of"),
-        )
-        self.assert_changes_fail(changes, self.check)
-
-    def test_specs_and_code(self):
-        """Another comment, clause, call or crate, a reason for what is not there, a definition that is gone."""
-        penalty, entry, says = (
-            "crates/qrmatrix/specs/Penalty.antt",
-            "crates/command/src/entry.rt",
-            "is not what the files",
-        )
-        changes = (
-            (
-                "crates/labelcore/specs/Lines.antt",
-                "-- the line feed",
-                "-- the carriage return",
-                "+| `LF` | the carriage",
-            ),
+            (PAGE, for_take, "", "does not say what take means"),
+            (PAGE, for_take, f"{for_take}| `no` | a name |\n", "says what no means, on which no definition leans"),
+            ("README.md", number, f"9,{number}", f"{number}"),
+            ("README.md", number, "few lines of [definitions", "has no number of lines"),
+            (lines, "-- the line feed", "-- the carriage return", "+| `LF` | the carriage"),
             (penalty, "`penalty`: in the", "`fine`: in the", f"{penalty}: 'Why: "),
             (penalty, "`penalty`: in the", "in the", f"{penalty}: 'Why: "),
             ("crates/device/src/sink.rt", "        requires { 0 < length bytes.now }\n", "", "trait `Sink`"),
             (entry, "known.items)))\n        (λ early", "known.items))) (λ early", says),
             ("crates.txt", "gf256:", "gf65536:\ngf256:", "gf65536"),
             ("crates/labels/src/main.rt", "from(program(", "from(other(", "does not call program"),
-            ("scripts/std_names.txt", "\ntake  ", "\ntaken  ", "does not say what take means"),
-            ("scripts/std_names.txt", "\nnot  ", "\nno  a name\nnot  ", "has no, on which no definition leans"),
-            ("crates/labelcore/specs/HeldLine.antt", "pub line_limit :", "pub line_bound :", "has no line_limit"),
+            (held_line, "pub line_limit :", "pub line_bound :", "has no line_limit"),
         )
         self.assert_changes_fail(changes, self.check)
 
