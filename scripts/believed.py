@@ -234,8 +234,7 @@ def main():
         path = os.path.join(given.top, name)
         was, text = sources.read(path), anew(sources.read(path), lists)
         if given.write:
-            with open(path, "w", encoding="utf-8") as file:
-                file.write(text)
+            sources.write(path, text)
         elif was != text:
             are_right = False
             names = f"{name} as it is", f"{name} as the files give it"

@@ -64,7 +64,7 @@ def of_impl(file, item, types, traits):
         return
     if trait == "Model":
         value = next(it for it in members if it.name == "Value").tokens
-        shown = " ".join(file.text[value[4].start : value[-2].start].split())
+        shown = " ".join(file.text_of(value[4:-2]).split())
         yield item_of("view", name, file, f"what contracts see of `{name}`: `{shown}`", members)
     elif trait in traits:
         yield item_of("members", item.name, file, ", ".join(f"`{it.name}`" for it in members), members)

@@ -102,6 +102,14 @@ class File:
     def place(self, token):
         return f"{self.path}:{token.line}"
 
+    def extent(self, tokens):
+        """Where the text from the first to the last of tokens begins and ends."""
+        return tokens[0].start, tokens[-1].start + len(tokens[-1].text)
+
+    def text_of(self, tokens):
+        begin, end = self.extent(tokens)
+        return self.text[begin:end]
+
     def about(self, token, mark, skipped):
         """The comment above a token, as one line; between them are lines that begin with what is skipped."""
         found = []
