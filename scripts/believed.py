@@ -1,15 +1,15 @@
 #!/usr/bin/python3
 """What has to be believed: every definition that the contract of the program's own call rests on.
 
-With no option it prints how many lines there are. --write makes the lists of docs/DEFINITIONS.md anew. --check
-compares the page with what --write would leave, and the number in README.md: status 1 where they differ.
+--write makes the lists of docs/DEFINITIONS.md and the number of lines in README.md anew. --check compares both with
+what --write would leave: status 1 where they differ. The last line says how many lines there are.
 
 The first list has the definitions that the call rests on, the second the other definitions of specs/, but for modules
 whose name begins with Private: contracts inside a crate alone cite these. The third has what contracts speak by and is
-no definition: the contract itself, traits, types and views of the code. The fourth has the names of std and of the
-kit's clap that the definitions and the contract of the call lean on, with what scripts/std_names.txt says of each.
-README's number counts all that a sceptic has to read: the lines of the first list, those that the third one has of the
-call, and a line for each name of the fourth.
+no definition: the contract itself, traits, types and views of the code. The fourth is written by hand: it says what
+each name of std and of the kit's clap means, and has to have just those that the definitions and the contract of the
+call lean on. README's number counts all that a sceptic has to read: the lines of the first list, those that the third
+one has of the call, and a line for each name of the fourth.
 
 The first comment of a file says what the file is about. Lines `-- Why: ` after it say what its definitions follow:
 names between backticks, a colon, and the clause of a standard or a page.
@@ -39,22 +39,32 @@ CRATES = "filter labelcore device picture linear qrmatrix qrdata gf256 command c
 # The crates on whose contracts no other crate rests.
 AT_THE_TOP = {"labels", "labels_c", "examples", "tests"}
 PAGE = os.path.join("docs", "DEFINITIONS.md")
-STD_NAMES = os.path.join("scripts", "std_names.txt")
-README_NUMBER = re.compile(r"([\d,]+)\s+lines\s+of\s+\[definitions\]")
+OF_STD = "## Names of std"
+README = "README.md"
+README_NUMBER = re.compile(r"[\d,]+(?=\s+lines\s+of\s+\[definitions\])")
 # The names of a `Why: `, before its first colon.
 WHY = re.compile(r"Why: ((?:`[^`]+`,? )*`[^`]+`): ")
 
 
-def about(file):
-    """The texts of the first comment of a file: what it is about, and each `Why: `."""
-    texts = []
-    for line in itertools.takewhile(lambda line: line.startswith("--"), file.lines):
-        text = line.removeprefix("--").strip()
-        if not texts or text.startswith("Why: "):
-            texts.append(text)
-        else:
-            texts[-1] += " " + text
-    return texts or [""]
+@dataclass
+class Lists:
+    """What the page lists: definitions that the call rests on and others, items of code of the call and others, and
+    the names of std that the call leans on."""
+
+    files: dict
+    reached: list
+    others: list
+    code_of_call: list
+    other_code: list
+    of_std: set
+
+    def lines(self):
+        """How many lines there are to be believed: of definitions, of code, and of names of std."""
+        of_code = sum(one.lines for one in self.code_of_call)
+        return sum(one.lines for one in self.reached), of_code, len(self.of_std)
+
+
+# ---- what the files give
 
 
 def read_files(top):
@@ -68,73 +78,70 @@ def read_files(top):
     return specs, [file for file in files if file.part == "src"]
 
 
-def find(files, crate, module, name):
-    """The definition of a name in a file, or the code's own type of that name, or nothing (a name of std)."""
-    if module.startswith("declared"):
-        return (crate, module, name)
-    file = files.get((crate, module))
-    found = file.of_name.get(name) if file else None
-    if crate in CRATES and found is None:
-        sys.exit(f"crates/{crate}/specs/{module.replace('.', '/')}.antt has no {name}, which another file names")
-    return found
+def definition_of(files, key):
+    """The definition of a name, or nothing: the code's own type, or a name of std or of a lemma."""
+    if key.crate not in CRATES or key.part != "specs" or key.module.startswith("declared"):
+        return None
+    file = files.get((key.crate, key.module))
+    if not file or key.name not in file.of_name:
+        sys.exit(f"crates/{key.crate}/specs/{key.module}.antt has no {key.name}, which another file names")
+    return file.of_name[key.name]
 
 
-def rests_on(files, definition):
-    """What a definition rests on, in the order of its text."""
-    found, file = [], files[definition.key.crate, definition.key.module]
-    targets = {one.name: one.target for one in file.imports if one.target and one.target.part == "specs"}
-    for token in definition.tokens:
-        first, _, rest = token.text.partition(".")
-        if first in file.of_name:
-            found.append(file.of_name[first])
-        elif first in targets and (targets[first].name or rest):
-            crate, _, module, name = targets[first]
-            found.append(find(files, crate, module, name or rest.split(".")[0]))
-    signs, names = {**targets, **{name: one.key for name, one in file.of_name.items()}}, reader.names_in(
-        definition.tokens
-    )
-    for name, (crate, _, module, here) in signs.items():
-        if "◌" in name and reader.is_named_in(name, names):
-            found.append(find(files, crate, module, here))
-    return [one for one in found if one is not None and one is not definition]
+def cited_from(files, roots):
+    """All that names lead to, in reading order: names of definitions, of the code's own types and of std."""
+
+    def cited_by(key):
+        one = definition_of(files, key)
+        return [one.key, *files[one.key.crate, one.key.module].cites(one.tokens)] if one else []
+
+    return reader.reach(roots, cited_by)
 
 
-def believed(files, roots):
-    """The definitions that these rest on, and the code's own types, each in reading order."""
-    reached, types, seen, waiting = [], [], set(), list(roots)
-    while waiting:
-        one = waiting.pop(0)
-        if one in seen:
-            continue
-        seen.add(one)
-        if isinstance(one, tuple):
-            types.append(one)
-        else:
-            reached.append(one)
-            waiting.extend(rests_on(files, one))
-    return reached, types
+def definitions_in(files, keys):
+    found = (definition_of(files, key) for key in keys)
+    return list(dict.fromkeys(one for one in found if one))
 
 
-def by_file(reached):
-    """The definitions by crate, and in each crate by file, in reading order."""
-    groups = {}
-    for one in reached:
-        groups.setdefault(one.key.crate, {}).setdefault(one.key.module, []).append(one)
-    return [(crate, groups[crate]) for crate in CRATES if crate in groups]
-
-
-def lines_of(definitions):
-    return sum(one.lines for one in definitions)
-
-
-def cell(text):
-    return text.replace("|", "\\|")
-
-
-def others(files, reached):
-    """The definitions of specs/ that the headline does not rest on, but for those of private contracts."""
+def read_lists(top):
+    files, code = read_files(top)
+    call = declared.contract_of(code, *CALL)
+    if call is None:
+        sys.exit(f"no function {CALL[2]} in crates/{CALL[0]}/src/{CALL[1]}.rt")
+    program = os.path.join(top, "crates", PROGRAM, "src")
+    if not any(f"{CALL[2]}(" in sources.read(path) for path in sources.files_below(program, ".rt")):
+        sys.exit(f"crates/{PROGRAM} does not call {CALL[2]}: CALL in scripts/believed.py names the call that it makes")
+    items, of_call, before = list(declared.code_items(code)), [call], []
+    while len(before) < len(of_call):
+        # What a trait, a view or members say cites more definitions, and these more types.
+        before = of_call
+        cited = cited_from(files, [key for item in of_call for key in item.cites])
+        named = {*declared.keys_of(cited)}
+        words = frozenset().union(*(item.words for item in of_call))
+        of_call = [call, *(item for item in items if item.is_of(named, words))]
+    reached = definitions_in(files, cited)
     public = [file for (_, module), file in files.items() if not module.startswith("Private")]
-    return [one for file in public for one in file.declarations if one not in reached]
+    others = [one for file in public for one in file.declarations if one not in reached]
+    cited_by_others = [key for one in others for key in files[one.key.crate, one.key.module].cites(one.tokens)]
+    named |= {*declared.keys_of(cited_by_others)}
+    other_code = [item for item in items if item not in of_call and item.is_of(named)]
+    of_std = {key.name for key in cited if key.crate not in CRATES and key.name}
+    return Lists(files, reached, others, of_call, other_code, of_std)
+
+
+# ---- what the page says
+
+
+def about(file):
+    """The texts of the first comment of a file: what it is about, and each `Why: `."""
+    texts = []
+    for line in itertools.takewhile(lambda line: line.startswith("--"), file.text.split("\n")):
+        text = line.removeprefix("--").strip()
+        if not texts or text.startswith("Why: "):
+            texts.append(text)
+        else:
+            texts[-1] += " " + text
+    return texts or [""]
 
 
 def names_in(file, why):
@@ -147,188 +154,98 @@ def names_in(file, why):
     return names
 
 
-def whys_of(file, definitions):
-    """Each `Why: ` of a file that names one of these definitions."""
-    here = {one.name for one in definitions}
-    return [why for why in about(file)[1:] if names_in(file, why) & here]
+def cell(text):
+    return text.replace("|", "\\|")
 
 
 def part(files, definitions):
-    """A list as the page has it, file by file."""
-    out = []
-    for crate, modules in by_file(definitions):
-        out += ["", f"### `{crate}`"]
+    """A list of definitions as the page has it, file by file, crates and files in reading order."""
+    groups = {crate: {} for crate in CRATES}
+    for one in definitions:
+        groups[one.key.crate].setdefault(one.key.module, []).append(one)
+    for crate, modules in groups.items():
+        if modules:
+            yield from ("", f"### `{crate}`")
         for module, inside in modules.items():
-            file = files[crate, module]
-            for text in ["", f"**`{module}`**: {about(file)[0]}", *whys_of(file, inside)]:
-                out += [*textwrap.wrap(text, 118, break_long_words=False, break_on_hyphens=False), ""]
-            out += ["| Definition | What it says |", "|---|---|"]
-            out += [f"| `{one.name}` | {cell(one.about)} |" for one in inside]
-    return "\n".join(out) + "\n"
-
-
-@dataclass
-class Lists:
-    """What the page lists: definitions that the call rests on and others, items of code of the call and others, and
-    the names of std that the call leans on, with what each means."""
-
-    files: dict
-    reached: list
-    others: list
-    code_of_call: list
-    other_code: list
-    std_names: dict
-
-
-def is_named(item, words):
-    """Whether an item of the code is named: of members the trait and the type."""
-    return all(name in words for name in item.name.split(" for "))
-
-
-def imported_of_std(file, definition):
-    """The names of std and of the kit's crates that a definition of a file has."""
-    names = reader.names_in(definition.tokens)
-    of_kit = [one for one in file.imports if one.target and one.target.crate not in CRATES and one.target.name]
-    return {one.target.name for one in of_kit if reader.is_named_in(one.name, names)}
-
-
-def leans_on(files, reached, code_of_call):
-    """The names of std and of the kit's crates that definitions and items of code have."""
-    found = {name for item in code_of_call for crate, _, name in item.definitions if crate not in CRATES}
-    for one in reached:
-        found |= imported_of_std(files[one.key.crate, one.key.module], one)
-    return found
-
-
-def std_names(top, found):
-    """What each of the names means, in the order of the file that says it. Stops where it has other names."""
-    lines = [line for line in sources.read(os.path.join(top, STD_NAMES)).split("\n") if line and line[0] != "#"]
-    meanings = dict(re.split(r"\s{2,}", line, maxsplit=1) for line in lines)
-    for name in sorted(found - {*meanings}):
-        sys.exit(f"{STD_NAMES} does not say what {name} means, which definitions lean on")
-    for name in sorted({*meanings} - found):
-        sys.exit(f"{STD_NAMES} has {name}, on which no definition leans: drop its line")
-    return meanings
-
-
-def read_lists(top):
-    files, code = read_files(top)
-    call = declared.contract_of(code, *CALL)
-    if call is None:
-        sys.exit(f"no function {CALL[2]} in crates/{CALL[0]}/src/{CALL[1]}.rt")
-    program = os.path.join(top, "crates", PROGRAM, "src")
-    if not any(f"{CALL[2]}(" in sources.read(path) for path in sources.files_below(program, ".rt")):
-        sys.exit(f"crates/{PROGRAM} does not call {CALL[2]}: CALL in scripts/believed.py names the call that it makes")
-    words, of_call, count = {*call.words}, [call], 0
-    while count != len(of_call):
-        # What a trait, a view or members say names more definitions, and these more types.
-        count = len(of_call)
-        roots = [find(files, *it) for item in of_call for it in item.definitions if it[0] in CRATES]
-        reached, types = believed(files, [it for it in roots if it is not None])
-        named = declared.named_in(types)
-        items = declared.code_items(code, named)
-        of_call = [call, *(it for it in items if (it.crate, it.file, it.name) in named or is_named(it, words))]
-        words |= {word for it in of_call for word in it.words}
-    rest = others(files, reached)
-    of_rest = [it for one in rest for it in rests_on(files, one) if isinstance(it, tuple)]
-    every = declared.code_items(code, named | declared.named_in(of_rest))
-    names = std_names(top, leans_on(files, reached, of_call))
-    return Lists(files, reached, rest, of_call, [it for it in every if it not in of_call], names)
+            file, here = files[crate, module], {one.name for one in inside}
+            what, *whys = about(file)
+            whys = [why for why in whys if names_in(file, why) & here]
+            for text in ["", f"**`{module}`**: {what}", *whys]:
+                yield from (*textwrap.wrap(text, 118, break_long_words=False, break_on_hyphens=False), "")
+            yield from ("| Definition | What it says |", "|---|---|")
+            yield from (f"| `{one.name}` | {cell(one.about)} |" for one in inside)
 
 
 def counts_of_code(items):
     """How many items of each kind there are, and their lines, in words."""
-    shown = []
     for kind in declared.KINDS:
         lines = [one.lines for one in items if one.kind == kind]
         if lines:
             many = kind if kind == "members" or len(lines) == 1 else f"{kind}s"
-            shown.append(f"{len(lines)} {many}, {sum(lines)} {'line' if sum(lines) == 1 else 'lines'}")
-    return "; ".join(shown)
+            yield f"{len(lines)} {many}, {sum(lines)} {'line' if sum(lines) == 1 else 'lines'}"
 
 
 def code_part(heading, items):
     """A list of items of code as the page has it."""
-    out = ["", f"### {heading}", "", f"{counts_of_code(items)}.", ""]
-    out += ["| Item | Of `crates/` | Lines | What it says |", "|---|---|---|---|"]
+    yield from ("", f"### {heading}", "", f"{'; '.join(counts_of_code(items))}.", "")
+    yield from ("| Item | Of `crates/` | Lines | What it says |", "|---|---|---|---|")
     for one in items:
-        out.append(f"| {one.kind} `{one.name}` | `{one.crate}/src/{one.file}.rt` | {one.lines} | {cell(one.about)} |")
-    return "\n".join(out) + "\n"
+        yield f"| {one.kind} `{one.name}` | `{one.crate}/src/{one.file}.rt` | {one.lines} | {cell(one.about)} |"
 
 
 def page_anew(page, lists):
-    """The page with its lists made anew."""
-    code = code_part("Of the program's call", lists.code_of_call)
-    code += code_part("Of other public contracts", lists.other_code)
-    rows = [f"| `{cell(name)}` | {cell(meaning)} |" for name, meaning in lists.std_names.items()]
-    texts = {
+    """The page with its lists made anew. Stops where its own list has other names of std than are leaned on."""
+    of_call = code_part("Of the program's call", lists.code_of_call)
+    other_code = code_part("Of other public contracts", lists.other_code)
+    made = {
         "believed": part(lists.files, lists.reached),
         "other": part(lists.files, lists.others),
-        "code": code,
-        "std": "\n".join(["", "| Name | What it means |", "|---|---|", *rows]) + "\n",
+        "code": [*of_call, *other_code],
     }
-    for name, made in texts.items():
+    for name, lines in made.items():
         begin, end = f"<!-- {name}: begin -->", f"<!-- {name}: end -->"
         before, found_begin, rest = page.partition(begin)
         _, found_end, after = rest.partition(end)
         if not found_begin or not found_end:
             sys.exit(f"{PAGE} lacks the line '{begin}' or, after it, the line '{end}'")
-        page = before + begin + "\n" + made + "\n" + end + after
+        page = "\n".join([before + begin, *lines, "", end + after])
+    said = {name.replace("\\|", "|") for name in re.findall(r"^\| `(\S+)` \|", page.partition(OF_STD)[2], re.M)}
+    for name in sorted(lists.of_std - said):
+        sys.exit(f"{PAGE} does not say what {name} means, which definitions lean on")
+    for name in sorted(said - lists.of_std):
+        sys.exit(f"{PAGE} says what {name} means, on which no definition leans: drop its line")
     return page
 
 
-def check_page(page, lists):
-    """Whether the page is the one that --write would leave. Prints the first differences."""
-    anew = page_anew(page, lists)
-    names = f"{PAGE} as it is", f"{PAGE} as the files give it"
-    differences = list(difflib.unified_diff(page.split("\n"), anew.split("\n"), *names, lineterm="", n=1))
-    if differences:
-        print(*differences[:60], sep="\n")
-        print(f"{PAGE} is not what the files give: scripts/believed.py --write makes its lists anew")
-    return not differences
-
-
-def lines_to_believe(lists):
-    return lines_of(lists.reached) + sum(item.lines for item in lists.code_of_call) + len(lists.std_names)
-
-
-def check_readme(readme, lists):
-    """Whether README.md gives the number of lines that have to be believed."""
-    found, right = README_NUMBER.search(readme), f"{lines_to_believe(lists):,}"
-    said = found.group(1) if found else "nothing"
-    if said != right:
-        print(f"README.md says {said}, where '{right} lines of [definitions]' is right")
-    return said == right
-
-
-def print_counts(lists):
-    for crate, modules in by_file(lists.reached):
-        here = [one for definitions in modules.values() for one in definitions]
-        print(f"{crate}: {len(here)} definitions, {lines_of(here)} lines")
-    print(f"in all: {len(lists.reached)} definitions, {lines_of(lists.reached)} lines")
-    print(f"of the code: {counts_of_code(lists.code_of_call)}")
-    print(f"names of std and of the kit's crates: {len(lists.std_names)}, a line each")
-    print(f"to be believed: {lines_to_believe(lists)} lines, without blank lines and comments")
+def readme_anew(readme, lists):
+    if not README_NUMBER.search(readme):
+        sys.exit(f"{README} has no number of lines of [definitions]")
+    return README_NUMBER.sub(f"{sum(lists.lines()):,}", readme)
 
 
 def main():
     parser = sources.parser_of(__doc__)
-    way = parser.add_mutually_exclusive_group()
-    way.add_argument("--write", action="store_true", help="make the lists of docs/DEFINITIONS.md anew")
-    way.add_argument("--check", action="store_true", help="compare docs/DEFINITIONS.md and README.md with the files")
+    way = parser.add_mutually_exclusive_group(required=True)
+    way.add_argument("--write", action="store_true", help="make the lists and the number anew")
+    way.add_argument("--check", action="store_true", help="compare them with the files")
     given = parser.parse_args()
-    lists, path = read_lists(given.top), os.path.join(given.top, PAGE)
-    if given.write:
-        anew = page_anew(sources.read(path), lists)
-        with open(path, "w", encoding="utf-8") as file:
-            file.write(anew)
-    elif given.check:
-        is_page_right = check_page(sources.read(path), lists)
-        is_readme_right = check_readme(sources.read(os.path.join(given.top, "README.md")), lists)
-        return 0 if is_page_right and is_readme_right else 1
-    else:
-        print_counts(lists)
-    return 0
+    lists, are_right = read_lists(given.top), True
+    for name, anew in ((PAGE, page_anew), (README, readme_anew)):
+        path = os.path.join(given.top, name)
+        was, text = sources.read(path), anew(sources.read(path), lists)
+        if given.write:
+            sources.write(path, text)
+        elif was != text:
+            are_right = False
+            names = f"{name} as it is", f"{name} as the files give it"
+            print(*difflib.unified_diff(was.split("\n"), text.split("\n"), *names, lineterm="", n=1), sep="\n")
+    definitions, of_code, of_std = lists.lines()
+    print(
+        f"{definitions + of_code + of_std} lines to believe: {definitions} of definitions, {of_code} of the code,",
+        end=" ",
+    )
+    print(f"{of_std} of std" + ("" if are_right else "; scripts/believed.py --write makes what differs"))
+    return 0 if are_right else 1
 
 
 if __name__ == "__main__":

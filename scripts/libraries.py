@@ -1,6 +1,26 @@
-"""The proved libraries that a program, a static library or the check of a script is built over."""
+"""What the scripts take of the kit: its module of crates, the proved libraries of these, and a check in a folder."""
 
+import importlib.machinery
+import importlib.util
 import os
+import shutil
+import subprocess
+import sys
+
+
+def kit():
+    """The kit's module of crates, which `rt` itself uses. The kit is the one that docs/PROOF.md names."""
+    sys.dont_write_bytecode = True
+    rt = shutil.which("rt")
+    if not rt:
+        print("rt is not on the path", file=sys.stderr)
+        sys.exit(2)
+    path = os.path.join(os.path.dirname(os.path.realpath(rt)), "rtlib.py")
+    loader = importlib.machinery.SourceFileLoader("rtlib", path)
+    module = importlib.util.module_from_spec(importlib.util.spec_from_loader("rtlib", loader))
+    loader.exec_module(module)
+    module.guarded()
+    return module
 
 
 def are_left_by_ci(crates):
@@ -15,3 +35,10 @@ def build(crates, as_left):
     if as_left and are_left_by_ci(crates):
         return ""
     return next((it.name for it in crates if it.build_rlib(["--jobs", "1"], anew=False)), "")
+
+
+def check(rtlib, folder, words):
+    """What the kit's check says in a folder."""
+    command = [*rtlib.guarded(), rtlib.RATTLE, "check", *words]
+    how = {"stdin": subprocess.DEVNULL, "stdout": subprocess.PIPE, "stderr": subprocess.STDOUT}
+    return subprocess.run(command, cwd=folder, encoding="utf-8", errors="replace", **how).stdout

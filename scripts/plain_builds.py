@@ -9,19 +9,15 @@ import sys
 
 import libraries
 import sources
-import wrong_bodies
 
 FLAGS = ["--jobs", "1", "--cpu", "x86-64"]
 
 
 def main():
     sources.parser_of(__doc__, has_top=False).parse_args()
-    rtlib = wrong_bodies.kit()
-    rtlib.guarded()
-    crates = {it.name: it for it in rtlib.crates_below(sources.TOP)}
+    crates = {it.name: it for it in libraries.kit().crates_below(sources.TOP)}
     program, library = crates["labels"], crates["labels_c"]
-    below = [*program.below(), *(it for it in library.below() if it not in program.below())]
-    not_proved = libraries.build(below, as_left=True)
+    not_proved = libraries.build([*dict.fromkeys([*program.below(), *library.below()])], as_left=True)
     if not_proved:
         print(f"{not_proved} is not proved: run rt check in its folder")
         return 1

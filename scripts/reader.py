@@ -1,7 +1,8 @@
-"""Reads the code, the definitions and the proofs of the crates: what each file imports and declares.
+"""Reads the code, the definitions and the proofs of the crates: what each file imports, declares and cites.
 
 The kit tells the words of a file apart, as its check reads them (`rattle fmt --tokens`). Each has a kind: Code and
-Literal of the code; Head, Antt, Text and End of what the code says by the logic, and of specs/ and proofs/.
+Literal of the code; Head, Antt, Text and End of what the code says by the logic, and of specs/ and proofs/. In the
+kit's layout, which `rt ci` demands, what stands side by side begins in one column.
 """
 
 import functools
@@ -14,33 +15,23 @@ import subprocess
 import sys
 import tempfile
 from collections import namedtuple
-from dataclasses import dataclass, field, replace
+from dataclasses import dataclass, field
 
 import sources
 
-# `start` is the place in the bytes of the file, `column` that in its line.
+# `start` is the place in the text of the file, `column` that in its line.
 Token = namedtuple("Token", "kind text line column start")
 # What a definition, a lemma or an item is named by; `part` is "specs", "proofs" or "src". Of a whole file the name is
 # empty.
 Key = namedtuple("Key", "crate part module name")
-BRACKETS = {"(": ")", "[": "]", "{": "}"}
+# A name that a line brings in: as it is written there, and what it names, if it is one of ours. Of the code also
+# whether it is one of the logic, and the tokens that can have it.
+Import = namedtuple("Import", "name place target is_ghost scope", defaults=(None, False, ()))
+OPENING = {"(", "[", "{"}
+CLOSING = {")", "]", "}"}
 MODIFIERS = {"abbrev", "unfoldable", "pub", "record", "data", "ruleset"}
 KINDS = {"fn", "struct", "enum", "trait", "impl", "mod", "const", "ghost", "use", "type", "static"}
-# The items that end at a semicolon, whatever stands in braces.
-UP_TO_SEMICOLON = {"const", "use", "type", "static"}
 RELATIONS = {"≡", "≢", "≤", "<", "↔"}
-
-
-@dataclass
-class Import:
-    """A name that a line imports: as it is written there, and what it names, if it is one of ours; of the code also
-    whether it is one of the logic, and the tokens that can have it."""
-
-    name: str
-    place: str
-    target: Key = None
-    is_ghost: bool = False
-    scope: list = field(default_factory=list)
 
 
 @dataclass(eq=False)
@@ -57,7 +48,7 @@ class Declaration:
     is_public: bool
     about: str
     tokens: list
-    stated: list = field(default_factory=list)
+    stated: list
     attributes: list = field(default_factory=list)
     inner: list = field(default_factory=list)
     statements: list = field(default_factory=list)
@@ -69,43 +60,39 @@ class Declaration:
     @property
     def lines(self):
         """How many lines it has, without blank lines, comments, attributes and bodies of functions."""
-        first = {}
-        for token in self.stated:
-            first.setdefault(token.line, token.text)
+        first = {token.line: token.text for token in reversed(self.stated)}
         return sum(text != "#" for text in first.values())
-
-    def signature(self):
-        return next((it for it in self.statements if is_signature(it)), [])
 
     def clauses(self):
         """The tokens after the first sign = of each clause."""
         for statement in self.statements:
-            if statement[0].text == self.name:
-                texts = [token.text for token in statement]
-                if "=" in texts and not is_signature(statement):
-                    yield statement[texts.index("=") + 1 :]
+            texts = [token.text for token in statement]
+            if texts[0] == self.name and "=" in texts and not is_signature(statement):
+                yield statement[texts.index("=") + 1 :]
 
     def worked_values(self):
         """How many statements without variables it makes, those of a module too, of a product each for one: they are
         computed."""
-        words = [token.text for token in self.signature()]
+        words = [token.text for token in next(filter(is_signature, self.statements), [])]
         is_open = self.tokens[0].column > 0 or "→" in words
         return 0 if is_open else sum(word in RELATIONS for word in words)
 
 
 class File:
-    """A file: its text, tokens, imports, and what it declares; of the logic also by each name that it gives."""
+    """A file: its text, tokens, imports, what it passes on to callers, and what it declares; of the logic also by each
+    name that it gives."""
 
     def __init__(self, top, path, tokens):
         self.path = os.path.relpath(path, top)
         self.crate, self.part, *parts = self.path.removeprefix("crates/").split(os.sep)
         self.module = os.path.splitext(".".join(parts))[0]
         self.text, self.tokens = sources.read(path), tokens
-        self.lines = self.text.split("\n")
-        self.imports, self.declarations, self.of_name, self.rest = [], [], {}, []
+        self.imports, self.passed_on, self.declarations, self.of_name, self.rest = [], [], [], {}, []
         if self.part == "src":
             self.declarations = list(self.items(tokens))
-            self.imports = [one for item in self.declarations for one in self.imports_in(item)]
+            for item in self.declarations:
+                passes_on = item.kind == "use" and item.is_public
+                (self.passed_on if passes_on else self.imports).extend(self.imports_in(item))
         else:
             self.take(tokens)
 
@@ -115,20 +102,40 @@ class File:
     def place(self, token):
         return f"{self.path}:{token.line}"
 
+    def extent(self, tokens):
+        """Where the text from the first to the last of tokens begins and ends."""
+        return tokens[0].start, tokens[-1].start + len(tokens[-1].text)
+
     def text_of(self, tokens):
-        """The text from the first to before the last of tokens, on one line."""
-        found = self.text.encode()[tokens[0].start : tokens[-1].start].decode()
-        return " ".join(found.split())
+        begin, end = self.extent(tokens)
+        return self.text[begin:end]
 
     def about(self, token, mark, skipped):
         """The comment above a token, as one line; between them are lines that begin with what is skipped."""
         found = []
-        for line in map(str.strip, reversed(self.lines[: token.line - 1])):
+        for line in map(str.strip, reversed(self.text.split("\n")[: token.line - 1])):
             if line.startswith(mark):
                 found.append(line.removeprefix(mark).strip())
             elif found or not line.startswith(skipped):
                 break
         return " ".join(reversed(found))
+
+    def cites(self, tokens):
+        """What tokens name, in their order: definitions of the file itself, and what it imports of the logic."""
+        targets = {}
+        for one in self.imports:
+            if one.target:
+                targets.setdefault(one.name, []).append(one.target)
+        targets.update({name: [one.key] for name, one in self.of_name.items()})
+        for token in tokens:
+            first, _, rest = token.text.partition(".")
+            for target in targets.get(first, ()):
+                if target.name or rest:
+                    yield target if target.name else target._replace(name=rest.split(".")[0])
+        names = names_in(tokens)
+        for name in targets:
+            if "◌" in name and is_named_in(name, names):
+                yield from targets[name]
 
     # ---- the logic
 
@@ -139,7 +146,7 @@ class File:
             words = [token.text for token in statement]
             modifiers = list(itertools.takewhile(MODIFIERS.__contains__, words))
             name = words[len(modifiers)] if len(words) > len(modifiers) else ""
-            if name == "use" and not modifiers:
+            if words[0] == "use":
                 self.imports += imported(statement[1:], self.place(statement[0]))
             elif name in ("module", "mutual"):
                 inner = words.index("where") + 1 if name == "module" else len(modifiers) + 1
@@ -147,70 +154,54 @@ class File:
                 self.take(statement[inner:])
             elif name in ("infix", "infixl", "infixr"):
                 before = statement
-            elif name in ("use", "mod", "unfolding") or not (modifiers or is_signature(statement)):
-                self.add(current, statement)
-            elif current and current.name == name:
-                self.add(current, statement)
             else:
-                current = self.declare(name, modifiers, statement, before)
-                before = []
+                begins = modifiers or is_signature(statement)
+                if begins and name not in ("use", "mod", "unfolding", current and current.name):
+                    current = self.declare(name, modifiers, before, statement)
+                    before = []
+                elif current:
+                    current.tokens += statement
+                else:
+                    self.rest += statement
+                if current:
+                    current.statements.append(statement[len(modifiers) :])
 
-    def add(self, current, statement):
-        if current is None:
-            self.rest += statement
-            return
-        current.statements.append(statement)
-        current.tokens += statement
-        current.stated += statement
-
-    def declare(self, name, modifiers, statement, before):
+    def declare(self, name, modifiers, before, statement):
         kind = next((it for it in ("data", "record", "ruleset") if it in modifiers), "definition")
-        head = statement[0]
-        about = self.about(head, "--", "infix")
-        one = Declaration(kind, self.key(name), self.place(head), "pub" in modifiers, about, [])
-        for part in (before, statement[: len(modifiers)], statement[len(modifiers) :]):
-            if part:
-                self.add(one, part)
+        place, about = self.place(statement[0]), self.about(statement[0], "--", "infix")
+        tokens = [*before, *statement]
+        one = Declaration(kind, self.key(name), place, "pub" in modifiers, about, tokens, tokens)
         self.declarations.append(one)
         self.of_name[name] = one
         if kind == "data":
-            texts = [token.text for token in statement]
-            constructors = statement[texts.index("where") + 1 :] if "where" in texts else []
-            self.of_name.update({part[0].text: one for part in statements(constructors)})
+            after = itertools.dropwhile(lambda it: it.text != "where", tokens)
+            constructors = statements(list(after)[1:])
+            self.of_name.update({part[0].text: one for part in constructors})
         return one
 
     # ---- the code
 
     def items(self, tokens):
         """The items of code side by side: those of a file, or of what an item has between braces."""
-        at, attributes = 0, []
-        while at < len(tokens):
-            if tokens[at].text == "#":
-                end = after_bracket(tokens, at + 1 + (tokens[at + 1].text == "!"))
-                attributes += tokens[at:end]
-            else:
-                kind, end, body = extent_of_item(tokens, at)
-                if kind:
-                    yield self.item(kind, tokens[at:end], body - at, attributes)
-                attributes = []
-            at = end
+        attributes = []
+        for statement in statements(tokens):
+            if statement[0].text == "#":
+                attributes += statement
+                continue
+            words = [token.text for token in statement]
+            pairs = zip(words, [*words[1:], ""])
+            kinds = [
+                it for it, after in pairs if it in KINDS and (it, after) not in (("const", "fn"), ("ghost", "use"))
+            ]
+            if kinds:
+                yield self.item(kinds[0], statement, attributes)
+            attributes = []
 
-    def imports_in(self, item):
-        """The names that an item at the top imports, or that lines in it import for it; not what it passes on."""
-        if item.kind == "use" and item.tokens[0].text == "pub":
-            return
-        scope = self.tokens if item.kind == "use" else item.tokens
-        words = [token.text for token in item.tokens]
-        for at, token in enumerate(item.tokens):
-            is_ghost = words[at - 1 : at] == ["ghost"]
-            if token.text == "use" and token.kind == ("Head" if is_ghost else "Code"):
-                line = item.tokens[at + 1 : words.index(";", at) + 1]
-                for one in (imported if is_ghost else imported_by_code)(line, self.place(token)):
-                    yield replace(one, is_ghost=is_ghost, scope=scope)
-
-    def item(self, kind, tokens, body, attributes):
+    def item(self, kind, tokens, attributes):
+        braces = [at for at, token in enumerate(tokens) if (token.kind, token.text) == ("Code", "{")]
+        body = braces[0] if braces else len(tokens)
+        key = self.key(name_of_item(kind, [token.text for token in tokens[:body]]))
         is_public = tokens[0].text == "pub" and tokens[1].text != "("
-        key = self.key(name_of_item(kind, tokens[:body]))
         about = self.about(tokens[0], "///", "#[")
         one = Declaration(kind, key, self.place(tokens[0]), is_public, about, tokens, tokens, attributes)
         if kind == "fn":
@@ -221,14 +212,24 @@ class File:
             one.stated = [token for token in tokens if token not in bodies]
         return one
 
+    def imports_in(self, item):
+        """The names that an item at the top brings in, or that lines in it bring in for it."""
+        scope = self.tokens if item.kind == "use" else item.tokens
+        for at, token in enumerate(item.tokens):
+            if token.text == "use" and token.kind in ("Code", "Head"):
+                end = next(it for it in range(at, len(item.tokens)) if item.tokens[it].text == ";")
+                line, is_ghost = item.tokens[at + 1 : end + 1], token.kind == "Head"
+                for one in (imported if is_ghost else imported_by_code)(line, self.place(token)):
+                    yield one._replace(is_ghost=is_ghost, scope=scope)
+
 
 def statements(tokens):
-    """The statements of the logic side by side: each begins in the column of the first token, outside of brackets."""
+    """What stands side by side: each begins in the column of the first token, outside of brackets."""
     found, depth = [], 0
     for token in tokens:
-        if token.column == tokens[0].column and depth == 0:
+        if token.column == tokens[0].column and depth == 0 and token.text not in ("{", "where"):
             found.append([])
-        depth += (token.text in BRACKETS) - (token.text in BRACKETS.values())
+        depth += (token.text in OPENING) - (token.text in CLOSING)
         found[-1].append(token)
     return found
 
@@ -258,44 +259,13 @@ def imported_by_code(tokens, place):
             yield Import(token.text, place)
 
 
-def after_bracket(tokens, at):
-    """The index after the bracket that closes the one at an index."""
-    waiting = []
-    for place in range(at, len(tokens)):
-        text = tokens[place].text
-        if text in BRACKETS:
-            waiting.append(BRACKETS[text])
-        elif waiting and text == waiting[-1]:
-            waiting.pop()
-            if not waiting:
-                return place + 1
-    return len(tokens)
-
-
-def extent_of_item(tokens, at):
-    """The kind of the item that begins at an index, or nothing, the index after it, and that of its body."""
-    kind = ""
-    while at < len(tokens):
-        text = tokens[at].text
-        if not kind and text in KINDS and (text != "const" or tokens[at + 1].text != "fn"):
-            kind = "use" if text == "ghost" and tokens[at + 1].text == "use" else text
-        if text == ";":
-            return kind, at + 1, at
-        is_of_code = text == "{" and (tokens[at].kind == "Code" or kind == "ghost")
-        if is_of_code and kind not in UP_TO_SEMICOLON:
-            return kind, after_bracket(tokens, at), at
-        at = after_bracket(tokens, at) if text in BRACKETS else at + 1
-    return kind, at, at
-
-
-def name_of_item(kind, head):
+def name_of_item(kind, words):
     """The name of an item, by its head: of an `impl` the type, or `Trait for Type`, without parameters."""
-    words = [token.text for token in head]
+    after = words[words.index(kind) + 1 :]
     if kind != "impl":
-        after = words[words.index(kind) + 1 :] if kind in words else []
-        return after[0] if after else ""
+        return after[0]
     depth, kept = 0, []
-    for word in itertools.takewhile(lambda it: it != "where", words[words.index("impl") + 1 :]):
+    for word in itertools.takewhile(lambda it: it != "where", after):
         depth += {"<": 1, ">": -1}.get(word, 0)
         if depth == 0 and word.isidentifier():
             kept.append(word)
@@ -321,18 +291,20 @@ def tokens_of(paths):
     parts = re.split(r"^file \d+\n", ran.stdout, flags=re.M)[1:]
     if len(parts) != len(paths):
         sys.exit(f"the kit cannot read these files:\n{ran.stderr}")
-    return [list(tokens_in(rows, path)) for rows, path in zip(parts, paths)]
+    return [list(tokens_in(rows, sources.read(path))) for rows, path in zip(parts, paths)]
 
 
-def tokens_in(rows, path):
-    """The tokens of a file by the kit's rows: the line, the first and last byte, the kind and the text of each."""
-    with open(path, "rb") as file:
-        starts = [0, 0, *(match.end() for match in re.finditer(b"\n", file.read()))]
+def tokens_in(rows, text):
+    """The tokens of a text by the kit's rows: the line, the first and last byte, the kind and the text of each."""
+    data, byte, place = text.encode(), 0, 0
+    lines = [0, 0, *(match.end() for match in re.finditer("\n", text))]
     for row in rows.split("\n")[:-1]:
-        line, start, _, kind, text = row.split(" ", 4)
-        if kind != "Literal" or not text.startswith('"///'):
-            shown = json.loads(text) if "\\" in text else text[1:-1]
-            yield Token(kind, shown, int(line), int(start) - starts[int(line)], int(start))
+        line, start, _, kind, shown = row.split(" ", 4)
+        place += len(data[byte : int(start)].decode())
+        byte = int(start)
+        if kind != "Literal" or not shown.startswith('"///'):
+            word = json.loads(shown) if "\\" in shown else shown[1:-1]
+            yield Token(kind, word, int(line), place - lines[int(line)], place)
 
 
 def tokens_of_text(text):
@@ -358,12 +330,8 @@ def files_at(top, paths):
 
 
 def names_in(tokens):
-    """The names in tokens: of a path its first part, and its first two joined."""
-    found = set()
-    for token in tokens:
-        parts = token.text.split(".")
-        found.update((token.text, parts[0], ".".join(parts[:2])))
-    return found
+    """The names in tokens: of a path its first part too."""
+    return {name for token in tokens for name in (token.text, token.text.split(".")[0])}
 
 
 def is_named_in(name, names):
@@ -375,16 +343,12 @@ def is_named_in(name, names):
     return all(part in names for part in name.split("◌") if part)
 
 
-def cited(tokens, imports, of_name):
-    """What tokens cite: definitions of their own file, and keys of imported ones."""
-    names, inner = names_in(tokens), {}
-    for first, _, second in (name.partition(".") for name in names):
-        if second and "." not in second:
-            inner.setdefault(first, []).append(second)
-    found = [one.key for name, one in of_name.items() if is_named_in(name, names)]
-    for one in imports:
-        if one.target and one.target.name and is_named_in(one.name, names):
-            found.append(one.target)
-        elif one.target:
-            found += [one.target._replace(name=name) for name in inner.get(one.name, ())]
-    return found
+def reach(roots, next_of):
+    """All that roots lead to, step by step, in the order of a walk in breadth."""
+    found = dict.fromkeys(roots)
+    waiting = list(found)
+    for one in waiting:
+        new = [it for it in dict.fromkeys(next_of(one)) if it not in found]
+        found.update(dict.fromkeys(new))
+        waiting += new
+    return waiting

@@ -62,6 +62,12 @@ def read(path):
         return file.read()
 
 
+def write(path, text):
+    os.makedirs(os.path.dirname(path), exist_ok=True)
+    with open(path, "w", encoding="utf-8") as file:
+        file.write(text)
+
+
 def files_below(folder, ending):
     """The files below a folder with this ending, or one of these, sorted by path."""
     found = []

@@ -16,12 +16,10 @@ Where two things have one name it may miss one that is unused. The status is 1 w
 each; the last line says how much it looked at.
 """
 
-import functools
 import itertools
 import re
 import sys
 from collections import Counter
-from dataclasses import dataclass
 
 import reader
 import sources
@@ -44,8 +42,8 @@ def without_uses(tokens):
 def attributes_in(tokens):
     """The tokens of attributes of code, each attribute by itself."""
     for at, token in enumerate(tokens):
-        if token.text == "#" and token.kind == "Code":
-            yield tokens[at : reader.after_bracket(tokens, at + 1 + (tokens[at + 1].text == "!"))]
+        if (token.kind, token.text) == ("Code", "#"):
+            yield list(itertools.takewhile(lambda it: it.text != "]", tokens[at:]))
 
 
 def ghost_tokens(tokens, kinds=("Antt", "Text")):
@@ -54,23 +52,14 @@ def ghost_tokens(tokens, kinds=("Antt", "Text")):
     return found + [token for attribute in attributes_in(tokens) for token in attribute]
 
 
-@functools.lru_cache(maxsize=None)
-def ghost_text(text):
-    """The same of a text, with the heads of clauses and items, as words."""
-    tokens = ghost_tokens(reader.tokens_of_text(text), ("Head", "Antt", "Text", "End"))
-    return " ".join(token.text for token in tokens)
-
-
 def cited_by_code(file):
     """The definitions and lemmas that a file of code cites: in contracts by imported names, in attributes by paths."""
-    imports = [one for one in file.imports if one.is_ghost]
-    found = reader.cited(ghost_tokens(file.tokens), imports, {})
+    yield from file.cites(ghost_tokens(file.tokens))
     for attribute in attributes_in(file.tokens):
         text = "".join(token.text for token in attribute)
         for crate, part, path in re.findall(r"\b(\w+)::(specs|proofs)((?:::[\w-]+)+)", text):
             *module, name = path[2:].split("::")
-            found.append(reader.Key(file.crate if crate == "crate" else crate, part, ".".join(module), name))
-    return found
+            yield reader.Key(file.crate if crate == "crate" else crate, part, ".".join(module), name)
 
 
 def checked_for_itself(file, cited_files):
@@ -81,71 +70,51 @@ def checked_for_itself(file, cited_files):
         return [one for one in file.declarations if one.is_public]
     if re.search("Examples|Theorems", file.module):
         return file.declarations
-    if file.key() in cited_files:
-        return []
-    return [one for one in file.declarations if one.worked_values()]
+    return [one for one in file.declarations if one.worked_values() and file.key() not in cited_files]
 
 
 def unused_definitions(logic, code):
     """The definitions and lemmas that nothing in use cites."""
     files = {file.key(): file for file in logic}
-    waiting = [key for file in code for key in cited_by_code(file)]
-    cited = [*waiting, *(one.target for file in logic for one in file.imports if one.target)]
-    cited_files = {key._replace(name="") for key in cited}
-    for file in logic:
-        waiting += reader.cited(file.rest, file.imports, file.of_name)
-        waiting += [one.key for one in checked_for_itself(file, cited_files)]
-    reached = set()
-    while waiting:
-        key = waiting.pop()
+
+    def cited_by(key):
+        """The definition that has a name, and what it cites."""
         file = files.get(key._replace(name=""))
         one = file.of_name.get(key.name) if file else None
-        if one and one not in reached:
-            reached.add(one)
-            waiting += reader.cited(one.tokens, file.imports, file.of_name)
-    return [one for file in logic for one in file.declarations if one not in reached]
+        return [one.key, *file.cites(one.tokens)] if one else []
 
-
-def is_called(name, tokens):
-    """Whether tokens have a name after a point or two colons."""
-    return any(token.text == name and before.text in (".", ":") for before, token in zip(tokens, tokens[1:]))
-
-
-def unused_in_logic(file):
-    names = reader.names_in([*file.rest, *(token for one in file.declarations for token in one.tokens)])
-    return [one for one in file.imports if not reader.is_named_in(one.name, names)]
-
-
-def unused_in_code(scope, imports, traits):
-    """The names that are imported for some tokens of code and not used there."""
-    ghost_names, tokens = reader.names_in(ghost_tokens(scope)), list(without_uses(scope))
-    names = {token.text for token in tokens} | TRAITS_OF_STD
-    for one in imports:
-        functions = [it.name for it in traits.get(one.name, ()) if it.kind == "fn"]
-        if one.is_ghost and not reader.is_named_in(one.name, ghost_names):
-            yield one
-        elif not one.is_ghost and one.name not in names and not any(is_called(it, tokens) for it in functions):
-            yield one
+    roots = [key for file in code for key in cited_by_code(file)]
+    cited = [*roots, *(one.target for file in logic for one in file.imports if one.target)]
+    cited_files = {key._replace(name="") for key in cited}
+    for file in logic:
+        roots += file.cites(file.rest)
+        roots += [one.key for one in checked_for_itself(file, cited_files)]
+    reached = {*reader.reach(roots, cited_by)}
+    return [one for file in logic for one in file.declarations if one.key not in reached]
 
 
 def unused_imports(logic, code):
     """The imported names that are not used where they are imported."""
-    found = [one for file in logic for one in unused_in_logic(file)]
+    for file in logic:
+        names = reader.names_in([*file.rest, *(token for one in file.declarations for token in one.tokens)])
+        yield from (one for one in file.imports if not reader.is_named_in(one.name, names))
     traits = {one.name: one.inner for file in code for one in file.declarations if one.kind == "trait"}
     for file in code:
-        for _, group in itertools.groupby(file.imports, lambda one: id(one.scope)):
-            imports = list(group)
-            found += unused_in_code(imports[0].scope, imports, traits)
-    return found
+        for _, imports in itertools.groupby(file.imports, lambda one: id(one.scope)):
+            yield from unused_in_code(list(imports), traits)
 
 
-@dataclass
-class Function:
-    name: str
-    place: str
-    crate: str
-    is_public: bool
-    own: Counter  # how often each name is in it
+def unused_in_code(imports, traits):
+    """The names that are imported for some tokens of code and not used there."""
+    scope = imports[0].scope
+    tokens, ghost_names = list(without_uses(scope)), reader.names_in(ghost_tokens(scope))
+    names = {token.text for token in tokens} | TRAITS_OF_STD
+    called = {token.text for before, token in zip(tokens, tokens[1:]) if before.text in (".", ":")}
+    for one in imports:
+        methods = {it.name for it in traits.get(one.name, ()) if it.kind == "fn"}
+        is_used = one.name in names or methods & called
+        if not (reader.is_named_in(one.name, ghost_names) if one.is_ghost else is_used):
+            yield one
 
 
 def names_of(tokens):
@@ -153,31 +122,29 @@ def names_of(tokens):
 
 
 def functions_of(items, is_trait=False):
-    """The functions among items, and in these, that have to be called by somebody."""
+    """The functions among items, and in these, that somebody has to call, each with whether other crates can."""
     for item in items:
         if item.kind in ("impl", "trait", "mod") and " for " not in item.name:
             yield from functions_of(item.inner, item.kind == "trait")
         elif item.kind == "fn" and item.name != "main":
             if not {"test", "no_mangle"} & {token.text for token in item.attributes}:
-                yield Function(
-                    item.name, item.place, item.key.crate, item.is_public or is_trait, names_of(item.tokens)
-                )
+                yield item, item.is_public or is_trait
 
 
 def unused_functions(code):
     """The functions whose names are nowhere but in themselves, and how many were looked at."""
-    names = {}
+    functions = [one for file in code for one in functions_of(file.declarations)]
+    names = {file.crate: Counter() for file in code}
     for file in code:
         passed_on = [one for one in file.declarations if one.kind == "use" and one.is_public]
-        here = names_of(file.tokens) - names_of(token for one in passed_on for token in one.tokens)
-        names.setdefault(file.crate, Counter()).update(here)
+        names[file.crate] += names_of(file.tokens)
+        names[file.crate] -= names_of(token for one in passed_on for token in one.tokens)
     everywhere = sum(names.values(), Counter())
-    functions = [one for file in code for one in functions_of(file.declarations)]
     found = []
-    for one in functions:
-        seen = everywhere if one.is_public else names[one.crate]
-        others = sum(1 for it in functions if it.name == one.name and (one.is_public or it.crate == one.crate)) - 1
-        if seen[one.name] - one.own[one.name] - others <= 0:
+    for one, is_public in functions:
+        seen = everywhere if is_public else names[one.key.crate]
+        same = [it for it, _ in functions if it.name == one.name and (is_public or it.key.crate == one.key.crate)]
+        if seen[one.name] - names_of(one.tokens)[one.name] - (len(same) - 1) <= 0:
             found.append(one)
     return found, len(functions)
 

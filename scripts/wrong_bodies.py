@@ -12,8 +12,8 @@ each, and one that is reported as refused is a fault of this script.
 
 `rt` tries each must-fail edit by a check of the crate. Here one check tries many. Where several wrong bodies are of
 one function, a copy of the crate has the function once more for each of them, under another name, with its contract
-and its proof. It also has it once more as it is, and there the prover must find nothing wrong: a copy is judged as a
-function is.
+and its proof. It also has it once more as it is, a control in which the prover must find nothing wrong: a copy is
+judged as a function is.
 
 Any other body is tried in its function's place, and so are those that change something else too, or are of a trait. A
 proof reads of other functions their contracts alone, so one check tries several functions, copies too. What fails only
@@ -26,15 +26,13 @@ crate or there is no kit. The last line is `N passed, M failed`, as of `rt ci`.
 import concurrent.futures
 import dataclasses
 import functools
-import importlib.machinery
-import importlib.util
 import os
 import re
 import shutil
-import subprocess
 import sys
 import tempfile
 
+import libraries
 import reader
 import sources
 import unused
@@ -45,190 +43,159 @@ REFUSED = re.compile(r"not proved|no proof: expected answers|.*did not prove")
 NOT_TRIED = "`search` has not tried the goals of `{}::{}`,"
 
 
-def stop(why):
-    print(f"wrong_bodies.py: {why}", file=sys.stderr)
-    sys.exit(2)
-
-
-def kit():
-    """Returns the kit's module of crates, which `rt` itself uses. The kit is the one that docs/PROOF.md names."""
-    sys.dont_write_bytecode = True
-    folder = os.path.dirname(os.path.realpath(shutil.which("rt") or stop("rt is not on the path")))
-    loader = importlib.machinery.SourceFileLoader("rtlib", os.path.join(folder, "rtlib.py"))
-    module = importlib.util.module_from_spec(importlib.util.spec_from_loader("rtlib", loader))
-    loader.exec_module(module)
-    return module
-
-
 @dataclasses.dataclass
-class WrongBody:
+class Body:
     name: str
     functions: list
     changes: list  # (file, old, new)
     alone: bool = False
     is_right: bool = False  # it is there to be accepted
-    is_control: bool = False  # it is a function as it is, beside copies of it
-    apart: set = dataclasses.field(default_factory=set)  # functions that it calls, which were wrong beside it
+    is_control: bool = False  # it is right, and a function as it is beside copies of it
 
 
 def read_body(path):
-    """Returns the wrong body of a file."""
-    body = WrongBody(os.path.basename(path).removesuffix(".edit"), [], [])
-    body.is_right = os.path.basename(os.path.dirname(path)) == "right-bodies"
-    file = old = None
-    with open(path, encoding="utf-8") as lines:
-        for line in lines.read().split("\n"):
-            key, _, text = line.partition(":")
-            text = text.removeprefix(" ")
-            if key == "refused":
-                body.functions += text.split()
-            elif key == "alone":
-                body.alone = True
-            elif key == "file":
-                file = text
-            elif key == "old":
-                old = text
-            elif key == "new":
-                body.changes.append((file, old, text))
-    if not body.functions or not body.changes:
+    """The wrong or right body of a file."""
+    kind, name = path.split(os.sep)[-2:]
+    body, now = Body(name.removesuffix(".edit"), [], [], is_right=kind == "right-bodies"), {}
+    for line in sources.read(path).split("\n"):
+        key, _, text = line.partition(":")
+        now[key] = text.removeprefix(" ")
+        if key == "refused":
+            body.functions += text.split()
+        elif key == "new":
+            body.changes.append((now.get("file"), now.get("old"), now["new"]))
+    body.alone = "alone" in now
+    if not body.functions or not body.changes or not all(file and old for file, old, _ in body.changes):
         sys.exit(f"{path}: a wrong body has a line 'refused:', a line 'file:' and pairs of 'old:' and 'new:'")
     return body
 
 
-def bodies_of(crate_folder, kind="wrong-bodies"):
-    folder = f"{crate_folder}/{kind}"
-    names = sorted(os.listdir(folder)) if os.path.isdir(folder) else []
-    return [read_body(f"{folder}/{name}") for name in names if name.endswith(".edit")]
+def bodies_of(folder):
+    """The wrong bodies of a crate, and the right ones."""
+    paths = [path for kind in ("wrong", "right") for path in sources.files_below(f"{folder}/{kind}-bodies", ".edit")]
+    return [read_body(path) for path in paths]
+
+
+# ---- texts
+
+
+@functools.lru_cache(maxsize=None)
+def file_at(folder, name):
+    """A file of the code of a crate."""
+    return reader.files_at(os.path.dirname(folder), [f"{folder}/{name}"])[0]
 
 
 def code_of(text):
-    """Returns a text without its comments and white space."""
+    """A text without its comments and white space."""
     return re.sub(r"^\s*//.*$|\s+", "", text, flags=re.M)
 
 
-def faults_of(bodies, folder):
-    """Returns what keeps bodies of a crate from being tried, as (body, reason): what they change, or where."""
-    faults, seen = [], {}
-    for body in bodies:
-        outside = [file for file, _, _ in body.changes if not re.fullmatch(r"src/[\w/]+\.rt", file)]
-        if outside:
-            faults.append((body, f"it changes {outside[0]}, which is no file of src/"))
-            continue
-        texts = changed({}, body, folder)
-        if texts is None:
-            faults.append((body, "an old: text is not in its file just once"))
-            continue
-        before = {file: sources.read(f"{folder}/{file}") for file in texts}
-        if all(code_of(before[file]) == code_of(text) for file, text in texts.items()):
-            faults.append((body, "it changes no code"))
-        if any(unused.ghost_text(before[file]) != unused.ghost_text(text) for file, text in texts.items()):
-            faults.append((body, "it changes a clause, a ghost item or an attribute"))
-        code = tuple(sorted((file, code_of(text)) for file, text in texts.items()))
-        twin = seen.setdefault(code, body)
-        if twin is not body:
-            faults.append((body, f"it leaves the same text as {twin.name}"))
-    return faults
+@functools.lru_cache(maxsize=None)
+def ghost_text(text):
+    """What a text of code has in contracts, ghost items and attributes, as words."""
+    tokens = unused.ghost_tokens(reader.tokens_of_text(text), ("Head", "Antt", "Text", "End"))
+    return " ".join(token.text for token in tokens)
 
 
 def changed(texts, body, folder):
-    """Returns the texts with the wrong body in them, or None where a text is not there just once."""
+    """The texts of files with the body in them, or None where a text is not there just once."""
     texts = dict(texts)
     for file, old, new in body.changes:
-        if file not in texts:
-            with open(f"{folder}/{file}", encoding="utf-8") as it:
-                texts[file] = it.read()
-        if texts[file].count(old) != 1:
+        text = texts.get(file) or file_at(folder, file).text
+        if text.count(old) != 1:
             return None
-        texts[file] = texts[file].replace(old, new)
+        texts[file] = text.replace(old, new)
     return texts
 
 
+def fault_of(body, folder, seen):
+    """What keeps a body of a crate from being tried, or nothing; `seen` has the texts of the bodies before it."""
+    outside = [file for file, _, _ in body.changes if not re.fullmatch(r"src/[\w/]+\.rt", file)]
+    if outside:
+        return f"it changes {outside[0]}, which is no file of src/"
+    texts = changed({}, body, folder)
+    if texts is None:
+        return "an old: text is not in its file just once"
+    before = {file: file_at(folder, file).text for file in texts}
+    if all(code_of(before[file]) == code_of(text) for file, text in texts.items()):
+        return "it changes no code"
+    if any(ghost_text(before[file]) != ghost_text(text) for file, text in texts.items()):
+        return "it changes a clause, a ghost item or an attribute"
+    twin = seen.setdefault(tuple(sorted((file, code_of(text)) for file, text in texts.items())), body)
+    return "" if twin is body else f"it leaves the same text as {twin.name}"
+
+
 def together(bodies, folder, texts, beside):
-    """Returns as many of the wrong bodies as fit into texts beside those in copies, each in functions of its own, and
-    the texts then."""
-    chosen = []
+    """As many of the bodies as fit into texts beside others, each in functions of its own, and the texts then."""
+    chosen, taken = [], {name for body in beside for name in body.functions}
     for body in bodies:
-        others = [*beside, *chosen]
-        if others and (body.alone or any(it.alone for it in others)):
-            continue
-        named = {name for it in others for name in it.functions}
-        apart = {name for it in others for name in it.apart}
-        if not (named & {*body.functions, *body.apart} or apart & {*body.functions}):
-            more = changed(texts, body, folder)
-            if more is not None:
-                chosen, texts = [*chosen, body], more
+        is_apart = taken and body.alone or any(it.alone for it in chosen)
+        more = None if is_apart or taken & {*body.functions} else changed(texts, body, folder)
+        if more is not None:
+            chosen, texts, taken = [*chosen, body], more, taken | {*body.functions}
     return chosen, texts
+
+
+# ---- copies of functions
 
 
 @dataclasses.dataclass
 class Copy:
     """A function once more, under another name."""
 
-    body: WrongBody  # which names the copy in place of the function
+    body: Body  # which names the copy in place of the function
     function: str  # that it is a copy of, by its path below the crate
     file: str
-    end: int  # the offset in the file at which the function ends
-    text: str  # of the copy, with what stands above the function
-
-
-@functools.lru_cache(maxsize=None)
-def file_at(folder, file):
-    """Returns a file of the code of a crate."""
-    return reader.files_at(os.path.dirname(folder), [f"{folder}/{file}"])[0]
+    end: int  # the place in the file at which the function ends
+    text: str  # of the copy, with its attributes
 
 
 def function_at(file, path):
-    """Returns the offsets of a function in the text of a file, by its path there: a free one, or one of an `impl` of
-    no trait."""
-    inner = [
-        one for item in file.declarations if item.kind == "impl" and [item.name] == path[:-1] for one in item.inner
-    ]
-    for one in inner if path[:-1] else file.declarations:
-        if one.kind == "fn" and [one.name] == path[-1:]:
-            ends = one.tokens[0].start, one.tokens[-1].start + 1
-            return [len(file.text.encode()[:end].decode()) for end in ends]
-    return 0, 0
+    """The function of a path in a file: a free one, or one of an `impl` of no trait. None where there is none."""
+    items = file.declarations
+    for name in path[:-1]:
+        items = [one for item in items if (item.kind, item.name) == ("impl", name) for one in item.inner]
+    return next((one for one in items if one.kind == "fn" and [one.name] == path[-1:]), None)
 
 
 def copy_of(body, ending, folder):
-    """Returns a copy of the function that a body changes, with this ending of its name. There is none where the body
-    changes something else too, of a function of a trait, and of one that calls itself."""
-    function, file = body.functions[0], body.changes[0][0]
-    before, texts = file_at(folder, file).text, changed({}, body, folder)
-    module = [] if file == "src/lib.rt" else file.removeprefix("src/").removesuffix(".rt").split("/")
+    """A copy of the function that a body changes, with this ending of its name. There is none where the body changes
+    something else too, of a function of a trait, and of one that calls itself."""
+    function, name = body.functions[0], body.changes[0][0]
+    file, texts = file_at(folder, name), changed({}, body, folder)
+    module = [] if file.module == "lib" else file.module.split(".")
     path = function.split("::")
-    begin, end = function_at(file_at(folder, file), path[len(module) :])
-    after = texts[file]
-    new_end = len(after) - len(before) + end
-    is_alone = len(body.functions) == len(texts) == 1 and path[: len(module)] == module
-    is_inside = after[:begin] == before[:begin] and after[new_end:] == before[end:]
-    line = before.rfind("\n", 0, begin) + 1
-    above = re.search(r"(^ *(///|#\[).*\n)*\Z", before[:line], re.M).group()
-    if not end or not is_alone or not is_inside or "#[cycle" in above:
+    one = function_at(file, path[len(module) :])
+    if not one or len(body.functions) > 1 or len(texts) > 1 or path[: len(module)] != module:
         return None
-    text = re.sub(rf"\bfn {path[-1]}\b", f"fn {path[-1]}_{ending}", after[line:new_end], count=1)
-    copied = dataclasses.replace(body, functions=[f"{function}_{ending}"], alone=False, apart=set())
-    return Copy(copied, function, file, end, above + text)
+    begin, end = file.extent(one.tokens)
+    new_end = len(texts[name]) - len(file.text) + end
+    is_inside = (texts[name][:begin], texts[name][new_end:]) == (file.text[:begin], file.text[end:])
+    if not is_inside or "cycle" in [token.text for token in one.attributes]:
+        return None
+    attributes = file.text[one.attributes[0].start : begin] if one.attributes else ""
+    text = re.sub(rf"\bfn {one.name}\b", f"fn {one.name}_{ending}", texts[name][begin:new_end], count=1)
+    renamed = dataclasses.replace(body, functions=[f"{function}_{ending}"], alone=False)
+    return Copy(renamed, function, name, end, attributes + text)
 
 
 def copies_of(bodies, folder):
-    """Returns copies of the functions that several bodies change, and one of each as it is."""
+    """Copies of the functions that several bodies change, and one of each as it is."""
     found = {}
     for number, body in enumerate(bodies):
         copy = copy_of(body, number, folder)
         if copy:
             found.setdefault(copy.function, []).append(copy)
-    several = [copies for copies in found.values() if len(copies) > 1]
-    for copies in several:
-        unchanged = [(file, old, old) for file, old, _ in copies[0].body.changes]
-        control = WrongBody(f"{copies[0].function} as it is", [copies[0].function], unchanged, is_control=True)
-        copies.append(copy_of(control, "as_it_is", folder))
-    return [copy for copies in several for copy in copies]
+    for function, copies in found.items():
+        if len(copies) > 1:
+            unchanged = [(file, old, old) for file, old, _ in copies[0].body.changes]
+            control = Body(f"{function} as it is", [function], unchanged, is_right=True, is_control=True)
+            yield from (*copies, copy_of(control, "as_it_is", folder))
 
 
 def with_copies(copies, folder):
-    """Returns the texts of the files with the copies in them, each after its function."""
-    texts = {copy.file: sources.read(f"{folder}/{copy.file}") for copy in copies}
+    """The texts of the files with the copies in them, each after its function."""
+    texts = {copy.file: file_at(folder, copy.file).text for copy in copies}
     for copy in sorted(copies, key=lambda it: -it.end):
         text = texts[copy.file]
         texts[copy.file] = f"{text[:copy.end]}\n\n{copy.text}{text[copy.end:]}"
@@ -243,64 +210,41 @@ def copy_proof(copy, name, room):
     if os.path.isdir(old_folder):
         shutil.copytree(old_folder, folder)
     for path in sources.files_below(folder, ".antt"):
-        text = sources.read(path).replace(old_module, module)
-        with open(path, "w", encoding="utf-8") as file:
-            file.write(text)
+        sources.write(path, sources.read(path).replace(old_module, module))
+
+
+# ---- checks
 
 
 def check(rtlib, crate, texts, functions, kept, copies=()):
-    """Returns what a check of these functions, or of all, says over a copy of the crate with the changed texts."""
+    """What a check of these functions, or of all, says over a copy of the crate with the changed texts."""
     with tempfile.TemporaryDirectory(prefix="wrong-bodies-") as room:
         for part in rtlib.PARTS:
             if os.path.isdir(f"{crate.folder}/{part}"):
                 shutil.copytree(f"{crate.folder}/{part}", f"{room}/{part}")
         for file, text in texts.items():
-            with open(f"{room}/{file}", "w", encoding="utf-8") as it:
-                it.write(text)
+            sources.write(f"{room}/{file}", text)
         for copy in copies:
             copy_proof(copy, crate.name, room)
-        command = [rtlib.RATTLE, "check", *crate.words(["--jobs", "1"], keeps=False), "--incremental", kept]
-        command += [it for function in functions for it in ("--only", function)]
-        how = {"cwd": room, "stdin": subprocess.DEVNULL, "stdout": subprocess.PIPE, "stderr": subprocess.STDOUT}
-        return subprocess.run([*rtlib.guarded(), *command], errors="replace", **how).stdout
-
-
-def verdict(crate, said, function):
-    """Returns what a check says of a function, or nothing."""
-    line = re.search(rf"^fn {crate.name}::{re.escape(function)}: (.*)$", said, re.M)
-    return line[1] if line else ""
-
-
-def called_unproved(crate, said, function):
-    """Returns the functions that this one calls, itself or through others, and that were not proved."""
-    found, left = set(), [function]
-    while left:
-        calls = verdict(crate, said, left.pop()).partition("it calls ")[2]
-        called = re.findall(rf"`{crate.name}::(\S+)`", calls)
-        left += [it for it in called if it not in found]
-        found |= {*called}
-    return found
+        words = [*crate.words(["--jobs", "1"], keeps=False), "--incremental", kept]
+        return libraries.check(rtlib, room, words + [it for name in functions for it in ("--only", name)])
 
 
 def outcome(crate, body, said):
-    """Returns "refused" where each function of a body is refused, "accepted" where one is not, and "unknown" where one
-    fails only by what it calls. A control is accepted there if the prover tried all its goals."""
-    lines = [verdict(crate, said, function) for function in body.functions]
-    if any(not line or line.startswith("proved") for line in lines):
-        return "accepted"
+    """What a check says of the functions of a body: "proved" or "refused" where it does so of each, "unknown" where
+    one fails only by what it calls, and else "neither". A control that fails so is as good as proved, if all its goals
+    were tried."""
+    found = [re.search(rf"^fn {crate.name}::{re.escape(it)}: (.*)$", said, re.M) for it in body.functions]
+    lines = [line[1] if line else "" for line in found]
+    are_proved = [line.startswith("proved") for line in lines]
+    if all(are_proved):
+        return "proved"
+    if any(are_proved) or not all(lines):
+        return "neither"
     if all(REFUSED.match(line) for line in lines):
         return "refused"
-    is_tried = not any(NOT_TRIED.format(crate.name, function) in said for function in body.functions)
-    return "accepted" if body.is_control and is_tried else "unknown"
-
-
-def fault_of_outcome(crate, body, said):
-    """Returns what is wrong with the outcome of a body, or nothing."""
-    is_accepted = outcome(crate, body, said) == "accepted"
-    if not body.is_right and not body.is_control:
-        return f"{body.name}: NOT REFUSED" if is_accepted else ""
-    is_reported = all(verdict(crate, said, function) for function in body.functions)
-    return "" if is_accepted and is_reported else f"{body.name}: it is right, and not reported as not refused"
+    are_tried = not any(NOT_TRIED.format(crate.name, it) in said for it in body.functions)
+    return "proved" if body.is_control and are_tried else "unknown"
 
 
 @dataclasses.dataclass
@@ -314,50 +258,58 @@ class Tried:
 
     def judge(self, crate, bodies, said):
         """Counts what a check says of bodies, and returns those that it does not judge."""
-        again = [body for body in bodies if outcome(crate, body, said) == "unknown"]
+        again = []
         for body in bodies:
-            fault = fault_of_outcome(crate, body, said)
-            if body not in again:
-                self.lines += [fault] if fault else []
-                is_right = body.is_right or body.is_control
-                self.accepted += is_right and not fault
-                self.refused += not is_right and not fault
+            found = outcome(crate, body, said)
+            if found == "unknown":
+                again.append(body)
+            elif found == ("proved" if body.is_right else "refused"):
+                self.accepted += body.is_right
+                self.refused += not body.is_right
+            else:
+                fault = "it is right, and not reported as not refused" if body.is_right else "NOT REFUSED"
+                self.lines.append(f"{body.name}: {fault}")
         if not re.search(r"^(only|logic)=", said, re.M):
             self.lines += ["the check did not reach its end:", *said.split("\n")[:6]]
         self.checks += 1
         return again
 
 
-def begin_with_proofs(crate, kept):
-    """Copies what the last check of a crate proved, so that only what its wrong bodies change is proved again."""
-    proved = f"{crate.folder}/out/incremental"
-    if os.path.isdir(proved):
-        shutil.copytree(proved, kept, dirs_exist_ok=True)
+def try_bodies(rtlib, crate, bodies, kept, tried):
+    """Tries bodies: in the first check all copies, and what fits beside them in its place. Those that are not judged
+    are tried again, those in place alone where no other was judged."""
+    copies = list(copies_of(bodies, crate.folder))
+    copied = {copy.body.name for copy in copies}
+    left = [body for body in bodies if body.name not in copied]
+    while copies or left:
+        beside = [copy.body for copy in copies]
+        chosen, texts = together(left, crate.folder, with_copies(copies, crate.folder), beside)
+        asked = [*beside, *chosen]
+        said = check(rtlib, crate, texts, [name for body in asked for name in body.functions], kept, copies)
+        again = tried.judge(crate, asked, said)
+        left = [body for body in left if body not in chosen]
+        if again == asked and (copies or len(asked) == 1):
+            tried.lines += [f"{body.name}: not judged" for body in again]
+            copies = []
+        else:
+            copies = [copy for copy in copies if copy.body in again]
+            left += [dataclasses.replace(body, alone=again == asked) for body in chosen if body in again]
 
 
 def try_all(rtlib, crate):
-    """Tries the bodies of a crate: in the first check all copies, and what fits beside them in its place."""
-    bodies = [*bodies_of(crate.folder), *bodies_of(crate.folder, "right-bodies")]
-    faults = faults_of(bodies, crate.folder)
-    bodies = [body for body in bodies if body not in [it for it, _ in faults]]
-    tried = Tried(lines=[f"{body.name}: {reason}" for body, reason in faults])
-    copies = copies_of(bodies, crate.folder)
-    left = [body for body in bodies if body.name not in {copy.body.name for copy in copies}]
+    """Tries the wrong and the right bodies of a crate, over what its last check proved."""
+    tried, seen, left = Tried(), {}, []
+    for body in bodies_of(crate.folder):
+        fault = fault_of(body, crate.folder, seen)
+        if fault:
+            tried.lines.append(f"{body.name}: {fault}")
+        else:
+            left.append(body)
     with tempfile.TemporaryDirectory(prefix="wrong-bodies-kept-") as kept:
-        begin_with_proofs(crate, kept)
-        while copies or left:
-            beside = [copy.body for copy in copies]
-            chosen, texts = together(left, crate.folder, with_copies(copies, crate.folder), beside)
-            names = [name for body in [*beside, *chosen] for name in body.functions]
-            said = check(rtlib, crate, texts, names, kept, copies)
-            again = tried.judge(crate, [*beside, *chosen], said)
-            if again == [*beside, *chosen]:
-                tried.lines += [f"{body.name}: not judged" for body in again]
-                break
-            for body in again:
-                body.apart.update(*(called_unproved(crate, said, name) for name in body.functions))
-            copies = [copy for copy in copies if copy.body in again]
-            left = [body for body in left if body in again or body not in chosen]
+        proved = f"{crate.folder}/out/incremental"
+        if os.path.isdir(proved):
+            shutil.copytree(proved, kept, dirs_exist_ok=True)
+        try_bodies(rtlib, crate, left, kept, tried)
     print(f"{crate.name}: {tried.refused} refused, {tried.accepted} accepted, in {tried.checks} checks", flush=True)
     return tried
 
@@ -367,41 +319,29 @@ def arguments():
     parser.add_argument(
         "crates", nargs="*", metavar="CRATE", help="a crate of crates.txt (all that have wrong bodies)"
     )
-    parser.add_argument(
-        "--built",
-        action="store_true",
-        help="take the libraries below as `rt ci` left them; else build those that changed",
-    )
+    built = "take the libraries below as `rt ci` left them; else build those that changed"
+    parser.add_argument("--built", action="store_true", help=built)
     given, known = parser.parse_args(), sources.crates_of(sources.TOP)
     for name in given.crates:
         if name not in known:
             parser.error(f"no crate {name} in crates.txt, which has: {' '.join(known)}")
-    return given
-
-
-def chosen_crates(names):
-    """The folders of the crates that have wrong bodies, the names of those that were asked for and have none."""
-    paths = {name: os.path.join(sources.TOP, "crates", name) for name in names or sources.crates_of(sources.TOP)}
-    folders = [os.path.realpath(path) for path in paths.values() if bodies_of(path)]
-    return folders, [name for name in names if not bodies_of(paths[name])]
+    return given, known
 
 
 def main():
-    given = arguments()
-    folders, without = chosen_crates(given.crates)
-    if without or not folders:
+    given, known = arguments()
+    bodies = {name: bodies_of(f"{sources.TOP}/crates/{name}") for name in given.crates or known}
+    counts = {name: len(found) for name, found in bodies.items() if any(not body.is_right for body in found)}
+    without = [name for name in given.crates if name not in counts]
+    if without or not counts:
         print(f"no wrong bodies in {', '.join(without) or 'any crate'}: nothing was tried")
         print("0 passed, 1 failed")
         return 1
-    rtlib = kit()
-    rtlib.guarded()
-    crates = [it for it in rtlib.crates_below(sources.TOP) if os.path.realpath(it.folder) in folders]
-    if len(crates) != len(folders):
-        stop(f"the kit finds {len(crates)} of {len(folders)} crates below {sources.TOP}")
-    if not given.built:
-        if any(dep.build_rlib(["--jobs", "1"], anew=False) for crate in crates for dep in crate.below()):
-            return 1
-    crates.sort(key=lambda it: -len(bodies_of(it.folder)))
+    rtlib = libraries.kit()
+    of_kit = {it.name: it for it in rtlib.crates_below(sources.TOP)}
+    crates = [of_kit[name] for name in sorted(counts, key=lambda it: -counts[it])]
+    if libraries.build(list(dict.fromkeys(dep for crate in crates for dep in crate.below())), given.built):
+        return 1
     with concurrent.futures.ThreadPoolExecutor(len(os.sched_getaffinity(0))) as pool:
         results = [*pool.map(lambda it: try_all(rtlib, it), crates)]
     failed = [f"{crate.name}/{line}" for crate, tried in zip(crates, results) for line in tried.lines]

@@ -7,10 +7,11 @@ import contextlib
 import io
 import re
 import sys
+import types
 import unittest
 from unittest import mock
 
-from support import InCopy, module, read, run, write
+from support import TOP, InCopy, module, read, run
 
 believed_rows = module("believed_rows")
 
@@ -27,25 +28,23 @@ class Believed(InCopy):
         super().setUpClass()
         if run("believed.py", "--write", "--top", cls.folder)[0] != 0:
             raise AssertionError("believed.py --write failed")
-        said = run("believed.py", "--top", cls.folder)[1]
-        cls.lines = int(re.search(r"to be believed: (\d+) lines", said).group(1))
-        readme = read(f"{cls.folder}/README.md")
-        write(f"{cls.folder}/README.md", re.sub(r"[\d,]+(\s+lines\s+of\s+\[def)", rf"{cls.lines:,}\1", readme))
 
     def check(self):
         return run("believed.py", "--check", "--top", self.folder)
 
     def test_what_write_leaves_is_right(self):
-        self.assertEqual(self.check(), (0, ""))
+        status, said = self.check()
+        self.assertEqual(status, 0, said)
+        self.assertRegex(said, r"^\d{4} lines to believe: \d+ of definitions, \d+ of the code, \d+ of std\n$")
 
-    def test_page(self):
-        """Nonsense for a description or a reason, a row or a mark that is gone, another number in README."""
-        feed, why, number = (
-            "| `LF` | the line feed |",
-            "Why: `penalty`: in the manner of 7.8.3.",
-            f"{self.lines:,} lines",
-        )
+    def test_changes(self):
+        """Another row, reason, mark or number on the pages; another comment, clause, call or crate in the files."""
+        feed, why, says = "| `LF` | the line feed |", "Why: `penalty`: in the manner of 7.8.3.", "as the files give it"
+        number = re.search(r"[\d,]+ lines of \[definitions", read(self.path("README.md"))).group()
         fault = re.search(r"\| type `Fault` .*\n", read(self.path(PAGE))).group()
+        lines, penalty = "crates/labelcore/specs/Lines.antt", "crates/qrmatrix/specs/Penalty.antt"
+        entry, held_line = "crates/command/src/entry.rt", "crates/labelcore/specs/HeldLine.antt"
+        for_take = "| `take` | the first n elements of a list |\n"
         changes = (
             (PAGE, feed, "| `LF` | purple elephants |", f"-| `LF` | purple elephants |\n+{feed}"),
             (PAGE, f"{feed}\n", "", f"+{feed}"),
@@ -57,34 +56,18 @@ class Believed(InCopy):
                 "",
                 "lacks the line '<!-- code: begin -->' or, after it, the line '<!-- code: end",
             ),
-            ("README.md", number, f"{self.lines + 1:,} lines", f"{self.lines + 1:,}, where '{number} of"),
-            ("README.md", number, "few lines", f"says nothing, where '{number} of"),
-        )
-        self.assert_changes_fail(changes, self.check)
-
-    def test_specs_and_code(self):
-        """Another comment, clause, call or crate, a reason for what is not there, a definition that is gone."""
-        penalty, entry, says = (
-            "crates/qrmatrix/specs/Penalty.antt",
-            "crates/command/src/entry.rt",
-            "is not what the files",
-        )
-        changes = (
-            (
-                "crates/labelcore/specs/Lines.antt",
-                "-- the line feed",
-                "-- the carriage return",
-                "+| `LF` | the carriage",
-            ),
+            (PAGE, for_take, "", "does not say what take means"),
+            (PAGE, for_take, f"{for_take}| `no` | a name |\n", "says what no means, on which no definition leans"),
+            ("README.md", number, f"9,{number}", f"{number}"),
+            ("README.md", number, "few lines of [definitions", "has no number of lines"),
+            (lines, "-- the line feed", "-- the carriage return", "+| `LF` | the carriage"),
             (penalty, "`penalty`: in the", "`fine`: in the", f"{penalty}: 'Why: "),
             (penalty, "`penalty`: in the", "in the", f"{penalty}: 'Why: "),
             ("crates/device/src/sink.rt", "        requires { 0 < length bytes.now }\n", "", "trait `Sink`"),
             (entry, "known.items)))\n        (λ early", "known.items))) (λ early", says),
             ("crates.txt", "gf256:", "gf65536:\ngf256:", "gf65536"),
             ("crates/labels/src/main.rt", "from(program(", "from(other(", "does not call program"),
-            ("scripts/std_names.txt", "\ntake  ", "\ntaken  ", "does not say what take means"),
-            ("scripts/std_names.txt", "\nnot  ", "\nno  a name\nnot  ", "has no, on which no definition leans"),
-            ("crates/labelcore/specs/HeldLine.antt", "pub line_limit :", "pub line_bound :", "has no line_limit"),
+            (held_line, "pub line_limit :", "pub line_bound :", "has no line_limit"),
         )
         self.assert_changes_fail(changes, self.check)
 
@@ -96,26 +79,27 @@ class Rows(InCopy):
         return run("believed_rows.py", "--top", self.folder)
 
     def test_as_it_is(self):
+        """With another comment too."""
+        reading = "crates/picture/specs/Reading.antt"
+        text = read(self.path(reading))
+        self.assertIn("-- the decimal number that", text)
+        self.replace(reading, text.replace("-- the decimal number that", "-- the number that"))
         status, said = self.check()
         self.assertEqual(status, 0, said)
         self.assertRegex(said, r"^\d{4} changes of \d{3} definitions are refused, \d+ mean the same\n$")
 
-    def test_another_comment(self):
-        reading = "crates/picture/specs/Reading.antt"
-        text = read(self.path(reading))
-        self.replace(reading, text.replace("-- the decimal number that", "-- the number that"))
-        self.assertEqual((self.check()[0], "-- the decimal number that" in text), (0, True))
-
     def test_changes(self):
-        """Another definition or worked value, a definition without a result, a result without a definition."""
-        reading, white = "crates/picture/specs/Reading.antt", "picture/Reading is_white"
-        line = re.search(rf"^{white} .*\n", read(self.path(RESULTS)), re.M).group()
+        """Another definition or worked value, a file without a result, a result without a file."""
+        reading, examples = "crates/picture/specs/Reading.antt", "crates/picture/proofs/Examples.antt"
+        not_judged = "picture/Reading: not as it was judged"
+        line = re.search(r"^picture/Reading .*\n", read(self.path(RESULTS)), re.M).group()
         changes = (
-            (RESULTS, "\ntesting/FailAt ", f"\nopen: {white}\ntesting/FailAt ", f"{white}: open, and judged"),
-            (reading, "b == 32 || b == 9", "b == 32 || b == 8", f"{white}: not as it was judged"),
-            ("crates/picture/proofs/Examples.antt", "white = refl", "", f"{white}: not as it was judged"),
-            (RESULTS, line, "", f"{white}: not judged"),
-            (RESULTS, f"{white} ", "picture/Reading is_black ", "picture/Reading is_black: no such definition"),
+            (reading, "b == 32 || b == 9", "b == 32 || b == 8", not_judged),
+            (reading, "b == 32 || b == 9", "b == 32 && b == 9", not_judged),
+            (examples, "white = refl", "", not_judged),
+            (RESULTS, line, "", not_judged),
+            (RESULTS, line, line.replace(" white", ""), not_judged),
+            (RESULTS, "picture/Reading ", "picture/Writing ", "picture/Writing: no such file"),
             (RESULTS, "linear/Ean ¦ (replicate @ A) ¦ 5", "linear/Ean ¦ (replicate @ B) ¦ 5", "no such change"),
         )
         self.assert_changes_fail(changes, self.check)
@@ -125,18 +109,17 @@ class Sample(unittest.TestCase):
     """Changes that are judged again, by a stand-in of the prover."""
 
     def sampled(self, refuses):
-        """The status of --sample and what it prints, where `refuses` says whether a change of one crate is refused."""
+        """The status of --sample and its last line, where `refuses` says whether a change is refused."""
 
-        def judge(_rtlib, _words, _specs, _parts, changes, lines):
+        def judge(_rtlib, _words, _crate, changes, values):
             for change in changes:
-                change.by = "value" if refuses(change, lines) else ""
+                self.assertIn(believed_rows.title_of(change.file), values)
+                change.by = "value" if refuses(change) else ""
 
         kit = mock.Mock()
-        kit.crates_below.return_value = [mock.Mock() for _ in believed_rows.CRATES]
-        for crate, name in zip(kit.crates_below.return_value, believed_rows.CRATES):
-            crate.name = name
+        kit.crates_below.return_value = [types.SimpleNamespace(name=name) for name in believed_rows.CRATES]
         with (
-            mock.patch.object(believed_rows.wrong_bodies, "kit", return_value=kit),
+            mock.patch.object(believed_rows.libraries, "kit", return_value=kit),
             mock.patch.object(believed_rows, "words_for"),
             mock.patch.object(believed_rows, "judge", judge),
             mock.patch.object(sys, "argv", ["believed_rows.py", "--sample", "--seed", "1"]),
@@ -146,33 +129,23 @@ class Sample(unittest.TestCase):
 
     def test_sample(self):
         """All is as judged where the changes are refused and those that mean the same are not."""
-        same = believed_rows.read_results(believed_rows.sources.TOP)[1]
-        self.assertGreater(len(same), 20)
-
-        def as_judged(change, lines):
-            file = f"{change.file.crate}/{change.file.module}"
-            return not any(
-                one == file
-                and change.new in values.split()
-                and believed_rows.place_of(change.file.text, pattern) == change.at
-                for one, pattern, values, _ in same
-            )
-
-        for refuses, status, last in (
-            (as_judged, 0, "30 changes judged again, 2 mean the same, 0 not as judged"),
-            (lambda change, lines: True, 1, "30 changes judged again, 2 mean the same, 2 not as judged"),
-            (lambda change, lines: False, 1, "30 changes judged again, 2 mean the same, 30 not as judged"),
+        for refuses, status, wrong in (
+            (lambda change: not change.is_same, 0, 0),
+            (lambda change: True, 1, 2),
+            (lambda change: False, 1, 30),
         ):
-            with self.subTest(last):
+            with self.subTest(wrong):
+                last = f"30 changes judged again, 2 mean the same, {wrong} not as judged"
                 self.assertEqual(self.sampled(refuses), (status, last))
 
     def test_judged_by_own_values(self):
-        """A worked value that is not in the line of a definition does not judge it."""
-        first = believed_rows.Block("first", "first : one ≡ 1\nfirst = refl")
-        other = believed_rows.Block("other", "other : one ≡ one\nother = refl")
-        one = believed_rows.Block("one", "one : ℕ\none = 1")
-        self.assertEqual(believed_rows.with_values([one, first, other], ["first"]), [one, first])
-        self.assertEqual(believed_rows.joined(believed_rows.with_values([one, first], ["gone"])), "")
+        """A worked value that is not in the line of a file does not judge it."""
+        (file,) = believed_rows.reader.files_at(TOP, [f"{TOP}/crates/gf256/proofs/Examples.antt"])
+        worked = [one.name for one in file.declarations if believed_rows.is_worked(one)]
+        left = believed_rows.with_values(file, worked[:1])
+        self.assertEqual([name for name in worked if f"\n{name} :" in left], worked[:1])
+        self.assertEqual(believed_rows.with_values(file, worked), file.text)
+        self.assertEqual(believed_rows.with_values(file, ["gone"]), "")
 
 
 if __name__ == "__main__":

@@ -3,44 +3,37 @@
 Run by `python3 -m unittest discover -s scripts/tests`. No kit, no third-party tool and no built program is needed.
 """
 
-import os
 import unittest
 from unittest import mock
 
 from support import InFolder, module, write
 
 libraries = module("libraries")
+LEFT = ["one.rlib/format"]
 
 
 class Libraries(InFolder):
-    def library(self, name, files, fails=False):
-        """A library of which `rt` left these files in out/rlib."""
-        for file in files:
-            write(os.path.join(self.folder, name, file), "")
-        one = mock.Mock(rlib=os.path.join(self.folder, name, "one.rlib"))
-        one.name = name
-        one.build_rlib.return_value = int(fails)
-        return one
-
-    def built(self, *crates, as_left):
-        said = libraries.build(crates, as_left)
-        return said, [it.name for it in crates if it.build_rlib.called]
-
-    def test_left_by_ci(self):
-        low, high = (self.library(name, ["one.rlib/format"]) for name in ("low", "high"))
-        self.assertEqual(self.built(low, high, as_left=True), ("", []))
-        self.assertEqual(self.built(low, high, as_left=False), ("", ["low", "high"]))
-
-    def test_of_an_earlier_session(self):
-        """A stamp, or a library that is not there: all are built, where they are not as their sources are."""
-        left = self.library("left", ["one.rlib/format"])
-        for name, files in (("stamped", ["one.rlib/format", "stamp"]), ("none", [])):
-            with self.subTest(name):
-                self.assertEqual(self.built(left, self.library(name, files), as_left=True), ("", ["left", name]))
-
-    def test_not_proved(self):
-        wrong = self.library("wrong", [], fails=True)
-        self.assertEqual(self.built(wrong, self.library("above", []), as_left=True), ("wrong", ["wrong"]))
+    def test_build(self):
+        """A stamp, a library that is not there, or no leave to take them: all are built, up to one that fails."""
+        for number, (files, as_left, wanted) in enumerate(
+            (
+                ({"low": LEFT, "high": LEFT}, True, ("", [])),
+                ({"low": LEFT, "high": LEFT}, False, ("", ["low", "high"])),
+                ({"left": LEFT, "stamped": [*LEFT, "stamp"]}, True, ("", ["left", "stamped"])),
+                ({"left": LEFT, "none": []}, True, ("", ["left", "none"])),
+                ({"wrong": [], "above": []}, True, ("wrong", ["wrong"])),
+            )
+        ):
+            with self.subTest(files=files, as_left=as_left):
+                crates = []
+                for name, left in files.items():
+                    for file in left:
+                        write(self.path(str(number), name, file), "")
+                    crate = mock.Mock(rlib=self.path(str(number), name, "one.rlib"))
+                    crate.configure_mock(name=name, **{"build_rlib.return_value": int(name == "wrong")})
+                    crates.append(crate)
+                said = libraries.build(crates, as_left)
+                self.assertEqual((said, [it.name for it in crates if it.build_rlib.called]), wanted)
 
 
 if __name__ == "__main__":

@@ -9,6 +9,7 @@ import io
 import os
 import re
 import shutil
+import types
 import unittest
 from unittest import mock
 
@@ -74,43 +75,35 @@ pub(crate) trait Named {
 class Reader(InFolder):
     """Items are found by their brackets, whatever is in comments, texts and characters."""
 
-    def items(self):
-        write(self.path("crates/one/src/lib.rt"), CODE)
+    def items(self, text):
+        write(self.path("crates/one/src/lib.rt"), text)
         return reader.files_of(self.folder, ["one"], "src")[0].declarations
 
     def test_items(self):
-        found = [(item.kind, item.name, item.is_public) for item in self.items() if item.kind != "use"]
-        self.assertEqual(found, [("fn", "brace", True), ("trait", "Named", False)])
-
-    def test_what_is_stated(self):
-        brace, _, named = self.items()
-        self.assertEqual(brace.about, "A brace.")
+        brace, _, named = self.items(CODE)
+        self.assertEqual((brace.kind, brace.name, brace.is_public, brace.about), ("fn", "brace", True, "A brace."))
+        self.assertEqual((named.kind, named.name, named.is_public), ("trait", "Named", False))
         self.assertEqual([item.kind for item in named.inner], ["ghost", "fn"])
         self.assertEqual((brace.lines, named.lines), (3, 5))
 
     def test_file_that_cannot_be_read(self):
-        write(self.path("crates/one/src/lib.rt"), "fn one() ensures { 1 ")
         with self.assertRaises(SystemExit):
-            reader.files_of(self.folder, ["one"], "src")
+            self.items("fn one() ensures { 1 ")
 
 
 class WrongBodies(InFolder):
     """No crate passes unseen."""
 
-    def test_misspelled_crate(self):
-        status, said = run("wrong_bodies.py", "labelcor")
-        self.assertEqual(status, 2)
-        self.assertIn("no crate labelcor", said)
-
-    def test_crate_without_wrong_bodies(self):
-        status, said = run("wrong_bodies.py", "labels")
-        self.assertEqual(status, 1)
-        self.assertIn("no wrong bodies in labels", said)
-
-    def test_no_kit(self):
-        status, said = run("wrong_bodies.py", "gf256", PATH=self.bare_path())
-        self.assertEqual(status, 2)
-        self.assertIn("rt is not on the path", said)
+    def test_crates(self):
+        """A misspelled crate, one without wrong bodies, no kit."""
+        for crate, path, status, wanted in (
+            ("labelcor", os.environ["PATH"], 2, "no crate labelcor"),
+            ("labels", os.environ["PATH"], 1, "no wrong bodies in labels"),
+            ("gf256", self.bare_path(), 2, "rt is not on the path"),
+        ):
+            with self.subTest(wanted):
+                found, said = run("wrong_bodies.py", crate, PATH=path)
+                self.assertEqual((found, wanted in said), (status, True), said)
 
 
 # A check that the kit made: what it says of a function, and its last line.
@@ -126,21 +119,12 @@ pub fn one() -> u8
 EDIT = "refused: one\nfile: src/lib.rt\nold:     1\nnew:     {}\n"
 
 
-class Small:
-    """Stands in for the kit's crate."""
-
-    name = "small"
-
-    def __init__(self, folder):
-        self.folder = folder
-
-
 class Outcomes(InFolder):
     """What comes of bodies, by a stand-in of the kit's check."""
 
     def setUp(self):
         super().setUp()
-        self.crate = Small(self.folder)
+        self.crate = types.SimpleNamespace(name="small", folder=self.folder)
         write(self.path("src/lib.rt"), ONE)
 
     def edit(self, text, kind="wrong-bodies", name="one"):
@@ -148,37 +132,30 @@ class Outcomes(InFolder):
 
     def tried(self, *said):
         """What comes of the bodies, where the checks say this, one after the other."""
-        with mock.patch.object(wrong_bodies, "check", side_effect=[SAID.format(it) for it in said]):
+        with mock.patch.object(wrong_bodies, "check", side_effect=said):
             with contextlib.redirect_stdout(io.StringIO()):
                 tried = wrong_bodies.try_all(None, self.crate)
         return tried.refused, tried.accepted, tried.lines
 
-    def test_wrong_bodies(self):
-        self.edit(EDIT.format("2"))
-        for said, wanted in (
-            (["not proved"], (1, 0, [])),
-            (["no proof: expected answers for it"], (1, 0, [])),
-            (["proved"], (0, 0, ["one: NOT REFUSED"])),
-            ([CALLS], (0, 0, ["one: not judged"])),
-            (["was not reached"], (0, 0, ["one: not judged"])),
+    def test_what_a_check_says(self):
+        wrong = ["one: it is right, and not reported as not refused"]
+        unended = ["the check did not reach its end:", "fn small::one: not proved", "killed"]
+        for kind, said, wanted in (
+            ("wrong-bodies", SAID.format("not proved"), (1, 0, [])),
+            ("wrong-bodies", SAID.format("no proof: expected answers for it"), (1, 0, [])),
+            ("wrong-bodies", SAID.format("proved"), (0, 0, ["one: NOT REFUSED"])),
+            ("wrong-bodies", "only=1 proved=0\n", (0, 0, ["one: NOT REFUSED"])),
+            ("wrong-bodies", SAID.format(CALLS), (0, 0, ["one: not judged"])),
+            ("wrong-bodies", SAID.format("was not reached"), (0, 0, ["one: not judged"])),
+            ("wrong-bodies", "fn small::one: not proved\nkilled", (1, 0, unended)),
+            ("right-bodies", SAID.format("proved"), (0, 1, [])),
+            ("right-bodies", SAID.format("not proved"), (0, 0, wrong)),
+            ("right-bodies", "only=1 proved=0\n", (0, 0, wrong)),
         ):
-            with self.subTest(said):
-                self.assertEqual(self.tried(*said), wanted)
-
-    def test_right_bodies(self):
-        self.edit(EDIT.format("0 + 1"), "right-bodies")
-        wrong = "one: it is right, and not reported as not refused"
-        self.assertEqual(self.tried("proved"), (0, 1, []))
-        self.assertEqual(self.tried("not proved"), (0, 0, [wrong]))
-        self.edit(EDIT.format("0 + 1").replace("refused: one", "refused: none"), "right-bodies")
-        self.assertEqual(self.tried("proved"), (0, 0, [wrong]))
-
-    def test_check_that_did_not_end(self):
-        self.edit(EDIT.format("2"))
-        with mock.patch.object(wrong_bodies, "check", return_value="fn small::one: not proved\nkilled\n"):
-            with contextlib.redirect_stdout(io.StringIO()):
-                lines = wrong_bodies.try_all(None, self.crate).lines
-        self.assertIn("the check did not reach its end:", lines)
+            with self.subTest(kind=kind, said=said):
+                self.edit(EDIT.format("0 + 1"), kind)
+                self.assertEqual(self.tried(said), wanted)
+                shutil.rmtree(self.path(kind))
 
     def test_bodies_that_are_not_tried(self):
         """A body that no longer applies, or changes something else than a body, is a fault, whatever a check says."""
@@ -197,10 +174,15 @@ class Outcomes(InFolder):
     def test_two_of_one_text(self):
         self.edit(EDIT.format("2"))
         self.edit(EDIT.format(" 2"), name="two")
-        self.assertEqual(self.tried("not proved"), (1, 0, ["two: it leaves the same text as one"]))
+        self.assertEqual(self.tried(SAID.format("not proved")), (1, 0, ["two: it leaves the same text as one"]))
+
+    def of_copies(self, *said):
+        """What a check says of two copies of a function, and of the one as it is."""
+        names = ("one_0", "one_1", "one_as_it_is")
+        return "".join(f"fn small::{name}: {line}\n" for name, line in zip(names, said)) + "only=3 proved=1\n"
 
     def test_two_of_one_function(self):
-        """Both are tried in copies of the function, beside one that has to be proved as it is."""
+        """Both are tried in copies of the function, beside one in which nothing may be wrong as it is."""
         self.edit(EDIT.format("2"))
         self.edit(EDIT.format("3"), name="two")
         refused = "not proved"
@@ -213,43 +195,59 @@ class Outcomes(InFolder):
         ):
             with self.subTest(said):
                 self.assertEqual(self.tried(self.of_copies(*said)), wanted)
-        self.assertEqual(self.tried(refused), (0, 0, ["one: NOT REFUSED", "two: NOT REFUSED", control]))
-        # A copy that fails only by what it calls is tried again, and so is a control whose goals were not all tried.
-        for said, wanted in (
-            (refused, (2, 1, [])),
-            ("proved", (1, 1, ["one: NOT REFUSED"])),
-            (CALLS, (1, 1, ["one: not judged"])),
-        ):
-            with self.subTest(again=said):
-                first, again = self.of_copies(CALLS, refused, "proved"), f"not asked\nfn small::one_0: {said}"
-                self.assertEqual(self.tried(first, again), wanted)
-        waits = "\nnote: `search` has not tried the goals of `small::one_as_it_is`, which wait for a callee's proof"
-        first = self.of_copies(refused, refused, CALLS) + waits
-        for said, wanted in (("proved", (2, 1, [])), (refused, (2, 0, [control]))):
-            with self.subTest(control=said):
-                self.assertEqual(self.tried(first, f"not asked\nfn small::one_as_it_is: {said}"), wanted)
+        self.assertEqual(self.tried("only=3\n"), (0, 0, ["one: NOT REFUSED", "two: NOT REFUSED", control]))
 
-    def of_copies(self, *said):
-        """What a check says of two copies of a function, and of the one as it is."""
-        lines = "\nfn small::".join(map("{}: {}".format, ("one_0", "one_1", "one_as_it_is"), said))
-        return f"not asked\nfn small::{lines}"
+    def test_copies_that_are_not_judged(self):
+        """They are tried again: one that fails only by what it calls, and a control whose goals were not all tried."""
+        self.edit(EDIT.format("2"))
+        self.edit(EDIT.format("3"), name="two")
+        unknown = self.of_copies(CALLS, "not proved", "proved")
+        waits = "note: `search` has not tried the goals of `small::one_as_it_is`, which wait for a callee's proof\n"
+        untried = waits + self.of_copies("not proved", "not proved", CALLS)
+        control = "one as it is: it is right, and not reported as not refused"
+        for first, name, said, wanted in (
+            (unknown, "one_0", "not proved", (2, 1, [])),
+            (unknown, "one_0", "proved", (1, 1, ["one: NOT REFUSED"])),
+            (unknown, "one_0", CALLS, (1, 1, ["one: not judged"])),
+            (untried, "one_as_it_is", "proved", (2, 1, [])),
+            (untried, "one_as_it_is", "not proved", (2, 0, [control])),
+        ):
+            with self.subTest(name=name, said=said):
+                self.assertEqual(self.tried(first, f"fn small::{name}: {said}\nonly=1 proved=0\n"), wanted)
 
     def test_copies_beside_others(self):
         """One check tries copies, and bodies in the places of other functions; what has to be alone comes after."""
-        write(self.path("src/lib.rt"), ONE + "pub fn other() -> u8 {\n    4\n}\npub fn third() -> u8 {\n    7\n}\n")
+        text = ONE + "\nfn other() -> u8 {\n    7\n}\n\nfn third() -> u8 {\n    9\n}\n"
+        write(self.path("src/lib.rt"), text)
         self.edit(EDIT.format("2"), name="a")
         self.edit(EDIT.format("3"), name="b")
-        other = "refused: other\nfile: src/lib.rt\nold:     4\nnew:     5\n"
-        self.edit(other, name="c")
-        self.edit(other.replace("other", "third").replace("4", "7") + "alone: it is read by all\n", name="d")
-        first = self.of_copies("not proved", "not proved", CALLS) + "\nfn small::other: not proved"
-        self.assertEqual(self.tried(first, "not asked\nfn small::third: not proved"), (4, 1, []))
+        self.edit("refused: other\nfile: src/lib.rt\nold:     7\nnew:     8\n", name="c")
+        self.edit("refused: third\nalone: it is read\nfile: src/lib.rt\nold:     9\nnew:     8\n", name="d")
+        first = "fn small::other: not proved\n" + self.of_copies("not proved", "not proved", CALLS)
+        self.assertEqual(self.tried(first, "fn small::third: not proved\nonly=1 proved=0\n"), (4, 1, []))
+
+    def test_two_functions(self):
+        """They are tried in one check, and what fails by what it calls once more; alone where no other was judged."""
+        write(self.path("src/lib.rt"), ONE + "\nfn other() -> u8 {\n    7\n}\n")
+        self.edit(EDIT.format("2"))
+        self.edit(EDIT.format("8").replace("one", "other").replace("    1", "    7"), name="other")
+        both, end = "fn small::one: {}\nfn small::other: {}\n", "only=2 proved=0\n"
+        refused, unknown = both.format("not proved", CALLS) + end, both.format(CALLS, CALLS) + end
+        again = both.format("", "not proved") + end
+        for said, wanted in (
+            ([refused, again], (2, 0, [])),
+            ([refused, unknown], (1, 0, ["other: not judged"])),
+            ([unknown, SAID.format("not proved"), again], (2, 0, [])),
+            ([unknown, unknown, unknown], (0, 0, ["one: not judged", "other: not judged"])),
+        ):
+            with self.subTest(said):
+                self.assertEqual(self.tried(*said), wanted)
 
     def test_copies(self):
         """A copy has the text of its own body and a proof of its own; the function stands as it is."""
         self.edit(EDIT.format("2"))
         self.edit(EDIT.format("3"), name="two")
-        copies = wrong_bodies.copies_of(wrong_bodies.bodies_of(self.folder), self.folder)
+        copies = list(wrong_bodies.copies_of(wrong_bodies.bodies_of(self.folder), self.folder))
         text = wrong_bodies.with_copies(copies, self.folder)["src/lib.rt"]
         self.assertTrue(text.startswith(ONE.rstrip()))
         names = [*zip(re.findall(r"pub fn (\w+)\(", text), re.findall(r"^    (\d)$", text, re.M))]
@@ -257,9 +255,8 @@ class Outcomes(InFolder):
         for name in ("one.Goals", "one_more.Goals"):
             write(self.path("proofs/one", f"{name}.antt"), f"use Rattle.small.proofs.{name} as goal\n")
         wrong_bodies.copy_proof(copies[1], "small", self.folder)
-        self.assertEqual(
-            read(self.path("proofs/one_1/one.Goals.antt")), "use Rattle.small.proofs.one_1.Goals as goal\n"
-        )
+        goals = read(self.path("proofs/one_1/one.Goals.antt"))
+        self.assertEqual(goals, "use Rattle.small.proofs.one_1.Goals as goal\n")
         self.assertNotIn("one_1", read(self.path("proofs/one_1/one_more.Goals.antt")))
 
     def test_no_copies(self):
@@ -267,9 +264,13 @@ class Outcomes(InFolder):
         text = "const A: u8 = 7;\nimpl<T> Some<T> {\n    #[inline]\n    fn one() -> u8 { 1 }\n}\n"
         write(self.path("src/part.rt"), text + "impl Trait for Some {\n    fn one() -> u8 { 11 }\n}\n")
         write(self.path("src/cycle.rt"), "#[cycle(one)]\nfn one() -> u8 { 1 }\n")
+
+        def copy_of(functions, changes):
+            return wrong_bodies.copy_of(wrong_bodies.Body("", functions, changes), 0, self.folder)
+
         one = ("src/part.rt", "{ 1 }", "{ 2 }")
-        copy = wrong_bodies.copy_of(wrong_bodies.WrongBody("", ["part::Some::one"], [one]), 0, self.folder)
-        self.assertEqual(copy.text, "    #[inline]\n    fn one_0() -> u8 { 2 }")
+        copy = copy_of(["part::Some::one"], [one])
+        self.assertEqual(copy.text, "#[inline]\n    fn one_0() -> u8 { 2 }")
         for functions, changes in (
             (["part::SomeTrait::one"], [("src/part.rt", "{ 11 }", "{ 2 }")]),
             (["part::Some::one"], [("src/part.rt", "{ 11 }", "{ 2 }")]),
@@ -280,7 +281,7 @@ class Outcomes(InFolder):
             (["cycle::one"], [("src/cycle.rt", "{ 1 }", "{ 2 }")]),
         ):
             with self.subTest(functions=functions, changes=changes):
-                self.assertIsNone(wrong_bodies.copy_of(wrong_bodies.WrongBody("", functions, changes), 0, self.folder))
+                self.assertIsNone(copy_of(functions, changes))
 
 
 class Judges(unittest.TestCase):
