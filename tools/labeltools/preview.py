@@ -1,11 +1,12 @@
 """Shows pages and labels on a screen, by the code that prints them. Lengths are in millimetres."""
 
+import math
 from dataclasses import replace
 from typing import Any
 
 import cairo
 
-from labeltools.forms import PBM, SVG, Form
+from labeltools.forms import Form
 from labeltools.forms.dots import drawn_surface
 from labeltools.letters import Letters
 from labeltools.messages import Silence
@@ -15,30 +16,26 @@ from labeltools.print_job import Prepared
 
 USED = (0.90, 0.91, 0.92)
 EDGE = (0.80, 0.83, 0.87)
-# what is looked at
-PAGE = "page"
-DOTS = "dots"
 
 
 class Preview:
-    """Draws pages, or each label alone as it is in the first cell of a page; smooth, or in the dots
-    of the printer. It belongs to the thread that made it.
+    """Draws pages in a form, or each label alone as it is in the first cell of a page. It belongs
+    to the thread that made it.
     """
 
-    def __init__(self, labels: Prepared, kind: str) -> None:
-        job = labels.job
+    def __init__(self, labels: Prepared, form: Form, is_single: bool = False) -> None:
+        job = replace(labels.job, form=form)
         self.prints = labels.prints
         self.sheet = job.plan.sheet
         self.size = self.sheet.page
         self.corner = (0.0, 0.0)
-        if kind != PAGE:
+        if is_single:
             job = replace(job, plan=replace(job.plan, places=job.plan.places[:1]), first=1)
             self.prints = once(labels.labels)
             self.size = self.sheet.cell
             self.corner = self.sheet.places[0]
-        self.count = max(1, job.pages_of(len(self.prints)))
-        form = SVG if job.form.is_drawn and kind != DOTS else PBM
-        self.press = press_of(replace(labels, job=job), form)
+        self.count = max(1, job.pages_of(len(self.prints)))  # of pages
+        self.press = Press(job, labels.laid_out, Letters(job.fonts), Silence())
 
     def cell_at(self, x: float, y: float) -> int:
         """Returns the number of the cell at a place of a page, from 1; 0 for none."""
@@ -58,7 +55,7 @@ class Preview:
         return 0
 
     def draw(self, canvas: Any, number: int) -> None:
-        """Draws a page on a canvas whose unit is a millimetre; the cells that are used are grey."""
+        """Draws a page, from 1 on, on a canvas whose unit is a millimetre; used cells are grey."""
         job = self.press.job
         canvas.set_source_rgb(1, 1, 1)
         canvas.paint()
@@ -66,22 +63,22 @@ class Preview:
         canvas.set_line_width(canvas.device_to_user_distance(1, 1)[0])
         for cell, place in enumerate(self.sheet.places, 1):
             canvas.rectangle(*place, *self.sheet.cell)
-            if number == 0 and cell < job.first:
+            if number == 1 and cell < job.first:
                 canvas.set_source_rgb(*USED)
                 canvas.fill_preserve()
             canvas.set_source_rgb(*EDGE)
             canvas.stroke()
         canvas.set_source_rgb(0, 0, 0)
         canvas.scale(job.plan.dot, job.plan.dot)
-        page = self.press.page(number, self.prints)
-        if job.form == SVG:
+        page = self.press.page(number - 1, self.prints)
+        if job.form.is_drawn:
             self.press.draw(canvas, page)
         else:
             self.draw_dots(canvas, page)
 
     def draw_dots(self, canvas: Any, page: Page) -> None:
         """Draws the dots that are seen, on a canvas whose unit is a dot."""
-        left, top, right, bottom = (round(side) for side in canvas.clip_extents())
+        left, top, right, bottom = (math.floor(side) for side in canvas.clip_extents())
         size = right - left + 1, bottom - top + 1
         seen = [(item, (x - left, y - top)) for item, (x, y) in page]
         surface = drawn_surface(size, self.press.pen, seen, self.press.turn)
@@ -90,9 +87,3 @@ class Preview:
             pattern.set_filter(cairo.Filter.NEAREST)
         canvas.translate(left, top)
         canvas.mask(pattern)
-
-
-def press_of(labels: Prepared, form: Form) -> Press:
-    """Returns what draws labels in a form. It belongs to the thread that calls this."""
-    job = replace(labels.job, form=form)
-    return Press(job, labels.laid_out, Letters(job.fonts), Silence())

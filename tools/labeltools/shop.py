@@ -7,12 +7,12 @@ import os
 import shlex
 from collections.abc import Mapping, Sequence
 from contextlib import suppress
-from dataclasses import dataclass
 from pathlib import Path
 from typing import Any
 
 from labeltools import print_command, table_command
 from labeltools.command_line import read_input, words_of
+from labeltools.engine import option_words
 from labeltools.guess import guess_of
 from labeltools.messages import Cancelled, Place, ToolError
 from labeltools.press import Press
@@ -52,63 +52,57 @@ class Talk:
         self.progress = done / total if total else 0.0
 
 
-@dataclass(frozen=True)
-class Labels:
-    """Labels that can be printed, the line that makes them in a shell, what there is to say about
-    them, and how many rows are left out.
+class Table:
+    """A table that is open, and what was made of it last: its lines, by the words of label-table;
+    the line that prints it in a shell, what there is to say, and how many rows are left out.
     """
 
-    prepared: Prepared
+    words: Sequence[str] = ()
+    lines: Lines
+    said: Sequence[LeftOut]
     command: str
-    summary: str
     notes: Sequence[LeftOut]
     left_out: int
 
-
-class Table:
-    """A table that is open, and the lines that were made of it last: other paper needs no new ones.
-    Its names are in the row `header` (0: in none) where that is known.
-    """
-
     def __init__(self, path: Path, text: str, header: int | None, talk: Talk) -> None:
-        """Reads it by further words of label-table; raises `ToolError` and `OSError`."""
+        """Reads a table by further words of label-table; its names are in the row `header` (0: in
+        none) where that is known. Raises `ToolError` and `OSError`.
+        """
         head = words_of({"header-row": header, "no-header": header == 0})
-        arguments = table_command.understood(["--code", "1", *head, *split(text)])
+        arguments = table_command.understood(["--code", "1", *head, *option_words(text)])
         _, self.data = read_input(str(path))
         self.path = path
         self.guess = guess_of(self.data, path.name, table_command.options_of(arguments), talk)
-        self.names = "\n".join(self.guess.names)
-        self.kept = remembered().get(self.names, {})
-        self.words: list[str] = []
-        self.lines: Lines | None = None
-        self.notes: list[LeftOut] = []
+        self.kept = remembered().get("\n".join(self.guess.names), {})
 
-    def labels(self, choices: Choices, talk: Talk) -> Labels:
+    def labels(self, choices: Choices, talk: Talk) -> Prepared:
         """Returns the labels that are chosen; raises `ToolError` and `OSError`."""
         to_print = print_words(choices)
         options = print_command.options_of(print_command.command_line().parse_args(to_print))
         job = planned(options)
         words = [*table_words(choices), "--", str(self.path)]
-        if self.lines is None or words != self.words:
+        if words != self.words:  # other paper needs no other lines
             rules = table_command.options_of(table_command.understood(words))
             self.lines = lines_of_table(self.data, self.path.name, rules, talk)
-            self.notes = talk.notes
+            self.said = tuple(talk.notes)
             self.words = words
         found = labels_of(options, job, self.path.name, self.lines.output, talk)
-        remember(self.names, choices)
         rows = set(self.lines.left_out)
         more = [one for one in found.left_out if one.place and one.place.number not in rows]
-        notes = [*self.notes, *more, *(LeftOut(None, "", remark) for remark in found.remarks)]
+        remarks = [LeftOut(None, "", remark) for remark in found.remarks]
+        self.notes = [*self.said, *more, *remarks]
+        self.left_out = len(rows) + len(more)
         commands = ["label-table", *words], ["label-print", *to_print]
-        line = " | ".join(map(shlex.join, commands)) + f" > labels.{job.form.name}"
-        return Labels(found, line, self.lines.summary, notes, len(rows) + len(more))
+        self.command = " | ".join(map(shlex.join, commands)) + f" > labels.{job.form.name}"
+        remember("\n".join(self.guess.names), choices)
+        return found
 
 
 def table_words(choices: Choices) -> list[str]:
     """Returns the words of label-table, but for the file; raises `ToolError`."""
     options = {name: choices[name] for name in (*COLUMNS, "symbology", "header-row")}
     options["no-header"] = not choices["header-row"]
-    return [*words_of(options), *split(choices["for-table"])]
+    return [*words_of(options), *option_words(choices["for-table"])]
 
 
 def print_words(choices: Choices) -> list[str]:
@@ -117,15 +111,7 @@ def print_words(choices: Choices) -> list[str]:
     if choices["roll"]:
         options["paper"] = f"{choices['width']:g}x{choices['height']:g}"
         del options["stock"], options["first"]
-    return [*words_of(options), *split(choices["for-print"])]
-
-
-def split(text: str) -> list[str]:
-    """Returns the words of a text; raises `ToolError` for a quote that is not closed."""
-    try:
-        return shlex.split(text)
-    except ValueError as error:
-        raise ToolError(f"{text}: {error}") from error
+    return [*words_of(options), *option_words(choices["for-print"])]
 
 
 def read_back(labels: Prepared, talk: Talk) -> Press:

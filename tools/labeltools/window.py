@@ -12,13 +12,15 @@ from typing import Any
 
 from labeltools.area import MILLIMETRES
 from labeltools.command_line import Parser
+from labeltools.forms import PBM, SVG
 from labeltools.forms.pdf import POINTS
 from labeltools.messages import ToolError, of_system
 from labeltools.pango import library
-from labeltools.preview import PAGE, Preview, press_of
+from labeltools.preview import Preview
 from labeltools.print_command import check_count, print_on
+from labeltools.print_job import Prepared
 from labeltools.printer import media_of, queues
-from labeltools.shop import COLUMNS, Choices, Labels, Table, Talk, read_back
+from labeltools.shop import COLUMNS, Choices, Table, Talk, read_back
 from labeltools.stock import list_stock
 from labeltools.translation import translated
 from labeltools.words import _, counted
@@ -49,13 +51,13 @@ class Window:
     work ends the old one, whose result is dropped.
     """
 
-    labels: Labels  # that were made last
+    labels: Prepared  # that were made last
     shown: Preview
     redraw = staticmethod(Gtk.Widget.queue_draw)
 
     def __init__(self) -> None:
-        self.builder = Gtk.Builder.new_from_file(str(FILE))
-        self.widget = self.builder.get_object
+        builder = Gtk.Builder.new_from_file(str(FILE))
+        self.widget = builder.get_object
         self.window = self.widget("window")
         self.thread = ThreadPoolExecutor(1)
         self.talk = Talk()
@@ -63,7 +65,7 @@ class Window:
         self.table: Table | None = None
         self.has_labels = False  # that are chosen
         self.offer_sheets()
-        self.builder.connect_signals(self)
+        builder.connect_signals(self)
         self.window.drag_dest_set(Gtk.DestDefaults.ALL, [], Gdk.DragAction.COPY)
         self.window.drag_dest_add_uri_targets()
 
@@ -77,8 +79,6 @@ class Window:
         self.widget("completion").set_match_func(
             lambda _self, typed, row: store[row][1] in listed(typed)
         )
-
-    # ---- work beside the window
 
     def start(self, work: Callable[[Talk], Any], then: Callable[[Any], object] = bool) -> None:
         """Does work; nothing goes out until it is done."""
@@ -111,8 +111,6 @@ class Window:
         self.widget("working").hide()
         self.widget("out").set_sensitive(self.has_labels)
 
-    # ---- from a table to labels
-
     def open(self, path: Path, header: int | None = None) -> None:
         """Reads a table, guesses its columns or takes those of the last time, and makes labels."""
         if path != self.path:
@@ -136,9 +134,8 @@ class Window:
             store.append([str(number), name or _("column {number}").format(number=number)])
         columns = {option: str(place + 1) for option, place in guess.columns.items()}
         self.take({**dict.fromkeys(COLUMNS, ""), "code": "1", **columns})
-        self.take(
-            {"symbology": guess.symbology, **table.kept, "header-row": guess.header, "first": 1}
-        )
+        self.take({"symbology": guess.symbology, **table.kept})
+        self.take({"header-row": guess.header, "first": 1})
         self.widget("guessed").set_visible(not table.kept)
         self.path = table.path
         self.table = table
@@ -159,42 +156,41 @@ class Window:
         """Makes the labels that are chosen."""
         if self.table is not None:
             self.has_labels = False
-            self.start(partial(self.table.labels, self.choices()), self.show_labels)
+            work = partial(self.table.labels, self.choices())
+            self.start(work, partial(self.show_labels, self.table))
 
-    def show_labels(self, labels: Labels) -> None:
+    def show_labels(self, table: Table, labels: Prepared) -> None:
         """Shows the labels that were made, and what there is to say about them."""
         self.labels = labels
-        self.widget("command").set_text(labels.command)
-        self.widget("count").set_text(translated(labels.summary))
+        self.widget("command").set_text(table.command)
+        self.widget("count").set_text(translated(table.lines.summary))
         store = self.widget("notes")
         store.clear()
-        for note in labels.notes[:MOST_NOTES]:
+        for note in table.notes[:MOST_NOTES]:
             row = str(note.place.number) if note.place else ""
             store.append([row, note.data, said(note.reason, note.hint)])
-        text = counted(labels.left_out, "{number} row is left out", "{number} rows are left out")
-        self.widget("left-out").set_text(text if labels.left_out else _("Please look at this"))
-        self.widget("below").set_visible(labels.notes)
+        text = counted(table.left_out, "{number} row is left out", "{number} rows are left out")
+        self.widget("left-out").set_text(text if table.left_out else _("Please look at this"))
+        self.widget("below").set_visible(table.notes)
         self.show_view()
         self.widget("result").show()
-        check_count(labels.prepared.job, labels.prepared.prints, False)
+        check_count(labels.job, labels.prints, False)
         self.has_labels = True
         self.on_stop()
-
-    # ---- what is looked at
 
     def show_view(self, _control: Any = None) -> None:
         """Shows the page or the label, and how many there are."""
         kind = self.widget("view").get_active_id()
-        self.shown = Preview(self.labels.prepared, kind)
+        form = SVG if self.labels.job.form.is_drawn and kind != "dots" else PBM
+        self.shown = Preview(self.labels, form, kind != "page")
         self.widget("number").set_range(1, self.shown.count)
         self.widget("of").set_text(_("of {all}").format(all=self.shown.count))
-        dots = DOT / self.labels.prepared.job.plan.dot
+        dots = DOT / self.labels.job.plan.dot
         scale = {"dots": dots, "true": self.true_scale()}.get(kind, 0.0)
         width, height = self.shown.size
         paper = self.widget("paper")
         paper.set_size_request(math.ceil(width * scale), math.ceil(height * scale))
-        for side in ("halign", "valign"):
-            paper.set_property(side, Gtk.Align.CENTER if scale else Gtk.Align.FILL)
+        paper.set_halign(Gtk.Align.CENTER if scale else Gtk.Align.FILL)
         self.widget("desk").set_property("ratio", width / height)
         paper.queue_draw()
 
@@ -204,21 +200,18 @@ class Window:
         width = monitor.get_width_mm()
         return float(monitor.get_geometry().width / width if width else SCREEN)
 
-    def page(self) -> int:
-        """Returns the number of the page that is looked at, from 0."""
-        return int(self.widget("number").get_value_as_int()) - 1
-
     def on_draw(self, paper: Any, canvas: Any) -> None:
         """Draws the view."""
         scale = paper.get_allocated_width() / self.shown.size[0]
         canvas.scale(scale, scale)
-        self.shown.draw(canvas, self.page())
+        self.shown.draw(canvas, self.widget("number").get_value_as_int())
 
     def on_click(self, paper: Any, event: Any) -> None:
         """Begins at the cell of the first page that was clicked: those before it are used."""
         scale = paper.get_allocated_width() / self.shown.size[0]
         cell = self.shown.cell_at(event.x / scale, event.y / scale)
-        if cell and self.page() == 0 and self.widget("view").get_active_id() == PAGE:
+        is_first = self.widget("number").get_value_as_int() == 1
+        if cell and is_first and self.widget("view").get_active_id() == "page":
             self.widget("first").set_value(cell)
 
     def on_note(self, selection: Any) -> None:
@@ -227,8 +220,6 @@ class Window:
         page = self.shown.page_of(model[row][0]) if row else 0
         if page:
             self.widget("number").set_value(page)
-
-    # ---- ways in and out
 
     def on_open(self, _button: Any) -> None:
         """Asks for a table."""
@@ -248,7 +239,7 @@ class Window:
 
     def is_meant(self) -> bool:
         """Returns whether labels are meant, which is asked for where they are many."""
-        if len(self.labels.prepared.prints) <= MANY:
+        if len(self.labels.prints) <= MANY:
             return True
         answer = self.widget("many").run()
         self.widget("many").hide()
@@ -257,18 +248,18 @@ class Window:
     def on_save(self, _button: Any) -> None:
         """Asks for a file, and writes it."""
         chooser = self.widget("saver")
-        chooser.set_current_name(f"labels.{self.labels.prepared.job.form.name}")
+        chooser.set_current_name(f"labels.{self.labels.job.form.name}")
         if self.is_meant() and chooser.run() == Gtk.ResponseType.ACCEPT:
             self.save(Path(chooser.get_filename()))
 
     def save(self, path: Path) -> None:
         """Reads each label back, and writes what label-print writes."""
-        labels = self.labels.prepared
+        labels = self.labels
         self.start(lambda talk: read_back(labels, talk).save(labels.prints, path))
 
     def on_print(self, _button: Any) -> None:
         """Prints: by the dialog of the desktop, or for ZPL and ESC/POS the file at a queue."""
-        labels = self.labels.prepared
+        labels = self.labels
         action = Gtk.PrintOperationAction.PRINT_DIALOG
         if not self.is_meant():
             return
@@ -291,33 +282,31 @@ class Window:
 
     def send(self, _item: Any, queue: str) -> None:
         """Reads each label back, and sends what label-print writes to a queue."""
-        labels = self.labels.prepared
+        labels = self.labels
         self.start(lambda talk: print_on(read_back(labels, talk), labels.prints, queue))
 
     def operation(self) -> Any:
         """Returns what prints each page in its own size: no scaling, no margins of the printer."""
-        labels = self.labels.prepared
-        plan = labels.job.plan
-        page = plan.sheet.page
-        press = press_of(labels, labels.job.form)
+        pages = Preview(self.labels, self.labels.job.form)
+        dpi = self.labels.job.plan.dpi
 
         def draw(_operation: Any, context: Any, number: int) -> None:
             canvas = context.get_cairo_context()
-            canvas.scale(POINTS / plan.dpi, POINTS / plan.dpi)
-            press.draw(canvas, press.page(number, labels.prints))
+            canvas.scale(POINTS / dpi, POINTS / dpi)
+            pages.press.draw(canvas, pages.press.page(number, pages.prints))
 
-        points = [side * POINTS / MILLIMETRES for side in page]
+        points = [side * POINTS / MILLIMETRES for side in pages.size]
         setup = Gtk.PageSetup()
-        setup.set_paper_size(Gtk.PaperSize.new_from_ppd(media_of(page), _("Labels"), *points))
+        setup.set_paper_size(Gtk.PaperSize.new_from_ppd(media_of(pages.size), _("Labels"), *points))
         settings = Gtk.PrintSettings()
         settings.set("cups-print-scaling", "none")
-        settings.set("cups-Resolution", f"{plan.dpi}dpi")
+        settings.set("cups-Resolution", f"{dpi}dpi")
         operation = Gtk.PrintOperation(
             default_page_setup=setup,
             print_settings=settings,
             use_full_page=True,
             unit=Gtk.Unit.POINTS,
-            n_pages=labels.job.pages_of(len(labels.prints)),
+            n_pages=pages.count,
             job_name=self.widget("head").get_subtitle(),
             allow_async=True,
             show_progress=True,

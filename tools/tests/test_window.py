@@ -162,7 +162,7 @@ class WindowTest(unittest.TestCase):
         surface = cairo.ImageSurface(cairo.FORMAT_RGB24, *sides)
         canvas = cairo.Context(surface)
         canvas.scale(SCALE, SCALE)
-        shown.draw(canvas, self.window.page())
+        shown.draw(canvas, self.window.widget("number").get_value_as_int())
         surface.flush()
         data = bytes(surface.get_data())
         return data, data.count(bytes(3))
@@ -295,7 +295,7 @@ class WindowTest(unittest.TestCase):
         self.window.widget("notes").append(["3", "", ""])
         self.window.widget("list").get_selection().select_path(Gtk.TreePath(1))
         settle(0.1)
-        self.assertEqual(self.window.page(), 1)
+        self.assertEqual(self.window.widget("number").get_value_as_int(), 2)
 
     def test_a_table_is_an_argument(self):
         words = [TOOLS / "label-window", self.table]
@@ -451,12 +451,12 @@ class WindowTest(unittest.TestCase):
     def test_a_wrong_picture_stops_the_print(self):
         self.open()
         made = self.window.labels
-        first, *others = made.prepared.laid_out.labels
+        first, *others = made.laid_out.labels
         packed = bytearray(first.label.modules.packed)
         packed[len(packed) // 2] ^= 0b00111100
         wrong = replace(first.label, modules=replace(first.label.modules, packed=bytes(packed)))
-        laid_out = replace(made.prepared.laid_out, labels=(replace(first, label=wrong), *others))
-        self.window.labels = replace(made, prepared=replace(made.prepared, laid_out=laid_out))
+        laid_out = replace(made.laid_out, labels=(replace(first, label=wrong), *others))
+        self.window.labels = replace(made, laid_out=laid_out)
         path = self.folder / "wrong.pdf"
         self.window.save(path)
         self.until(self.problem)
@@ -501,6 +501,9 @@ class WindowTest(unittest.TestCase):
         settle(0.5)
         self.assertEqual(list(self.folder.glob("*.pdf")), [])
         self.assertTrue(self.window.widget("print").is_sensitive())
+        self.window.take({"price": ""})
+        self.window.on_stop(None)  # the labels that are there are not those that are chosen
+        self.assertFalse(self.window.widget("print").is_sensitive())
 
     def test_the_desktop_finds_the_window(self):
         support.needs("desktop-file-validate", "appstreamcli")
